@@ -187,9 +187,7 @@ module _ {row : RowShape} where
     is = sym (append-nil begun.text);
     consumed = consumed_none;
     width = omega arith;
-    filled = λ from front f.
-        subst (λ (l : List (List ℕ)). CellsFilled row.cells begun.count from begun.readers l begun.any_line)
-        (sym (append-nil front)) f;
+    filled = λ from front f. rw (append-nil front) f;
   }
 
   module _ {begun now : BegunText} (s : CopyColumnsPost row begun now) (low : now.count < length row.cells)
@@ -226,10 +224,7 @@ module _ {row : RowShape} where
           let (field, stored, filled) = fill_next (s.filled from front given) low within is_read clean
           (sound_after_consume sound f.consumed) no_slots (with_line no_slots 0 f.field) 0 has f.fills in
           let same : field ≡ f.field = sym (ap (λ (x : Slots). get_or x.lines 0 []) stored) in
-          subst (λ (l : List (List ℕ)). CellsFilled row.cells (now.count + 1) from (set now.readers input r) l
-          (now.any_line || has))
-          (ap (λ (l : List ℕ). (front ++ s.fields) ++ l ∷ []) same ∙ append_assoc front s.fields (f.field ∷ []))
-          filled
+          rw (same, append_assoc front s.fields (f.field ∷ [])) at filled
 
       one_more : {next : List ℕ} → next ≡ copied ++ after_cell row now.count
           → CopyColumnsPost row begun (with_column next)

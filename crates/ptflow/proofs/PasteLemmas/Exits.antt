@@ -1,7 +1,7 @@
 -- The exits of `paste`: success, or a failed read, write or growth, between rows or within one. In each case the rows
 -- so far were pushed, and the readers have given the lines of these rows and perhaps some bytes more.
 use Rattle.ptflow.proofs.Common.{◌≡◌, ◌≢◌, ◌⊎◌, ⊎_elim, inl, inr, ℕ, ◌+◌, ◌*◌, ◌<◌, ◌≤◌, true, false, List, [], ◌∷◌}
-use Rattle.ptflow.proofs.Common.{◌++◌, Result, Ok, Err, length, take, get_or, max, refl, sym, ◌∙◌, ap, subst, arith}
+use Rattle.ptflow.proofs.Common.{◌++◌, Result, Ok, Err, length, take, get_or, max, refl, sym, ◌∙◌, ap, arith}
 use Rattle.ptflow.proofs.Common.{append_assoc, length-append, cases_eq, append-nil, lines, IsLine, max_length}
 use Rattle.ptflow.proofs.Common.{max_line_length, Received, IsPrefix, IsConsistent, known_lines, Output, PushEffect}
 use Rattle.ptflow.proofs.Common.{Reader, ReaderAdvance, IsDone, HasReadCause, Slots, with_line, with_denied}
@@ -79,8 +79,7 @@ module _ {job : Paste} {cells : List ℕ} {old set now : List Reader} {was is : 
     bound_now = k.bound (λ p. (given p).bytes) (λ p. consistent_itself (given p))
 
     same_size_and_peak : (length after.lines ≡ length stored.lines) × (after.peak ≡ stored.peak)
-    same_size_and_peak = ⊎_elim (λ is. (ap (λ x. length x.lines) is, ap (λ x. x.peak) is))
-        (λ is. (ap (λ x. length x.lines) is, ap (λ x. x.peak) is)) k.same
+    same_size_and_peak = ⊎_elim (λ is. rw is (refl, refl)) (λ is. rw is (refl, refl)) k.same
 
     progress : CallProgress (inputs_at cells) (paste_engine job cells) begin end
         (λ p. (so_far p).bytes ++ r.extra p) (rows_text job s.taken_rows ++ pushed)
@@ -159,9 +158,7 @@ module _ {job : Paste} {cells : List ℕ} {old set now : List Reader} {was is : 
               max_length-append (ls p) (taken p),
               max_length-append (s.ls p) (ls p),
             ));
-            begins = λ texts a. subst (λ (x : List ℕ). IsPrefix x (paste job cells texts))
-                (rows_text-append job.terminator job.delimiters s.taken_rows more)
-                (begins_by job (first_rows_trans s.first_rows g)
+            begins = λ texts a. rw (rows_text-append job.terminator job.delimiters s.taken_rows more) at (begins_by job (first_rows_trans s.first_rows g)
                 (read_lines b (λ p none. omega (arith, none, uses_before cells n p))) texts
                 (λ p. rw (append_assoc (so_far p).bytes (g.lines_taken p).bytes (b p).bytes) (a p)));
             lags = λ p some. lags_by job s.first_rows read_on p some (cut p some);
@@ -393,7 +390,7 @@ module _ {job : Paste} {cells : List ℕ} {old set now : List Reader} {was is : 
       -- Another reader, without the last line that it gave.
       lag_to : (p : ℕ) → 0 < uses_of cells p → LagsBy job s.first_rows read_to p
       lag_to p some = lags_by job s.first_rows read_to p some (⊎_elim
-          (λ (is, whole). subst (EarlierBy job s.first_rows read_to) (sym is) earlier_here)
+          (λ (is, whole). rw is earlier_here)
           (λ (other, none, kept).
           rw (none, append-nil (lines_taken_to p).bytes, kept)
           (earlier_of_taken p some (lines_taken_to p) (uses_before cells b.column p)))

@@ -7,7 +7,7 @@ use Rattle.ptflow.proofs.Common.{length-append, get_or_append_left, get_or_push,
 use Rattle.ptflow.proofs.Common.{refl, sym, ◌∙◌, ap, arith, ⊎_elim, take-append-drop, sum_by, cases_eq, length-set}
 use Rattle.ptflow.proofs.Common.{drop-set-lt, get_or-set_same, get_or-set_other, sum_by-cons, sum_by-append}
 use Rattle.ptflow.proofs.Common.{get_or-le-sum_by, Slots, total_bytes, with_line, AddedSlots, SlotsBound, SlotsKept}
-use Rattle.ptflow.proofs.Common.{CellsTaken, Reader, uses_of, ◌≢◌, ◌==◌, ◌||◌, Bool, true, cond, None, Ok, subst}
+use Rattle.ptflow.proofs.Common.{CellsTaken, Reader, uses_of, ◌≢◌, ◌==◌, ◌||◌, Bool, true, cond, None, Ok}
 use Rattle.ptflow.proofs.Common.{eq-eqb, ne_eqb, append-nil, take-take, get_or_past, get_or_at, get_or_default}
 use Rattle.ptflow.proofs.Common.{sum_by-set, AdvanceOk, IsDone, IsSound, budget, FillLine, FillPost, no_reader}
 use Rattle.ptflow.specs.Private.Paste.FillRow.{SetTerminatorPost}
@@ -22,28 +22,17 @@ use Rattle.ptflow.proofs.PasteLemmas.RowsTaken.{nothing_taken, taken_more, taken
 use Rattle.ptflow.proofs.PasteLemmas.RowsTaken.{none_at_eof, cells_text-append, cells_text-push}
 use Rattle.std.proofs.lemmas.List.{get_or-take}
 
-module _ (top : ℕ → ℕ) where
-  front_total : (cells : List ℕ) (ls : List (List ℕ)) → ((c : ℕ) → c < length cells
-      → length (get_or ls c []) ≤ top (get_or cells c 0)) → total_bytes (take (length cells) ls) ≤ sum_by top cells
-  front_total [] ls short = omega arith
-  front_total (x ∷ cells) [] short = omega arith
-  front_total (x ∷ cells) (l ∷ ls) short =
-      let more = front_total cells ls (λ c low. short (suc c) (omega (arith, low))) in
-      omega (arith, sum_by-cons length l (take (length cells) ls), sum_by-cons top x cells, short 0 (omega arith), more)
-
-total_split : (width : ℕ) (ls : List (List ℕ)) → total_bytes ls ≡ total_bytes (take width ls) + total_bytes
-    (drop width ls)
-total_split width ls = ap total_bytes (sym (take-append-drop width ls)) ∙ sum_by-append length (take width ls)
-    (drop width ls)
-
 pub cells_total : (cells : List ℕ) (top : ℕ → ℕ) (ls : List (List ℕ)) → ((c : ℕ) → c < length cells
     → length (get_or ls c []) ≤ top (get_or cells c 0))
     → total_bytes (drop (length cells) ls) ≡ 0 → total_bytes ls ≤ sum_by top cells
-cells_total cells top ls short others = omega (
+cells_total [] top ls short others = omega (arith, others)
+cells_total (x ∷ cells) top [] short others = omega arith
+cells_total (x ∷ cells) top (l ∷ ls) short others = omega (
   arith,
-  total_split (length cells) ls,
-  front_total top cells ls short,
-  others,
+  sum_by-cons length l ls,
+  sum_by-cons top x cells,
+  short 0 (omega arith),
+  cells_total cells top ls (λ c low. short (suc c) (omega (arith, low))) others,
 )
 
 pub sum_of_zeros : (cells : List ℕ) → sum_by (λ (p : ℕ). 0) cells ≡ 0
@@ -57,7 +46,12 @@ slots_bound_start {cells} {store = store} adds denied empty peak = record {
   denied = denied;
   adds = adds;
   short = λ c low. omega (arith, empty, get_or-le-sum_by length store.lines c [] (omega (arith, low, adds.all denied)));
-  others = omega (arith, empty, total_split (length cells) store.lines);
+  others = let n = length cells in omega (
+    arith,
+    empty,
+    ap total_bytes (take-append-drop n store.lines),
+    sum_by-append length (take n store.lines) (drop n store.lines),
+  );
   peak = omega (arith, peak);
 }
 
@@ -250,12 +244,11 @@ module _ {cells : List ℕ} {n : ℕ} {old now : List Reader} {fields : List (Li
         ap (λ (l : List ℕ). uses_of l p) front,
       ) in
       cc (lines_at_here input ls input_lines p same, get_or_append_left (input_lines p) ls [] j under))
-      (λ differ. ap (λ (l : List (List ℕ)). slice_index_or l j []) (lines_at_other input ls input_lines p differ))
+      (λ differ. cc (lines_at_other input ls input_lines p differ))
       (cases_eq p input))
       (λ (done, few). ⊎_elim
-      (λ same. ap (λ (l : List (List ℕ)). slice_index_or l j []) (lines_at_none input ls input_lines p
-      (none_at_eof lines_taken (subst (λ (q : ℕ). IsDone (reader_at now q)) same done))))
-      (λ differ. ap (λ (l : List (List ℕ)). slice_index_or l j []) (lines_at_other input ls input_lines p differ))
+      (λ same. cc (lines_at_none input ls input_lines p (none_at_eof lines_taken (rw same at done))))
+      (λ differ. cc (lines_at_other input ls input_lines p differ))
       (cases_eq p input))
       (t.lines_taken p).enough
     where
@@ -320,9 +313,7 @@ module _ {cells : List ℕ} {n : ℕ} {old now : List Reader} {fields : List (Li
     fill_line : {before after : Slots} {slot : ℕ} (e : FillLine b r before after slot)
         → CellsFilled cells (n + 1) old (set now p r) (fields ++ e.line ∷ []) true
     fill_line e =
-        let lines_taken : LinesTaken (reader_at old p).terminator (reader_at now p) r 1 (e.line ∷ []) = subst
-        (λ (x : Reader). LinesTaken (reader_at old p).terminator x r 1 (e.line ∷ [])) is_read
-        (taken_line e same_end clean sound) in
+        let lines_taken = rw is_read at (taken_line e same_end clean sound) in
         let all : length (f.input_lines p) ≡ uses_of (take n cells) p =
         ⊎_elim (λ same. same) (λ (done, few). absurd (omega (arith, ap length (none_at_eof lines_taken done))))
         (f.consumed.lines_taken p).enough in
@@ -351,12 +342,11 @@ module _ {cells : List ℕ} {n : ℕ} {old now : List Reader} {fields : List (Li
     fill_eof : AdvanceOk b r [] → IsDone r → CellsFilled cells (n + 1) old (set now p r) (fields ++ [] ∷ []) any_line
     fill_eof advance_ok done = record {
       input_lines = lines_at p [] f.input_lines;
-      consumed = cells_taken_more f.consumed low within (subst
-          (λ (x : Reader). LinesTaken (reader_at old p).terminator x r 1 []) is_read
-          (taken_eof {b = b} advance_ok done clean sound))
-          (sym (ap (λ (l : List (List ℕ)). slice_index_or l (uses_of (take n cells) p) [])
-          (append-nil (f.input_lines p)) ∙ get_or_past (f.input_lines p) (uses_of (take n cells) p) []
-          (taken_at_most (f.consumed.lines_taken p))));
+      consumed = cells_taken_more f.consumed low within (rw is_read at (taken_eof {end = (reader_at old p).terminator} {b = b} advance_ok done clean sound))
+          (cc (
+            append-nil (f.input_lines p),
+            get_or_past (f.input_lines p) (uses_of (take n cells) p) [] (taken_at_most (f.consumed.lines_taken p)),
+          ));
       some = λ h.
           let (c, below, one) = f.some h in
           (c, omega (arith, below), ap length (lines_at_none p [] f.input_lines (get_or cells c 0) refl) ∙ one);

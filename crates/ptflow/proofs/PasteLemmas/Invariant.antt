@@ -2,7 +2,7 @@
 -- were pushed, and the slots hold at most one line for each column. From it follow the clauses of the contract once the
 -- readers were read further.
 use Rattle.ptflow.proofs.Common.{◌≡◌, ⊎_elim, ℕ, ◌+◌, ◌*◌, ◌<◌, ◌≤◌, ◌^◌, Bool, true, false, List, [], ◌∷◌, ◌++◌}
-use Rattle.ptflow.proofs.Common.{length, refl, sym, ◌∙◌, ap, subst, arith, append_assoc, All, append-nil, All-get_or}
+use Rattle.ptflow.proofs.Common.{length, refl, ◌∙◌, ap, subst, arith, append_assoc, All, append-nil, All-get_or}
 use Rattle.ptflow.proofs.Common.{lines, max_length, Received, IsPrefix, IsConsistent}
 use Rattle.ptflow.proofs.Common.{known_lines, Output, PushEffect, Reader, ReaderAdvance, IsDone, Slots, total_bytes}
 use Rattle.ptflow.proofs.Common.{received_with, push_nothing, push_trans, Paste, AddedSlots}
@@ -243,9 +243,8 @@ module _ {job : Paste} {cells : List ℕ} {old set now : List Reader} {was is : 
     ls = λ p. s.ls p ++ ls p;
     taken_rows = s.taken_rows ++ more;
     first_rows = first_rows_trans s.first_rows g;
-    wrote = subst (λ (b : List ℕ). PushEffect was is' b)
-        (sym (rows_text-append job.terminator job.delimiters s.taken_rows more)) (push_trans was is is'
-        (rows_text job s.taken_rows) (rows_text job more) s.clean s.wrote wrote);
+    wrote = rw (rows_text-append job.terminator job.delimiters s.taken_rows more)
+        (push_trans was is is' (rows_text job s.taken_rows) (rows_text job more) s.clean s.wrote wrote);
     clean = clean;
     kept = kept;
   }
@@ -253,7 +252,7 @@ module _ {job : Paste} {cells : List ℕ} {old set now : List Reader} {was is : 
   -- Rows from the buffers.
   module _ {new : List Reader} {written : List ℕ} (p : RowsTaken (job_shape job cells) now new written) where
     pub rows_wrote : {is' : Output} → PushEffect is is' written → PushEffect is is' (rows_text job p.taken_rows)
-    rows_wrote {is'} wrote = subst (PushEffect is is') p.is wrote
+    rows_wrote wrote = rw p.is at wrote
 
     pub rows_kept : (top : ℕ → ℕ) → ((q : ℕ) → max_length (s.ls q ++ p.ls q) ≤ top q) → SlotsBound cells top first store
     rows_kept top high = s.kept top (λ q. omega (arith, high q, max_length-append (s.ls q) (p.ls q)))
@@ -282,7 +281,7 @@ module _ {job : Paste} {cells : List ℕ} {old set now : List Reader} {was is : 
 
         pub row_wrote : {is' : Output} → PushEffect is is' (cells_text (job_shape job cells) 0 fields)
             → PushEffect is is' (rows_text job (fields ∷ []))
-        row_wrote {is'} wrote = subst (PushEffect is is') (filled_row_text (job_shape job cells) f) wrote
+        row_wrote wrote = rw (filled_row_text (job_shape job cells) f) at wrote
 
         pub invariant_more : {is' : Output} → PushEffect is is' (rows_text job (fields ∷ [])) → is'.write_failed ≡ false
             → PasteInvariant job cells old set new was is' first after

@@ -198,45 +198,46 @@ module _ {end : ℕ} {byte : ℕ → ℕ} where
 
 -- ---- some more bytes, from a cycle
 
+abbrev ends_in : Cycle → List ℕ → ℕ
+ends_in cycle = count_by (is_byte cycle.terminator)
+
+abbrev copied : Cycle → ℕ → List ℕ → List ℕ
+copied cycle = with_replacements cycle.terminator (cycle_byte cycle)
+
 one_byte : (at : ℕ) (from : List ℕ) → at < length from → take 1 (drop at from) ≡ get_or from at 0 ∷ []
 one_byte at from room = ap (take 1) (drop_more from at 0 room)
 
 module _ {cycle : Cycle} {first index at : ℕ} {from to to' : List ℕ} (long : length to' ≡ length from)
     (r : IsReplacedTo cycle first index at from to) where
   -- Bytes were replaced from the one at `index` on.
-  pub replaced_more : (size : ℕ) {next : ℕ} → at + size ≤ length from → next ≡ (index + count_by
-      (is_byte cycle.terminator) (take size (drop at from))) % cycle.len
-      → take (at + size) to' ≡ take at to ++ with_replacements cycle.terminator (cycle_byte cycle) index (take size (drop at from))
+  pub replaced_more : (size : ℕ) {next : ℕ} → at + size ≤ length from
+      → next ≡ (index + ends_in cycle (take size (drop at from))) % cycle.len
+      → take (at + size) to' ≡ take at to ++ copied cycle index (take size (drop at from))
       → IsReplacedTo cycle first next (at + size) from to'
-  replaced_more size {next} room is more =
+  replaced_more size room is more =
       let front = take at from in
       let here = take size (drop at from) in
-      let split : take (at + size) from ≡ front ++ here = take-add at size from in
-      let count : count_by (is_byte cycle.terminator) (take (at + size) from)
-      ≡ count_by (is_byte cycle.terminator) front + count_by (is_byte cycle.terminator) here =
-      ap (count_by (is_byte cycle.terminator)) split ∙ sum_by-append (λ b. cond
-      (is_byte cycle.terminator b) 1 0) front here in
-      let same : first + count_by (is_byte cycle.terminator) (take (at + size) from) ≡ so_far + count_by
-      (is_byte cycle.terminator) here =
-      omega (arith, count) in
+      let split = take-add at size from in
+      let so_far = first + ends_in cycle front in
+      let index_is : index % cycle.len ≡ so_far % cycle.len =
+      mod-eq_of_lt (omega (arith, r.next, mod-lt so_far cycle.is_unrolled.some)) ∙ r.next in
+      let count : first + ends_in cycle (take (at + size) from) ≡ so_far + ends_in cycle here = omega (
+        arith,
+        ap (ends_in cycle) split,
+        sum_by-append (λ b. cond (is_byte cycle.terminator b) 1 0) front here,
+      ) in
       record {
         within = room;
         same = long;
-        next = is ∙ ap (λ k. (k + count_by (is_byte cycle.terminator) here) % cycle.len) r.next
-            ∙ mod-add-mod so_far cycle.len (count_by (is_byte cycle.terminator) here) ∙ ap (λ k. k % cycle.len)
-            (sym same);
-        is = more
-            ∙ (λ i. r.is i ++ replaced_mod cycle.terminator
-            (λ k. get_or cycle.unrolled k 0 ∷ []) cycle.len index so_far index_is here i)
-            ∙ sym (replaced-append cycle.terminator (cycle_byte cycle) first front here)
-            ∙ ap (with_replacements cycle.terminator (cycle_byte cycle) first) (sym split);
+        next = cc (is, r.next, mod-add-mod so_far cycle.len (ends_in cycle here), count);
+        is = cc (
+          more,
+          r.is,
+          replaced_mod cycle.terminator (λ k. get_or cycle.unrolled k 0 ∷ []) cycle.len index so_far index_is here,
+          replaced-append cycle.terminator (cycle_byte cycle) first front here,
+          split,
+        );
       }
-    where
-      so_far : ℕ
-      so_far = first + count_by (is_byte cycle.terminator) (take at from)
-
-      index_is : index % cycle.len ≡ so_far % cycle.len
-      index_is = mod-eq_of_lt (omega (arith, r.next, mod-lt so_far cycle.is_unrolled.some)) ∙ r.next
 
   module _ (room : at < length from) where
     pub replaced_terminator : {next v : ℕ} → get_or from at 0 ≡ cycle.terminator → v ∷ [] ≡ cycle_byte cycle index
@@ -262,7 +263,7 @@ module _ {cycle : Cycle} {first index at : ℕ} {from to to' : List ℕ} (long :
         let x = get_or from at 0 in
         let test = byte_ne cycle.terminator x other in
         let one = one_byte at from room in
-        let number : index + count_by (is_byte cycle.terminator) (take 1 (drop at from)) ≡ index =
-        omega (arith, ap (count_by (is_byte cycle.terminator)) one, counted cycle.terminator x [] test) in
+        let number : index + ends_in cycle (take 1 (drop at from)) ≡ index =
+        omega (arith, ap (ends_in cycle) one, counted cycle.terminator x [] test) in
         replaced_more 1 (omega (arith, room)) (cc (number, mod-eq_of_lt less))
         (cc (set, take_more_set to at x (omega (arith, room, r.same)), one, test))

@@ -4,9 +4,9 @@
 use Rattle.ptflow.proofs.Common.{◌≡◌, ◌≢◌, ℕ, zero, suc, ◌+◌, ◌-◌, ◌*◌, ◌%◌, ◌<◌, ◌≤◌, cond, List, [], ◌∷◌, ◌++◌, None}
 use Rattle.ptflow.proofs.Common.{length, map, take, drop, set, get_or, refl, sym, ◌∙◌, ap, arith, append_assoc}
 use Rattle.ptflow.proofs.Common.{length-drop, take-append-drop, ⊎_elim, inl, count_by, cases_eq, cases_lt, mod-mul-add}
-use Rattle.ptflow.proofs.Common.{take_more, take_all, nil_from_length, length-take-le, length-set, All-get_or, All-take}
-use Rattle.ptflow.proofs.Common.{All-drop, All-from_recursion, recursion_from_All, sum_by-append, sum_by-set, is_byte}
-use Rattle.ptflow.proofs.Common.{unlines, lines, IsLine, AreLines, EndsWithByte, Output, PushEffect, push_nothing}
+use Rattle.ptflow.proofs.Common.{take_more, take_all, nil_from_length, length-take-le, length-set, All-get_or}
+use Rattle.ptflow.proofs.Common.{sum_by-append, sum_by-set, is_byte}
+use Rattle.ptflow.proofs.Common.{unlines, lines, AreLines, EndsWithByte, Output, PushEffect, push_nothing}
 use Rattle.ptflow.proofs.Common.{Reader, IsSound, budget, advance_ok_take, byte_eq, unlines-append, lines_are}
 use Rattle.ptflow.proofs.Common.{the_lines, no_reader, reader_at, update_at, join_with_cycle, uses_of, columns, rows}
 use Rattle.ptflow.proofs.Common.{IsSharedCycle, IsWholeRows, LinesTaken, with_replacements, cycle_byte, after_cell, cells_text}
@@ -64,15 +64,11 @@ whole_rows_counted end n count bytes last counted =
 
 -- ---- the text of rows
 
-AreLines-take : (end n : ℕ) (ls : List (List ℕ)) → AreLines end ls → AreLines end (take n ls)
-AreLines-take end n ls are_lines =
-    recursion_from_All (IsLine end) (take n ls)
-    (All-take (IsLine end) n ls (All-from_recursion (IsLine end) ls are_lines))
-
-AreLines-drop : (end n : ℕ) (ls : List (List ℕ)) → AreLines end ls → AreLines end (drop n ls)
-AreLines-drop end n ls are_lines =
-    recursion_from_All (IsLine end) (drop n ls)
-    (All-drop (IsLine end) n ls (All-from_recursion (IsLine end) ls are_lines))
+are_parts : (end n : ℕ) (ls : List (List ℕ)) → AreLines end ls → AreLines end (take n ls) × AreLines end (drop n ls)
+are_parts end zero ls are_lines = (tt, are_lines)
+are_parts end (suc n) [] are_lines = (tt, tt)
+are_parts end (suc n) (line ∷ ls) (free, are_lines) =
+    let (front, rest) = are_parts end n ls are_lines in ((free, front), rest)
 
 -- The lines `ls` in rows of n.
 abbrev pub rows_in : ℕ → ℕ → List (List ℕ) → List (List (List ℕ))
@@ -122,7 +118,7 @@ module _ {row : RowShape} {cycle : Cycle} (t : IsSharedCycle row cycle) where
       let size : suc more * n ≡ n + more * n = omega arith in
       let first = take n ls in
       let rest = drop n ls in
-      let whole_first = AreLines-take end n ls are_lines in
+      let (whole_first, whole_rest) = are_parts end n ls are_lines in
       let first_long : length first ≡ n = length-take-le n ls (omega (arith, long, size)) in
       let start : k * n ≡ k * n + 0 = omega arith in
       let next : k * n + count_by (is_byte end) (unlines end first) ≡ (k + 1) * n =
@@ -136,7 +132,7 @@ module _ {row : RowShape} {cycle : Cycle} (t : IsSharedCycle row cycle) where
         next,
         row_replaced k 0 first whole_first (omega (arith, first_long)),
         row_text row 0 first (omega (arith, first_long)) (omega (arith, first_long, t.some)),
-        rows_replaced (k + 1) more rest (AreLines-drop end n ls are_lines) more_long,
+        rows_replaced (k + 1) more rest whole_rest more_long,
       )
 
 -- ---- the grid of one input
