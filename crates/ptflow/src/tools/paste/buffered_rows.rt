@@ -178,13 +178,10 @@ pub(crate) fn copy_rows<S: Source, R: Source>(
 pub(crate) fn move_to_front(copied: CopiedRows, into: &mut OutBuf) -> BegunRow
     ensures { (readers : List Reader) → begun_in readers result into.new ≡ begun_after readers copied into.old }
 {
-    let begun = copied.begun;
+    let mut begun = copied.begun;
     into.copy_within(copied.end..begun.end, 0);
-    BegunRow {
-        count: begun.count,
-        end: begun.end - copied.end,
-        any_line: begun.any_line,
-    }
+    begun.end -= copied.end;
+    begun
 }
 
 // Copies the line of a column, and the byte after it, to the end of a begun row. Returns `None` if an earlier column
@@ -207,10 +204,8 @@ pub(crate) fn copy_slot(
         return None;
     }
     copy_short(line, 0, line.len(), into, begun.end);
-    let end = begun.end + line.len();
-    Some(BegunRow {
-        count: column + 1,
-        end: copy_option(row.byte_after(column), into, end),
-        any_line: begun.any_line,
-    })
+    let mut next = begun;
+    next.end = copy_option(row.byte_after(column), into, begun.end + line.len());
+    next.count += 1;
+    Some(next)
 }
