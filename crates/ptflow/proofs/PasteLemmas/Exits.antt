@@ -417,7 +417,7 @@ module _ {job : Paste} {cells : List ℕ} {old set now : List Reader} {was is : 
         exit k (Err Write) (record {
           write_failed = fault;
           unfailed = λ p named. failed_to same p;
-          not_denied = ap (λ (x : Slots). x.denied) stored ∙ (bound_now k).denied;
+          not_denied = cc (stored, (bound_now k).denied);
         }) tt
 
     -- A growth of a slot failed. That reader has bytes left.
@@ -430,7 +430,7 @@ module _ {job : Paste} {cells : List ℕ} {old set now : List Reader} {was is : 
         let (none, empty, eof) = eof_gives_nothing (reader_at b.mid here) (reader_at new here) piece done piece_reads in
         absurd (omega (arith, left, ap length empty))) wrote bound_with_piece
         (inr stored)) (Err Memory) (record {
-          denied = ap (λ (x : Slots). x.denied) stored;
+          denied = cc stored;
           unfailed = λ p named. failed_to same p;
           clean = clean;
           left = λ enough. inl (
@@ -454,9 +454,9 @@ module _ {job : Paste} {cells : List ℕ} {old set now : List Reader} {was is : 
           named = used_is_in cells here here_used;
           unfailed = never_failed s.starts here (used_is_in cells here here_used);
           cause = ⊎_elim inl (λ (long, same). inr (long, same ∙ failed_mid here)) cause;
-          others = λ q named differ. ap (λ (r : Reader). r.failed) (b.others q differ) ∙ failed_mid q;
+          others = λ q named differ. cc (b.others q differ, failed_mid q);
           clean = clean;
-          not_denied = ap (λ (x : Slots). x.denied) stored ∙ (bound_now k).denied;
+          not_denied = cc (stored, (bound_now k).denied);
         }) (λ p named failed. ⊎_elim decided_here
         (λ (long, same). cc (failed, failed_to same p, never_failed s.starts p named)) cause)
       where

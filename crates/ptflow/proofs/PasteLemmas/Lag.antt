@@ -302,14 +302,19 @@ module _ (job : Paste) (cells : List ℕ) (came : ℕ → Received) where
         let there : r < length (every_kth k j (known_of earlier p)) =
         ⊎_elim (λ there. there) (λ past. cc (unknown r c low is past, known))
         (cases_lt r (length (every_kth k j (known_of earlier p)))) in
-        ap (λ (g : Received). slice_index_or (every_kth k j (known_lines job.terminator g)) r []) is_front
-        ∙ every_kth_more k j r (complete_lines job.terminator cut.front) more
-        (omega (arith, there, ap (λ (g : Received). length (every_kth k j (known_lines job.terminator g))) is_front))
-        ∙ ap (λ (l : Column). slice_index_or (every_kth k j l) r [])
-        (sym ((λ i. known_lines job.terminator (record { bytes = cut.split i; eof = (came here).eof })) ∙ is_known))
-        ∙ ap (λ (q : ℕ). slice_index_or (every_kth k j (known_of came q)) r []) (sym is))
-        (λ other. ap (λ (g : Received). slice_index_or (every_kth k j (known_lines job.terminator g)) r [])
-        (update_there here front came p other))
+        let whole : known_lines job.terminator (came here) ≡ complete_lines job.terminator cut.front ++ more =
+        (λ i. known_lines job.terminator (record { bytes = cut.split i; eof = (came here).eof })) ∙ is_known in
+        cc (
+          is_front,
+          every_kth_more k j r (complete_lines job.terminator cut.front) more (omega (
+            arith,
+            there,
+            ap (λ (g : Received). length (every_kth k j (known_lines job.terminator g))) is_front,
+          )),
+          whole,
+          is,
+        ))
+        (λ other. cc (update_there here front came p other))
         (cases_eq p here)
       where
         p : ℕ
