@@ -4,7 +4,7 @@ use Rattle.ptflow.proofs.Common.{◌≡◌, inl, ℕ, ◌+◌, ◌<◌, ◌≤�
 use Rattle.ptflow.proofs.Common.{◌%◌, eq-eqb, ne_eqb, option_to_list, slice_index_or, None, Some, Ok, length, take}
 use Rattle.ptflow.proofs.Common.{drop, set, get_or, refl, sym, ◌∙◌, ap, subst, arith, append_assoc, length-append}
 use Rattle.ptflow.proofs.Common.{length-drop, append-nil, take-take, take-append-le, length-take-le}
-use Rattle.ptflow.proofs.Common.{length-set, drop-drop, drop_at, IsFirstByte, is_byte, Reader, AdvanceOk, IsSound}
+use Rattle.ptflow.proofs.Common.{length-set, drop-drop, drop_at, IsFirstByte, is_byte, Reader, IsSound}
 use Rattle.ptflow.proofs.Common.{Slots, with_line, FillLine, FillPost, line_before_terminator, take_with_terminator}
 use Rattle.ptflow.proofs.Common.{advance_ok_take, reader_at, uses_of, CellsFilled, after_cell, cells_text, RowShape}
 use Rattle.ptflow.proofs.Common.{BegunText, BufferedRowsPre, IsConsumed, AreConsumed, IsFieldCopied, CopyColumnsPost}
@@ -25,7 +25,7 @@ buffered_line : (b r : Reader) (at : ℕ) (store : Slots) (slot : ℕ) → b.fau
     (with_line store slot (take at b.buffered)) slot
 buffered_line b r at store slot clean short first step =
     let (found, here) = first in
-    let advance_ok = subst (λ (x : List ℕ). AdvanceOk b r x) (take_with_terminator b.terminator b.buffered at first)
+    let advance_ok = rw (take_with_terminator b.terminator b.buffered at first) at
     (advance_ok_take b r (at + 1) clean (omega (arith, found.high)) step) in
     let new_short : r.pulled < 2 ^ 63 = advance_ok.short short in
     record {
@@ -168,10 +168,6 @@ vector_line at k n was {count = count} {bytes = bytes} same long room all first 
 
 -- ---- the columns of a row
 
-columns_text : (before text field after : List ℕ) {copied cell next more : List ℕ} → copied ≡ before ++ text
-    → cell ≡ copied ++ field → next ≡ cell ++ after → more ≡ text ++ (field ++ after) → next ≡ before ++ more
-columns_text before text field after a b c d = rw (c, b, a, d) (simp append_assoc)
-
 -- The byte after the last column, and after any other.
 pub after_last : (row : RowShape) (c : ℕ) → c + 1 ≡ length row.cells → row.terminator ∷ [] ≡ after_cell row c
 after_last row c last = rw (eq-eqb (c + 1) (length row.cells) last) refl
@@ -230,8 +226,17 @@ module _ {row : RowShape} where
           → CopyColumnsPost row begun (with_column next)
       one_more after = record {
         fields = s.fields ++ f.field ∷ [];
-        is = columns_text begun.text (cells_text row begun.count s.fields) f.field (after_cell row now.count) s.is f.is
-            after (cells_text-push row begun.count s.fields f.field s.width);
+        is =
+            let text = cells_text row begun.count s.fields in
+            let end = after_cell row now.count in
+            cc (
+              s.is,
+              f.is,
+              after,
+              cells_text-push row begun.count s.fields f.field s.width,
+              append_assoc (begun.text ++ text) f.field end,
+              append_assoc begun.text text (f.field ++ end),
+            );
         consumed = consumed_more s.consumed within is_read f.consumed;
         width = omega (arith, s.width, length-append s.fields (f.field ∷ []));
         filled = filled_more;

@@ -256,8 +256,7 @@ module _ {job : Paste} {cells : List ℕ} {old set now : List Reader} {was is : 
         let more = grid_none cells (λ p. lines job.terminator (later job s.first_rows read_by texts a p))
         (λ p some i. let done = done_by p some in
         lines job.terminator (nothing_by p i ++ (done.buffered i ++ (a p).whole done.eof i))) in
-        sym (ap (rows_text job) (rows_by job s.first_rows read_by texts a
-        ∙ ap (λ (l : List (List (List ℕ))). s.taken_rows ++ l) more ∙ append-nil s.taken_rows))
+        cc (rows_by job s.first_rows read_by texts a, more, append-nil s.taken_rows)
 
     pub paste_done : {is' : Output} {cleared : Slots} → ClearSlotsPost cells after cleared → PushEffect is is' []
         → is'.write_failed ≡ false → PastePost job cells old new was is' first cleared (Ok tt)

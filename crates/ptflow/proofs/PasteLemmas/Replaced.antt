@@ -69,9 +69,12 @@ module _ (end : ℕ) where
     take-replaced at number bytes within =
         let front = take at bytes in
         let long = length-replaced number front ∙ length-take-le at bytes within in
-        ap (λ (l : List ℕ). take at (all number l)) (sym (take-append-drop at bytes))
-        ∙ ap (take at) (replaced-append (λ n. byte n ∷ []) number front (drop at bytes))
-        ∙ take_at (all number front) _ at long
+        let rest = all (number + count_by (is_byte end) front) (drop at bytes) in
+        cc (
+          take-append-drop at bytes,
+          replaced-append (λ n. byte n ∷ []) number front (drop at bytes),
+          take_at (all number front) rest at long,
+        )
 
     -- The bytes, with their first n terminators replaced.
     abbrev first_replaced : ℕ → ℕ → List ℕ → List ℕ
@@ -174,10 +177,12 @@ module _ {end : ℕ} {byte : ℕ → ℕ} where
       set_in_chunk v =
           let there : at + bit - at ≡ bit = omega arith in
           let front = length-take-le at was (omega (arith, r.room, r.same)) in
-          take-set-lt (at + 64) to (at + bit) v (omega (arith, low)) ∙ ap (λ (l : List ℕ). slice_set l
-          (at + bit) v) r.is
-          ∙ set-append_right (take at was) (first_replaced end byte n first ends) at (at + bit) v front (omega arith)
-          ∙ ap (λ k. take at was ++ slice_set (first_replaced end byte n first ends) k v) there
+          cc (
+            take-set-lt (at + 64) to (at + bit) v (omega (arith, low)),
+            r.is,
+            set-append_right (take at was) (first_replaced end byte n first ends) at (at + bit) v front (omega arith),
+            there,
+          )
 
       pub replace_next : {rest put : ℕ} {to' : List ℕ} → marked < 2 ^ 64 → put ≡ byte (first + n)
           → rest ≡ bit_and marked ((marked + (2 ^ 64 - 1)) % 2 ^ 64) → to' ≡ slice_set to (at + bit) put

@@ -150,16 +150,14 @@ module _ (cells : List ℕ) (input : ℕ) (same : (c : ℕ) → c < length cells
   uses_before_column zero low = refl
   uses_before_column (suc c) low =
       let next : suc c ≡ c + 1 = omega arith in
-      ap (λ (m : ℕ). uses_of (take m cells) input) next
-      ∙ omega (
-        arith,
+      cc (
+        next,
         uses_here cells c input (omega (arith, low)) (same c (omega (arith, low))),
         uses_before_column c (omega (arith, low)),
       )
 
   uses_all : uses_of cells input ≡ length cells
-  uses_all = ap (λ (l : List ℕ). uses_of l input) (sym (take_all (length cells) cells (omega arith)))
-      ∙ uses_before_column (length cells) (omega arith)
+  uses_all = cc (take_all (length cells) cells (omega arith), uses_before_column (length cells) (omega arith))
 
   uses_none : (q : ℕ) → q ≢ input → uses_of cells q ≡ 0
   uses_none q differ = ⊎_elim
@@ -195,11 +193,13 @@ module _ (cells : List ℕ) (input : ℕ) (same : (c : ℕ) → c < length cells
   rows_on some (suc k) ls more long =
       let n = length cells in
       let size : suc k * n ≡ n + k * n = omega arith in
-      (λ i. rows
-      (columns cells
-      (λ q. (ap (λ (l : Column). lines_of_input input l q ++ more q) (sym (take-append-drop n ls))
-      ∙ ap (λ (l : Column). l ++ more q) (lines_of_input-append input (take n ls) (drop n ls) q)
-      ∙ append_assoc (lines_of_input input (take n ls) q) (lines_of_input input (drop n ls) q) (more q)) i)))
+      let split : (q : ℕ) → lines_of_input input ls q ++ more q
+      ≡ lines_of_input input (take n ls) q ++ (lines_of_input input (drop n ls) q ++ more q) = λ q. cc (
+        take-append-drop n ls,
+        lines_of_input-append input (take n ls) (drop n ls) q,
+        append_assoc (lines_of_input input (take n ls) q) (lines_of_input input (drop n ls) q) (more q),
+      ) in
+      (λ i. rows (columns cells (λ q. split q i)))
       ∙ row_on some (take n ls) (λ q. lines_of_input input (drop n ls) q ++ more q)
       (length-take-le n ls (omega (arith, long, size)))
       ∙ ap (λ (r : List (List (List ℕ))). take n ls ∷ r)
