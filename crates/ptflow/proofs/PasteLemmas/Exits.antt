@@ -158,7 +158,8 @@ module _ {job : Paste} {cells : List ℕ} {old set now : List Reader} {was is : 
               max_length-append (ls p) (taken p),
               max_length-append (s.ls p) (ls p),
             ));
-            begins = λ texts a. rw (rows_text-append job.terminator job.delimiters s.taken_rows more) at (begins_by job (first_rows_trans s.first_rows g)
+            begins = λ texts a. rw (rows_text-append job.terminator job.delimiters s.taken_rows more) at
+                (begins_by job (first_rows_trans s.first_rows g)
                 (read_lines b (λ p none. omega (arith, none, uses_before cells n p))) texts
                 (λ p. rw (append_assoc (so_far p).bytes (g.lines_taken p).bytes (b p).bytes) (a p)));
             lags = λ p some. lags_by job s.first_rows read_on p some (cut p some);

@@ -342,7 +342,8 @@ module _ {cells : List ℕ} {n : ℕ} {old now : List Reader} {fields : List (Li
     fill_eof : AdvanceOk b r [] → IsDone r → CellsFilled cells (n + 1) old (set now p r) (fields ++ [] ∷ []) any_line
     fill_eof advance_ok done = record {
       input_lines = lines_at p [] f.input_lines;
-      consumed = cells_taken_more f.consumed low within (rw is_read at (taken_eof {end = (reader_at old p).terminator} {b = b} advance_ok done clean sound))
+      consumed = cells_taken_more f.consumed low within (rw is_read at
+          (taken_eof {end = (reader_at old p).terminator} {b = b} advance_ok done clean sound))
           (cc (
             append-nil (f.input_lines p),
             get_or_past (f.input_lines p) (uses_of (take n cells) p) [] (taken_at_most (f.consumed.lines_taken p)),

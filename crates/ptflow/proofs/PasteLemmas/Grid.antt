@@ -208,7 +208,8 @@ module _ (cells : List ℕ) where
   column_at ins c low = get_or-for_each_cell (column_of ins) cells c [] low
 
   -- Inputs that no column uses do not matter.
-  pub columns_same : (f g : ℕ → Column) → ((p : ℕ) → 0 < uses_of cells p → f p ≡ g p) → columns cells f ≡ columns cells g
+  pub columns_same : (f g : ℕ → Column) → ((p : ℕ) → 0 < uses_of cells p → f p ≡ g p)
+      → columns cells f ≡ columns cells g
   columns_same f g same = for_each_cell_same (column_of f) (column_of g) cells (λ c low.
       ap (every_kth _ (uses_of (take c cells) _)) (same _ (omega (arith, uses_before_lt c low))))
 

@@ -139,7 +139,8 @@ ended_more end (line ∷ ls) bytes (whole, more) = cc (
 whole_lines_prefix : (end : ℕ) (eof : Bool) (front last : List ℕ)
     → (more : Column) × (known_lines end (record { bytes = front ++ last; eof = eof }) ≡ complete_lines end front
     ++ more)
-whole_lines_prefix end true front last = (lines end ((line_split end front).piece ++ last), complete_prefix end front last)
+whole_lines_prefix end true front last =
+    (lines end ((line_split end front).piece ++ last), complete_prefix end front last)
 whole_lines_prefix end false front last =
     let split = line_split end front in
     let ls = complete_lines end front in (

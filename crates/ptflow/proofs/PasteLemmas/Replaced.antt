@@ -6,7 +6,8 @@ use Rattle.ptflow.proofs.Common.{append_assoc, bit_and, count_by, count_ones, ma
 use Rattle.ptflow.proofs.Common.{mod-eq_of_lt, take-add, take_at, take-append-drop, take-set-lt, eq-eqb}
 use Rattle.ptflow.proofs.Common.{set-append_right, drop_more, take_more_set, take-set, length-set, sum_by-cons}
 use Rattle.ptflow.proofs.Common.{sum_by-append, is_byte, byte_eq, byte_ne, IsLine, IsNth, length-take-le, length-chunk}
-use Rattle.ptflow.proofs.Common.{length-put_chunk, take_more_put_chunk, put_chunk, ones-mask_l, with_replacements, cycle_byte}
+use Rattle.ptflow.proofs.Common.{length-put_chunk, take_more_put_chunk, put_chunk, ones-mask_l, with_replacements}
+use Rattle.ptflow.proofs.Common.{cycle_byte}
 use Rattle.ptflow.proofs.Common.{IsReplacedTo}
 use lib.Count.{count_trailing_zeros}
 use Rattle.ptflow.proofs.Vectors.FindNth.{after_set, cleared, without}

@@ -4,7 +4,8 @@ use Rattle.ptflow.proofs.Common.{◌≡◌, ⊎_elim, ℕ, ◌+◌, ◌%◌, ◌
 use Rattle.ptflow.proofs.Common.{Option, length, length-append, refl, sym, ◌∙◌, ap, arith, append_assoc, onto_first}
 use Rattle.ptflow.proofs.Common.{count_by, cases_Bool, append-nil, append_cancel_right, is_byte, lines, complete_lines}
 use Rattle.ptflow.proofs.Common.{IsPrefix, lines_of_unlines, Paste, delimiter, join_with_cycle, mod-add-mod}
-use Rattle.ptflow.proofs.Common.{paste_serial_decided, with_replacements, row_rest, mod-eq_of_lt, byte_eq, option_to_list, None}
+use Rattle.ptflow.proofs.Common.{paste_serial_decided, with_replacements, row_rest, mod-eq_of_lt, byte_eq, option_to_list}
+use Rattle.ptflow.proofs.Common.{None}
 use Rattle.ptflow.proofs.Common.{Some, IsFirstByte, take, drop, line_before_terminator, sum_by-append, mod-lt}
 use Rattle.ptflow.proofs.Vectors.FindNth.{none_counted}
 use Rattle.std.specs.Prelude.{slice_index_or}

@@ -9,7 +9,8 @@ use Rattle.ptflow.proofs.Common.{sum_by-append, sum_by-set, is_byte}
 use Rattle.ptflow.proofs.Common.{unlines, lines, AreLines, EndsWithByte, Output, PushEffect, push_nothing}
 use Rattle.ptflow.proofs.Common.{Reader, IsSound, budget, advance_ok_take, byte_eq, unlines-append, lines_are}
 use Rattle.ptflow.proofs.Common.{the_lines, no_reader, reader_at, update_at, join_with_cycle, uses_of, columns, rows}
-use Rattle.ptflow.proofs.Common.{IsSharedCycle, IsWholeRows, LinesTaken, with_replacements, cycle_byte, after_cell, cells_text}
+use Rattle.ptflow.proofs.Common.{IsSharedCycle, IsWholeRows, LinesTaken, with_replacements, cycle_byte, after_cell}
+use Rattle.ptflow.proofs.Common.{cells_text}
 use Rattle.ptflow.proofs.Common.{mod-eq_of_lt, RowShape, BufferedRowsPre, RowsTaken, RowsWritten, nat_tests}
 use Rattle.ptflow.proofs.Vectors.FindNth.{none_counted}
 use Rattle.ptflow.proofs.PasteLemmas.Grid.{Column, for_each_cell_unique, top_of, grid_step, uses_here, uses_before_lt}
@@ -246,13 +247,15 @@ module _ {row : RowShape} {cycle : Cycle} (t : IsSharedCycle row cycle) {old : L
     enough = inl rs.long;
   })
 
-  rows_of_input : RowsTaken row old (set old input r) (with_replacements end (cycle_byte cycle) 0 (take count b.buffered))
+  rows_of_input : RowsTaken row old (set old input r)
+      (with_replacements end (cycle_byte cycle) 0 (take count b.buffered))
   rows_of_input = record {
     taken_rows = rows_in (length row.cells) rs.count rs.ls;
     ls = lines_of_input input rs.ls;
     first_rows = record {
       lines_taken = each_reader (λ q x. LinesTaken end (reader_at old q) x
-          (length (rows_in (length row.cells) rs.count rs.ls) * uses_of row.cells q) (lines_of_input input rs.ls q)) old low
+          (length (rows_in (length row.cells) rs.count rs.ls) * uses_of row.cells q) (lines_of_input input rs.ls q)) old
+          low
           (rw (
             update_here input rs.ls (λ q. []) input refl,
             length-rows (length row.cells) rs.count rs.ls,

@@ -2,7 +2,8 @@
 -- from there, and the further columns are from the buffers. A failed write, read or growth stops the row; nothing was
 -- pushed.
 use Rattle.ptflow.proofs.Common.{◌≡◌, ◌+◌, ◌<◌, ℕ, List, [], ◌++◌, length, take, get_or, set, ◌∙◌, ap, arith}
-use Rattle.ptflow.proofs.Common.{err_from_is_err_and, PushEffect, Reader, Slots, push_nothing, push_trans, reader_at, uses_of, ◌||◌}
+use Rattle.ptflow.proofs.Common.{err_from_is_err_and, PushEffect, Reader, Slots, push_nothing, push_trans, reader_at}
+use Rattle.ptflow.proofs.Common.{uses_of, ◌||◌}
 use Rattle.ptflow.proofs.Common.{BegunText, BufferedRowsPre, RowAmid, after_cell, begun_in, shape_of}
 use borrow.Author.Rules.{scaled_Fits}
 use Rattle.ptflow.proofs.PasteLemmas.Grid.{uses_before_lt}

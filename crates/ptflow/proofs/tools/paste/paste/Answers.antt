@@ -212,15 +212,16 @@ returns-in_err-write_row g c =
     let row = c.in_ok-filled.ensures in
     let (fault, same, is) = err_from_is_err_and c.from_residual-in_err-write_row.result
     c.from_residual-in_err-write_row.ensures.1 in
-    rw (same, is) (row_failed g here c.in_ok-filled.filled row.fills (sym (not-not _) ∙ ap not c.if-not-filled.false) row.wrote
-    row.write_failed c.write_row.ensures.wrote c.in_err-write_row.ensures.fault)
+    rw (same, is) (row_failed g here c.in_ok-filled.filled row.fills
+    (sym (not-not _) ∙ ap not c.if-not-filled.false) row.wrote row.write_failed c.write_row.ensures.wrote c.in_err-write_row.ensures.fault)
 
 pub rows-smaller : goal.rows-smaller
 rows-smaller g c =
     let here = (goal.at.rows-smaller g c).After-fill_row in
     omega (
       arith,
-      (amid g here c.in_ok-filled.filled c.in_ok-filled.ensures.fills).filled.less (sym (not-not _) ∙ ap not c.if-not-filled.false),
+      (amid g here c.in_ok-filled.filled c.in_ok-filled.ensures.fills).filled.less
+          (sym (not-not _) ∙ ap not c.if-not-filled.false),
       (rows g here).rows.least,
       c.write_shared_rows.ensures.rows.rows.least,
     )
@@ -230,6 +231,6 @@ rows-preserved g c =
     let here = (goal.at.rows-preserved g c).After-fill_row in
     let row = c.in_ok-filled.ensures in
     record {
-      invariant_holds = row_more g here c.in_ok-filled.filled row.fills (sym (not-not _) ∙ ap not c.if-not-filled.false) row.wrote
-          row.write_failed c.write_row.ensures.wrote c.in_ok-write_row.ensures.clean;
+      invariant_holds = row_more g here c.in_ok-filled.filled row.fills
+          (sym (not-not _) ∙ ap not c.if-not-filled.false) row.wrote row.write_failed c.write_row.ensures.wrote c.in_ok-write_row.ensures.clean;
     }

@@ -35,7 +35,8 @@ rows-preserved g c =
     let p = c.copy_columns-begun.ensures.cells in
     record {
       rows = rows_more c.rows.invariant.rows (still_readable c.rows.invariant.consumed c.requires) p
-          (omega (arith, c.if-begun-row.false, c.copy_columns-begun.ensures.within)) (sym (not-not _) ∙ ap not c.if-not-begun.false);
+          (omega (arith, c.if-begun-row.false, c.copy_columns-begun.ensures.within))
+          (sym (not-not _) ∙ ap not c.if-not-begun.false);
       consumed = consumed_trans c.rows.invariant.consumed p.consumed;
       size_bound = c.copy_columns-begun.result.size_bound;
       buffer_size = omega (arith, c.copy_columns-begun.auto.into, c.rows.invariant.buffer_size);
