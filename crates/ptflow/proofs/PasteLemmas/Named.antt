@@ -5,6 +5,7 @@ use Rattle.ptflow.proofs.Common.{list_any_at, sum_by-cons, Received, IsConsisten
 use Rattle.ptflow.proofs.Common.{Paste, AreAllConsistent, inputs_at, is_in, uses_of, rows}
 use Rattle.ptflow.proofs.Common.{rows_text, paste, paste_size}
 use Rattle.std.proofs.lemmas.List.Sums.{sum-map}
+use Rattle.ptflow.proofs.Common.{known_lines, known_rows, paste_decided}
 use Rattle.std.specs.Prelude.{sum}
 use Rattle.ptflow.proofs.PasteLemmas.Grid.{columns_same, last_use}
 
@@ -38,6 +39,14 @@ pub consistent_itself : (given : Received) → IsConsistent given given.bytes
 consistent_itself given = record { rest = []; is = sym (append-nil given.bytes); whole = λ eof. refl }
 
 module _ (job : Paste) (cells : List ℕ) where
+  pub decided_same : (f g : ℕ → Received) → ((p : ℕ) → is_in cells p ≡ true → f p ≡ g p)
+      → paste_decided job cells f ≡ paste_decided job cells g
+  decided_same f g same = λ i.
+      rows_text job (known_rows
+      (columns_same cells (λ p. known_lines job.terminator (f p)) (λ p. known_lines job.terminator (g p))
+      (λ p some. ap (known_lines job.terminator) (same p (used_is_in cells p some))) i)
+      (map_same (λ p. (f p).eof) (λ p. (g p).eof) cells (λ p named. ap (λ h. h.eof) (same p named)) i))
+
   -- Texts that are consistent at these inputs, and at all others what was received.
   module _ (given : ℕ → Received) (texts : ℕ → List ℕ) (agree : AreAllConsistent (inputs_at cells) given texts) where
     abbrev pub with_received : ℕ → List ℕ
