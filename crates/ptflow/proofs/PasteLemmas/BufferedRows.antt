@@ -1,10 +1,10 @@
 -- Columns that are copied from the buffers of the readers. A line that is complete in a buffer is the line that `fill`
 -- would return, so a column is filled by it in the same way.
-use Rattle.ptflow.proofs.Common.{◌≡◌, ⊎_elim, inl, ℕ, ◌+◌, ◌<◌, ◌≤◌, ◌^◌, ◌||◌, Bool, true, false, List, [], ◌∷◌, ◌++◌}
+use Rattle.ptflow.proofs.Common.{◌≡◌, inl, ℕ, ◌+◌, ◌<◌, ◌≤◌, ◌^◌, ◌||◌, Bool, true, false, List, [], ◌∷◌, ◌++◌}
 use Rattle.ptflow.proofs.Common.{◌%◌, eq-eqb, ne_eqb, option_to_list, slice_index_or, None, Some, Ok, length, take}
 use Rattle.ptflow.proofs.Common.{drop, set, get_or, refl, sym, ◌∙◌, ap, subst, arith, append_assoc, length-append}
-use Rattle.ptflow.proofs.Common.{length-drop, cases_eq, append-nil, take-take, take-append-le, length-take-le}
-use Rattle.ptflow.proofs.Common.{length-set, drop-drop, drop_at, IsFirstByte, is_byte, Reader, AdvanceOk, IsSound}
+use Rattle.ptflow.proofs.Common.{length-drop, append-nil, take-take, take-append-le, length-take-le}
+use Rattle.ptflow.proofs.Common.{length-set, drop-drop, drop_at, IsFirstByte, is_byte, Reader, IsSound}
 use Rattle.ptflow.proofs.Common.{Slots, with_line, FillLine, FillPost, line_before_terminator, take_with_terminator}
 use Rattle.ptflow.proofs.Common.{advance_ok_take, reader_at, uses_of, CellsFilled, after_cell, cells_text, RowShape}
 use Rattle.ptflow.proofs.Common.{BegunText, BufferedRowsPre, IsConsumed, AreConsumed, IsFieldCopied, CopyColumnsPost}
@@ -16,7 +16,7 @@ use Rattle.std.proofs.Math.Seq.{take-append-add}
 use borrow.Rule.Slice.PartMut.{mid_of, put_mid}
 use Rattle.ptflow.specs.Private.Paste.BufferedRows.{LineCopied}
 use Rattle.ptflow.proofs.PasteLemmas.RowsTaken.{cells_text-push, rows_taken_trans, row_taken}
-use Rattle.ptflow.proofs.PasteLemmas.FillRow.{at_same, at_other, fill_starts, fill_next}
+use Rattle.ptflow.proofs.PasteLemmas.FillRow.{each_reader, fill_starts, fill_next}
 
 -- A line that is complete in a buffer is the line that `fill` would return.
 buffered_line : (b r : Reader) (at : ℕ) (store : Slots) (slot : ℕ) → b.fault ≡ None → b.pulled < 2 ^ 63
@@ -25,7 +25,7 @@ buffered_line : (b r : Reader) (at : ℕ) (store : Slots) (slot : ℕ) → b.fau
     (with_line store slot (take at b.buffered)) slot
 buffered_line b r at store slot clean short first step =
     let (found, here) = first in
-    let advance_ok = subst (λ (x : List ℕ). AdvanceOk b r x) (take_with_terminator b.terminator b.buffered at first)
+    let advance_ok = rw (take_with_terminator b.terminator b.buffered at first) at
     (advance_ok_take b r (at + 1) clean (omega (arith, found.high)) step) in
     let new_short : r.pulled < 2 ^ 63 = advance_ok.short short in
     record {
@@ -101,10 +101,8 @@ pub consumed_more : {old now : List Reader} {input : ℕ} {b r : Reader} → Are
     → b ≡ reader_at now input → IsConsumed b r → AreConsumed old (set now input r)
 consumed_more {old} {now} {input} {b} {r} c low is_read step = record {
   count = length-set now input r ∙ c.count;
-  buffered = λ p. ⊎_elim
-      (λ same. rw same (rw (at_same now input r low) (both_consumed (c.buffered input) (rw is_read at step))))
-      (λ differ. rw (at_other now input p r differ) (c.buffered p))
-      (cases_eq p input);
+  buffered = each_reader (λ p x. IsConsumed (reader_at old p) x) now low
+      (both_consumed (c.buffered input) (rw is_read at step)) (λ p differ. c.buffered p);
 }
 
 pub consumed_trans : {a b c : List Reader} → AreConsumed a b → AreConsumed b c → AreConsumed a c
@@ -170,10 +168,6 @@ vector_line at k n was {count = count} {bytes = bytes} same long room all first 
 
 -- ---- the columns of a row
 
-columns_text : (before text field after : List ℕ) {copied cell next more : List ℕ} → copied ≡ before ++ text
-    → cell ≡ copied ++ field → next ≡ cell ++ after → more ≡ text ++ (field ++ after) → next ≡ before ++ more
-columns_text before text field after a b c d = rw (c, b, a, d) (simp append_assoc)
-
 -- The byte after the last column, and after any other.
 pub after_last : (row : RowShape) (c : ℕ) → c + 1 ≡ length row.cells → row.terminator ∷ [] ≡ after_cell row c
 after_last row c last = rw (eq-eqb (c + 1) (length row.cells) last) refl
@@ -189,9 +183,7 @@ module _ {row : RowShape} where
     is = sym (append-nil begun.text);
     consumed = consumed_none;
     width = omega arith;
-    filled = λ from front f.
-        subst (λ (l : List (List ℕ)). CellsFilled row.cells begun.count from begun.readers l begun.any_line)
-        (sym (append-nil front)) f;
+    filled = λ from front f. rw (append-nil front) f;
   }
 
   module _ {begun now : BegunText} (s : CopyColumnsPost row begun now) (low : now.count < length row.cells)
@@ -228,17 +220,23 @@ module _ {row : RowShape} where
           let (field, stored, filled) = fill_next (s.filled from front given) low within is_read clean
           (sound_after_consume sound f.consumed) no_slots (with_line no_slots 0 f.field) 0 has f.fills in
           let same : field ≡ f.field = sym (ap (λ (x : Slots). get_or x.lines 0 []) stored) in
-          subst (λ (l : List (List ℕ)). CellsFilled row.cells (now.count + 1) from (set now.readers input r) l
-          (now.any_line || has))
-          (ap (λ (l : List ℕ). (front ++ s.fields) ++ l ∷ []) same ∙ append_assoc front s.fields (f.field ∷ []))
-          filled
+          rw (same, append_assoc front s.fields (f.field ∷ [])) at filled
 
       one_more : {next : List ℕ} → next ≡ copied ++ after_cell row now.count
           → CopyColumnsPost row begun (with_column next)
       one_more after = record {
         fields = s.fields ++ f.field ∷ [];
-        is = columns_text begun.text (cells_text row begun.count s.fields) f.field (after_cell row now.count) s.is f.is
-            after (cells_text-push row begun.count s.fields f.field s.width);
+        is =
+            let text = cells_text row begun.count s.fields in
+            let end = after_cell row now.count in
+            cc (
+              s.is,
+              f.is,
+              after,
+              cells_text-push row begun.count s.fields f.field s.width,
+              append_assoc (begun.text ++ text) f.field end,
+              append_assoc begun.text text (f.field ++ end),
+            );
         consumed = consumed_more s.consumed within is_read f.consumed;
         width = omega (arith, s.width, length-append s.fields (f.field ∷ []));
         filled = filled_more;

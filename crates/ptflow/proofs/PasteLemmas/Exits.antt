@@ -1,7 +1,7 @@
 -- The exits of `paste`: success, or a failed read, write or growth, between rows or within one. In each case the rows
 -- so far were pushed, and the readers have given the lines of these rows and perhaps some bytes more.
 use Rattle.ptflow.proofs.Common.{◌≡◌, ◌≢◌, ◌⊎◌, ⊎_elim, inl, inr, ℕ, ◌+◌, ◌*◌, ◌<◌, ◌≤◌, true, false, List, [], ◌∷◌}
-use Rattle.ptflow.proofs.Common.{◌++◌, Result, Ok, Err, length, take, get_or, max, refl, sym, ◌∙◌, ap, subst, arith}
+use Rattle.ptflow.proofs.Common.{◌++◌, Result, Ok, Err, length, take, get_or, max, refl, sym, ◌∙◌, ap, arith}
 use Rattle.ptflow.proofs.Common.{append_assoc, length-append, cases_eq, append-nil, lines, IsLine, max_length}
 use Rattle.ptflow.proofs.Common.{max_line_length, Received, IsPrefix, IsConsistent, known_lines, Output, PushEffect}
 use Rattle.ptflow.proofs.Common.{Reader, ReaderAdvance, IsDone, HasReadCause, Slots, with_line, with_denied}
@@ -79,8 +79,7 @@ module _ {job : Paste} {cells : List ℕ} {old set now : List Reader} {was is : 
     bound_now = k.bound (λ p. (given p).bytes) (λ p. consistent_itself (given p))
 
     same_size_and_peak : (length after.lines ≡ length stored.lines) × (after.peak ≡ stored.peak)
-    same_size_and_peak = ⊎_elim (λ is. (ap (λ x. length x.lines) is, ap (λ x. x.peak) is))
-        (λ is. (ap (λ x. length x.lines) is, ap (λ x. x.peak) is)) k.same
+    same_size_and_peak = ⊎_elim (λ is. rw is (refl, refl)) (λ is. rw is (refl, refl)) k.same
 
     progress : CallProgress (inputs_at cells) (paste_engine job cells) begin end
         (λ p. (so_far p).bytes ++ r.extra p) (rows_text job s.taken_rows ++ pushed)
@@ -159,8 +158,7 @@ module _ {job : Paste} {cells : List ℕ} {old set now : List Reader} {was is : 
               max_length-append (ls p) (taken p),
               max_length-append (s.ls p) (ls p),
             ));
-            begins = λ texts a. subst (λ (x : List ℕ). IsPrefix x (paste job cells texts))
-                (rows_text-append job.terminator job.delimiters s.taken_rows more)
+            begins = λ texts a. rw (rows_text-append job.terminator job.delimiters s.taken_rows more) at
                 (begins_by job (first_rows_trans s.first_rows g)
                 (read_lines b (λ p none. omega (arith, none, uses_before cells n p))) texts
                 (λ p. rw (append_assoc (so_far p).bytes (g.lines_taken p).bytes (b p).bytes) (a p)));
@@ -259,8 +257,7 @@ module _ {job : Paste} {cells : List ℕ} {old set now : List Reader} {was is : 
         let more = grid_none cells (λ p. lines job.terminator (later job s.first_rows read_by texts a p))
         (λ p some i. let done = done_by p some in
         lines job.terminator (nothing_by p i ++ (done.buffered i ++ (a p).whole done.eof i))) in
-        sym (ap (rows_text job) (rows_by job s.first_rows read_by texts a
-        ∙ ap (λ (l : List (List (List ℕ))). s.taken_rows ++ l) more ∙ append-nil s.taken_rows))
+        cc (rows_by job s.first_rows read_by texts a, more, append-nil s.taken_rows)
 
     pub paste_done : {is' : Output} {cleared : Slots} → ClearSlotsPost cells after cleared → PushEffect is is' []
         → is'.write_failed ≡ false → PastePost job cells old new was is' first cleared (Ok tt)
@@ -393,7 +390,7 @@ module _ {job : Paste} {cells : List ℕ} {old set now : List Reader} {was is : 
       -- Another reader, without the last line that it gave.
       lag_to : (p : ℕ) → 0 < uses_of cells p → LagsBy job s.first_rows read_to p
       lag_to p some = lags_by job s.first_rows read_to p some (⊎_elim
-          (λ (is, whole). subst (EarlierBy job s.first_rows read_to) (sym is) earlier_here)
+          (λ (is, whole). rw is earlier_here)
           (λ (other, none, kept).
           rw (none, append-nil (lines_taken_to p).bytes, kept)
           (earlier_of_taken p some (lines_taken_to p) (uses_before cells b.column p)))
@@ -420,7 +417,7 @@ module _ {job : Paste} {cells : List ℕ} {old set now : List Reader} {was is : 
         exit k (Err Write) (record {
           write_failed = fault;
           unfailed = λ p named. failed_to same p;
-          not_denied = ap (λ (x : Slots). x.denied) stored ∙ (bound_now k).denied;
+          not_denied = cc (stored, (bound_now k).denied);
         }) tt
 
     -- A growth of a slot failed. That reader has bytes left.
@@ -433,7 +430,7 @@ module _ {job : Paste} {cells : List ℕ} {old set now : List Reader} {was is : 
         let (none, empty, eof) = eof_gives_nothing (reader_at b.mid here) (reader_at new here) piece done piece_reads in
         absurd (omega (arith, left, ap length empty))) wrote bound_with_piece
         (inr stored)) (Err Memory) (record {
-          denied = ap (λ (x : Slots). x.denied) stored;
+          denied = cc stored;
           unfailed = λ p named. failed_to same p;
           clean = clean;
           left = λ enough. inl (
@@ -457,9 +454,9 @@ module _ {job : Paste} {cells : List ℕ} {old set now : List Reader} {was is : 
           named = used_is_in cells here here_used;
           unfailed = never_failed s.starts here (used_is_in cells here here_used);
           cause = ⊎_elim inl (λ (long, same). inr (long, same ∙ failed_mid here)) cause;
-          others = λ q named differ. ap (λ (r : Reader). r.failed) (b.others q differ) ∙ failed_mid q;
+          others = λ q named differ. cc (b.others q differ, failed_mid q);
           clean = clean;
-          not_denied = ap (λ (x : Slots). x.denied) stored ∙ (bound_now k).denied;
+          not_denied = cc (stored, (bound_now k).denied);
         }) (λ p named failed. ⊎_elim decided_here
         (λ (long, same). cc (failed, failed_to same p, never_failed s.starts p named)) cause)
       where

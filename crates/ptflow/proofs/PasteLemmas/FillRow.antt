@@ -7,9 +7,10 @@ use Rattle.ptflow.proofs.Common.{length-append, get_or_append_left, get_or_push,
 use Rattle.ptflow.proofs.Common.{refl, sym, ◌∙◌, ap, arith, ⊎_elim, take-append-drop, sum_by, cases_eq, length-set}
 use Rattle.ptflow.proofs.Common.{drop-set-lt, get_or-set_same, get_or-set_other, sum_by-cons, sum_by-append}
 use Rattle.ptflow.proofs.Common.{get_or-le-sum_by, Slots, total_bytes, with_line, AddedSlots, SlotsBound, SlotsKept}
-use Rattle.ptflow.proofs.Common.{CellsTaken, Reader, uses_of, ◌≢◌, ◌==◌, ◌||◌, Bool, true, cond, None, Ok, subst}
+use Rattle.ptflow.proofs.Common.{CellsTaken, Reader, uses_of, ◌≢◌, ◌==◌, ◌||◌, Bool, true, cond, None, Ok}
 use Rattle.ptflow.proofs.Common.{eq-eqb, ne_eqb, append-nil, take-take, get_or_past, get_or_at, get_or_default}
 use Rattle.ptflow.proofs.Common.{sum_by-set, AdvanceOk, IsDone, IsSound, budget, FillLine, FillPost, no_reader}
+use Rattle.ptflow.specs.Private.Paste.FillRow.{SetTerminatorPost}
 use Rattle.ptflow.proofs.Common.{reader_at, SetTerminatorsPost, CellsFilled, RowFailed, LinesTaken, Err, ext_get_or}
 use Rattle.ptflow.proofs.Common.{get_or-drop, length-drop, take_all, take_more, take-append-le, length-take-le, line}
 use Rattle.ptflow.proofs.Common.{RowShape, BegunText, after_cell, cells_text, slots_text, CopyColumnsPost}
@@ -21,28 +22,17 @@ use Rattle.ptflow.proofs.PasteLemmas.RowsTaken.{nothing_taken, taken_more, taken
 use Rattle.ptflow.proofs.PasteLemmas.RowsTaken.{none_at_eof, cells_text-append, cells_text-push}
 use Rattle.std.proofs.lemmas.List.{get_or-take}
 
-module _ (top : ℕ → ℕ) where
-  front_total : (cells : List ℕ) (ls : List (List ℕ)) → ((c : ℕ) → c < length cells
-      → length (get_or ls c []) ≤ top (get_or cells c 0)) → total_bytes (take (length cells) ls) ≤ sum_by top cells
-  front_total [] ls short = omega arith
-  front_total (x ∷ cells) [] short = omega arith
-  front_total (x ∷ cells) (l ∷ ls) short =
-      let more = front_total cells ls (λ c low. short (suc c) (omega (arith, low))) in
-      omega (arith, sum_by-cons length l (take (length cells) ls), sum_by-cons top x cells, short 0 (omega arith), more)
-
-total_split : (width : ℕ) (ls : List (List ℕ)) → total_bytes ls ≡ total_bytes (take width ls) + total_bytes
-    (drop width ls)
-total_split width ls = ap total_bytes (sym (take-append-drop width ls)) ∙ sum_by-append length (take width ls)
-    (drop width ls)
-
 pub cells_total : (cells : List ℕ) (top : ℕ → ℕ) (ls : List (List ℕ)) → ((c : ℕ) → c < length cells
     → length (get_or ls c []) ≤ top (get_or cells c 0))
     → total_bytes (drop (length cells) ls) ≡ 0 → total_bytes ls ≤ sum_by top cells
-cells_total cells top ls short others = omega (
+cells_total [] top ls short others = omega (arith, others)
+cells_total (x ∷ cells) top [] short others = omega arith
+cells_total (x ∷ cells) top (l ∷ ls) short others = omega (
   arith,
-  total_split (length cells) ls,
-  front_total top cells ls short,
-  others,
+  sum_by-cons length l ls,
+  sum_by-cons top x cells,
+  short 0 (omega arith),
+  cells_total cells top ls (λ c low. short (suc c) (omega (arith, low))) others,
 )
 
 pub sum_of_zeros : (cells : List ℕ) → sum_by (λ (p : ℕ). 0) cells ≡ 0
@@ -56,7 +46,12 @@ slots_bound_start {cells} {store = store} adds denied empty peak = record {
   denied = denied;
   adds = adds;
   short = λ c low. omega (arith, empty, get_or-le-sum_by length store.lines c [] (omega (arith, low, adds.all denied)));
-  others = omega (arith, empty, total_split (length cells) store.lines);
+  others = let n = length cells in omega (
+    arith,
+    empty,
+    ap total_bytes (take-append-drop n store.lines),
+    sum_by-append length (take n store.lines) (drop n store.lines),
+  );
   peak = omega (arith, peak);
 }
 
@@ -159,6 +154,14 @@ pub at_other : (readers : List Reader) (input other : ℕ) (r : Reader) → othe
     → reader_at (set readers input r) other ≡ reader_at readers other
 at_other readers input other r differ = get_or-set_other readers input other r no_reader differ
 
+-- A fact of each reader, after one of them was set.
+pub each_reader : (P : ℕ → Reader → Type 0) (readers : List Reader) {input : ℕ} {r : Reader} → input < length readers
+    → P input r → ((q : ℕ) → q ≢ input → P q (reader_at readers q)) → (q : ℕ) → P q (reader_at (set readers input r) q)
+each_reader P readers {input} {r} low here other q = ⊎_elim
+    (λ same. rw same (rw (at_same readers input r low) here))
+    (λ differ. rw (at_other readers input q r differ) (other q differ))
+    (cases_eq q input)
+
 -- The reader that an index expression read.
 pub at_index : (readers : List Reader) (input : ℕ) (r : Reader) → input < length readers
     → get_or readers input r ≡ reader_at readers input
@@ -169,18 +172,15 @@ pub set_terminator_more : (end : ℕ) (cells : List ℕ) (i : ℕ) (old now : Li
     → get_or cells i 0 < length now → SetTerminatorsPost end (take i cells) old now
     → r ≡ record (reader_at now (get_or cells i 0)) { terminator = end } → IsSound r
     → SetTerminatorsPost end (take (i + 1) cells) old (set now (get_or cells i 0) r)
-set_terminator_more end cells i old now r low within a told sound q = ⊎_elim
-    (λ same. rw same (rw (at_same now (get_or cells i 0) r within) (record {
-      set = λ some. told ∙ before (get_or cells i 0);
-      left = λ none. absurd (omega (arith, none, uses_here cells i (get_or cells i 0) low refl));
+set_terminator_more end cells i old now r low within a told sound =
+    let input = get_or cells i 0 in
+    let before : (let x : Reader = record (reader_at now input) { terminator = end } in
+    x ≡ record (reader_at old input) { terminator = end }) = grind (arith, (a input).set, (a input).left) in
+    each_reader (λ q x. SetTerminatorPost end (uses_of (take (i + 1) cells) q) (reader_at old q) x) now within (record {
+      set = λ some. told ∙ before;
+      left = λ none. absurd (omega (arith, none, uses_here cells i input low refl));
       sound = λ some. sound;
-    })))
-    (λ differ. rw (at_other now (get_or cells i 0) q r differ, uses_other cells i q low (λ e. differ (sym e))) (a q))
-    (cases_eq q (get_or cells i 0))
-  where
-    before : (p : ℕ) → (let x : Reader = record (reader_at now p) { terminator = end } in let y : Reader = record
-        (reader_at old p) { terminator = end } in x ≡ y)
-    before p = grind (arith, (a p).set, (a p).left)
+    }) (λ q differ. rw (uses_other cells i q low (λ e. differ (sym e))) (a q))
 
 or-true : (t : Bool) → (t || true) ≡ true
 or-true true = refl
@@ -223,20 +223,12 @@ module _ {cells : List ℕ} {n : ℕ} {old now : List Reader} {fields : List (Li
 
   lines_taken_next : (q : ℕ) → LinesTaken (reader_at old q).terminator (reader_at old q) (reader_at (set now input r) q)
       (uses_of (take (n + 1) cells) q) (lines_at input ls input_lines q)
-  lines_taken_next q = ⊎_elim
-      (λ same. rw (
-        lines_at_here input ls input_lines q same,
-        ap (reader_at (set now input r)) same
-            ∙ at_same now input r within,
-      )
-      (taken_more (uses_here cells n q low (sym same)) (t.lines_taken q)
-      (subst (λ (p : ℕ). LinesTaken (reader_at old p).terminator (reader_at now p) r 1 ls) (sym same) lines_taken)))
-      (λ differ. rw (
-        lines_at_other input ls input_lines q differ,
-        uses_other cells n q low (λ e. differ (sym e)),
-        at_other now input q r differ,
-      ) (t.lines_taken q))
-      (cases_eq q input)
+  lines_taken_next = each_reader (λ q x. LinesTaken (reader_at old q).terminator (reader_at old q) x
+      (uses_of (take (n + 1) cells) q) (lines_at input ls input_lines q)) now within
+      (rw (lines_at_here input ls input_lines input refl)
+      (taken_more (uses_here cells n input low refl) (t.lines_taken input) lines_taken))
+      (λ q differ. rw (lines_at_other input ls input_lines q differ, uses_other cells n q low (λ e. differ (sym e)))
+      (t.lines_taken q))
 
   -- The line of a column before this one does not change.
   earlier_cell : (c : ℕ) → c < n → cell_of cells (lines_at input ls input_lines) c ≡ cell_of cells input_lines c
@@ -252,12 +244,11 @@ module _ {cells : List ℕ} {n : ℕ} {old now : List Reader} {fields : List (Li
         ap (λ (l : List ℕ). uses_of l p) front,
       ) in
       cc (lines_at_here input ls input_lines p same, get_or_append_left (input_lines p) ls [] j under))
-      (λ differ. ap (λ (l : List (List ℕ)). slice_index_or l j []) (lines_at_other input ls input_lines p differ))
+      (λ differ. cc (lines_at_other input ls input_lines p differ))
       (cases_eq p input))
       (λ (done, few). ⊎_elim
-      (λ same. ap (λ (l : List (List ℕ)). slice_index_or l j []) (lines_at_none input ls input_lines p
-      (none_at_eof lines_taken (subst (λ (q : ℕ). IsDone (reader_at now q)) same done))))
-      (λ differ. ap (λ (l : List (List ℕ)). slice_index_or l j []) (lines_at_other input ls input_lines p differ))
+      (λ same. cc (lines_at_none input ls input_lines p (none_at_eof lines_taken (rw same at done))))
+      (λ differ. cc (lines_at_other input ls input_lines p differ))
       (cases_eq p input))
       (t.lines_taken p).enough
     where
@@ -322,9 +313,7 @@ module _ {cells : List ℕ} {n : ℕ} {old now : List Reader} {fields : List (Li
     fill_line : {before after : Slots} {slot : ℕ} (e : FillLine b r before after slot)
         → CellsFilled cells (n + 1) old (set now p r) (fields ++ e.line ∷ []) true
     fill_line e =
-        let lines_taken : LinesTaken (reader_at old p).terminator (reader_at now p) r 1 (e.line ∷ []) = subst
-        (λ (x : Reader). LinesTaken (reader_at old p).terminator x r 1 (e.line ∷ [])) is_read
-        (taken_line e same_end clean sound) in
+        let lines_taken = rw is_read at (taken_line e same_end clean sound) in
         let all : length (f.input_lines p) ≡ uses_of (take n cells) p =
         ⊎_elim (λ same. same) (λ (done, few). absurd (omega (arith, ap length (none_at_eof lines_taken done))))
         (f.consumed.lines_taken p).enough in
@@ -353,12 +342,12 @@ module _ {cells : List ℕ} {n : ℕ} {old now : List Reader} {fields : List (Li
     fill_eof : AdvanceOk b r [] → IsDone r → CellsFilled cells (n + 1) old (set now p r) (fields ++ [] ∷ []) any_line
     fill_eof advance_ok done = record {
       input_lines = lines_at p [] f.input_lines;
-      consumed = cells_taken_more f.consumed low within (subst
-          (λ (x : Reader). LinesTaken (reader_at old p).terminator x r 1 []) is_read
-          (taken_eof {b = b} advance_ok done clean sound))
-          (sym (ap (λ (l : List (List ℕ)). slice_index_or l (uses_of (take n cells) p) [])
-          (append-nil (f.input_lines p)) ∙ get_or_past (f.input_lines p) (uses_of (take n cells) p) []
-          (taken_at_most (f.consumed.lines_taken p))));
+      consumed = cells_taken_more f.consumed low within (rw is_read at
+          (taken_eof {end = (reader_at old p).terminator} {b = b} advance_ok done clean sound))
+          (cc (
+            append-nil (f.input_lines p),
+            get_or_past (f.input_lines p) (uses_of (take n cells) p) [] (taken_at_most (f.consumed.lines_taken p)),
+          ));
       some = λ h.
           let (c, below, one) = f.some h in
           (c, omega (arith, below), ap length (lines_at_none p [] f.input_lines (get_or cells c 0) refl) ∙ one);
@@ -540,24 +529,12 @@ pub readable_after : {row : RowShape} (now : List Reader) {input : ℕ} {b : Rea
     → BufferedRowsPre row now → input < length now → 0 < uses_of row.cells input → b ≡ reader_at now input
     → (before after : Slots) (slot : ℕ) (has : Bool) → FillPost b r before after slot (Ok has)
     → BufferedRowsPre row (set now input r)
-readable_after now {input} {b} r ready low used is_read before after slot has e =
+readable_after {row} now {input} {b} r ready low used is_read before after slot has e =
     let (unfailed, same_end) = after_fill b r before after slot has e in
     record {
       within = λ c d within. omega (arith, ready.within c d within, length-set now input r);
-      unfailed = λ p some. grind (
-        arith,
-        at_same now input r low,
-        at_other now input p r,
-        ready.unfailed p some,
-        unfailed,
-      );
-      same_end = λ p some. grind (
-        arith,
-        at_same now input r low,
-        at_other now input p r,
-        ready.same_end p some,
-        same_end,
-        ready.same_end input used,
-        ap (λ (x : Reader). x.terminator) is_read,
-      );
+      unfailed = each_reader (λ p x. 0 < uses_of row.cells p → x.fault ≡ None) now low (λ some. unfailed)
+          (λ p differ. ready.unfailed p);
+      same_end = each_reader (λ p x. 0 < uses_of row.cells p → x.terminator ≡ row.terminator) now low
+          (λ some. cc (same_end, is_read, ready.same_end input used)) (λ p differ. ready.same_end p);
     }

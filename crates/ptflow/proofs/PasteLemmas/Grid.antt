@@ -3,7 +3,7 @@
 use Rattle.ptflow.proofs.Common.{◌≡◌, ◌≢◌, ◌⊎◌, ⊎_elim, inl, inr, ℕ, zero, suc, ◌+◌, ◌-◌, ◌*◌, ◌%◌, ◌<◌, ◌≤◌, ◌==◌}
 use Rattle.ptflow.proofs.Common.{Bool, true, false, cond, List, [], ◌∷◌, ◌++◌, Option, length, take, drop, get_or, map}
 use Rattle.ptflow.proofs.Common.{max, refl, sym, ◌∙◌, ap, arith, length-append, length-drop, fold, enumerate_from}
-use Rattle.ptflow.proofs.Common.{range_with_len, cases_eq, cases_lt, eq-eqb, ne_eqb, le-ltb, nat_tests, add-mod_left}
+use Rattle.ptflow.proofs.Common.{range_with_len, cases_lt, eq-eqb, ne_eqb, le-ltb, nat_tests, add-mod_left}
 use Rattle.ptflow.proofs.Common.{mod-eq_of_lt, append-nil, drop_at, drop_all, get_or_past, get_or_append_left}
 use Rattle.ptflow.proofs.Common.{ext_get_or, get_or-map, length-map, map-append, length-enumerate_from}
 use Rattle.ptflow.proofs.Common.{get_or-enumerate_from, sum_by-cons, count_by_more_yes, count_by_more_no}
@@ -160,6 +160,13 @@ for_each_cell_same f g cells same = for_each_cell_unique g cells (for_each_cell 
 
 -- ---- how many columns use an input
 
+module _ (x : ℕ) (cells : List ℕ) (p : ℕ) where
+  uses_first : uses_of (x ∷ cells) p ≡ cond (x == p) 1 0 + uses_of cells p
+  uses_first = sum_by-cons (λ y. cond (y == p) 1 0) x cells
+
+  only_first : 0 < uses_of (x ∷ cells) p → uses_of cells p ≤ 0 → (x ≡ p) × (uses_of (x ∷ cells) p ≡ 1)
+  only_first some none = (grind (arith, nat_tests, uses_first), grind (arith, nat_tests, uses_first))
+
 -- The last column that uses an input.
 pub last_use : (cells : List ℕ) (p : ℕ) → 0 < uses_of cells p → (c : ℕ) × (c < length cells) × (get_or cells c 0 ≡ p)
     × (uses_of cells p ≡ uses_of (take c cells) p + 1)
@@ -167,33 +174,9 @@ last_use [] p some = absurd (omega arith)
 last_use (x ∷ cells) p some = ⊎_elim
     (λ more.
     let (c, low, is, count) = last_use cells p more in
-    (suc c, omega (arith, low), is, omega (arith, count, uses_first cells, uses_first (take c cells))))
-    (λ none. ⊎_elim
-    (λ same. (
-      0,
-      omega arith,
-      same,
-      omega (
-        arith,
-        none,
-        uses_first cells,
-        ap (λ (t : Bool). cond {A = ℕ} t 1 0)
-            (eq-eqb x p same),
-      ),
-    ))
-    (λ differ. absurd (omega (
-      arith,
-      some,
-      none,
-      uses_first cells,
-      ap (λ (t : Bool). cond {A = ℕ} t 1 0)
-          (ne_eqb x p differ),
-    )))
-    (cases_eq x p))
+    (suc c, omega (arith, low), is, omega (arith, count, uses_first x cells p, uses_first x (take c cells) p)))
+    (λ none. let (same, one) = only_first x cells p some none in (0, omega arith, same, one))
     (cases_lt 0 (uses_of cells p))
-  where
-    uses_first : (rest : List ℕ) → uses_of (x ∷ rest) p ≡ cond (x == p) 1 0 + uses_of rest p
-    uses_first rest = sum_by-cons (λ y. cond (y == p) 1 0) x rest
 
 module _ (cells : List ℕ) where
   pub uses_here : (c p : ℕ) → c < length cells → get_or cells c 0 ≡ p
@@ -223,6 +206,12 @@ module _ (cells : List ℕ) where
   pub column_at : (ins : ℕ → Column) (c : ℕ) → c < length cells → get_or (columns cells ins) c [] ≡ column_of ins c
       (get_or cells c 0)
   column_at ins c low = get_or-for_each_cell (column_of ins) cells c [] low
+
+  -- Inputs that no column uses do not matter.
+  pub columns_same : (f g : ℕ → Column) → ((p : ℕ) → 0 < uses_of cells p → f p ≡ g p)
+      → columns cells f ≡ columns cells g
+  columns_same f g same = for_each_cell_same (column_of f) (column_of g) cells (λ c low.
+      ap (every_kth _ (uses_of (take c cells) _)) (same _ (omega (arith, uses_before_lt c low))))
 
   pub length-columns : (ins : ℕ → Column) → length (columns cells ins) ≡ length cells
   length-columns ins = length-for_each_cell (column_of ins) cells

@@ -2,10 +2,10 @@
 -- were pushed, and the slots hold at most one line for each column. From it follow the clauses of the contract once the
 -- readers were read further.
 use Rattle.ptflow.proofs.Common.{◌≡◌, ⊎_elim, ℕ, ◌+◌, ◌*◌, ◌<◌, ◌≤◌, ◌^◌, Bool, true, false, List, [], ◌∷◌, ◌++◌}
-use Rattle.ptflow.proofs.Common.{length, refl, sym, ◌∙◌, ap, subst, arith, append_assoc, All, append-nil, All-get_or}
-use Rattle.ptflow.proofs.Common.{unlines, lines, complete_lines, AreLines, max_length, Received, IsPrefix, IsConsistent}
+use Rattle.ptflow.proofs.Common.{length, refl, ◌∙◌, ap, subst, arith, append_assoc, All, append-nil, All-get_or}
+use Rattle.ptflow.proofs.Common.{lines, max_length, Received, IsPrefix, IsConsistent}
 use Rattle.ptflow.proofs.Common.{known_lines, Output, PushEffect, Reader, ReaderAdvance, IsDone, Slots, total_bytes}
-use Rattle.ptflow.proofs.Common.{received_with, push_nothing, push_trans, complete_lines_cons, Paste, AddedSlots}
+use Rattle.ptflow.proofs.Common.{received_with, push_nothing, push_trans, Paste, AddedSlots}
 use Rattle.ptflow.proofs.Common.{reader_at, IsReadable, PastePre, uses_of, columns, rows, rows_text, paste}
 use Rattle.ptflow.proofs.Common.{paste_decided, SetTerminatorsPost, SlotsBound, SlotsKept, CellsTaken, CellsFilled}
 use Rattle.ptflow.proofs.Common.{AreReceivedLines, AreFirstRows, RowsTaken, RowsWritten, cells_text, job_shape}
@@ -16,7 +16,7 @@ use Rattle.ptflow.proofs.PasteLemmas.RowsTaken.{no_rows, first_rows_trans, fille
 use Rattle.ptflow.proofs.PasteLemmas.Grid.{Column, last_use, rows_text-append}
 use Rattle.ptflow.proofs.Passes.Lines.{max_length-append}
 use Rattle.ptflow.proofs.Passes.LinesRead.{lines_on}
-use Rattle.ptflow.proofs.PasteLemmas.Lag.{EarlierPart, LagsAt, lags_here, decided_is_prefix}
+use Rattle.ptflow.proofs.PasteLemmas.Lag.{EarlierPart, LagsAt, ended_more, lags_here, decided_is_prefix}
 use Rattle.ptflow.proofs.Passes.Readers.{eof_gives_nothing, may_follow}
 use Rattle.ptflow.proofs.PasteLemmas.Named.{is_in_used, not_in}
 use Rattle.ptlines.specs.Received.{empty_input}
@@ -29,16 +29,6 @@ all_used P cells all p some =
     subst P is (All-get_or P cells c 0 low all)
 
 -- ---- the complete lines that were received
-
-ended_more : (end : ℕ) (ls : Column) (bytes : List ℕ) → AreLines end ls
-    → complete_lines end (unlines end ls ++ bytes) ≡ ls ++ complete_lines end bytes
-ended_more end [] bytes w = refl
-ended_more end (line ∷ ls) bytes (whole, more) = cc (
-  append_assoc (line ++ end ∷ []) (unlines end ls) bytes,
-  append_assoc line (end ∷ []) (unlines end ls ++ bytes),
-  complete_lines_cons end line (unlines end ls ++ bytes) whole,
-  ended_more end ls bytes more,
-)
 
 -- The known lines of all received bytes, if `ls` were received first.
 whole_lines_after : {end : ℕ} {now : Reader} {given : List ℕ} {ls : Column} → AreReceivedLines end now given ls
@@ -253,9 +243,8 @@ module _ {job : Paste} {cells : List ℕ} {old set now : List Reader} {was is : 
     ls = λ p. s.ls p ++ ls p;
     taken_rows = s.taken_rows ++ more;
     first_rows = first_rows_trans s.first_rows g;
-    wrote = subst (λ (b : List ℕ). PushEffect was is' b)
-        (sym (rows_text-append job.terminator job.delimiters s.taken_rows more)) (push_trans was is is'
-        (rows_text job s.taken_rows) (rows_text job more) s.clean s.wrote wrote);
+    wrote = rw (rows_text-append job.terminator job.delimiters s.taken_rows more)
+        (push_trans was is is' (rows_text job s.taken_rows) (rows_text job more) s.clean s.wrote wrote);
     clean = clean;
     kept = kept;
   }
@@ -263,7 +252,7 @@ module _ {job : Paste} {cells : List ℕ} {old set now : List Reader} {was is : 
   -- Rows from the buffers.
   module _ {new : List Reader} {written : List ℕ} (p : RowsTaken (job_shape job cells) now new written) where
     pub rows_wrote : {is' : Output} → PushEffect is is' written → PushEffect is is' (rows_text job p.taken_rows)
-    rows_wrote {is'} wrote = subst (PushEffect is is') p.is wrote
+    rows_wrote wrote = rw p.is at wrote
 
     pub rows_kept : (top : ℕ → ℕ) → ((q : ℕ) → max_length (s.ls q ++ p.ls q) ≤ top q) → SlotsBound cells top first store
     rows_kept top high = s.kept top (λ q. omega (arith, high q, max_length-append (s.ls q) (p.ls q)))
@@ -292,7 +281,7 @@ module _ {job : Paste} {cells : List ℕ} {old set now : List Reader} {was is : 
 
         pub row_wrote : {is' : Output} → PushEffect is is' (cells_text (job_shape job cells) 0 fields)
             → PushEffect is is' (rows_text job (fields ∷ []))
-        row_wrote {is'} wrote = subst (PushEffect is is') (filled_row_text (job_shape job cells) f) wrote
+        row_wrote wrote = rw (filled_row_text (job_shape job cells) f) at wrote
 
         pub invariant_more : {is' : Output} → PushEffect is is' (rows_text job (fields ∷ [])) → is'.write_failed ≡ false
             → PasteInvariant job cells old set new was is' first after

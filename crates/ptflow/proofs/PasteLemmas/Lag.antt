@@ -1,12 +1,12 @@
 -- Bounded lag of `paste`: all output that was determined two blocks of an input earlier is pushed. Without its last two
 -- blocks that input has fewer lines than one more row takes, so only rows that were already pushed are determined.
-use Rattle.ptflow.proofs.Common.{◌≡◌, ⊎_elim, ℕ, zero, suc, ◌+◌, ◌-◌, ◌*◌, ◌%◌, ◌<◌, ◌≤◌, ◌==◌, Bool, true, false, cond}
+use Rattle.ptflow.proofs.Common.{◌≡◌, ⊎_elim, ℕ, zero, suc, ◌+◌, ◌-◌, ◌*◌, ◌%◌, ◌<◌, ◌≤◌, ◌==◌, Bool, true, false}
 use Rattle.ptflow.proofs.Common.{List, [], ◌∷◌, ◌++◌, length, take, drop, get_or, map, refl, sym, ◌∙◌, ap, subst, arith}
 use Rattle.ptflow.proofs.Common.{append_assoc, take-append-drop, length-append, length-drop, filter, range_with_len}
-use Rattle.ptflow.proofs.Common.{enumerate_from, onto_first, cases_eq, cases_lt, cases_Bool, nat_tests, append-nil}
+use Rattle.ptflow.proofs.Common.{enumerate_from, cases_eq, cases_lt, cases_Bool, nat_tests, append-nil}
 use Rattle.ptflow.proofs.Common.{append_cancel_right, take-append-le, length-take-le, take_all, take_more, get_or-map}
 use Rattle.ptflow.proofs.Common.{get_or_append_left, length-map, take-map-range_with_len, length-map-range_with_len}
-use Rattle.ptflow.proofs.Common.{map-map, unlines, lines, complete_lines, onto_first_if_any, IsLine, AreLines, Received}
+use Rattle.ptflow.proofs.Common.{map-map, unlines, lines, complete_lines, IsLine, AreLines, Received}
 use Rattle.ptflow.proofs.Common.{IsPrefix, known_lines, ProcessLag, Reader, ReaderAdvance, IsDone, received_with}
 use Rattle.ptflow.proofs.Common.{unlines_push, complete_lines_of_unlines, the_lines, Paste, select_from, update_at}
 use Rattle.ptflow.proofs.Common.{every_kth, uses_of, columns, row_count, row_at, rows, rows_text, is_row_known}
@@ -16,6 +16,8 @@ use Rattle.ptflow.proofs.CutLemmas.ShortLines.{select_append}
 use Rattle.ptflow.proofs.PasteLemmas.Grid.{Column, for_each_cell, for_each_cell_same, column_of, uses_before_lt}
 use Rattle.ptflow.proofs.PasteLemmas.Grid.{column_at, length-columns, every_kth_short, is_row_unknown, update_here}
 use Rattle.ptflow.proofs.PasteLemmas.Grid.{update_there, last_use, rows_text-append}
+use Rattle.ptflow.proofs.Passes.Lines.{complete_prefix, line_split}
+use Rattle.ptflow.proofs.Common.{complete_lines_cons}
 use Rattle.ptflow.proofs.Passes.LinesRead.{line_take, lines_are_given}
 
 -- ---- one input without its last bytes
@@ -123,26 +125,32 @@ module _ (end : ℕ) (reader : Reader) (given : List ℕ) (buffered : length rea
 
 -- ---- complete lines of a prefix
 
+pub ended_more : (end : ℕ) (ls : Column) (bytes : List ℕ) → AreLines end ls
+    → complete_lines end (unlines end ls ++ bytes) ≡ ls ++ complete_lines end bytes
+ended_more end [] bytes w = refl
+ended_more end (line ∷ ls) bytes (whole, more) = cc (
+  append_assoc (line ++ end ∷ []) (unlines end ls) bytes,
+  append_assoc line (end ∷ []) (unlines end ls ++ bytes),
+  complete_lines_cons end line (unlines end ls ++ bytes) whole,
+  ended_more end ls bytes more,
+)
+
 -- The complete lines of a prefix come first.
 whole_lines_prefix : (end : ℕ) (eof : Bool) (front last : List ℕ)
     → (more : Column) × (known_lines end (record { bytes = front ++ last; eof = eof }) ≡ complete_lines end front
     ++ more)
-whole_lines_prefix end eof [] last = (known_lines end (record { bytes = last; eof = eof }), refl)
-whole_lines_prefix end eof (b ∷ front) last = by_test eof (b == end) (complete_lines end front)
-    (whole_lines_prefix end eof front last)
-  where
-    by_test : (e t : Bool) (xs : Column)
-        → (more : Column) × (known_lines end (record { bytes = front ++ last; eof = e }) ≡ xs ++ more)
-        → (more : Column)
-        × (cond e (cond t ([] ∷ lines end (front ++ last)) (onto_first b (lines end (front ++ last))))
-        (cond t ([] ∷ complete_lines end (front ++ last)) (onto_first_if_any b (complete_lines end (front ++ last))))
-        ≡ cond t ([] ∷ xs) (onto_first_if_any b xs) ++ more)
-    by_test true true xs (more, is) = (more, cc is)
-    by_test false true xs (more, is) = (more, cc is)
-    by_test true false [] (more, is) = (onto_first b (lines end (front ++ last)), refl)
-    by_test false false [] (more, is) = (onto_first_if_any b (complete_lines end (front ++ last)), refl)
-    by_test true false (x ∷ xs) (more, is) = (more, ap (onto_first b) is)
-    by_test false false (x ∷ xs) (more, is) = (more, ap (onto_first_if_any b) is)
+whole_lines_prefix end true front last =
+    (lines end ((line_split end front).piece ++ last), complete_prefix end front last)
+whole_lines_prefix end false front last =
+    let split = line_split end front in
+    let ls = complete_lines end front in (
+      complete_lines end (split.piece ++ last),
+      cc (
+        split.is,
+        append_assoc (unlines end ls) split.piece last,
+        ended_more end ls (split.piece ++ last) split.whole,
+      ),
+    )
 
 -- Without the last bytes that were given, if these came from the buffer.
 pub earlier_before : {end most : ℕ} {now new : Reader} {given more : List ℕ} {ls : Column}
@@ -295,14 +303,19 @@ module _ (job : Paste) (cells : List ℕ) (came : ℕ → Received) where
         let there : r < length (every_kth k j (known_of earlier p)) =
         ⊎_elim (λ there. there) (λ past. cc (unknown r c low is past, known))
         (cases_lt r (length (every_kth k j (known_of earlier p)))) in
-        ap (λ (g : Received). slice_index_or (every_kth k j (known_lines job.terminator g)) r []) is_front
-        ∙ every_kth_more k j r (complete_lines job.terminator cut.front) more
-        (omega (arith, there, ap (λ (g : Received). length (every_kth k j (known_lines job.terminator g))) is_front))
-        ∙ ap (λ (l : Column). slice_index_or (every_kth k j l) r [])
-        (sym ((λ i. known_lines job.terminator (record { bytes = cut.split i; eof = (came here).eof })) ∙ is_known))
-        ∙ ap (λ (q : ℕ). slice_index_or (every_kth k j (known_of came q)) r []) (sym is))
-        (λ other. ap (λ (g : Received). slice_index_or (every_kth k j (known_lines job.terminator g)) r [])
-        (update_there here front came p other))
+        let whole : known_lines job.terminator (came here) ≡ complete_lines job.terminator cut.front ++ more =
+        (λ i. known_lines job.terminator (record { bytes = cut.split i; eof = (came here).eof })) ∙ is_known in
+        cc (
+          is_front,
+          every_kth_more k j r (complete_lines job.terminator cut.front) more (omega (
+            arith,
+            there,
+            ap (λ (g : Received). length (every_kth k j (known_lines job.terminator g))) is_front,
+          )),
+          whole,
+          is,
+        ))
+        (λ other. cc (update_there here front came p other))
         (cases_eq p here)
       where
         p : ℕ

@@ -1,12 +1,13 @@
 -- The inputs that columns name. Only their texts, and what was received from them, decide the output.
-use Rattle.ptflow.proofs.Common.{◌≡◌, ⊎_elim, ℕ, ◌<◌, ◌==◌, true, false, cond, List, [], ◌∷◌, length, take, get_or, map}
+use Rattle.ptflow.proofs.Common.{◌≡◌, ⊎_elim, ℕ, ◌<◌, ◌==◌, true, false, cond, List, [], ◌∷◌, length, get_or, map}
 use Rattle.ptflow.proofs.Common.{refl, sym, ◌∙◌, ap, subst, arith, append-nil, cases_Bool, cases_lt, eq-eqb, nat_tests}
-use Rattle.ptflow.proofs.Common.{list_any_at, sum_by-cons, Received, IsConsistent, known_lines, lines, max_line_length}
-use Rattle.ptflow.proofs.Common.{Paste, AreAllConsistent, inputs_at, is_in, uses_of, columns, every_kth, rows}
-use Rattle.ptflow.proofs.Common.{known_rows, rows_text, paste, paste_decided, paste_size}
+use Rattle.ptflow.proofs.Common.{list_any_at, sum_by-cons, Received, IsConsistent, lines, max_line_length}
+use Rattle.ptflow.proofs.Common.{Paste, AreAllConsistent, inputs_at, is_in, uses_of, rows}
+use Rattle.ptflow.proofs.Common.{rows_text, paste, paste_size}
 use Rattle.std.proofs.lemmas.List.Sums.{sum-map}
+use Rattle.ptflow.proofs.Common.{known_lines, known_rows, paste_decided}
 use Rattle.std.specs.Prelude.{sum}
-use Rattle.ptflow.proofs.PasteLemmas.Grid.{for_each_cell_same, last_use}
+use Rattle.ptflow.proofs.PasteLemmas.Grid.{columns_same, last_use}
 
 module _ (cells : List ℕ) where
   pub cell_in : (c : ℕ) → c < length cells → is_in cells (get_or cells c 0) ≡ true
@@ -38,19 +39,12 @@ pub consistent_itself : (given : Received) → IsConsistent given given.bytes
 consistent_itself given = record { rest = []; is = sym (append-nil given.bytes); whole = λ eof. refl }
 
 module _ (job : Paste) (cells : List ℕ) where
-  columns_same : (f g : ℕ → List (List ℕ)) → ((p : ℕ) → is_in cells p ≡ true → f p ≡ g p)
-      → columns cells f ≡ columns cells g
-  columns_same f g same = for_each_cell_same (λ c p. every_kth (uses_of cells p) (uses_of (take c cells) p) (f p))
-      (λ c p. every_kth (uses_of cells p) (uses_of (take c cells) p) (g p)) cells
-      (λ c low. let p = get_or cells c 0 in
-      ap (every_kth (uses_of cells p) (uses_of (take c cells) p)) (same p (cell_in cells c low)))
-
   pub decided_same : (f g : ℕ → Received) → ((p : ℕ) → is_in cells p ≡ true → f p ≡ g p)
       → paste_decided job cells f ≡ paste_decided job cells g
   decided_same f g same = λ i.
       rows_text job (known_rows
-      (columns_same (λ p. known_lines job.terminator (f p)) (λ p. known_lines job.terminator (g p))
-      (λ p named. ap (known_lines job.terminator) (same p named)) i)
+      (columns_same cells (λ p. known_lines job.terminator (f p)) (λ p. known_lines job.terminator (g p))
+      (λ p some. ap (known_lines job.terminator) (same p (used_is_in cells p some))) i)
       (map_same (λ p. (f p).eof) (λ p. (g p).eof) cells (λ p named. ap (λ h. h.eof) (same p named)) i))
 
   -- Texts that are consistent at these inputs, and at all others what was received.
@@ -67,8 +61,8 @@ module _ (job : Paste) (cells : List ℕ) where
 
     pub same_paste : paste job cells with_received ≡ paste job cells texts
     same_paste = ap (λ (grid : List (List (List ℕ))). rows_text job (rows grid))
-        (columns_same (λ p. lines job.terminator (with_received p)) (λ p. lines job.terminator (texts p))
-        (λ p named. ap (lines job.terminator) (same_texts p named)))
+        (columns_same cells (λ p. lines job.terminator (with_received p)) (λ p. lines job.terminator (texts p))
+        (λ p some. ap (lines job.terminator) (same_texts p (used_is_in cells p some))))
 
     pub same_size : paste_size job cells with_received ≡ paste_size job cells texts
     same_size = sym (sum-map (λ p. max_line_length job.terminator (with_received p)) cells)

@@ -3,20 +3,12 @@
 use Rattle.ptflow.proofs.Common.{◌≡◌, ◌⊎◌, inl, inr, ⊎_elim, ℕ, zero, suc, ◌+◌, ◌*◌, ◌<◌, ◌≤◌, List, [], ◌∷◌, ◌++◌}
 use Rattle.ptflow.proofs.Common.{length, take, drop, get_or, refl, sym, ◌∙◌, ap, arith, append_assoc, take-append-drop}
 use Rattle.ptflow.proofs.Common.{length-drop, cases_lt, append-nil, nil_from_length, length-take-le, take_all, drop_all}
-use Rattle.ptflow.proofs.Common.{lines, the_lines_of_parts, uses_of, every_kth, columns, rows, IsRowSplit, PasteOfParts}
-use Rattle.ptflow.proofs.PasteLemmas.Grid.{Column, IsOneRow, for_each_cell, for_each_cell_same, column_of, top_of}
-use Rattle.ptflow.proofs.PasteLemmas.Grid.{column_at, length-columns, uses_before_lt, grid_step, rows_none}
-use Rattle.ptflow.proofs.PasteLemmas.Grid.{every_kth_short, rows_text-append}
+use Rattle.ptflow.proofs.Common.{lines, the_lines_of_parts, uses_of, columns, rows, IsRowSplit, PasteOfParts}
+use Rattle.std.proofs.lemmas.List.{length-take}
+use Rattle.ptflow.proofs.PasteLemmas.Grid.{Column, IsOneRow, for_each_cell, top_of, columns_same, uses_before_lt}
+use Rattle.ptflow.proofs.PasteLemmas.Grid.{last_use, grid_none, grid_step, rows_text-append}
 
 module _ (cells : List ℕ) where
-  -- Inputs that no column uses do not matter.
-  columns_same : (f g : ℕ → Column) → ((c : ℕ) → c < length cells → f (get_or cells c 0) ≡ g (get_or cells c 0))
-      → columns cells f ≡ columns cells g
-  columns_same f g same =
-      for_each_cell_same (column_of cells f) (column_of cells g) cells
-      (λ c low. ap (every_kth (uses_of cells (get_or cells c 0)) (uses_of (take c cells) (get_or cells c 0)))
-      (same c low))
-
   -- Some column has a line in the first row, or none has.
   some_cell : (f : ℕ → Column) (n : ℕ) → n ≤ length cells
       → ((c : ℕ) × (c < length cells) × (uses_of (take c cells) (get_or cells c 0) < length (f (get_or cells c 0))))
@@ -27,18 +19,6 @@ module _ (cells : List ℕ) where
       (λ past. ⊎_elim inl (λ before. inr (λ c low. ⊎_elim (λ less. before c less) (λ same. let is : c
       ≡ n = omega arith in rw is past) (cases_lt c n))) (some_cell f n (omega arith)))
       (cases_lt (uses_of (take n cells) (get_or cells n 0)) (length (f (get_or cells n 0))))
-
-  -- If no column has a line in the first row, there are no rows.
-  no_rows : (f : ℕ → Column) → ((c : ℕ) → c < length cells → length (f (get_or cells c 0)) ≤ uses_of (take c cells)
-      (get_or cells c 0)) → rows (columns cells f) ≡ []
-  no_rows f none = rows_none (columns cells f) (λ c low.
-      let within : c < length cells = omega (arith, low, length-columns cells f) in
-      let p = get_or cells c 0 in
-      cc (
-        column_at cells f c within,
-        nil_from_length (column_of cells f c p)
-            (omega (arith, every_kth_short (uses_before_lt cells c within) 0 (f p) (omega (arith, none c within)))),
-      ))
 
   -- ---- the first row
 
@@ -68,16 +48,13 @@ module _ (cells : List ℕ) where
         → rows (columns cells (λ p. ins p ++ more p)) ≡ for_each_cell (top_of cells (first ins)) cells ∷ rows
         (columns cells (λ p. rest ins p ++ more p))
     first_row c low some =
+        let split : (q : ℕ) → ins q ++ more q ≡ first ins q ++ (rest ins q ++ more q) = λ q.
+        ap (λ (l : Column). l ++ more q) (sym (take-append-drop (uses_of cells q) (ins q)))
+        ∙ append_assoc (first ins q) (rest ins q) (more q) in
         let p = get_or cells c 0 in
-        let k = uses_of cells p in
-        ap rows (columns_same (λ q. ins q ++ more q) (λ q. first ins q ++ (rest ins q ++ more q)) (λ d within.
-        let q = get_or cells d 0 in
-        ap (λ (l : Column). l ++ more q) (sym (take-append-drop (uses_of cells q) (ins q))) ∙ append_assoc (first ins q)
-        (rest ins q) (more q)))
-        ∙ grid_step cells (first ins) (λ q. rest ins q ++ more q) first_taken c low (⊎_elim
-        (λ few. omega (arith, ap length (take_all k (ins p) (omega (arith, few))), some))
-        (λ many. omega (arith, length-take-le k (ins p) (omega (arith, many)), uses_before_lt cells c low))
-        (cases_lt (length (ins p)) k))
+        (λ i. rows (columns cells (λ q. split q i)))
+        ∙ grid_step cells (first ins) (λ q. rest ins q ++ more q) first_taken c low
+        (omega (arith, length-take (uses_of cells p) (ins p), some, uses_before_lt cells c low))
 
   -- ---- several rows
 
@@ -100,46 +77,40 @@ module _ (cells : List ℕ) where
   abbrev Append : (ℕ → Column) → (ℕ → Column) → Type 0
   Append ins more = rows (columns cells (λ p. ins p ++ more p)) ≡ rows (columns cells ins) ++ rows (columns cells more)
 
-  append_none : (ins more : ℕ → Column) → ((c : ℕ) → c < length cells → ins (get_or cells c 0) ≡ []) → Append ins more
-  append_none ins more empty =
-      cc (
-        columns_same (λ p. ins p ++ more p) more
-            (λ c low. ap (λ (l : Column). l ++ more (get_or cells c 0)) (empty c low)),
-        no_rows ins (λ c low. omega (arith, ap length (empty c low))),
-      )
-
   module _ (n : ℕ) (ins more : ℕ → Column) (reach : TakesAll (suc n) ins more) where
     append_row : (c : ℕ) → c < length cells → uses_of (take c cells) (get_or cells c 0) < length
         (ins (get_or cells c 0)) → Append (rest ins) more → Append ins more
-    append_row c low has behind =
+    append_row c low has rows_after =
         let top = for_each_cell (top_of cells (first ins)) cells in
         let alone : rows (columns cells ins) ≡ top ∷ rows (columns cells (rest ins)) =
-        ap rows (columns_same ins (λ p. ins p ++ []) (λ d within. sym (append-nil (ins (get_or cells d 0)))))
+        (λ i. rows (columns cells (λ p. sym (append-nil (ins p)) i)))
         ∙ first_row ins (λ p. []) (λ p few. refl) c low has
-        ∙ ap (λ (rs : List Column). top ∷ rs) (ap rows (columns_same (λ p. rest ins p ++ []) (rest ins)
-        (λ d within. append-nil (rest ins (get_or cells d 0))))) in
-        cc (first_row ins more (more_is_empty n ins more reach) c low has, behind, alone)
+        ∙ (λ i. top ∷ rows (columns cells (λ p. append-nil (rest ins p) i))) in
+        cc (first_row ins more (more_is_empty n ins more reach) c low has, rows_after, alone)
 
     -- No input continues.
     append_last : ((c : ℕ) → c < length cells → length (ins (get_or cells c 0)) ≤ uses_of (take c cells)
         (get_or cells c 0)) → Append ins more
     append_last short =
-        let over : (c : ℕ) → c < length cells → more (get_or cells c 0) ≡ [] =
-        λ c low. more_is_empty n ins more reach (get_or cells c 0)
-        (omega (arith, short c low, uses_before_lt cells c low)) in
+        let over : (p : ℕ) → 0 < uses_of cells p → more p ≡ [] = λ p some.
+        let (c, low, is, count) = last_use cells p some in
+        rw is at (more_is_empty n ins more reach (get_or cells c 0)
+        (omega (arith, short c low, uses_before_lt cells c low))) in
         cc (
-          columns_same (λ p. ins p ++ more p) ins (λ c low. ap (λ (l : Column). ins (get_or cells c 0) ++ l)
-              (over c low)
-              ∙ append-nil (ins (get_or cells c 0))),
+          columns_same cells (λ p. ins p ++ more p) ins
+              (λ p some. ap (λ (l : Column). ins p ++ l) (over p some) ∙ append-nil (ins p)),
           append-nil (rows (columns cells ins)),
-          no_rows more (λ c low. omega (arith, ap length (over c low))),
+          grid_none cells more over,
         )
 
   rows-append : (n : ℕ) (ins more : ℕ → Column) → TakesAll n ins more → Append ins more
   rows-append zero ins more reach =
-      append_none ins more (λ c low. nil_from_length (ins (get_or cells c 0)) (⊎_elim (λ all. omega (arith, all))
-      (λ (none, few). omega (arith, few))
-      (reach (get_or cells c 0) (omega (arith, uses_before_lt cells c low)))))
+      let none : (p : ℕ) → 0 < uses_of cells p → ins p ≡ [] = λ p some.
+      nil_from_length (ins p) (grind (arith, reach p some)) in
+      cc (
+        columns_same cells (λ p. ins p ++ more p) more (λ p some. ap (λ (l : Column). l ++ more p) (none p some)),
+        grid_none cells ins none,
+      )
   rows-append (suc n) ins more reach = ⊎_elim
       (λ (c, low, some). append_row n ins more reach c low some (rows-append n (rest ins) more
       (later n ins more reach)))
@@ -152,7 +123,7 @@ paste_of_parts job cells n a b cut =
     let more : ℕ → Column = λ p. lines job.terminator (b p) in
     cc (
       columns_same cells (λ p. lines job.terminator (a p ++ b p)) (λ p. ins p ++ more p)
-          (λ c low. both (get_or cells c 0) (cut (get_or cells c 0) (omega (arith, uses_before_lt cells c low)))),
+          (λ p named. both p (cut p named)),
       rows-append cells n ins more (λ p named. reach p (cut p named)),
       rows_text-append job.terminator job.delimiters (rows (columns cells ins)) (rows (columns cells more)),
     )

@@ -6,7 +6,8 @@ use Rattle.ptflow.proofs.Common.{append_assoc, bit_and, count_by, count_ones, ma
 use Rattle.ptflow.proofs.Common.{mod-eq_of_lt, take-add, take_at, take-append-drop, take-set-lt, eq-eqb}
 use Rattle.ptflow.proofs.Common.{set-append_right, drop_more, take_more_set, take-set, length-set, sum_by-cons}
 use Rattle.ptflow.proofs.Common.{sum_by-append, is_byte, byte_eq, byte_ne, IsLine, IsNth, length-take-le, length-chunk}
-use Rattle.ptflow.proofs.Common.{length-put_chunk, take_more_put_chunk, put_chunk, ones-mask_l, with_replacements, cycle_byte}
+use Rattle.ptflow.proofs.Common.{length-put_chunk, take_more_put_chunk, put_chunk, ones-mask_l, with_replacements}
+use Rattle.ptflow.proofs.Common.{cycle_byte}
 use Rattle.ptflow.proofs.Common.{IsReplacedTo}
 use lib.Count.{count_trailing_zeros}
 use Rattle.ptflow.proofs.Vectors.FindNth.{after_set, cleared, without}
@@ -69,9 +70,12 @@ module _ (end : ℕ) where
     take-replaced at number bytes within =
         let front = take at bytes in
         let long = length-replaced number front ∙ length-take-le at bytes within in
-        ap (λ (l : List ℕ). take at (all number l)) (sym (take-append-drop at bytes))
-        ∙ ap (take at) (replaced-append (λ n. byte n ∷ []) number front (drop at bytes))
-        ∙ take_at (all number front) _ at long
+        let rest = all (number + count_by (is_byte end) front) (drop at bytes) in
+        cc (
+          take-append-drop at bytes,
+          replaced-append (λ n. byte n ∷ []) number front (drop at bytes),
+          take_at (all number front) rest at long,
+        )
 
     -- The bytes, with their first n terminators replaced.
     abbrev first_replaced : ℕ → ℕ → List ℕ → List ℕ
@@ -174,10 +178,12 @@ module _ {end : ℕ} {byte : ℕ → ℕ} where
       set_in_chunk v =
           let there : at + bit - at ≡ bit = omega arith in
           let front = length-take-le at was (omega (arith, r.room, r.same)) in
-          take-set-lt (at + 64) to (at + bit) v (omega (arith, low)) ∙ ap (λ (l : List ℕ). slice_set l
-          (at + bit) v) r.is
-          ∙ set-append_right (take at was) (first_replaced end byte n first ends) at (at + bit) v front (omega arith)
-          ∙ ap (λ k. take at was ++ slice_set (first_replaced end byte n first ends) k v) there
+          cc (
+            take-set-lt (at + 64) to (at + bit) v (omega (arith, low)),
+            r.is,
+            set-append_right (take at was) (first_replaced end byte n first ends) at (at + bit) v front (omega arith),
+            there,
+          )
 
       pub replace_next : {rest put : ℕ} {to' : List ℕ} → marked < 2 ^ 64 → put ≡ byte (first + n)
           → rest ≡ bit_and marked ((marked + (2 ^ 64 - 1)) % 2 ^ 64) → to' ≡ slice_set to (at + bit) put
@@ -198,73 +204,72 @@ module _ {end : ℕ} {byte : ℕ → ℕ} where
 
 -- ---- some more bytes, from a cycle
 
+abbrev ends_in : Cycle → List ℕ → ℕ
+ends_in cycle = count_by (is_byte cycle.terminator)
+
+abbrev copied : Cycle → ℕ → List ℕ → List ℕ
+copied cycle = with_replacements cycle.terminator (cycle_byte cycle)
+
 one_byte : (at : ℕ) (from : List ℕ) → at < length from → take 1 (drop at from) ≡ get_or from at 0 ∷ []
 one_byte at from room = ap (take 1) (drop_more from at 0 room)
 
 module _ {cycle : Cycle} {first index at : ℕ} {from to to' : List ℕ} (long : length to' ≡ length from)
     (r : IsReplacedTo cycle first index at from to) where
   -- Bytes were replaced from the one at `index` on.
-  pub replaced_more : (size : ℕ) {next : ℕ} → at + size ≤ length from → next ≡ (index + count_by
-      (is_byte cycle.terminator) (take size (drop at from))) % cycle.len
-      → take (at + size) to' ≡ take at to ++ with_replacements cycle.terminator (cycle_byte cycle) index (take size (drop at from))
+  pub replaced_more : (size : ℕ) {next : ℕ} → at + size ≤ length from
+      → next ≡ (index + ends_in cycle (take size (drop at from))) % cycle.len
+      → take (at + size) to' ≡ take at to ++ copied cycle index (take size (drop at from))
       → IsReplacedTo cycle first next (at + size) from to'
-  replaced_more size {next} room is more =
+  replaced_more size room is more =
       let front = take at from in
       let here = take size (drop at from) in
-      let split : take (at + size) from ≡ front ++ here = take-add at size from in
-      let count : count_by (is_byte cycle.terminator) (take (at + size) from)
-      ≡ count_by (is_byte cycle.terminator) front + count_by (is_byte cycle.terminator) here =
-      ap (count_by (is_byte cycle.terminator)) split ∙ sum_by-append (λ b. cond
-      (is_byte cycle.terminator b) 1 0) front here in
-      let same : first + count_by (is_byte cycle.terminator) (take (at + size) from) ≡ so_far + count_by
-      (is_byte cycle.terminator) here =
-      omega (arith, count) in
+      let split = take-add at size from in
+      let so_far = first + ends_in cycle front in
+      let index_is : index % cycle.len ≡ so_far % cycle.len =
+      mod-eq_of_lt (omega (arith, r.next, mod-lt so_far cycle.is_unrolled.some)) ∙ r.next in
+      let count : first + ends_in cycle (take (at + size) from) ≡ so_far + ends_in cycle here = omega (
+        arith,
+        ap (ends_in cycle) split,
+        sum_by-append (λ b. cond (is_byte cycle.terminator b) 1 0) front here,
+      ) in
       record {
         within = room;
         same = long;
-        next = is ∙ ap (λ k. (k + count_by (is_byte cycle.terminator) here) % cycle.len) r.next
-            ∙ mod-add-mod so_far cycle.len (count_by (is_byte cycle.terminator) here) ∙ ap (λ k. k % cycle.len)
-            (sym same);
-        is = more
-            ∙ (λ i. r.is i ++ replaced_mod cycle.terminator
-            (λ k. get_or cycle.unrolled k 0 ∷ []) cycle.len index so_far index_is here i)
-            ∙ sym (replaced-append cycle.terminator (cycle_byte cycle) first front here)
-            ∙ ap (with_replacements cycle.terminator (cycle_byte cycle) first) (sym split);
+        next = cc (is, r.next, mod-add-mod so_far cycle.len (ends_in cycle here), count);
+        is = cc (
+          more,
+          r.is,
+          replaced_mod cycle.terminator (λ k. get_or cycle.unrolled k 0 ∷ []) cycle.len index so_far index_is here,
+          replaced-append cycle.terminator (cycle_byte cycle) first front here,
+          split,
+        );
       }
-    where
-      so_far : ℕ
-      so_far = first + count_by (is_byte cycle.terminator) (take at from)
-
-      index_is : index % cycle.len ≡ so_far % cycle.len
-      index_is = mod-eq_of_lt (omega (arith, r.next, mod-lt so_far cycle.is_unrolled.some)) ∙ r.next
 
   module _ (room : at < length from) where
     pub replaced_terminator : {next v : ℕ} → get_or from at 0 ≡ cycle.terminator → v ∷ [] ≡ cycle_byte cycle index
         → next ≡ (index + 1) % cycle.len → to' ≡ slice_set (slice_set to at (get_or from at 0)) at v
         → IsReplacedTo cycle first next (at + 1) from to'
     replaced_terminator {next} {v} is_end is later set =
-        let test = eq-eqb (get_or from at 0) cycle.terminator is_end in
-        let number : count_by (is_byte cycle.terminator) (take 1 (drop at from)) ≡ 1 =
-        ap (count_by (is_byte cycle.terminator)) (one_byte at from room) ∙ counted cycle.terminator
-        (get_or from at 0) [] test in
-        replaced_more 1 (omega (arith, room)) (later ∙ ap (λ n. (index + n) % cycle.len) (sym number))
-        (ap (take (at + 1)) set ∙ take_more_set (slice_set to at (get_or from at 0)) at v
-        (omega (arith, room, r.same, length-set to at (get_or from at 0)))
-        ∙ (λ i. take-set to at (get_or from at 0) i ++ is i)
-        ∙ ap (λ (l : List ℕ). take at to ++ l) (sym (ap (with_replacements cycle.terminator (cycle_byte cycle) index)
-        (one_byte at from room) ∙ rw test refl)))
+        let x = get_or from at 0 in
+        let test = eq-eqb x cycle.terminator is_end in
+        let one = one_byte at from room in
+        replaced_more 1 (omega (arith, room)) (cc (later, one, counted cycle.terminator x [] test))
+        (cc (
+          set,
+          take_more_set (slice_set to at x) at v (omega (arith, room, r.same, length-set to at x)),
+          take-set to at x,
+          is,
+          one,
+          test,
+        ))
 
     pub replaced_other : get_or from at 0 ≢ cycle.terminator → to' ≡ slice_set to at (get_or from at 0)
         → index < cycle.len → IsReplacedTo cycle first index (at + 1) from to'
     replaced_other other set less =
-        let test = byte_ne cycle.terminator (get_or from at 0) other in
-        let number : index + count_by (is_byte cycle.terminator) (take 1 (drop at from)) ≡ index =
-        omega (
-          arith,
-          ap (count_by (is_byte cycle.terminator)) (one_byte at from room) ∙ counted cycle.terminator
-              (get_or from at 0) [] test,
-        ) in
-        replaced_more 1 (omega (arith, room)) (sym (ap (λ n. n % cycle.len) number ∙ mod-eq_of_lt less))
-        (ap (take (at + 1)) set ∙ take_more_set to at (get_or from at 0) (omega (arith, room, r.same))
-        ∙ ap (λ (l : List ℕ). take at to ++ l) (sym (ap (with_replacements cycle.terminator (cycle_byte cycle) index)
-        (one_byte at from room) ∙ rw test refl)))
+        let x = get_or from at 0 in
+        let test = byte_ne cycle.terminator x other in
+        let one = one_byte at from room in
+        let number : index + ends_in cycle (take 1 (drop at from)) ≡ index =
+        omega (arith, ap (ends_in cycle) one, counted cycle.terminator x [] test) in
+        replaced_more 1 (omega (arith, room)) (cc (number, mod-eq_of_lt less))
+        (cc (set, take_more_set to at x (omega (arith, room, r.same)), one, test))

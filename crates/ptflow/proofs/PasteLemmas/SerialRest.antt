@@ -4,7 +4,8 @@ use Rattle.ptflow.proofs.Common.{◌≡◌, ⊎_elim, ℕ, ◌+◌, ◌%◌, ◌
 use Rattle.ptflow.proofs.Common.{Option, length, length-append, refl, sym, ◌∙◌, ap, arith, append_assoc, onto_first}
 use Rattle.ptflow.proofs.Common.{count_by, cases_Bool, append-nil, append_cancel_right, is_byte, lines, complete_lines}
 use Rattle.ptflow.proofs.Common.{IsPrefix, lines_of_unlines, Paste, delimiter, join_with_cycle, mod-add-mod}
-use Rattle.ptflow.proofs.Common.{paste_serial_decided, with_replacements, row_rest, mod-eq_of_lt, byte_eq, option_to_list, None}
+use Rattle.ptflow.proofs.Common.{paste_serial_decided, with_replacements, row_rest, mod-eq_of_lt, byte_eq, option_to_list}
+use Rattle.ptflow.proofs.Common.{None}
 use Rattle.ptflow.proofs.Common.{Some, IsFirstByte, take, drop, line_before_terminator, sum_by-append, mod-lt}
 use Rattle.ptflow.proofs.Vectors.FindNth.{none_counted}
 use Rattle.std.specs.Prelude.{slice_index_or}
@@ -80,14 +81,15 @@ module _ (end : ℕ) (delims : List (Option ℕ)) where
       → after ≡ before ++ with_replacements end (delimiter delims) first bytes
       → second ≡ (first + count_by (is_byte end) bytes) % length delims → second < length delims → first < length delims
       → row_rest end delims index (held ++ (bytes ++ more)) ≡ after ++ row_rest end delims second more
-  copied_on index held bytes more {first} {second} {before} some one at two after low less =
-      row_rest_on index held (bytes ++ more) (omega (arith, some, length-append bytes more))
-      ∙ (λ i. sym one i ++ (row_rest_mod _ first (sym at ∙ sym (mod-eq_of_lt less)) (bytes ++ more)
-      ∙ row_rest_on first bytes more some
-      ∙ ap (λ (l : List ℕ). with_replacements end (delimiter delims) first bytes ++ l)
-      (row_rest_mod _ second (sym after ∙ sym (mod-eq_of_lt low)) more)) i)
-      ∙ sym (append_assoc before (with_replacements end (delimiter delims) first bytes) (row_rest end delims second more))
-      ∙ ap (λ (l : List ℕ). l ++ row_rest end delims second more) (sym two)
+  copied_on index held bytes more {first} {second} {before} some one at two after low less = cc (
+    row_rest_on index held (bytes ++ more) (omega (arith, some, length-append bytes more)),
+    row_rest_mod _ first (sym at ∙ sym (mod-eq_of_lt less)) (bytes ++ more),
+    row_rest_on first bytes more some,
+    row_rest_mod _ second (sym after ∙ sym (mod-eq_of_lt low)) more,
+    append_assoc before (with_replacements end (delimiter delims) first bytes) (row_rest end delims second more),
+    one,
+    two,
+  )
 
   -- A line and its delimiter were copied.
   pub next_piece : 0 < length delims → (index : ℕ) {next at : ℕ} (rest before : List ℕ) {line text all : List ℕ}

@@ -2,19 +2,20 @@
 -- of these lines are replaced by the cycle (the delimiters of the row, and a last entry that keeps the terminator),
 -- they become the row. So bytes with count * n terminators, the last at the end, become `count` rows.
 use Rattle.ptflow.proofs.Common.{◌≡◌, ◌≢◌, ℕ, zero, suc, ◌+◌, ◌-◌, ◌*◌, ◌%◌, ◌<◌, ◌≤◌, cond, List, [], ◌∷◌, ◌++◌, None}
-use Rattle.ptflow.proofs.Common.{length, map, take, drop, set, get_or, refl, sym, ◌∙◌, ap, subst, arith, append_assoc}
+use Rattle.ptflow.proofs.Common.{length, map, take, drop, set, get_or, refl, sym, ◌∙◌, ap, arith, append_assoc}
 use Rattle.ptflow.proofs.Common.{length-drop, take-append-drop, ⊎_elim, inl, count_by, cases_eq, cases_lt, mod-mul-add}
-use Rattle.ptflow.proofs.Common.{take_more, take_all, nil_from_length, length-take-le, length-set, All-get_or, All-take}
-use Rattle.ptflow.proofs.Common.{All-drop, All-from_recursion, recursion_from_All, sum_by-append, sum_by-set, is_byte}
-use Rattle.ptflow.proofs.Common.{unlines, lines, IsLine, AreLines, EndsWithByte, Output, PushEffect, push_nothing}
+use Rattle.ptflow.proofs.Common.{take_more, take_all, nil_from_length, length-take-le, length-set, All-get_or}
+use Rattle.ptflow.proofs.Common.{sum_by-append, sum_by-set, is_byte}
+use Rattle.ptflow.proofs.Common.{unlines, lines, AreLines, EndsWithByte, Output, PushEffect, push_nothing}
 use Rattle.ptflow.proofs.Common.{Reader, IsSound, budget, advance_ok_take, byte_eq, unlines-append, lines_are}
 use Rattle.ptflow.proofs.Common.{the_lines, no_reader, reader_at, update_at, join_with_cycle, uses_of, columns, rows}
-use Rattle.ptflow.proofs.Common.{IsSharedCycle, IsWholeRows, LinesTaken, with_replacements, cycle_byte, after_cell, cells_text}
+use Rattle.ptflow.proofs.Common.{IsSharedCycle, IsWholeRows, LinesTaken, with_replacements, cycle_byte, after_cell}
+use Rattle.ptflow.proofs.Common.{cells_text}
 use Rattle.ptflow.proofs.Common.{mod-eq_of_lt, RowShape, BufferedRowsPre, RowsTaken, RowsWritten, nat_tests}
 use Rattle.ptflow.proofs.Vectors.FindNth.{none_counted}
 use Rattle.ptflow.proofs.PasteLemmas.Grid.{Column, for_each_cell_unique, top_of, grid_step, uses_here, uses_before_lt}
 use Rattle.ptflow.proofs.PasteLemmas.Grid.{last_use, update_here, update_there}
-use Rattle.ptflow.proofs.PasteLemmas.FillRow.{at_same, at_other, at_index}
+use Rattle.ptflow.proofs.PasteLemmas.FillRow.{each_reader}
 use Rattle.ptflow.proofs.PasteLemmas.RowsTaken.{nothing_taken, rows_taken_none, row_text}
 use Rattle.ptflow.proofs.PasteLemmas.BufferedRows.{consumed_none, consumed_more}
 use Rattle.ptflow.proofs.PasteLemmas.Replaced.{counted, replaced-append, replaced_line}
@@ -64,15 +65,11 @@ whole_rows_counted end n count bytes last counted =
 
 -- ---- the text of rows
 
-AreLines-take : (end n : ℕ) (ls : List (List ℕ)) → AreLines end ls → AreLines end (take n ls)
-AreLines-take end n ls are_lines =
-    recursion_from_All (IsLine end) (take n ls)
-    (All-take (IsLine end) n ls (All-from_recursion (IsLine end) ls are_lines))
-
-AreLines-drop : (end n : ℕ) (ls : List (List ℕ)) → AreLines end ls → AreLines end (drop n ls)
-AreLines-drop end n ls are_lines =
-    recursion_from_All (IsLine end) (drop n ls)
-    (All-drop (IsLine end) n ls (All-from_recursion (IsLine end) ls are_lines))
+are_parts : (end n : ℕ) (ls : List (List ℕ)) → AreLines end ls → AreLines end (take n ls) × AreLines end (drop n ls)
+are_parts end zero ls are_lines = (tt, are_lines)
+are_parts end (suc n) [] are_lines = (tt, tt)
+are_parts end (suc n) (line ∷ ls) (free, are_lines) =
+    let (front, rest) = are_parts end n ls are_lines in ((free, front), rest)
 
 -- The lines `ls` in rows of n.
 abbrev pub rows_in : ℕ → ℕ → List (List ℕ) → List (List (List ℕ))
@@ -122,7 +119,7 @@ module _ {row : RowShape} {cycle : Cycle} (t : IsSharedCycle row cycle) where
       let size : suc more * n ≡ n + more * n = omega arith in
       let first = take n ls in
       let rest = drop n ls in
-      let whole_first = AreLines-take end n ls are_lines in
+      let (whole_first, whole_rest) = are_parts end n ls are_lines in
       let first_long : length first ≡ n = length-take-le n ls (omega (arith, long, size)) in
       let start : k * n ≡ k * n + 0 = omega arith in
       let next : k * n + count_by (is_byte end) (unlines end first) ≡ (k + 1) * n =
@@ -136,7 +133,7 @@ module _ {row : RowShape} {cycle : Cycle} (t : IsSharedCycle row cycle) where
         next,
         row_replaced k 0 first whole_first (omega (arith, first_long)),
         row_text row 0 first (omega (arith, first_long)) (omega (arith, first_long, t.some)),
-        rows_replaced (k + 1) more rest (AreLines-drop end n ls are_lines) more_long,
+        rows_replaced (k + 1) more rest whole_rest more_long,
       )
 
 -- ---- the grid of one input
@@ -154,16 +151,14 @@ module _ (cells : List ℕ) (input : ℕ) (same : (c : ℕ) → c < length cells
   uses_before_column zero low = refl
   uses_before_column (suc c) low =
       let next : suc c ≡ c + 1 = omega arith in
-      ap (λ (m : ℕ). uses_of (take m cells) input) next
-      ∙ omega (
-        arith,
+      cc (
+        next,
         uses_here cells c input (omega (arith, low)) (same c (omega (arith, low))),
         uses_before_column c (omega (arith, low)),
       )
 
   uses_all : uses_of cells input ≡ length cells
-  uses_all = ap (λ (l : List ℕ). uses_of l input) (sym (take_all (length cells) cells (omega arith)))
-      ∙ uses_before_column (length cells) (omega arith)
+  uses_all = cc (take_all (length cells) cells (omega arith), uses_before_column (length cells) (omega arith))
 
   uses_none : (q : ℕ) → q ≢ input → uses_of cells q ≡ 0
   uses_none q differ = ⊎_elim
@@ -199,11 +194,13 @@ module _ (cells : List ℕ) (input : ℕ) (same : (c : ℕ) → c < length cells
   rows_on some (suc k) ls more long =
       let n = length cells in
       let size : suc k * n ≡ n + k * n = omega arith in
-      (λ i. rows
-      (columns cells
-      (λ q. (ap (λ (l : Column). lines_of_input input l q ++ more q) (sym (take-append-drop n ls))
-      ∙ ap (λ (l : Column). l ++ more q) (lines_of_input-append input (take n ls) (drop n ls) q)
-      ∙ append_assoc (lines_of_input input (take n ls) q) (lines_of_input input (drop n ls) q) (more q)) i)))
+      let split : (q : ℕ) → lines_of_input input ls q ++ more q
+      ≡ lines_of_input input (take n ls) q ++ (lines_of_input input (drop n ls) q ++ more q) = λ q. cc (
+        take-append-drop n ls,
+        lines_of_input-append input (take n ls) (drop n ls) q,
+        append_assoc (lines_of_input input (take n ls) q) (lines_of_input input (drop n ls) q) (more q),
+      ) in
+      (λ i. rows (columns cells (λ q. split q i)))
       ∙ row_on some (take n ls) (λ q. lines_of_input input (drop n ls) q ++ more q)
       (length-take-le n ls (omega (arith, long, size)))
       ∙ ap (λ (r : List (List (List ℕ))). take n ls ∷ r)
@@ -211,119 +208,91 @@ module _ (cells : List ℕ) (input : ℕ) (same : (c : ℕ) → c < length cells
 
 -- ---- the complete rows in the buffer
 
-module _ {row : RowShape} {cycle : Cycle} (t : IsSharedCycle row cycle) (old : List Reader)
-    (low : get_or row.cells 0 0 < length old) (clean : (reader_at old (get_or row.cells 0 0)).fault ≡ None)
-    (sound : IsSound (reader_at old (get_or row.cells 0 0))) {count : ℕ} (some : 0 < count)
-    (within : count ≤ length (reader_at old (get_or row.cells 0 0)).buffered)
-    (rs : IsWholeRows row.terminator (length row.cells) (take count
-    (reader_at old (get_or row.cells 0 0)).buffered)) where
+module _ {row : RowShape} {cycle : Cycle} (t : IsSharedCycle row cycle) {old : List Reader}
+    (ready : BufferedRowsPre row old) {b r : Reader} (is_read : b ≡ reader_at old (get_or row.cells 0 0))
+    (sound : IsSound b) {count : ℕ} (some : 0 < count) (within : count ≤ length b.buffered)
+    (rs : IsWholeRows row.terminator (length row.cells) (take count b.buffered))
+    (step : r ≡ record b { buffered = drop count b.buffered }) where
   abbrev end : ℕ
   end = row.terminator
 
-  abbrev cells : List ℕ
-  cells = row.cells
-
   abbrev input : ℕ
-  input = get_or cells 0 0
+  input = get_or row.cells 0 0
 
-  abbrev was : Reader
-  was = reader_at old input
+  low : input < length old
+  low = ready.within 0 0 t.some
 
-  abbrev now : Reader
-  now = record (reader_at old input) { buffered = drop count (reader_at old input).buffered }
+  clean : b.fault ≡ None
+  clean = cc (is_read, ready.unfailed input (omega (arith, uses_before_lt row.cells 0 t.some)))
 
-  same : (c : ℕ) → c < length cells → get_or cells c 0 ≡ input
-  same c low = All-get_or (λ (q : ℕ). q ≡ input) cells c 0 low t.same
+  same : (c : ℕ) → c < length row.cells → get_or row.cells c 0 ≡ input
+  same c low = All-get_or (λ (q : ℕ). q ≡ input) row.cells c 0 low t.same
 
-  lines_taken_here : LinesTaken end was now (rs.count * length cells) rs.ls
-  lines_taken_here = record {
-    bytes = take count was.buffered;
-    reads = (advance_ok_take was now count clean within refl).reads;
+  lines_taken_here : LinesTaken end b r (rs.count * length row.cells) rs.ls
+  lines_taken_here = rw step (record {
+    bytes = take count b.buffered;
+    reads = (advance_ok_take b _ count clean within refl).reads;
     failed = refl;
     fault = refl;
     short = λ h. h;
-    buffered = λ h. omega (arith, h, length-drop count was.buffered);
-    none =
-        λ none. absurd
-        (omega (
-          arith,
-          some,
-          length-take-le count was.buffered within,
-          ap length rs.is,
-          ap (λ (l : List (List ℕ)). length (unlines end l)) (nil_from_length rs.ls (rs.long ∙ none)),
-        ));
+    buffered = λ h. omega (arith, h, length-drop count b.buffered);
+    none = λ none. absurd (omega (
+      arith,
+      some,
+      length-take-le count b.buffered within,
+      ap length rs.is,
+      ap (λ (l : List (List ℕ)). length (unlines end l)) (nil_from_length rs.ls (rs.long ∙ none)),
+    ));
     came = record { so_far = inl (rs.is, rs.are_lines) };
     enough = inl rs.long;
-  }
+  })
 
-  lines_taken_all : (q : ℕ)
-      → LinesTaken end (reader_at old q) (reader_at (set old input now) q)
-      (length (rows_in (length cells) rs.count rs.ls) * uses_of cells q) (lines_of_input input rs.ls q)
-  lines_taken_all q = ⊎_elim
-      (λ is. rw is
-      (rw (
-        at_same old input now low,
-        update_here input rs.ls (λ q. []) input refl,
-        length-rows (length cells) rs.count rs.ls,
-        uses_all cells input same,
-      ) lines_taken_here))
-      (λ differ. rw (
-        at_other old input q now differ,
-        update_there input rs.ls (λ q. []) q differ,
-        uses_none cells input same q differ,
-      ) (nothing_taken (omega arith)))
-      (cases_eq q input)
-
-  rows_of_input : RowsTaken row old (set old input now) (with_replacements end (cycle_byte cycle) 0 (take count was.buffered))
+  rows_of_input : RowsTaken row old (set old input r)
+      (with_replacements end (cycle_byte cycle) 0 (take count b.buffered))
   rows_of_input = record {
-    taken_rows = rows_in (length cells) rs.count rs.ls;
+    taken_rows = rows_in (length row.cells) rs.count rs.ls;
     ls = lines_of_input input rs.ls;
     first_rows = record {
-      lines_taken = lines_taken_all;
-      on = λ more may. rows_on cells input same t.some rs.count rs.ls more rs.long;
-      count = length-set old input now;
+      lines_taken = each_reader (λ q x. LinesTaken end (reader_at old q) x
+          (length (rows_in (length row.cells) rs.count rs.ls) * uses_of row.cells q) (lines_of_input input rs.ls q)) old
+          low
+          (rw (
+            update_here input rs.ls (λ q. []) input refl,
+            length-rows (length row.cells) rs.count rs.ls,
+            uses_all row.cells input same,
+            ← is_read,
+          ) lines_taken_here)
+          (λ q differ. rw (update_there input rs.ls (λ q. []) q differ, uses_none row.cells input same q differ)
+          (nothing_taken (omega arith)));
+      on = λ more may. rows_on row.cells input same t.some rs.count rs.ls more rs.long;
+      count = length-set old input r;
     };
     least = omega (
       arith,
       some,
       within,
       sound.long clean,
-      length-drop count was.buffered,
-      sum_by-set budget old input
-          now no_reader low,
+      length-drop count b.buffered,
+      ap budget is_read,
+      ap budget step,
+      sum_by-set budget old input r no_reader low,
     );
     is =
-        let start : 0 ≡ 0 * length cells = omega arith in
+        let start : 0 ≡ 0 * length row.cells = omega arith in
         (λ i. with_replacements end (cycle_byte cycle) (start i) (rs.is i))
         ∙ rows_replaced t 0 rs.count rs.ls rs.are_lines rs.long;
   }
 
--- The rows in the buffer, by the bytes that were copied and pushed.
-pub copied_rows : {row : RowShape} {cycle : Cycle} → IsSharedCycle row cycle → {old : List Reader}
-    → BufferedRowsPre row old → (d : Reader) → IsSound (get_or old (get_or row.cells 0 0) d)
-    → {count : ℕ} → 0 < count → count ≤ length (get_or old (get_or row.cells 0 0) d).buffered
-    → IsWholeRows cycle.terminator cycle.len (take count (get_or old (get_or row.cells 0 0) d).buffered)
-    → (e : Reader) {r : Reader} → r ≡ record (get_or old (get_or row.cells 0 0) e) {
-      buffered = drop count (get_or old (get_or row.cells 0 0) e).buffered;
-    }
-    → {written : List ℕ}
-    → written ≡ with_replacements cycle.terminator (cycle_byte cycle) 0 (take count (get_or old (get_or row.cells 0 0) d).buffered)
-    → {out pushed : Output} → PushEffect out pushed written
-    → RowsWritten row old (set old (get_or row.cells 0 0) r) out pushed
-copied_rows {row} {cycle} t {old} ready d sound {count} some few rs e {r} step {written} copied wrote =
-    let p = get_or row.cells 0 0 in
-    let low = ready.within 0 0 t.some in
-    let is_read = at_index old p d low in
-    record {
-      written = written;
-      rows = rw (copied, t.terminator, is_read, step, at_index old p e low)
-          (rows_of_input t old low (ready.unfailed p (omega (arith, uses_before_lt row.cells 0 t.some)))
-          (subst IsSound is_read sound) some
-          (omega (arith, few, ap (λ (x : Reader). length x.buffered) is_read))
-          (rw (is_read, t.terminator, t.len) at rs));
-      consumed = consumed_more consumed_none low (at_index old p e low) (record { size = count; is = step });
-      wrote = wrote;
-    }
+  -- The rows in the buffer, by the bytes that were copied and pushed.
+  pub copied_rows : {written : List ℕ}
+      → written ≡ with_replacements cycle.terminator (cycle_byte cycle) 0 (take count b.buffered)
+      → {out pushed : Output} → PushEffect out pushed written → RowsWritten row old (set old input r) out pushed
+  copied_rows {written} copied wrote = record {
+    written = written;
+    rows = rw (copied, t.terminator) rows_of_input;
+    consumed = consumed_more consumed_none low is_read (record { size = count; is = step });
+    wrote = wrote;
+  }
 
 -- Nothing is in the buffer, or the columns share no reader.
 pub no_rows_written : {row : RowShape} {old : List Reader} {out : Output} → RowsWritten row old old out out

@@ -99,20 +99,13 @@ fn fill_row<A: Allocator + Copy, S: Source, R: Source, W: Sink>(
     'cells: while column < row.cells.len() {
         let input = row.cells[column];
         let has_line = fill_cell(input, column, &mut readers[input], store, out)?;
-        let filled = BegunRow {
-            count: begun.count,
-            end: begun.end,
-            any_line: begun.any_line | has_line,
-        };
-        match copy_slot(row, column, store.line(column), into, filled) {
+        begun.any_line |= has_line;
+        match copy_slot(row, column, store.line(column), into, begun) {
             Some(next) => {
                 begun = copy_columns(row, readers, into, next);
                 column = begun.count;
             }
-            None => {
-                begun = filled;
-                column += 1;
-            }
+            None => column += 1,
         }
     }
     Ok(begun)

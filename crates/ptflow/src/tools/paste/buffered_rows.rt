@@ -44,34 +44,8 @@ fn copy_line_in<const N: usize, S: Source, R: Source>(
     Some(at + count)
 }
 
-// Like `copy_line_in`, for a line of any length; `None` if it is not complete in the buffer or does not fit. Out of
-// line, so that the common cases need no call.
-#[inline(never)]
-fn copy_line_slow<S: Source, R: Source>(
-    terminator: u8,
-    reader: &mut LineReader<S, R>,
-    into: &mut OutBuf,
-    at: usize,
-) -> Option<usize>
-    ensures line { IfSome result
-        (λ end. LineCopied terminator reader.old reader.new (take at into.old) (take end into.new)) }
-    ensures size_bound { IfSome result (λ end. (at ≤ end) × (end < 8192)) }
-    ensures none { IfNone result ((reader.new ≡ reader.old) × (into.new ≡ into.old)) }
-    ensures prefix_kept { take at into.new ≡ take at into.old }
-    ensures was_sound { IsSound reader.old }
-{
-    let bytes = reader.buffered();
-    let count = find_byte(terminator, bytes)?;
-    if at.saturating_add(count) >= 8192 {
-        return None;
-    }
-    copy_short(bytes, 0, count, into, at);
-    reader.consume(count + 1);
-    Some(at + count)
-}
-
-// Like `copy_line_slow`, with fast paths for lines of at most 63 bytes. Out of line, so that the loop over columns is
-// short.
+// Like `copy_line_in`, for a line of any length, with fast paths for lines of at most 63 bytes; `None` if it is not
+// complete in the buffer or does not fit. Out of line, so that the loop over columns is short.
 #[inline(never)]
 fn copy_line_long<S: Source, R: Source>(
     terminator: u8,
@@ -92,7 +66,14 @@ fn copy_line_long<S: Source, R: Source>(
     if let Some(end) = copy_line_in::<64, S, R>(terminator, reader, into, at) {
         return Some(end);
     }
-    copy_line_slow(terminator, reader, into, at)
+    let bytes = reader.buffered();
+    let count = find_byte(terminator, bytes)?;
+    if at.saturating_add(count) >= 8192 {
+        return None;
+    }
+    copy_short(bytes, 0, count, into, at);
+    reader.consume(count + 1);
+    Some(at + count)
 }
 
 // Copies the next line of a reader to `at` and consumes it. A reader that is at the end of its input gives an empty
@@ -138,11 +119,7 @@ pub(crate) fn copy_columns<S: Source, R: Source>(
         (begun_in readers.new result into.new) }
     ensures within { (result.count ≤ length row.entry.cells.now) × (begun.end ≤ result.end) }
 {
-    let RowFormat {
-        delims,
-        terminator,
-        cells,
-    } = row;
+    let (delims, terminator, cells) = (row.delims, row.terminator, row.cells);
     let mut column = begun.count;
     let mut end = begun.end;
     let mut any_line = begun.any_line;
@@ -201,13 +178,10 @@ pub(crate) fn copy_rows<S: Source, R: Source>(
 pub(crate) fn move_to_front(copied: CopiedRows, into: &mut OutBuf) -> BegunRow
     ensures { (readers : List Reader) → begun_in readers result into.new ≡ begun_after readers copied into.old }
 {
-    let begun = copied.begun;
+    let mut begun = copied.begun;
     into.copy_within(copied.end..begun.end, 0);
-    BegunRow {
-        count: begun.count,
-        end: begun.end - copied.end,
-        any_line: begun.any_line,
-    }
+    begun.end -= copied.end;
+    begun
 }
 
 // Copies the line of a column, and the byte after it, to the end of a begun row. Returns `None` if an earlier column
@@ -230,10 +204,8 @@ pub(crate) fn copy_slot(
         return None;
     }
     copy_short(line, 0, line.len(), into, begun.end);
-    let end = begun.end + line.len();
-    Some(BegunRow {
-        count: column + 1,
-        end: copy_option(row.byte_after(column), into, end),
-        any_line: begun.any_line,
-    })
+    let mut next = begun;
+    next.end = copy_option(row.byte_after(column), into, begun.end + line.len());
+    next.count += 1;
+    Some(next)
 }

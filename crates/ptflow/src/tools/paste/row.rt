@@ -93,8 +93,7 @@ pub(crate) fn delimiter_bytes(delims: &[Option<u8>], count: usize) -> Option<Arr
     }
     let mut bytes = ArrayVec::new();
     for column in 0..count {
-        let byte = delims[column % delims.len()]?;
-        bytes.push(byte);
+        bytes.push(delims[column % delims.len()]?);
     }
     Some(bytes)
 }

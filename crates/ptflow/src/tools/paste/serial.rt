@@ -102,11 +102,8 @@ impl<'a> SerialFormat<'a> {
         let count = block.len() - 1;
         let (end, index) = self.copy_cells(index, &block[..count], into, at);
         let complete = block[count] == self.terminator;
-        if complete {
-            return (end, ColumnPos { index, complete });
-        }
         into[end] = block[count];
-        (end + 1, ColumnPos { index, complete })
+        (end + usize::from(!complete), ColumnPos { index, complete })
     }
 }
 

@@ -45,16 +45,13 @@ fn rows_end(terminator: u8, bytes: &[u8], extra: usize) -> usize
     ensures ends { 0 < result → slice_index_or bytes.now (result - 1) 0 ≡ terminator }
 {
     let mut at = bytes.len();
-    for _skipped in 0..extra {
+    for _found in 0..extra + 1 {
         match memrchr(terminator, &bytes[..at]) {
             Some(last) => at = last,
             None => return 0,
         }
     }
-    match memrchr(terminator, &bytes[..at]) {
-        Some(last) => last + 1,
-        None => 0,
-    }
+    at + 1
 }
 
 // Copies all complete rows in the reader's buffer, with the delimiters, and returns their length. A buffer without a
@@ -98,11 +95,11 @@ pub(crate) fn write_shared_rows<S: Source, R: Source, W: Sink>(
     let Some(cycle) = cycle else {
         return Ok(());
     };
-    let input = row.cells[0];
-    let count = copy_shared_rows(cycle, &readers[input], into);
+    let reader = &mut readers[row.cells[0]];
+    let count = copy_shared_rows(cycle, reader, into);
     if count == 0 {
         return Ok(());
     }
-    readers[input].consume(count);
+    reader.consume(count);
     out.push(&into[..count])
 }

@@ -1,13 +1,15 @@
 -- Each step reads the line of the next column into its slot. If the columns before it were all copied, it is copied
 -- from there, and the further columns are from the buffers. A failed write, read or growth stops the row; nothing was
 -- pushed.
-use Rattle.ptflow.proofs.Common.{◌≡◌, ◌+◌, ◌<◌, ℕ, Bool, List, [], ◌++◌, length, take, get_or, set, ◌∙◌, ap, arith}
-use Rattle.ptflow.proofs.Common.{err_from_is_err_and, Reader, Slots, push_nothing, push_trans, reader_at, uses_of, ◌||◌}
-use Rattle.ptflow.proofs.Common.{Ok, BegunText, BufferedRowsPre, RowAmid, FillCellPost, after_cell, begun_in, shape_of}
+use Rattle.ptflow.proofs.Common.{◌≡◌, ◌+◌, ◌<◌, ℕ, List, [], ◌++◌, length, take, get_or, set, ◌∙◌, ap, arith}
+use Rattle.ptflow.proofs.Common.{err_from_is_err_and, PushEffect, Reader, Slots, push_nothing, push_trans, reader_at}
+use Rattle.ptflow.proofs.Common.{uses_of, ◌||◌}
+use Rattle.ptflow.proofs.Common.{BegunText, BufferedRowsPre, RowAmid, after_cell, begun_in, shape_of}
+use borrow.Author.Rules.{scaled_Fits}
 use Rattle.ptflow.proofs.PasteLemmas.Grid.{uses_before_lt}
 use Rattle.ptflow.proofs.PasteLemmas.FillRow.{at_index, amid_next, amid_failed, amid_resumed, with_slot, readable_after}
 use Rattle.ptflow.proofs.PasteLemmas.BufferedRows.{still_readable}
-use Rattle.ptflow.proofs.tools.paste.fill_row.Goals.{After-fill_cell}
+use Rattle.ptflow.proofs.tools.paste.fill_row.Goals.{After-fill_cell, In_ok-has_line}
 use Rattle.ptflow.proofs.tools.paste.fill_row.Given as given
 use Rattle.ptflow.proofs.tools.paste.fill_row.Goals as goal
 
@@ -20,6 +22,10 @@ cells-init g c = record {
   wrote = push_nothing c.args.out.now;
   clean = c.requires.clean;
 }
+
+pub offset_bounds-readers-input : goal.offset_bounds-readers-input
+offset_bounds-readers-input g c =
+    let low = c.requires.readable.within c.cells.column 0 c.cells-test.true in search (scaled_Fits, low)
 
 pub fill_cell-requires-clause-readable : goal.fill_cell-requires-clause-readable
 fill_cell-requires-clause-readable g c =
@@ -41,11 +47,15 @@ returns-in_err-has_line-clause-fills g c =
     c.fill_cell.new.reader c.fill_cell.new.store c.cells.into c.in_err-has_line.field-0.0
     c.in_err-has_line.ensures.fills)
 
-pub returns-in_err-has_line-clause-wrote : goal.returns-in_err-has_line-clause-wrote
-returns-in_err-has_line-clause-wrote g c = push_trans c.args.out.now c.cells.out c.fill_cell.new.out [] []
-    c.cells.invariant.clean c.cells.invariant.wrote c.fill_cell.ensures.wrote
+-- Nothing was pushed.
+sent : (g : given.Over) (c : After-fill_cell g) → PushEffect c.args.out.now c.fill_cell.new.out []
+sent g c = push_trans c.args.out.now c.cells.out c.fill_cell.new.out [] [] c.cells.invariant.clean
+    c.cells.invariant.wrote c.fill_cell.ensures.wrote
 
-module _ (g : given.Over) (c : After-fill_cell g) (has : Bool) where
+pub returns-in_err-has_line-clause-wrote : goal.returns-in_err-has_line-clause-wrote
+returns-in_err-has_line-clause-wrote g c = sent g (goal.at.returns-in_err-has_line-clause-wrote g c).After-fill_cell
+
+module _ (g : given.Over) (c : In_ok-has_line g) where
   abbrev input : ℕ
   input = get_or c.args.row.cells.now c.cells.column 0
 
@@ -53,74 +63,67 @@ module _ (g : given.Over) (c : After-fill_cell g) (has : Bool) where
   abbrev filled : BegunText
   filled = record (begun_in c.cells.readers c.cells.begun c.cells.into) {
     readers = set c.cells.readers input c.fill_cell.new.reader;
-    any_line = c.cells.begun.any_line || has;
+    any_line = c.cells.begun.any_line || c.in_ok-has_line.has_line;
   }
 
-  module _ (p : FillCellPost input c.cells.column (get_or c.cells.readers input c.index-readers-input.result)
-      c.fill_cell.new.reader c.cells.store c.fill_cell.new.store (Ok has)) where
-    low : input < length c.cells.readers
-    low = c.cells.invariant.readable.within c.cells.column 0 c.cells-test.true
+  low : input < length c.cells.readers
+  low = c.cells.invariant.readable.within c.cells.column 0 c.cells-test.true
 
-    used : 0 < uses_of c.args.row.cells.now input
-    used = omega (arith, uses_before_lt c.args.row.cells.now c.cells.column c.cells-test.true)
+  used : 0 < uses_of c.args.row.cells.now input
+  used = omega (arith, uses_before_lt c.args.row.cells.now c.cells.column c.cells-test.true)
 
-    is_read : get_or c.cells.readers input c.index-readers-input.result ≡ reader_at c.cells.readers input
-    is_read = at_index c.cells.readers input c.index-readers-input.result low
+  is_read : get_or c.cells.readers input c.index-readers-input.result ≡ reader_at c.cells.readers input
+  is_read = at_index c.cells.readers input c.index-readers-input.result low
 
-    amid : (from : List Reader) (first : Slots)
-        → RowAmid (shape_of c.args.row) c.args.begun.count from first
-        (begun_in c.args.readers.now c.args.begun c.args.into.now) c.args.store.now
-        → RowAmid (shape_of c.args.row) (c.cells.column + 1) from first filled c.fill_cell.new.store
-    amid from first a =
-        let (fills, sound) = p in
-        amid_next (c.cells.invariant.amid from first a) c.cells-test.true low is_read c.fill_cell.new.reader
-        c.fill_cell.new.store (omega (arith, c.cells-test.true, c.cells.invariant.slots))
-        (ap (λ (r : Reader). r.fault) is_read ∙ c.cells.invariant.readable.unfailed input used) sound has fills
+  amid : (from : List Reader) (first : Slots)
+      → RowAmid (shape_of c.args.row) c.args.begun.count from first
+      (begun_in c.args.readers.now c.args.begun c.args.into.now) c.args.store.now
+      → RowAmid (shape_of c.args.row) (c.cells.column + 1) from first filled c.fill_cell.new.store
+  amid from first a =
+      let (fills, sound) = c.in_ok-has_line.ensures.fills in
+      amid_next (c.cells.invariant.amid from first a) c.cells-test.true low is_read c.fill_cell.new.reader
+      c.fill_cell.new.store (omega (arith, c.cells-test.true, c.cells.invariant.slots))
+      (cc (is_read, c.cells.invariant.readable.unfailed input used)) sound c.in_ok-has_line.has_line fills
 
-    ready : BufferedRowsPre (shape_of c.args.row) filled.readers
-    ready =
-        let (fills, sound) = p in
-        readable_after c.cells.readers c.fill_cell.new.reader c.cells.invariant.readable low used is_read c.cells.store
-        c.fill_cell.new.store c.cells.column has fills
+  ready : BufferedRowsPre (shape_of c.args.row) filled.readers
+  ready =
+      let (fills, sound) = c.in_ok-has_line.ensures.fills in
+      readable_after c.cells.readers c.fill_cell.new.reader c.cells.invariant.readable low used is_read c.cells.store
+      c.fill_cell.new.store c.cells.column c.in_ok-has_line.has_line fills
 
 pub copy_columns-begun-requires-clause-readable : goal.copy_columns-begun-requires-clause-readable
 copy_columns-begun-requires-clause-readable g c = ready g (goal.at.copy_columns-begun-requires-clause-readable g
-    c).After-fill_cell c.in_ok-has_line.has_line c.in_ok-has_line.ensures.fills
+    c).In_ok-has_line
 
 pub cells-preserved-in-Some : goal.cells-preserved-in-Some
 cells-preserved-in-Some g c =
-    let here = (goal.at.cells-preserved-in-Some g c).After-fill_cell in
-    let has = c.in_ok-has_line.has_line in
-    let fills = c.in_ok-has_line.ensures.fills in
+    let at = goal.at.cells-preserved-in-Some g c in
+    let row = filled g at.In_ok-has_line in
     let p = c.copy_columns-begun.ensures.cells in
     let (first, count, any_line) = c.in-Some.ensures.same in
     let text = c.in-Some.ensures.copied ∙ (λ i. take c.cells.begun.end c.cells.into
     ++ (c.line.ensures i ++ after_cell (shape_of c.args.row) c.cells.column)) in
-    let resumed : begun_in (filled g here has).readers c.in-Some.next c.copy_slot.new.into
-    ≡ with_slot (shape_of c.args.row) c.cells.column c.fill_cell.new.store (filled g here has) = λ i.
-    record { readers = (filled g here has).readers; count = count i; any_line = any_line i; text = text i } in
+    let resumed : begun_in row.readers c.in-Some.next c.copy_slot.new.into
+    ≡ with_slot (shape_of c.args.row) c.cells.column c.fill_cell.new.store row = λ i.
+    record { readers = row.readers; count = count i; any_line = any_line i; text = text i } in
     record {
-      amid = λ from start a. amid_resumed (amid g here has fills from start a) first resumed p;
-      readable = still_readable p.consumed (ready g here has fills);
+      amid = λ from start a. amid_resumed (amid g at.In_ok-has_line from start a) first resumed p;
+      readable = still_readable p.consumed (ready g at.In_ok-has_line);
       slots = omega (arith, c.cells.invariant.slots, c.fill_cell.ensures.slots);
       within = (omega arith, c.copy_columns-begun.ensures.within.0);
-      wrote = push_trans c.args.out.now c.cells.out c.fill_cell.new.out [] [] c.cells.invariant.clean
-          c.cells.invariant.wrote c.fill_cell.ensures.wrote;
+      wrote = sent g at.After-fill_cell;
       clean = c.in_ok-has_line.ensures.write_failed;
     }
 
 pub cells-preserved : goal.cells-preserved
 cells-preserved g c =
-    let here = (goal.at.cells-preserved g c).After-fill_cell in
-    let has = c.in_ok-has_line.has_line in
-    let fills = c.in_ok-has_line.ensures.fills in
+    let at = goal.at.cells-preserved g c in
     record {
-      amid = λ from start a. rw c.in-None.ensures.none (amid g here has fills from start a);
-      readable = ready g here has fills;
+      amid = λ from start a. rw c.in-None.ensures.none (amid g at.In_ok-has_line from start a);
+      readable = ready g at.In_ok-has_line;
       slots = omega (arith, c.cells.invariant.slots, c.fill_cell.ensures.slots);
       within = (omega (arith, c.cells.invariant.within), omega (arith, c.cells-test.true));
-      wrote = push_trans c.args.out.now c.cells.out c.fill_cell.new.out [] [] c.cells.invariant.clean
-          c.cells.invariant.wrote c.fill_cell.ensures.wrote;
+      wrote = sent g at.After-fill_cell;
       clean = c.in_ok-has_line.ensures.write_failed;
     }
 

@@ -1,10 +1,11 @@
 -- Each iteration takes the rows that are complete in the buffers, and finishes the next row; then the invariant holds
 -- again. If that row has no line, all readers are at the end of their inputs.
-use Rattle.ptflow.proofs.Common.{Bool, not, true, false, refl, ◌≡◌, ◌≤◌, Ok, sym, ◌∙◌, ap, subst, arith, length, take}
+use Rattle.ptflow.proofs.Common.{Bool, not, true, false, ◌≡◌, ◌≤◌, Ok, sym, ◌∙◌, ap, subst, arith, length, take}
 use Rattle.ptflow.proofs.Common.{err_from_is_err_and, Paste, PushEffect, paste_job, RowShape, BegunText, RowAmid}
 use Rattle.ptflow.proofs.Common.{CellsFilled, CopyRowsPost, FillRowPost, RowFilled, Result, FlowFault, begun_after}
 use Rattle.ptflow.proofs.Common.{begun_in, job_shape, shape_of, [], ◌∷◌, ◌++◌, Err, Write, Output, PastePost, rows_text}
-use Rattle.ptflow.proofs.Common.{slots_text, call_on_failed_output}
+use Rattle.ptflow.proofs.Common.{slots_text, call_on_failed_output, List, Reader, Slots}
+use Rattle.std.proofs.Math.Bool.{not-not}
 use Rattle.ptflow.specs.declared.tools.paste.row.BegunRow.{BegunRow}
 use Rattle.ptflow.proofs.PasteLemmas.Exits.{paste_without_slots, paste_rows_write_failed, paste_shared_write_failed}
 use Rattle.ptflow.proofs.PasteLemmas.Exits.{paste_fill_failed, paste_done, paste_row_write_failed}
@@ -62,14 +63,6 @@ copy_rows-copied-requires g c =
     rw c.row_format-row.ensures (now_readable (invariant_written c.rows.invariant.invariant_holds
     (rw c.row_format-row.ensures at c.write_shared_rows.ensures.rows) c.in_ok-write_shared_rows.ensures.clean))
 
-had_line : (any_line : Bool) → not any_line ≡ false → any_line ≡ true
-had_line true same = refl
-had_line false same = sym same
-
-no_line : (any_line : Bool) → not any_line ≡ true → any_line ≡ false
-no_line true same = sym same
-no_line false same = refl
-
 pub returns-in_err-push : goal.returns-in_err-push
 returns-in_err-push g c =
     let (fault, same, is) = err_from_is_err_and c.from_residual-in_err-push.result c.from_residual-in_err-push.ensures.1
@@ -112,9 +105,12 @@ module _ (g : given.Over) (c : After-fill_row g) where
       (begun_after c.copy_rows-copied.new.readers c.copy_rows-copied.result c.copy_rows-copied.new.into)
   rows = rw c.row_format-row.ensures at c.copy_rows-copied.ensures.rows
 
+  abbrev Now : List Reader → Output → Slots → Type 0
+  Now readers out store = PasteInvariant job c.args.cells.now c.args.readers.now c.set_terminators.new.readers readers
+      c.args.out.now out c.args.store.now store
+
   -- The invariant after the rows from the buffers.
-  now : PasteInvariant job c.args.cells.now c.args.readers.now c.set_terminators.new.readers rows.mid c.args.out.now
-      c.push.new.self c.args.store.now c.rows.store
+  now : Now rows.mid c.push.new.self c.rows.store
   now = invariant_rows (invariant_written c.rows.invariant.invariant_holds
       (rw c.row_format-row.ensures at c.write_shared_rows.ensures.rows) c.in_ok-write_shared_rows.ensures.clean)
       rows.rows c.push.ensures.pushed.wrote c.in_ok-push.ensures.pushed.clean
@@ -155,9 +151,7 @@ module _ (g : given.Over) (c : After-fill_row g) where
         (clean : c.fill_row.new.out.write_failed ≡ false) {is : Output} (pushed : PushEffect c.fill_row.new.out is
         (take filled.end c.fill_row.new.into
         ++ slots_text (shape_of c.row_format-row.result) filled.count c.fill_row.new.store)) where
-      sent : PasteInvariant job c.args.cells.now c.args.readers.now c.set_terminators.new.readers rows.mid
-          c.args.out.now
-          c.fill_row.new.out c.args.store.now c.rows.store
+      sent : Now rows.mid c.fill_row.new.out c.rows.store
       sent = invariant_sent now wrote clean
 
       row_pushed : PushEffect c.fill_row.new.out is (rows_text job (amid.fields ∷ []))
@@ -171,9 +165,7 @@ module _ (g : given.Over) (c : After-fill_row g) where
           c.fill_row.new.store (Err Write)
       row_failed = paste_row_write_failed sent amid.slots (has true some) row_pushed
 
-      row_more : is.write_failed ≡ false
-          → PasteInvariant job c.args.cells.now c.args.readers.now c.set_terminators.new.readers c.fill_row.new.readers
-          c.args.out.now is c.args.store.now c.fill_row.new.store
+      row_more : is.write_failed ≡ false → Now c.fill_row.new.readers is c.fill_row.new.store
       row_more = invariant_more sent amid.slots (has true some) row_pushed
 
 pub returns-in_err-filled : goal.returns-in_err-filled
@@ -195,7 +187,7 @@ returns-then-not-filled g c =
     let filled = c.in_ok-filled.filled in
     let fills = c.in_ok-filled.ensures.fills in
     paste_done (now g here) (amid g here filled fills).slots
-    (has g here filled fills false (no_line _ c.if-not-filled.true)) c.clear_slots.ensures
+    (has g here filled fills false (sym (not-not _) ∙ ap not c.if-not-filled.true)) c.clear_slots.ensures
     c.in_ok-filled.ensures.wrote c.in_ok-filled.ensures.write_failed
 
 pub write_row-requires-clause-within : goal.write_row-requires-clause-within
@@ -220,15 +212,16 @@ returns-in_err-write_row g c =
     let row = c.in_ok-filled.ensures in
     let (fault, same, is) = err_from_is_err_and c.from_residual-in_err-write_row.result
     c.from_residual-in_err-write_row.ensures.1 in
-    rw (same, is) (row_failed g here c.in_ok-filled.filled row.fills (had_line _ c.if-not-filled.false) row.wrote
-    row.write_failed c.write_row.ensures.wrote c.in_err-write_row.ensures.fault)
+    rw (same, is) (row_failed g here c.in_ok-filled.filled row.fills
+    (sym (not-not _) ∙ ap not c.if-not-filled.false) row.wrote row.write_failed c.write_row.ensures.wrote c.in_err-write_row.ensures.fault)
 
 pub rows-smaller : goal.rows-smaller
 rows-smaller g c =
     let here = (goal.at.rows-smaller g c).After-fill_row in
     omega (
       arith,
-      (amid g here c.in_ok-filled.filled c.in_ok-filled.ensures.fills).filled.less (had_line _ c.if-not-filled.false),
+      (amid g here c.in_ok-filled.filled c.in_ok-filled.ensures.fills).filled.less
+          (sym (not-not _) ∙ ap not c.if-not-filled.false),
       (rows g here).rows.least,
       c.write_shared_rows.ensures.rows.rows.least,
     )
@@ -238,6 +231,6 @@ rows-preserved g c =
     let here = (goal.at.rows-preserved g c).After-fill_row in
     let row = c.in_ok-filled.ensures in
     record {
-      invariant_holds = row_more g here c.in_ok-filled.filled row.fills (had_line _ c.if-not-filled.false) row.wrote
-          row.write_failed c.write_row.ensures.wrote c.in_ok-write_row.ensures.clean;
+      invariant_holds = row_more g here c.in_ok-filled.filled row.fills
+          (sym (not-not _) ∙ ap not c.if-not-filled.false) row.wrote row.write_failed c.write_row.ensures.wrote c.in_ok-write_row.ensures.clean;
     }

@@ -6,6 +6,8 @@ use Rattle.ptflow.proofs.Common.{push_past_failure, push_trans, RowShape, after_
 use Rattle.std.proofs.lemmas.List.{length-take}
 use Rattle.ptflow.proofs.Passes.Prefix.{push_failed}
 use Rattle.ptflow.proofs.PasteLemmas.RowsTaken.{cells_text-append, cells_text-push}
+use Rattle.ptflow.proofs.tools.paste.write_row.Goals.{After-write_slot}
+use Rattle.ptflow.proofs.tools.paste.write_row.Given as given
 use Rattle.ptflow.proofs.tools.paste.write_row.Goals as goal
 
 module _ (row : RowShape) (first : ℕ) (lines : List (List ℕ)) where
@@ -44,10 +46,6 @@ module _ (row : RowShape) (first : ℕ) (lines : List (List ℕ)) where
         ),
       )
 
-part_of_row : (front before piece rest : List ℕ) {next all : List ℕ} → next ≡ before ++ piece → all ≡ next ++ rest
-    → ((front ++ before) ++ piece) ++ rest ≡ front ++ all
-part_of_row front before piece rest a b = rw (b, a) (simp append_assoc)
-
 pub returns-in_err-push : goal.returns-in_err-push
 returns-in_err-push g c =
     let (fault, same, is) = err_from_is_err_and c.from_residual.result c.from_residual.ensures.1 in
@@ -67,45 +65,49 @@ loop-column-init g c =
       within = c.requires.within;
     }
 
+module _ (g : given.Over) (c : After-write_slot g) where
+  -- The text before this column.
+  abbrev text : ℕ → List ℕ
+  text k = take c.args.begun.end c.args.into.now
+      ++ text_to (shape_of c.args.row) c.args.begun.count c.args.store.now.lines k
+
+  over : c.args.begun.count ≤ c.loop-column.column
+  over = omega (arith, c.loop-column.auto.column)
+
+  wrote_more : PushEffect c.args.out.now c.write_slot.new.out (text (c.loop-column.column + 1))
+  wrote_more =
+      let row = shape_of c.args.row in
+      let lines = c.args.store.now.lines in
+      let k = c.loop-column.column in
+      let piece = get_or lines k [] ++ after_cell row k in
+      let more : text (k + 1) ≡ text k ++ piece = cc (
+        text_more row c.args.begun.count lines k over (omega (arith, c.loop-column-test.true, c.requires.slots)),
+        append_assoc (take c.args.begun.end c.args.into.now) (text_to row c.args.begun.count lines k) piece,
+      ) in
+      rw more (push_trans c.args.out.now c.loop-column.out c.write_slot.new.out (text k) piece
+      c.loop-column.invariant.clean c.loop-column.invariant.wrote c.write_slot.ensures.wrote)
+
 pub returns-in_err-write_slot : goal.returns-in_err-write_slot
 returns-in_err-write_slot g c =
     let (fault, same, is) = err_from_is_err_and c.from_residual-in_err-write_slot.result
     c.from_residual-in_err-write_slot.ensures.1 in
+    let here = (goal.at.returns-in_err-write_slot g c).After-write_slot in
     let row = shape_of c.args.row in
-    let size = length row.cells in
-    let first = c.args.begun.count in
     let lines = c.args.store.now.lines in
-    let k = c.loop-column.column in
-    let front = take c.args.begun.end c.args.into.now in
-    let before = text_to row first lines k in
-    let piece = get_or lines k [] ++ after_cell row k in
-    let over : first ≤ k = omega (arith, c.loop-column.auto.column) in
-    let more = text_more row first lines k over (omega (arith, c.loop-column-test.true, c.requires.slots)) in
-    let (rest, all) = text_rest row first lines (k + 1) size (omega (arith, over)) (omega
+    let first = c.args.begun.count in
+    let next = c.loop-column.column + 1 in
+    let (rest, all) = text_rest row first lines next (length row.cells) (omega (arith, over g here)) (omega
     (arith, c.loop-column-test.true)) c.requires.slots in
-    let wrote = push_trans c.args.out.now c.loop-column.out c.write_slot.new.out (front ++ before) piece
-    c.loop-column.invariant.clean c.loop-column.invariant.wrote c.write_slot.ensures.wrote in
-    push_failed same
-    (subst (PushEffect c.args.out.now c.write_slot.new.out) (part_of_row front before piece rest more all)
-    (push_past_failure c.args.out.now c.write_slot.new.out ((front ++ before) ++ piece) rest
-    c.in_err-write_slot.ensures.fault wrote)) c.in_err-write_slot.ensures.fault
+    let split : text g here (length row.cells) ≡ text g here next ++ rest = cc (
+      all,
+      append_assoc (take c.args.begun.end c.args.into.now) (text_to row first lines next) rest,
+    ) in
+    push_failed same (rw split (push_past_failure c.args.out.now c.write_slot.new.out (text g here next) rest
+    c.in_err-write_slot.ensures.fault (wrote_more g here))) c.in_err-write_slot.ensures.fault
 
 pub loop-column-preserved : goal.loop-column-preserved
-loop-column-preserved g c =
-    let row = shape_of c.args.row in
-    let first = c.args.begun.count in
-    let lines = c.args.store.now.lines in
-    let k = c.loop-column.column in
-    let front = take c.args.begun.end c.args.into.now in
-    let before = text_to row first lines k in
-    let piece = get_or lines k [] ++ after_cell row k in
-    let over : first ≤ k = omega (arith, c.loop-column.auto.column) in
-    let more = text_more row first lines k over (omega (arith, c.loop-column-test.true, c.requires.slots)) in
-    record {
-      wrote = subst (PushEffect c.args.out.now c.write_slot.new.out)
-          (append_assoc front before piece ∙ ap (λ (l : List ℕ). front ++ l) (sym more))
-          (push_trans c.args.out.now c.loop-column.out c.write_slot.new.out (front ++ before) piece
-          c.loop-column.invariant.clean c.loop-column.invariant.wrote c.write_slot.ensures.wrote);
-      clean = c.in_ok-write_slot.ensures.clean;
-      within = omega (arith, c.loop-column-test.true);
-    }
+loop-column-preserved g c = record {
+  wrote = wrote_more g (goal.at.loop-column-preserved g c).After-write_slot;
+  clean = c.in_ok-write_slot.ensures.clean;
+  within = omega (arith, c.loop-column-test.true);
+}

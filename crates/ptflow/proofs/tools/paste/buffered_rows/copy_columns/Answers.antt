@@ -1,6 +1,6 @@
 -- Each step copies the field of one more column and the byte after it. It ends at a field that cannot be copied, and
 -- then nothing was consumed.
-use Rattle.ptflow.proofs.Common.{◌≡◌, ◌+◌, ◌%◌, ℕ, length, take, set, get_or, refl, ◌∙◌, ap, arith, set-get_or}
+use Rattle.ptflow.proofs.Common.{◌≡◌, length, take, set, get_or, refl, ◌∙◌, ap, arith, set-get_or}
 use Rattle.ptflow.proofs.Common.{mod-add-mod}
 use Rattle.std.proofs.lemmas.List.{take_more_set}
 use borrow.Author.Rules.{scaled_Fits}
@@ -42,8 +42,7 @@ cells-preserved g c =
       within = omega (arith, c.cells-test.true);
       grows = omega (arith, inv.grows, c.in-Some.ensures.size_bound, c.copy_option-end.ensures.size_bound);
       size_bound = omega (arith, c.in-Some.ensures.size_bound, c.copy_option-end.ensures.size_bound);
-      at = c.next_index-index.ensures ∙ ap (λ (k : ℕ). (k + 1) % length c.args.row.delims.now) inv.at
-          ∙ mod-add-mod n (length c.args.row.delims.now) 1;
+      at = cc (c.next_index-index.ensures, inv.at, mod-add-mod n (length c.args.row.delims.now) 1);
       buffer_size = c.copy_option-end.array_long;
     }
 

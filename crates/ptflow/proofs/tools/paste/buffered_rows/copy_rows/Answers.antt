@@ -1,14 +1,11 @@
 -- Each step copies one more row. The loop ends at a row that is not complete.
-use Rattle.ptflow.proofs.Common.{◌≡◌, Bool, true, false, not, [], refl, sym, arith}
+use Rattle.std.proofs.Math.Bool.{not-not}
+use Rattle.ptflow.proofs.Common.{◌∙◌, ap, not, [], sym, arith}
 use Rattle.ptflow.proofs.PasteLemmas.FillRow.{fill_starts}
 use Rattle.ptflow.proofs.PasteLemmas.RowsTaken.{rows_taken_none}
 use Rattle.ptflow.proofs.PasteLemmas.BufferedRows.{consumed_none, consumed_trans, still_readable, rows_and_begun}
 use Rattle.ptflow.proofs.PasteLemmas.BufferedRows.{rows_more}
 use Rattle.ptflow.proofs.tools.paste.buffered_rows.copy_rows.Goals as goal
-
-has_line : (any_line : Bool) → not any_line ≡ false → any_line ≡ true
-has_line true same = refl
-has_line false same = sym same
 
 pub rows-init : goal.rows-init
 rows-init g c = record {
@@ -31,14 +28,15 @@ returns-then-begun-row-clause-rows g c =
 
 pub rows-smaller : goal.rows-smaller
 rows-smaller g c = (c.copy_columns-begun.ensures.cells.filled c.rows.readers [] fill_starts).less
-    (has_line _ c.if-not-begun.false)
+    (sym (not-not _) ∙ ap not c.if-not-begun.false)
 
 pub rows-preserved : goal.rows-preserved
 rows-preserved g c =
     let p = c.copy_columns-begun.ensures.cells in
     record {
       rows = rows_more c.rows.invariant.rows (still_readable c.rows.invariant.consumed c.requires) p
-          (omega (arith, c.if-begun-row.false, c.copy_columns-begun.ensures.within)) (has_line _ c.if-not-begun.false);
+          (omega (arith, c.if-begun-row.false, c.copy_columns-begun.ensures.within))
+          (sym (not-not _) ∙ ap not c.if-not-begun.false);
       consumed = consumed_trans c.rows.invariant.consumed p.consumed;
       size_bound = c.copy_columns-begun.result.size_bound;
       buffer_size = omega (arith, c.copy_columns-begun.auto.into, c.rows.invariant.buffer_size);

@@ -1,9 +1,10 @@
--- As many terminators as were skipped follow the offset `at`.
-use Rattle.ptflow.proofs.Common.{◌≡◌, ◌+◌, ◌≤◌, length, take, count_by, is_byte}
+-- As many terminators as were found are at or after the offset `at`, and one is there if any was found.
+use Rattle.ptflow.proofs.Common.{◌≡◌, ◌+◌, ◌<◌, ◌≤◌, get_or, length, take, count_by, is_byte}
 use Rattle.ptflow.proofs.tools.paste.shared_input.rows_end.Given as goal
 
-abbrev pub invariant-loop-skipped : goal.invariant-loop-skipped
-invariant-loop-skipped l = record {
+abbrev pub invariant-loop-found : goal.invariant-loop-found
+invariant-loop-found l = record {
+  counted : count_by (is_byte l.terminator) (take l.at l.bytes) + l._found ≡ count_by (is_byte l.terminator) l.bytes;
   within : l.at ≤ length l.bytes;
-  counted : count_by (is_byte l.terminator) (take l.at l.bytes) + l._skipped ≡ count_by (is_byte l.terminator) l.bytes;
+  found : 0 < l._found → (l.at < length l.bytes) × (get_or l.bytes l.at 0 ≡ l.terminator);
 }

@@ -1,7 +1,8 @@
 -- The terminator that was held back comes first. Then a block is its bytes up to the last one, and the last one.
 use Rattle.ptflow.proofs.Common.{◌≡◌, ◌+◌, ◌-◌, ◌<◌, ◌++◌, ℕ, Bool, true, false, cond, List, [], ◌∷◌, length, take}
 use Rattle.ptflow.proofs.Common.{get_or, refl, sym, ◌∙◌, ap, arith, append_assoc, take_more, take_all, take_more_set}
-use Rattle.ptflow.proofs.Common.{from_bool, eq-eqb, ne_eqb, byte_eq, mod-lt, count_by, is_byte, serial_rest, row_rest}
+use Rattle.ptflow.proofs.Common.{from_bool, mod-lt, count_by, is_byte, serial_rest, row_rest}
+use Rattle.ptflow.proofs.Common.{Option, ◌==◌, not, set, eqb-true, take-set}
 use Rattle.std.proofs.lemmas.List.{length-take}
 use Rattle.ptflow.proofs.PasteLemmas.SerialRest.{copied_on, row_byte}
 use Rattle.ptflow.proofs.tools.paste.serial.SerialFormat.copy_block.Goals.{After-copy_cells-end}
@@ -40,27 +41,32 @@ module _ (c : After-copy_cells-end) (more : List ℕ) where
       second.later (rw (sym second.later) at (mod-lt (c.copy_cells-at.result.1 + count_by (is_byte end) bytes) some))
       (rw (sym first.later) at (mod-lt (c.args.cell.index + count_by (is_byte end) held) some))
 
-pub returns-then-complete-clause-copied : goal.returns-then-complete-clause-copied
-returns-then-complete-clause-copied c = λ more.
-    let end = c.args.self.now.terminator in
-    copied (goal.at.returns-then-complete-clause-copied c).After-copy_cells-end more
-    ∙ rw (eq-eqb _ end c.if-complete.true, byte_eq end) refl
+-- The last byte is put after the copy, and counted unless it is a terminator.
+last_copied : (end : ℕ) (delims : List (Option ℕ)) (number last : ℕ) (more into : List ℕ) {at size : ℕ}
+    → at < length into → (t : Bool) → (last == end) ≡ t → size ≡ from_bool (not t)
+    → take at into ++ row_rest end delims number (last ∷ more)
+    ≡ take (at + size) (set into at last) ++ row_rest end delims number (cond t (end ∷ more) more)
+last_copied end delims number last more into {at} {size} low true is none =
+    let same : at + size ≡ at = omega (arith, none) in cc (same, take-set into at last, eqb-true last end is)
+last_copied end delims number last more into {at} {size} low false is one =
+    let next : at + size ≡ at + 1 = omega (arith, one) in
+    cc (
+      next,
+      take_more_set into at last low,
+      row_byte end delims number last more is,
+      append_assoc (take at into) (last ∷ []) (row_rest end delims number more),
+    )
 
 pub returns-clause-copied : goal.returns-clause-copied
 returns-clause-copied c = λ more.
-    let end = c.args.self.now.terminator in
-    let delims = c.args.self.now.delims.now in
-    let last = get_or c.args.block.now (length c.args.block.now - 1) 0 in
-    let other = ne_eqb last end c.if-complete.false in
-    let front = take c.copy_cells-end.result.0 c.copy_cells-end.new.into in
-    let low : c.copy_cells-end.result.0 < length c.copy_cells-end.new.into =
-    omega (
+    let block = c.args.block.now in
+    let last = get_or block (length block - 1) 0 in
+    let low : c.copy_cells-end.result.0 < length c.copy_cells-end.new.into = omega (
       arith,
       c.copy_cells-end.array_long,
-      length-take c.from-size.result (end ∷ []),
-      length-take (length c.args.block.now - 1) c.args.block.now,
+      length-take c.from-size.result (c.args.self.now.terminator ∷ []),
+      length-take (length block - 1) block,
     ) in
     copied (goal.at.returns-clause-copied c).After-copy_cells-end more
-    ∙ ap (◌++◌ front) (row_byte end delims c.copy_cells-end.result.1 last more other)
-    ∙ rw (other, take_more_set c.copy_cells-end.new.into c.copy_cells-end.result.0 last low)
-    (sym (append_assoc front (last ∷ []) (row_rest end delims c.copy_cells-end.result.1 more)))
+    ∙ last_copied c.args.self.now.terminator c.args.self.now.delims.now c.copy_cells-end.result.1 last more
+    c.copy_cells-end.new.into low (last == c.args.self.now.terminator) refl c.from.ensures

@@ -1,5 +1,6 @@
 -- The copy of `rest` is still to be appended, and each of its bytes has room.
-use Rattle.ptflow.proofs.Common.{◌≡◌, ◌<◌, ◌≤◌, ◌+◌, ◌%◌, ◌++◌, length, take, count_by, is_byte, delimiter, with_replacements}
+use Rattle.ptflow.proofs.Common.{◌≡◌, ◌<◌, ◌≤◌, ◌+◌, ◌%◌, ◌++◌, length, take, count_by, is_byte, delimiter}
+use Rattle.ptflow.proofs.Common.{with_replacements}
 use Rattle.ptflow.proofs.tools.paste.serial.SerialFormat.copy_cells_slow.Given as goal
 
 abbrev pub invariant-pieces : goal.invariant-pieces
