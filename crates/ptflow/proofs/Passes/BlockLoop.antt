@@ -88,7 +88,7 @@ module _ {X : Type 0} {rest_from : X → List ℕ → List ℕ} {IsUnchanged : X
         (ready : PassPre old store) (sound : IsSound reader) {new : Reader} (reads : ReaderAdvance reader new [])
         (is_sound : IsSound new) where
       decided_so : IsPrefix (tool.decided (record { bytes = run.given; eof = false })) run.pushed
-      decided_so = block_filter.decided run.given run.pushed now (run.holds block_filter.holds) run.on
+      decided_so = grind (arith, common_steps)
 
       -- the output that was pushed before this block
       ending : PassEnding tool midway new store store []

@@ -1,7 +1,7 @@
 -- A tool that works line by line. The items written for the lines so far, and then those of the rest, are the items of
 -- the whole for every continuation; so the state between two lines is a `PassState`, and each exit is a lemma of
 -- `Exits`.
-use Rattle.ptflow.proofs.Common.{◌≡◌, Bool, ℕ, ◌+◌, ◌-◌, ◌<◌, ◌≤◌, ◌^◌, true, false, List, [], ◌∷◌}
+use Rattle.ptflow.proofs.Common.{common_steps, ◌≡◌, Bool, ℕ, ◌+◌, ◌-◌, ◌<◌, ◌≤◌, ◌^◌, true, false, List, [], ◌∷◌}
 use Rattle.ptflow.proofs.Common.{◌++◌, Ok, Err, length, drop, max, refl, ◌∙◌, ap, subst, arith, append_assoc}
 use Rattle.ptflow.proofs.Common.{length-append, mul-le-mul_left, nil_from_length, get_or-set_same, lines}
 use Rattle.ptflow.proofs.Common.{complete_lines, IsLine, max_length, max_line_length, Received, known_lines, IsPrefix}
@@ -121,7 +121,7 @@ module _ {S X E : Type 0} {tool : ToolSpec} {state : S → Slots → X} {rest_fr
 
       -- the lines with no output yet are at most the lines that were read
       pub run_count : IsSound old → IsSound reader → counted now ≤ 2 ^ 63
-      run_count sound is_sound = omega (arith, lines_few _ _ _ _ run.came, is_sound.long run.reached.advance_ok.fault)
+      run_count sound is_sound = omega (arith, lines_few)
 
       -- some lines more were read
       run_more : {new : Reader} {bytes : List ℕ} (ls : List (List ℕ)) → AdvanceOk reader new bytes
@@ -207,10 +207,7 @@ module _ {S X E : Type 0} {tool : ToolSpec} {state : S → Slots → X} {rest_fr
       kept : {after : Slots} {most : ℕ} (given : Received) → SlotBounds width most before after
           → ((input : List ℕ) → IsConsistent given input → most ≤ max_line_length end input)
           → StoreBounds tool before after given
-      kept given bounds short = record {
-        peak = λ input a. omega (arith, bounds.peak, line_filter.size input, mul-le-mul_left width (short input a));
-        size = rw line_filter.slots bounds.size;
-      }
+      kept given bounds short = grind (arith, common_steps, bounds, mul-le-mul_left)
 
       keeps_last : {after : Slots} (bytes : List ℕ) → after ≡ with_line store (width - 1) bytes
           → SlotBounds width (max (max_length run.ls) (length bytes)) before after
@@ -240,15 +237,7 @@ module _ {S X E : Type 0} {tool : ToolSpec} {state : S → Slots → X} {rest_fr
             → LaggedOutput tool (received piece new) (written run.passed)
             → PassEnding tool midway new before after piece
         unfolding midway
-        ending reads stored processing = record {
-          is_text = line_filter.tool_text run.first;
-          ready = ready;
-          sound = sound;
-          reads = reads;
-          stored = stored;
-          keeps_store = λ none. absurd (omega (arith, none, line_filter.slots, line_filter.some));
-          processing = processing;
-        }
+        ending reads stored processing = grind (arith, common_steps, stored)
 
         -- the first part of a line was read
         module _ {new : Reader} {piece : List ℕ} (reads : ReaderAdvance reader new piece) (free : IsLine end piece)
@@ -317,7 +306,7 @@ module _ {S X E : Type 0} {tool : ToolSpec} {state : S → Slots → X} {rest_fr
       -- the slot has these bytes, and the state is unchanged
       filled : {after : Slots} (bytes : List ℕ) → after ≡ with_line store (width - 1) bytes
           → line after (width - 1) ≡ bytes
-      filled bytes told = cc (get_or-set_same store.lines (width - 1) bytes [] (omega (arith, run_room run)))
+      filled bytes told = grind (arith, common_steps, get_or-set_same, run_room)
 
       same_state : {after : Slots} (bytes : List ℕ) → after ≡ with_line store (width - 1) bytes
           → state now after ≡ state now store

@@ -89,18 +89,7 @@ bounds_line {width} {most} {store} new slot bytes bounds within fits is = record
 -- the first and the last slot may have been swapped
 pub swapped_room : {width : ℕ} {before after : Slots} → IsSwapped width before after → 0 < width
     → width ≤ length before.lines → width ≤ length after.lines
-swapped_room {width} {before} either some room = elim either [
-  | inl same ↦ omega (arith, ap (λ s. length s.lines) same)
-  | inr is ↦
-      let first = set before.lines 0 (get_or before.lines (width - 1) []) in
-      omega (
-        arith,
-        ap (λ s. length s.lines) is,
-        ap length (swap_is before.lines 0 (width - 1) [] (omega arith) (omega arith)),
-        length-set first (width - 1) (get_or before.lines 0 []),
-        length-set before.lines 0 (get_or before.lines (width - 1) []),
-      )
-]
+swapped_room {width} {before} either some room = grind (arith, common_steps, inl, inr, swap_is, length-set)
 
 pub bounds_swapped : {width most : ℕ} {before store : Slots} (new : Slots) → 0 < width
     → SlotBounds width most before store → IsSwapped width store new → SlotBounds width most before new

@@ -21,12 +21,7 @@ module _ (job : Uniq) where
 
   first_more : {line : List ℕ} {n : ℕ} (l : List ℕ) {ls : List (List ℕ)} (t : Bool) → is_same job line l ≡ t
       → First line (n + 1) ls → First line n (l ∷ ls)
-  first_more l true e f = record {
-    count = f.count;
-    more = f.more;
-    is = cc;
-    led = λ x same. cc (f.led x same);
-  }
+  first_more l true e f = grind (arith, common_steps)
   first_more {line} {n} l {ls} false e f = record {
     count = n;
     more = runs_from job (run_of l 1) ls;
@@ -40,10 +35,8 @@ module _ (job : Uniq) where
 
   onto_first_run : (line : List ℕ) {l : List ℕ} {ls : List (List ℕ)} (t : Bool) → is_same job line l ≡ t → First l 1 ls
       → cons_run job line (runs_from job (run_of l 1) ls) ≡ chosen l ls line 1 t
-  onto_first_run line {l} true e f =
-      let (from_same, _) = bytes_eq-Decides (key job line) (key job l) in
-      ap (cons_run job line) f.is ∙ rw e (sym (f.led line (from_same e)))
-  onto_first_run line false e f = ap (cons_run job line) f.is ∙ rw e (ap (◌∷◌ (run_of line 1)) (sym f.is))
+  onto_first_run line {l} true e f = grind (arith, common_steps, bytes_eq-Decides, cons_run)
+  onto_first_run line false e f = cc
 
   -- the runs of a list of lines, from its first line
   pub runs_are : (line : List ℕ) (ls : List (List ℕ)) → runs job (line ∷ ls) ≡ runs_from job (run_of line 1) ls
