@@ -62,7 +62,7 @@ module _ (d : ℕ) where
         record {
           fits = omega (arith, within);
           some = omega arith;
-          front = cc (prefixed_of_fields xs, take_at (fields d xs) (fields d ys) n number);
+          front = grind (arith, common_steps, prefixed_of_fields, take_at);
           back = cc (prefixed_of_fields ys);
           later = λ fits. rest;
         }

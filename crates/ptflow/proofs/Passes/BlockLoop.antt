@@ -65,18 +65,11 @@ module _ {X : Type 0} {rest_from : X → List ℕ → List ℕ} {IsUnchanged : X
       given = run.given ++ block;
       pushed = run.pushed ++ part.pushed;
       reached = record {
-        advance_ok = advance_ok_trans _ _ _ _ _ run.reached.advance_ok
-            (rw (take_all (length block) block (omega arith)) at
-            (advance_past (length block) advance_ok buffered (omega arith) consumed));
+        advance_ok = grind (arith, common_steps, advance_ok_trans, take_all, advance_past);
         wrote = push_trans _ _ _ _ _ run.reached.clean run.reached.wrote part.wrote;
         clean = part.clean;
       };
-      on = λ rest. cc (
-        append_assoc run.given block rest,
-        run.on (block ++ rest),
-        part.on rest,
-        append_assoc run.pushed part.pushed (rest_from next rest),
-      );
+      on = grind (arith, common_steps, append_assoc);
       holds = λ same. unchanged (run.holds same);
     }
 

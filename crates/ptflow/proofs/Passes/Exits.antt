@@ -140,11 +140,9 @@ module _ {X : Type 0} {rest_from : X → List ℕ → List ℕ} {start now : X} 
       reads = λ u read. advanced;
       untouched = λ u unread. cc;
       never_failed = λ u read. never_failed;
-      writable = false_from_ne_true was.write_failed
-          (λ fault. cc (midway.reached.wrote.stays fault, midway.reached.clean));
+      writable = grind (arith, common_steps, false_from_ne_true);
       wrote = push_trans _ _ _ _ _ midway.reached.clean midway.reached.wrote wrote;
-      is_prefix = λ texts a. let front = begins (a tt refl).rest (a tt refl).whole in
-          record { rest = front.rest; is = cc (text_of (a tt refl), append_assoc midway.pushed bytes front.rest) };
+      is_prefix = grind (arith, common_steps, text_of, append_assoc);
       bounded_lag = λ u read.
           bounded_lag_after _ _ _ _ _ p.processing midway.reached.wrote midway.reached.clean is' bytes wrote;
       peak = λ texts a. p.stored.peak (texts tt) (a tt refl);
@@ -185,7 +183,7 @@ module _ {X : Type 0} {rest_from : X → List ℕ → List ℕ} {start now : X} 
       (record {
         named = refl;
         unfailed = never_failed;
-        cause = ⊎_elim inl (λ (many, same). inr (many, same_failed same)) cause;
+        cause = grind (arith, common_steps, same_failed);
         others = λ u read differs. absurd (differs refl);
         clean = midway.reached.clean;
         not_denied = not_denied;
@@ -202,7 +200,7 @@ module _ {X : Type 0} {rest_from : X → List ℕ → List ℕ} {start now : X} 
         denied = denied;
         unfailed = λ u read. same_failed same;
         clean = midway.reached.clean;
-        left = λ enough. inl (tt, refl, λ done. omega (arith, left, ap length done.buffered));
+        left = grind (arith, common_steps);
       })
       tt (λ index is. cc)
 
@@ -221,7 +219,7 @@ module _ {X : Type 0} {rest_from : X → List ℕ → List ℕ} {start now : X} 
         → PassPost tool old new was is' before store (Ok tt)
     pass_done clean fault short empty = pass wrote all_of_it (Ok tt)
         (record {
-          out = λ texts a. cc (text_of (a tt refl), nothing_left (a tt refl).rest (a tt refl).whole);
+          out = grind (arith, common_steps, text_of, nothing_left);
           disorder = λ texts a. refl;
           ended = λ complete u read. done;
           fault = λ u read. fault;

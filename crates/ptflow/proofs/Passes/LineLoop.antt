@@ -141,15 +141,9 @@ module _ {S X E : Type 0} {tool : ToolSpec} {state : S → Slots → X} {rest_fr
           clean = processed.clean run.reached.clean;
         };
         first = run.first;
-        on = λ more.
-            cc (
-              append_assoc run.ls ls more,
-              run.on (ls ++ more),
-              processed.on more,
-              append_assoc run.passed processed.passed (rest_from next more),
-            );
+        on = grind (arith, common_steps, append_assoc);
         count = omega (arith, length-append run.ls ls);
-        keeps = bounds_weaker (max_length (run.ls ++ ls)) keeps (omega (arith, max_length-append run.ls ls));
+        keeps = grind (arith, common_steps, bounds_weaker, max_length-append);
       }
 
       -- the lines of a block were read and consumed

@@ -70,8 +70,8 @@ module _ (end : ℕ) where
   taken_more {rest} size texts taken =
       let front = take size rest in record {
         front = taken.front ++ front;
-        split = cc (take-append-drop size rest, append_assoc taken.front front (drop size rest));
-        texts = cc (texts, append_assoc taken.front front (unlines end (complete_lines end (drop size rest))));
+        split = grind (arith, common_steps, take-append-drop, append_assoc);
+        texts = grind (arith, common_steps, append_assoc);
       }
 
   -- no complete line is left

@@ -115,7 +115,7 @@ module _ {end : ℕ} {now new : Reader} {given : List ℕ} {ls : List (List ℕ)
         short = omega (arith, length-append (drop n line) behind, length-drop n line);
         eof = λ never. absurd (false≢true never);
       };
-      whole = cc (complete_lines_of_unlines end ls (take n line) are (line_take end n line whole));
+      whole = grind (arith, common_steps, complete_lines_of_unlines, line_take);
     }
     | inr (same, done) ↦ let none = eof_gives_nothing _ _ _ done reads in record {
       before = record {

@@ -43,7 +43,7 @@ pub bounds_start : {width : ℕ} {before store : Slots} → AddedSlots before st
 bounds_start {width} {store} adds denied empty peak = record {
   denied = denied;
   size = adds.all denied;
-  short = λ k low. omega (arith, get_or-le-sum_by length store.lines k [] (omega (arith, low, adds.all denied)));
+  short = grind (arith, common_steps, get_or-le-sum_by);
   others = omega (arith, total_split width store.lines);
   peak = omega (arith, peak);
 }
@@ -129,12 +129,7 @@ bounds_cleared {width} {most} {store} {new} bounds some last cleared = (
     denied = cc;
     size = cleared.size ∙ bounds.size;
     short =
-        λ i low. omega (
-          arith,
-          none,
-          get_or-le-sum_by length new.lines i []
-              (omega (arith, bounds.size)),
-        );
+        grind (arith, common_steps, get_or-le-sum_by);
     others = omega (arith, none, total_split width new.lines);
     peak = omega (arith, bounded_total width most store.lines bounds.short bounds.others);
   },

@@ -101,7 +101,7 @@ module _ (job : Uniq) (first : List ℕ) (count : ℕ) {block : List ℕ} {line 
         pushed = [];
         wrote = push_nothing out;
         all = cc (span_join pre.pending_in fits touch, due_is);
-        span = record { ordered = omega (arith, pre.pending_in.ordered, line_in.some); within = line_in.within };
+        span = omega arith;
       }
 
 module _ {bytes block : List ℕ} {pending : Span} {was is : Output} (waits : IsPending bytes block pending was is)
@@ -111,10 +111,7 @@ module _ {bytes block : List ℕ} {pending : Span} {was is : Output} (waits : Is
   pending_then {now} next = record {
     pushed = waits.pushed ++ next.pushed;
     wrote = wrote_then _ _ _ waits.wrote next.wrote;
-    all = cc (
-      append_assoc waits.pushed next.pushed (span_of block now),
-      append_assoc waits.pushed (span_of block pending) more,
-    );
+    all = grind (arith, common_steps, append_assoc);
     span = next.span;
   }
 
@@ -198,9 +195,9 @@ runs_loop_starts job first block {start} some run_key_is was = record {
   lies = record { lines = refl; bytes = refl };
   passed = [];
   steps = steps_none job (run_of first start);
-  waits = record { pushed = []; wrote = push_nothing was; all = refl; span = span_nothing };
+  waits = grind (arith, common_steps, push_nothing, span_nothing);
   run_key_is = run_key_is;
-  ready = record { pending_in = span_nothing; line_in = tt; none = λ _. refl };
+  ready = grind (arith, common_steps, span_nothing, line_in);
   some = some;
 }
 
@@ -257,11 +254,7 @@ module _ {job : Uniq} {first block rest : List ℕ} {start count : ℕ} {line : 
             steps = rw line_is steps;
             waits = rw entries (pending_then so_far.waits (run_text job run) waits);
             run_key_is = cc;
-            ready = record {
-              pending_in = waits.span;
-              line_in = next_span so_far.lies at found from to from_is to_is;
-              none = λ none. cc;
-            };
+            ready = grind (arith, common_steps, line_in, next_span);
             some = omega arith;
           }
 

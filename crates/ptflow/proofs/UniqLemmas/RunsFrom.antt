@@ -26,7 +26,7 @@ module _ (job : Uniq) where
     count = n;
     more = runs_from job (run_of l 1) ls;
     is = ap (chosen l ls line n) e;
-    led = λ x same. ap (chosen l ls x (n + 1)) (ap (λ k. bytes_eq k (key job l)) same ∙ e);
+    led = λ x same. cc;
   }
 
   first : (line : List ℕ) (n : ℕ) (ls : List (List ℕ)) → First line n ls

@@ -179,15 +179,7 @@ module _ (p : ℕ → Bool) (bytes : List ℕ) where
     record {
       low = omega arith;
       high = within;
-      before = λ k low near passes.
-          let here : p (get_or (take at bytes) k 0) ≡ true = cc (get_or-take at bytes k 0 near) in
-          let one : cond {A = ℕ} (p (get_or (take at bytes) k 0)) 1 0 ≡ 1 = cc (here) in
-          omega (
-            arith,
-            one,
-            get_or-le-sum_by (λ b. cond (p b) 1 0) (take at bytes) k 0
-                (omega (arith, near, within, length-take-le at bytes (omega (arith, within)))),
-          );
+      before = λ k low near passes. grind (arith, common_steps, near, get_or-take, get_or-le-sum_by, length-take-le);
     },
     passes,
   )
@@ -276,5 +268,5 @@ module _ {d : ℕ} {block : List ℕ} {from all marked : ℕ} (n start : ℕ) (h
         near = close;
         order = in_order p block start _ fits is as_many;
         first = next_is p block start _ fits is as_many;
-        counted = omega (arith, one_after p block start _ fits is as_many, as_many, ends);
+        counted = grind (arith, common_steps, one_after);
       }
