@@ -1,7 +1,7 @@
 -- The selected fields of a line, in one pass. The fields of an interval, with the delimiter before each, are one slice
 -- of the line; so the output is these slices, the first without the delimiter before it.
 use Rattle.ptflow.proofs.Common.{common_steps, ◌≡◌, ℕ, zero, suc, Bool, true, false, cond, ◌+◌, ◌-◌, ◌<◌, ◌≤◌, List, [], ◌∷◌, ◌++◌}
-use Rattle.ptflow.proofs.Common.{length, take, drop, get_or, refl, sym, ◌∙◌, ap, arith, length-append, length-drop}
+use Rattle.ptflow.proofs.Common.{length, take, drop, get_or, refl, ap, arith, length-append, length-drop}
 use Rattle.ptflow.proofs.Common.{drop_all, drop_more, drop-drop, drop-take, drop-append-le, length-take-le, Cut}
 use Rattle.ptflow.proofs.Common.{cut_fields, join_with_byte, is_selected, AreSeparated, Interval, select_from, fields}
 use Rattle.ptflow.proofs.Common.{prefixed_fields, IsFieldOffset, IsFieldCursor, IsNextSlice, output_from_cursor, min}

@@ -2,7 +2,7 @@
 -- keys are in different runs, so no run is cut or merged.
 use Rattle.ptflow.proofs.Common.{common_steps, arith, ◌≡◌, ◌⊎◌, inl, inr, ⊎_elim, ℕ, ◌+◌, Bool, true, false, cond, List}
 use Rattle.ptflow.proofs.Common.{[], ◌∷◌, ◌++◌, refl, sym, ◌∙◌, ap, filter, AllByRecursion, cases_Bool}
-use Rattle.ptflow.proofs.Common.{bytes_eq-Decides, lines, IsLine, the_lines_of_parts, lines-unlines, lines_are, Uniq}
+use Rattle.ptflow.proofs.Common.{bytes_eq-Decides, the_lines_of_parts, lines-unlines, lines_are, Uniq}
 use Rattle.ptflow.proofs.Common.{Run, key, is_same, cons_run, runs, BeginsWith, EndsWith, HasGroupedKeys, UniqOfParts}
 use Rattle.ptflow.proofs.Common.{UniqByKey, run_of}
 use Rattle.std.specs.Prelude.{◌≢◌}

@@ -1,7 +1,7 @@
 -- The runs of some lines, from the first line on. A run that is continued by the first of some lines is one of their
 -- runs with a larger count.
-use Rattle.ptflow.proofs.Common.{◌≡◌, ℕ, ◌+◌, ◌&&◌, Bool, true, false, cond, List, [], ◌∷◌, ◌++◌, refl, sym, ◌∙◌, ap}
-use Rattle.ptflow.proofs.Common.{arith, common_steps, bytes_eq, nat_lt, nat_tests, append-nil, bytes_eq-Decides}
+use Rattle.ptflow.proofs.Common.{◌≡◌, ℕ, ◌+◌, ◌&&◌, Bool, true, false, cond, List, [], ◌∷◌, ◌++◌, refl, ap}
+use Rattle.ptflow.proofs.Common.{arith, common_steps, nat_lt, nat_tests, append-nil, bytes_eq-Decides}
 use Rattle.ptflow.proofs.Common.{IsPrefix, Uniq, Run, key, is_same, cons_run, runs, output_of, init, run_of}
 use Rattle.ptflow.proofs.Common.{current_run, runs_from, runs_after, run_output}
 

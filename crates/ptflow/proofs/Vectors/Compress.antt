@@ -6,7 +6,7 @@ use Rattle.ptflow.proofs.Common.{append_assoc, add-one, refl, sym, ◌∙◌, ap
 use Rattle.ptflow.proofs.Common.{range_with_len, mask_l, put_chunk, chunk, pick_l, Each1, take_more_put_chunk}
 use Rattle.ptflow.proofs.Common.{bit_mask_l, mask_l-lt, Each1-from_get_or, swz_l, ones-mask_l_cons}
 use Rattle.ptflow.proofs.Common.{pick_l-range_with_len, take-map, take-take, take_more, take_all, take-append-le}
-use Rattle.ptflow.proofs.Common.{drop-append-le, length-take-le, All-set, length-range_with_len, get_or-range_with_len}
+use Rattle.ptflow.proofs.Common.{drop-append-le, length-take-le, length-range_with_len, get_or-range_with_len}
 use Rattle.ptflow.proofs.Common.{take-append-add, and_numeral, nat_tests, pow-succ', select_by, true_indices}
 use Rattle.ptflow.proofs.Common.{IsCompressRow, IsCompressTable}
 use Rattle.std.proofs.Common.{length-set}
