@@ -28,7 +28,7 @@ module _ (end : ℕ) (selected : ℕ → Bool) where
   rest_onto : (line_offset b : ℕ) (ls : List (List ℕ))
       → cut_lines_from end selected line_offset (onto_first b ls) ≡ select_from selected (line_offset + 1) (b ∷ [])
       ++ cut_lines_from end selected (line_offset + 1) ls
-  rest_onto line_offset b [] = grind (arith, common_steps, nat_tests)
+  rest_onto line_offset b [] = grind arith
   rest_onto line_offset b (line ∷ ls) = grind arith
 
   select_onto : (n b : ℕ) (xs : List ℕ)
@@ -107,7 +107,8 @@ pub piece_next : (end : ℕ) (selected : ℕ → Bool) (line_offset : ℕ) (byte
     → cut_bytes_from end selected line_offset (bytes ++ more)
     ≡ (select_from selected (line_offset + 1) (take (length bytes) bytes) ++ drop (length bytes) bytes)
     ++ cut_bytes_from end selected (line_offset + length bytes) more
-piece_next end selected line_offset bytes whole more = grind (arith, common_steps, take_all, drop_all, rest_piece, end, append-nil)
+piece_next end selected line_offset bytes whole more =
+    grind (arith, common_steps, take_all, drop_all, rest_piece, end, append-nil)
 
 -- output that is extended by one step
 pub cut_next : (end : ℕ) (list : List Interval) (line_offset now next : ℕ) (from rest rest' old was : List ℕ)

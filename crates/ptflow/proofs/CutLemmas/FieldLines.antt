@@ -53,7 +53,7 @@ module _ (job : Cut) where
   pub cut_line_tool : {S : Type 0} (start : S) → job.fields ≡ true
       → IsLineFilter {S = S} {X = Unit {0}} {E = ℕ} (cut_tool job) (λ room store. tt) (cut_fields_from job)
       (λ bytes. bytes) (λ u. 1) 1 start
-  cut_line_tool start by_fields = grind (arith, common_steps, cut_sure, known_lines)
+  cut_line_tool start by_fields = grind (arith, cut_sure)
 
 -- ---- lines before others
 
@@ -101,14 +101,15 @@ module _ {job : Cut} {end : ℕ} {bytes : List ℕ} {size : ℕ} (some : 0 < siz
     (front : List (List ℕ)) (texts : unlines end front ≡ take size bytes)
     (lines_are : complete_lines end bytes ≡ front ++ complete_lines end (drop size bytes)) where
   puts : {old new : List ℕ} → new ≡ old ++ cut_lines job front → CopyLinesPost job end bytes size old new
-  puts {old} is = grind (arith, common_steps, lines_are, unlines-append, front, texts, append_assoc, cut_lines-append, cut_lines)
+  puts {old} is =
+      grind (arith, common_steps, lines_are, unlines-append, front, texts, append_assoc, cut_lines-append, cut_lines)
 
 module _ (job : Cut) (by_fields : job.fields ≡ true) {end : ℕ} (same : end ≡ job.terminator) (bytes : List ℕ) (to : ℕ)
     (first : IsFirstByte (is_byte end) bytes (Some to)) where
   -- one line, with this output
   pub puts_line : (out : List ℕ) {old new : List ℕ} → cut_line job (take to bytes) ≡ out ∷ [] → new ≡ old
       ++ (out ++ take 1 (drop to bytes)) → CopyLinesPost job end bytes (to + 1) old new
-  puts_line out is put = grind (arith, common_steps, puts, append-nil, take_with_terminator, ended_next, drop_at_terminator, line_written)
+  puts_line out is put = grind (arith, common_steps, ended_next)
 
   -- all complete lines before an index, none of which has the delimiter
   module _ {size up_to : ℕ} (high : to < size) (fits : size ≤ length bytes) (eof : get_or bytes (size - 1) 0 ≡ end)
@@ -136,15 +137,15 @@ module _ (job : Cut) (by_fields : job.fields ≡ true) {end : ℕ} (same : end �
     free_up_to {n} le = rw (take-take n up_to bytes le) at (free_prefix job.delimiter n (take up_to bytes) free)
 
     are_free : ((size ≡ to + 1) ⊎ (size ≤ up_to)) → AreLines job.delimiter front
-    are_free (inl one) = grind (arith, common_steps, front, take_with_terminator, complete_lines_cons, line_before_terminator, free_up_to)
+    are_free (inl one) = grind (arith, common_steps, complete_lines_cons, line_before_terminator, free_up_to)
     are_free (inr le) = free_lines job.delimiter end (take size bytes) (free_up_to le)
 
     pub puts_kept : {old new : List ℕ} → job.only ≡ false → new ≡ old ++ take size bytes
         → CopyLinesPost job end bytes size old new
-    puts_kept keeps put = grind (arith, common_steps, puts, front, texts, lines_are, lines_kept, are_free)
+    puts_kept keeps put = grind (arith, common_steps, texts, lines_are, lines_kept, are_free)
 
     pub puts_dropped : {old : List ℕ} → job.only ≡ true → CopyLinesPost job end bytes size old old
-    puts_dropped {old} only = grind (arith, common_steps, puts, front, texts, lines_are, lines_dropped, are_free, append-nil)
+    puts_dropped {old} only = grind (arith, common_steps, texts, lines_are, lines_dropped, are_free)
 
 -- before the first delimiter there is none
 pub free_before : (d : ℕ) (bytes : List ℕ) (r : Option ℕ) → IsFirstByte (is_byte d) bytes r

@@ -1,6 +1,7 @@
 -- The selected fields of a line, in one pass. The fields of an interval, with the delimiter before each, are one slice
 -- of the line; so the output is these slices, the first without the delimiter before it.
-use Rattle.ptflow.proofs.Common.{common_steps, ◌≡◌, ℕ, zero, suc, Bool, true, false, cond, ◌+◌, ◌-◌, ◌<◌, ◌≤◌, List, [], ◌∷◌, ◌++◌}
+use Rattle.ptflow.proofs.Common.{common_steps, ◌≡◌, ℕ, zero, suc, Bool, true, false, cond, ◌+◌, ◌-◌, ◌<◌, ◌≤◌, List, []}
+use Rattle.ptflow.proofs.Common.{◌∷◌, ◌++◌}
 use Rattle.ptflow.proofs.Common.{length, take, drop, get_or, refl, ap, arith, length-append, length-drop}
 use Rattle.ptflow.proofs.Common.{drop_all, drop_more, drop-drop, drop-take, drop-append-le, length-take-le, Cut}
 use Rattle.ptflow.proofs.Common.{cut_fields, join_with_byte, is_selected, AreSeparated, Interval, select_from, fields}
@@ -22,13 +23,13 @@ cursor_starts d line apart =
 -- all selected fields of a line are left, by the list of a job
 pub selected_remaining : (job : Cut) (list : List Interval) {d : ℕ} (line : List ℕ) → d ≡ job.delimiter
     → is_selected list ≡ job.selected → cut_fields job line ≡ output_from_cursor d list line line_start
-selected_remaining job list {d} line same selected = grind (arith, common_steps, join_with_byte, selected, join_prefixed)
+selected_remaining job list {d} line same selected = grind (arith, join_prefixed)
 
 module _ (d : ℕ) (all : List Interval) (line : List ℕ) (cursor : FieldCursor) where
   -- no selected field is left
   none_selected : select_from (is_selected (drop cursor.index all)) (cursor.passed + 1)
       (drop cursor.passed (fields d line)) ≡ [] → output_from_cursor d all line cursor ≡ []
-  none_selected none = grind (arith, common_steps, drop_all, prefixed_fields)
+  none_selected none = grind arith
 
   -- no interval is left
   pub no_interval : length all ≤ cursor.index → output_from_cursor d all line cursor ≡ []
@@ -142,7 +143,21 @@ module _ (d : ℕ) (all : List Interval) (line : List ℕ) (cursor : FieldCursor
             output : output_from_cursor d all line cursor
                 ≡ take ((at - 1) - (from - min cursor.index 1)) (drop (from - min cursor.index 1) line)
                 ++ output_from_cursor d all line next
-            output = grind (arith, common_steps, size, rest, rs, r, some, sep_fits, prefixed_fields, length-take-le, sep_drop, drop-take, these, selected, prefixed_fields-append, drop-append-le)
+            output =
+                grind (
+                  arith,
+                  common_steps,
+                  some,
+                  sep_fits,
+                  prefixed_fields,
+                  length-take-le,
+                  sep_drop,
+                  drop-take,
+                  these,
+                  selected,
+                  prefixed_fields-append,
+                  drop-append-le,
+                )
 
             one : min (cursor.index + 1) 1 ≡ 1
             one = omega arith

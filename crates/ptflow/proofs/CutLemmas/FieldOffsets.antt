@@ -1,6 +1,7 @@
 -- The fields of a line, and where they start. Each delimiter ends one field, so the rest of the fields, after the first
 -- n, starts after the n-th delimiter.
-use Rattle.ptflow.proofs.Common.{common_steps, ◌≡◌, ℕ, zero, suc, ◌+◌, ◌<◌, ◌==◌, ◌-◌, ◌≤◌, Bool, true, false, cond, List, [], ◌∷◌}
+use Rattle.ptflow.proofs.Common.{common_steps, ◌≡◌, ℕ, zero, suc, ◌+◌, ◌<◌, ◌==◌, ◌-◌, ◌≤◌, Bool, true, false, cond}
+use Rattle.ptflow.proofs.Common.{List, [], ◌∷◌}
 use Rattle.ptflow.proofs.Common.{◌++◌, length, take, drop, get_or, refl, sym, ◌∙◌, ap, arith, onto_first}
 use Rattle.ptflow.proofs.Common.{join_with_byte, append-nil, take-take, take-add, take_all, drop_all, take_at, drop_at}
 use Rattle.ptflow.proofs.Common.{drop_more, drop-drop, length-drop, length-take-le, take-append-drop, flat_map-append}
@@ -41,7 +42,7 @@ module _ (d : ℕ) where
 
   module _ (line : List ℕ) where
     pub offset_start : IsFieldOffset d 0 line 0
-    offset_start = grind (arith, common_steps, prefixed_of_fields)
+    offset_start = grind (arith, prefixed_of_fields)
 
     -- after the last field
     pub offset_end : {n : ℕ} → count_by (is_byte d) line < n → IsFieldOffset d n line (length line + 1)
@@ -82,7 +83,8 @@ module _ (d : ℕ) where
       -- k fields later
       pub offset_add : at ≤ length line → {k size : ℕ} → IsFieldOffset d k (drop at line) size
           → IsFieldOffset d (n + k) line (at + size)
-      offset_add fits {k} {size} next = grind (arith, common_steps, length-drop, take-add, rest_at, prefixed_fields-append, drop-drop)
+      offset_add fits {k} {size} next =
+          grind (arith, common_steps, length-drop, take-add, rest_at, prefixed_fields-append, drop-drop)
 
 -- the rest of a line from an index on
 pub rest_of : (from to : ℕ) (bytes : List ℕ) → drop from (take to bytes) ≡ take (to - from) (drop from bytes)

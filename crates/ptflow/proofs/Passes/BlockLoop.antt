@@ -1,14 +1,16 @@
 -- A tool that works block by block. The output of each block is pushed before the next is read, so the input with no
 -- output yet is in the reader's buffer.
 use Rattle.ptflow.proofs.Common.{common_steps, ◌≡◌, ℕ, ◌+◌, ◌-◌, ◌≤◌, ◌<◌, ◌^◌, true, false, List, [], ◌++◌, None, Ok}
-use Rattle.ptflow.proofs.Common.{Err, length, drop, refl, sym, ◌∙◌, ap, subst, arith, append-nil, append_assoc, take_all}
+use Rattle.ptflow.proofs.Common.{Err, length, drop, refl, sym, ◌∙◌, ap, subst, arith, append-nil, append_assoc}
+use Rattle.ptflow.proofs.Common.{take_all}
 use Rattle.ptflow.proofs.Common.{Reader, ReaderAdvance, AdvanceOk, IsDone, IsSound, HasReadCause, IsPrefix, Output}
 use Rattle.ptflow.proofs.Common.{PushEffect, Slots, advance_ok_trans, push_trans, ToolSpec, PassPre, PassPost, Read}
 use Rattle.ptflow.proofs.Common.{Write, OutputFailed}
 use Rattle.ptflow.specs.Private.Passes.BlockLoop.{IsBlockFilter}
 use Rattle.ptflow.specs.Private.Passes.StepOutput.{OutputPart}
 use Rattle.ptflow.proofs.Passes.Readers.{advance_past}
-use Rattle.ptflow.proofs.Passes.Exits.{Progress, progress_none, progress_flushed, PassState, PassEnding, store_unchanged}
+use Rattle.ptflow.proofs.Passes.Exits.{Progress, progress_none, progress_flushed, PassState, PassEnding}
+use Rattle.ptflow.proofs.Passes.Exits.{store_unchanged}
 use Rattle.ptflow.proofs.Passes.Exits.{nothing_more, pass_read, pass_write, pass_done, pass_unended}
 
 -- a counter is at most the number of bytes that were processed
@@ -127,7 +129,8 @@ module _ {X : Type 0} {rest_from : X → List ℕ → List ℕ} {IsUnchanged : X
           (same : new.failed ≡ reader.failed) where
         pub block_done : is'.write_failed ≡ false → new.fault ≡ None → new.pulled < 2 ^ 63
             → PassPost tool old new was is' store store (Ok tt)
-        block_done fine fault short = pass_done ending wrote done refl same ready.not_denied fine fault short ready.empty
+        block_done fine fault short =
+            pass_done ending wrote done refl same ready.not_denied fine fault short ready.empty
 
         pub block_unended : is'.write_failed ≡ true → PassPost tool old new was is' store store (Err Write)
         block_unended fault = pass_unended ending wrote done refl same ready.not_denied fault

@@ -4,7 +4,8 @@
 -- prefix of the output for each consistent input, and decided output is written.
 use Rattle.ptflow.proofs.Common.{◌≡◌, ⊎_elim, ℕ, ◌≤◌, ◌<◌, ◌^◌, true, false, List, [], ◌++◌, length, None}
 use Rattle.ptflow.proofs.Common.{Result, Ok, Err, max, refl, sym, ◌∙◌, arith, append_assoc, common_steps}
-use Rattle.ptflow.proofs.Common.{append-nil, false_from_ne_true, false≢true, Reader, ReaderAdvance, AdvanceOk, IsDone, IsSound}
+use Rattle.ptflow.proofs.Common.{append-nil, false_from_ne_true, false≢true, Reader, ReaderAdvance, AdvanceOk, IsDone}
+use Rattle.ptflow.proofs.Common.{IsSound}
 use Rattle.ptflow.proofs.Common.{HasReadCause, Received, IsPrefix, IsConsistent, Output, PushEffect, Slots, total_bytes}
 use Rattle.ptflow.proofs.Common.{received_with, advance_trans, push_nothing, push_trans, ToolSpec, PassPre, PassPost}
 use Rattle.ptflow.proofs.Common.{only_input, pass_end, pass_engine, CallState, call_state, CallOutcome}
@@ -26,7 +27,7 @@ pub record Progress (old reader : Reader) (was is : Output) (given pushed : List
 
 pub progress_none : (old : Reader) (was : Output) → old.fault ≡ None → was.write_failed ≡ false
     → Progress old old was was [] []
-progress_none old was readable clean = grind (arith, common_steps, reads_nothing, push_nothing)
+progress_none old was readable clean = grind (arith, common_steps)
 
 -- the buffered output was written
 abbrev pub progress_flushed : {old reader : Reader} {was is is' : Output} {given pushed : List ℕ}
@@ -66,12 +67,12 @@ pub by_write : {A : Type 0} {tool : ToolSpec} {old new : Reader} {was is : Outpu
     {result : Result (Unit {0}) FlowFault}
     → A × IsErrAnd result (λ fault. fault ≡ Write)
     → PassPost tool old new was is before store (Err Write) → PassPost tool old new was is before store result
-by_write {result} returned post = grind (arith, common_steps, returned_err)
+by_write {result} returned post = grind arith
 
 -- on an output that has failed, nothing is done
 pub pass_unchanged : (tool : ToolSpec) (old : Reader) (was : Output) (before : Slots) → PassPre old before
     → was.write_failed ≡ true → PassPost tool old old was was before before (Err Write)
-pass_unchanged tool old was before ready fault = grind (arith, common_steps, call_on_failed_output, only_input, pass_engine)
+pass_unchanged tool old was before ready fault = grind (arith, call_on_failed_output)
 
 -- the terminator of the reader was set before the call
 module _ (old : Reader) {set : Reader} {end : ℕ} where
@@ -82,7 +83,7 @@ module _ (old : Reader) {set : Reader} {end : ℕ} where
       {result : Result (Unit {0}) FlowFault} → PassPost tool set new was is before store result
       → set ≡ record old { terminator = end } → end ≡ tool.end → was.write_failed ≡ false
       → PassPost tool old new was is before store result
-  pass_set {tool} {new} {was} {is} {before} {store} post same ends clean = grind (arith, common_steps, call_set, only_input, pass_engine, state)
+  pass_set {tool} {new} {was} {is} {before} {store} post same ends clean = grind (arith, call_set)
 
 -- a slot could not be allocated
 pub pass_unslotted : (tool : ToolSpec) {old : Reader} (was : Output) {before store : Slots} → PassPre old before
@@ -90,7 +91,8 @@ pub pass_unslotted : (tool : ToolSpec) {old : Reader} (was : Output) {before sto
     → store.peak ≡ before.peak → store.denied ≡ true → old.terminator ≡ tool.end
     → IsPrefix (tool.decided (record { bytes = []; eof = false })) []
     → PassPost tool old old was was before store (Err Memory)
-pass_unslotted tool {old} was {before} {store} ready sound clean adds few same denied ends decided = grind (arith, common_steps, call_without_slots, only_input, pass_engine, state)
+pass_unslotted tool {old} was {before} {store} ready sound clean adds few same denied ends decided =
+    grind (arith, call_without_slots)
 
 -- a tool that is given a store that is not denied, and leaves it unchanged, never returns `Memory`
 pub never_memory : {tool : ToolSpec} {old new : Reader} {was is : Output} {store : Slots}
@@ -183,7 +185,7 @@ module _ {X : Type 0} {rest_from : X → List ℕ → List ℕ} {start now : X} 
       (record {
         named = refl;
         unfailed = never_failed;
-        cause = grind (arith, common_steps, same_failed);
+        cause = grind arith;
         others = λ u read differs. absurd (differs refl);
         clean = midway.reached.clean;
         not_denied = not_denied;
@@ -219,7 +221,7 @@ module _ {X : Type 0} {rest_from : X → List ℕ → List ℕ} {start now : X} 
         → PassPost tool old new was is' before store (Ok tt)
     pass_done clean fault short empty = pass wrote all_of_it (Ok tt)
         (record {
-          out = grind (arith, common_steps, text_of, nothing_left);
+          out = grind (arith, common_steps);
           disorder = λ texts a. refl;
           ended = λ complete u read. done;
           fault = λ u read. fault;

@@ -14,7 +14,8 @@ use Rattle.ptflow.proofs.Passes.Lines.{line_split, complete_prefix, max_length-a
 use Rattle.ptflow.proofs.Passes.LinesRead.{lines_none, lines_few, lines_on, lines_more, lines_block, line_prefix}
 use Rattle.ptflow.proofs.Passes.LinesRead.{received_longest, piece_longest, whole_before, before_line, after_line}
 use Rattle.ptflow.proofs.Passes.Exits.{Progress, progress_none, progress_flushed, PassState, LaggedOutput, StoreBounds}
-use Rattle.ptflow.proofs.Passes.Exits.{PassEnding, nothing_more, pass_unslotted, pass_read, pass_memory, pass_write, pass_done}
+use Rattle.ptflow.proofs.Passes.Exits.{PassEnding, nothing_more, pass_unslotted, pass_read, pass_memory, pass_write}
+use Rattle.ptflow.proofs.Passes.Exits.{pass_done}
 use Rattle.ptflow.proofs.Passes.Exits.{pass_unended}
 use Rattle.ptflow.proofs.Passes.Readers.{advance_past}
 use Rattle.ptflow.proofs.Passes.Slots.{SlotBounds, bounds_weaker, bounds_line, bounds_swapped, bounds_cleared}
@@ -201,7 +202,7 @@ module _ {S X E : Type 0} {tool : ToolSpec} {state : S → Slots → X} {rest_fr
       kept : {after : Slots} {most : ℕ} (given : Received) → SlotBounds width most before after
           → ((input : List ℕ) → IsConsistent given input → most ≤ max_line_length end input)
           → StoreBounds tool before after given
-      kept given bounds short = grind (arith, common_steps, bounds, mul-le-mul_left)
+      kept given bounds short = grind arith
 
       keeps_last : {after : Slots} (bytes : List ℕ) → after ≡ with_line store (width - 1) bytes
           → SlotBounds width (max (max_length run.ls) (length bytes)) before after
@@ -231,7 +232,7 @@ module _ {S X E : Type 0} {tool : ToolSpec} {state : S → Slots → X} {rest_fr
             → LaggedOutput tool (received piece new) (written run.passed)
             → PassEnding tool midway new before after piece
         unfolding midway
-        ending reads stored processing = grind (arith, common_steps, stored)
+        ending reads stored processing = grind arith
 
         -- the first part of a line was read
         module _ {new : Reader} {piece : List ℕ} (reads : ReaderAdvance reader new piece) (free : IsLine end piece)

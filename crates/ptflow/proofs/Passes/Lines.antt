@@ -77,4 +77,5 @@ module _ (end : ℕ) where
   -- no complete line is left
   pub taken_all : {block rest : List ℕ} → IsLine end rest → TakenLines end block rest
       → take (length block - length rest) block ≡ unlines end (complete_lines end block)
-  taken_all {block} {rest} none taken = grind (arith, common_steps, length-append, take_at, complete_lines_none, append-nil)
+  taken_all {block} {rest} none taken =
+      grind (arith, common_steps, length-append, take_at, complete_lines_none, append-nil)

@@ -1,6 +1,7 @@
 -- The lines that were read from a reader. A line that was read is complete, so it is a line of the input for every
 -- continuation; the same holds for the complete lines of a block.
-use Rattle.ptflow.proofs.Common.{common_steps, ◌≡◌, inl, inr, ℕ, zero, suc, ◌-◌, ◌<◌, ◌≤◌, true, false, List, [], ◌∷◌, ◌++◌}
+use Rattle.ptflow.proofs.Common.{common_steps, ◌≡◌, inl, inr, ℕ, zero, suc, ◌-◌, ◌<◌, ◌≤◌, true, false, List, [], ◌∷◌}
+use Rattle.ptflow.proofs.Common.{◌++◌}
 use Rattle.ptflow.proofs.Common.{length, take, drop, max, refl, arith, append_assoc, length-append}
 use Rattle.ptflow.proofs.Common.{length-drop, take-append-drop, false≢true, append-nil, unlines, lines}
 use Rattle.ptflow.proofs.Common.{IsLine, AreLines, max_length, max_line_length, Received, IsConsistent, known_lines}
@@ -13,7 +14,7 @@ use Rattle.ptflow.proofs.Passes.Readers.{eof_gives_nothing, stays_at_eof}
 
 longest_prefix : (end : ℕ) (ls : List (List ℕ)) (piece rest : List ℕ) → AreLines end ls → IsLine end piece
     → max (max_length ls) (length piece) ≤ max_length (lines end (unlines end ls ++ (piece ++ rest)))
-longest_prefix end ls piece rest whole free = grind (arith, common_steps, lines_of_unlines, max_length-append, piece_le_max_length, free)
+longest_prefix end ls piece rest whole free = grind (arith, lines_of_unlines, max_length-append, piece_le_max_length)
 
 pub lines_none : (end : ℕ) (reader : Reader) → AreReceivedLines end reader [] []
 lines_none end reader = record { so_far = inl (refl, tt) }
@@ -25,14 +26,14 @@ lines_length end (b ∷ bytes) = grind (arith, lines_length end bytes)
 module _ (end : ℕ) (now : Reader) (given : List ℕ) (ls : List (List ℕ))
     (received : AreReceivedLines end now given ls) where
   pub lines_are_given : lines end given ≡ ls
-  lines_are_given = grind (arith, common_steps, lines-unlines)
+  lines_are_given = grind (arith, lines-unlines)
 
   pub lines_few : length ls ≤ length given
   lines_few = rw lines_are_given at (lines_length end given)
 
   -- for every continuation
   pub lines_on : (rest : List ℕ) → (IsDone now → rest ≡ []) → lines end (given ++ rest) ≡ ls ++ lines end rest
-  lines_on rest may = grind (arith, common_steps, inl, lines_of_unlines, inr, append-nil)
+  lines_on rest may = grind (arith, common_steps, lines_of_unlines, append-nil)
 
   pub received_longest : (input : List ℕ) → IsConsistent (received_with given now) input
       → max_length ls ≤ max_line_length end input
@@ -42,11 +43,13 @@ module _ (end : ℕ) (now : Reader) (given : List ℕ) (ls : List (List ℕ))
   module _ (new : Reader) (piece : List ℕ) (reads : ReaderAdvance now new piece) (free : IsLine end piece) where
     pub piece_longest : (input : List ℕ) → IsConsistent (received_with (given ++ piece) new) input
         → max (max_length ls) (length piece) ≤ max_line_length end input
-    piece_longest input consistent = grind (arith, common_steps, inl, append_assoc, longest_prefix, free, inr, eof_gives_nothing, append-nil)
+    piece_longest input consistent =
+        grind (arith, common_steps, append_assoc, longest_prefix, free, eof_gives_nothing, append-nil)
 
     -- and the read of its rest failed
     pub whole_before : new.buffered ≡ [] → new.eof ≡ false → known_lines end (received_with (given ++ piece) new) ≡ ls
-    whole_before empty going = grind (arith, common_steps, known_lines, append-nil, complete_lines_of_unlines, free, false≢true, stays_at_eof)
+    whole_before empty going =
+        grind (arith, common_steps, known_lines, append-nil, complete_lines_of_unlines, free, false≢true, stays_at_eof)
 
   -- one line was read
   module _ (new : Reader) (before after : Slots) (slot : ℕ) (next_line : FillLine now new before after slot)
@@ -60,11 +63,11 @@ module _ (end : ℕ) (now : Reader) (given : List ℕ) (ls : List (List ℕ))
     -- its bytes are a line for every continuation
     pub line_prefix : (rest : List ℕ) → (IsDone new → rest ≡ [])
         → lines end ((next_line.line ++ next_line.terminator) ++ rest) ≡ next_line.line ∷ lines end rest
-    line_prefix rest may = grind (arith, common_steps, inl, append_assoc, lines_cons, free, inr, append-nil, lines_of_last)
+    line_prefix rest may = grind (arith, common_steps, append_assoc, lines_cons, free, append-nil, lines_of_last)
 
     pub lines_more : AreReceivedLines end new (given ++ (next_line.line ++ next_line.terminator))
         (ls ++ next_line.line ∷ [])
-    lines_more = grind (arith, common_steps, inl, unlines_push, free, inr, append-nil, lines_of_unlines, lines_of_last, eof_gives_nothing, some_received)
+    lines_more = grind (arith, common_steps, lines_of_unlines, lines_of_last)
 
 are_append : (end : ℕ) (xs ys : List (List ℕ)) → AreLines end xs → AreLines end ys → AreLines end (xs ++ ys)
 are_append end [] ys a b = b
@@ -75,7 +78,7 @@ pub lines_block : {end : ℕ} {reader : Reader} {given : List ℕ} {ls : List (L
     → AreReceivedLines end reader given ls → {new : Reader} (more : List (List ℕ))
     → AdvanceOk reader new (unlines end more) → AreLines end more
     → AreReceivedLines end new (given ++ unlines end more) (ls ++ more)
-lines_block {end} {ls} received more advance_ok are = grind (arith, common_steps, inl, unlines-append, are_append, eof_gives_nothing, inr, lines_on, lines-unlines, stays_at_eof)
+lines_block {end} {ls} received more advance_ok are = grind (arith, common_steps, lines-unlines)
 
 -- ---- the input two blocks earlier
 
@@ -92,7 +95,7 @@ line_take end (suc n) (b ∷ bytes) (differs, are) = (differs, line_take end n b
 -- the terminator of a line and the buffered bytes after it are at most 8,193 bytes
 pub after_line : {now new : Reader} {before after : Slots} {slot : ℕ} (next_line : FillLine now new before after slot)
     → IsSound new → length (next_line.terminator ++ new.buffered) ≤ 8193
-after_line {new} next_line sound = grind (arith, common_steps, inl, length-append, inr)
+after_line {new} next_line sound = grind arith
 
 module _ {end : ℕ} {now new : Reader} {given : List ℕ} {ls : List (List ℕ)}
     (received : AreReceivedLines end now given ls)

@@ -19,7 +19,7 @@ may_follow now new bytes rest reads may done = grind (arith, common_steps)
 pub advance_past : {now shown new : Reader} {block : List ℕ} (count : ℕ) → AdvanceOk now shown []
     → shown.buffered ≡ block → count ≤ length block → new ≡ record shown { buffered = drop count shown.buffered }
     → AdvanceOk now new (take count block)
-advance_past {shown} count advance_ok buffered fits consumed = grind (arith, common_steps, advance_ok_trans, advance_ok_take)
+advance_past {shown} count advance_ok buffered fits consumed = grind (arith, common_steps, advance_ok_take)
 
 -- a line was read, and after it some of the next block
 pub budget_of_line : (old : Reader) {now shown new : Reader} (count : ℕ) → budget now < budget old

@@ -89,7 +89,7 @@ bounds_line {width} {most} {store} new slot bytes bounds within fits is = record
 -- the first and the last slot may have been swapped
 pub swapped_room : {width : ℕ} {before after : Slots} → IsSwapped width before after → 0 < width
     → width ≤ length before.lines → width ≤ length after.lines
-swapped_room {width} {before} either some room = grind (arith, common_steps, inl, inr, swap_is, length-set)
+swapped_room {width} {before} either some room = grind (arith, common_steps, swap_is, length-set)
 
 pub bounds_swapped : {width most : ℕ} {before store : Slots} (new : Slots) → 0 < width
     → SlotBounds width most before store → IsSwapped width store new → SlotBounds width most before new
@@ -129,7 +129,7 @@ bounds_cleared {width} {most} {store} {new} bounds some last cleared = (
     denied = cc;
     size = cleared.size ∙ bounds.size;
     short =
-        grind (arith, common_steps, get_or-le-sum_by);
+        grind (arith, common_steps);
     others = omega (arith, none, total_split width new.lines);
     peak = omega (arith, bounded_total width most store.lines bounds.short bounds.others);
   },

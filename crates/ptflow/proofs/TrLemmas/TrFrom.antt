@@ -1,6 +1,7 @@
 -- The output of `tr` for the rest of a text, and for a text that is cut anywhere. A byte is kept or removed by the last
 -- output byte alone, so that byte is the only state, from block to block and within a block.
-use Rattle.ptflow.proofs.Common.{common_steps, ◌≡◌, ℕ, ◌-◌, ◌==◌, ◌&&◌, not, eqb, Bool, true, false, cond, List, [], ◌∷◌, ◌++◌}
+use Rattle.ptflow.proofs.Common.{common_steps, ◌≡◌, ℕ, ◌-◌, ◌==◌, ◌&&◌, not, eqb, Bool, true, false, cond, List, []}
+use Rattle.ptflow.proofs.Common.{◌∷◌, ◌++◌}
 use Rattle.ptflow.proofs.Common.{Option, None, Some, map, length, refl, ap, arith, filter, slice_get, last_or}
 use Rattle.ptflow.proofs.Common.{option_eq, option_or, append-nil, map-append, filter-append, IsPrefix, Tables, deletes}
 use Rattle.ptflow.proofs.Common.{image, squeezes, is_not_repeat, squeeze_after, translation, tr, tr_decided}
@@ -85,7 +86,7 @@ module _ (t : Tables) where
 
   pub block_begins : (last : Option ℕ) (block : List ℕ) {written : List ℕ} (rest : List ℕ)
       → written ≡ tr_from t last block → IsPrefix written (tr_from t last (block ++ rest))
-  block_begins last block rest made = grind (arith, common_steps, tr_from, last_or, front_on)
+  block_begins last block rest made = grind (arith, front_on)
 
   pub rest_decided : (given pushed : List ℕ) (now : Option ℕ)
       → ((rest : List ℕ) → tr_from t None (given ++ rest) ≡ pushed ++ tr_from t now rest)
@@ -225,7 +226,8 @@ pub first_squeezed : (squeezed : ℕ → Bool) (last : Option ℕ) (from into : 
 first_squeezed squeezed last [] into some room is count_is = absurd (omega arith)
 first_squeezed squeezed last (b ∷ from) into {repeats = true} some room is count_is =
     cc (count_is, from_one squeezed last b from, is)
-first_squeezed squeezed last (b ∷ from) into {repeats = false} some room is count_is = grind (arith, common_steps, from_one, take_more_set)
+first_squeezed squeezed last (b ∷ from) into {repeats = false} some room is count_is =
+    grind (arith, common_steps, from_one, take_more_set)
 
 -- ---- tests that agree on bytes
 

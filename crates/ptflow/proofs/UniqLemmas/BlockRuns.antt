@@ -90,7 +90,7 @@ module _ (job : Uniq) (first : List ℕ) (count : ℕ) {block : List ℕ} {line 
   line_in = rw is at pre.line_in
 
   pub due_is : run_text job (run_of (first_of first block line) count) ≡ count_prefix job.show count ++ span_of block l
-  due_is = grind (arith, common_steps, line_in)
+  due_is = grind arith
 
   -- the line follows the deferred output
   pub pending_joined : {out : Output} → pending.to ≡ l.from → count_prefix job.show count ≡ []
@@ -195,9 +195,9 @@ runs_loop_starts job first block {start} some run_key_is was = record {
   lies = record { lines = refl; bytes = refl };
   passed = [];
   steps = steps_none job (run_of first start);
-  waits = grind (arith, common_steps, push_nothing, span_nothing);
+  waits = grind (arith, common_steps);
   run_key_is = run_key_is;
-  ready = grind (arith, common_steps, span_nothing, line_in);
+  ready = grind arith;
   some = some;
 }
 
@@ -254,7 +254,7 @@ module _ {job : Uniq} {first block rest : List ℕ} {start count : ℕ} {line : 
             steps = rw line_is steps;
             waits = rw entries (pending_then so_far.waits (run_text job run) waits);
             run_key_is = cc;
-            ready = grind (arith, common_steps, line_in, next_span);
+            ready = grind (arith, common_steps);
             some = omega arith;
           }
 

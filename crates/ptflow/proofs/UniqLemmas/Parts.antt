@@ -10,7 +10,7 @@ use Rattle.ptflow.proofs.UniqLemmas.RunsFrom.{entries-append}
 
 module _ (job : Uniq) where
   other_key : (a b : List ℕ) → key job a ≢ key job b → is_same job a b ≡ false
-  other_key a b differ = grind (arith, common_steps, bytes_eq-Decides, cases_Bool)
+  other_key a b differ = grind (arith, bytes_eq-Decides)
 
   -- a line before some runs is the line of the first run
   onto_is : (line : List ℕ) (rs : List Run)
@@ -97,7 +97,7 @@ module _ (job : Uniq) (taken : List ℕ → Bool) where
   onto_dropped : (x : List ℕ) (rs : List Run) → line_taken x ≡ false
       → filter run_taken (cons_run job x rs) ≡ filter run_taken rs
   onto_dropped x [] is = rw is refl
-  onto_dropped x (r ∷ rs) is = grind (arith, common_steps, run_taken, bytes_eq-Decides, cases_Bool)
+  onto_dropped x (r ∷ rs) is = grind (arith, bytes_eq-Decides)
 
   -- a line of the part before a run of its key
   onto_same : (x : List ℕ) (r : Run) (rs : List Run) → line_taken x ≡ true → key job x ≡ key job r.line
@@ -113,7 +113,7 @@ module _ (job : Uniq) (taken : List ℕ → Bool) where
   onto_apart : (x : List ℕ) (rs : List Run) → line_taken x ≡ true
       → AllByRecursion (λ run. key job x ≢ key job run.line) rs
       → cons_run job x (filter run_taken rs) ≡ filter run_taken (cons_run job x rs)
-  onto_apart x rs is others = grind (arith, common_steps, onto_other, run_taken, all_filter)
+  onto_apart x rs is others = grind (arith, onto_other, all_filter)
 
   runs_taken : (ls : List (List ℕ)) → HasGroupedKeys job ls
       → runs job (filter line_taken ls) ≡ filter run_taken (runs job ls)
@@ -132,4 +132,4 @@ module _ (job : Uniq) (taken : List ℕ → Bool) where
       kept is (inr others) = onto_apart x (runs job ls) is (all_runs (λ other. key job x ≢ key job other) ls others)
 
 pub uniq_by_key : UniqByKey
-uniq_by_key job taken bytes grouped = grind (arith, common_steps, lines-unlines, all_filter, lines_are, runs_taken)
+uniq_by_key job taken bytes grouped = grind (arith, lines-unlines, all_filter, lines_are, runs_taken)

@@ -35,7 +35,7 @@ module _ (job : Uniq) where
 
   onto_first_run : (line : List ℕ) {l : List ℕ} {ls : List (List ℕ)} (t : Bool) → is_same job line l ≡ t → First l 1 ls
       → cons_run job line (runs_from job (run_of l 1) ls) ≡ chosen l ls line 1 t
-  onto_first_run line {l} true e f = grind (arith, common_steps, bytes_eq-Decides, cons_run)
+  onto_first_run line {l} true e f = grind (arith, bytes_eq-Decides)
   onto_first_run line false e f = cc
 
   -- the runs of a list of lines, from its first line

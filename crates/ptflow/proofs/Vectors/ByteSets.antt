@@ -1,6 +1,7 @@
 -- Membership tests of a byte set. The tables are filled flag by flag, and each flag is one bit of one entry; a test
 -- looks up the entry and the bit of each byte.
-use Rattle.ptflow.proofs.Common.{common_steps, ◌≡◌, ℕ, suc, ◌+◌, ◌*◌, ◌/◌, ◌%◌, ◌<◌, ◌≤◌, ◌^◌, ◌&&◌, ◌||◌, Bool, true, false, List}
+use Rattle.ptflow.proofs.Common.{common_steps, ◌≡◌, ℕ, suc, ◌+◌, ◌*◌, ◌/◌, ◌%◌, ◌<◌, ◌≤◌, ◌^◌, ◌&&◌, ◌||◌, Bool, true}
+use Rattle.ptflow.proofs.Common.{false, List}
 use Rattle.ptflow.proofs.Common.{[], ◌∷◌, length, map, cond, leb, ltb, eqb, zero, ◌≢◌, ⊎_elim, get_or, get_or-drop}
 use Rattle.ptflow.proofs.Common.{drop, ◌-◌, set, bit_or, replicate, negsuc, pos, bit_and, refl, ap, ◌∙◌, arith, w8}
 use Rattle.ptflow.proofs.Common.{Fits, top, zip2, sel_l, Each1, cast_signed, bit_at, from_bool, swz_l, SwzOk}
@@ -27,7 +28,7 @@ module _ (half : ℕ → ℕ) (small : (b : ℕ) → b < 256 → half b < 16) wh
 
   lane : (table : List ℕ) (i : ℕ) {j : ℕ} → i < 16 → j < 16
       → cond (leb 128 j) 0 (get_or table (16 * (i / 16) + j) 0) ≡ get_or table j 0
-  lane table i {j} li lj = grind (arith, common_steps, lt-leb)
+  lane table i {j} li lj = grind arith
 
   looked_up_from : (table v : List ℕ) (i : ℕ) → i + length v ≤ 16 → Each1 (Fits w8) v
       → swz_l w8 16 table i (map half v) ≡ map (λ b. get_or table (half b) 0) v
@@ -61,7 +62,7 @@ abbrev pub bits_in_order : List ℕ
 bits_in_order = 1 ∷ 2 ∷ 4 ∷ 8 ∷ 16 ∷ 32 ∷ 64 ∷ 128 ∷ 1 ∷ 2 ∷ 4 ∷ 8 ∷ 16 ∷ 32 ∷ 64 ∷ 128 ∷ []
 
 bit_of : {half : ℕ} → half < 16 → get_or bits_in_order half 0 ≡ 2 ^ (half % 8)
-bit_of {half} small = grind (arith, common_steps, get_or-map-range_with_len)
+bit_of {half} small = grind arith
 
 -- either this bit of an entry is set, or the result is zero
 all_or_none : (row k : ℕ) → eqb (bit_and row (2 ^ k)) (2 ^ k) ≡ eqb (bit_at row k) 1
@@ -148,14 +149,14 @@ module _ (table : List ℕ) {n : ℕ} (long : length table ≡ 16) (within : n <
   filled_is : (flag : Bool) {b : ℕ} → b < 128
       → table_has (flags_set table n (from_bool flag)) b
       ≡ cond (eqb b n) (flag || table_has table n) (table_has table b)
-  filled_is true {b} byte = grind (arith, common_steps, eq-eqb, set_here, ne_eqb, set_there, cases_eq)
-  filled_is false {b} byte = grind (arith, common_steps, eq-eqb, unset, ne_eqb, cases_eq)
+  filled_is true {b} byte = grind (arith, set_here, set_there)
+  filled_is false {b} byte = grind (arith, unset)
 
 -- the table with the flag of one byte more
 pub one_more_flag : (table : List ℕ) (flags : List Bool) (n : ℕ) {x : ℕ} → length table ≡ 16 → n < 128
     → x ≡ from_bool (get_or flags n false) → ((b : ℕ) → b < 128 → table_has table b ≡ (ltb b n && get_or flags b false))
     → (b : ℕ) → b < 128 → table_has (flags_set table n x) b ≡ (ltb b (n + 1) && get_or flags b false)
-one_more_flag table flags n long within is marked b byte = grind (arith, common_steps, table_has, flags_set, filled_is, nat_tests, cases_eq)
+one_more_flag table flags n long within is marked b byte = grind (arith, filled_is)
 
 -- ---- a set of two tables
 

@@ -1,6 +1,7 @@
 -- Compression. A row has the indices of the set flags of a mask, in order; a shuffle by it moves the selected lanes to
 -- the front, and a mask of 16 flags is handled as two of eight.
-use Rattle.ptflow.proofs.Common.{common_steps, ◌≡◌, ℕ, zero, suc, ◌+◌, ◌*◌, ◌^◌, ◌/◌, ◌%◌, ◌<◌, ◌≤◌, Bool, true, false, cond, List}
+use Rattle.ptflow.proofs.Common.{common_steps, ◌≡◌, ℕ, zero, suc, ◌+◌, ◌*◌, ◌^◌, ◌/◌, ◌%◌, ◌<◌, ◌≤◌, Bool, true, false}
+use Rattle.ptflow.proofs.Common.{cond, List}
 use Rattle.ptflow.proofs.Common.{[], ◌∷◌, ◌++◌, map, length, take, drop, set, get_or, length-drop, drop-cons}
 use Rattle.ptflow.proofs.Common.{append_assoc, add-one, refl, sym, ◌∙◌, ap, arith, w8, All, nat_eq, nat_le}
 use Rattle.ptflow.proofs.Common.{range_with_len, mask_l, put_chunk, chunk, pick_l, Each1, take_more_put_chunk}
@@ -94,7 +95,18 @@ row_of_mask rows mask packing low = rw (mask_of_flags 8 _ low) at (packing (flag
 -- a shuffle by the row moves the selected lanes to the front
 pub row_selects : {flags : List Bool} {row : List ℕ} (v : List ℕ) → length flags ≤ length v → IsCompressRow flags row
     → take (count_ones (mask_l flags)) (swz_l w8 16 v 0 row) ≡ select_by flags v
-row_selects {flags} {row} v room is = grind (arith, common_steps, true_indices, length-select_by, length-range_with_len, shuffle_result, row_lanes, take-map, map-select_by, pick_l-range_with_len, select_by_prefix)
+row_selects {flags} {row} v room is =
+    grind (
+      arith,
+      length-select_by,
+      length-range_with_len,
+      shuffle_result,
+      row_lanes,
+      take-map,
+      map-select_by,
+      pick_l-range_with_len,
+      select_by_prefix,
+    )
 
 -- the selected lanes are stored at an index
 pub selected_stored : (at n : ℕ) (into lanes : List ℕ) → length lanes ≡ 16 → n ≤ 16 → at + 16 ≤ length into
@@ -138,7 +150,7 @@ next_place flags {place} long low =
 
 pub row_next : {mask place count bit : ℕ} {row : List ℕ} → place < 8 → bit ≡ mask / 2 ^ place % 2
     → RowPrefix mask place count row → RowPrefix mask (place + 1) (count + bit) (set row count place)
-row_next {place} {count} {row} low is begun = grind (arith, common_steps, length-set, bit_mask_l, stored_more, next_place)
+row_next {place} {count} {row} low is begun = grind (arith, common_steps, bit_mask_l, next_place)
 
 pub row_complete : {mask count : ℕ} {row : List ℕ} {flags : List Bool} → length flags ≡ 8 → mask ≡ mask_l flags
     → RowPrefix mask 8 count row → IsCompressRow flags row
@@ -178,4 +190,5 @@ select_rotated flags v turned long lanes is =
 pub select_by_halves : (front back : List Bool) (before v turned : List ℕ) → length front ≡ 8 → length back ≡ 8
     → length v ≡ 16 → take 8 turned ≡ chunk 8 8 (v ++ v)
     → (before ++ select_by front v) ++ select_by back turned ≡ before ++ select_by (front ++ back) v
-select_by_halves front back before v turned few others lanes is = grind (arith, common_steps, append_assoc, select_by, select_rotated, select_by_append)
+select_by_halves front back before v turned few others lanes is =
+    grind (arith, common_steps, append_assoc, select_by, select_rotated, select_by_append)

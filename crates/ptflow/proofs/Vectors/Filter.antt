@@ -151,7 +151,7 @@ module _ (test : ℕ → Bool) where
         pub all_kept_in_four : {a b c d : ℕ} → a ≡ mask_l (flags_at at) → b ≡ mask_l (flags_at (at + 16))
             → c ≡ mask_l (flags_at (at + 32)) → d ≡ mask_l (flags_at (at + 48))
             → bit_and (bit_and (bit_and a b) c) d ≡ 65535 → kept_at at 64 ≡ chunk at 64 bytes
-        all_kept_in_four ma mb mc md full = grind (arith, common_steps, all_full, whole, kept_full)
+        all_kept_in_four ma mb mc md full = grind (arith, all_full, whole, kept_full)
 
       -- a piece more
       pub filter_piece : {into : List ℕ} {at count : ℕ} {whole : List ℕ} → FilterInvariant into at count whole → (n : ℕ)
@@ -221,7 +221,7 @@ module _ (test : ℕ → Bool) (before bytes : List ℕ) (paired : length bytes 
     )
 
     pub removed_small : mask < 65536
-    removed_small = grind (arith, common_steps, removed, long, mask_l-lt, mask_is)
+    removed_small = grind (arith, long, mask_l-lt, mask_is)
 
     pub keep_mask : 65535 - mask ≡ mask_l (keep_flags test (chunk at 16 before) (chunk at 16 bytes))
-    keep_mask = grind (arith, common_steps, removed, long, not_removed, mask_is, not_mask)
+    keep_mask = grind (arith, long, not_removed, mask_is, not_mask)

@@ -129,7 +129,7 @@ shifted (suc n) (b ∷ bits) =
 -- the mask of the first bytes, without those before an index
 pub mask_from : (p : ℕ → Bool) (size from : ℕ) (bytes : List ℕ) {mask : ℕ} → mask ≡ mask_l (map p (take size bytes))
     → mask / 2 ^ from ≡ mask_l (map p (take (size - from) (drop from bytes)))
-mask_from p size from bytes is = grind (arith, common_steps, shifted, drop-map, rest_of)
+mask_from p size from bytes is = grind (arith, shifted, drop-map, rest_of)
 
 -- the first item that passes if none of the first `size` does
 module _ (p : ℕ → Bool) (bytes : List ℕ) (size : ℕ) (within : size ≤ length bytes)
@@ -167,11 +167,12 @@ module _ (p : ℕ → Bool) (bytes : List ℕ) where
     near = omega (arith, length-chunk at size bytes room)
 
     pub count_in_prefix : count_by p (take (at + k) bytes) ≡ count_by p (take at bytes) + m
-    count_in_prefix = grind (arith, common_steps, take-add, sum_by-append, take-take)
+    count_in_prefix = grind (arith, common_steps, take-add)
 
     pub nth_in_prefix : {to : ℕ} → at + k < to → to ≤ length bytes
         → IsNth p 0 (count_by p (take at bytes) + m) (take to bytes) (at + k)
-    nth_in_prefix {to} lt le = grind (arith, common_steps, length-take-le, get_or-take, get_or-chunk, near, take-take, count_in_prefix)
+    nth_in_prefix {to} lt le =
+        grind (arith, common_steps, length-take-le, get_or-take, get_or-chunk, near, take-take, count_in_prefix)
 
   -- no item before the first one passes
   pub first_is : (at : ℕ) → IsNth p 0 0 bytes at → NoneBefore (Passes p bytes) 0 (length bytes) at × Passes p bytes at
@@ -200,7 +201,8 @@ module _ (d : ℕ) (line : List ℕ) where
   module _ (to : ℕ) (le : to ≤ length line) where
     pub first_is_nth : (at : ℕ) → IsFirstByte (is_byte d) line (Some at) → at < to
         → IsNth (is_byte d) 0 0 (take to line) at
-    first_is_nth at first lt = grind (arith, common_steps, length-take-le, get_or-take, take-take, none_counted, line_before_terminator)
+    first_is_nth at first lt =
+        grind (arith, common_steps, length-take-le, get_or-take, take-take, none_counted, line_before_terminator)
 
     pub no_nth_before_first : (at : ℕ) → IsFirstByte (is_byte d) line (Some at) → to ≤ at
         → count_by (is_byte d) (take to line) ≤ 0
@@ -211,7 +213,7 @@ module _ (d : ℕ) (line : List ℕ) where
     )
 
     pub no_nth : IsFirstByte (is_byte d) line None → count_by (is_byte d) (take to line) ≤ 0
-    no_nth none = grind (arith, common_steps, count_up_to, take_all, none_counted, line_if_not_found)
+    no_nth none = grind (arith, common_steps, none_counted, line_if_not_found)
 
 -- the next item that passes, if no item between an earlier index and this one passes
 module _ (p : ℕ → Bool) (bytes : List ℕ) (start end : ℕ) (fits : end < length bytes)

@@ -1,6 +1,7 @@
 -- Vector operations, byte by byte: values that are computed for each lane, and the lanes of flags. Each of them is a
 -- `map` over the lanes, so facts about one byte carry over.
-use Rattle.ptflow.proofs.Common.{common_steps, ◌≡◌, ℕ, ◌+◌, ◌<◌, ◌≤◌, ◌%◌, Bool, false, List, [], ◌∷◌, ◌++◌, Option, map, take, drop}
+use Rattle.ptflow.proofs.Common.{common_steps, ◌≡◌, ℕ, ◌+◌, ◌<◌, ◌≤◌, ◌%◌, Bool, false, List, [], ◌∷◌, ◌++◌, Option}
+use Rattle.ptflow.proofs.Common.{map, take, drop}
 use Rattle.ptflow.proofs.Common.{length, get_or, replicate, cond, refl, sym, ◌∙◌, ap, arith, w8, Fits, sum_by, zero}
 use Rattle.ptflow.proofs.Common.{suc, slice_get, option_map, sel_l, zip2, top, Each1, take-add, false≢true, map-append}
 use Rattle.ptflow.proofs.Common.{tops_compared, zip2_splat, zip2_of_maps, splat_is_map, Each1-from_get_or, shift_at}
@@ -99,7 +100,8 @@ pub one_stretch_more : (ranges : List ShiftRange) (ss : List Stretch) (i : ℕ) 
     → i < length ranges → range_sum (take i ranges) b ≡ stretch_sum (take i ss) b
     → range_delta range b ≡ stretch_delta (stretch_at ss i) b
     → range_sum (take (i + 1) (set ranges i range)) b ≡ stretch_sum (take (i + 1) ss) b
-one_stretch_more ranges ss i range b room before is = grind (arith, common_steps, take_more_set, range_added, add-one, stretch_taken)
+one_stretch_more ranges ss i range b room before is =
+    grind (arith, common_steps, take_more_set, range_added, add-one, stretch_taken)
 
 -- all stretches are among the first n
 pub all_stretches : (n : ℕ) (ss : List Stretch) → is_some (stretch_at ss n) ≡ false → length ss ≤ n

@@ -1,6 +1,7 @@
 -- The items of a list that intervals select. Disjoint ascending intervals select one after another, and each selects a
 -- slice; so the selected items are these slices in order.
-use Rattle.ptflow.proofs.Common.{common_steps, ◌≡◌, ⊎_elim, ℕ, zero, suc, ◌+◌, ◌-◌, ◌<◌, ◌≤◌, Bool, true, false, cond, ◌&&◌, ◌||◌}
+use Rattle.ptflow.proofs.Common.{common_steps, ◌≡◌, ⊎_elim, ℕ, zero, suc, ◌+◌, ◌-◌, ◌<◌, ◌≤◌, Bool, true, false, cond}
+use Rattle.ptflow.proofs.Common.{◌&&◌, ◌||◌}
 use Rattle.ptflow.proofs.Common.{List, [], ◌∷◌, ◌++◌, length, take, drop, get_or, min, append_assoc, length-drop}
 use Rattle.ptflow.proofs.Common.{refl, sym, ◌∙◌, ap, arith, nat_le, false≢true, nat_tests, take_all, drop_all}
 use Rattle.ptflow.proofs.Common.{take-take, drop_more, length-take-le, drop-append-le, is_selected, AreSeparated}
@@ -85,7 +86,7 @@ pub select_slice : {X : Type 0} (r : Interval) (n : ℕ) (xs : List X) (i j : �
     → select_from (is_within r) n xs ≡ take (j - i) (drop i xs)
 select_slice r n [] zero j is js = sym (take-nil (j - 0))
 select_slice r n [] (suc i) j is js = sym (take-nil (j - suc i))
-select_slice r n (x ∷ xs) i zero is js = grind (arith, common_steps, select_past, r)
+select_slice r n (x ∷ xs) i zero is js = grind (arith, select_past)
 select_slice r n (x ∷ xs) zero (suc j) is js =
     let whole : suc j - 0 ≡ suc j = omega arith in
     let rest : j - 0 ≡ j = omega arith in
@@ -108,7 +109,7 @@ pub record CopyInvariant (all : List Interval) (i before : ℕ) (piece tail was 
 
 pub copy_starts : {all : List Interval} {before : ℕ} {piece tail was : List ℕ} {start : ℕ} → AreSeparated 0 all
     → CopyInvariant all 0 before piece tail was was start start
-copy_starts apart = grind (arith, common_steps, apart)
+copy_starts apart = grind arith
 
 pub copy_order : {all : List Interval} {i before : ℕ} {piece tail was is : List ℕ} {start at : ℕ}
     → CopyInvariant all i before piece tail was is start at → i < length all

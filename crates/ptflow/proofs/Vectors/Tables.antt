@@ -1,6 +1,7 @@
 -- Tables of images. Of each lane, the vectors that are left have in the row of the lane what was found for it. Each
 -- step halves the rows, and takes of two vectors the one that the lowest bit of the row names.
-use Rattle.ptflow.proofs.Common.{common_steps, ◌≡◌, ◌<◌, ◌≤◌, ◌∙◌, ℕ, zero, suc, ◌*◌, ◌+◌, ◌-◌, ◌/◌, ◌%◌, List, [], All, map, not}
+use Rattle.ptflow.proofs.Common.{common_steps, ◌≡◌, ◌<◌, ◌≤◌, ◌∙◌, ℕ, zero, suc, ◌*◌, ◌+◌, ◌-◌, ◌/◌, ◌%◌, List, [], All}
+use Rattle.ptflow.proofs.Common.{map, not}
 use Rattle.ptflow.proofs.Common.{length, length-map, length-set, set, sel_l, eqb, bit_and}
 use Rattle.ptflow.proofs.Common.{and_mask, ap, arith, cases_eq, cond, get_or, get_or-chunk, get_or-map, ⊎_elim}
 use Rattle.ptflow.proofs.Common.{Bool, Each1, Fits, cases_lt, chunk, ext_get_or, false, get_or-set_other, ltb, w8, ◌^◌}
@@ -18,7 +19,8 @@ pub record IsFilledTo (n : ℕ) (f : ℕ → List ℕ) (index : ℕ) (kept : Lis
 
 pub filled_next : {n : ℕ} {f : ℕ → List ℕ} {index : ℕ} {kept : List (List ℕ)} {v : List ℕ} → IsFilledTo n f index kept
     → index < n → v ≡ f index → length (f index) ≡ 16 → IsFilledTo n f (index + 1) (set kept index v)
-filled_next {f = f} {index} {kept} {v} filled room is size = grind (arith, common_steps, length-set, get_or-set_same, get_or-set_other, cases_eq)
+filled_next {f = f} {index} {kept} {v} filled room is size =
+    grind (arith, common_steps, length-set, get_or-set_same, get_or-set_other, cases_eq)
 
 module _ (rows : List ℕ) (found : List (List ℕ)) (count : ℕ) where
   abbrev pub odd : ℕ → ℕ
