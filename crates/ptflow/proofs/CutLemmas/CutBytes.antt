@@ -2,7 +2,7 @@
 -- resets it; at offset 0 the output is that of complete lines.
 use Rattle.ptflow.proofs.Common.{◌≡◌, ℕ, ◌+◌, ◌-◌, ◌≤◌, ◌^◌, Bool, false, List, [], ◌∷◌, ◌++◌, map, length, take}
 use Rattle.ptflow.proofs.Common.{drop, Some, refl, ap, arith, append_assoc, common_steps, onto_first}
-use Rattle.ptflow.proofs.Common.{flat_map, mask_l, chunk, length-chunk, chunk-drop, nat_tests, append-nil, take_all}
+use Rattle.ptflow.proofs.Common.{flat_map, mask_l, chunk, length-chunk, chunk-drop, append-nil, take_all}
 use Rattle.ptflow.proofs.Common.{drop_all, append_cancel_right, map-append, IsFirstByte, is_byte, unlines, lines}
 use Rattle.ptflow.proofs.Common.{IsLine, complete_lines, lines_cons, byte_ne, lines_of_unlines, unlines-append}
 use Rattle.ptflow.proofs.Common.{line_before_terminator, select_from, cut_line, cut, cut_decided, cut_lines_from}

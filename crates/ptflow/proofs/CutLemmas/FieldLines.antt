@@ -4,11 +4,11 @@
 use Rattle.ptflow.proofs.Common.{◌≡◌, ℕ, ◌==◌, true, false, arith, List, [], ◌∷◌, ◌++◌, refl, Option, None, Some}
 use Rattle.ptflow.proofs.Common.{is_some, flat_map, list_any, list_any_at, IsFirstByte, is_byte, line_if_not_found}
 use Rattle.ptflow.proofs.Common.{append-nil, unlines, IsLine, byte_ne, unlines-append, Cut, is_field_delimiter}
-use Rattle.ptflow.proofs.Common.{cut_fields, cut_line, cut_lines, cut_tool, cut_fields_from, IsPrefix, known_lines}
+use Rattle.ptflow.proofs.Common.{cut_fields, cut_line, cut_lines, cut_tool, cut_fields_from, IsPrefix}
 use Rattle.ptflow.proofs.Common.{IsLineFilter, zero, suc, ◌+◌, ◌-◌, ◌<◌, ◌≤◌, ◌⊎◌, inl, inr, length, take, drop}
 use Rattle.ptflow.proofs.Common.{common_steps, get_or, ap₂, append_assoc, get_or-take, take-append-drop}
 use Rattle.ptflow.proofs.Common.{unwrap_or, take-take, take_all, length-take-le, complete_lines, AreLines}
-use Rattle.ptflow.proofs.Common.{line_before_terminator, take_with_terminator, drop_at_terminator, complete_lines_cons}
+use Rattle.ptflow.proofs.Common.{line_before_terminator, complete_lines_cons}
 use Rattle.ptflow.proofs.Common.{the_lines, the_complete_lines, CopyLinesPost, the_lines_of_parts, CutOfParts}
 use Rattle.ptflow.proofs.Passes.Lines.{ended_next, line_split}
 

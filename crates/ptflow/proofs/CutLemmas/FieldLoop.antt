@@ -4,7 +4,7 @@ use Rattle.ptflow.proofs.Common.{common_steps, ◌≡◌, ℕ, zero, suc, Bool, 
 use Rattle.ptflow.proofs.Common.{◌∷◌, ◌++◌}
 use Rattle.ptflow.proofs.Common.{length, take, drop, get_or, refl, ap, arith, length-append, length-drop}
 use Rattle.ptflow.proofs.Common.{drop_all, drop_more, drop-drop, drop-take, drop-append-le, length-take-le, Cut}
-use Rattle.ptflow.proofs.Common.{cut_fields, join_with_byte, is_selected, AreSeparated, Interval, select_from, fields}
+use Rattle.ptflow.proofs.Common.{cut_fields, is_selected, AreSeparated, Interval, select_from, fields}
 use Rattle.ptflow.proofs.Common.{prefixed_fields, IsFieldOffset, IsFieldCursor, IsNextSlice, output_from_cursor, min}
 use Rattle.ptflow.specs.declared.tools.cut.fields.FieldCursor.{FieldCursor}
 use Rattle.ptflow.proofs.Vectors.Select.{not_selected, select_none, select_first, select_slice, select_skip}

@@ -17,9 +17,6 @@ use Rattle.ptflow.proofs.Passes.Exits.{nothing_more, pass_read, pass_write, pass
 module _ {reader shown : Reader} {block : List ℕ} (advance_ok : AdvanceOk reader shown [])
     (buffered : shown.buffered ≡ block) (sound : IsSound reader) {counted : ℕ}
     (few : counted ≤ reader.pulled - length reader.buffered) where
-  counted_block : counted + length block ≤ shown.pulled
-  counted_block = omega (arith, ap length buffered)
-
   pub counted_more : {new : Reader} {more : ℕ} → new ≡ record shown { buffered = drop (length block) shown.buffered }
       → more ≤ counted + length block → more ≤ new.pulled - length new.buffered
   counted_more consumed least = grind (arith, common_steps)

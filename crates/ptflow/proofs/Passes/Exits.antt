@@ -11,9 +11,8 @@ use Rattle.ptflow.proofs.Common.{received_with, advance_trans, push_nothing, pus
 use Rattle.ptflow.proofs.Common.{only_input, pass_end, pass_engine, CallState, call_state, CallOutcome}
 use Rattle.ptflow.proofs.Common.{AddedSlots, CallProgress, DecidedIfReadFailed, call_ends, call_on_failed_output}
 use Rattle.ptflow.proofs.Common.{call_set, call_without_slots, ProcessLag, bounded_lag_after, FlowFault, Read, Write}
-use Rattle.ptflow.proofs.Common.{Memory, reads_nothing}
+use Rattle.ptflow.proofs.Common.{Memory}
 use Rattle.std.specs.Prelude.{IsErrAnd}
-use Rattle.ptflow.proofs.Passes.StepOutput.{returned_err}
 use Rattle.ptflow.proofs.Passes.Readers.{stays_at_eof}
 
 abbrev state : Reader → Output → Slots → CallState (Unit {0})

@@ -3,7 +3,7 @@
 -- `Exits`.
 use Rattle.ptflow.proofs.Common.{common_steps, ◌≡◌, Bool, ℕ, ◌+◌, ◌-◌, ◌<◌, ◌≤◌, ◌^◌, true, false, List, [], ◌∷◌}
 use Rattle.ptflow.proofs.Common.{◌++◌, Ok, Err, length, drop, max, refl, ◌∙◌, ap, subst, arith, append_assoc}
-use Rattle.ptflow.proofs.Common.{length-append, mul-le-mul_left, nil_from_length, get_or-set_same, lines}
+use Rattle.ptflow.proofs.Common.{length-append, nil_from_length, get_or-set_same, lines}
 use Rattle.ptflow.proofs.Common.{complete_lines, IsLine, max_length, max_line_length, Received, known_lines, IsPrefix}
 use Rattle.ptflow.proofs.Common.{IsConsistent, Output, PushEffect, Reader, ReaderAdvance, AdvanceOk, IsDone, IsSound}
 use Rattle.ptflow.proofs.Common.{HasReadCause, Slots, line, with_line, with_denied, FillPost, FillLine}

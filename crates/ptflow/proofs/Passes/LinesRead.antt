@@ -6,8 +6,8 @@ use Rattle.ptflow.proofs.Common.{length, take, drop, max, refl, arith, append_as
 use Rattle.ptflow.proofs.Common.{length-drop, take-append-drop, false≢true, append-nil, unlines, lines}
 use Rattle.ptflow.proofs.Common.{IsLine, AreLines, max_length, max_line_length, Received, IsConsistent, known_lines}
 use Rattle.ptflow.proofs.Common.{LaggedInput, Reader, ReaderAdvance, AdvanceOk, IsDone, IsSound, Slots, FillLine}
-use Rattle.ptflow.proofs.Common.{lines_of_unlines, lines_of_last, lines_cons, lines-unlines, unlines-append}
-use Rattle.ptflow.proofs.Common.{unlines_push, complete_lines_of_unlines, AreReceivedLines}
+use Rattle.ptflow.proofs.Common.{lines_of_unlines, lines_of_last, lines_cons, lines-unlines}
+use Rattle.ptflow.proofs.Common.{complete_lines_of_unlines, AreReceivedLines}
 use Rattle.ptflow.proofs.Common.{received_with}
 use Rattle.ptflow.proofs.Passes.Lines.{piece_le_max_length, max_length-append}
 use Rattle.ptflow.proofs.Passes.Readers.{eof_gives_nothing, stays_at_eof}

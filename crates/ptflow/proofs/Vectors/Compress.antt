@@ -10,10 +10,8 @@ use Rattle.ptflow.proofs.Common.{pick_l-range_with_len, take-map, take-take, tak
 use Rattle.ptflow.proofs.Common.{drop-append-le, length-take-le, length-range_with_len, get_or-range_with_len}
 use Rattle.ptflow.proofs.Common.{take-append-add, and_numeral, nat_tests, pow-succ', select_by, true_indices}
 use Rattle.ptflow.proofs.Common.{IsCompressRow, IsCompressTable}
-use Rattle.std.proofs.Common.{length-set}
 use Rattle.std.specs.Prelude.{bit_and, slice_index_or, count_ones}
 use Rattle.ptlines.proofs.MatchMasks.{mask_append}
-use Rattle.ptflow.proofs.Vectors.Lanes.{stored_more}
 
 -- ---- items that are selected by flags
 

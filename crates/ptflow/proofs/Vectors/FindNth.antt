@@ -6,7 +6,7 @@ use Rattle.ptflow.proofs.Common.{sym, ◌∙◌, ap, subst, arith, get_or-take, 
 use Rattle.ptflow.proofs.Common.{prefix_len, mask_l, chunk, take-add, take-take, length-take-le, get_or-le-sum_by}
 use Rattle.ptflow.proofs.Common.{sum_by-cons, sum_by-append, sum_by-take-le, trailing_mask_l, ones-mask_l}
 use Rattle.ptflow.proofs.Common.{get_or-chunk, length-chunk, IsFirstByte, NoneBefore, Passes, is_byte}
-use Rattle.ptflow.proofs.Common.{line_before_terminator, line_if_not_found, take_all, Nowhere, None, option_map}
+use Rattle.ptflow.proofs.Common.{line_before_terminator, line_if_not_found, Nowhere, None, option_map}
 use Rattle.ptflow.proofs.Common.{nowhere_trans, IsLine, byte_ne, IsNth, HasTerminators, count_by_more_yes}
 use Rattle.ptflow.proofs.Common.{length-map, common_steps}
 use Rattle.std.proofs.lemmas.List.{get_or-drop, drop-map}
