@@ -97,13 +97,6 @@ module _ (job : Cut) (by_fields : job.fields ≡ true) where
 
 -- ---- the first lines of a block
 
-module _ {job : Cut} {end : ℕ} {bytes : List ℕ} {size : ℕ} (some : 0 < size) (fits : size ≤ length bytes)
-    (front : List (List ℕ)) (texts : unlines end front ≡ take size bytes)
-    (lines_are : complete_lines end bytes ≡ front ++ complete_lines end (drop size bytes)) where
-  puts : {old new : List ℕ} → new ≡ old ++ cut_lines job front → CopyLinesPost job end bytes size old new
-  puts {old} is =
-      grind (arith, common_steps, lines_are, unlines-append, front, texts, append_assoc, cut_lines-append, cut_lines)
-
 module _ (job : Cut) (by_fields : job.fields ≡ true) {end : ℕ} (same : end ≡ job.terminator) (bytes : List ℕ) (to : ℕ)
     (first : IsFirstByte (is_byte end) bytes (Some to)) where
   -- one line, with this output

@@ -57,9 +57,6 @@ module _ (end : ℕ) (now : Reader) (given : List ℕ) (ls : List (List ℕ))
     free : IsLine end next_line.line
     free = rw same at next_line.whole
 
-    some_received : 0 < length (next_line.line ++ next_line.terminator)
-    some_received = omega arith
-
     -- its bytes are a line for every continuation
     pub line_prefix : (rest : List ℕ) → (IsDone new → rest ≡ [])
         → lines end ((next_line.line ++ next_line.terminator) ++ rest) ≡ next_line.line ∷ lines end rest

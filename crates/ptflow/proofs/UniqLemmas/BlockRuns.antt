@@ -53,13 +53,7 @@ module _ {end : ℕ} {block rest : List ℕ} {front : List (List ℕ)} (lies : B
       next_is : slice_range block from (to - 1) ≡ take at rest
       next_is = grind (arith, common_steps, starts, front_drop)
 
-      next_span : IsLineSpan end block (record { from = from; to = to })
-      next_span = let (here, there) = starts in grind (arith, common_steps)
-
 -- ---- deferred output
-
-pub span_nothing : {block : List ℕ} → IsSpan block (record { from = 0; to = 0 })
-span_nothing = record { ordered = omega arith; within = omega arith }
 
 -- adjacent ranges are one range
 span_join : {block : List ℕ} {a b : Span} → IsSpan block a → IsSpan block b → a.to ≡ b.from
