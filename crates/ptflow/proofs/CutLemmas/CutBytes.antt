@@ -1,8 +1,8 @@
 -- The output of `cut` by bytes for the rest of a text. A piece of a line adds to the line offset, and a terminator
 -- resets it; at offset 0 the output is that of complete lines.
-use Rattle.ptflow.proofs.Common.{◌≡◌, ℕ, ◌+◌, ◌-◌, ◌≤◌, ◌^◌, ◌==◌, Bool, false, List, [], ◌∷◌, ◌++◌, map, length, take}
-use Rattle.ptflow.proofs.Common.{drop, Some, refl, sym, ◌∙◌, ap, arith, append_assoc, common_steps, onto_first}
-use Rattle.ptflow.proofs.Common.{flat_map, mask_l, chunk, length-chunk, chunk-drop, nat_tests, append-nil, take_all}
+use Rattle.ptflow.proofs.Common.{◌≡◌, ℕ, ◌+◌, ◌-◌, ◌≤◌, ◌^◌, Bool, false, List, [], ◌∷◌, ◌++◌, map, length, take}
+use Rattle.ptflow.proofs.Common.{drop, Some, refl, ap, arith, append_assoc, common_steps, onto_first}
+use Rattle.ptflow.proofs.Common.{flat_map, mask_l, chunk, length-chunk, chunk-drop, append-nil, take_all}
 use Rattle.ptflow.proofs.Common.{drop_all, append_cancel_right, map-append, IsFirstByte, is_byte, unlines, lines}
 use Rattle.ptflow.proofs.Common.{IsLine, complete_lines, lines_cons, byte_ne, lines_of_unlines, unlines-append}
 use Rattle.ptflow.proofs.Common.{line_before_terminator, select_from, cut_line, cut, cut_decided, cut_lines_from}
@@ -17,7 +17,7 @@ module _ (end : ℕ) (selected : ℕ → Bool) where
   -- at offset 0, the rest is a text of its own
   pub rest_of_all : (ls : List (List ℕ)) → cut_lines_from end selected 0 ls ≡ cut_text ls
   rest_of_all [] = refl
-  rest_of_all (line ∷ ls) = sym (append_assoc (select_from selected 1 line) (end ∷ []) (cut_text ls))
+  rest_of_all (line ∷ ls) = simp (append_assoc, end, cut_text)
 
   pub rest_line : (line_offset : ℕ) (line rest : List ℕ) → IsLine end line
       → cut_bytes_from end selected line_offset (line ++ end ∷ rest)
@@ -28,7 +28,7 @@ module _ (end : ℕ) (selected : ℕ → Bool) where
   rest_onto : (line_offset b : ℕ) (ls : List (List ℕ))
       → cut_lines_from end selected line_offset (onto_first b ls) ≡ select_from selected (line_offset + 1) (b ∷ [])
       ++ cut_lines_from end selected (line_offset + 1) ls
-  rest_onto line_offset b [] = let some : (line_offset + 1 == 0) ≡ false = grind (arith, nat_tests) in rw some refl
+  rest_onto line_offset b [] = grind arith
   rest_onto line_offset b (line ∷ ls) = grind arith
 
   select_onto : (n b : ℕ) (xs : List ℕ)
@@ -108,9 +108,7 @@ pub piece_next : (end : ℕ) (selected : ℕ → Bool) (line_offset : ℕ) (byte
     ≡ (select_from selected (line_offset + 1) (take (length bytes) bytes) ++ drop (length bytes) bytes)
     ++ cut_bytes_from end selected (line_offset + length bytes) more
 piece_next end selected line_offset bytes whole more =
-    let all : take (length bytes) bytes ≡ bytes = take_all (length bytes) bytes (omega arith) in
-    let none : drop (length bytes) bytes ≡ [] = drop_all (length bytes) bytes (omega arith) in
-    cc (rest_piece end selected line_offset bytes more whole, append-nil (select_from selected (line_offset + 1) bytes))
+    grind (arith, common_steps, take_all, drop_all, rest_piece, end, append-nil)
 
 -- output that is extended by one step
 pub cut_next : (end : ℕ) (list : List Interval) (line_offset now next : ℕ) (from rest rest' old was : List ℕ)
@@ -133,7 +131,7 @@ module _ (job : Cut) (by_bytes : job.fields ≡ false) where
       one_each (x ∷ xs) = rw by_bytes (ap (◌∷◌ (select_from job.selected 1 x)) (one_each xs))
 
   pub rest_is_cut : (bytes : List ℕ) → cut_bytes_from end job.selected 0 bytes ≡ cut job bytes
-  rest_is_cut bytes = rest_of_all end job.selected (lines end bytes) ∙ sym (made_is (lines end bytes))
+  rest_is_cut bytes = simp (rest_of_all, end, made_is)
 
   -- the output that was pushed for these bytes begins with the output for their complete lines
   pub rest_is_decided : (given pushed : List ℕ) (now : ℕ)

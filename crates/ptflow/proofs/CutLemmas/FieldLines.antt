@@ -1,14 +1,14 @@
 -- The output of `cut` by fields for a line, with or without the delimiter, and for the first lines of a block: the
 -- fields of a line with the delimiter, and lines without it unchanged, or nothing with `-s`. No state is carried, so
 -- the output for two lists of lines is the output for each, one after the other.
-use Rattle.ptflow.proofs.Common.{◌≡◌, ℕ, ◌==◌, true, false, arith, List, [], ◌∷◌, ◌++◌, refl, ◌∙◌, Option, None, Some}
+use Rattle.ptflow.proofs.Common.{◌≡◌, ℕ, ◌==◌, true, false, arith, List, [], ◌∷◌, ◌++◌, refl, Option, None, Some}
 use Rattle.ptflow.proofs.Common.{is_some, flat_map, list_any, list_any_at, IsFirstByte, is_byte, line_if_not_found}
 use Rattle.ptflow.proofs.Common.{append-nil, unlines, IsLine, byte_ne, unlines-append, Cut, is_field_delimiter}
-use Rattle.ptflow.proofs.Common.{cut_fields, cut_line, cut_lines, cut_tool, cut_fields_from, IsPrefix, known_lines}
+use Rattle.ptflow.proofs.Common.{cut_fields, cut_line, cut_lines, cut_tool, cut_fields_from, IsPrefix}
 use Rattle.ptflow.proofs.Common.{IsLineFilter, zero, suc, ◌+◌, ◌-◌, ◌<◌, ◌≤◌, ◌⊎◌, inl, inr, length, take, drop}
-use Rattle.ptflow.proofs.Common.{common_steps, get_or, sym, ap₂, subst, append_assoc, get_or-take, take-append-drop}
+use Rattle.ptflow.proofs.Common.{common_steps, get_or, ap₂, append_assoc, get_or-take, take-append-drop}
 use Rattle.ptflow.proofs.Common.{unwrap_or, take-take, take_all, length-take-le, complete_lines, AreLines}
-use Rattle.ptflow.proofs.Common.{line_before_terminator, take_with_terminator, drop_at_terminator, complete_lines_cons}
+use Rattle.ptflow.proofs.Common.{line_before_terminator, complete_lines_cons}
 use Rattle.ptflow.proofs.Common.{the_lines, the_complete_lines, CopyLinesPost, the_lines_of_parts, CutOfParts}
 use Rattle.ptflow.proofs.Passes.Lines.{ended_next, line_split}
 
@@ -36,7 +36,7 @@ module _ (job : Cut) (by_fields : job.fields ≡ true) (line : List ℕ) where
 module _ (job : Cut) (line : List ℕ) where
   pub line_written : (bytes : List ℕ) → cut_line job line ≡ bytes ∷ [] → cut_lines job (line ∷ []) ≡ bytes
       ++ job.terminator ∷ []
-  line_written bytes is = cc (append-nil (cut_line job line), append-nil (bytes ++ job.terminator ∷ []))
+  line_written bytes is = grind (arith, common_steps, append-nil)
 
   pub line_dropped : cut_line job line ≡ [] → cut_lines job (line ∷ []) ≡ []
   line_dropped is = cc
@@ -48,24 +48,12 @@ module _ (job : Cut) where
   -- all output that was pushed is decided
   cut_sure : (ls : List (List ℕ)) (pushed : List ℕ) → cut_lines job (ls ++ []) ≡ pushed ++ cut_lines job []
       → IsPrefix (cut_lines job ls) pushed
-  cut_sure ls pushed on = record {
-    rest = [];
-    is = cc (append-nil pushed, append-nil ls, append-nil (cut_lines job ls));
-  }
+  cut_sure ls pushed on = grind (arith, common_steps, append-nil, cut_lines)
 
   pub cut_line_tool : {S : Type 0} (start : S) → job.fields ≡ true
       → IsLineFilter {S = S} {X = Unit {0}} {E = ℕ} (cut_tool job) (λ room store. tt) (cut_fields_from job)
       (λ bytes. bytes) (λ u. 1) 1 start
-  cut_line_tool start by_fields = record {
-    apart = λ xs ys. refl;
-    stays = λ now store bytes room. refl;
-    fresh = λ store. omega arith;
-    tool_text = λ store bytes. refl;
-    decided = λ store given passed now on. cut_sure (known_lines job.terminator given) passed (on []);
-    size = λ bytes. omega arith;
-    slots = cc;
-    some = omega arith;
-  }
+  cut_line_tool start by_fields = grind (arith, cut_sure)
 
 -- ---- lines before others
 
@@ -109,34 +97,12 @@ module _ (job : Cut) (by_fields : job.fields ≡ true) where
 
 -- ---- the first lines of a block
 
-module _ {job : Cut} {end : ℕ} {bytes : List ℕ} {size : ℕ} (some : 0 < size) (fits : size ≤ length bytes)
-    (front : List (List ℕ)) (texts : unlines end front ≡ take size bytes)
-    (lines_are : complete_lines end bytes ≡ front ++ complete_lines end (drop size bytes)) where
-  puts : {old new : List ℕ} → new ≡ old ++ cut_lines job front → CopyLinesPost job end bytes size old new
-  puts {old} is = record {
-    some = some;
-    fits = fits;
-    taken = cc (lines_are, unlines-append end front (complete_lines end (drop size bytes)), texts);
-    on = λ more.
-        let rest = complete_lines end (drop size bytes) ++ more in
-        cc (
-          lines_are,
-          append_assoc front (complete_lines end (drop size bytes)) more,
-          cut_lines-append job front rest,
-          append_assoc old (cut_lines job front) (cut_lines job rest),
-        );
-  }
-
 module _ (job : Cut) (by_fields : job.fields ≡ true) {end : ℕ} (same : end ≡ job.terminator) (bytes : List ℕ) (to : ℕ)
     (first : IsFirstByte (is_byte end) bytes (Some to)) where
   -- one line, with this output
   pub puts_line : (out : List ℕ) {old new : List ℕ} → cut_line job (take to bytes) ≡ out ∷ [] → new ≡ old
       ++ (out ++ take 1 (drop to bytes)) → CopyLinesPost job end bytes (to + 1) old new
-  puts_line out is put =
-      puts (omega arith) (omega arith) (take to bytes ∷ [])
-      (append-nil (take to bytes ++ end ∷ []) ∙ sym (take_with_terminator end bytes to first))
-      (ended_next end bytes to first)
-      (cc (drop_at_terminator end bytes to first, line_written job (take to bytes) out is))
+  puts_line out is put = grind (arith, common_steps, ended_next)
 
   -- all complete lines before an index, none of which has the delimiter
   module _ {size up_to : ℕ} (high : to < size) (fits : size ≤ length bytes) (eof : get_or bytes (size - 1) 0 ≡ end)
@@ -164,31 +130,20 @@ module _ (job : Cut) (by_fields : job.fields ≡ true) {end : ℕ} (same : end �
     free_up_to {n} le = rw (take-take n up_to bytes le) at (free_prefix job.delimiter n (take up_to bytes) free)
 
     are_free : ((size ≡ to + 1) ⊎ (size ≤ up_to)) → AreLines job.delimiter front
-    are_free (inl one) =
-        let is : front ≡ take to bytes ∷ [] =
-        cc (
-          take_with_terminator end bytes to first,
-          complete_lines_cons end (take to bytes) []
-              (line_before_terminator end bytes to first),
-        ) in
-        subst (AreLines job.delimiter) (sym is) (free_up_to past, tt)
+    are_free (inl one) = grind (arith, common_steps, complete_lines_cons, line_before_terminator, free_up_to)
     are_free (inr le) = free_lines job.delimiter end (take size bytes) (free_up_to le)
 
     pub puts_kept : {old new : List ℕ} → job.only ≡ false → new ≡ old ++ take size bytes
         → CopyLinesPost job end bytes size old new
-    puts_kept keeps put =
-        puts (omega arith) fits front texts lines_are (cc (texts, lines_kept job by_fields keeps front (are_free near)))
+    puts_kept keeps put = grind (arith, common_steps, texts, lines_are, lines_kept, are_free)
 
     pub puts_dropped : {old : List ℕ} → job.only ≡ true → CopyLinesPost job end bytes size old old
-    puts_dropped {old} only =
-        puts (omega arith) fits front texts lines_are
-        (sym (cc (lines_dropped job by_fields only front (are_free near), append-nil old)))
+    puts_dropped {old} only = grind (arith, common_steps, texts, lines_are, lines_dropped, are_free)
 
 -- before the first delimiter there is none
 pub free_before : (d : ℕ) (bytes : List ℕ) (r : Option ℕ) → IsFirstByte (is_byte d) bytes r
     → IsLine d (take (unwrap_or r (length bytes)) bytes)
-free_before d bytes None none = subst (IsLine d) (sym (take_all (length bytes) bytes (omega arith)))
-    (line_if_not_found d bytes none)
+free_before d bytes None none = grind (arith, common_steps, take_all, line_if_not_found)
 free_before d bytes (Some at) first = line_before_terminator d bytes at first
 
 -- the first delimiter of some bytes is the first one of the first line if it is in that line
@@ -196,14 +151,7 @@ pub first_within : (d : ℕ) (bytes : List ℕ) (r : Option ℕ) (to : ℕ) → 
     → unwrap_or r (length bytes) < to → to ≤ length bytes
     → IsFirstByte (is_byte d) (take to bytes) (Some (unwrap_or r (length bytes)))
 first_within d bytes None to none lt le = absurd (omega arith)
-first_within d bytes (Some at) to first lt le = (
-  record {
-    low = omega arith;
-    high = omega (arith, length-take-le to bytes le);
-    before = λ k low high is. first.0.before k low high (cc (get_or-take to bytes k 0 (omega arith)));
-  },
-  cc (get_or-take to bytes at 0 lt),
-)
+first_within d bytes (Some at) to first lt le = grind (arith, common_steps, length-take-le, get_or-take)
 
 -- a text that is cut after a line
 pub cut_of_parts : CutOfParts

@@ -1,9 +1,10 @@
 -- The selected fields of a line, in one pass. The fields of an interval, with the delimiter before each, are one slice
 -- of the line; so the output is these slices, the first without the delimiter before it.
-use Rattle.ptflow.proofs.Common.{◌≡◌, ℕ, zero, suc, Bool, true, false, cond, ◌+◌, ◌-◌, ◌<◌, ◌≤◌, List, [], ◌∷◌, ◌++◌}
-use Rattle.ptflow.proofs.Common.{length, take, drop, get_or, refl, sym, ◌∙◌, ap, arith, length-append, length-drop}
+use Rattle.ptflow.proofs.Common.{common_steps, ◌≡◌, ℕ, zero, suc, Bool, true, false, cond, ◌+◌, ◌-◌, ◌<◌, ◌≤◌, List, []}
+use Rattle.ptflow.proofs.Common.{◌∷◌, ◌++◌}
+use Rattle.ptflow.proofs.Common.{length, take, drop, get_or, refl, ap, arith, length-append, length-drop}
 use Rattle.ptflow.proofs.Common.{drop_all, drop_more, drop-drop, drop-take, drop-append-le, length-take-le, Cut}
-use Rattle.ptflow.proofs.Common.{cut_fields, join_with_byte, is_selected, AreSeparated, Interval, select_from, fields}
+use Rattle.ptflow.proofs.Common.{cut_fields, is_selected, AreSeparated, Interval, select_from, fields}
 use Rattle.ptflow.proofs.Common.{prefixed_fields, IsFieldOffset, IsFieldCursor, IsNextSlice, output_from_cursor, min}
 use Rattle.ptflow.specs.declared.tools.cut.fields.FieldCursor.{FieldCursor}
 use Rattle.ptflow.proofs.Vectors.Select.{not_selected, select_none, select_first, select_slice, select_skip}
@@ -22,22 +23,17 @@ cursor_starts d line apart =
 -- all selected fields of a line are left, by the list of a job
 pub selected_remaining : (job : Cut) (list : List Interval) {d : ℕ} (line : List ℕ) → d ≡ job.delimiter
     → is_selected list ≡ job.selected → cut_fields job line ≡ output_from_cursor d list line line_start
-selected_remaining job list {d} line same selected =
-    (λ i. join_with_byte (sym same i) (select_from (sym selected i) 1 (fields (sym same i) line)))
-    ∙ join_prefixed d (select_from (is_selected list) 1 (fields d line))
+selected_remaining job list {d} line same selected = grind (arith, join_prefixed)
 
 module _ (d : ℕ) (all : List Interval) (line : List ℕ) (cursor : FieldCursor) where
   -- no selected field is left
   none_selected : select_from (is_selected (drop cursor.index all)) (cursor.passed + 1)
       (drop cursor.passed (fields d line)) ≡ [] → output_from_cursor d all line cursor ≡ []
-  none_selected none = cc (none, drop_all (1 - min cursor.index 1) (prefixed_fields d []) (omega arith))
+  none_selected none = grind arith
 
   -- no interval is left
   pub no_interval : length all ≤ cursor.index → output_from_cursor d all line cursor ≡ []
-  no_interval past = none_selected (cc (
-    drop_all cursor.index all past,
-    select_none (is_selected []) (cursor.passed + 1) (drop cursor.passed (fields d line)) (λ m low high. refl),
-  ))
+  no_interval past = grind (arith, common_steps, none_selected, drop_all, select_none)
 
   module _ (w : IsFieldCursor d all line cursor) where
     -- the line ends before the cursor
@@ -148,23 +144,19 @@ module _ (d : ℕ) (all : List Interval) (line : List ℕ) (cursor : FieldCursor
                 ≡ take ((at - 1) - (from - min cursor.index 1)) (drop (from - min cursor.index 1) line)
                 ++ output_from_cursor d all line next
             output =
-                let sep = min cursor.index 1 in
-                let front = take size (fields d rest) in
-                let more = select_from (is_selected rs) (r.last + 1) (drop r.last (fields d line)) in
-                let many : (at - 1) - (from - sep) ≡ (at - from - 1) + sep = omega (arith, some, sep_fits) in
-                let whole : (1 - sep) + ((at - from - 1) + sep) ≡ at - from = omega (arith, some) in
-                let none : 1 - min (cursor.index + 1) 1 ≡ 0 = omega arith in
-                let long : 1 - sep ≤ length (prefixed_fields d front) =
-                omega
-                (arith, some, ap length (sym p.front), length-take-le (at - from) (d ∷ rest) (omega (arith, p.fits))) in
-                cc (
+                grind (
+                  arith,
+                  common_steps,
+                  some,
+                  sep_fits,
+                  prefixed_fields,
+                  length-take-le,
                   sep_drop,
-                  p.front,
-                  drop-take (1 - sep) ((at - from - 1) + sep) (d ∷ rest),
+                  drop-take,
                   these,
                   selected,
-                  prefixed_fields-append d front more,
-                  drop-append-le (1 - sep) (prefixed_fields d front) (prefixed_fields d more) long,
+                  prefixed_fields-append,
+                  drop-append-le,
                 )
 
             one : min (cursor.index + 1) 1 ≡ 1
@@ -172,14 +164,7 @@ module _ (d : ℕ) (all : List Interval) (line : List ℕ) (cursor : FieldCursor
 
             pub next_slice : IsNextSlice d all line cursor
                 (record { start = from - min cursor.index 1; end = at - 1; next = next })
-            next_slice = record {
-              output = output;
-              order = omega (arith, some);
-              within = omega (arith, ends.fits);
-              next = record { offset = ends; apart = rw one apart.2 };
-              later = omega arith;
-              bound = omega arith;
-            }
+            next_slice = grind (arith, common_steps, output, some, ends, next, apart, one)
 
 -- ---- the output of a line is not longer than the line
 

@@ -1,6 +1,7 @@
 -- The fields of a line, and where they start. Each delimiter ends one field, so the rest of the fields, after the first
 -- n, starts after the n-th delimiter.
-use Rattle.ptflow.proofs.Common.{◌≡◌, ℕ, zero, suc, ◌+◌, ◌<◌, ◌==◌, ◌-◌, ◌≤◌, Bool, true, false, cond, List, [], ◌∷◌}
+use Rattle.ptflow.proofs.Common.{common_steps, ◌≡◌, ℕ, zero, suc, ◌+◌, ◌<◌, ◌==◌, ◌-◌, ◌≤◌, Bool, true, false, cond}
+use Rattle.ptflow.proofs.Common.{List, [], ◌∷◌}
 use Rattle.ptflow.proofs.Common.{◌++◌, length, take, drop, get_or, refl, sym, ◌∙◌, ap, arith, onto_first}
 use Rattle.ptflow.proofs.Common.{join_with_byte, append-nil, take-take, take-add, take_all, drop_all, take_at, drop_at}
 use Rattle.ptflow.proofs.Common.{drop_more, drop-drop, length-drop, length-take-le, take-append-drop, flat_map-append}
@@ -41,30 +42,11 @@ module _ (d : ℕ) where
 
   module _ (line : List ℕ) where
     pub offset_start : IsFieldOffset d 0 line 0
-    offset_start = record {
-      fits = omega arith;
-      some = omega arith;
-      front = refl;
-      back = sym (prefixed_of_fields line);
-      later = λ fits. refl;
-    }
+    offset_start = grind (arith, prefixed_of_fields)
 
     -- after the last field
     pub offset_end : {n : ℕ} → count_by (is_byte d) line < n → IsFieldOffset d n line (length line + 1)
-    offset_end {n} lt =
-        let few : length (fields d line) ≤ n = omega (arith, length-slice_split (is_byte d) line) in
-        let all : length (d ∷ line) ≤ length line + 1 = omega arith in
-        record {
-          fits = omega arith;
-          some = omega arith;
-          front = cc (
-            take_all (length line + 1) (d ∷ line) all,
-            take_all n (fields d line) few,
-            prefixed_of_fields line,
-          );
-          back = cc (drop_all (length line + 1) (d ∷ line) all, drop_all n (fields d line) few);
-          later = λ fits. absurd (omega (arith, fits));
-        }
+    offset_end {n} lt = grind (arith, common_steps, length-slice_split, take_all, prefixed_of_fields, drop_all)
 
     -- after the delimiter that comes after n - 1 others
     pub offset_after_nth : {n : ℕ} (at : ℕ) → 0 < n → IsNth (is_byte d) 0 (n - 1) line at
@@ -81,7 +63,7 @@ module _ (d : ℕ) where
         record {
           fits = omega (arith, within);
           some = omega arith;
-          front = cc (prefixed_of_fields xs, take_at (fields d xs) (fields d ys) n number);
+          front = grind (arith, common_steps, prefixed_of_fields, take_at);
           back = cc (prefixed_of_fields ys);
           later = λ fits. rest;
         }
@@ -101,32 +83,8 @@ module _ (d : ℕ) where
       -- k fields later
       pub offset_add : at ≤ length line → {k size : ℕ} → IsFieldOffset d k (drop at line) size
           → IsFieldOffset d (n + k) line (at + size)
-      offset_add fits {k} {size} next = record {
-        fits = omega (arith, next.fits, length-drop at line);
-        some = omega (arith, o.some, next.some);
-        front = cc (
-          take-add at size (d ∷ line),
-          o.front,
-          rest_at fits,
-          next.front,
-          o.later fits,
-          take-add n k (fields d line),
-          prefixed_fields-append (take n (fields d line)) (take k (drop n (fields d line))),
-        );
-        back = cc (
-          drop-drop size at (d ∷ line),
-          rest_at fits,
-          next.back,
-          o.later fits,
-          drop-drop k n (fields d line),
-        );
-        later = λ near. cc (
-          next.later (omega (arith, near, length-drop at line)),
-          o.later fits,
-          drop-drop k n (fields d line),
-          drop-drop size at line,
-        );
-      }
+      offset_add fits {k} {size} next =
+          grind (arith, common_steps, length-drop, take-add, rest_at, prefixed_fields-append, drop-drop)
 
 -- the rest of a line from an index on
 pub rest_of : (from to : ℕ) (bytes : List ℕ) → drop from (take to bytes) ≡ take (to - from) (drop from bytes)
@@ -138,5 +96,4 @@ rest_of (suc n) (suc to) (b ∷ bytes) = let less : suc to - suc n ≡ to - n = 
 -- a slice of a line
 pub slice_of : (from size : ℕ) {to : ℕ} (bytes : List ℕ) → from + size ≤ to
     → take size (drop from (take to bytes)) ≡ take size (drop from bytes)
-slice_of from size {to} bytes le = cc
-    (rest_of from to bytes, take-take size (to - from) (drop from bytes) (omega arith))
+slice_of from size {to} bytes le = grind (arith, common_steps, rest_of, take-take)

@@ -1,10 +1,10 @@
 -- A tool that works block by block. The output of each block is pushed before the next is read, so the input with no
 -- output yet is in the reader's buffer.
 use Rattle.ptflow.proofs.Common.{common_steps, ◌≡◌, ℕ, ◌+◌, ◌-◌, ◌≤◌, ◌<◌, ◌^◌, true, false, List, [], ◌++◌, None, Ok}
-use Rattle.ptflow.proofs.Common.{Err, length, drop, refl, ap, arith, append-nil, append_assoc}
-use Rattle.ptflow.proofs.Common.{take_all, Reader, ReaderAdvance, AdvanceOk, IsDone, IsSound, HasReadCause, IsPrefix}
-use Rattle.ptflow.proofs.Common.{Output, PushEffect, Slots, advance_ok_trans, push_trans, ToolSpec, PassPre, PassPost}
-use Rattle.ptflow.proofs.Common.{Read, Write, OutputFailed}
+use Rattle.ptflow.proofs.Common.{Err, length, drop, refl, arith, append-nil, append_assoc, take_all, Reader}
+use Rattle.ptflow.proofs.Common.{ReaderAdvance, AdvanceOk, IsDone, IsSound, HasReadCause, IsPrefix, Output, PushEffect}
+use Rattle.ptflow.proofs.Common.{Slots, advance_ok_trans, push_trans, ToolSpec, PassPre, PassPost, Read, Write}
+use Rattle.ptflow.proofs.Common.{OutputFailed}
 use Rattle.ptflow.specs.Private.Passes.BlockLoop.{IsBlockFilter}
 use Rattle.ptflow.specs.Private.Passes.StepOutput.{OutputPart}
 use Rattle.ptflow.proofs.Passes.Readers.{advance_past}
@@ -15,9 +15,6 @@ use Rattle.ptflow.proofs.Passes.Exits.{store_unchanged, nothing_more, pass_read,
 module _ {reader shown : Reader} {block : List ℕ} (advance_ok : AdvanceOk reader shown [])
     (buffered : shown.buffered ≡ block) (sound : IsSound reader) {counted : ℕ}
     (few : counted ≤ reader.pulled - length reader.buffered) where
-  counted_block : counted + length block ≤ shown.pulled
-  counted_block = omega (arith, ap length buffered)
-
   pub counted_more : {new : Reader} {more : ℕ} → new ≡ record shown { buffered = drop (length block) shown.buffered }
       → more ≤ counted + length block → more ≤ new.pulled - length new.buffered
   counted_more consumed least = grind (arith, common_steps)
@@ -65,18 +62,11 @@ module _ {X : Type 0} {rest_from : X → List ℕ → List ℕ} {IsUnchanged : X
       given = run.given ++ block;
       pushed = run.pushed ++ part.pushed;
       reached = record {
-        advance_ok = advance_ok_trans _ _ _ _ _ run.reached.advance_ok
-            (rw (take_all (length block) block (omega arith)) at
-            (advance_past (length block) advance_ok buffered (omega arith) consumed));
+        advance_ok = grind (arith, common_steps, advance_ok_trans, take_all, advance_past);
         wrote = push_trans _ _ _ _ _ run.reached.clean run.reached.wrote part.wrote;
         clean = part.clean;
       };
-      on = λ rest. cc (
-        append_assoc run.given block rest,
-        run.on (block ++ rest),
-        part.on rest,
-        append_assoc run.pushed part.pushed (rest_from next rest),
-      );
+      on = grind (arith, common_steps, append_assoc);
       holds = λ same. unchanged (run.holds same);
     }
 
@@ -88,7 +78,7 @@ module _ {X : Type 0} {rest_from : X → List ℕ → List ℕ} {IsUnchanged : X
         (ready : PassPre old store) (sound : IsSound reader) {new : Reader} (reads : ReaderAdvance reader new [])
         (is_sound : IsSound new) where
       decided_so : IsPrefix (tool.decided (record { bytes = run.given; eof = false })) run.pushed
-      decided_so = block_filter.decided run.given run.pushed now (run.holds block_filter.holds) run.on
+      decided_so = grind (arith, common_steps)
 
       -- the output that was pushed before this block
       ending : PassEnding tool midway new store store []

@@ -2,17 +2,15 @@
 -- allocation failed, or the input ended. Between two steps (`PassState`) the pushed bytes, followed by the output for
 -- the rest, are the output for every continuation of the input. So the output is exact at the end of the input, it is a
 -- prefix of the output for each consistent input, and decided output is written.
-use Rattle.ptflow.proofs.Common.{◌≡◌, ⊎_elim, inl, inr, ℕ, ◌≤◌, ◌<◌, ◌^◌, true, false, List, [], ◌++◌, length, None}
-use Rattle.ptflow.proofs.Common.{Result, Ok, Err, max, refl, sym, ◌∙◌, ap, arith, append_assoc, common_steps}
-use Rattle.ptflow.proofs.Common.{append-nil, false_from_ne_true, false≢true, Reader, ReaderAdvance, AdvanceOk, IsDone}
-use Rattle.ptflow.proofs.Common.{IsSound, HasReadCause, Received, IsPrefix, IsConsistent, Output, PushEffect, Slots}
-use Rattle.ptflow.proofs.Common.{total_bytes, received_with, advance_trans, push_nothing, push_trans, ToolSpec, PassPre}
-use Rattle.ptflow.proofs.Common.{PassPost, only_input, pass_end, pass_engine, CallState, call_state, CallOutcome}
-use Rattle.ptflow.proofs.Common.{AddedSlots, CallProgress, DecidedIfReadFailed, call_ends, call_on_failed_output}
-use Rattle.ptflow.proofs.Common.{call_set, call_without_slots, ProcessLag, bounded_lag_after, FlowFault, Read, Write}
-use Rattle.ptflow.proofs.Common.{Memory, reads_nothing}
+use Rattle.ptflow.proofs.Common.{◌≡◌, ⊎_elim, ℕ, ◌≤◌, ◌<◌, ◌^◌, true, false, List, [], ◌++◌, length, None, Result, Ok}
+use Rattle.ptflow.proofs.Common.{Err, max, refl, sym, ◌∙◌, arith, append_assoc, common_steps, append-nil}
+use Rattle.ptflow.proofs.Common.{false_from_ne_true, false≢true, Reader, ReaderAdvance, AdvanceOk, IsDone, IsSound}
+use Rattle.ptflow.proofs.Common.{HasReadCause, Received, IsPrefix, IsConsistent, Output, PushEffect, Slots, total_bytes}
+use Rattle.ptflow.proofs.Common.{received_with, advance_trans, push_nothing, push_trans, ToolSpec, PassPre, PassPost}
+use Rattle.ptflow.proofs.Common.{only_input, pass_end, pass_engine, CallState, call_state, CallOutcome, AddedSlots}
+use Rattle.ptflow.proofs.Common.{CallProgress, DecidedIfReadFailed, call_ends, call_on_failed_output, call_set}
+use Rattle.ptflow.proofs.Common.{call_without_slots, ProcessLag, bounded_lag_after, FlowFault, Read, Write, Memory}
 use Rattle.std.specs.Prelude.{IsErrAnd}
-use Rattle.ptflow.proofs.Passes.StepOutput.{returned_err}
 use Rattle.ptflow.proofs.Passes.Readers.{stays_at_eof}
 
 abbrev state : Reader → Output → Slots → CallState (Unit {0})
@@ -26,11 +24,7 @@ pub record Progress (old reader : Reader) (was is : Output) (given pushed : List
 
 pub progress_none : (old : Reader) (was : Output) → old.fault ≡ None → was.write_failed ≡ false
     → Progress old old was was [] []
-progress_none old was readable clean = record {
-  advance_ok = record { reads = reads_nothing old; fault = readable; failed = refl; short = λ h. h };
-  wrote = push_nothing was;
-  clean = clean;
-}
+progress_none old was readable clean = grind (arith, common_steps)
 
 -- the buffered output was written
 abbrev pub progress_flushed : {old reader : Reader} {was is is' : Output} {given pushed : List ℕ}
@@ -70,40 +64,23 @@ pub by_write : {A : Type 0} {tool : ToolSpec} {old new : Reader} {was is : Outpu
     {result : Result (Unit {0}) FlowFault}
     → A × IsErrAnd result (λ fault. fault ≡ Write)
     → PassPost tool old new was is before store (Err Write) → PassPost tool old new was is before store result
-by_write {result} returned post = let (_, is, fault) = returned_err result returned in rw (is, fault) post
+by_write {result} returned post = grind arith
 
 -- on an output that has failed, nothing is done
 pub pass_unchanged : (tool : ToolSpec) (old : Reader) (was : Output) (before : Slots) → PassPre old before
     → was.write_failed ≡ true → PassPost tool old old was was before before (Err Write)
-pass_unchanged tool old was before ready fault = record {
-  call = call_on_failed_output only_input (pass_engine tool) fault ready.not_denied;
-  only = λ index is. cc;
-  keeps_store = λ none. refl;
-  stays_done = λ done. done;
-}
+pass_unchanged tool old was before ready fault = grind (arith, call_on_failed_output)
 
 -- the terminator of the reader was set before the call
 module _ (old : Reader) {set : Reader} {end : ℕ} where
   pub ready_set : {store : Slots} → PassPre old store → set ≡ record old { terminator = end } → PassPre set store
-  ready_set ready same = rw same (record {
-    opened = ready.opened;
-    readable = ready.readable;
-    not_denied = ready.not_denied;
-    empty = ready.empty;
-  })
+  ready_set ready same = grind (arith, common_steps)
 
   pub pass_set : {tool : ToolSpec} {new : Reader} {was is : Output} {before store : Slots}
       {result : Result (Unit {0}) FlowFault} → PassPost tool set new was is before store result
       → set ≡ record old { terminator = end } → end ≡ tool.end → was.write_failed ≡ false
       → PassPost tool old new was is before store result
-  pass_set {tool} {new} {was} {is} {before} {store} post same ends clean = record {
-    call = call_set only_input (pass_engine tool) (state old was before) (state set was before) (state new is store)
-        clean refl refl (λ u read. same ∙ (λ i. record old { terminator = ends i })) (λ u unread. cc) post.call;
-    only = post.only;
-    keeps_store = post.keeps_store;
-    stays_done = λ done. post.stays_done
-        (rw same (record { eof = done.eof; buffered = done.buffered; left = done.left }));
-  }
+  pass_set {tool} {new} {was} {is} {before} {store} post same ends clean = grind (arith, call_set)
 
 -- a slot could not be allocated
 pub pass_unslotted : (tool : ToolSpec) {old : Reader} (was : Output) {before store : Slots} → PassPre old before
@@ -111,15 +88,8 @@ pub pass_unslotted : (tool : ToolSpec) {old : Reader} (was : Output) {before sto
     → store.peak ≡ before.peak → store.denied ≡ true → old.terminator ≡ tool.end
     → IsPrefix (tool.decided (record { bytes = []; eof = false })) []
     → PassPost tool old old was was before store (Err Memory)
-pass_unslotted tool {old} was {before} {store} ready sound clean adds few same denied ends decided = record {
-  call = call_without_slots only_input (pass_engine tool) (state old was before) (state old was store) clean refl
-      (λ u read i. record old { terminator = ends i }) (λ u unread. refl) (λ u read. sound)
-      (λ u read. sound.unfailed ready.opened ready.readable) denied same adds.least few (λ texts. omega arith)
-      (λ u read. decided);
-  only = λ index is. cc;
-  keeps_store = λ none. absurd (omega (arith, few, none));
-  stays_done = λ done. done;
-}
+pass_unslotted tool {old} was {before} {store} ready sound clean adds few same denied ends decided =
+    grind (arith, call_without_slots)
 
 -- a tool that is given a store that is not denied, and leaves it unchanged, never returns `Memory`
 pub never_memory : {tool : ToolSpec} {old new : Reader} {was is : Output} {store : Slots}
@@ -150,7 +120,7 @@ module _ {X : Type 0} {rest_from : X → List ℕ → List ℕ} {start now : X} 
   advanced = advance_trans _ _ _ _ _ midway.reached.advance_ok.reads p.reads
 
   never_failed : old.failed ≡ false
-  never_failed = cc (p.sound.unfailed (cc (p.ready.opened)) midway.reached.advance_ok.fault)
+  never_failed = grind (arith, common_steps)
 
   same_failed : new.failed ≡ reader.failed → new.failed ≡ old.failed
   same_failed same = cc
@@ -169,11 +139,9 @@ module _ {X : Type 0} {rest_from : X → List ℕ → List ℕ} {start now : X} 
       reads = λ u read. advanced;
       untouched = λ u unread. cc;
       never_failed = λ u read. never_failed;
-      writable = false_from_ne_true was.write_failed
-          (λ fault. cc (midway.reached.wrote.stays fault, midway.reached.clean));
+      writable = grind (arith, common_steps, false_from_ne_true);
       wrote = push_trans _ _ _ _ _ midway.reached.clean midway.reached.wrote wrote;
-      is_prefix = λ texts a. let front = begins (a tt refl).rest (a tt refl).whole in
-          record { rest = front.rest; is = cc (text_of (a tt refl), append_assoc midway.pushed bytes front.rest) };
+      is_prefix = grind (arith, common_steps, text_of, append_assoc);
       bounded_lag = λ u read.
           bounded_lag_after _ _ _ _ _ p.processing midway.reached.wrote midway.reached.clean is' bytes wrote;
       peak = λ texts a. p.stored.peak (texts tt) (a tt refl);
@@ -204,7 +172,7 @@ module _ {X : Type 0} {rest_from : X → List ℕ → List ℕ} {start now : X} 
 
   pub nothing_more : (rest : List ℕ) → (new.eof ≡ true → rest ≡ [])
       → IsPrefix [] (rest_from now (piece ++ (new.buffered ++ rest)))
-  nothing_more rest may = record { rest = rest_from now (piece ++ (new.buffered ++ rest)); is = refl }
+  nothing_more rest may = grind (arith, common_steps)
 
   -- a read failed
   pub pass_read : HasReadCause reader new → store.denied ≡ false
@@ -214,7 +182,7 @@ module _ {X : Type 0} {rest_from : X → List ℕ → List ℕ} {start now : X} 
       (record {
         named = refl;
         unfailed = never_failed;
-        cause = ⊎_elim inl (λ (many, same). inr (many, same_failed same)) cause;
+        cause = grind arith;
         others = λ u read differs. absurd (differs refl);
         clean = midway.reached.clean;
         not_denied = not_denied;
@@ -231,7 +199,7 @@ module _ {X : Type 0} {rest_from : X → List ℕ → List ℕ} {start now : X} 
         denied = denied;
         unfailed = λ u read. same_failed same;
         clean = midway.reached.clean;
-        left = λ enough. inl (tt, refl, λ done. omega (arith, left, ap length done.buffered));
+        left = grind (arith, common_steps);
       })
       tt (λ index is. cc)
 
@@ -243,14 +211,14 @@ module _ {X : Type 0} {rest_from : X → List ℕ → List ℕ} {start now : X} 
 
     all_of_it : (rest : List ℕ) → (new.eof ≡ true → rest ≡ [])
         → IsPrefix (rest_from now []) (rest_from now (piece ++ (new.buffered ++ rest)))
-    all_of_it rest whole = record { rest = []; is = cc (nothing_left rest whole, append-nil (rest_from now [])) }
+    all_of_it rest whole = grind (arith, common_steps, nothing_left, append-nil)
 
     -- and the output that is due there was pushed
     pub pass_done : is'.write_failed ≡ false → new.fault ≡ None → new.pulled < 2 ^ 63 → total_bytes store.lines ≡ 0
         → PassPost tool old new was is' before store (Ok tt)
     pass_done clean fault short empty = pass wrote all_of_it (Ok tt)
         (record {
-          out = λ texts a. cc (text_of (a tt refl), nothing_left (a tt refl).rest (a tt refl).whole);
+          out = grind (arith, common_steps);
           disorder = λ texts a. refl;
           ended = λ complete u read. done;
           fault = λ u read. fault;

@@ -3,13 +3,13 @@
 -- `Exits`.
 use Rattle.ptflow.proofs.Common.{◌≡◌, Bool, ℕ, ◌+◌, ◌-◌, ◌<◌, ◌≤◌, ◌^◌, true, false, List, [], ◌∷◌, ◌++◌, Ok, Err}
 use Rattle.ptflow.proofs.Common.{length, drop, max, refl, ◌∙◌, ap, subst, arith, append_assoc, length-append}
-use Rattle.ptflow.proofs.Common.{mul-le-mul_left, nil_from_length, get_or-set_same, lines, complete_lines, IsLine}
-use Rattle.ptflow.proofs.Common.{max_length, max_line_length, Received, known_lines, IsPrefix, IsConsistent, Output}
-use Rattle.ptflow.proofs.Common.{PushEffect, Reader, ReaderAdvance, AdvanceOk, IsDone, IsSound, HasReadCause, Slots}
-use Rattle.ptflow.proofs.Common.{line, with_line, with_denied, FillPost, FillLine, advance_ok_trans, push_trans}
-use Rattle.ptflow.proofs.Common.{ToolSpec, PassPre, PassPost, AddedSlots, AreReceivedLines, LinesWritten, LinesFailed}
+use Rattle.ptflow.proofs.Common.{nil_from_length, get_or-set_same, lines, complete_lines, IsLine, max_length}
+use Rattle.ptflow.proofs.Common.{max_line_length, Received, known_lines, IsPrefix, IsConsistent, Output, PushEffect}
+use Rattle.ptflow.proofs.Common.{Reader, ReaderAdvance, AdvanceOk, IsDone, IsSound, HasReadCause, Slots, line}
+use Rattle.ptflow.proofs.Common.{with_line, with_denied, FillPost, FillLine, advance_ok_trans, push_trans, ToolSpec}
+use Rattle.ptflow.proofs.Common.{PassPre, PassPost, AddedSlots, AreReceivedLines, LinesWritten, LinesFailed}
 use Rattle.ptflow.proofs.Common.{IsLinesLength, IsSwapped, SlotsCleared, IsLineFilter, Read, Write, Memory}
-use Rattle.ptflow.proofs.Common.{received_with, reads_nothing}
+use Rattle.ptflow.proofs.Common.{received_with, reads_nothing, common_steps}
 use Rattle.ptflow.proofs.Passes.Lines.{line_split, complete_prefix, max_length-append}
 use Rattle.ptflow.proofs.Passes.LinesRead.{lines_none, lines_few, lines_on, lines_more, lines_block, line_prefix}
 use Rattle.ptflow.proofs.Passes.LinesRead.{received_longest, piece_longest, whole_before, before_line, after_line}
@@ -121,7 +121,7 @@ module _ {S X E : Type 0} {tool : ToolSpec} {state : S → Slots → X} {rest_fr
 
       -- the lines with no output yet are at most the lines that were read
       pub run_count : IsSound old → IsSound reader → counted now ≤ 2 ^ 63
-      run_count sound is_sound = omega (arith, lines_few _ _ _ _ run.came, is_sound.long run.reached.advance_ok.fault)
+      run_count sound is_sound = omega (arith, lines_few)
 
       -- some lines more were read
       run_more : {new : Reader} {bytes : List ℕ} (ls : List (List ℕ)) → AdvanceOk reader new bytes
@@ -141,15 +141,9 @@ module _ {S X E : Type 0} {tool : ToolSpec} {state : S → Slots → X} {rest_fr
           clean = processed.clean run.reached.clean;
         };
         first = run.first;
-        on = λ more.
-            cc (
-              append_assoc run.ls ls more,
-              run.on (ls ++ more),
-              processed.on more,
-              append_assoc run.passed processed.passed (rest_from next more),
-            );
+        on = grind (arith, common_steps, append_assoc);
         count = omega (arith, length-append run.ls ls);
-        keeps = bounds_weaker (max_length (run.ls ++ ls)) keeps (omega (arith, max_length-append run.ls ls));
+        keeps = grind (arith, common_steps, bounds_weaker, max_length-append);
       }
 
       -- the lines of a block were read and consumed
@@ -207,10 +201,7 @@ module _ {S X E : Type 0} {tool : ToolSpec} {state : S → Slots → X} {rest_fr
       kept : {after : Slots} {most : ℕ} (given : Received) → SlotBounds width most before after
           → ((input : List ℕ) → IsConsistent given input → most ≤ max_line_length end input)
           → StoreBounds tool before after given
-      kept given bounds short = record {
-        peak = λ input a. omega (arith, bounds.peak, line_filter.size input, mul-le-mul_left width (short input a));
-        size = rw line_filter.slots bounds.size;
-      }
+      kept given bounds short = grind arith
 
       keeps_last : {after : Slots} (bytes : List ℕ) → after ≡ with_line store (width - 1) bytes
           → SlotBounds width (max (max_length run.ls) (length bytes)) before after
@@ -240,15 +231,7 @@ module _ {S X E : Type 0} {tool : ToolSpec} {state : S → Slots → X} {rest_fr
             → LaggedOutput tool (received piece new) (written run.passed)
             → PassEnding tool midway new before after piece
         unfolding midway
-        ending reads stored processing = record {
-          is_text = line_filter.tool_text run.first;
-          ready = ready;
-          sound = sound;
-          reads = reads;
-          stored = stored;
-          keeps_store = λ none. absurd (omega (arith, none, line_filter.slots, line_filter.some));
-          processing = processing;
-        }
+        ending reads stored processing = grind arith
 
         -- the first part of a line was read
         module _ {new : Reader} {piece : List ℕ} (reads : ReaderAdvance reader new piece) (free : IsLine end piece)
@@ -317,7 +300,7 @@ module _ {S X E : Type 0} {tool : ToolSpec} {state : S → Slots → X} {rest_fr
       -- the slot has these bytes, and the state is unchanged
       filled : {after : Slots} (bytes : List ℕ) → after ≡ with_line store (width - 1) bytes
           → line after (width - 1) ≡ bytes
-      filled bytes told = cc (get_or-set_same store.lines (width - 1) bytes [] (omega (arith, run_room run)))
+      filled bytes told = grind (arith, common_steps, get_or-set_same, run_room)
 
       same_state : {after : Slots} (bytes : List ℕ) → after ≡ with_line store (width - 1) bytes
           → state now after ≡ state now store

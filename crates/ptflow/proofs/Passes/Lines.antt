@@ -34,12 +34,7 @@ line_split end (b ∷ bytes) =
 -- the complete lines come before those of the continuation
 pub complete_prefix : (end : ℕ) (bytes rest : List ℕ)
     → lines end (bytes ++ rest) ≡ complete_lines end bytes ++ lines end ((line_split end bytes).piece ++ rest)
-complete_prefix end bytes rest =
-    let split = line_split end bytes in
-    cc (
-      append_assoc (unlines end (complete_lines end bytes)) split.piece rest,
-      lines_of_unlines end (complete_lines end bytes) (split.piece ++ rest) split.whole,
-    )
+complete_prefix end bytes rest = grind (arith, common_steps, line_split, append_assoc, lines_of_unlines)
 
 -- the bytes before the first terminator, and those after it
 module _ (end : ℕ) (bytes : List ℕ) (at : ℕ) (first : IsFirstByte (is_byte end) bytes (Some at)) where
@@ -75,14 +70,12 @@ module _ (end : ℕ) where
   taken_more {rest} size texts taken =
       let front = take size rest in record {
         front = taken.front ++ front;
-        split = cc (take-append-drop size rest, append_assoc taken.front front (drop size rest));
-        texts = cc (texts, append_assoc taken.front front (unlines end (complete_lines end (drop size rest))));
+        split = grind (arith, common_steps, take-append-drop, append_assoc);
+        texts = grind (arith, common_steps, append_assoc);
       }
 
   -- no complete line is left
   pub taken_all : {block rest : List ℕ} → IsLine end rest → TakenLines end block rest
       → take (length block - length rest) block ≡ unlines end (complete_lines end block)
   taken_all {block} {rest} none taken =
-      let size : length block - length rest ≡ length taken.front =
-      omega (arith, ap length taken.split, length-append taken.front rest) in
-      cc (take_at taken.front rest (length taken.front) refl, complete_lines_none end rest none, append-nil taken.front)
+      grind (arith, common_steps, length-append, take_at, complete_lines_none, append-nil)

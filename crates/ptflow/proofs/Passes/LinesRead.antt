@@ -1,25 +1,20 @@
 -- The lines that were read from a reader. A line that was read is complete, so it is a line of the input for every
 -- continuation; the same holds for the complete lines of a block.
-use Rattle.ptflow.proofs.Common.{◌≡◌, ⊎_elim, inl, inr, ℕ, zero, suc, ◌-◌, ◌<◌, ◌≤◌, true, false, List, [], ◌∷◌, ◌++◌}
-use Rattle.ptflow.proofs.Common.{length, take, drop, max, refl, ◌∙◌, ap, arith, append_assoc, length-append}
-use Rattle.ptflow.proofs.Common.{length-drop, take-append-drop, false≢true, append-nil, unlines, lines, complete_lines}
+use Rattle.ptflow.proofs.Common.{common_steps, ◌≡◌, inl, inr, ℕ, zero, suc, ◌-◌, ◌<◌, ◌≤◌, true, false, List, [], ◌∷◌}
+use Rattle.ptflow.proofs.Common.{◌++◌}
+use Rattle.ptflow.proofs.Common.{length, take, drop, max, refl, arith, append_assoc, length-append}
+use Rattle.ptflow.proofs.Common.{length-drop, take-append-drop, false≢true, append-nil, unlines, lines}
 use Rattle.ptflow.proofs.Common.{IsLine, AreLines, max_length, max_line_length, Received, IsConsistent, known_lines}
 use Rattle.ptflow.proofs.Common.{LaggedInput, Reader, ReaderAdvance, AdvanceOk, IsDone, IsSound, Slots, FillLine}
-use Rattle.ptflow.proofs.Common.{lines_of_unlines, lines_of_last, lines_cons, lines-unlines, unlines-append}
-use Rattle.ptflow.proofs.Common.{unlines_push, AreLines_push, complete_lines_of_unlines, AreReceivedLines}
+use Rattle.ptflow.proofs.Common.{lines_of_unlines, lines_of_last, lines_cons, lines-unlines}
+use Rattle.ptflow.proofs.Common.{complete_lines_of_unlines, AreReceivedLines}
 use Rattle.ptflow.proofs.Common.{received_with}
 use Rattle.ptflow.proofs.Passes.Lines.{piece_le_max_length, max_length-append}
 use Rattle.ptflow.proofs.Passes.Readers.{eof_gives_nothing, stays_at_eof}
 
 longest_prefix : (end : ℕ) (ls : List (List ℕ)) (piece rest : List ℕ) → AreLines end ls → IsLine end piece
     → max (max_length ls) (length piece) ≤ max_length (lines end (unlines end ls ++ (piece ++ rest)))
-longest_prefix end ls piece rest whole free =
-    omega (
-      arith,
-      ap max_length (lines_of_unlines end ls (piece ++ rest) whole)
-          ∙ max_length-append ls (lines end (piece ++ rest)),
-      piece_le_max_length end piece rest free,
-    )
+longest_prefix end ls piece rest whole free = grind (arith, lines_of_unlines, max_length-append, piece_le_max_length)
 
 pub lines_none : (end : ℕ) (reader : Reader) → AreReceivedLines end reader [] []
 lines_none end reader = record { so_far = inl (refl, tt) }
@@ -31,58 +26,30 @@ lines_length end (b ∷ bytes) = grind (arith, lines_length end bytes)
 module _ (end : ℕ) (now : Reader) (given : List ℕ) (ls : List (List ℕ))
     (received : AreReceivedLines end now given ls) where
   pub lines_are_given : lines end given ≡ ls
-  lines_are_given = ⊎_elim (λ (text, are). cc (lines-unlines end ls are)) (λ (same, _). same) received.so_far
+  lines_are_given = grind (arith, lines-unlines)
 
   pub lines_few : length ls ≤ length given
   lines_few = rw lines_are_given at (lines_length end given)
 
   -- for every continuation
   pub lines_on : (rest : List ℕ) → (IsDone now → rest ≡ []) → lines end (given ++ rest) ≡ ls ++ lines end rest
-  lines_on rest may = elim received.so_far [
-    | inl (text, are) ↦ cc (lines_of_unlines end ls rest are)
-    | inr (same, done) ↦ let none = may done in cc (append-nil given, append-nil ls)
-  ]
+  lines_on rest may = grind (arith, common_steps, lines_of_unlines, append-nil)
 
   pub received_longest : (input : List ℕ) → IsConsistent (received_with given now) input
       → max_length ls ≤ max_line_length end input
-  received_longest input consistent =
-      omega (
-        arith,
-        ap max_length (ap (lines end) (consistent.is ∙ append_assoc given now.buffered consistent.rest)
-            ∙ lines_on (now.buffered ++ consistent.rest) (λ done. λ i. done.buffered i ++ consistent.whole done.eof i))
-            ∙ max_length-append ls (lines end (now.buffered ++ consistent.rest)),
-      )
+  received_longest input consistent = grind (arith, common_steps, append_assoc, lines_on, max_length-append)
 
   -- the first part of a line was read
   module _ (new : Reader) (piece : List ℕ) (reads : ReaderAdvance now new piece) (free : IsLine end piece) where
     pub piece_longest : (input : List ℕ) → IsConsistent (received_with (given ++ piece) new) input
         → max (max_length ls) (length piece) ≤ max_line_length end input
-    piece_longest input consistent = elim received.so_far [
-      | inl (text, are) ↦
-          let split : input ≡ unlines end ls ++ (piece ++ (new.buffered ++ consistent.rest)) =
-          cc (
-            consistent.is,
-            append_assoc given piece new.buffered,
-            append_assoc given (piece ++ new.buffered) consistent.rest,
-            text,
-            append_assoc piece new.buffered consistent.rest,
-          ) in
-          rw (← split) at (longest_prefix end ls piece (new.buffered ++ consistent.rest) are free)
-      | inr (same, done) ↦
-          let (no_piece, no_rest, eof) = eof_gives_nothing _ _ _ done reads in
-          let all : input ≡ given =
-          cc (consistent.whole eof, append-nil ((given ++ []) ++ []), append-nil (given ++ []), append-nil given) in
-          omega (arith, ap length no_piece, ap max_length (ap (lines end) all ∙ same))
-    ]
+    piece_longest input consistent =
+        grind (arith, common_steps, append_assoc, longest_prefix, free, eof_gives_nothing, append-nil)
 
     -- and the read of its rest failed
     pub whole_before : new.buffered ≡ [] → new.eof ≡ false → known_lines end (received_with (given ++ piece) new) ≡ ls
     whole_before empty going =
-        ⊎_elim
-        (λ (text, are). (λ i. known_lines end (record { bytes = (text i ++ piece) ++ empty i; eof = going i }))
-        ∙ ap (complete_lines end) (append-nil (unlines end ls ++ piece))
-        ∙ complete_lines_of_unlines end ls piece are free)
-        (λ (_, done). absurd (false≢true (cc ((stays_at_eof _ _ _ done reads).eof)))) received.so_far
+        grind (arith, common_steps, known_lines, append-nil, complete_lines_of_unlines, free, false≢true, stays_at_eof)
 
   -- one line was read
   module _ (new : Reader) (before after : Slots) (slot : ℕ) (next_line : FillLine now new before after slot)
@@ -90,45 +57,14 @@ module _ (end : ℕ) (now : Reader) (given : List ℕ) (ls : List (List ℕ))
     free : IsLine end next_line.line
     free = rw same at next_line.whole
 
-    some_received : 0 < length (next_line.line ++ next_line.terminator)
-    some_received = elim next_line.ends [
-      | inl ends ↦ omega (arith, ap length ends, length-append next_line.line next_line.terminator)
-      | inr last ↦ omega (arith, length-append next_line.line next_line.terminator)
-    ]
-
     -- its bytes are a line for every continuation
     pub line_prefix : (rest : List ℕ) → (IsDone new → rest ≡ [])
         → lines end ((next_line.line ++ next_line.terminator) ++ rest) ≡ next_line.line ∷ lines end rest
-    line_prefix rest may = elim next_line.ends [
-      | inl ends ↦ (λ i. lines end (append_assoc next_line.line ((ends ∙ ap (λ b. b ∷ []) same) i) rest i))
-          ∙ lines_cons end next_line.line rest free
-      | inr (unended, some, done) ↦
-          let none = may done in
-          cc (append-nil (next_line.line ++ []), append-nil next_line.line, lines_of_last end next_line.line free some)
-    ]
+    line_prefix rest may = grind (arith, common_steps, append_assoc, lines_cons, free, append-nil, lines_of_last)
 
     pub lines_more : AreReceivedLines end new (given ++ (next_line.line ++ next_line.terminator))
         (ls ++ next_line.line ∷ [])
-    lines_more = elim received.so_far [
-      | inl (text, are) ↦ elim next_line.ends [
-        | inl ends ↦ record {
-          so_far = inl (cc (unlines_push end ls next_line.line), AreLines_push end ls next_line.line are free);
-        }
-        | inr (unended, some, done) ↦ record {
-          so_far = inr (
-            cc (
-              append-nil next_line.line,
-              lines_of_unlines end ls next_line.line are,
-              lines_of_last end next_line.line free some,
-            ),
-            done,
-          );
-        }
-      ]
-      | inr (_, done) ↦
-          let (none, _, _) = eof_gives_nothing _ _ _ done next_line.advance_ok.reads in
-          absurd (omega (arith, some_received, ap length none))
-    ]
+    lines_more = grind (arith, common_steps, lines_of_unlines, lines_of_last)
 
 are_append : (end : ℕ) (xs ys : List (List ℕ)) → AreLines end xs → AreLines end ys → AreLines end (xs ++ ys)
 are_append end [] ys a b = b
@@ -139,15 +75,7 @@ pub lines_block : {end : ℕ} {reader : Reader} {given : List ℕ} {ls : List (L
     → AreReceivedLines end reader given ls → {new : Reader} (more : List (List ℕ))
     → AdvanceOk reader new (unlines end more) → AreLines end more
     → AreReceivedLines end new (given ++ unlines end more) (ls ++ more)
-lines_block {end} {ls} received more advance_ok are = record {
-  so_far = ⊎_elim (λ (text, before). inl (cc (unlines-append end ls more), are_append end ls more before are))
-      (λ (_, done).
-      let (none, _, _) = eof_gives_nothing _ _ _ done advance_ok.reads in
-      inr (
-        cc (lines_on _ _ _ _ received (unlines end more) (λ _. none), lines-unlines end more are),
-        stays_at_eof _ _ _ done advance_ok.reads,
-      )) received.so_far;
-}
+lines_block {end} {ls} received more advance_ok are = grind (arith, common_steps, lines-unlines)
 
 -- ---- the input two blocks earlier
 
@@ -164,10 +92,7 @@ line_take end (suc n) (b ∷ bytes) (differs, are) = (differs, line_take end n b
 -- the terminator of a line and the buffered bytes after it are at most 8,193 bytes
 pub after_line : {now new : Reader} {before after : Slots} {slot : ℕ} (next_line : FillLine now new before after slot)
     → IsSound new → length (next_line.terminator ++ new.buffered) ≤ 8193
-after_line {new} next_line sound = elim next_line.ends [
-  | inl ends ↦ omega (arith, ap length ends, length-append next_line.terminator new.buffered)
-  | inr (none, _, _) ↦ omega (arith, ap length none, length-append next_line.terminator new.buffered)
-]
+after_line {new} next_line sound = grind arith
 
 module _ {end : ℕ} {now new : Reader} {given : List ℕ} {ls : List (List ℕ)}
     (received : AreReceivedLines end now given ls)
@@ -190,7 +115,7 @@ module _ {end : ℕ} {now new : Reader} {given : List ℕ} {ls : List (List ℕ)
         short = omega (arith, length-append (drop n line) behind, length-drop n line);
         eof = λ never. absurd (false≢true never);
       };
-      whole = cc (complete_lines_of_unlines end ls (take n line) are (line_take end n line whole));
+      whole = grind (arith, common_steps, complete_lines_of_unlines, line_take);
     }
     | inr (same, done) ↦ let none = eof_gives_nothing _ _ _ done reads in record {
       before = record {

@@ -1,6 +1,7 @@
 -- Bytes that are pushed piece by piece: the pushed bytes are a prefix, and the rest is left. A failed push leaves a
 -- prefix too, so the result of several pushes is that of one.
-use Rattle.ptflow.proofs.Common.{◌≡◌, ℕ, Bool, false, true, List, [], ◌++◌, refl, sym, subst, append_assoc, Output}
+use Rattle.ptflow.proofs.Common.{arith, common_steps, ◌≡◌, ℕ, Bool, false, true, List, [], ◌++◌, refl, sym, subst}
+use Rattle.ptflow.proofs.Common.{append_assoc, Output}
 use Rattle.ptflow.proofs.Common.{PushEffect, push_nothing, push_trans, push_past_failure}
 use Rattle.ptlines.specs.Outputs.{PushPost}
 use Rattle.std.specs.Prelude.{Err, Result}
@@ -21,8 +22,7 @@ push_then p q = record { wrote = wrote_then _ _ _ p q.wrote; clean = q.clean; fa
 -- a push failed, and so did the call
 pub push_failed : {E : Type 0} {a b : Output} {xs : List ℕ} {r : Result (Unit {0}) E} {e : E} → r ≡ Err e
     → PushEffect a b xs → b.write_failed ≡ true → PushPost a b xs r
-push_failed {a = a} {b = b} {xs = xs} failed wrote fault = subst (PushPost a b xs) (sym failed)
-    (record { wrote = wrote; clean = tt; fault = fault })
+push_failed {a = a} {b = b} {xs = xs} failed wrote fault = grind (arith, common_steps)
 
 pub record WrittenPrefix (whole rest : List ℕ) (was is : Output) : Type 0 where
   pub pushed : List ℕ

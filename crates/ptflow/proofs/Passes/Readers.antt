@@ -1,6 +1,6 @@
 -- Facts about readers and outputs that each engine starts from. Each follows from the records of one call.
-use Rattle.ptflow.proofs.Common.{common_steps, ◌≡◌, ℕ, ◌<◌, ◌≤◌, true, List, [], ◌++◌, length, take, drop, ap, arith}
-use Rattle.ptflow.proofs.Common.{Reader, ReaderAdvance, AdvanceOk, IsDone, budget, advance_ok_trans, advance_ok_take}
+use Rattle.ptflow.proofs.Common.{common_steps, ◌≡◌, ℕ, ◌<◌, ◌≤◌, true, List, [], ◌++◌, length, take, drop, arith}
+use Rattle.ptflow.proofs.Common.{Reader, ReaderAdvance, AdvanceOk, IsDone, budget, advance_ok_take}
 
 -- after the end of the input, nothing is read
 pub eof_gives_nothing : (now new : Reader) (bytes : List ℕ) → IsDone now → ReaderAdvance now new bytes
@@ -19,10 +19,7 @@ may_follow now new bytes rest reads may done = grind (arith, common_steps)
 pub advance_past : {now shown new : Reader} {block : List ℕ} (count : ℕ) → AdvanceOk now shown []
     → shown.buffered ≡ block → count ≤ length block → new ≡ record shown { buffered = drop count shown.buffered }
     → AdvanceOk now new (take count block)
-advance_past {shown} count advance_ok buffered fits consumed =
-    advance_ok_trans _ _ _ _ _ advance_ok
-    (rw (ap (take count) buffered) at (advance_ok_take shown _ count advance_ok.fault
-    (omega (arith, ap length buffered)) consumed))
+advance_past {shown} count advance_ok buffered fits consumed = grind (arith, common_steps, advance_ok_take)
 
 -- a line was read, and after it some of the next block
 pub budget_of_line : (old : Reader) {now shown new : Reader} (count : ℕ) → budget now < budget old

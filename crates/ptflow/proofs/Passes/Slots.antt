@@ -43,7 +43,7 @@ pub bounds_start : {width : ℕ} {before store : Slots} → AddedSlots before st
 bounds_start {width} {store} adds denied empty peak = record {
   denied = denied;
   size = adds.all denied;
-  short = λ k low. omega (arith, get_or-le-sum_by length store.lines k [] (omega (arith, low, adds.all denied)));
+  short = grind (arith, common_steps, get_or-le-sum_by);
   others = omega (arith, total_split width store.lines);
   peak = omega (arith, peak);
 }
@@ -89,18 +89,7 @@ bounds_line {width} {most} {store} new slot bytes bounds within fits is = record
 -- the first and the last slot may have been swapped
 pub swapped_room : {width : ℕ} {before after : Slots} → IsSwapped width before after → 0 < width
     → width ≤ length before.lines → width ≤ length after.lines
-swapped_room {width} {before} either some room = elim either [
-  | inl same ↦ omega (arith, ap (λ s. length s.lines) same)
-  | inr is ↦
-      let first = set before.lines 0 (get_or before.lines (width - 1) []) in
-      omega (
-        arith,
-        ap (λ s. length s.lines) is,
-        ap length (swap_is before.lines 0 (width - 1) [] (omega arith) (omega arith)),
-        length-set first (width - 1) (get_or before.lines 0 []),
-        length-set before.lines 0 (get_or before.lines (width - 1) []),
-      )
-]
+swapped_room {width} {before} either some room = grind (arith, common_steps, swap_is, length-set)
 
 pub bounds_swapped : {width most : ℕ} {before store : Slots} (new : Slots) → 0 < width
     → SlotBounds width most before store → IsSwapped width store new → SlotBounds width most before new
@@ -140,12 +129,7 @@ bounds_cleared {width} {most} {store} {new} bounds some last cleared = (
     denied = cc;
     size = cleared.size ∙ bounds.size;
     short =
-        λ i low. omega (
-          arith,
-          none,
-          get_or-le-sum_by length new.lines i []
-              (omega (arith, bounds.size)),
-        );
+        grind (arith, common_steps);
     others = omega (arith, none, total_split width new.lines);
     peak = omega (arith, bounded_total width most store.lines bounds.short bounds.others);
   },

@@ -1,6 +1,7 @@
 -- The output of `tr` for the rest of a text, and for a text that is cut anywhere. A byte is kept or removed by the last
 -- output byte alone, so that byte is the only state, from block to block and within a block.
-use Rattle.ptflow.proofs.Common.{◌≡◌, ℕ, ◌-◌, ◌==◌, ◌&&◌, not, eqb, Bool, true, false, cond, List, [], ◌∷◌, ◌++◌}
+use Rattle.ptflow.proofs.Common.{common_steps, ◌≡◌, ℕ, ◌-◌, ◌==◌, ◌&&◌, not, eqb, Bool, true, false, cond, List, []}
+use Rattle.ptflow.proofs.Common.{◌∷◌, ◌++◌}
 use Rattle.ptflow.proofs.Common.{Option, None, Some, map, length, refl, ap, arith, filter, slice_get, last_or}
 use Rattle.ptflow.proofs.Common.{option_eq, option_or, append-nil, map-append, filter-append, IsPrefix, Tables, deletes}
 use Rattle.ptflow.proofs.Common.{image, squeezes, is_not_repeat, squeeze_after, translation, tr, tr_decided}
@@ -64,17 +65,12 @@ module _ (t : Tables) where
   rest_nothing (Some last) = refl
 
   translated_append : (xs ys : List ℕ) → translation t (xs ++ ys) ≡ translation t xs ++ translation t ys
-  translated_append xs ys =
-      cc (
-        filter-append (λ b. not (deletes t b)) xs ys,
-        map-append (image t) (filter (λ b. not (deletes t b)) xs) (filter (λ b. not (deletes t b)) ys),
-      )
+  translated_append xs ys = simp (filter-append, deletes, map-append)
 
   -- the output for a block comes first
   pub front_on : (last : Option ℕ) (block rest : List ℕ)
       → tr_from t last (block ++ rest) ≡ tr_from t last block ++ tr_from t (last_or last (tr_from t last block)) rest
-  front_on last block rest =
-      cc (translated_append block rest, from_append (squeezes t) last (translation t block) (translation t rest))
+  front_on last block rest = simp (translated_append, from_append, squeezes, translation)
 
   -- the last output byte of a block is the last one after it
   pub block_on : (last : Option ℕ) {after : Option ℕ} (block : List ℕ) {written : List ℕ} (rest : List ℕ)
@@ -90,10 +86,7 @@ module _ (t : Tables) where
 
   pub block_begins : (last : Option ℕ) (block : List ℕ) {written : List ℕ} (rest : List ℕ)
       → written ≡ tr_from t last block → IsPrefix written (tr_from t last (block ++ rest))
-  block_begins last block rest made = record {
-    rest = tr_from t (last_or last (tr_from t last block)) rest;
-    is = cc (front_on last block rest);
-  }
+  block_begins last block rest made = grind (arith, front_on)
 
   pub rest_decided : (given pushed : List ℕ) (now : Option ℕ)
       → ((rest : List ℕ) → tr_from t None (given ++ rest) ≡ pushed ++ tr_from t now rest)
@@ -234,7 +227,7 @@ first_squeezed squeezed last [] into some room is count_is = absurd (omega arith
 first_squeezed squeezed last (b ∷ from) into {repeats = true} some room is count_is =
     cc (count_is, from_one squeezed last b from, is)
 first_squeezed squeezed last (b ∷ from) into {repeats = false} some room is count_is =
-    cc (count_is, from_one squeezed last b from, is, take_more_set into 0 b room)
+    grind (arith, common_steps, from_one, take_more_set)
 
 -- ---- tests that agree on bytes
 

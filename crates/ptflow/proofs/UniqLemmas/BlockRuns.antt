@@ -38,25 +38,11 @@ module _ {end : ℕ} {block rest : List ℕ} {front : List (List ℕ)} (lies : B
   passed_is = omega (arith, front_size)
 
   front_drop : drop (length block - length rest) block ≡ rest
-  front_drop = cc (passed_is, drop_at (unlines end front) rest (length (unlines end front)) refl)
+  front_drop = grind (arith, common_steps, passed_is, drop_at)
 
   module _ (at : ℕ) (first : IsFirstByte (is_byte end) rest (Some at)) where
     front_more : BlockPrefix end block (drop (at + 1) rest) (front ++ take at rest ∷ [])
-    front_more = record {
-      lines =
-          cc (
-            ended_next end rest at first,
-            append_assoc front (take at rest ∷ [])
-                (complete_lines end (drop (at + 1) rest)),
-          );
-      bytes =
-          cc (
-            split_of end rest at first,
-            append_assoc (take at rest) (end ∷ []) (drop (at + 1) rest),
-            append_assoc (unlines end front) (take at rest ++ end ∷ []) (drop (at + 1) rest),
-            unlines_push end front (take at rest),
-          );
-    }
+    front_more = grind (arith, common_steps, ended_next, append_assoc, split_of, unlines_push)
 
     -- the next line
     module _ (from to : ℕ) (from_is : from ≡ to - at - 1)
@@ -65,15 +51,9 @@ module _ {end : ℕ} {block rest : List ℕ} {front : List (List ℕ)} (lies : B
       starts = omega (arith, front_size, length-drop (at + 1) rest, first.0.high)
 
       next_is : slice_range block from (to - 1) ≡ take at rest
-      next_is = let size : to - 1 - from ≡ at = omega (arith, starts) in cc (starts.0, front_drop)
-
-      next_span : IsLineSpan end block (record { from = from; to = to })
-      next_span = let (here, there) = starts in grind (arith, common_steps)
+      next_is = grind (arith, common_steps, starts, front_drop)
 
 -- ---- deferred output
-
-pub span_nothing : {block : List ℕ} → IsSpan block (record { from = 0; to = 0 })
-span_nothing = record { ordered = omega arith; within = omega arith }
 
 -- adjacent ranges are one range
 span_join : {block : List ℕ} {a b : Span} → IsSpan block a → IsSpan block b → a.to ≡ b.from
@@ -104,7 +84,7 @@ module _ (job : Uniq) (first : List ℕ) (count : ℕ) {block : List ℕ} {line 
   line_in = rw is at pre.line_in
 
   pub due_is : run_text job (run_of (first_of first block line) count) ≡ count_prefix job.show count ++ span_of block l
-  due_is = rw (is, shown) (ap (◌++◌ (count_prefix job.show count)) (sym line_in.text))
+  due_is = grind arith
 
   -- the line follows the deferred output
   pub pending_joined : {out : Output} → pending.to ≡ l.from → count_prefix job.show count ≡ []
@@ -115,7 +95,7 @@ module _ (job : Uniq) (first : List ℕ) (count : ℕ) {block : List ℕ} {line 
         pushed = [];
         wrote = push_nothing out;
         all = cc (span_join pre.pending_in fits touch, due_is);
-        span = record { ordered = omega (arith, pre.pending_in.ordered, line_in.some); within = line_in.within };
+        span = omega arith;
       }
 
 module _ {bytes block : List ℕ} {pending : Span} {was is : Output} (waits : IsPending bytes block pending was is)
@@ -125,10 +105,7 @@ module _ {bytes block : List ℕ} {pending : Span} {was is : Output} (waits : Is
   pending_then {now} next = record {
     pushed = waits.pushed ++ next.pushed;
     wrote = wrote_then _ _ _ waits.wrote next.wrote;
-    all = cc (
-      append_assoc waits.pushed next.pushed (span_of block now),
-      append_assoc waits.pushed (span_of block pending) more,
-    );
+    all = grind (arith, common_steps, append_assoc);
     span = next.span;
   }
 
@@ -146,7 +123,7 @@ pub record RunSteps (job : Uniq) (before after : Run) (ls : List (List ℕ)) (pa
   pub some : 0 < before.count + length ls → 0 < after.count
 
 pub steps_none : (job : Uniq) (run : Run) → RunSteps job run run [] []
-steps_none job run = record { on = λ more. refl; count = omega arith; some = λ some. omega arith }
+steps_none job run = grind (arith, common_steps)
 
 module _ {job : Uniq} {before after : Run} {ls : List (List ℕ)} {passed : List Run}
     (steps : RunSteps job before after ls passed) where
@@ -158,25 +135,12 @@ module _ {job : Uniq} {before after : Run} {ls : List (List ℕ)} {passed : List
     -- one line more, of the current run
     pub steps_more : (nat_lt 0 after.count && is_same job after.line line) ≡ true
         → RunSteps job before (run_of after.line (after.count + 1)) (ls ++ line ∷ []) passed
-    steps_more same = record {
-      on = λ more. cc (one_more more, runs_after_more job after line more same);
-      count = omega (arith, steps.count, length-append ls (line ∷ []));
-      some = λ some. omega arith;
-    }
+    steps_more same = grind (arith, common_steps, one_more, runs_after_more, steps, length-append)
 
     -- one that ends it
     pub steps_next : (nat_lt 0 after.count && is_same job after.line line) ≡ false
         → RunSteps job before (run_of line 1) (ls ++ line ∷ []) (passed ++ current_run after)
-    steps_next other = record {
-      on = λ more.
-          cc (
-            one_more more,
-            runs_after_next job after line more other,
-            append_assoc passed (current_run after) (runs_after job (run_of line 1) more),
-          );
-      count = omega (arith, length-append ls (line ∷ []));
-      some = λ some. omega arith;
-    }
+    steps_next other = grind (arith, common_steps, one_more, runs_after_next, append_assoc, length-append)
 
   module _ {was is : Output} (wrote : PushEffect was is (output_of job passed)) where
     pub steps_written : {all : List (List ℕ)} → all ≡ ls → (was.write_failed ≡ false → is.write_failed ≡ false)
@@ -225,9 +189,9 @@ runs_loop_starts job first block {start} some run_key_is was = record {
   lies = record { lines = refl; bytes = refl };
   passed = [];
   steps = steps_none job (run_of first start);
-  waits = record { pushed = []; wrote = push_nothing was; all = refl; span = span_nothing };
+  waits = grind (arith, common_steps);
   run_key_is = run_key_is;
-  ready = record { pending_in = span_nothing; line_in = tt; none = λ _. refl };
+  ready = grind arith;
   some = some;
 }
 
@@ -265,7 +229,7 @@ module _ {job : Uniq} {first block rest : List ℕ} {start count : ℕ} {line : 
 
       -- the output of the run comes after that of the runs before it
       entries : output_of job (so_far.passed ++ current_run run) ≡ output_of job so_far.passed ++ run_text job run
-      entries = cc (entries-append job so_far.passed (current_run run), current_run_is job run)
+      entries = simp (entries-append, run, current_run_is)
 
       steps : RunSteps job (run_of first start) (run_of (take at rest) 1) (so_far.front ++ take at rest ∷ [])
           (so_far.passed ++ current_run run)
@@ -284,11 +248,7 @@ module _ {job : Uniq} {first block rest : List ℕ} {start count : ℕ} {line : 
             steps = rw line_is steps;
             waits = rw entries (pending_then so_far.waits (run_text job run) waits);
             run_key_is = cc;
-            ready = record {
-              pending_in = waits.span;
-              line_in = next_span so_far.lies at found from to from_is to_is;
-              none = λ none. cc;
-            };
+            ready = grind (arith, common_steps);
             some = omega arith;
           }
 
@@ -303,7 +263,7 @@ module _ {job : Uniq} {first block rest : List ℕ} {start count : ℕ} {line : 
   -- no complete line is left
   module _ (none : IsLine job.terminator rest) {is' : Output} (wrote : PushEffect is is' (span_of block pending)) where
     all_lines : complete_lines job.terminator block ≡ so_far.front
-    all_lines = cc (so_far.lies.lines, complete_lines_none job.terminator rest none, append-nil so_far.front)
+    all_lines = grind (arith, common_steps, complete_lines_none, append-nil)
 
     all_wrote : PushEffect was is' (output_of job so_far.passed)
     all_wrote = rw so_far.waits.all at (wrote_then _ _ _ so_far.waits.wrote wrote)

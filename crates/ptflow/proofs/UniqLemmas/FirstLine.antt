@@ -27,7 +27,7 @@ pub uniq_line_tool : (job : Uniq) (start : CurrentRun) → start.count ≡ 0
     → IsLineFilter (uniq_tool job) current_run_of (runs_after job) (output_of job) count_of 2 start
 uniq_line_tool job start none = record {
   apart = entries-append job;
-  stays = λ now store bytes room. cc (get_or-set_other store.lines 1 0 bytes [] (λ e. absurd (omega (arith, e))));
+  stays = grind (arith, common_steps, get_or-set_other);
   fresh = λ store. omega arith;
   tool_text = λ store bytes. cc;
   decided = λ store given passed now on.

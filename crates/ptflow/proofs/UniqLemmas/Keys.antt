@@ -92,7 +92,7 @@ after_none (b ∷ bytes) none = other_here b bytes (none 0 (omega arith))
 
 pub after_found : (line : List ℕ) (at : ℕ) → IsFirstByte (is_byte2 32 9) line (Some at)
     → after_nonblanks line ≡ drop at line
-after_found line at first = after_at line _ first.0.high (λ k lt. first.0.before k (omega arith) lt) first.1
+after_found line at first = grind (arith, after_at)
 
 pub after_not_found : (line : List ℕ) → IsFirstByte (is_byte2 32 9) line None → after_nonblanks line ≡ []
 after_not_found line none = after_none line (λ k lt. none k (omega arith) lt)

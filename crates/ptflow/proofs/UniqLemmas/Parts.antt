@@ -2,7 +2,7 @@
 -- keys are in different runs, so no run is cut or merged.
 use Rattle.ptflow.proofs.Common.{common_steps, arith, ◌≡◌, ◌⊎◌, inl, inr, ⊎_elim, ℕ, ◌+◌, Bool, true, false, cond, List}
 use Rattle.ptflow.proofs.Common.{[], ◌∷◌, ◌++◌, refl, sym, ◌∙◌, ap, filter, AllByRecursion, cases_Bool}
-use Rattle.ptflow.proofs.Common.{bytes_eq-Decides, lines, IsLine, the_lines_of_parts, lines-unlines, lines_are, Uniq}
+use Rattle.ptflow.proofs.Common.{bytes_eq-Decides, the_lines_of_parts, lines-unlines, lines_are, Uniq}
 use Rattle.ptflow.proofs.Common.{Run, key, is_same, cons_run, runs, BeginsWith, EndsWith, HasGroupedKeys, UniqOfParts}
 use Rattle.ptflow.proofs.Common.{UniqByKey, run_of}
 use Rattle.std.specs.Prelude.{◌≢◌}
@@ -10,9 +10,7 @@ use Rattle.ptflow.proofs.UniqLemmas.RunsFrom.{entries-append}
 
 module _ (job : Uniq) where
   other_key : (a b : List ℕ) → key job a ≢ key job b → is_same job a b ≡ false
-  other_key a b differ =
-      let (from_same, _) = bytes_eq-Decides (key job a) (key job b) in
-      ⊎_elim (λ e. absurd (differ (from_same e))) (λ e. e) (cases_Bool (is_same job a b))
+  other_key a b differ = grind (arith, bytes_eq-Decides)
 
   -- a line before some runs is the line of the first run
   onto_is : (line : List ℕ) (rs : List Run)
@@ -58,7 +56,7 @@ module _ (job : Uniq) where
       ∙ ap (λ rs. cons_run job x rs ++ runs job ys) (sym is)
 
 pub uniq_of_parts : UniqOfParts
-uniq_of_parts job a b whole change = grind (arith, common_steps, the_lines_of_parts, runs-append, entries-append)
+uniq_of_parts job a b whole change = simp (the_lines_of_parts, runs-append, entries-append)
 
 -- ---- lines that are distributed by their keys
 
@@ -99,14 +97,7 @@ module _ (job : Uniq) (taken : List ℕ → Bool) where
   onto_dropped : (x : List ℕ) (rs : List Run) → line_taken x ≡ false
       → filter run_taken (cons_run job x rs) ≡ filter run_taken rs
   onto_dropped x [] is = rw is refl
-  onto_dropped x (r ∷ rs) is =
-      let rest = filter run_taken rs in
-      let onto = λ (t : Bool). filter run_taken (cond t (run_of x (r.count + 1) ∷ rs) (run_of x 1 ∷ r ∷ rs)) in
-      ⊎_elim
-      (λ same.
-      let (from_same, _) = bytes_eq-Decides (key job x) (key job r.line) in
-      let too : run_taken r ≡ false = cc (from_same same) in
-      cc) (λ other. cc) (cases_Bool (is_same job x r.line))
+  onto_dropped x (r ∷ rs) is = grind (arith, bytes_eq-Decides)
 
   -- a line of the part before a run of its key
   onto_same : (x : List ℕ) (r : Run) (rs : List Run) → line_taken x ≡ true → key job x ≡ key job r.line
@@ -122,11 +113,7 @@ module _ (job : Uniq) (taken : List ℕ → Bool) where
   onto_apart : (x : List ℕ) (rs : List Run) → line_taken x ≡ true
       → AllByRecursion (λ run. key job x ≢ key job run.line) rs
       → cons_run job x (filter run_taken rs) ≡ filter run_taken (cons_run job x rs)
-  onto_apart x rs is others =
-      cc (
-        onto_other x (filter run_taken rs) (all_filter (λ run. key job x ≢ key job run.line) run_taken rs others),
-        onto_other x rs others,
-      )
+  onto_apart x rs is others = grind (arith, onto_other, all_filter)
 
   runs_taken : (ls : List (List ℕ)) → HasGroupedKeys job ls
       → runs job (filter line_taken ls) ≡ filter run_taken (runs job ls)
@@ -145,11 +132,4 @@ module _ (job : Uniq) (taken : List ℕ → Bool) where
       kept is (inr others) = onto_apart x (runs job ls) is (all_runs (λ other. key job x ≢ key job other) ls others)
 
 pub uniq_by_key : UniqByKey
-uniq_by_key job taken bytes grouped =
-    let ls = lines job.terminator bytes in
-    let some = filter (λ line. taken (key job line)) ls in
-    cc (
-      lines-unlines job.terminator some
-          (all_filter (IsLine job.terminator) (λ line. taken (key job line)) ls (lines_are job.terminator bytes)),
-      runs_taken job taken ls grouped,
-    )
+uniq_by_key job taken bytes grouped = grind (arith, lines-unlines, all_filter, lines_are, runs_taken)

@@ -1,7 +1,7 @@
 -- The runs of some lines, from the first line on. A run that is continued by the first of some lines is one of their
 -- runs with a larger count.
-use Rattle.ptflow.proofs.Common.{◌≡◌, ℕ, ◌+◌, ◌&&◌, Bool, true, false, cond, List, [], ◌∷◌, ◌++◌, refl, sym, ◌∙◌, ap}
-use Rattle.ptflow.proofs.Common.{arith, common_steps, bytes_eq, nat_lt, nat_tests, append-nil, bytes_eq-Decides}
+use Rattle.ptflow.proofs.Common.{◌≡◌, ℕ, ◌+◌, ◌&&◌, Bool, true, false, cond, List, [], ◌∷◌, ◌++◌, refl, ap}
+use Rattle.ptflow.proofs.Common.{arith, common_steps, nat_lt, nat_tests, append-nil, bytes_eq-Decides}
 use Rattle.ptflow.proofs.Common.{IsPrefix, Uniq, Run, key, is_same, cons_run, runs, output_of, init, run_of}
 use Rattle.ptflow.proofs.Common.{current_run, runs_from, runs_after, run_output}
 
@@ -21,17 +21,12 @@ module _ (job : Uniq) where
 
   first_more : {line : List ℕ} {n : ℕ} (l : List ℕ) {ls : List (List ℕ)} (t : Bool) → is_same job line l ≡ t
       → First line (n + 1) ls → First line n (l ∷ ls)
-  first_more l true e f = record {
-    count = f.count;
-    more = f.more;
-    is = cc;
-    led = λ x same. cc (f.led x same);
-  }
+  first_more l true e f = grind (arith, common_steps)
   first_more {line} {n} l {ls} false e f = record {
     count = n;
     more = runs_from job (run_of l 1) ls;
     is = ap (chosen l ls line n) e;
-    led = λ x same. ap (chosen l ls x (n + 1)) (ap (λ k. bytes_eq k (key job l)) same ∙ e);
+    led = λ x same. cc;
   }
 
   first : (line : List ℕ) (n : ℕ) (ls : List (List ℕ)) → First line n ls
@@ -40,10 +35,8 @@ module _ (job : Uniq) where
 
   onto_first_run : (line : List ℕ) {l : List ℕ} {ls : List (List ℕ)} (t : Bool) → is_same job line l ≡ t → First l 1 ls
       → cons_run job line (runs_from job (run_of l 1) ls) ≡ chosen l ls line 1 t
-  onto_first_run line {l} true e f =
-      let (from_same, _) = bytes_eq-Decides (key job line) (key job l) in
-      ap (cons_run job line) f.is ∙ rw e (sym (f.led line (from_same e)))
-  onto_first_run line false e f = ap (cons_run job line) f.is ∙ rw e (ap (◌∷◌ (run_of line 1)) (sym f.is))
+  onto_first_run line {l} true e f = grind (arith, bytes_eq-Decides)
+  onto_first_run line false e f = cc
 
   -- the runs of a list of lines, from its first line
   pub runs_are : (line : List ℕ) (ls : List (List ℕ)) → runs job (line ∷ ls) ≡ runs_from job (run_of line 1) ls

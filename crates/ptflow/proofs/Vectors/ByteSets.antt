@@ -1,13 +1,13 @@
 -- Membership tests of a byte set. The tables are filled flag by flag, and each flag is one bit of one entry; a test
 -- looks up the entry and the bit of each byte.
-use Rattle.ptflow.proofs.Common.{◌≡◌, ℕ, suc, ◌+◌, ◌*◌, ◌/◌, ◌%◌, ◌<◌, ◌≤◌, ◌^◌, ◌&&◌, ◌||◌, Bool, true, false, List}
+use Rattle.ptflow.proofs.Common.{◌≡◌, ℕ, suc, ◌+◌, ◌*◌, ◌/◌, ◌%◌, ◌<◌, ◌≤◌, ◌^◌, ◌&&◌, ◌||◌, Bool, true}
+use Rattle.ptflow.proofs.Common.{false, List}
 use Rattle.ptflow.proofs.Common.{[], ◌∷◌, length, map, cond, leb, ltb, eqb, zero, ◌≢◌, ⊎_elim, get_or, get_or-drop}
 use Rattle.ptflow.proofs.Common.{drop, ◌-◌, set, bit_or, replicate, negsuc, pos, bit_and, refl, ap, ◌∙◌, arith, w8}
 use Rattle.ptflow.proofs.Common.{Fits, top, zip2, sel_l, Each1, cast_signed, bit_at, from_bool, swz_l, SwzOk}
-use Rattle.ptflow.proofs.Common.{SwzOk-from_below, zip2_splat, zip2_of_maps, map-map, and_mask, lt-leb, lt-ltb, le-ltb}
-use Rattle.ptflow.proofs.Common.{cases_eq, cases_lt, eq-eqb, nat_tests, get_or-map-range_with_len, pow_pos, length-map}
+use Rattle.ptflow.proofs.Common.{SwzOk-from_below, zip2_splat, zip2_of_maps, map-map, and_mask, lt-ltb, le-ltb}
+use Rattle.ptflow.proofs.Common.{cases_eq, cases_lt, nat_tests, pow_pos, length-map}
 use Rattle.ptflow.proofs.Common.{set-get_or, get_or-set_same, get_or-set_other, table_has, set_has, IsSetOf, mask_of}
-use Rattle.ptflow.proofs.Common.{ne_eqb}
 use Rattle.std.proofs.lemmas.Nat.Bits.{and_pow, bit_at-lt, bit_at_set_same, bit_at_set_other}
 use Rattle.std.specs.Int.Bits.{or_zero_r}
 use Rattle.ptflow.specs.declared.simd.byte_set.ByteSet.{ByteSet}
@@ -27,9 +27,7 @@ module _ (half : ℕ → ℕ) (small : (b : ℕ) → b < 256 → half b < 16) wh
 
   lane : (table : List ℕ) (i : ℕ) {j : ℕ} → i < 16 → j < 16
       → cond (leb 128 j) 0 (get_or table (16 * (i / 16) + j) 0) ≡ get_or table j 0
-  lane table i {j} li lj =
-      let first : 16 * (i / 16) + j ≡ j = omega arith in
-      cc (lt-leb 128 j (omega arith))
+  lane table i {j} li lj = grind arith
 
   looked_up_from : (table v : List ℕ) (i : ℕ) → i + length v ≤ 16 → Each1 (Fits w8) v
       → swz_l w8 16 table i (map half v) ≡ map (λ b. get_or table (half b) 0) v
@@ -63,7 +61,7 @@ abbrev pub bits_in_order : List ℕ
 bits_in_order = 1 ∷ 2 ∷ 4 ∷ 8 ∷ 16 ∷ 32 ∷ 64 ∷ 128 ∷ 1 ∷ 2 ∷ 4 ∷ 8 ∷ 16 ∷ 32 ∷ 64 ∷ 128 ∷ []
 
 bit_of : {half : ℕ} → half < 16 → get_or bits_in_order half 0 ≡ 2 ^ (half % 8)
-bit_of {half} small = get_or-map-range_with_len (λ h. 2 ^ (h % 8)) 0 16 half half 0 small (omega arith)
+bit_of {half} small = grind arith
 
 -- either this bit of an entry is set, or the result is zero
 all_or_none : (row k : ℕ) → eqb (bit_and row (2 ^ k)) (2 ^ k) ≡ eqb (bit_at row k) 1
@@ -150,20 +148,14 @@ module _ (table : List ℕ) {n : ℕ} (long : length table ≡ 16) (within : n <
   filled_is : (flag : Bool) {b : ℕ} → b < 128
       → table_has (flags_set table n (from_bool flag)) b
       ≡ cond (eqb b n) (flag || table_has table n) (table_has table b)
-  filled_is true {b} byte = ⊎_elim (λ same. cc (eq-eqb b n same, set_here))
-      (λ other. cc (ne_eqb b n other, set_there byte other)) (cases_eq b n)
-  filled_is false {b} byte = ⊎_elim (λ same. cc (eq-eqb b n same, unset)) (λ other. cc (ne_eqb b n other, unset))
-      (cases_eq b n)
+  filled_is true {b} byte = grind (arith, set_here, set_there)
+  filled_is false {b} byte = grind (arith, unset)
 
 -- the table with the flag of one byte more
 pub one_more_flag : (table : List ℕ) (flags : List Bool) (n : ℕ) {x : ℕ} → length table ≡ 16 → n < 128
     → x ≡ from_bool (get_or flags n false) → ((b : ℕ) → b < 128 → table_has table b ≡ (ltb b n && get_or flags b false))
     → (b : ℕ) → b < 128 → table_has (flags_set table n x) b ≡ (ltb b (n + 1) && get_or flags b false)
-one_more_flag table flags n long within is marked b byte =
-    ap (λ k. table_has (flags_set table n k) b) is ∙ filled_is table long within (get_or flags n false) byte ∙ ⊎_elim
-    (λ same. let before = marked n within in
-    grind (arith, nat_tests, before, same, ap (λ m. get_or flags m false) same))
-    (λ other. let before = marked b byte in grind (arith, nat_tests, before, other)) (cases_eq b n)
+one_more_flag table flags n long within is marked b byte = grind (arith, filled_is)
 
 -- ---- a set of two tables
 

@@ -1,18 +1,17 @@
 -- Compression. A row has the indices of the set flags of a mask, in order; a shuffle by it moves the selected lanes to
 -- the front, and a mask of 16 flags is handled as two of eight.
-use Rattle.ptflow.proofs.Common.{◌≡◌, ℕ, zero, suc, ◌+◌, ◌*◌, ◌^◌, ◌/◌, ◌%◌, ◌<◌, ◌≤◌, Bool, true, false, cond, List}
+use Rattle.ptflow.proofs.Common.{common_steps, ◌≡◌, ℕ, zero, suc, ◌+◌, ◌*◌, ◌^◌, ◌/◌, ◌%◌, ◌<◌, ◌≤◌, Bool, true, false}
+use Rattle.ptflow.proofs.Common.{cond, List}
 use Rattle.ptflow.proofs.Common.{[], ◌∷◌, ◌++◌, map, length, take, drop, set, get_or, length-drop, drop-cons}
 use Rattle.ptflow.proofs.Common.{append_assoc, add-one, refl, sym, ◌∙◌, ap, arith, w8, All, nat_eq, nat_le}
 use Rattle.ptflow.proofs.Common.{range_with_len, mask_l, put_chunk, chunk, pick_l, Each1, take_more_put_chunk}
 use Rattle.ptflow.proofs.Common.{bit_mask_l, mask_l-lt, Each1-from_get_or, swz_l, ones-mask_l_cons}
 use Rattle.ptflow.proofs.Common.{pick_l-range_with_len, take-map, take-take, take_more, take_all, take-append-le}
-use Rattle.ptflow.proofs.Common.{drop-append-le, length-take-le, All-set, length-range_with_len, get_or-range_with_len}
+use Rattle.ptflow.proofs.Common.{drop-append-le, length-take-le, length-range_with_len, get_or-range_with_len}
 use Rattle.ptflow.proofs.Common.{take-append-add, and_numeral, nat_tests, pow-succ', select_by, true_indices}
 use Rattle.ptflow.proofs.Common.{IsCompressRow, IsCompressTable}
-use Rattle.std.proofs.Common.{length-set}
 use Rattle.std.specs.Prelude.{bit_and, slice_index_or, count_ones}
 use Rattle.ptlines.proofs.MatchMasks.{mask_append}
-use Rattle.ptflow.proofs.Vectors.Lanes.{stored_more}
 
 -- ---- items that are selected by flags
 
@@ -95,16 +94,16 @@ row_of_mask rows mask packing low = rw (mask_of_flags 8 _ low) at (packing (flag
 pub row_selects : {flags : List Bool} {row : List ℕ} (v : List ℕ) → length flags ≤ length v → IsCompressRow flags row
     → take (count_ones (mask_l flags)) (swz_l w8 16 v 0 row) ≡ select_by flags v
 row_selects {flags} {row} v room is =
-    let n = length flags in
-    let indices = range_with_len 0 n in
-    let count : count_ones (mask_l flags) ≡ length (true_indices flags) =
-    sym (length-select_by flags indices (omega (arith, length-range_with_len 0 n))) in
-    cc (
-      shuffle_result v 0 row (omega arith) (row_lanes is),
-      take-map (λ k. get_or v k 0) (count_ones (mask_l flags)) row,
-      map-select_by (λ k. get_or v k 0) flags indices,
-      pick_l-range_with_len 0 v 0 n (omega arith),
-      select_by_prefix flags v,
+    grind (
+      arith,
+      length-select_by,
+      length-range_with_len,
+      shuffle_result,
+      row_lanes,
+      take-map,
+      map-select_by,
+      pick_l-range_with_len,
+      select_by_prefix,
     )
 
 -- the selected lanes are stored at an index
@@ -149,19 +148,7 @@ next_place flags {place} long low =
 
 pub row_next : {mask place count bit : ℕ} {row : List ℕ} → place < 8 → bit ≡ mask / 2 ^ place % 2
     → RowPrefix mask place count row → RowPrefix mask (place + 1) (count + bit) (set row count place)
-row_next {place} {count} {row} low is begun = record {
-  behind = omega arith;
-  lanes = All-set (λ p. p < 16) row count place (omega arith) begun.lanes;
-  long = cc (length-set row count place);
-  indices = λ flags long masked.
-      let flag = get_or flags place false in
-      cc (
-        bit_mask_l flags place,
-        stored_more flag row count place (omega arith),
-        begun.indices flags long masked,
-        next_place flags long low,
-      );
-}
+row_next {place} {count} {row} low is begun = grind (arith, common_steps, bit_mask_l, next_place)
 
 pub row_complete : {mask count : ℕ} {row : List ℕ} {flags : List Bool} → length flags ≡ 8 → mask ≡ mask_l flags
     → RowPrefix mask 8 count row → IsCompressRow flags row
@@ -180,13 +167,11 @@ halves : (front back : List Bool) → length front ≡ 8 → mask_l (front ++ ba
 halves front back long = cc (mask_append front back, long)
 
 pub low_half : (front back : List Bool) → length front ≡ 8 → bit_and (mask_l (front ++ back)) 255 ≡ mask_l front
-low_half front back long = and_numeral (mask_l (front ++ back)) 254 refl
-    ∙ omega (arith, halves front back long, mask_below front long)
+low_half front back long = omega (arith, and_numeral, halves, mask_below)
 
 pub high_half : (front back : List Bool) → length front ≡ 8 → length back ≡ 8
     → bit_and (mask_l (front ++ back) / 256) 255 ≡ mask_l back
-high_half front back long others = and_numeral (mask_l (front ++ back) / 256) 254 refl
-    ∙ omega (arith, halves front back long, mask_below front long, mask_below back others)
+high_half front back long others = omega (arith, and_numeral, halves, mask_below)
 
 -- of lanes that are rotated by eight, the flags select what they select of the last eight
 select_rotated : (flags : List Bool) (v turned : List ℕ) → length flags ≡ 8 → length v ≡ 16
@@ -204,8 +189,4 @@ pub select_by_halves : (front back : List Bool) (before v turned : List ℕ) →
     → length v ≡ 16 → take 8 turned ≡ chunk 8 8 (v ++ v)
     → (before ++ select_by front v) ++ select_by back turned ≡ before ++ select_by (front ++ back) v
 select_by_halves front back before v turned few others lanes is =
-    cc (
-      append_assoc before (select_by front v) (select_by back turned),
-      select_rotated back v turned others lanes is,
-      select_by_append front back v,
-    )
+    grind (arith, common_steps, append_assoc, select_by, select_rotated, select_by_append)

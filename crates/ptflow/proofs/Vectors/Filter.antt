@@ -1,6 +1,6 @@
 -- Bytes that a filter keeps. Each byte is kept or removed by itself and the byte that it is compared with, so a text
 -- can be processed in pieces, one after another; a piece is kept whole if all bits of its mask are set.
-use Rattle.ptflow.proofs.Common.{◌≡◌, ℕ, ◌+◌, ◌<◌, ◌≤◌, ◌^◌, ◌&&◌, ◌%◌, Bool, true, false, cond, List, []}
+use Rattle.ptflow.proofs.Common.{common_steps, ◌≡◌, ℕ, ◌+◌, ◌<◌, ◌≤◌, ◌^◌, ◌&&◌, ◌%◌, Bool, true, false, cond, List, []}
 use Rattle.ptflow.proofs.Common.{◌∷◌, ◌++◌, not, eqb, length, map, filter, take, drop, refl, sym, ◌∙◌, ap}
 use Rattle.ptflow.proofs.Common.{arith, append_assoc, append-nil, take-append-drop, take-add, drop-drop, drop_all, w8}
 use Rattle.ptflow.proofs.Common.{chunk, length-chunk, zip2, mask_l, mask_l-mod, length-zip2, bit_and}
@@ -21,32 +21,14 @@ module _ (f : ℕ → ℕ → Bool) (before bytes : List ℕ) (paired : length b
       length-zip2 f (chunk at 16 before) (chunk at 16 bytes) (long ∙ sym (length-chunk at 16 bytes room)) ∙ long
 
 none_set : {a b c d : ℕ} → bit_or (bit_or (bit_or a b) c) d ≡ 0 → (a ≡ 0) × (b ≡ 0) × (c ≡ 0) × (d ≡ 0)
-none_set {a} {b} {c} {d} none =
-    let two = bit_or a b in
-    let three = bit_or two c in
-    let third : three ≡ 0 = omega (arith, none, le_or_l three d) in
-    let second : two ≡ 0 = omega (arith, third, le_or_l two c) in (
-      omega (arith, second, le_or_l a b),
-      omega (arith, second, le_or_r a b),
-      omega (arith, third, le_or_r two c),
-      omega (arith, none, le_or_r three d),
-    )
+none_set {a} {b} {c} {d} none = omega (arith, le_or_l, le_or_r)
 
 all_full : {a b c d : ℕ} → bit_and (bit_and (bit_and a b) c) d ≡ 65535
     → (65535 ≤ a) × (65535 ≤ b) × (65535 ≤ c) × (65535 ≤ d)
-all_full {a} {b} {c} {d} full =
-    let two = bit_and a b in
-    let three = bit_and two c in
-    let third : 65535 ≤ three = omega (arith, full, and_le_l three d) in
-    let second : 65535 ≤ two = omega (arith, third, and_le_l two c) in (
-      omega (arith, second, and_le_l a b),
-      omega (arith, second, and_le_r a b),
-      omega (arith, third, and_le_r two c),
-      omega (arith, full, and_le_r three d),
-    )
+all_full {a} {b} {c} {d} full = omega (arith, and_le_l, and_le_r)
 
 append_four : (t a b c d : List ℕ) → (((t ++ a) ++ b) ++ c) ++ d ≡ t ++ (((a ++ b) ++ c) ++ d)
-append_four t a b c d = cc (append_assoc t a b, append_assoc t (a ++ b) c, append_assoc t ((a ++ b) ++ c) d)
+append_four t a b c d = simp (append_assoc)
 
 module _ (test : ℕ → Bool) where
   pub kept_cons : (a b : ℕ) (before bytes : List ℕ)
@@ -116,12 +98,11 @@ module _ (test : ℕ → Bool) where
     -- no byte is left
     pub filter_done : {into : List ℕ} {at count : ℕ} {whole : List ℕ} → FilterInvariant into at count whole
         → length bytes ≤ at → take count into ≡ whole
-    filter_done {into} {at} {count} k past =
-        cc (append-nil (take count into), drop_all at bytes past, kept_nil (drop at before), k.is)
+    filter_done {into} {at} {count} k past = grind (arith, common_steps, append-nil, drop_all, kept_nil)
 
     module _ (paired : length bytes ≤ length before) where
       same_length : (at n : ℕ) → at + n ≤ length bytes → length (chunk at n before) ≡ length (chunk at n bytes)
-      same_length at n room = length-chunk at n before (omega arith) ∙ sym (length-chunk at n bytes room)
+      same_length at n room = omega (arith, length-chunk)
 
       -- the bytes of a vector are kept if its mask is full
       kept_full : (k : ℕ) {mask : ℕ} → k + 16 ≤ length bytes → mask ≡ mask_l (flags_at k) → 65535 ≤ mask
@@ -135,13 +116,7 @@ module _ (test : ℕ → Bool) where
 
       -- two pieces, one after another
       kept_two : (at n m : ℕ) → at + n + m ≤ length bytes → kept_at at (n + m) ≡ kept_at at n ++ kept_at (at + n) m
-      kept_two at n m room =
-          cc (
-            chunk_parts at n m before,
-            chunk_parts at n m bytes,
-            kept_append (chunk at n before) (chunk at n bytes) (chunk (at + n) m before) (chunk (at + n) m bytes)
-                (same_length at n (omega arith)),
-          )
+      kept_two at n m room = grind (arith, common_steps, chunk_parts, kept_append, same_length)
 
       module _ (at : ℕ) (room : at + 64 ≤ length bytes) where
         four : kept_at at 64 ≡ ((kept_at at 16 ++ kept_at (at + 16) 16) ++ kept_at (at + 32) 16) ++ kept_at (at + 48) 16
@@ -153,11 +128,7 @@ module _ (test : ℕ → Bool) where
         pub kept_in_four : (t : List ℕ) {a b c d : List ℕ} → a ≡ t ++ kept_at at 16
             → b ≡ a ++ kept_at (at + 16) 16 → c ≡ b ++ kept_at (at + 32) 16 → d ≡ c ++ kept_at (at + 48) 16
             → d ≡ t ++ kept_at at 64
-        kept_in_four t ea eb ec ed =
-            ed ∙ ap (λ l. l ++ kept_at (at + 48) 16) (ec ∙ ap (λ l. l ++ kept_at (at + 32) 16) (eb
-            ∙ ap (λ l. l ++ kept_at (at + 16) 16) ea))
-            ∙ append_four t (kept_at at 16) (kept_at (at + 16) 16) (kept_at (at + 32) 16) (kept_at (at + 48) 16)
-            ∙ ap (λ l. t ++ l) (sym four)
+        kept_in_four t ea eb ec ed = grind (arith, common_steps, kept_at, append_four, four)
 
         whole : kept_at at 16 ≡ chunk at 16 bytes → kept_at (at + 16) 16 ≡ chunk (at + 16) 16 bytes
             → kept_at (at + 32) 16 ≡ chunk (at + 32) 16 bytes → kept_at (at + 48) 16 ≡ chunk (at + 48) 16 bytes
@@ -180,10 +151,7 @@ module _ (test : ℕ → Bool) where
         pub all_kept_in_four : {a b c d : ℕ} → a ≡ mask_l (flags_at at) → b ≡ mask_l (flags_at (at + 16))
             → c ≡ mask_l (flags_at (at + 32)) → d ≡ mask_l (flags_at (at + 48))
             → bit_and (bit_and (bit_and a b) c) d ≡ 65535 → kept_at at 64 ≡ chunk at 64 bytes
-        all_kept_in_four ma mb mc md full =
-            let (la, lb, lc, ld) = all_full full in
-            whole (kept_full at (omega arith) ma la) (kept_full (at + 16) (omega arith) mb lb)
-            (kept_full (at + 32) (omega arith) mc lc) (kept_full (at + 48) (omega arith) md ld)
+        all_kept_in_four ma mb mc md full = grind (arith, all_full, whole, kept_full)
 
       -- a piece more
       pub filter_piece : {into : List ℕ} {at count : ℕ} {whole : List ℕ} → FilterInvariant into at count whole → (n : ℕ)
@@ -253,10 +221,7 @@ module _ (test : ℕ → Bool) (before bytes : List ℕ) (paired : length bytes 
     )
 
     pub removed_small : mask < 65536
-    removed_small = let low : mask_l removed < 2 ^ 16 = rw long at (mask_l-lt removed) in omega (arith, mask_is, low)
+    removed_small = grind (arith, long, mask_l-lt, mask_is)
 
     pub keep_mask : 65535 - mask ≡ mask_l (keep_flags test (chunk at 16 before) (chunk at 16 bytes))
-    keep_mask =
-        let all : 2 ^ length removed ≡ 2 ^ 16 = ap (λ (n : ℕ). 2 ^ n) long in
-        let kept = ap mask_l (not_removed test (chunk at 16 before) (chunk at 16 bytes)) in
-        omega (arith, mask_is, all, not_mask removed, kept)
+    keep_mask = grind (arith, long, not_removed, mask_is, not_mask)

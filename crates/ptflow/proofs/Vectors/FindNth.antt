@@ -6,7 +6,7 @@ use Rattle.ptflow.proofs.Common.{sym, ◌∙◌, ap, subst, arith, get_or-take, 
 use Rattle.ptflow.proofs.Common.{prefix_len, mask_l, chunk, take-add, take-take, length-take-le, get_or-le-sum_by}
 use Rattle.ptflow.proofs.Common.{sum_by-cons, sum_by-append, sum_by-take-le, trailing_mask_l, ones-mask_l}
 use Rattle.ptflow.proofs.Common.{get_or-chunk, length-chunk, IsFirstByte, NoneBefore, Passes, is_byte}
-use Rattle.ptflow.proofs.Common.{line_before_terminator, line_if_not_found, take_all, Nowhere, None, option_map}
+use Rattle.ptflow.proofs.Common.{line_before_terminator, line_if_not_found, Nowhere, None, option_map}
 use Rattle.ptflow.proofs.Common.{nowhere_trans, IsLine, byte_ne, IsNth, HasTerminators, count_by_more_yes}
 use Rattle.ptflow.proofs.Common.{length-map, common_steps}
 use Rattle.std.proofs.lemmas.List.{get_or-drop, drop-map}
@@ -129,9 +129,7 @@ shifted (suc n) (b ∷ bits) =
 -- the mask of the first bytes, without those before an index
 pub mask_from : (p : ℕ → Bool) (size from : ℕ) (bytes : List ℕ) {mask : ℕ} → mask ≡ mask_l (map p (take size bytes))
     → mask / 2 ^ from ≡ mask_l (map p (take (size - from) (drop from bytes)))
-mask_from p size from bytes is =
-    ap (λ m. m / 2 ^ from) is ∙ shifted from (map p (take size bytes)) ∙ ap mask_l (drop-map p from (take size bytes)
-    ∙ ap (map p) (rest_of from size bytes))
+mask_from p size from bytes is = grind (arith, shifted, drop-map, rest_of)
 
 -- the first item that passes if none of the first `size` does
 module _ (p : ℕ → Bool) (bytes : List ℕ) (size : ℕ) (within : size ≤ length bytes)
@@ -162,22 +160,19 @@ module _ (p : ℕ → Bool) (bytes : List ℕ) where
 
   pub count_chunk : (at : ℕ)
       → count_by p (take (at + 64) bytes) ≡ count_by p (take at bytes) + count_by p (chunk at 64 bytes)
-  count_chunk at = cc (take-add at 64 bytes, sum_by-append (λ b. cond (p b) 1 0) (take at bytes) (chunk at 64 bytes))
+  count_chunk at = simp (take-add, sum_by-append)
 
   module _ (size at m k : ℕ) (room : at + size ≤ length bytes) (h : IsNth p 0 m (chunk at size bytes) k) where
     pub near : k < size
     near = omega (arith, length-chunk at size bytes room)
 
     pub count_in_prefix : count_by p (take (at + k) bytes) ≡ count_by p (take at bytes) + m
-    count_in_prefix = grind (arith, common_steps, take-add, sum_by-append, take-take)
+    count_in_prefix = grind (arith, common_steps, take-add)
 
     pub nth_in_prefix : {to : ℕ} → at + k < to → to ≤ length bytes
         → IsNth p 0 (count_by p (take at bytes) + m) (take to bytes) (at + k)
-    nth_in_prefix {to} lt le = (
-      omega (arith, length-take-le to bytes le),
-      cc (get_or-take to bytes (at + k) 0 lt, get_or-chunk at size bytes k 0 near),
-      cc (take-take (at + k) to bytes (omega arith), count_in_prefix),
-    )
+    nth_in_prefix {to} lt le =
+        grind (arith, common_steps, length-take-le, get_or-take, get_or-chunk, near, take-take, count_in_prefix)
 
   -- no item before the first one passes
   pub first_is : (at : ℕ) → IsNth p 0 0 bytes at → NoneBefore (Passes p bytes) 0 (length bytes) at × Passes p bytes at
@@ -185,15 +180,7 @@ module _ (p : ℕ → Bool) (bytes : List ℕ) where
     record {
       low = omega arith;
       high = within;
-      before = λ k low near passes.
-          let here : p (get_or (take at bytes) k 0) ≡ true = cc (get_or-take at bytes k 0 near) in
-          let one : cond {A = ℕ} (p (get_or (take at bytes) k 0)) 1 0 ≡ 1 = cc (here) in
-          omega (
-            arith,
-            one,
-            get_or-le-sum_by (λ b. cond (p b) 1 0) (take at bytes) k 0
-                (omega (arith, near, within, length-take-le at bytes (omega (arith, within)))),
-          );
+      before = λ k low near passes. grind (arith, common_steps, near, get_or-take, get_or-le-sum_by, length-take-le);
     },
     passes,
   )
@@ -214,11 +201,8 @@ module _ (d : ℕ) (line : List ℕ) where
   module _ (to : ℕ) (le : to ≤ length line) where
     pub first_is_nth : (at : ℕ) → IsFirstByte (is_byte d) line (Some at) → at < to
         → IsNth (is_byte d) 0 0 (take to line) at
-    first_is_nth at first lt = (
-      omega (arith, lt, length-take-le to line le),
-      cc (get_or-take to line at 0 lt, first.1),
-      cc (take-take at to line (omega (arith, lt)), none_counted (take at line) (line_before_terminator d line at first)),
-    )
+    first_is_nth at first lt =
+        grind (arith, common_steps, length-take-le, get_or-take, take-take, none_counted, line_before_terminator)
 
     pub no_nth_before_first : (at : ℕ) → IsFirstByte (is_byte d) line (Some at) → to ≤ at
         → count_by (is_byte d) (take to line) ≤ 0
@@ -229,12 +213,7 @@ module _ (d : ℕ) (line : List ℕ) where
     )
 
     pub no_nth : IsFirstByte (is_byte d) line None → count_by (is_byte d) (take to line) ≤ 0
-    no_nth none = omega (
-      arith,
-      count_up_to (is_byte d) line to (length line) le,
-      ap (count_by (is_byte d)) (take_all (length line) line (omega arith)),
-      none_counted line (line_if_not_found d line none),
-    )
+    no_nth none = grind (arith, common_steps, none_counted, line_if_not_found)
 
 -- the next item that passes, if no item between an earlier index and this one passes
 module _ (p : ℕ → Bool) (bytes : List ℕ) (start end : ℕ) (fits : end < length bytes)
@@ -291,5 +270,5 @@ module _ {d : ℕ} {block : List ℕ} {from all marked : ℕ} (n start : ℕ) (h
         near = close;
         order = in_order p block start _ fits is as_many;
         first = next_is p block start _ fits is as_many;
-        counted = omega (arith, one_after p block start _ fits is as_many, as_many, ends);
+        counted = grind (arith, common_steps, one_after);
       }

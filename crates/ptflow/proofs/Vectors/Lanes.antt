@@ -1,6 +1,7 @@
 -- Vector operations, byte by byte: values that are computed for each lane, and the lanes of flags. Each of them is a
 -- `map` over the lanes, so facts about one byte carry over.
-use Rattle.ptflow.proofs.Common.{◌≡◌, ℕ, ◌+◌, ◌<◌, ◌≤◌, ◌%◌, Bool, false, List, [], ◌∷◌, ◌++◌, Option, map, take, drop}
+use Rattle.ptflow.proofs.Common.{common_steps, ◌≡◌, ℕ, ◌+◌, ◌<◌, ◌≤◌, ◌%◌, Bool, false, List, [], ◌∷◌, ◌++◌, Option}
+use Rattle.ptflow.proofs.Common.{map, take, drop}
 use Rattle.ptflow.proofs.Common.{length, get_or, replicate, cond, refl, sym, ◌∙◌, ap, arith, w8, Fits, sum_by, zero}
 use Rattle.ptflow.proofs.Common.{suc, slice_get, option_map, sel_l, zip2, top, Each1, take-add, false≢true, map-append}
 use Rattle.ptflow.proofs.Common.{tops_compared, zip2_splat, zip2_of_maps, splat_is_map, Each1-from_get_or, shift_at}
@@ -44,8 +45,7 @@ added_lanes f g v ex ey = zip2_of_maps (λ a b. (a + b) % 256) f g v ex ey
 pub mapped_more : (map_byte : ℕ → ℕ) (at next n : ℕ) (from to new : List ℕ) → next ≡ at + n
     → take at to ≡ map map_byte (take at from) → take (at + n) new ≡ take at to ++ map map_byte (take n (drop at from))
     → take next new ≡ map map_byte (take next from)
-mapped_more map_byte at next n from to new is begun more =
-    cc (map-append map_byte (take at from) (take n (drop at from)), take-add at n from)
+mapped_more map_byte at next n from to new is begun more = grind (arith, common_steps, map-append, take-add)
 
 -- two functions that agree on bytes map lists of bytes to the same list
 pub bytes_same : {X : Type 0} (f g : ℕ → X) → ((b : ℕ) → b < 256 → f b ≡ g b) → (v : List ℕ) → Each1 (Fits w8) v
@@ -93,9 +93,7 @@ stretch_taken (s ∷ ss) (suc i) b =
 
 range_added : (ranges : List ShiftRange) (last : ShiftRange) (b : ℕ)
     → range_sum (ranges ++ last ∷ []) b ≡ range_sum ranges b + range_delta last b
-range_added ranges last b =
-    let alone : range_sum (last ∷ []) b ≡ range_delta last b = omega arith in
-    cc (sum_by-append (λ r. range_delta r b) ranges (last ∷ []), alone)
+range_added ranges last b = omega (arith, range_sum, range_delta, sum_by-append)
 
 -- one range more adds what its stretch adds
 pub one_stretch_more : (ranges : List ShiftRange) (ss : List Stretch) (i : ℕ) (range : ShiftRange) (b : ℕ)
@@ -103,7 +101,7 @@ pub one_stretch_more : (ranges : List ShiftRange) (ss : List Stretch) (i : ℕ) 
     → range_delta range b ≡ stretch_delta (stretch_at ss i) b
     → range_sum (take (i + 1) (set ranges i range)) b ≡ stretch_sum (take (i + 1) ss) b
 one_stretch_more ranges ss i range b room before is =
-    cc (take_more_set ranges i range room, range_added (take i ranges) range b, add-one i, stretch_taken ss i b)
+    grind (arith, common_steps, take_more_set, range_added, add-one, stretch_taken)
 
 -- all stretches are among the first n
 pub all_stretches : (n : ℕ) (ss : List Stretch) → is_some (stretch_at ss n) ≡ false → length ss ≤ n
@@ -155,5 +153,4 @@ tops_of_lanes (f ∷ fs) = λ i. lane f i ∷ tops_of_lanes fs i
 pub stored_more : (flag : Bool) (row : List ℕ) (count place : ℕ) → count < length row
     → take (count + cond flag 1 0) (set row count place) ≡ take count row ++ cond flag (place ∷ []) []
 stored_more true row count place room = take_more_set row count place room
-stored_more false row count place room = ap (λ n. take n (set row count place)) (omega arith) ∙ take-set row count place
-    ∙ sym (append-nil (take count row))
+stored_more false row count place room = grind (arith, common_steps, take-set, append-nil)

@@ -1,6 +1,7 @@
 -- The items of a list that intervals select. Disjoint ascending intervals select one after another, and each selects a
 -- slice; so the selected items are these slices in order.
-use Rattle.ptflow.proofs.Common.{◌≡◌, ⊎_elim, ℕ, zero, suc, ◌+◌, ◌-◌, ◌<◌, ◌≤◌, Bool, true, false, cond, ◌&&◌, ◌||◌}
+use Rattle.ptflow.proofs.Common.{common_steps, ◌≡◌, ⊎_elim, ℕ, zero, suc, ◌+◌, ◌-◌, ◌<◌, ◌≤◌, Bool, true, false, cond}
+use Rattle.ptflow.proofs.Common.{◌&&◌, ◌||◌}
 use Rattle.ptflow.proofs.Common.{List, [], ◌∷◌, ◌++◌, length, take, drop, get_or, min, append_assoc, length-drop}
 use Rattle.ptflow.proofs.Common.{refl, sym, ◌∙◌, ap, arith, nat_le, false≢true, nat_tests, take_all, drop_all}
 use Rattle.ptflow.proofs.Common.{take-take, drop_more, length-take-le, drop-append-le, is_selected, AreSeparated}
@@ -49,8 +50,7 @@ select_step : {X : Type 0} (x : X) {all : List X} (first others : List X) (a b :
     → cond (a || b) (x ∷ all) all ≡ cond a (x ∷ first) first ++ cond b (x ∷ others) others
 select_step x first others true true apart none more = absurd (false≢true (sym (apart refl)))
 select_step x first others true false apart none more = ap (◌∷◌ x) more
-select_step x first others false true apart none more = ap (◌∷◌ x) (more ∙ ap (λ l. l ++ others) (none refl))
-    ∙ ap (λ l. l ++ x ∷ others) (sym (none refl))
+select_step x first others false true apart none more = grind (arith, common_steps)
 select_step x first others false false apart none more = more
 
 -- the items of the first interval, and then those of the others
@@ -86,8 +86,7 @@ pub select_slice : {X : Type 0} (r : Interval) (n : ℕ) (xs : List X) (i j : �
     → select_from (is_within r) n xs ≡ take (j - i) (drop i xs)
 select_slice r n [] zero j is js = sym (take-nil (j - 0))
 select_slice r n [] (suc i) j is js = sym (take-nil (j - suc i))
-select_slice r n (x ∷ xs) i zero is js = select_past r n (x ∷ xs) (omega arith)
-    ∙ (let none : 0 - i ≡ 0 = omega arith in rw none refl)
+select_slice r n (x ∷ xs) i zero is js = grind (arith, select_past)
 select_slice r n (x ∷ xs) zero (suc j) is js =
     let whole : suc j - 0 ≡ suc j = omega arith in
     let rest : j - 0 ≡ j = omega arith in
@@ -110,7 +109,7 @@ pub record CopyInvariant (all : List Interval) (i before : ℕ) (piece tail was 
 
 pub copy_starts : {all : List Interval} {before : ℕ} {piece tail was : List ℕ} {start : ℕ} → AreSeparated 0 all
     → CopyInvariant all 0 before piece tail was was start start
-copy_starts apart = record { front = refl; low = 0; apart = apart; near = omega arith; within = omega arith }
+copy_starts apart = grind arith
 
 pub copy_order : {all : List Interval} {i before : ℕ} {piece tail was is : List ℕ} {start at : ℕ}
     → CopyInvariant all i before piece tail was is start at → i < length all
@@ -121,7 +120,7 @@ module _ {all : List Interval} {before : ℕ} {piece tail was : List ℕ} {start
   module _ {i : ℕ} {is : List ℕ} {at : ℕ} (k : CopyInvariant all i before piece tail was is start at) where
     -- all intervals were processed
     pub copy_done : length all ≤ i → is ++ tail ≡ was ++ (select_from (is_selected all) (before + 1) piece ++ tail)
-    copy_done past = cc (select_none (is_selected []) (before + 1) piece (λ m low high. refl), drop_all i all past)
+    copy_done past = grind (arith, common_steps, select_none, piece, drop_all)
 
     module _ (within : i < length all) where
       abbrev r : Interval
@@ -179,16 +178,7 @@ module _ {all : List Interval} {before : ℕ} {piece tail was : List ℕ} {start
 pub slice_is : (r : Interval) (before count : ℕ) (bytes : List ℕ) → count ≤ length bytes → r.last < before + count
     → take ((r.last - before) - (r.first - (before + 1))) (drop (r.first - (before + 1)) bytes)
     ≡ select_from (is_within r) (before + 1) (take count bytes)
-slice_is r before count bytes within short =
-    let i = r.first - (before + 1) in
-    let j = r.last - before in
-    let j_is : j ≡ r.last + 1 - (before + 1) = omega arith in
-    cc (
-      select_slice r (before + 1) (take count bytes) i j refl j_is,
-      rest_of i count bytes,
-      take-take (j - i)
-          (count - i) (drop i bytes) (omega arith),
-    )
+slice_is r before count bytes within short = grind (arith, common_steps, r, select_slice, rest_of, take-take)
 
 drop_min : (i : ℕ) (xs : List ℕ) → drop (min i (length xs)) xs ≡ drop i xs
 drop_min zero xs = let least : min 0 (length xs) ≡ 0 = omega arith in cc

@@ -1,8 +1,9 @@
 -- Tables of images. Of each lane, the vectors that are left have in the row of the lane what was found for it. Each
 -- step halves the rows, and takes of two vectors the one that the lowest bit of the row names.
-use Rattle.ptflow.proofs.Common.{◌≡◌, ◌<◌, ◌≤◌, ◌∙◌, ℕ, zero, suc, ◌*◌, ◌+◌, ◌-◌, ◌/◌, ◌%◌, List, [], All, map, not}
+use Rattle.ptflow.proofs.Common.{common_steps, ◌≡◌, ◌<◌, ◌≤◌, ◌∙◌, ℕ, zero, suc, ◌*◌, ◌+◌, ◌-◌, ◌/◌, ◌%◌, List, [], All}
+use Rattle.ptflow.proofs.Common.{map, not}
 use Rattle.ptflow.proofs.Common.{length, length-map, length-set, set, sel_l, eqb, bit_and}
-use Rattle.ptflow.proofs.Common.{All-set, and_mask, ap, arith, cases_eq, cond, get_or, get_or-chunk, get_or-map, ⊎_elim}
+use Rattle.ptflow.proofs.Common.{and_mask, ap, arith, cases_eq, cond, get_or, get_or-chunk, get_or-map, ⊎_elim}
 use Rattle.ptflow.proofs.Common.{Bool, Each1, Fits, cases_lt, chunk, ext_get_or, false, get_or-set_other, ltb, w8, ◌^◌}
 use Rattle.ptflow.proofs.Common.{get_or-set_same, get_or_default, get_or_past, inl, inr, ◌⊎◌, le-ltb, lt-ltb}
 use Rattle.ptflow.proofs.Common.{min, replicate, sym, top, zip2, zip2_splat}
@@ -18,14 +19,8 @@ pub record IsFilledTo (n : ℕ) (f : ℕ → List ℕ) (index : ℕ) (kept : Lis
 
 pub filled_next : {n : ℕ} {f : ℕ → List ℕ} {index : ℕ} {kept : List (List ℕ)} {v : List ℕ} → IsFilledTo n f index kept
     → index < n → v ≡ f index → length (f index) ≡ 16 → IsFilledTo n f (index + 1) (set kept index v)
-filled_next {f = f} {index} {kept} {v} filled room is size = record {
-  long = length-set kept index v ∙ filled.long;
-  lanes = All-set (λ v. length v ≡ 16) kept index v (ap length is ∙ size) filled.lanes;
-  made = λ i low. ⊎_elim
-      (λ same. cc (get_or-set_same kept index v [] (omega (arith, filled.long))))
-      (λ other. get_or-set_other kept index i v [] other ∙ filled.made i (omega (arith, low, other)))
-      (cases_eq i index);
-}
+filled_next {f = f} {index} {kept} {v} filled room is size =
+    grind (arith, common_steps, length-set, get_or-set_same, get_or-set_other, cases_eq)
 
 module _ (rows : List ℕ) (found : List (List ℕ)) (count : ℕ) where
   abbrev pub odd : ℕ → ℕ
@@ -46,11 +41,7 @@ module _ (rows : List ℕ) (found : List (List ℕ)) (count : ℕ) where
     bits_long = length-map rows (λ row. not (eqb (bit_and row 1) 0)) ∙ long
 
     pub halved_long : (i : ℕ) → 2 * i < count → length (halved i) ≡ 16
-    halved_long i within =
-        let first = first_long i within in
-        let second = second_long i within in
-        length-sel_l _ (get_or found (odd i) []) (get_or found (2 * i) []) (omega (arith, bits_long, second))
-        (omega (arith, bits_long, first)) ∙ bits_long
+    halved_long i within = simp (first_long, second_long, length-sel_l, odd, bits_long)
 
     pub halved_is : (i : ℕ) {second : ℕ} → second ≡ odd i
         → sel_l (map (top 7) (zip2 (λ a b. cond (not (eqb a b)) 255 0) (zip2 bit_and rows (replicate 16 1))
@@ -122,24 +113,7 @@ module _ (first n : ℕ) (table : List (List ℕ)) (within : first + 16 * n ≤ 
     entry : (b : ℕ) → b < 256
         → cond (ltb (offset b / 16) n) (get_or (get_or table (offset b / 16) []) (offset b % 16) 0) b
         ≡ image_from first table b
-    entry b byte = ⊎_elim
-        (λ below. cc (lt-ltb b first below, le-ltb (offset b / 16) n (omega arith)))
-        (λ above.
-        let same : offset b ≡ b - first = omega arith in
-        ⊎_elim
-        (λ inside. cc (
-          le-ltb b first above,
-          lt-ltb (offset b / 16) n inside,
-          get_or_default (get_or table ((b - first) / 16) []) ((b - first) % 16) 0 b
-              (omega (arith, lanes ((b - first) / 16) [] (omega arith))),
-        ))
-        (λ past. cc (
-          le-ltb b first above,
-          le-ltb (offset b / 16) n past,
-          get_or_past table ((b - first) / 16) [] (omega arith),
-        ))
-        (cases_lt (offset b / 16) n))
-        (cases_lt b first)
+    entry b byte = grind (arith, common_steps, lt-ltb, le-ltb, offset, get_or_default, get_or_past, cases_lt)
 
     module _ (v : List ℕ) (long : length v ≡ 16) (fit : Each1 (Fits w8) v) {offsets rows : List ℕ} (found : List ℕ)
         (found_in_rows : List (List ℕ)) (offsets_are : offsets ≡ map offset v)
