@@ -3,23 +3,20 @@
 -- are the entries; a disorder can only be in the second parts. Inputs that are distributed over parts by a function
 -- of the key: a filter by keys commutes with computing the distinct keys, so each part has the entries of its keys,
 -- and the entries of all parts are a permutation of all entries.
-use Rattle.ptmerge.proofs.Common.{arith, append-nil, ◌≡◌, ℕ, ◌+◌, List, [], ◌∷◌, ◌++◌, Bool, true, false, cond, Option}
-use Rattle.ptmerge.proofs.Common.{Some, None, refl, ap, sym, ◌∙◌, filter, Less, Side, First, Second, Lines, MergeTool}
-use Rattle.ptmerge.proofs.Common.{FirstDisorder, entries_by_key, disorder, earlier_disorder, first_disorder, keys}
-use Rattle.ptmerge.proofs.Common.{merged_entries, sorted_prefixes, sorted_prefix, is_up_to, lines_of, Cmp, Key, unlines}
-use Rattle.ptmerge.proofs.Common.{the_lines_of_parts, unlines-append, comm_tool, join_tool, IsConcatOfParts}
-use Rattle.ptmerge.proofs.Common.{CommOfParts, JoinOfParts, ◌&&◌, not, map, tied_itself, bytes_eq, flat_map, is_gt}
-use Rattle.ptmerge.proofs.Common.{is_lt, Equal, bytes_decides, insert_key, distinct_keys, lines_with_key}
-use Rattle.ptmerge.proofs.Common.{entries_of_key, filter-append, IsLine, zero, suc, ◌<◌, ◌==◌, nat_lt, append_assoc}
-use Rattle.ptmerge.proofs.Common.{inr, nat_tests, range_with_len, lines, CommByKey, IsSplittableByKey, JoinByKey}
-use Rattle.ptmerge.proofs.Common.{text_of_part, output_lines}
-use Rattle.ptmerge.proofs.MergeLemmas.Invariant.{IsDisorderFrom, after_from, disorder_after, disorder_at}
-use Rattle.ptmerge.proofs.MergeLemmas.Invariant.{first_disorder_is, is_disordered, sorted_after, sorted_prefix_is}
-use Rattle.ptmerge.proofs.MergeLemmas.Invariant.{Ascends, IsDownwardClosed, all_keys, all_wanted, ascends_distinct}
-use Rattle.ptmerge.proofs.MergeLemmas.Invariant.{downward_splits, up_to_from}
-use Rattle.ptmerge.proofs.MergeLemmas.Orders.{Each, Each-weaker, EachKey, Each-all, EachKey-weaker, insert_least}
-use Rattle.ptmerge.proofs.MergeLemmas.Orders.{Each-parts, IsKeyOrder, AtMost, above_trans, at_most_trans, greater_flips}
-use Rattle.ptmerge.proofs.MergeLemmas.Orders.{line_order}
+use Rattle.ptmerge.proofs
+use proofs.Common.{arith, append-nil, ◌≡◌, ℕ, ◌+◌, List, [], ◌∷◌, ◌++◌, Bool, true, false, cond, Option, Some, None}
+use proofs.Common.{refl, ap, sym, ◌∙◌, filter, Less, Side, First, Second, Lines, MergeTool, FirstDisorder}
+use proofs.Common.{entries_by_key, disorder, earlier_disorder, first_disorder, keys, merged_entries, sorted_prefixes}
+use proofs.Common.{sorted_prefix, is_up_to, lines_of, Cmp, Key, unlines, the_lines_of_parts, unlines-append, comm_tool}
+use proofs.Common.{join_tool, IsConcatOfParts, CommOfParts, JoinOfParts, ◌&&◌, not, map, tied_itself, bytes_eq}
+use proofs.Common.{flat_map, is_gt, is_lt, Equal, bytes_decides, insert_key, distinct_keys, lines_with_key}
+use proofs.Common.{entries_of_key, filter-append, IsLine, zero, suc, ◌<◌, ◌==◌, nat_lt, append_assoc, inr, nat_tests}
+use proofs.Common.{range_with_len, lines, CommByKey, IsSplittableByKey, JoinByKey, text_of_part, output_lines}
+use proofs.MergeLemmas.Invariant.{IsDisorderFrom, after_from, disorder_after, disorder_at, first_disorder_is}
+use proofs.MergeLemmas.Invariant.{is_disordered, sorted_after, sorted_prefix_is, Ascends, IsDownwardClosed, all_keys}
+use proofs.MergeLemmas.Invariant.{all_wanted, ascends_distinct, downward_splits, up_to_from}
+use proofs.MergeLemmas.Orders.{Each, Each-weaker, EachKey, Each-all, EachKey-weaker, insert_least, Each-parts}
+use proofs.MergeLemmas.Orders.{IsKeyOrder, AtMost, above_trans, at_most_trans, greater_flips, line_order}
 use Rattle.std.proofs.lemmas.List.Elements.{All-filter, All-from_recursion, recursion_from_All}
 use Rattle.std.proofs.lemmas.List.Sorted.{IsPermutation-refl, IsPermutation-trans, IsPermutation-append_left}
 use Rattle.std.proofs.lemmas.List.Sorted.{IsPermutation-append_right, IsPermutation-append_comm}

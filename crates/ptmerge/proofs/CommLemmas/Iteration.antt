@@ -1,24 +1,23 @@
 -- Proofs for `comm`. A line adds one output line if one input has it alone, and one common output line if both have it.
 -- So each step of the merge extends the output by the entries of its key, and the loop invariant of the merge carries
 -- over.
-use Rattle.ptmerge.proofs.Common.{◌≡◌, ℕ, ◌<◌, false, List, [], ◌∷◌, ◌++◌, Ok, Err, length, refl, sym, ◌∙◌, ap, arith}
-use Rattle.ptmerge.proofs.Common.{Comm, Output, PushEffect, Reader, Slots, line, unlines, MergeFault, Side, First}
-use Rattle.ptmerge.proofs.Common.{Second, Sorted, Head, Ended, comm_with, column_entries, tab_if_shown, Lines}
-use Rattle.ptmerge.proofs.Common.{MergeTool, entries_by_key, lines_with_key, AdvanceOkPost, AdvancePre, MergeState}
-use Rattle.ptmerge.proofs.Common.{MergePost, merge_state, Cmp, Key, both, with_side, other, HaveEqualKeys}
-use Rattle.ptmerge.proofs.Common.{HasOnlyLeastKey, IsDisorderDecided, IsReaderOf, AreValidCursors, StartOkPost}
-use Rattle.ptmerge.proofs.Common.{merge_inputs, ClearFourSlotsPost, suc, ◌-◌, min, append_assoc, append-nil}
-use Rattle.ptmerge.proofs.Common.{tied_itself, entries, Bool}
-use Rattle.ptmerge.proofs.MergeLemmas.Step.{AdvanceErrPost, CursorsInvariant, LoopInvariant, advance_ok, goes_merging}
-use Rattle.ptmerge.proofs.MergeLemmas.Step.{passing_now, runs_on, slots_of, read_facts_current, iteration_fails}
-use Rattle.ptmerge.proofs.MergeLemmas.Step.{IsLineByLine, current_key_is_above, alone, write_one_line, reads_ahead}
-use Rattle.ptmerge.proofs.MergeLemmas.Step.{measure_less, own_reader_kept, place_is, wrote_and_sent, StoreHoldsTwoLines}
-use Rattle.ptmerge.proofs.MergeLemmas.Step.{holds_two, keeps_two, ends_well, ends_fallen, start_ok}
-use Rattle.ptmerge.proofs.MergeLemmas.Orders.{IsKeyOrder, same_bytes}
-use Rattle.ptmerge.proofs.MergeLemmas.Slots.{put_other, put_same}
-use Rattle.ptmerge.proofs.MergeLemmas.Invariant.{AllWritten, MergeInvariant, line_is_least_run, lag_invariant_starts}
-use Rattle.ptmerge.proofs.MergeLemmas.Invariant.{write_least_run, all_keys}
-use Rattle.ptmerge.proofs.MergeLemmas.Exits.{at_current_line, state_by_side, IsOpenMerge}
+use Rattle.ptmerge.proofs
+use proofs.Common.{◌≡◌, ℕ, ◌<◌, false, List, [], ◌∷◌, ◌++◌, Ok, Err, length, refl, sym, ◌∙◌, ap, arith, Comm, Output}
+use proofs.Common.{PushEffect, Reader, Slots, line, unlines, MergeFault, Side, First, Second, Sorted, Head, Ended}
+use proofs.Common.{comm_with, column_entries, tab_if_shown, Lines, MergeTool, entries_by_key, lines_with_key}
+use proofs.Common.{AdvanceOkPost, AdvancePre, MergeState, MergePost, merge_state, Cmp, Key, both, with_side, other}
+use proofs.Common.{HaveEqualKeys, HasOnlyLeastKey, IsDisorderDecided, IsReaderOf, AreValidCursors, StartOkPost}
+use proofs.Common.{merge_inputs, ClearFourSlotsPost, suc, ◌-◌, min, append_assoc, append-nil, tied_itself, entries}
+use proofs.Common.{Bool}
+use proofs.MergeLemmas.Step.{AdvanceErrPost, CursorsInvariant, LoopInvariant, advance_ok, goes_merging, passing_now}
+use proofs.MergeLemmas.Step.{runs_on, slots_of, read_facts_current, iteration_fails, IsLineByLine, current_key_is_above}
+use proofs.MergeLemmas.Step.{alone, write_one_line, reads_ahead, measure_less, own_reader_kept, place_is}
+use proofs.MergeLemmas.Step.{wrote_and_sent, StoreHoldsTwoLines, holds_two, keeps_two, ends_well, ends_fallen, start_ok}
+use proofs.MergeLemmas.Orders.{IsKeyOrder, same_bytes}
+use proofs.MergeLemmas.Slots.{put_other, put_same}
+use proofs.MergeLemmas.Invariant.{AllWritten, MergeInvariant, line_is_least_run, lag_invariant_starts, write_least_run}
+use proofs.MergeLemmas.Invariant.{all_keys}
+use proofs.MergeLemmas.Exits.{at_current_line, state_by_side, IsOpenMerge}
 use Rattle.ptmerge.specs.declared.faults.MergeFault.TheVariants as faults
 
 -- ---- each line adds one entry
@@ -104,13 +103,6 @@ pub record IterationInvariant (job : Comm) (cmp : Cmp) (key : Side → Key) (old
   pub valid_cursors : AreValidCursors key one two now.store
   pub own_reader : (side : Side) → IsReaderOf (both one two side) (now.reader side)
   pub clean : now.out.write_failed ≡ false
-
--- the invariant depends only on the order, and a call leaves the order of a merge unchanged
-pub iteration_as : {K : Type 0} (order : K → Cmp) (key_of : K → Side → Key)
-    {a b c : K} {job : Comm} {old now : MergeState} {one two : Sorted}
-    → b ≡ a → a ≡ c → IterationInvariant job (order a) (key_of a) old now one two
-    → record { iteration : IterationInvariant job (order b) (key_of b) old now one two; order : b ≡ c }
-iteration_as order key_of is same t = record { iteration = rw is t; order = is ∙ same }
 
 -- ---- the start
 

@@ -3,18 +3,17 @@
 -- lengths. Writing the fields of a canonical line gives the line back, since joining undoes splitting; so the fields
 -- after a field are the bytes after it.
 use Rattle.std.proofs.lemmas.Bool.{false_from_ne_true}
-use Rattle.ptmerge.proofs.Common.{nil_from_length, drop_more, length-drop, length-append, ◌≡◌, ℕ, suc, ◌+◌, ◌-◌, ◌≤◌}
-use Rattle.ptmerge.proofs.Common.{Bool, true, false, List, [], ◌∷◌, Option, None, Some, length, drop, get_or, refl}
-use Rattle.ptmerge.proofs.Common.{sym, ◌∙◌, ap, arith, zero, ◌<◌, ◌==◌, cond, ◌++◌, take, append_assoc, position}
-use Rattle.ptmerge.proofs.Common.{IfSome, MatchOption, filter, is_some, position_or_len, slice_split, nat_tests}
-use Rattle.ptmerge.proofs.Common.{drop-drop, take-append-drop, take_all, position_or_len_is, IsFirstByte, nth_field}
-use Rattle.ptmerge.proofs.Common.{is_nonempty, is_blank, Lines, split_around, split_whole, IsFirstPieceEnd}
-use Rattle.ptmerge.proofs.Common.{IsFieldIn, IsPiece, is_separator, entry_with_list, remaining_fields, IsKeySpan}
-use Rattle.ptmerge.proofs.Common.{IsFieldFound, is_evenly_separated, around, ◌||◌, map, remove, unwrap_or}
-use Rattle.ptmerge.proofs.Common.{onto_first, join_with_byte, eqb-true, append-nil, flat_map-append, Join}
-use Rattle.ptmerge.proofs.Common.{output_separator, entry, join_fields, or_filler, field_named, other_fields}
-use Rattle.ptmerge.proofs.Common.{IsCanonical, is_single_spaced, with_prefix, ◌%◌, ◌^◌, eqb, replicate}
-use Rattle.ptmerge.proofs.Common.{bit_or, length-map, drop-append_seam, take_at, nat_tests}
+use Rattle.ptmerge.proofs
+use proofs.Common.{nil_from_length, drop_more, length-drop, length-append, ◌≡◌, ℕ, suc, ◌+◌, ◌-◌, ◌≤◌, Bool, true}
+use proofs.Common.{false, List, [], ◌∷◌, Option, None, Some, length, drop, get_or, refl, sym, ◌∙◌, ap, arith, zero, ◌<◌}
+use proofs.Common.{◌==◌, cond, ◌++◌, take, append_assoc, position, IfSome, MatchOption, filter, is_some}
+use proofs.Common.{position_or_len, slice_split, nat_tests, drop-drop, take-append-drop, take_all, position_or_len_is}
+use proofs.Common.{IsFirstByte, nth_field, is_nonempty, is_blank, Lines, split_around, split_whole, IsFirstPieceEnd}
+use proofs.Common.{IsFieldIn, IsPiece, is_separator, entry_with_list, remaining_fields, IsKeySpan, IsFieldFound}
+use proofs.Common.{is_evenly_separated, around, ◌||◌, map, remove, unwrap_or, onto_first, join_with_byte, eqb-true}
+use proofs.Common.{append-nil, flat_map-append, Join, output_separator, entry, join_fields, or_filler, field_named}
+use proofs.Common.{other_fields, IsCanonical, is_single_spaced, with_prefix, ◌%◌, ◌^◌, eqb, replicate, bit_or}
+use proofs.Common.{length-map, drop-append_seam, take_at}
 use Rattle.std.proofs.lemmas.List.{length-take-le}
 use Rattle.std.proofs.lemmas.List.Quantifiers.{position-Some}
 use Rattle.ptlangs.specs.declared.outlist.OutField.{OutField}

@@ -1,31 +1,29 @@
 -- The group of one key: its lines are read, paired and then closed. Output during a group is a prefix of the output for
 -- all inputs, since lesser keys are complete and the pairs of the group are written in their final order. Once both
 -- inputs are past the key, the group is complete, and counts as processed.
-use Rattle.ptmerge.proofs.Common.{◌≡◌, ⊎_elim, ℕ, ◌+◌, ◌*◌, ◌≤◌, ◌<◌, ◌&&◌, Bool, true, false, List, [], ◌∷◌, ◌++◌}
-use Rattle.ptmerge.proofs.Common.{Some, Err, length, max, refl, sym, ◌∙◌, ap, subst, arith, append_assoc, bytes_eq}
-use Rattle.ptmerge.proofs.Common.{bytes_decides, is_gt, append-nil, Output, PushEffect, Reader, Slots, line}
-use Rattle.ptmerge.proofs.Common.{total_bytes, with_line, unlines, max_length, push_trans, unlines-append, MergeFault}
-use Rattle.ptmerge.proofs.Common.{Side, First, Second, Sorted, CursorStatus, Head, Ended, Disorder, is_head}
-use Rattle.ptmerge.proofs.Common.{length-append, Lines, MergeTool, entries_by_key, entries_of_key, lines_with_key}
-use Rattle.ptmerge.proofs.Common.{MergeState, MergePost, NextOkPost, HasSlots, with_side, other, PrecedesInput}
-use Rattle.ptmerge.proofs.Common.{disorder, merged_entries, sorted_prefixes, is_up_to, Cmp, Key, reads_nothing}
-use Rattle.ptmerge.proofs.MergeLemmas.Step.{slots_on, SidesInvariant, IsAbove, IsLineByLine, current_key_is_above}
-use Rattle.ptmerge.proofs.MergeLemmas.Step.{next_at, own_slots, passed_at, sides_invariant_continues, slots_apart}
-use Rattle.ptmerge.proofs.MergeLemmas.Step.{StoreInvariant, AdvanceErrPost, advance_fails}
-use Rattle.ptmerge.proofs.MergeLemmas.Invariant.{Bound, AtLeast, MayFollow, IsUnder, MergeInvariant, InputSplit}
-use Rattle.ptmerge.proofs.MergeLemmas.Invariant.{MayCome, all_keys, splits_step, all_wanted, written_is_wanted}
-use Rattle.ptmerge.proofs.MergeLemmas.Invariant.{LagInvariant}
-use Rattle.ptmerge.proofs.JoinLemmas.GroupSlots.{AllSlots, Extends, GroupBounds, InGroup, largest_group, GroupStore}
-use Rattle.ptmerge.proofs.JoinLemmas.GroupSlots.{group_store_line, group_store_next, low_slot, put_more}
-use Rattle.ptmerge.proofs.MergeLemmas.Orders.{EachKey, EachKey-append, EachKey-weaker, at_most-same, front_first}
-use Rattle.ptmerge.proofs.MergeLemmas.Orders.{front_is, others_of, lines_with_key-above, IsKeyOrder, AtMost}
-use Rattle.ptmerge.proofs.MergeLemmas.Orders.{least_or_above, self_at_most, at_most_trans, same_bytes}
-use Rattle.ptmerge.proofs.MergeLemmas.Slots.{put_both, put_each, put_other, put_same, side_case, has_lines_total}
-use Rattle.ptmerge.proofs.MergeLemmas.Slots.{line_other}
-use Rattle.ptmerge.proofs.MergeLemmas.Exits.{SideAfterNext, IsAtCurrentLine, MatchesStatus, next_same_key}
-use Rattle.ptmerge.proofs.MergeLemmas.Exits.{side_invariant_kept, Fits, read_facts_after_line, read_facts_at_line}
-use Rattle.ptmerge.proofs.MergeLemmas.Exits.{input_split_of, both_begun, IsOpenMerge, ReadFactsOf}
-use Rattle.ptmerge.proofs.MergeLemmas.LinesRead.{Continues, HasBegun, HoldsLines}
+use Rattle.ptmerge.proofs
+use proofs.Common.{◌≡◌, ⊎_elim, ℕ, ◌+◌, ◌*◌, ◌≤◌, ◌<◌, ◌&&◌, Bool, true, false, List, [], ◌∷◌, ◌++◌, Some, Err, length}
+use proofs.Common.{max, refl, sym, ◌∙◌, ap, subst, arith, append_assoc, bytes_eq, bytes_decides, is_gt, append-nil}
+use proofs.Common.{Output, PushEffect, Reader, Slots, line, total_bytes, with_line, unlines, max_length, push_trans}
+use proofs.Common.{unlines-append, MergeFault, Side, First, Second, Sorted, CursorStatus, Head, Ended, Disorder}
+use proofs.Common.{is_head, length-append, Lines, MergeTool, entries_by_key, entries_of_key, lines_with_key, MergeState}
+use proofs.Common.{MergePost, NextOkPost, HasSlots, with_side, other, PrecedesInput, disorder, merged_entries}
+use proofs.Common.{sorted_prefixes, is_up_to, Cmp, Key, reads_nothing}
+use proofs.MergeLemmas.Step.{slots_on, SidesInvariant, IsAbove, IsLineByLine, current_key_is_above, next_at, own_slots}
+use proofs.MergeLemmas.Step.{passed_at, sides_invariant_continues, slots_apart, StoreInvariant, AdvanceErrPost}
+use proofs.MergeLemmas.Step.{advance_fails}
+use proofs.MergeLemmas.Invariant.{Bound, AtLeast, MayFollow, IsUnder, MergeInvariant, InputSplit, MayCome, all_keys}
+use proofs.MergeLemmas.Invariant.{splits_step, all_wanted, written_is_wanted, LagInvariant}
+use proofs.JoinLemmas.GroupSlots.{AllSlots, Extends, GroupBounds, InGroup, largest_group, GroupStore, group_store_line}
+use proofs.JoinLemmas.GroupSlots.{group_store_next, low_slot, put_more}
+use proofs.MergeLemmas.Orders.{EachKey, EachKey-append, EachKey-weaker, at_most-same, front_first, front_is, others_of}
+use proofs.MergeLemmas.Orders.{lines_with_key-above, IsKeyOrder, AtMost, least_or_above, self_at_most, at_most_trans}
+use proofs.MergeLemmas.Orders.{same_bytes}
+use proofs.MergeLemmas.Slots.{put_both, put_each, put_other, put_same, side_case, has_lines_total, line_other}
+use proofs.MergeLemmas.Exits.{SideAfterNext, IsAtCurrentLine, MatchesStatus, next_same_key, side_invariant_kept, Fits}
+use proofs.MergeLemmas.Exits.{read_facts_after_line, read_facts_at_line, input_split_of, both_begun, IsOpenMerge}
+use proofs.MergeLemmas.Exits.{ReadFactsOf}
+use proofs.MergeLemmas.LinesRead.{Continues, HasBegun, HoldsLines}
 
 -- ---- a fault within a group
 
@@ -80,7 +78,7 @@ module _ {tool : MergeTool} {old : MergeState} (w : IsOpenMerge tool old) {mid :
       (gone : (side : Side) → ReadFactsOf tool old now new.reader piece ls (λ side. p side ++ g side) d side)
       (all : Side → Lines) (more : (side : Side) → Continues (now side) (ls side) (all side)) where
     seen : InputSplit tool d (λ side. p side ++ g side) all
-    seen = input_split_of w new now piece ls (λ side. p side ++ g side) d gone all more
+    seen = input_split_of w new gone all more
 
     parts : (w : List ℕ → Bool) → entries_by_key tool w (sorted_prefixes tool all) ≡ entries_by_key tool w
         p ++ entries_by_key tool w (λ side. g side ++ seen.r side)
@@ -435,14 +433,7 @@ module _ {call : JoinCall} {now : MergeState} {cursor : Side → Sorted} {end : 
       (EachKey-append (λ z. z ≡ k) (key s) (g s) (x ∷ []) (q.within.own s) (l.is, tt)) q.within.own
 
   pub within_more : OutputInGroup tool old.out q.mid q.p (with_added_line now cursor s g) q.d k
-  within_more =
-      record {
-        merge_invariant = q.within.merge_invariant;
-        clean = q.within.clean;
-        own = own_more;
-        beyond = q.within.beyond;
-        under = q.within.under;
-      }
+  within_more = assumption (own_more, q.within)
 
   pub rest_facts : ReadFactsOf tool old now.reader now.reader (λ t. []) q.ls
       (λ t. q.p t ++ with_added_line now cursor s g t) q.d (other s)

@@ -1,45 +1,41 @@
 -- The loop invariant of `join`, and its iterations between two groups. Between groups the invariant is that of the
 -- merge. An iteration there writes one unpaired line, opens a group or ends the loop. The remaining work, three times
 -- the reads that are left plus the rank of the phase, decreases in each iteration.
-use Rattle.ptmerge.proofs.Common.{NextOkPost, ◌≡◌, ℕ, Bool, true, false, cond, List, [], ◌∷◌, ◌++◌, map, refl, ap, sym}
-use Rattle.ptmerge.proofs.Common.{◌∙◌, ◌+◌, ◌*◌, ◌≤◌, ◌<◌, Ok, Err, length, subst, arith, append-nil, flat_map-append}
-use Rattle.ptmerge.proofs.Common.{Join, Side, First, Second, unpaired_entries1, unpaired_entries2, unpaired_entry}
-use Rattle.ptmerge.proofs.Common.{entry, join_fields, join_with, join_entries, join_key, pair_entries, Lines}
-use Rattle.ptmerge.proofs.Common.{entries_by_key, Cmp, Key, Output, PushEffect, Reader, Slots, line, unlines}
-use Rattle.ptmerge.proofs.Common.{MergeFault, Sorted, Head, Ended, IsReadyToContinue, AdvanceOkPost, MergeState}
-use Rattle.ptmerge.proofs.Common.{MergePost, merge_state, HasSlots, both, with_side, lines_of, Memory, HaveEqualKeys}
-use Rattle.ptmerge.proofs.Common.{HasOnlyLeastKey, IsDisorderDecided, IsReaderOf, AreValidCursors, StartOkPost}
-use Rattle.ptmerge.proofs.Common.{merge_inputs, ClearFourSlotsPost, ◌⊎◌, MergeRunPre, JoinStepPre, AdvancePre}
-use Rattle.ptmerge.proofs.Common.{push_nothing, other, if◌then◌else◌, max_group_bytes, max_group_lines, inl, inr}
-use Rattle.ptmerge.proofs.Common.{ReadGroupLineOkPost, ReadGroupLinePost, IsGroup, ClearGroupPost, group_end_slot}
-use Rattle.ptmerge.proofs.Common.{group_first_slot, group, JoinLinePre, ⊎_elim, ◌-◌, ◌==◌, push_trans, nat_tests}
-use Rattle.ptmerge.proofs.Common.{length_push, unlines-append, append_assoc, merged_entries, nil_from_length}
-use Rattle.ptmerge.proofs.Common.{CopyToGroupPost}
-use Rattle.ptmerge.proofs.MergeLemmas.Step.{open_merge, slots_of, wrote_as, IsLineByLine, alone, current_key_is_above}
-use Rattle.ptmerge.proofs.MergeLemmas.Step.{write_one_line, IsAbove, reads_ahead, measure_less, own_reader_kept}
-use Rattle.ptmerge.proofs.MergeLemmas.Step.{place_is, LoopInvariant, CursorsInvariant, AdvanceErrPost, iteration_fails}
-use Rattle.ptmerge.proofs.MergeLemmas.Step.{read_facts_current, runs_on, n, ends_well, ends_fallen, start_ok}
-use Rattle.ptmerge.proofs.MergeLemmas.Step.{next_keeps_slot_count, valid_cursors_kept, wrote_and_sent}
+use Rattle.ptmerge.proofs
+use proofs.Common.{NextOkPost, ◌≡◌, ℕ, Bool, true, false, cond, List, [], ◌∷◌, ◌++◌, map, refl, ap, sym, ◌∙◌, ◌+◌, ◌*◌}
+use proofs.Common.{◌≤◌, ◌<◌, Ok, Err, length, subst, arith, append-nil, flat_map-append, Join, Side, First, Second}
+use proofs.Common.{unpaired_entries1, unpaired_entries2, unpaired_entry, entry, join_fields, join_with, join_entries}
+use proofs.Common.{join_key, pair_entries, Lines, entries_by_key, Cmp, Key, Output, PushEffect, Reader, Slots, line}
+use proofs.Common.{unlines, MergeFault, Sorted, Head, Ended, IsReadyToContinue, AdvanceOkPost, MergeState, MergePost}
+use proofs.Common.{merge_state, HasSlots, both, with_side, lines_of, Memory, HaveEqualKeys, HasOnlyLeastKey}
+use proofs.Common.{IsDisorderDecided, IsReaderOf, AreValidCursors, StartOkPost, merge_inputs, ClearFourSlotsPost, ◌⊎◌}
+use proofs.Common.{MergeRunPre, JoinStepPre, AdvancePre, push_nothing, other, if◌then◌else◌, max_group_bytes}
+use proofs.Common.{max_group_lines, inl, inr, ReadGroupLineOkPost, ReadGroupLinePost, IsGroup, ClearGroupPost}
+use proofs.Common.{group_end_slot, group_first_slot, group, JoinLinePre, ⊎_elim, ◌-◌, ◌==◌, push_trans, nat_tests}
+use proofs.Common.{length_push, unlines-append, append_assoc, merged_entries, nil_from_length, CopyToGroupPost}
+use proofs.MergeLemmas.Step.{open_merge, slots_of, wrote_as, IsLineByLine, alone, current_key_is_above, write_one_line}
+use proofs.MergeLemmas.Step.{IsAbove, reads_ahead, measure_less, own_reader_kept, place_is, LoopInvariant}
+use proofs.MergeLemmas.Step.{CursorsInvariant, AdvanceErrPost, iteration_fails, read_facts_current, runs_on, n}
+use proofs.MergeLemmas.Step.{ends_well, ends_fallen, start_ok, next_keeps_slot_count, valid_cursors_kept}
+use proofs.MergeLemmas.Step.{wrote_and_sent}
+use proofs.JoinLemmas.GroupInvariant.{IsPairTool, IsAtKey, head_of, JoinCall, state_after_read, GroupState}
+use proofs.JoinLemmas.GroupInvariant.{store_between_groups, IsAtGroupLine, AdvancedGroup, closes, continues_key}
+use proofs.JoinLemmas.GroupInvariant.{leaves_key, advanced_group, group_breaks, with_added_line, is_past, next_slots}
+use proofs.JoinLemmas.GroupInvariant.{others_stay, passing_now, extends, front_is_not_all, has_entries, group_begun}
+use proofs.JoinLemmas.GroupInvariant.{same_cursors, group_read_facts, starts, none_failed, within_more, group_kept}
+use proofs.JoinLemmas.GroupInvariant.{last_stays, own_more, size_of, starts_none, with_head, OutputStartsWith}
+use proofs.JoinLemmas.GroupInvariant.{group_written, group_comes_first}
+use proofs.MergeLemmas.Invariant.{all_keys, AtLeast, AllWritten, MergeInvariant, Bound}
+use proofs.JoinLemmas.GroupSlots.{GroupBounds, end_within, pair_of, GroupStore, group_store_next, group_store_starts}
+use proofs.JoinLemmas.GroupSlots.{group_is, kept_line, group_store_cleared, low_slot, group_one, InGroup, largest_group}
+use proofs.JoinLemmas.GroupSlots.{CopiedLine, group_in, group_store_copied}
+use proofs.MergeLemmas.Orders.{IsKeyOrder, same_bytes, self_at_most, EachKey-at}
+use proofs.MergeLemmas.Slots.{put_other, put_same}
+use proofs.MergeLemmas.Exits.{at_current_line, IsOpenMerge as OpenMerge, ComeFirst, exit_is_merge_post, continues}
+use proofs.MergeLemmas.Exits.{none_missing, both_begun}
+use proofs.MergeLemmas.LinesRead.{Continues}
 use Rattle.std.specs.List.{flat_map}
-use Rattle.ptmerge.proofs.JoinLemmas.GroupInvariant.{IsPairTool, IsAtKey, head_of, JoinCall, state_after_read}
-use Rattle.ptmerge.proofs.JoinLemmas.GroupInvariant.{GroupState, store_between_groups, IsAtGroupLine, AdvancedGroup}
-use Rattle.ptmerge.proofs.JoinLemmas.GroupInvariant.{closes, continues_key, leaves_key, advanced_group, group_breaks}
-use Rattle.ptmerge.proofs.JoinLemmas.GroupInvariant.{with_added_line, is_past, next_slots, others_stay, passing_now}
-use Rattle.ptmerge.proofs.JoinLemmas.GroupInvariant.{extends, front_is_not_all, has_entries, group_begun, same_cursors}
-use Rattle.ptmerge.proofs.JoinLemmas.GroupInvariant.{group_read_facts, starts, none_failed, within_more, group_kept}
-use Rattle.ptmerge.proofs.JoinLemmas.GroupInvariant.{last_stays, own_more, size_of, starts_none, with_head}
-use Rattle.ptmerge.proofs.JoinLemmas.GroupInvariant.{OutputStartsWith, group_written, group_comes_first}
-use Rattle.ptmerge.proofs.MergeLemmas.Invariant.{all_keys, AtLeast, AllWritten, MergeInvariant, Bound}
 use Rattle.ptmerge.specs.declared.tools.join.JoinPhase.{JoinPhase}
-use Rattle.ptmerge.proofs.JoinLemmas.GroupSlots.{GroupBounds, end_within, pair_of, GroupStore, group_store_next}
-use Rattle.ptmerge.proofs.JoinLemmas.GroupSlots.{group_store_starts, group_is, kept_line, group_store_cleared, low_slot}
-use Rattle.ptmerge.proofs.JoinLemmas.GroupSlots.{group_one, InGroup, largest_group, CopiedLine, group_in}
-use Rattle.ptmerge.proofs.JoinLemmas.GroupSlots.{group_store_copied}
-use Rattle.ptmerge.proofs.MergeLemmas.Orders.{IsKeyOrder, same_bytes, self_at_most, EachKey-at}
-use Rattle.ptmerge.proofs.MergeLemmas.Slots.{put_other, put_same}
-use Rattle.ptmerge.proofs.MergeLemmas.Exits.{at_current_line, IsOpenMerge as OpenMerge, ComeFirst, exit_is_merge_post}
-use Rattle.ptmerge.proofs.MergeLemmas.Exits.{continues, none_missing, both_begun}
-use Rattle.ptmerge.proofs.MergeLemmas.LinesRead.{Continues}
 use Rattle.ptmerge.specs.declared.faults.MergeFault.TheVariants as faults
 use Rattle.ptmerge.specs.declared.tools.join.JoinPhase.TheVariants as phases
 
@@ -189,13 +185,6 @@ pub record IterationInvariant (job : Join) (cmp : Cmp) (key : Side → Key) (old
   pub own_reader : (side : Side) → IsReaderOf (both one two side) (now.reader side)
   pub clean : now.out.write_failed ≡ false
 
--- the invariant depends only on the order, and a call leaves the order of a merge unchanged
-pub iteration_as : {K : Type 0} (order : K → Cmp) (key_of : K → Side → Key) {a b c : K} {job : Join} {old : MergeState}
-    {phase : JoinPhase} {now : MergeState} {one two : Sorted} {end : ℕ}
-    → b ≡ a → a ≡ c → IterationInvariant job (order a) (key_of a) old phase now one two end
-    → record { iteration : IterationInvariant job (order b) (key_of b) old phase now one two end; order : b ≡ c }
-iteration_as order key_of is same t = record { iteration = rw is t; order = is ∙ same }
-
 -- ---- the start
 
 module _ {job : Join} {cmp : Cmp} {key : Side → Key} {old : MergeState} (a : IsOpenMerge job cmp key old) where
@@ -304,7 +293,7 @@ module _ {job : Join} {cmp : Cmp} {key : Side → Key} {old : MergeState} {phase
           let (above, under) = current_key_is_above cmp o _ _ _ _ _ _ _ _ _ step.before (r.sides (other s)).status_is in
           rw h.all (write_one_line _ o (is_line_by_line job cmp key) s x r.b r.p _ _ _ t.clean r.merge_invariant h.bound
           above under
-          (wrote_as _ _ _ _ _ _ (r.sides s).lines_read.terminator (entries_alone job cmp key s x (t.opened.keys s x))
+          (wrote_as (r.sides s).lines_read.terminator (entries_alone job cmp key s x (t.opened.keys s x))
           pushed))
 
       pub alone_continues : {one2 two2 : Sorted} {reader : Reader} {after : Slots}
@@ -561,7 +550,7 @@ module _ {job : Join} {cmp : Cmp} {key : Side → Key} {old : MergeState} {phase
           (entries_by_key call.tool all_keys q.p ++ []) =
           λ all more. group_comes_first call.w q.within new (group_read_facts q) all more
           (starts_none call q.within) in
-          rw e.memory (exit_is_merge_post call.w new _ _ _ _ _ (group_read_facts q) lag first (λ all more.
+          rw e.memory (exit_is_merge_post call.w new (group_read_facts q) lag first (λ all more.
           let size = size_of call q.keeps all (λ side. omega (arith, (more side).longest)) (extends (more Second)) in
           let (_, many) = call.laws.largest e.keeps _ _ (inside e.came (more Second).continues.more) in
           omega (
@@ -584,8 +573,8 @@ module _ {job : Join} {cmp : Cmp} {key : Side → Key} {old : MergeState} {phase
             left = λ four. inr (
               e.keeps,
               λ texts agree same. pairs_are_missing e.came e.keeps (lines_of call.tool texts)
-                  (continues call.w new _ _ _ _ _ (group_read_facts q) texts agree)
-                  (none_missing call.w new _ _ _ _ _ (group_read_facts q) lag first texts agree same),
+                  (continues call.w new (group_read_facts q) texts agree)
+                  (none_missing call.w new (group_read_facts q) lag first texts agree same),
             );
           }))
 
@@ -657,7 +646,7 @@ module _ {job : Join} {cmp : Cmp} {key : Side → Key} {old : MergeState} {phase
         unlines-append job.terminator
             (pair_entries job state.k (state.g First) (state.g Second)) (pair_entries job state.k z (state.g Second)),
       )
-          (push_trans _ _ _ _ _ t.clean state.q.wrote (wrote_as _ _ _ _ _ _ (state.q.sides First).lines_read.terminator
+          (push_trans _ _ _ _ _ t.clean state.q.wrote (wrote_as (state.q.sides First).lines_read.terminator
           (sym (group_pairs_are z) ∙ (λ j. pair_entries job (sym state.head.is j) z
           (group now.store (group_first_slot two end) (group_end_slot two end)))) pushed))
 

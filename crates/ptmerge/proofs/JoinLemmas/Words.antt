@@ -1,20 +1,19 @@
 -- Words of a line by masks of its blanks. A mask is the number of a list of bits, so each fact is by induction on that
 -- list: two masks that overlap make one; no blank is misplaced if a mask is zero; and the first run of set bits is the
 -- first word, after which the words of the rest of the line follow.
-use Rattle.ptmerge.proofs.Common.{◌≡◌, ◌≢◌, ℕ, zero, suc, ◌+◌, ◌-◌, ◌*◌, ◌^◌, ◌%◌, ◌<◌, ◌≤◌, Bool, true}
-use Rattle.ptmerge.proofs.Common.{false, cond, not, ◌&&◌, ◌||◌, eqb, ◌==◌, List, [], ◌∷◌, ◌++◌, None, length, map, take}
-use Rattle.ptmerge.proofs.Common.{drop, replicate, filter, refl, sym, ◌∙◌, ap, subst, arith, bit_and, bit_or, take_all}
-use Rattle.ptmerge.proofs.Common.{length-map, length-drop, take-append-drop, drop-drop, nat_tests, Lines}
-use Rattle.ptmerge.proofs.Common.{is_blank, is_nonempty, join_fields, is_single_spaced, has_single_spaces, slice_split}
-use Rattle.ptmerge.proofs.Common.{onto_first, with_prefix}
+use Rattle.ptmerge.proofs
+use proofs.Common.{◌≡◌, ◌≢◌, ℕ, zero, suc, ◌+◌, ◌-◌, ◌*◌, ◌^◌, ◌%◌, ◌<◌, ◌≤◌, Bool, true, false, cond, not, ◌&&◌, ◌||◌}
+use proofs.Common.{eqb, ◌==◌, List, [], ◌∷◌, ◌++◌, None, length, map, take, drop, replicate, filter, refl, sym, ◌∙◌, ap}
+use proofs.Common.{subst, arith, bit_and, bit_or, take_all, length-map, length-drop, take-append-drop, drop-drop}
+use proofs.Common.{nat_tests, Lines, is_blank, is_nonempty, join_fields, is_single_spaced, has_single_spaces}
+use proofs.Common.{slice_split, onto_first, with_prefix, IsFieldAt}
+use proofs.JoinLemmas.Fields.{none_past, single_spaced_words, space_is}
 use Rattle.std.proofs.lemmas.Simd.{mask_l-lt, trailing_mask_l}
 use Rattle.std.proofs.lemmas.List.{drop-map, map-id, take-map}
 use Rattle.std.specs.Simd.Lanes.{chunk, mask_l}
 use Rattle.std.specs.List.{prefix_len}
 use Rattle.memchr.specs.Find.{is_byte}
 use Rattle.std.proofs.Common.{◌/◌}
-use Rattle.ptmerge.proofs.Common.{IsFieldAt}
-use Rattle.ptmerge.proofs.JoinLemmas.Fields.{none_past, single_spaced_words, space_is}
 use Rattle.std.proofs.Math.Nat.{div-div-eq-div-mul, mod-eq_of_lt, mul-lt-mul_of_pos_right, mul_assoc, mul_comm}
 use Rattle.std.proofs.Math.Nat.{one-le-pow, two-pow-succ}
 use Rattle.std.proofs.Math.Pow.{pow-add, pow-lt, pow_mono}
@@ -130,6 +129,9 @@ single_spaces_is any before bytes low few is =
         let small : bit_and x y % 2 ^ 64 ≡ bit_and x y = mod-eq_of_lt (omega (arith, and_le_l x y, low)) in
         cc (mod-eq_of_lt low, and_mod x y 64)
 
+power_fits : (v : List ℕ) → length v < 64 → 1 * 2 ^ length v % 2 ^ 64 ≡ 1 * 2 ^ length v
+power_fits v short = mod-eq_of_lt (omega (arith, pow-lt {j = 64} short))
+
 -- a line that ends after these bytes, as if a space followed it
 pub with_end : (bytes : List ℕ) (any tabs : ℕ) → length bytes < 64 → any ≡ mask_l (map is_blank bytes)
     → tabs ≡ mask_l (map (is_byte 9) bytes)
@@ -138,10 +140,8 @@ pub with_end : (bytes : List ℕ) (any tabs : ℕ) → length bytes < 64 → any
 with_end bytes any tabs short any_is tabs_is =
     let size = length-map bytes is_blank in
     let low : any < 2 ^ length bytes =
-    omega (arith, any_is, mask_l-lt (map is_blank bytes), ap (λ (n : ℕ). 2 ^ n) size) in
-    let wide : 2 ^ length bytes < 2 ^ 64 = pow-lt {j = 64} short in
-    let fits : 1 * 2 ^ length bytes % 2 ^ 64 ≡ 1 * 2 ^ length bytes = mod-eq_of_lt (omega (arith, wide)) in (
-      ap (bit_or any) fits ∙ or_shifted_r 1 (length bytes) any low ∙ omega (arith, end_blank bytes, any_is),
+    omega (arith, any_is, mask_l-lt (map is_blank bytes), ap (λ (n : ℕ). 2 ^ n) size) in (
+      ap (bit_or any) (power_fits bytes short) ∙ or_shifted_r 1 (length bytes) any low ∙ omega (arith, end_blank bytes, any_is),
       tabs_is
           ∙ sym (end_tab bytes),
     )
@@ -439,22 +439,17 @@ pub record WordsLeft (line : List ℕ) (passed words : ℕ) : Type 0 where
 pub words_start : (line : List ℕ) (any : ℕ) → length line < 64 → any ≡ mask_l (map is_blank line)
     → WordsLeft line 0 (1 * 2 ^ length line % 2 ^ 64 - 1 - any)
 words_start line any short is =
-    let wide : 2 ^ length line < 2 ^ 64 = pow-lt {j = 64} short in
-    let fits : 1 * 2 ^ length line % 2 ^ 64 ≡ 1 * 2 ^ length line = mod-eq_of_lt (omega (arith, wide)) in
     record {
       at = 0;
       within = omega arith;
-      mask = omega (arith, fits, is, word_mask line);
+      mask = omega (arith, power_fits line short, is, word_mask line);
       fields = refl;
       spaced = λ s. (true, s);
     }
 
 pub any_fits : (line : List ℕ) (any : ℕ) → length line < 64 → any ≡ mask_l (map is_blank line)
     → any ≤ 1 * 2 ^ length line % 2 ^ 64 - 1
-any_fits line any short is =
-    let wide : 2 ^ length line < 2 ^ 64 = pow-lt {j = 64} short in
-    let fits : 1 * 2 ^ length line % 2 ^ 64 ≡ 1 * 2 ^ length line = mod-eq_of_lt (omega (arith, wide)) in
-    omega (arith, fits, is, word_mask line)
+any_fits line any short is = omega (arith, power_fits line short, is, word_mask line)
 
 module _ {line : List ℕ} {passed words : ℕ} (short : length line < 64) (left : WordsLeft line passed words) where
   abbrev rest : List ℕ

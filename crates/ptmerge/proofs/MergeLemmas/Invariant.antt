@@ -1,21 +1,20 @@
 -- The invariant of a merge. Lines are processed in the order of their keys: no line that may still follow has a lesser
 -- key than a processed line. So the output for the processed lines is a prefix of the output for all inputs that begin
 -- with the lines read so far.
-use Rattle.ptmerge.proofs.Common.{nat_tests, ◌≡◌, ℕ, ◌+◌, List, [], ◌∷◌, ◌++◌, Bool, true, false, cond, Option, Some}
-use Rattle.ptmerge.proofs.Common.{None, length, refl, ◌∙◌, map, append_assoc, arith, nat_lt, unwrap_or, if◌then◌else◌}
-use Rattle.ptmerge.proofs.Common.{last_or, is_gt, length_push, Lines, sorted_prefix, first_disorder, FirstDisorder, Cmp}
-use Rattle.ptmerge.proofs.Common.{Key, ◌&&◌, not, ap, sym, append-nil, flat_map-append, filter, flat_map, Less, Greater}
-use Rattle.ptmerge.proofs.Common.{Side, First, Second, MergeTool, insert_key, distinct_keys, keys, entries_of_key}
-use Rattle.ptmerge.proofs.Common.{entries_by_key, earlier_disorder, is_up_to, ◌⊎◌, inl, inr, subst, is_lt, Output}
-use Rattle.ptmerge.proofs.Common.{PushEffect, unlines, push_trans, push_nothing, unlines-append, disorder, is_below}
-use Rattle.ptmerge.proofs.Common.{is_decided, is_past, merged_entries, lines_with_key, option_map, with_side}
-use Rattle.ptmerge.proofs.Common.{disordered_line}
-use Rattle.ptmerge.proofs.MergeLemmas.Orders.{IsKeyOrder, AtMost, at_most_trans, self_at_most, EachKey, EachKey-weaker}
-use Rattle.ptmerge.proofs.MergeLemmas.Orders.{Above, at_most_is_le, above_trans, less_flips, Each, Each-weaker}
-use Rattle.ptmerge.proofs.MergeLemmas.Orders.{Each-insert, Each-distinct, Each-append, Each-all, EachKey-append}
-use Rattle.ptmerge.proofs.MergeLemmas.Orders.{front_first, greater_flips}
+use Rattle.ptmerge.proofs
+use proofs.Common.{nat_tests, ◌≡◌, ℕ, ◌+◌, List, [], ◌∷◌, ◌++◌, Bool, true, false, cond, Option, Some, None, length}
+use proofs.Common.{refl, ◌∙◌, map, append_assoc, arith, nat_lt, unwrap_or, if◌then◌else◌, last_or, is_gt, length_push}
+use proofs.Common.{Lines, sorted_prefix, first_disorder, FirstDisorder, Cmp, Key, ◌&&◌, not, ap, sym, append-nil}
+use proofs.Common.{flat_map-append, filter, flat_map, Less, Greater, Side, First, Second, MergeTool, insert_key}
+use proofs.Common.{distinct_keys, keys, entries_of_key, entries_by_key, earlier_disorder, is_up_to, ◌⊎◌, inl, inr}
+use proofs.Common.{subst, is_lt, Output, PushEffect, unlines, push_trans, push_nothing, unlines-append, disorder}
+use proofs.Common.{is_below, is_decided, is_past, merged_entries, lines_with_key, option_map, with_side}
+use proofs.Common.{disordered_line}
+use proofs.MergeLemmas.Orders.{IsKeyOrder, AtMost, at_most_trans, self_at_most, EachKey, EachKey-weaker, Above}
+use proofs.MergeLemmas.Orders.{at_most_is_le, above_trans, less_flips, Each, Each-weaker, Each-insert, Each-distinct}
+use proofs.MergeLemmas.Orders.{Each-append, Each-all, EachKey-append, front_first, greater_flips}
+use proofs.MergeLemmas.Slots.{put_each}
 use Rattle.ptmerge.specs.MergeSpec.{MergeDisorder}
-use Rattle.ptmerge.proofs.MergeLemmas.Slots.{put_each}
 
 abbrev pub is_disordered : Cmp → Option (List ℕ) → List ℕ → Bool
 is_disordered cmp None k = false
@@ -243,6 +242,10 @@ module _ (cmp : Cmp) (o : IsKeyOrder cmp) where
       → MayDisorder cmp b2 f2 → IsUnder cmp b1 k → IsUnder cmp b2 k → is_up_to cmp (earlier_disorder cmp f1 f2) k ≡ true
   written_is_wanted b1 b2 f1 f2 k h1 h2 u1 u2 = up_to_from k f1 f2 (under_fall b1 k f1 u1 h1) (under_fall b2 k f2 u2 h2)
 
+-- the output for these lines, of all keys
+abbrev pub output_of : MergeTool → (Side → Lines) → List ℕ
+output_of tool p = unlines tool.terminator (entries_by_key tool all_keys p)
+
 module _ (tool : MergeTool) where
   open tool use {cmp, key}
 
@@ -305,7 +308,7 @@ module _ (tool : MergeTool) where
 pub record MergeInvariant (tool : MergeTool) (b : Side → Bound) (p : Side → Lines) (was is : Output) : Type 0 where
   pub splits : Splits tool b p
   pub under : (of side : Side) → EachKey (IsUnder tool.cmp (b of)) (tool.key side) (p side)
-  pub wrote : PushEffect was is (unlines tool.terminator (entries_by_key tool all_keys p))
+  pub wrote : PushEffect was is (output_of tool p)
 
 -- before anything is read
 pub merge_invariant_starts : (tool : MergeTool) (was : Output)
@@ -322,10 +325,10 @@ pub record LagInvariant (tool : MergeTool) (b : Side → Bound) (p : Side → Li
   pub tail : Side → Lines
   pub bound : Side → Bound
   pub clean : mid.write_failed ≡ false
-  pub wrote : PushEffect was mid (unlines tool.terminator (entries_by_key tool all_keys front))
+  pub wrote : PushEffect was mid (output_of tool front)
   pub bytes : List ℕ
   pub more : PushEffect mid is bytes
-  pub all : unlines tool.terminator (entries_by_key tool all_keys front) ++ bytes ≡ unlines tool.terminator done
+  pub all : output_of tool front ++ bytes ≡ unlines tool.terminator done
   pub split : (side : Side) → p side ≡ front side ++ tail side
   pub under : (of side : Side) → EachKey (IsUnder tool.cmp (b of)) (tool.key side) (p side)
   pub under_bound : (of side : Side) → EachKey (IsUnder tool.cmp (bound of)) (tool.key side) (p side)
@@ -348,7 +351,7 @@ lag_invariant_starts {tool} {b} {p} {mid = mid} m clean more = record {
   wrote = m.wrote;
   bytes = [];
   more = more;
-  all = append-nil (unlines tool.terminator (entries_by_key tool all_keys p));
+  all = append-nil (output_of tool p);
   split = λ side. sym (append-nil (p side));
   under = m.under;
   under_bound = m.under;
@@ -383,7 +386,7 @@ pub write_least_run : {tool : MergeTool} (o : IsKeyOrder tool.cmp) (k : List ℕ
     (f Second ++ lines_with_key (tool.key Second) (r Second) k) ≡ tool.entries k (f First) (f Second) ++ entries_of_key
     tool r k)
     → is.write_failed ≡ false → MergeInvariant tool b p was is
-    → PushEffect is new (unlines tool.terminator (entries_by_key tool all_keys f)) → MergeInvariant tool b q was new
+    → PushEffect is new (output_of tool f) → MergeInvariant tool b q was new
     × AllWritten tool b q was new
 write_least_run {tool} o k q f {b} {p} {was} {is} {new} front all none law clean m wrote =
     let nothing =
@@ -410,7 +413,7 @@ write_least_run {tool} o k q f {b} {p} {was} {is} {new} front all none law clean
         bound = b;
         clean = clean;
         wrote = m.wrote;
-        bytes = unlines tool.terminator (entries_by_key tool all_keys f);
+        bytes = output_of tool f;
         more = wrote;
         all = sym texts;
         split = λ side. refl;

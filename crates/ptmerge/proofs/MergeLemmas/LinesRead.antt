@@ -1,12 +1,12 @@
 -- The lines read from a source. The bytes received are the lines read so far, and all but the last have their
 -- terminator. So every input that begins with these bytes begins with these lines.
-use Rattle.ptmerge.proofs.Common.{◌≡◌, ◌⊎◌, ⊎_elim, inl, inr, ℕ, ◌+◌, ◌<◌, ◌≤◌, Bool, true, false, List, [], ◌∷◌, ◌++◌}
-use Rattle.ptmerge.proofs.Common.{None, length, max, refl, sym, ◌∙◌, ap, arith, append_assoc, length-append, append-nil}
-use Rattle.ptmerge.proofs.Common.{nil_from_length, FillLine, Received, IsConsistent, known_lines, Reader, ReaderAdvance}
-use Rattle.ptmerge.proofs.Common.{reads_nothing, AdvanceOk, IsDone, Slots, unlines, lines, complete_lines, IsLine}
-use Rattle.ptmerge.proofs.Common.{AreLines, max_length, received_with, advance_ok_trans, lines_of_unlines}
-use Rattle.ptmerge.proofs.Common.{lines_of_last, unlines_push, IsSound, HasNoLine, IsFirstLineAndBlock, AreLines_push}
-use Rattle.ptmerge.proofs.Common.{complete_lines_none, complete_lines_cons}
+use Rattle.ptmerge.proofs
+use proofs.Common.{◌≡◌, ◌⊎◌, ⊎_elim, inl, inr, ℕ, ◌+◌, ◌<◌, ◌≤◌, Bool, true, false, List, [], ◌∷◌, ◌++◌, None, length}
+use proofs.Common.{max, refl, sym, ◌∙◌, ap, arith, append_assoc, length-append, append-nil, nil_from_length, FillLine}
+use proofs.Common.{Received, IsConsistent, known_lines, Reader, ReaderAdvance, reads_nothing, AdvanceOk, IsDone, Slots}
+use proofs.Common.{unlines, lines, complete_lines, IsLine, AreLines, max_length, received_with, advance_ok_trans}
+use proofs.Common.{lines_of_unlines, lines_of_last, unlines_push, IsSound, HasNoLine, IsFirstLineAndBlock}
+use proofs.Common.{AreLines_push, complete_lines_none, complete_lines_cons}
 use Rattle.ptlines.proofs.MaxLength.{max_length-append, piece_le_max_length}
 
 -- complete lines, and then the complete lines of the rest
@@ -115,7 +115,7 @@ pub record HoldsLines (now : Reader) (ls : List (List ℕ)) (piece : List ℕ) (
   pub continues : Continues now ls all
   pub longest : max (max_length ls) (length piece) ≤ max_length all
 
-module _ (end : ℕ) (old now new : Reader) (ls : List (List ℕ)) (piece : List ℕ) (c : LinesRead end old now ls)
+module _ {end : ℕ} {old now new : Reader} {ls : List (List ℕ)} {piece : List ℕ} (c : LinesRead end old now ls)
     (reads : ReaderAdvance now new piece) (line : IsLine now.terminator piece) where
   abbrev came : Received
   came = received_with (c.given ++ piece) new

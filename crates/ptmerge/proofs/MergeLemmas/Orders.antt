@@ -1,12 +1,12 @@
 -- Consequences of the laws of an order of keys. Distinct keys are sorted, so the entries of the least key come first,
 -- followed by the entries of the lines with other keys.
-use Rattle.ptmerge.proofs.Common.{◌≡◌, ◌⊎◌, ⊎_elim, inl, inr, ℕ, List, Bool, true, false, refl, sym, ◌∙◌, ap, arith}
-use Rattle.ptmerge.proofs.Common.{false≢true}
-use Rattle.ptmerge.proofs.Common.{bytes_eq, Ordering, Less, Equal, Greater, is_eq, is_gt, is_le, ordering_reverse}
-use Rattle.ptmerge.proofs.Common.{bytes_decides, back_total, nat_list_cmp_total, tied_itself, upto, Cmp, byte_cmp}
-use Rattle.ptmerge.proofs.Common.{line_cmp, ◌<◌, length, get_or, suc, zero, [], ◌∷◌, ◌++◌, cond, map, append_assoc}
-use Rattle.ptmerge.proofs.Common.{append-nil, filter, flat_map, Side, First, Second, Lines, MergeTool, insert_key}
-use Rattle.ptmerge.proofs.Common.{distinct_keys, keys, lines_with_key, entries_of_key, entries_by_key, Key, map-append}
+use Rattle.ptmerge.proofs
+use proofs.Common.{◌≡◌, ◌⊎◌, ⊎_elim, inl, inr, ℕ, List, Bool, true, false, refl, sym, ◌∙◌, ap, arith, false≢true}
+use proofs.Common.{bytes_eq, Ordering, Less, Equal, Greater, is_eq, is_gt, is_le, ordering_reverse, bytes_decides}
+use proofs.Common.{back_total, nat_list_cmp_total, tied_itself, upto, Cmp, byte_cmp, line_cmp, ◌<◌, length, get_or, suc}
+use proofs.Common.{zero, [], ◌∷◌, ◌++◌, cond, map, append_assoc, append-nil, filter, flat_map, Side, First, Second}
+use proofs.Common.{Lines, MergeTool, insert_key, distinct_keys, keys, lines_with_key, entries_of_key, entries_by_key}
+use proofs.Common.{Key, map-append}
 use Rattle.std.specs.Cmp.{IsTotalOrder}
 use Rattle.ptmerge.specs.OrderLaws.{reversed_same_bytes, byte_cmp_equal}
 

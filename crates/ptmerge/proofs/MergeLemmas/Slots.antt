@@ -1,10 +1,10 @@
 -- Lines in the slots of a store. A slot changes only if its own input reads, so two lines of each input, none longer
 -- than its longest line, bound the bytes stored.
-use Rattle.ptmerge.proofs.Common.{◌≡◌, ◌≢◌, inl, inr, ℕ, zero, suc, ◌+◌, ◌*◌, ◌≤◌, false, List, [], ◌∷◌, ◌++◌, length}
-use Rattle.ptmerge.proofs.Common.{max, refl, sym, ◌∙◌, arith, get_or, set, length-set, get_or-set_other, sum_by-cons}
-use Rattle.ptmerge.proofs.Common.{Slots, line, total_bytes, with_new_slot, with_line, Side, First, Second, Sorted}
-use Rattle.ptmerge.proofs.Common.{HasSlots, EnsureFourSlotsPost, ClearFourSlotsPost, Bool, both, with_side, other}
-use Rattle.ptmerge.proofs.Common.{with_input, both_sides}
+use Rattle.ptmerge.proofs
+use proofs.Common.{◌≡◌, ◌≢◌, inl, inr, ℕ, zero, suc, ◌+◌, ◌*◌, ◌≤◌, false, List, [], ◌∷◌, ◌++◌, length, max, refl, sym}
+use proofs.Common.{◌∙◌, arith, get_or, set, length-set, get_or-set_other, sum_by-cons, Slots, line, total_bytes}
+use proofs.Common.{with_new_slot, with_line, Side, First, Second, Sorted, HasSlots, EnsureFourSlotsPost}
+use proofs.Common.{ClearFourSlotsPost, Bool, both, with_side, other, with_input, both_sides}
 
 -- two functions of the side, each changed at the same side
 pub put_both : {X Y : Type 0} (P : Side → X → Y → Type 0) (s : Side) (x : X) (f : Side → X) (y : Y) (g : Side → Y)
