@@ -9,9 +9,9 @@ use proofs.Common.{AdvanceOkPost, AdvancePre, MergeState, MergePost, merge_state
 use proofs.Common.{HaveEqualKeys, HasOnlyLeastKey, IsDisorderDecided, IsReaderOf, AreValidCursors, StartOkPost}
 use proofs.Common.{merge_inputs, ClearFourSlotsPost, suc, ◌-◌, min, append_assoc, append-nil, tied_itself, entries}
 use proofs.Common.{Bool}
-use proofs.MergeLemmas.Step.{AdvanceErrPost, CursorsInvariant, LoopInvariant, advance_ok, goes_merging, passing_now}
+use proofs.MergeLemmas.Step.{Stands, stands_on, advance_pre, reads_less, AdvanceErrPost, CursorsInvariant, LoopInvariant, advance_ok, goes_merging, passing_now}
 use proofs.MergeLemmas.Step.{runs_on, slots_of, read_facts_current, iteration_fails, IsLineByLine, current_key_is_above}
-use proofs.MergeLemmas.Step.{alone, write_one_line, reads_ahead, measure_less, own_reader_kept, place_is}
+use proofs.MergeLemmas.Step.{alone, write_one_line, reads_ahead, place_is}
 use proofs.MergeLemmas.Step.{wrote_and_sent, StoreHoldsTwoLines, holds_two, keeps_two, ends_well, ends_fallen, start_ok}
 use proofs.MergeLemmas.Orders.{IsKeyOrder, same_bytes}
 use proofs.MergeLemmas.Slots.{put_other, put_same}
@@ -100,9 +100,7 @@ pub record IterationInvariant (job : Comm) (cmp : Cmp) (key : Side → Key) (old
   pub opened : IsOpenMerge (comm_with job cmp key) old
   pub whole_line_keys : (side : Side) (x : List ℕ) → key side x ≡ x
   pub loop_invariant : LoopInvariant (comm_with job cmp key) (StoreHoldsTwoLines old.store) old now (both one two)
-  pub valid_cursors : AreValidCursors key one two now.store
-  pub own_reader : (side : Side) → IsReaderOf (both one two side) (now.reader side)
-  pub clean : now.out.write_failed ≡ false
+  pub stands : Stands key now one two
 
 -- ---- the start
 
@@ -118,9 +116,11 @@ module _ (job : Comm) {cmp : Cmp} {key : Side → Key} {old : MergeState}
     opened = w;
     whole_line_keys = whole_line_keys;
     loop_invariant = start_ok w (merge_inputs first second store) (both one two) valid_cursors.first h;
-    valid_cursors = valid_cursors;
-    own_reader = elim [ First ↦ reader1 | Second ↦ reader2 ];
-    clean = w.writable;
+    stands = record {
+      valid_cursors = valid_cursors;
+      own_reader = elim [ First ↦ reader1 | Second ↦ reader2 ];
+      clean = w.writable;
+    };
   }
 
 -- ---- a step
@@ -131,31 +131,25 @@ module _ {job : Comm} {cmp : Cmp} {key : Side → Key} {old now : MergeState} {o
     opened as w,
     whole_line_keys,
     loop_invariant.{ls, p, b, sides, merge_invariant, keeps},
-    valid_cursors,
-    own_reader,
-    clean,
+    stands,
   }
 
   abbrev tool : MergeTool
   tool = comm_with job cmp key
 
   stood_at : CursorsInvariant tool old now.reader (both one two) now.store ls p b
-  stood_at = let slots = slots_of one two now.store valid_cursors in
+  stood_at = let slots = slots_of stands in
       record { sides = sides; holds = holds_two w.fits keeps slots; slots = slots }
 
   abbrev head : Side → List ℕ
   head s = line now.store (both one two s).current_slot
-
-  pub advance_pre : (s : Side) → (both one two s).status ≡ Head → AdvancePre key s one two (now.reader s) now.store
-  advance_pre s head = record { valid_cursors = valid_cursors; head = head; own_reader = own_reader s }
 
   -- a step for a line of one input alone
   module _ {s : Side} (step : HasOnlyLeastKey cmp key (both one two) now.store s) where
     pub alone_decreases : {one2 two2 : Sorted} {reader : Reader} {after : Slots} {new : Output}
         → AdvanceOkPost key cmp s one two one2 two2 (now.reader s) reader now.store after new
         → reads_ahead (with_side s reader now.reader) one2 two2 < reads_ahead now.reader one two
-    alone_decreases {one2} {two2} {reader} {after} h = measure_less (key s) cmp s one two one2 two2 now.reader reader
-        now.store after step.status_is h.continues.others h.came
+    alone_decreases h = reads_less stands s h.continues step.status_is h.came
 
     module _ {new : Output} {tabs : List ℕ} (led : tabs ≡ tabs_of job s) (pushed : PushEffect now.out new
         (unlines (now.reader s).terminator (column_entries (hidden_of job s) tabs 1 (head s)))) where
@@ -164,7 +158,7 @@ module _ {job : Comm} {cmp : Cmp} {key : Side → Key} {old now : MergeState} {o
       wrote_line =
           let h = at_current_line (sides s) step.status_is in
           let (above, under) = current_key_is_above _ w.o _ _ _ _ _ _ _ _ _ step.before (sides (other s)).status_is in
-          rw h.all (write_one_line _ w.o (is_line_by_line job cmp key) s (head s) _ _ _ _ _ clean merge_invariant
+          rw h.all (write_one_line _ w.o (is_line_by_line job cmp key) s (head s) _ _ _ _ _ stands.clean merge_invariant
           h.bound above under
           (rw (entries_alone job cmp key s (head s) (whole_line_keys s (head s)))
           (rw ((sides s).lines_read.terminator, led) at pushed)))
@@ -178,10 +172,7 @@ module _ {job : Comm} {cmp : Cmp} {key : Side → Key} {old now : MergeState} {o
         loop_invariant = rw (← place_is s one two one2 two2 h.continues.others)
             (runs_on w stood_at s step.status_is h.came (keeps_two w stood_at s step.status_is h.came keeps)
             (let (m, _) = wrote_line in m));
-        valid_cursors = h.continues.valid_cursors;
-        own_reader =
-            own_reader_kept s one two one2 two2 now.reader reader h.continues.others h.continues.own_reader own_reader;
-        clean = h.continues.clean;
+        stands = stands_on stands s h.continues;
       }
 
       pub alone_fails : {reader : Reader} {after : Slots} {fault : MergeFault}
@@ -195,11 +186,8 @@ module _ {job : Comm} {cmp : Cmp} {key : Side → Key} {old now : MergeState} {o
       → {one2 two2 : Sorted} {reader : Reader} {after : Slots} {mid : Output}
       → AdvanceOkPost key cmp First one two one2 two2 (now.reader First) reader now.store after mid
       → AdvancePre key Second one2 two2 (now.reader Second) after
-  second_advance_pre step h = record {
-    valid_cursors = h.continues.valid_cursors;
-    head = ap (λ (q : Sorted). q.status) h.continues.others ∙ step.second;
-    own_reader = rw h.continues.others (own_reader Second);
-  }
+  second_advance_pre step h = advance_pre (stands_on stands First h.continues) Second
+      (ap (λ (q : Sorted). q.status) h.continues.others ∙ step.second)
 
   module _ (step : HaveEqualKeys cmp key (both one two) now.store) where
     pub pair_decreases : {one2 two2 one3 two3 : Sorted} {reader reader2 : Reader} {after last : Slots}
@@ -207,12 +195,10 @@ module _ {job : Comm} {cmp : Cmp} {key : Side → Key} {old now : MergeState} {o
         → AdvanceOkPost key cmp First one two one2 two2 (now.reader First) reader now.store after mid
         → AdvanceOkPost key cmp Second one2 two2 one3 two3 (now.reader Second) reader2 after last new
         → reads_ahead (both reader reader2) one3 two3 < reads_ahead now.reader one two
-    pair_decreases {one2} {two2} {one3} {two3} {reader} {reader2} {after} {last} h k = omega (
+    pair_decreases h k = omega (
       arith,
-      measure_less (key First) cmp First one two one2 two2 now.reader reader now.store after step.first
-          h.continues.others h.came,
-      measure_less (key Second) cmp Second one2 two2 one3 two3 (with_side First reader now.reader) reader2 after last
-          (second_advance_pre step h).head k.continues.others k.came,
+      reads_less stands First h.continues step.first h.came,
+      reads_less (stands_on stands First h.continues) Second k.continues (second_advance_pre step h).head k.came,
     )
 
     abbrev both_written : Side → Lines
@@ -230,7 +216,7 @@ module _ {job : Comm} {cmp : Cmp} {key : Side → Key} {old now : MergeState} {o
         (elim [ First ↦ line_is_least_run w.o h1.bound refl | Second ↦ line_is_least_run w.o h2.bound (sym step.same) ])
         (elim [ First ↦ h1.all | Second ↦ h2.all ]) (entries_none job (key First x))
         (λ r c. entries_both job (key First x) (length (lines_with_key (key First) (r First) (key First x)))
-        (length (lines_with_key (key Second) (r Second) (key First x)))) clean merge_invariant wrote
+        (length (lines_with_key (key Second) (r Second) (key First x)))) stands.clean merge_invariant wrote
 
     module _ {mid : Output} {tabs : List ℕ} (led : tabs ≡ tab_if_shown job.hide1 ++ tab_if_shown job.hide2)
         (pushed : PushEffect now.out mid (unlines (now.reader First).terminator
@@ -278,10 +264,7 @@ module _ {job : Comm} {cmp : Cmp} {key : Side → Key} {old now : MergeState} {o
               whole_line_keys = whole_line_keys;
               loop_invariant = rw k.continues.others (runs_on w g Second step.second came kept
                   (goes_merging w stood_at First step.first h.came wrote_line_out));
-              valid_cursors = k.continues.valid_cursors;
-              own_reader =
-                  elim [ First ↦ rw k.continues.others h.continues.own_reader | Second ↦ k.continues.own_reader ];
-              clean = k.continues.clean;
+              stands = stands_on (stands_on stands First h.continues) Second k.continues;
             }
 
   -- ---- the end
@@ -289,8 +272,8 @@ module _ {job : Comm} {cmp : Cmp} {key : Side → Key} {old now : MergeState} {o
   module _ {after : Slots} (clear : ClearFourSlotsPost now.store after) where
     pub eof : ((side : Side) → (both one two side).status ≡ Ended)
         → MergePost tool old (state_by_side now.reader now.out after) (Ok tt)
-    eof step = ends_well w stood_at merge_invariant clean clear step
+    eof step = ends_well w stood_at merge_invariant stands.clean clear step
 
     pub disordered : {s : Side} {n : ℕ} → IsDisorderDecided cmp key (both one two) now.store s n
         → MergePost tool old (state_by_side now.reader now.out after) (Err (faults.Disorder s n))
-    disordered step = ends_fallen w stood_at merge_invariant clean clear step
+    disordered step = ends_fallen w stood_at merge_invariant stands.clean clear step

@@ -13,8 +13,8 @@ use proofs.Common.{MergeRunPre, JoinStepPre, AdvancePre, push_nothing, other, if
 use proofs.Common.{max_group_lines, inl, inr, ReadGroupLineOkPost, ReadGroupLinePost, IsGroup, ClearGroupPost}
 use proofs.Common.{group_end_slot, group_first_slot, group, JoinLinePre, ⊎_elim, ◌-◌, ◌==◌, push_trans, nat_tests}
 use proofs.Common.{length_push, unlines-append, append_assoc, merged_entries, nil_from_length, CopyToGroupPost}
-use proofs.MergeLemmas.Step.{open_merge, slots_of, wrote_as, IsLineByLine, alone, current_key_is_above, write_one_line}
-use proofs.MergeLemmas.Step.{IsAbove, reads_ahead, measure_less, own_reader_kept, place_is, LoopInvariant}
+use proofs.MergeLemmas.Step.{Stands, stands_on, advance_pre, reads_less, open_merge, slots_of, wrote_as, IsLineByLine, alone, current_key_is_above, write_one_line}
+use proofs.MergeLemmas.Step.{IsAbove, reads_ahead, place_is, LoopInvariant}
 use proofs.MergeLemmas.Step.{CursorsInvariant, AdvanceErrPost, iteration_fails, read_facts_current, runs_on, n}
 use proofs.MergeLemmas.Step.{ends_well, ends_fallen, start_ok, next_keeps_slot_count, valid_cursors_kept}
 use proofs.MergeLemmas.Step.{wrote_and_sent}
@@ -181,9 +181,8 @@ pub record IterationInvariant (job : Join) (cmp : Cmp) (key : Side → Key) (old
     (now : MergeState) (one two : Sorted) (end : ℕ) : Type 0 where
   pub opened : IsOpenMerge job cmp key old
   pub phased : PhaseInvariant (join_call_of opened) phase now (both one two) end
-  pub valid_cursors : AreValidCursors key one two now.store
-  pub own_reader : (side : Side) → IsReaderOf (both one two side) (now.reader side)
-  pub clean : now.out.write_failed ≡ false
+  pub stands : Stands key now one two
+  pub open stands use *
 
 -- ---- the start
 
@@ -208,9 +207,11 @@ module _ {job : Join} {cmp : Cmp} {key : Side → Key} {old : MergeState} (a : I
           },
           refl,
         );
-        valid_cursors = valid_cursors;
-        own_reader = elim [ First ↦ reader1 | Second ↦ reader2 ];
-        clean = a.w.writable;
+        stands = record {
+          valid_cursors = valid_cursors;
+          own_reader = elim [ First ↦ reader1 | Second ↦ reader2 ];
+          clean = a.w.writable;
+        };
       }
 
 module _ {job : Join} {cmp : Cmp} {key : Side → Key} {old : MergeState} {phase : JoinPhase} {now : MergeState}
@@ -221,8 +222,8 @@ module _ {job : Join} {cmp : Cmp} {key : Side → Key} {old : MergeState} {phase
   abbrev call : JoinCall
   call = join_call_of t.opened
 
-  pub slots : (side : Side) → HasSlots side (both one two side)
-  slots = slots_of one two now.store t.valid_cursors
+  slots : (side : Side) → HasSlots side (both one two side)
+  slots = slots_of t.stands
 
   pub end_in : (4 ≤ end) × (end ≤ length now.store.lines)
   end_in = by phase t.phased
@@ -240,10 +241,7 @@ module _ {job : Join} {cmp : Cmp} {key : Side → Key} {old : MergeState} {phase
   iteration_continues {next} s {one2} {two2} {reader} {after} {new} {to} continues phased = record {
     opened = t.opened;
     phased = rw (← place_is s one two one2 two2 continues.others) phased;
-    valid_cursors = continues.valid_cursors;
-    own_reader =
-        own_reader_kept s one two one2 two2 now.reader reader continues.others continues.own_reader t.own_reader;
-    clean = continues.clean;
+    stands = stands_on t.stands s continues;
   }
 
   -- advancing an input decreases the remaining work, in every phase
@@ -253,14 +251,8 @@ module _ {job : Join} {cmp : Cmp} {key : Side → Key} {old : MergeState} {phase
       → IsReadyToContinue key s one two one2 two2 reader after out
       → 3 * reads_ahead (with_side s reader now.reader) one2 two2 + rank next
       < 3 * reads_ahead now.reader one two + rank phase
-  measure_decreases s next {one2} {two2} {reader} {made} head came continues = omega (
-    arith,
-    measure_less (key s) cmp s one two one2 two2 now.reader reader now.store made head continues.others came,
-    rank_few next,
-  )
-
-  pub advance_pre : (s : Side) → (both one two s).status ≡ Head → AdvancePre key s one two (now.reader s) now.store
-  advance_pre s head = record { valid_cursors = t.valid_cursors; head = head; own_reader = t.own_reader s }
+  measure_decreases s next head came continues =
+      omega (arith, reads_less t.stands s continues head came, rank_few next)
 
   pub joins : JoinStepPre job key now.out
   joins = record { keys = t.opened.keys; clean = t.clean }
@@ -354,9 +346,7 @@ module _ {job : Join} {cmp : Cmp} {key : Side → Key} {old : MergeState} {phase
               | Second ↦ record { head = step.second; is = sym step.same }
             ];
           };
-          valid_cursors = t.valid_cursors;
-          own_reader = t.own_reader;
-          clean = t.clean;
+          stands = t.stands;
         }
 
     -- the phase in which the group is read is next
@@ -381,7 +371,7 @@ module _ {job : Join} {cmp : Cmp} {key : Side → Key} {old : MergeState} {phase
     a = rw is at t.phased
 
     pub read_group_pre : AdvancePre key Second one two (now.reader Second) now.store
-    read_group_pre = advance_pre Second (a.heads Second).head
+    read_group_pre = advance_pre t.stands Second (a.heads Second).head
 
     -- the copied lines are all lines read, or none
     all_copied : call.keeps_groups ≡ true → a.kept ≡ a.g
@@ -585,7 +575,7 @@ module _ {job : Join} {cmp : Cmp} {key : Side → Key} {old : MergeState} {phase
     state = rw is at t.phased
 
     pub write_pairs_pre : JoinLinePre job key First one two (now.reader First) now.store now.out
-    write_pairs_pre = record { status_is = advance_pre First state.head.head; joins = joins }
+    write_pairs_pre = record { status_is = advance_pre t.stands First state.head.head; joins = joins }
 
     is_kept : state.kept ≡ state.g Second → (end == 4) ≡ false
     is_kept same =

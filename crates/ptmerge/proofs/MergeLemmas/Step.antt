@@ -2,7 +2,7 @@
 -- next line has no lesser key, so the invariant holds again. A step ends the loop when both inputs are at their ends or
 -- a disorder is reported, and a fault of a write or read ends it with a prefix of the output.
 use Rattle.ptmerge.proofs
-use proofs.Common.{◌≡◌, ◌≢◌, ⊎_elim, inl, inr, ℕ, ◌+◌, ◌≤◌, true, false, List, [], ◌∷◌, ◌++◌, Option, Some, None, Err}
+use proofs.Common.{AdvancePre, IsReadyToContinue, ◌≡◌, ◌≢◌, ⊎_elim, inl, inr, ℕ, ◌+◌, ◌≤◌, true, false, List, [], ◌∷◌, ◌++◌, Option, Some, None, Err}
 use proofs.Common.{length, refl, sym, ◌∙◌, arith, is_lt, is_le, append-nil, Output, PushEffect, Reader, ReaderAdvance}
 use proofs.Common.{IsDone, IsSound, Slots, line, with_line, unlines, IsLine, push_nothing, MergeFault, Read, Memory}
 use proofs.Common.{Side, First, Second, Sorted, CursorStatus, Head, Ended, Disorder, Lines, MergeTool, FirstDisorder}
@@ -396,10 +396,6 @@ pub record LoopInvariant (tool : MergeTool) (Keep : Slots → (Side → Lines) �
   pub merge_invariant : MergeInvariant tool b p old.out now.out
   pub keeps : Keep now.store ls
 
-pub slots_of : {key : Side → Key} (one two : Sorted) (store : Slots) → AreValidCursors key one two store → (side : Side)
-    → HasSlots side (both one two side)
-slots_of one two store valid_cursors = elim [ First ↦ valid_cursors.first | Second ↦ valid_cursors.second ]
-
 -- the output as lines with terminators
 pub wrote_as : {end e : ℕ} {xs ys : Lines} {was is : Output} → e ≡ end → ys ≡ xs → PushEffect was is (unlines e xs)
     → PushEffect was is (unlines end ys)
@@ -647,7 +643,7 @@ abbrev pub reads_ahead : (Side → Reader) → Sorted → Sorted → ℕ
 reads_ahead reader one two =
     (budget (reader First) + reads_left one.status) + (budget (reader Second) + reads_left two.status)
 
-pub measure_less : (key : Key) (cmp : Cmp) (s : Side) (one two one2 two2 : Sorted) (f : Side → Reader) (reader : Reader)
+measure_less : (key : Key) (cmp : Cmp) (s : Side) (one two one2 two2 : Sorted) (f : Side → Reader) (reader : Reader)
     (before after : Slots) → (both one two s).status ≡ Head
     → both one2 two2 (other s) ≡ both one two (other s) → NextOkPost key cmp (both one two s) (both one2 two2 s) (f s)
     reader before after → reads_ahead (with_side s reader f) one2 two2 < reads_ahead f one two
@@ -662,13 +658,36 @@ pub place_is : (s : Side) (one two one2 two2 : Sorted) → both one2 two2 (other
 place_is First one two one2 two2 same = λ i. both one2 (sym same i)
 place_is Second one two one2 two2 same = λ i. both (sym same i) two2
 
-pub own_reader_kept : (s : Side) (one two one2 two2 : Sorted) (f : Side → Reader) (reader : Reader)
-    → both one2 two2 (other s) ≡ both one two (other s) → IsReaderOf (both one2 two2 s) reader
-    → ((side : Side) → IsReaderOf (both one two side) (f side)) → (side : Side)
-    → IsReaderOf (both one2 two2 side) (with_side s reader f side)
-own_reader_kept s one two one2 two2 f reader same h all =
-    side_case (λ side. IsReaderOf (both one2 two2 side) (with_side s reader f side)) s (rw (put_same s reader f) h)
-    (rw (put_other s reader f, same) (all (other s)))
+-- the cursors, the readers and the output between two steps
+pub record Stands (key : Side → Key) (now : MergeState) (one two : Sorted) : Type 0 where
+  pub valid_cursors : AreValidCursors key one two now.store
+  pub own_reader : (side : Side) → IsReaderOf (both one two side) (now.reader side)
+  pub clean : now.out.write_failed ≡ false
+
+module _ {key : Side → Key} {now : MergeState} {one two : Sorted} (t : Stands key now one two) where
+  pub slots_of : (side : Side) → HasSlots side (both one two side)
+  slots_of = elim [ First ↦ t.valid_cursors.first | Second ↦ t.valid_cursors.second ]
+
+  pub advance_pre : (s : Side) → (both one two s).status ≡ Head → AdvancePre key s one two (now.reader s) now.store
+  advance_pre s head = record { valid_cursors = t.valid_cursors; head = head; own_reader = t.own_reader s }
+
+  -- the input `s` advanced
+  module _ (s : Side) {one2 two2 : Sorted} {reader : Reader} {after : Slots} {new : Output}
+      (continues : IsReadyToContinue key s one two one2 two2 reader after new) where
+    pub stands_on : Stands key (state_by_side (with_side s reader now.reader) new after) one2 two2
+    stands_on = record {
+      valid_cursors = continues.valid_cursors;
+      own_reader = side_case (λ side. IsReaderOf (both one2 two2 side) (with_side s reader now.reader side)) s
+          (rw (put_same s reader now.reader) continues.own_reader)
+          (rw (put_other s reader now.reader, continues.others) (t.own_reader (other s)));
+      clean = continues.clean;
+    }
+
+    pub reads_less : {cmp : Cmp} {made : Slots} → (both one two s).status ≡ Head
+        → NextOkPost (key s) cmp (both one two s) (both one2 two2 s) (now.reader s) reader now.store made
+        → reads_ahead (with_side s reader now.reader) one2 two2 < reads_ahead now.reader one two
+    reads_less head came =
+        measure_less (key s) _ s one two one2 two2 now.reader reader now.store _ head continues.others came
 
 -- writing out buffered output does not change what was pushed
 pub wrote_and_sent : (was mid is : Output) (pushed : List ℕ) → mid.write_failed ≡ false → PushEffect was mid pushed

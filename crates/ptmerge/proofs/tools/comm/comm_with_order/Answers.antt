@@ -2,9 +2,9 @@
 use Rattle.ptmerge.proofs
 use proofs.Common.{arith, refl, ◌∙◌, comm_job, comm_with, merge_state}
 use proofs.MergeLemmas.Exits.{IsOpenMerge}
-use proofs.MergeLemmas.Step.{open_merge, err_is, start_fault}
+use proofs.MergeLemmas.Step.{advance_pre, open_merge, err_is, start_fault}
 use proofs.CommLemmas.Iteration.{alone_decreases, alone_continues, alone_fails, eof, disordered, pair_decreases}
-use proofs.CommLemmas.Iteration.{pair_continues, pair_fails, second_advance_pre, second_fails, advance_pre, starts}
+use proofs.CommLemmas.Iteration.{pair_continues, pair_fails, second_advance_pre, second_fails, starts}
 use Rattle.ptmerge.proofs.tools.comm.comm_with_order.Goals.{After-start}
 use Rattle.ptmerge.specs.declared.key_order.Side.TheVariants as sides
 use Rattle.ptmerge.proofs.tools.comm.comm_with_order.Given as given
@@ -33,15 +33,15 @@ steps-init g c =
 
 pub write_head-requires-clause-status_is : goal.write_head-requires-clause-status_is
 write_head-requires-clause-status_is g c =
-    advance_pre c.steps.invariant.iteration sides.First c.in-First.ensures.status_is
+    advance_pre c.steps.invariant.iteration.stands sides.First c.in-First.ensures.status_is
 
 pub write_head-requires-in-Second-clause-status_is : goal.write_head-requires-in-Second-clause-status_is
 write_head-requires-in-Second-clause-status_is g c =
-    advance_pre c.steps.invariant.iteration sides.Second c.in-Second.ensures.status_is
+    advance_pre c.steps.invariant.iteration.stands sides.Second c.in-Second.ensures.status_is
 
 pub write_head-requires-in-Both-clause-status_is : goal.write_head-requires-in-Both-clause-status_is
 write_head-requires-in-Both-clause-status_is g c =
-    advance_pre c.steps.invariant.iteration sides.First c.in-Both.ensures.first
+    advance_pre c.steps.invariant.iteration.stands sides.First c.in-Both.ensures.first
 
 pub write_out_and_advance-requires-clause-status_is : goal.write_out_and_advance-requires-clause-status_is
 write_out_and_advance-requires-clause-status_is g c = rw c.write_head-in-Both.ensures.order

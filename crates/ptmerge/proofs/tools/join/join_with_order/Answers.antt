@@ -5,8 +5,8 @@ use proofs.Common.{refl, sym, ◌∙◌, join_job}
 use proofs.JoinLemmas.Iteration.{read_group_pre, read_group_fails, read_group_continues, group_closed, group_there}
 use proofs.JoinLemmas.Iteration.{write_pairs_group, write_pairs_pre, pair_fails, write_pairs_next}
 use proofs.JoinLemmas.Iteration.{write_pairs_continues, alone_continues, alone_fails, begins, end_in, eof, disordered}
-use proofs.JoinLemmas.Iteration.{measure_decreases, joins, opened, group_opens, group_opens_decreases, advance_pre}
-use proofs.MergeLemmas.Step.{err_is, start_fault}
+use proofs.JoinLemmas.Iteration.{measure_decreases, joins, opened, group_opens, group_opens_decreases}
+use proofs.MergeLemmas.Step.{advance_pre, err_is, start_fault}
 use Rattle.ptmerge.specs.declared.key_order.Side.TheVariants as sides
 use Rattle.ptmerge.specs.declared.tools.join.JoinPhase.TheVariants as phases
 use Rattle.ptmerge.proofs.tools.join.join_with_order.Goals as goal
@@ -28,14 +28,14 @@ steps-init g c =
 
 pub write_unpaired-requires-clause-status_is : goal.write_unpaired-requires-clause-status_is
 write_unpaired-requires-clause-status_is g c =
-    advance_pre c.steps.invariant.iteration sides.First c.in-First.ensures.status_is
+    advance_pre c.steps.invariant.iteration.stands sides.First c.in-First.ensures.status_is
 
 pub write_unpaired-requires-clause-joins : goal.write_unpaired-requires-clause-joins
 write_unpaired-requires-clause-joins g c = joins c.steps.invariant.iteration
 
 pub write_unpaired-requires-in-Second-clause-status_is : goal.write_unpaired-requires-in-Second-clause-status_is
 write_unpaired-requires-in-Second-clause-status_is g c =
-    advance_pre c.steps.invariant.iteration sides.Second c.in-Second.ensures.status_is
+    advance_pre c.steps.invariant.iteration.stands sides.Second c.in-Second.ensures.status_is
 
 pub write_unpaired-requires-in-Second-clause-joins : goal.write_unpaired-requires-in-Second-clause-joins
 write_unpaired-requires-in-Second-clause-joins g c = joins c.steps.invariant.iteration
