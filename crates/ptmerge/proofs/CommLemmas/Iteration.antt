@@ -2,14 +2,14 @@
 -- So each step of the merge extends the output by the entries of its key, and the loop invariant of the merge carries
 -- over.
 use Rattle.ptmerge.proofs
-use proofs.Common.{◌≡◌, ℕ, ◌<◌, false, List, [], ◌∷◌, ◌++◌, Ok, Err, length, refl, sym, ◌∙◌, ap, arith, Comm, Output}
-use proofs.Common.{PushEffect, Reader, Slots, line, unlines, MergeFault, Side, First, Second, Sorted, Head, Ended}
+use proofs.Common.{◌≡◌, ℕ, ◌<◌, List, [], ◌∷◌, ◌++◌, Ok, Err, length, refl, sym, ◌∙◌, ap, arith, Comm, Output}
+use proofs.Common.{PushEffect, Reader, Slots, line, unlines, MergeFault, Side, First, Second, Sorted, Ended}
 use proofs.Common.{comm_with, column_entries, tab_if_shown, Lines, MergeTool, entries_by_key, lines_with_key}
 use proofs.Common.{AdvanceOkPost, AdvancePre, MergeState, MergePost, merge_state, Cmp, Key, both, with_side, other}
 use proofs.Common.{HaveEqualKeys, HasOnlyLeastKey, IsDisorderDecided, IsReaderOf, AreValidCursors, StartOkPost}
 use proofs.Common.{merge_inputs, ClearFourSlotsPost, suc, ◌-◌, min, append_assoc, append-nil, tied_itself, entries}
 use proofs.Common.{Bool}
-use proofs.MergeLemmas.Step.{Stands, stands_on, advance_pre, reads_less, AdvanceErrPost, CursorsInvariant, LoopInvariant, advance_ok, goes_merging, passing_now}
+use proofs.MergeLemmas.Step.{Stands, stands_on, advance_pre, reads_less, EndsIfFails, CursorsInvariant, LoopInvariant, advance_ok, goes_merging, passing_now}
 use proofs.MergeLemmas.Step.{runs_on, slots_of, read_facts_current, iteration_fails, IsLineByLine, current_key_is_above}
 use proofs.MergeLemmas.Step.{alone, write_one_line, reads_ahead, place_is}
 use proofs.MergeLemmas.Step.{wrote_and_sent, StoreHoldsTwoLines, holds_two, keeps_two, ends_well, ends_fallen, start_ok}
@@ -175,9 +175,7 @@ module _ {job : Comm} {cmp : Cmp} {key : Side → Key} {old now : MergeState} {o
         stands = stands_on stands s h.continues;
       }
 
-      pub alone_fails : {reader : Reader} {after : Slots} {fault : MergeFault}
-          → AdvanceErrPost s (both one two s) (now.reader s) reader now.store after new fault
-          → MergePost tool old (state_by_side (with_side s reader now.reader) new after) (Err fault)
+      pub alone_fails : EndsIfFails tool old now s (both one two s) new
       alone_fails = iteration_fails w stood_at s step.status_is wrote_line (put_same s (ls s) p)
           (rw (put_other s (ls s) p) (read_facts_current w stood_at (other s)))
 
@@ -226,9 +224,7 @@ module _ {job : Comm} {cmp : Cmp} {key : Side → Key} {old now : MergeState} {o
       wrote_pair = rw (entries_of_pair job cmp key w.o (head First) (head Second) (whole_line_keys First (head First))
           (sym step.same)) (rw ((sides First).lines_read.terminator, led) at pushed)
 
-      pub pair_fails : {reader : Reader} {after : Slots} {fault : MergeFault}
-          → AdvanceErrPost First one (now.reader First) reader now.store after mid fault
-          → MergePost tool old (state_by_side (with_side First reader now.reader) mid after) (Err fault)
+      pub pair_fails : EndsIfFails tool old now First one mid
       pair_fails = iteration_fails w stood_at First step.first (wrote_both wrote_pair) refl
           (passing_now w stood_at Second step.second)
 
@@ -239,10 +235,8 @@ module _ {job : Comm} {cmp : Cmp} {key : Side → Key} {old now : MergeState} {o
         wrote_line_out : MergeInvariant tool b both_written old.out new
         wrote_line_out = let (m, _) = wrote_both (wrote_and_sent _ _ _ _ h.continues.clean wrote_pair written_out) in m
 
-        pub second_fails : {reader2 : Reader} {last : Slots} {fault : MergeFault}
-            → AdvanceErrPost Second two2 (now.reader Second) reader2 after last new fault
-            → MergePost tool old (state_by_side (both reader reader2) new last) (Err fault)
-        second_fails k =
+        pub second_fails : EndsIfFails tool old (state_by_side (both reader (now.reader Second)) new after) Second two2 new
+        second_fails _ _ _ k =
             let g = advance_ok w stood_at First step.first h.came w.fits keeps in
             let m = goes_merging w stood_at First step.first h.came wrote_line_out in
             let (before, _) = wrote_both wrote_pair in
@@ -250,7 +244,7 @@ module _ {job : Comm} {cmp : Cmp} {key : Side → Key} {old now : MergeState} {o
               m,
               lag_invariant_starts (goes_merging w stood_at First step.first h.came before) h.continues.clean
                   written_out,
-            ) refl (read_facts_current w g First) (rw h.continues.others at k)
+            ) refl (read_facts_current w g First) _ _ _ (rw h.continues.others at k)
 
         pub pair_continues : {one3 two3 : Sorted} {reader2 : Reader} {last : Slots}
             → AdvanceOkPost key cmp Second one2 two2 one3 two3 (now.reader Second) reader2 after last new

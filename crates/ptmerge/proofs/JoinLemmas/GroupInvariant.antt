@@ -10,7 +10,7 @@ use proofs.Common.{is_head, length-append, Lines, MergeTool, entries_by_key, ent
 use proofs.Common.{MergePost, NextOkPost, HasSlots, with_side, other, PrecedesInput, disorder, merged_entries}
 use proofs.Common.{sorted_prefixes, is_up_to, Cmp, Key, reads_nothing}
 use proofs.MergeLemmas.Step.{slots_on, SidesInvariant, IsAbove, IsLineByLine, current_key_is_above, next_at, own_slots}
-use proofs.MergeLemmas.Step.{passed_at, sides_invariant_continues, slots_apart, StoreInvariant, AdvanceErrPost}
+use proofs.MergeLemmas.Step.{passed_at, sides_invariant_continues, slots_apart, StoreInvariant, EndsIfFails}
 use proofs.MergeLemmas.Step.{advance_fails}
 use proofs.MergeLemmas.Invariant.{Bound, AtLeast, MayFollow, IsUnder, MergeInvariant, InputSplit, MayCome, all_keys}
 use proofs.MergeLemmas.Invariant.{splits_step, all_wanted, written_is_wanted, LagInvariant}
@@ -454,10 +454,8 @@ module _ {call : JoinCall} {now : MergeState} {cursor : Side → Sorted} {end : 
   pub group_breaks : {out : Output} {extra : Lines}
       → OutputStartsWith tool (with_added_line now cursor s g) q.d k extra
       → PushEffect q.mid out (unlines call.terminator extra)
-      → {new : Reader} {after : Slots} {fault : MergeFault}
-      → AdvanceErrPost s (cursor s) (now.reader s) new now.store after out fault
-      → MergePost tool old (state_after_read now s new out after) (Err fault)
-  group_breaks {extra = extra} begins wrote e = advance_fails w {now = now} {cursor = cursor s}
+      → EndsIfFails tool old now s (cursor s) out
+  group_breaks {extra = extra} begins wrote = advance_fails w {now = now} {cursor = cursor s}
       {p = λ t. q.p t ++ with_added_line now cursor s g t} (record {
         lines_read = (q.sides s).lines_read;
         sound = (q.sides s).sound;
@@ -470,7 +468,7 @@ module _ {call : JoinCall} {now : MergeState} {cursor : Side → Sorted} {end : 
         denied = q.keeps.denied;
         fits = peak_line call q.keeps s (cursor s) (l.slots s);
       }) (group_written w within_more extra wrote)
-      (λ new piece facts all more. group_comes_first w within_more new facts all more begins) e
+      (λ new piece facts all more. group_comes_first w within_more new facts all more begins)
 
   -- the input advances
   module _ {reader : Reader} {next : Sorted} {after : Slots}

@@ -15,7 +15,7 @@ use proofs.Common.{group_end_slot, group_first_slot, group, JoinLinePre, ⊎_eli
 use proofs.Common.{length_push, unlines-append, append_assoc, merged_entries, nil_from_length, CopyToGroupPost}
 use proofs.MergeLemmas.Step.{Stands, stands_on, advance_pre, reads_less, open_merge, slots_of, wrote_as, IsLineByLine, alone, current_key_is_above, write_one_line}
 use proofs.MergeLemmas.Step.{IsAbove, reads_ahead, place_is, LoopInvariant}
-use proofs.MergeLemmas.Step.{CursorsInvariant, AdvanceErrPost, iteration_fails, read_facts_current, runs_on, n}
+use proofs.MergeLemmas.Step.{CursorsInvariant, EndsIfFails, iteration_fails, read_facts_current, runs_on, n}
 use proofs.MergeLemmas.Step.{ends_well, ends_fallen, start_ok, next_keeps_slot_count, valid_cursors_kept}
 use proofs.MergeLemmas.Step.{wrote_and_sent}
 use proofs.JoinLemmas.GroupInvariant.{IsPairTool, IsAtKey, head_of, JoinCall, state_after_read, GroupState}
@@ -298,9 +298,7 @@ module _ {job : Join} {cmp : Cmp} {key : Side → Key} {old : MergeState} {phase
           iteration_continues {next = phase} s h.continues
           (rw is (runs_on t.opened.w stood_at s step.status_is h.came keeps m, no_copies))
 
-      pub alone_fails : {reader : Reader} {after : Slots} {fault : MergeFault}
-          → AdvanceErrPost s (both one two s) (now.reader s) reader now.store after new fault
-          → MergePost (join_with job cmp key) old (state_after_read now s reader new after) (Err fault)
+      pub alone_fails : EndsIfFails (join_with job cmp key) old now s (both one two s) new
       alone_fails = iteration_fails t.opened.w stood_at s step.status_is wrote_unpaired (put_same s (r.ls s) r.p)
           (rw (put_other s (r.ls s) r.p) (read_facts_current t.opened.w stood_at (other s)))
 
@@ -395,6 +393,12 @@ module _ {job : Join} {cmp : Cmp} {key : Side → Key} {old : MergeState} {phase
       -- the second input advanced
       module _ {reader : Reader} {two2 : Sorted} {made : Slots}
           (comes : NextOkPost (key Second) cmp two two2 (now.reader Second) reader now.store made) where
+        abbrev later : Slots → MergeState
+        later after = state_after_read now Second reader out after
+
+        abbrev cursors : Side → Sorted
+        cursors = with_side Second two2 (both one two)
+
         on_second : AdvancedGroup at_second comes out
         on_second = advanced_group at_second comes (rw (call.laws.none a.k (a.g ++ y ∷ [])) wrote_none)
 
@@ -417,10 +421,9 @@ module _ {job : Join} {cmp : Cmp} {key : Side → Key} {old : MergeState} {phase
           stays : line after two2.current_slot ≡ line made two2.current_slot
           stays = same two2.current_slot (low_slot Second two2 (next_slots at_second comes Second)).current
 
-          pairs_by : {to : ℕ} {kept : Lines} → GroupState call (state_after_read now Second reader out after)
-              (with_side Second two2 (both one two)) to a.k (both [] (a.g ++ y ∷ [])) kept → two2.same ≡ false
+          pairs_by : {to : ℕ} {kept : Lines} → GroupState call (later after) cursors to a.k (both [] (a.g ++ y ∷ [])) kept → two2.same ≡ false
               → IsGroupIn call a.k (line after two2.previous_slot) kept (a.g ++ y ∷ [])
-              → WritePairs call (state_after_read now Second reader out after) (with_side Second two2 (both one two)) to
+              → WritePairs call (later after) cursors to
           pairs_by {kept = kept} q other lines_in = record {
             k = a.k;
             g = both [] (a.g ++ y ∷ []);
@@ -432,10 +435,9 @@ module _ {job : Join} {cmp : Cmp} {key : Side → Key} {old : MergeState} {phase
             head = record { head = (a.heads First).head; is = key1_on };
           }
 
-          reads_by : {to : ℕ} {kept : Lines} → GroupState call (state_after_read now Second reader out after)
-              (with_side Second two2 (both one two)) to a.k (both [] (a.g ++ y ∷ [])) kept → two2.same ≡ true
+          reads_by : {to : ℕ} {kept : Lines} → GroupState call (later after) cursors to a.k (both [] (a.g ++ y ∷ [])) kept → two2.same ≡ true
               → kept ≡ cond call.keeps_groups (a.g ++ y ∷ []) []
-              → ReadGroup call (state_after_read now Second reader out after) (with_side Second two2 (both one two)) to
+              → ReadGroup call (later after) cursors to
           reads_by {kept = kept} q more copied = record {
             k = a.k;
             g = a.g ++ y ∷ [];
@@ -472,8 +474,7 @@ module _ {job : Join} {cmp : Cmp} {key : Side → Key} {old : MergeState} {phase
               (last_stays at_second comes)
               (λ l. rw (all_copied keeps) (call.laws.largest keeps _ _ (inside l)))
 
-          group_on : GroupState call (state_after_read now Second reader out after)
-              (with_side Second two2 (both one two)) (end + 1) a.k (both [] (a.g ++ y ∷ [])) (a.kept ++ y ∷ [])
+          group_on : GroupState call (later after) cursors (end + 1) a.k (both [] (a.g ++ y ∷ [])) (a.kept ++ y ∷ [])
           group_on = group_kept on_second.group (next_slots at_second comes) kept_too.same kept_too.store_holds
               (omega (arith, a.q.at, length_push a.kept y))
 
@@ -481,7 +482,7 @@ module _ {job : Join} {cmp : Cmp} {key : Side → Key} {old : MergeState} {phase
           all_copied_too = cc (all_copied keeps)
 
           reads_more : two2.same ≡ true
-              → ReadGroup call (state_after_read now Second reader out after) (with_side Second two2 (both one two))
+              → ReadGroup call (later after) cursors
               (end + 1)
           reads_more more =
               reads_by after kept_too.same group_on more
@@ -529,9 +530,9 @@ module _ {job : Join} {cmp : Cmp} {key : Side → Key} {old : MergeState} {phase
           → ReadGroupLinePost call.keeps_groups (key Second) cmp two two2 (now.reader Second) reader now.store after out
           end (Err fault) → MergePost (join_with job cmp key) old (state_after_read now Second reader out after)
           (Err fault)
-      read_group_fails (inl e) = group_breaks at_second (starts_none call (within_more at_second)) wrote_none (inl e)
+      read_group_fails (inl e) = group_breaks at_second (starts_none call (within_more at_second)) wrote_none _ _ _ (inl e)
       read_group_fails (inr (fine, inr e)) =
-          group_breaks at_second (starts_none call (within_more at_second)) wrote_none (inr (fine, e))
+          group_breaks at_second (starts_none call (within_more at_second)) wrote_none _ _ _ (inr (fine, e))
       read_group_fails {reader = reader} {after} (inr (fine, inl e)) =
           let q = (on_second e.came).group in
           let new = state_after_read now Second reader out after in
@@ -644,9 +645,7 @@ module _ {job : Join} {cmp : Cmp} {key : Side → Key} {old : MergeState} {phase
           state.q.d state.k (pair_entries job state.k (state.g First ++ z) (state.g Second))
       pairs_begin = starts call (within_more at_first) state.some state.above
 
-      pub pair_fails : {reader : Reader} {after : Slots} {fault : MergeFault}
-          → AdvanceErrPost First one (now.reader First) reader now.store after new fault
-          → MergePost (join_with job cmp key) old (state_after_read now First reader new after) (Err fault)
+      pub pair_fails : EndsIfFails (join_with job cmp key) old now First one new
       pair_fails = group_breaks at_first pairs_begin wrote_more
 
       module _ {one2 two2 : Sorted} {reader : Reader} {after : Slots}

@@ -129,7 +129,7 @@ module _ {end : ℕ} {old now new : Reader} {ls : List (List ℕ)} {piece : List
   front_of is rest = rw is (simp append_assoc)
 
   -- the lines of an input that is consistent with the bytes received
-  pub lines_read_of_input : (input : List ℕ) → IsConsistent (received_with (c.given ++ piece) new) input
+  pub lines_read_of_input : (input : List ℕ) → IsConsistent came input
       → HoldsLines now ls piece (lines end input)
   lines_read_of_input input a = ⊎_elim (λ (is, lines_are).
       let more = lines end (piece ++ (new.buffered ++ a.rest)) in
@@ -161,12 +161,12 @@ module _ {end : ℕ} {old now new : Reader} {ls : List (List ℕ)} {piece : List
     pub known : Continues now ls ws
     pub exact : new.buffered ≡ [] → new.eof ≡ false → ws ≡ ls
 
-  pub lines_read_known : KnownLines (known_lines end (received_with (c.given ++ piece) new))
+  pub lines_read_known : KnownLines (known_lines end came)
   lines_read_known = by_end new.eof refl
     where
-      by_end : (t : Bool) → new.eof ≡ t → KnownLines (known_lines end (received_with (c.given ++ piece) new))
+      by_end : (t : Bool) → new.eof ≡ t → KnownLines (known_lines end came)
       by_end true e =
-          let all : known_lines end (received_with (c.given ++ piece) new)
+          let all : known_lines end came
           ≡ lines end ((c.given ++ piece) ++ new.buffered) = rw e in
           let w = (lines_read_of_input ((c.given ++ piece) ++ new.buffered)
           (record {
@@ -179,7 +179,7 @@ module _ {end : ℕ} {old now new : Reader} {ls : List (List ℕ)} {piece : List
             exact = λ _ going. cc;
           }
       by_end false e = ⊎_elim (λ (given_is, all).
-          let is : known_lines end (received_with (c.given ++ piece) new)
+          let is : known_lines end came
           ≡ ls ++ complete_lines end (piece ++ (new.buffered ++ [])) =
           rw e (ap (complete_lines end) (sym (append-nil ((c.given ++ piece) ++ new.buffered)) ∙ front_of given_is [])
           ∙ ended_more end ls (piece ++ (new.buffered ++ [])) all) in
@@ -193,17 +193,17 @@ module _ {end : ℕ} {old now new : Reader} {ls : List (List ℕ)} {piece : List
           }) (λ (_, done). cc (done_gives_nothing done reads).eof) c.so_far
 
   -- after the first line or the end was read, one of both was received
-  pub begun_gives_line : HasBegun now ls → ¬ HasNoLine end (received_with (c.given ++ piece) new)
+  pub begun_gives_line : HasBegun now ls → ¬ HasNoLine end came
   begun_gives_line begun none =
       ⊎_elim (λ done. cc (none.eof, (done_gives_nothing done reads).eof)) (λ some.
-      let nothing : known_lines end (received_with (c.given ++ piece) new) ≡ [] = rw none.eof
+      let nothing : known_lines end came ≡ [] = rw none.eof
       (complete_lines_none end ((c.given ++ piece) ++ new.buffered) none.unterminated) in
       let known = lines_read_known.known in
       absurd (omega (arith, some, ap length (sym nothing ∙ known.is), length-append ls known.more))) begun
 
   -- at most one line was read, or a part of it
   pub one_line_and_block : IsSound new → length ls + length (lines end piece) ≤ 1
-      → IsFirstLineAndBlock end (received_with (c.given ++ piece) new)
+      → IsFirstLineAndBlock end came
   one_line_and_block sound few = record {
     first = c.given ++ piece;
     rest = new.buffered;

@@ -257,6 +257,12 @@ abbrev pub AdvanceErrPost : Side → Sorted → Reader → Reader → Slots → 
 AdvanceErrPost s cursor was is before after out fault = ((fault ≡ Write) × WriteFaultPost was is before after out)
     ⊎ ((out.write_failed ≡ false) × NextErrPost s cursor was is before after fault)
 
+-- each such failure ends the call as the contract says
+abbrev pub EndsIfFails : MergeTool → MergeState → MergeState → Side → Sorted → Output → Type 0
+EndsIfFails tool old now s cursor out = (new : Reader) (after : Slots) (fault : MergeFault)
+    → AdvanceErrPost s cursor (now.reader s) new now.store after out fault
+    → MergePost tool old (state_by_side (with_side s new now.reader) out after) (Err fault)
+
 -- In both cases a piece of the next line was read, and is in the store.
 record FailedAdvance (cursor : Sorted) (was is : Reader) (before after : Slots) : Type 0 where
   pub piece : List ℕ
@@ -362,10 +368,8 @@ module _ {tool : MergeTool} {old : MergeState} (w : IsOpenMerge tool old) {now :
       → ((new : MergeState) (piece : Side → List ℕ)
       → ((side : Side) → ReadFactsOf tool old now.reader new.reader piece ls p b side)
       → ComeFirst tool now.reader ls done)
-      → {new : Reader} {after : Slots} {fault : MergeFault}
-      → AdvanceErrPost s cursor (now.reader s) new now.store after out fault
-      → MergePost tool old (state_by_side (with_side s new now.reader) out after) (Err fault)
-  advance_fails {out} {done} lag first {new} {after} {fault} e =
+      → EndsIfFails tool old now s cursor out
+  advance_fails {out} {done} lag first new after fault e =
       let f = failed_advance s cursor (now.reader s) new now.store after out fault a.sound e in
       let facts : (side : Side) → ReadFactsOf tool old now.reader (with_side s new now.reader)
       (with_side s f.piece (λ side. [])) ls p b side =
@@ -524,9 +528,8 @@ module _ {tool : MergeTool} {old : MergeState} (w : IsOpenMerge tool old) {reade
   pub iteration_fails : (s : Side) → (cursor s).status ≡ Head → {q : Side → Lines} {out : Output}
       → MergeInvariant tool b q old.out out × AllWritten tool b q old.out out → q s ≡ ls s
       → ReadFactsBy (other s) (q (other s))
-      → {new : Reader} {after : Slots} {fault : MergeFault} → AdvanceErrPost s (cursor s) (reader s) new store after out
-      fault → MergePost tool old (state_by_side (with_side s new reader) out after) (Err fault)
-  iteration_fails s head {q} {out} (m, lag) same rest e =
+      → EndsIfFails tool old (state_by_side reader out store) s (cursor s) out
+  iteration_fails s head {q} {out} (m, lag) same rest =
       let h = at_current_line (a.sides s) head in
       advance_fails w {now = state_by_side reader out store} {cursor = cursor s} {p = q} (record {
         lines_read = (a.sides s).lines_read;
@@ -539,7 +542,7 @@ module _ {tool : MergeTool} {old : MergeState} (w : IsOpenMerge tool old) {reade
         order = λ r piece free. both_begun begun;
         denied = a.holds.denied;
         fits = a.holds.line s;
-      }) lag (λ new piece g. processed_come_first w new g m) e
+      }) lag (λ new piece g. processed_come_first w new g m)
 
   -- the slots are emptied at the end
   module _ {out : Output} (m : MergeInvariant tool b p old.out out) (clean : out.write_failed ≡ false) {after : Slots}
@@ -848,7 +851,7 @@ module _ {tool : MergeTool} {old : MergeState} (w : IsOpenMerge tool old) where
           fits = λ piece all l. within_size tool w.fits First (initial_cursor First) no_lines all piece
               (fresh_slots First) kept (λ side. omega (arith, (l side).longest)) (omega (arith, (l First).longest));
         }) (lag_invariant_starts begins w.writable (push_nothing old.out))
-        (λ new piece g. processed_come_first w new g begins) (inr (w.writable, f.fails)))
+        (λ new piece g. processed_come_first w new g begins) _ _ _ (inr (w.writable, f.fails)))
     start_fault (inr (inr f)) =
         let s = f.begins in
         let g = began s in
@@ -869,7 +872,7 @@ module _ {tool : MergeTool} {old : MergeState} (w : IsOpenMerge tool old) where
               (fresh_slots Second) (half_store s) (λ side. omega (arith, (l side).longest))
               (omega (arith, (l Second).longest));
         }) (lag_invariant_starts (half_invariant s) w.writable (push_nothing old.out))
-        (λ new piece facts. processed_come_first w new facts (half_invariant s)) (inr (w.writable, s.later))
+        (λ new piece facts. processed_come_first w new facts (half_invariant s)) _ _ _ (inr (w.writable, s.later))
 
 -- the line terminator
 pub ending_is : (zero : Bool) → cond zero 0 10 ≡ terminator zero

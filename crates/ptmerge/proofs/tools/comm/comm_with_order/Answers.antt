@@ -92,19 +92,19 @@ pub returns-in_err-write_head-in-First : goal.returns-in_err-write_head-in-First
 returns-in_err-write_head-in-First g c =
     rw (← c.steps.invariant.order, err_is c.from_residual-in_err-write_head-in-First.ensures.1)
     (alone_fails c.steps.invariant.iteration c.in-First.ensures refl c.write_head.ensures.wrote
-    c.in_err-write_head-in-First.ensures.advances)
+    _ _ _ c.in_err-write_head-in-First.ensures.advances)
 
 pub returns-in_err-write_head-in-Second : goal.returns-in_err-write_head-in-Second
 returns-in_err-write_head-in-Second g c =
     rw (← c.steps.invariant.order, err_is c.from_residual-in_err-write_head-in-Second.ensures.1)
     (alone_fails c.steps.invariant.iteration c.in-Second.ensures c.tabs-tabs2.ensures
-    c.write_head-in-Second.ensures.wrote c.in_err-write_head-in-Second.ensures.advances)
+    c.write_head-in-Second.ensures.wrote _ _ _ c.in_err-write_head-in-Second.ensures.advances)
 
 pub returns-in_err-write_head-in-Both : goal.returns-in_err-write_head-in-Both
 returns-in_err-write_head-in-Both g c =
     rw (← c.steps.invariant.order, err_is c.from_residual-in_err-write_head-in-Both.ensures.1)
     (pair_fails c.steps.invariant.iteration c.in-Both.ensures c.tabs-tabs3.ensures
-    c.write_head-in-Both.ensures.wrote c.in_err-write_head-in-Both.ensures.advances)
+    c.write_head-in-Both.ensures.wrote _ _ _ c.in_err-write_head-in-Both.ensures.advances)
 
 pub returns-in_err-write_out_and_advance-in-Both : goal.returns-in_err-write_out_and_advance-in-Both
 returns-in_err-write_out_and_advance-in-Both g c =
@@ -113,7 +113,7 @@ returns-in_err-write_out_and_advance-in-Both g c =
     (second_fails i.iteration c.in-Both.ensures
     c.tabs-tabs3.ensures c.write_head-in-Both.ensures.wrote
     c.in_ok-write_head-in-Both.ensures.advances c.write_out_and_advance.ensures.written_out
-    c.in_err-write_out_and_advance-in-Both.ensures.advances)
+    _ _ _ c.in_err-write_out_and_advance-in-Both.ensures.advances)
 
 pub returns-in-End : goal.returns-in-End
 returns-in-End g c =

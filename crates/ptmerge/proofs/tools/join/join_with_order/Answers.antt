@@ -75,14 +75,14 @@ returns-in_err-write_unpaired-in-First g c =
     rw (← c.steps.invariant.order, err_is c.from_residual-in_err-write_unpaired-in-First.ensures.1)
     (alone_fails c.steps.invariant.iteration c.in-BetweenGroups.is c.in-First.ensures
     c.write_unpaired.ensures.wrote
-    c.in_err-write_unpaired-in-First.ensures.advances)
+    _ _ _ c.in_err-write_unpaired-in-First.ensures.advances)
 
 pub returns-in_err-write_unpaired-in-Second : goal.returns-in_err-write_unpaired-in-Second
 returns-in_err-write_unpaired-in-Second g c =
     rw (← c.steps.invariant.order, err_is c.from_residual-in_err-write_unpaired-in-Second.ensures.1)
     (alone_fails c.steps.invariant.iteration c.in-BetweenGroups.is c.in-Second.ensures
     c.write_unpaired-in-Second.ensures.wrote
-    c.in_err-write_unpaired-in-Second.ensures.advances)
+    _ _ _ c.in_err-write_unpaired-in-Second.ensures.advances)
 
 pub steps-preserved-in-Both : goal.steps-preserved-in-Both
 steps-preserved-in-Both g c = record {
@@ -174,7 +174,7 @@ returns-in_err-write_pairs-in-WritePairs g c =
     rw (← c.steps.invariant.order, err_is c.from_residual-in_err-write_pairs-in-WritePairs.ensures.1)
     (pair_fails c.steps.invariant.iteration c.in-WritePairs.is
     c.write_pairs.ensures.wrote
-    c.in_err-write_pairs-in-WritePairs.ensures.advances)
+    _ _ _ c.in_err-write_pairs-in-WritePairs.ensures.advances)
 
 pub clear_group-requires : goal.clear_group-requires
 clear_group-requires g c = group_there c.steps.invariant.iteration c.in-WritePairs.is
