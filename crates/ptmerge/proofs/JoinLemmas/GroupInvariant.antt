@@ -38,7 +38,7 @@ under_lower o b x k h u = grind (arith, at_most_trans)
 -- a property of k holds for the keys of all lines of its group
 pub all_own_keys : (P : List ℕ → Type 0) (key : Key) (k : List ℕ) (g : Lines) → P k → EachKey (λ x. x ≡ k) key g
     → EachKey P key g
-all_own_keys P key k g h = EachKey-weaker (λ x. x ≡ k) P (λ x same. subst P (sym same) h) key g
+all_own_keys P key k g h = EachKey-weaker _ P (λ x same. subst P (sym same) h) _ g
 
 -- the lines `p` are processed, the lines `g` are the group of the key `k`, and `d` bounds the lines that may follow
 pub record OutputInGroup (tool : MergeTool) (was mid : Output) (p g : Side → Lines) (d : Side → Bound)
@@ -96,8 +96,8 @@ module _ {tool : MergeTool} {old : MergeState} (w : IsOpenMerge tool old) {mid :
 
     -- the entries of all lesser keys come first
     front_is_first : entries_by_key tool is_wanted p ≡ front
-    front_is_first = all_wanted tool is_wanted p (λ side. EachKey-weaker (λ x. AtMost cmp x k) (λ x. is_wanted x ≡ true)
-        wanted (key side) (p side) (m.merge_invariant.under First side))
+    front_is_first = all_wanted tool is_wanted p (λ side. EachKey-weaker _ _
+        wanted _ _ (m.merge_invariant.under First side))
 
     pub group_comes_first : {extra : Lines} → OutputStartsWith tool g d k extra → (rest : Lines)
         × (merged_entries tool all ≡ (front ++ extra) ++ rest)
@@ -120,7 +120,7 @@ module _ {tool : MergeTool} {old : MergeState} (w : IsOpenMerge tool old) {mid :
   -- the keys of the processed lines and of the group
   passed_keys : (of side : Side) → EachKey (λ x. AtMost cmp x k) (key side) (p side ++ g side)
   passed_keys of side =
-      EachKey-append (λ x. AtMost cmp x k) (key side) (p side) (g side) (m.merge_invariant.under of side)
+      EachKey-append _ (key side) _ _ (m.merge_invariant.under of side)
       (all_own_keys (λ x. AtMost cmp x k) (key side) k (g side) (self_at_most cmp o k) (m.own side))
 
   pub group_written : {is : Output} (extra : Lines) → PushEffect mid is (unlines terminator extra)
@@ -136,8 +136,8 @@ module _ {tool : MergeTool} {old : MergeState} (w : IsOpenMerge tool old) {mid :
     more = wrote;
     all = sym (unlines-append terminator front extra);
     split = λ side. refl;
-    under = λ of side. EachKey-weaker (λ x. AtMost cmp x k) (IsUnder cmp (d of))
-        (λ x h. under_lower o (d of) x k h (m.under of)) (key side) (p side ++ g side) (passed_keys of side);
+    under = λ of side. EachKey-weaker _ _
+        (λ x h. under_lower o (d of) x k h (m.under of)) _ _ (passed_keys of side);
     under_bound = passed_keys;
     may_follow = rest_not_less;
   }
@@ -303,9 +303,9 @@ module _ (call : JoinCall) {was mid : Output} {p g : Side → Lines} {d : Side �
       record {
         splits = splits_step tool (λ side. AtLeast k) d p g m.merge_invariant.splits
             (λ side r c. at_most-same tool o (key side) k (g side) r (m.own side) (m.beyond side r c)) splits_off;
-        under = λ of side. EachKey-append (IsUnder cmp (d of)) (key side) (p side) (g side)
-            (EachKey-weaker (λ x. AtMost cmp x k) (IsUnder cmp (d of)) (λ x h. under_lower o (d of) x k h (m.under of))
-            (key side) (p side) (m.merge_invariant.under First side))
+        under = λ of side. EachKey-append _ (key side) _ _
+            (EachKey-weaker _ _ (λ x h. under_lower o (d of) x k h (m.under of))
+            _ _ (m.merge_invariant.under First side))
             (all_own_keys (IsUnder cmp (d of)) (key side) k (g side) (m.under of) (m.own side));
         wrote = rw (all, unlines-append call.terminator (entries_by_key tool all_keys p) (pairs k (g First) (g Second)))
             (push_trans _ _ _ _ _ m.clean m.merge_invariant.wrote wrote);
@@ -369,8 +369,8 @@ module _ {call : JoinCall} {now : MergeState} {cursor : Side → Sorted} {end : 
   pub is_past : (s : Side) → ((cursor s).status ≡ Head → ¬ (key s (head_of now cursor s) ≡ k))
       → IsAbove cmp (key s) k (q.d s)
   is_past s other =
-      let (above, _) = current_key_is_above cmp o (key s) k _ (cursor s) now.store (now.reader s) (q.ls s)
-      (q.p s ++ g s) (q.d s) (by (cursor s).status (q.sides s).status_is other) (q.sides s).status_is in
+      let (above, _) = current_key_is_above _ o _ k _ _ _ _ _
+      _ _ (by (cursor s).status (q.sides s).status_is other) (q.sides s).status_is in
       above
     where
       by : (t : CursorStatus) → MatchesStatus cmp (key s) t (cursor s) now.store (now.reader s) (q.ls s) (q.p s ++ g s)
@@ -430,7 +430,7 @@ module _ {call : JoinCall} {now : MergeState} {cursor : Side → Sorted} {end : 
 
   pub own_more : (side : Side) → EachKey (λ z. z ≡ k) (key side) (with_added_line now cursor s g side)
   own_more = put_each (λ side (l : Lines). EachKey (λ z. z ≡ k) (key side) l) s (g s ++ x ∷ []) g
-      (EachKey-append (λ z. z ≡ k) (key s) (g s) (x ∷ []) (q.within.own s) (l.is, tt)) q.within.own
+      (EachKey-append _ (key s) _ _ (q.within.own s) (l.is, tt)) q.within.own
 
   pub within_more : OutputInGroup tool old.out q.mid q.p (with_added_line now cursor s g) q.d k
   within_more = assumption (own_more, q.within)
@@ -475,7 +475,7 @@ module _ {call : JoinCall} {now : MergeState} {cursor : Side → Sorted} {end : 
       (comes : NextOkPost (key s) cmp (cursor s) next (now.reader s) reader now.store after) where
     gone_to : SideAfterNext call.terminator cmp (key s) (old.reader s) reader next (cursor s).previous_slot now.store
         after (q.ls s) (Some (key s (head_of now cursor s)))
-    gone_to = next_at tool o q.sides l.slots q.keeps.four s l.head reader next after comes
+    gone_to = next_at tool o q.sides l.slots q.keeps.four s l.head _ _ _ comes
 
     pub next_slots : AllSlots (with_side s next cursor)
     next_slots = put_each HasSlots s next cursor (slots_on s (l.slots s) comes) l.slots
@@ -535,7 +535,7 @@ module _ {call : JoinCall} {now : MergeState} {cursor : Side → Sorted} {end : 
                 (with_side s next cursor) after (with_side s n.now_ls q.ls) f (with_side s n.bound q.d))
                 (λ i side. put_both (λ side (l m : Lines). l ≡ q.p side ++ m) s (q.ls s) (λ side. q.p side ++ g side)
                 (g s ++ x ∷ []) g with_head refl side i)
-                (sides_invariant_continues tool o q.sides l.slots q.keeps.four s l.head reader next after
+                (sides_invariant_continues tool o q.sides l.slots q.keeps.four s l.head _ _ _
                 n);
             within = record {
               merge_invariant = q.within.merge_invariant;

@@ -282,8 +282,8 @@ module _ {job : Join} {cmp : Cmp} {key : Side → Key} {old : MergeState} {phase
       wrote_unpaired =
           let x = head_of now (both one two) s in
           let h = at_current_line (r.sides s) step.status_is in
-          let (above, under) = current_key_is_above cmp o _ _ _ _ _ _ _ _ _ step.before (r.sides (other s)).status_is in
-          rw h.all (write_one_line _ o (is_line_by_line job cmp key) s x r.b r.p _ _ _ t.clean r.merge_invariant h.bound
+          let (above, under) = current_key_is_above _ o _ _ _ _ _ _ _ _ _ step.before (r.sides (other s)).status_is in
+          rw h.all (write_one_line _ o (is_line_by_line job cmp key) s x _ _ _ _ _ t.clean r.merge_invariant h.bound
           above under
           (wrote_as (r.sides s).lines_read.terminator (entries_alone job cmp key s x (t.opened.keys s x))
           pushed))
@@ -541,7 +541,7 @@ module _ {job : Join} {cmp : Cmp} {key : Side → Key} {old : MergeState} {phase
           (entries_by_key call.tool all_keys q.p ++ []) =
           λ all more. group_comes_first call.w q.within new (group_read_facts q) all more
           (starts_none call q.within) in
-          rw e.memory (exit_is_merge_post call.w new (group_read_facts q) lag first (λ all more.
+          rw e.memory (exit_is_merge_post call.w _ (group_read_facts q) lag first (λ all more.
           let size = size_of call q.keeps all (λ side. omega (arith, (more side).longest)) (extends (more Second)) in
           let (_, many) = call.laws.largest e.keeps _ _ (inside e.came (more Second).continues.more) in
           omega (

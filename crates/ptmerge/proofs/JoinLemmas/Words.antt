@@ -468,7 +468,7 @@ module _ {line : List ℕ} {passed words : ℕ} (short : length line < 64) (left
 
   -- no words are left
   pub none_left : (number : ℕ) → words ≡ 0 → passed ≤ number - 1 → drop (number - 1) (join_fields None line) ≡ []
-  none_left number none le = none_past (join_fields None line) passed (number - 1)
+  none_left number none le = none_past _ passed (number - 1)
       (left.fields ∙ no_words rest (from_none left.at (marks rest) (sym left.mask ∙ none))) le
 
   module _ (some : words ≢ 0) where

@@ -207,7 +207,7 @@ module _ (cmp : Cmp) (o : IsKeyOrder cmp) where
   ascends_insert : (k : List ℕ) (ks : Lines) → Ascends cmp ks → Ascends cmp (insert_key cmp k ks)
   ascends_insert k [] a = (tt, tt)
   ascends_insert k (x ∷ ks) (above, more) =
-      let less = λ (e : cmp k x ≡ Less). Each-weaker _ (Above cmp k)
+      let less = λ (e : cmp k x ≡ Less). Each-weaker _ _
       (λ y h. above_trans cmp o k x y (ap is_gt e) h) ks above in
       let greater = λ (e : cmp k x ≡ Greater). Each-insert cmp (Above cmp x) k ks e above in
       grind (arith, less, greater, less_flips cmp o k x, ascends_insert k ks more)
@@ -395,8 +395,8 @@ write_least_run {tool} o k q f {b} {p} {was} {is} {new} front all none law clean
     let texts = ap (unlines tool.terminator) (m.splits.split all_keys f nothing)
     ∙ unlines-append tool.terminator (entries_by_key tool all_keys p) (entries_by_key tool all_keys f) in
     let under : (of side : Side) → EachKey (IsUnder tool.cmp (b of)) (tool.key side) (p side ++ f side) =
-    λ of side. EachKey-append (IsUnder tool.cmp (b of)) (tool.key side) _ _ (m.under of side)
-    (EachKey-weaker (λ y. y ≡ k) (IsUnder tool.cmp (b of)) (λ y e. rw e (front of).under) _ _ (front side).own) in
+    λ of side. EachKey-append _ (tool.key side) _ _ (m.under of side)
+    (EachKey-weaker _ _ (λ y e. rw e (front of).under) _ _ (front side).own) in
     subst (λ (l : Side → Lines). MergeInvariant tool b l was new × AllWritten tool b l was new)
     (λ i side. sym (all side) i) (
       record {
@@ -548,7 +548,7 @@ input_split {tool} o {b} {p} {ls} m s =
     let first =
     all_wanted tool w p (λ side. both_under (tool.key side) (IsUnder tool.cmp (b First)) (IsUnder tool.cmp (b Second))
     (λ k. w k ≡ true)
-    (λ k u1 u2. written_is_wanted tool.cmp o (b First) (b Second) (first_disorder tool.cmp (tool.key First) (ls First))
-    (first_disorder tool.cmp (tool.key Second) (ls Second)) k
+    (λ k u1 u2. written_is_wanted _ o (b First) (b Second) _
+    _ k
     (s.may_disorder First) (s.may_disorder Second) u1 u2) (p side) (m.under First side) (m.under Second side)) in
     (λ i. entries_by_key tool w (λ side. s.parts side i)) ∙ cc (m.splits.split w s.r s.may_follow, first)

@@ -259,7 +259,7 @@ module _ (tool : MergeTool) (o : IsKeyOrder tool.cmp) (given : Side → Received
       (λ i side. with_side_is of nothing given side i)
       (ap (unlines tool.terminator) (none_wanted tool (is_decided tool (λ side. (unread side).eof) unread_lines)
       (sorted_prefixes tool unread_lines) (λ side. Each-all
-      (λ k. is_decided tool (λ side. (unread side).eof) unread_lines k ≡ false) none_decided
+      _ none_decided
       (map (tool.key side) (sorted_prefixes tool unread_lines side)))))
 
   pub unread_decides_no_disorder : disorder_is_decided tool unread ≡ false

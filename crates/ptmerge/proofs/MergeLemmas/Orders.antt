@@ -105,7 +105,7 @@ EachKey-at P key (x ∷ xs) (suc i) low (_, more) = EachKey-at P key xs i (omega
 
 pub EachKey-weaker : (P Q : List ℕ → Type 0) → ((x : List ℕ) → P x → Q x) → (key : Key) (xs : Lines) → EachKey P key xs
     → EachKey Q key xs
-EachKey-weaker P Q f key xs e = Each-weaker P Q f (map key xs) e
+EachKey-weaker P Q f key xs e = Each-weaker P Q f _ e
 
 pub Each-all : (P : List ℕ → Type 0) → ((x : List ℕ) → P x) → (xs : Lines) → Each P xs
 Each-all P f [] = tt
@@ -121,7 +121,7 @@ Each-parts P (x ∷ xs) ys (here, more) = let (front, rest) = Each-parts P xs ys
 
 pub EachKey-append : (P : List ℕ → Type 0) (key : Key) (xs ys : Lines) → EachKey P key xs → EachKey P key ys
     → EachKey P key (xs ++ ys)
-EachKey-append P key xs ys e h = rw (map-append key xs ys) (Each-append P (map key xs) (map key ys) e h)
+EachKey-append P key xs ys e h = rw (map-append key xs ys) (Each-append P _ _ e h)
 
 pub Each-insert : (cmp : Cmp) (P : List ℕ → Type 0) (k : List ℕ) (xs : Lines) → P k → Each P xs
     → Each P (insert_key cmp k xs)
@@ -131,7 +131,7 @@ Each-insert cmp P k (x ∷ xs) h (here, more) = let ih = Each-insert cmp P k xs 
 pub Each-distinct : (cmp : Cmp) (P : List ℕ → Type 0) (xs : Lines) → Each P xs → Each P (distinct_keys cmp xs)
 Each-distinct cmp P [] e = tt
 Each-distinct cmp P (x ∷ xs) (here, more) =
-    Each-insert cmp P x (distinct_keys cmp xs) here (Each-distinct cmp P xs more)
+    Each-insert cmp P x (distinct_keys cmp xs) here (Each-distinct _ P xs more)
 
 -- the keys other than k
 abbrev others : List ℕ → Lines → Lines
@@ -261,7 +261,7 @@ module _ (tool : MergeTool) (o : IsKeyOrder tool.cmp) where
   pub at_most-same : (key : Key) (k : List ℕ) (f r : Lines) → EachKey (λ x. x ≡ k) key f → EachKey (AtMost cmp k) key r
       → EachKey (AtMost cmp k) key (f ++ r)
   at_most-same key k f r e h =
-      EachKey-append _ key f r (EachKey-weaker _ _ (λ x is. rw is (self_at_most cmp o k)) key f e) h
+      EachKey-append _ key f r (EachKey-weaker _ _ (λ x is. rw is (self_at_most cmp o k)) _ f e) h
 
   glued : (t : Bool) (all a b rest : Lines) → all ≡ a ++ b
       → cond t all [] ++ rest ≡ cond t a [] ++ (cond t b [] ++ rest)
