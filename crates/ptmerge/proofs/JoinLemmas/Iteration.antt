@@ -42,12 +42,10 @@ use Rattle.ptmerge.specs.declared.tools.join.JoinPhase.TheVariants as phases
 -- ---- the output, by lines and by pairs
 
 cond_of_empty : (t : Bool) → cond {A = Lines} t [] [] ≡ []
-cond_of_empty true = refl
-cond_of_empty false = refl
+cond_of_empty t = grind arith
 
 cond_of_append : (t : Bool) (xs ys : Lines) → cond t (xs ++ ys) [] ≡ cond t xs [] ++ cond t ys []
-cond_of_append true xs ys = refl
-cond_of_append false xs ys = refl
+cond_of_append t xs ys = grind arith
 
 module _ (job : Join) (cmp : Cmp) (key : Side → Key) where
   first_alone : (k : List ℕ) (g : Lines) → join_entries job k g [] ≡ unpaired_entries1 job k g
@@ -149,8 +147,7 @@ rank phases.BetweenGroups = 1
 rank p = 0
 
 rank_few : (p : JoinPhase) → rank p ≤ 1
-rank_few phases.BetweenGroups = omega arith
-rank_few p = omega arith
+rank_few p = grind arith
 
 -- ---- an iteration
 

@@ -66,14 +66,11 @@ module _ (cmp : Cmp) (o : IsKeyOrder cmp) where
 
   -- a ≤ b < c
   pub above_trans : (a b c : List ℕ) → AtMost cmp a b → cmp c b ≡ Greater → cmp c a ≡ Greater
-  above_trans a b c p g = ⊎_elim (λ (_, same). rw same at g)
-      (λ (_, greater). less_flips a c (o.total.trans a b c (greater_flips b a greater) (greater_flips c b g)))
-      (least_or_above a b p)
+  above_trans a b c p g = grind (arith, g, least_or_above a b p, greater_flips, less_flips a c, o.total.trans a b c)
 
   -- a < b ≤ c
   pub above_up : (a b c : List ℕ) → cmp b a ≡ Greater → AtMost cmp b c → cmp c a ≡ Greater
-  above_up a b c g p = ⊎_elim (λ (_, same). rw same g) (λ (_, greater). less_flips a c
-      (o.total.trans a b c (greater_flips b a g) (greater_flips c b greater))) (least_or_above b c p)
+  above_up a b c g p = grind (arith, g, least_or_above b c p, greater_flips, less_flips a c, o.total.trans a b c)
 
   pub at_most_is_le : (a b : List ℕ) → AtMost cmp a b → is_le (cmp a b) ≡ true
   at_most_is_le a b h = grind arith

@@ -116,7 +116,6 @@ write_one_line tool o laws Second x b p was is new clean m is_from above under w
 
 -- ---- the invariant of both inputs
 
--- the invariant of both inputs
 abbrev pub SidesInvariant : MergeTool → (Side → Reader) → (Side → Reader) → (Side → Sorted) → Slots → (Side → Lines)
     → (Side → Lines) → (Side → Bound) → Type 0
 SidesInvariant tool old now cursor store ls p b = (side : Side)
@@ -405,9 +404,6 @@ pub wrote_as : {end e : ℕ} {xs ys : Lines} {was is : Output} → e ≡ end →
     → PushEffect was is (unlines end ys)
 wrote_as same list wrote = rw (list, ← same) wrote
 
--- ---- the number of slots
-
--- after advancing
 pub next_keeps_slot_count : {key : Key} {cmp : Cmp} {cursor next : Sorted} {was is : Reader} {before after : Slots}
     → NextOkPost key cmp cursor next was is before after → length after.lines ≡ length before.lines
 next_keeps_slot_count (inl e) = rw (e.next_line.stored, length-set)
@@ -874,7 +870,6 @@ module _ {tool : MergeTool} {old : MergeState} (w : IsOpenMerge tool old) where
         }) (lag_invariant_starts (half_invariant s) w.writable (push_nothing old.out))
         (λ new piece facts. processed_come_first w new facts (half_invariant s)) _ _ _ (inr (w.writable, s.later))
 
--- the line terminator
 pub ending_is : (zero : Bool) → cond zero 0 10 ≡ terminator zero
 ending_is zero = grind arith
 
