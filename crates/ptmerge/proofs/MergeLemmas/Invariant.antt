@@ -512,9 +512,6 @@ all_three : (x y z u v w : Bool) → (x ≡ true → u ≡ true) → (y ≡ true
     → (x && y && z) ≡ true → (u && v && w) ≡ true
 all_three x y z u v w f g h e = grind arith
 
-and_false : (x y z : Bool) → (y ≡ false) ⊎ (z ≡ false) → (x && y && z) ≡ false
-and_false x y z e = grind arith
-
 module _ (tool : MergeTool) (o : IsKeyOrder tool.cmp) (eof : Side → Bool) (ls : Side → Lines) where
   open tool use {cmp}
 
@@ -527,9 +524,8 @@ module _ (tool : MergeTool) (o : IsKeyOrder tool.cmp) (eof : Side → Bool) (ls 
   -- no key is decided unless it is past in this input
   pub not_decided : (side : Side) (k : List ℕ) → is_past cmp (tool.key side) (eof side) (ls side) k ≡ false
       → is_decided tool eof ls k ≡ false
-  not_decided First k e = and_false _ _ _ (inl e)
-  not_decided Second k e =
-      and_false (is_up_to cmp (disorder tool ls) k) (is_past cmp (tool.key First) (eof First) (ls First) k) _ (inr e)
+  not_decided First k e = grind (arith, e)
+  not_decided Second k e = grind (arith, e)
 
 -- two lists that continue the lines read so far
 pub record InputSplit (tool : MergeTool) (b : Side → Bound) (p ls : Side → Lines) : Type 0 where

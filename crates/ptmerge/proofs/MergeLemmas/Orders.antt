@@ -155,21 +155,10 @@ module _ (cmp : Cmp) (o : IsKeyOrder cmp) where
       → (distinct_keys cmp ks ≡ k ∷ distinct_keys cmp (others k ks))
       ⊎ ((distinct_keys cmp ks ≡ distinct_keys cmp (others k ks)) × Each (λ y. bytes_eq y k ≡ false) ks)
   distinct_least k [] e = inr (refl, tt)
-  distinct_least k (y ∷ ks) (here, more) = by (least_or_above cmp o k y here) (distinct_least k ks more)
-    where
-      above : Each (Above cmp k) (distinct_keys cmp (others k ks))
-      above = Each-distinct _ _ _ (others_above k ks more)
-
-      by : ((bytes_eq y k ≡ true) × (y ≡ k)) ⊎ ((bytes_eq y k ≡ false) × (cmp y k ≡ Greater))
-          → (distinct_keys cmp ks ≡ k ∷ distinct_keys cmp (others k ks))
-          ⊎ ((distinct_keys cmp ks ≡ distinct_keys cmp (others k ks)) × Each (λ z. bytes_eq z k ≡ false) ks)
-          → (insert_key cmp y (distinct_keys cmp ks) ≡ k ∷ distinct_keys cmp (others k (y ∷ ks)))
-          ⊎ ((insert_key cmp y (distinct_keys cmp ks) ≡ distinct_keys cmp (others k (y ∷ ks)))
-          × Each (λ z. bytes_eq z k ≡ false) (y ∷ ks))
-      by (inl (is, same)) (inl d) = inl (rw (is, same, d, tied_itself o.total k))
-      by (inl (is, same)) (inr (without_k, _)) = inl (rw (is, same, without_k, insert_least k _ above))
-      by (inr (apart, greater)) (inl d) = inl (rw (apart, d, greater))
-      by (inr (apart, _)) (inr (without_k, none)) = inr (rw (apart, without_k), (apart, none))
+  distinct_least k (y ∷ ks) (here, more) =
+      let above = Each-distinct cmp _ _ (others_above k ks more) in
+      let least = insert_least k (distinct_keys cmp (others k ks)) above in
+      grind (arith, distinct_least k ks more, least_or_above cmp o k y here, tied_itself o.total k, least)
 
 others-keys : (key1 key2 : Key) (k : List ℕ) (xs ys : Lines)
     → others k (map key1 xs ++ map key2 ys) ≡ map key1 (without key1 k xs) ++ map key2 (without key2 k ys)

@@ -98,14 +98,7 @@ has_lines_total few m more h = absurd h
 pub set_line : (s : Side) (cursor : Sorted) (xs : List (List ℕ)) (m k : Side → ℕ) (more : ℕ) (x : List ℕ)
     → HasSlots s cursor → HasLines m more xs → ((side : Side) → m side ≤ k side) → length x ≤ k s
     → HasLines k more (set xs cursor.previous_slot x)
-set_line s cursor (a ∷ b ∷ c ∷ d ∷ rest) m k more x slots h up l = by s slots l
-  where
-    by : (t : Side) → HasSlots t cursor → length x ≤ k t
-        → HasLines k more (set (a ∷ b ∷ c ∷ d ∷ rest) cursor.previous_slot x)
-    by First (inl (_, is)) l = rw is (omega (arith, h, up First, up Second))
-    by First (inr (_, is)) l = rw is (omega (arith, h, up First, up Second))
-    by Second (inl (_, is)) l = rw is (omega (arith, h, up First, up Second))
-    by Second (inr (_, is)) l = rw is (omega (arith, h, up First, up Second))
+set_line s cursor (a ∷ b ∷ c ∷ d ∷ rest) m k more x slots h up l = grind (arith, slots, h, up First, up Second, l)
 set_line s cursor few m k more x slots h up l = absurd h
 
 -- The invariant of the store of a merge: two lines of each input, of at most `m` bytes each.

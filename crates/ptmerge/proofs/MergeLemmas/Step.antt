@@ -484,8 +484,7 @@ pub record CursorsInvariant (tool : MergeTool) (old : MergeState) (reader : Side
 -- the two slots change places
 other_slots : (s : Side) (cursor : Sorted) → HasSlots s cursor
     → HasSlots s (record cursor { current_slot = cursor.previous_slot; previous_slot = cursor.current_slot })
-other_slots s cursor (inl (current, previous)) = inr (previous, current)
-other_slots s cursor (inr (current, previous)) = inl (previous, current)
+other_slots s cursor h = grind (arith, h)
 
 pub slots_on : {key : Key} {cmp : Cmp} {cursor next : Sorted} {was is : Reader} {before after : Slots} (s : Side)
     → HasSlots s cursor → NextOkPost key cmp cursor next was is before after → HasSlots s next
