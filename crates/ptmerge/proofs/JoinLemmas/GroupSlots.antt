@@ -159,7 +159,7 @@ module _ (m : Lines → ℕ) (laws : IsLineMeasure m) (key : Key) where
       (omega (arith, laws.more x g, laws.more x (lines_with_key key (g ++ c) k), group_measure_max k [] g c more))
   group_measure_max k (x ∷ p) g c e =
       let ih = group_measure_max k p g c e in
-      let ls : Lines = lines_with_key key (p ++ (g ++ c)) k in
+      let ls : Lines = lines_with_key key _ k in
       elim (bytes_eq (key x) k) as (λ t. m g ≤ m (cond t (x ∷ ls) ls))
       [ true ↦ omega (arith, ih, laws.more x ls) | false ↦ ih ]
 
@@ -274,7 +274,7 @@ pub group_store_line : {most : GroupBounds} {before store after : Slots} {ls now
 group_store_line {store = store} {after} {ls} {now} {g} s cursor slots x k up fit continues_key is =
     let inside = set_line s cursor store.lines (λ side. max_length (ls side)) (λ side. max_length (now side))
     (total_bytes g) x slots k.lines up fit in
-    let sum = has_lines_total (set store.lines cursor.previous_slot x) (λ side. max_length (now side))
+    let sum = has_lines_total (set store.lines _ x) (λ side. max_length (now side))
     (total_bytes g) inside in
     let size = length-set store.lines cursor.previous_slot x in
     rw is (record {

@@ -40,17 +40,17 @@ or_prefix : (n : ℕ) (bits : List Bool) → bit_or (mask_l (take n bits)) (mask
 or_prefix zero bits = or_zero_l (mask_l bits)
 or_prefix (suc n) [] = or_zero_l 0
 or_prefix (suc n) (b ∷ bits) =
-    or_bits b b (mask_l (take n bits)) (mask_l bits) ∙ grind (arith, or_prefix n bits)
+    or_bits b b _ (mask_l bits) ∙ grind (arith, or_prefix n bits)
 
 or_ends : (last n : ℕ) (bits : List Bool) → last ≤ n
     → bit_or (mask_l (take n bits)) (2 ^ last * mask_l (drop last bits)) ≡ mask_l bits
 or_ends zero n bits le = let one : 2 ^ 0 * mask_l bits ≡ mask_l bits = omega arith in
-    ap (bit_or (mask_l (take n bits))) one ∙ or_prefix n bits
+    ap (bit_or _) one ∙ or_prefix n bits
 or_ends (suc last) zero bits le = absurd (omega (arith, le))
 or_ends (suc last) (suc n) [] le = let none : 2 ^ suc last * 0 ≡ 0 = omega arith in ap (bit_or 0) none ∙ or_zero_l 0
 or_ends (suc last) (suc n) (b ∷ bits) le =
     let double : 2 ^ suc last ≡ 2 * 2 ^ last = omega (arith, two-pow-succ last) in
-    let twice : 2 ^ suc last * mask_l (drop last bits) ≡ bit false + 2 * (2 ^ last * mask_l (drop last bits)) =
+    let twice : 2 ^ suc last * mask_l (drop last bits) ≡ bit false + 2 * (2 ^ last * mask_l _) =
     ap (λ (p : ℕ). p * mask_l (drop last bits)) double ∙ mul_assoc 2 (2 ^ last) (mask_l (drop last bits))
     ∙ omega arith in
     ap (bit_or (mask_l (b ∷ take n bits))) twice ∙ or_bits b false (mask_l (take n bits))
@@ -68,7 +68,7 @@ ends_mask test bytes n first all few =
     ap (map test) (take_all n (drop last bytes) (omega (arith, length-drop last bytes, first)))
     ∙ sym (drop-map test last bytes) in
     let front : map test (chunk 0 n bytes) ≡ take n bits = sym (take-map test n bytes) in
-    let small : mask_l (drop last bits) * 2 ^ last < 2 ^ 64 = fits (mask_l (drop last bits)) n last
+    let small : mask_l (drop last bits) * 2 ^ last < 2 ^ 64 = fits (mask_l _) n last
     (rw size at (mask_l-lt (drop last bits))) (omega (arith, all, first, few)) in
     let whole : mask_l (drop last bits) * 2 ^ last % 2 ^ 64 ≡ 2 ^ last * mask_l (drop last bits) = omega
     (arith, small, mul_comm (mask_l (drop last bits)) (2 ^ last), mod-eq_of_lt small) in
@@ -493,7 +493,7 @@ module _ {line : List ℕ} {passed words : ℕ} (short : length line < 64) (left
       after_is,
       lowest (after_run bits) (omega (arith, length-after_run bits, bits_long, short)) (some_after_run bits some_bits),
       from_after left.at (marks rest),
-      from_prefix_len left.at (after_run (marks rest)),
+      from_prefix_len left.at _,
     )
 
     -- the first of them is passed

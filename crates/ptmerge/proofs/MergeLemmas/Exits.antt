@@ -202,10 +202,10 @@ module _ (end : ℕ) (cmp : Cmp) (o : IsKeyOrder cmp) (key : Key) (old now new :
         → is_disordered cmp last (key e.line) ≡ false → Goal last (next_cursor Head (cursor.number + 1) same)
     at_head last within sorted_up_to no_disorder =
         let now_is : line after cursor.previous_slot ≡ e.line =
-        rw e.stored (line_of_with_line before cursor.previous_slot e.line within) in
+        rw e.stored (line_of_with_line before _ e.line within) in
         let more = sorted_up_to_more e.line sorted_up_to no_disorder in
         let (may_follow, under) = from_next o key last e.line no_disorder in
-        at_next last (e.line ∷ []) e.line (next_cursor Head (cursor.number + 1) same) (AtLeast (key e.line))
+        at_next last (e.line ∷ []) e.line (next_cursor Head _ same) (AtLeast (key e.line))
         (lines_read_more lines_read e) (inr (omega (arith, length_push ls e.line))) sound (inr (e.line, refl, refl))
         (omega (arith, number, length_push ls e.line))
         (processed_before_line o more) (rw now_is (refl, more, refl)) may_follow under e.stored
@@ -271,14 +271,14 @@ pub next_same_key : (cmp : Cmp) (o : IsKeyOrder cmp) (key : Key) (cursor next : 
     → next.same ≡ (is_head next.status && bytes_eq (key (line before cursor.current_slot))
     (key (line after next.current_slot)))
 next_same_key cmp o key cursor next now new before after some within (inl e) =
-    let last = key (line before cursor.current_slot) in
-    let r = cmp last (key e.next_line.line) in
+    let last = key (line before _) in
+    let r = cmp last (key _) in
     let m = cursor.number + 1 in
     let counted : nat_lt 0 cursor.number ≡ true = grind (arith, nat_tests) in
     let now_is : line after cursor.previous_slot ≡ e.next_line.line = rw e.next_line.stored
     (line_of_with_line before cursor.previous_slot e.next_line.line within) in
     let here = status_same_key m r ∙ ap (λ (t : Bool). is_head (cond (is_gt r) (Disorder m) Head) && t)
-    (equal_is cmp o last (key e.next_line.line)) in
+    (equal_is cmp o last (key _)) in
     rw (e.cursor, counted, now_is) here
 next_same_key cmp o key cursor next now new before after some within (inr e) = rw e.cursor refl
 
@@ -432,7 +432,7 @@ module _ {tool : MergeTool} {old : MergeState} (w : IsOpenMerge tool old) (new :
   known side = lines_read_known (g side).lines_read (g side).reads (g side).line
 
   whole_input_split : InputSplit tool b p (λ side. known_lines tool.terminator (given side))
-  whole_input_split = input_split_of (λ side. known_lines tool.terminator (given side)) (λ side. (known side).known)
+  whole_input_split = input_split_of (λ side. known_lines _ (given side)) (λ side. (known side).known)
 
   backs : (side : Side) → LagPoint tool.terminator (given side) (p side)
   backs side = back _ _ _ _ _ _ (new.reader side) (g side).lines_read.so_far
@@ -569,7 +569,7 @@ pub merge_set : {tool : MergeTool} {old new : MergeState} {set : Side → Reader
     → MergePost tool old new result
 unfolding call_set
 merge_set {tool} {old} {new} {set} clean is m = record {
-  call = call_set both_sides (merge_engine tool) old (state_by_side set old.out old.store) new clean refl refl
+  call = call_set both_sides _ old _ new clean refl refl
       (λ side read. is side) (λ side none. cc) m.call;
   stops_at_disorder = m.stops_at_disorder;
   first_reads = λ fine.
@@ -585,7 +585,7 @@ merge_set {tool} {old} {new} {set} clean is m = record {
 pub merge_halted : (tool : MergeTool) (old : MergeState) → old.store.denied ≡ false → old.out.write_failed ≡ true
     → MergePost tool old old (Err Write)
 merge_halted tool old allowed fault = record {
-  call = call_on_failed_output both_sides (merge_engine tool) fault allowed;
+  call = call_on_failed_output both_sides _ fault allowed;
   stops_at_disorder = λ side clean. cc;
   first_reads = λ clean. cc;
 }

@@ -81,7 +81,7 @@ after_from cmp o key k n [] = (tt, tt)
 after_from cmp o key k n (x ∷ w) =
     let ih = after_from cmp o key (key x) (n + 1) w in
     let (more, _) = ih in
-    let weaker : is_gt (cmp k (key x)) ≡ false → EachKey (AtMost cmp k) key (sorted_after cmp key (Some (key x)) w) =
+    let weaker : is_gt _ ≡ false → EachKey (AtMost cmp k) key _ =
     λ h. EachKey-weaker _ _ (λ y a. at_most_trans cmp o k (key x) y h a) _ _ more in
     grind (arith, ih, weaker, at_most_trans, self_at_most cmp o k)
 
@@ -159,7 +159,7 @@ pub processed_before_line : {cmp : Cmp} (o : IsKeyOrder cmp) {key : Key} {p : Li
     → IsSortedUpTo cmp key (p ++ x ∷ []) (Some (key x)) → IsProcessedPrefix cmp key (p ++ x ∷ []) p (AtLeast (key x))
 processed_before_line {cmp} o {key} {p} {x} g = record {
   future = λ w _.
-      let (more, later) = after_from cmp o key (key x) (length (p ++ x ∷ [])) w in
+      let (more, later) = after_from cmp o key (key x) _ w in
       record {
         rest = x ∷ sorted_after cmp key (Some (key x)) w;
         is = cc (g.ordered w, append_assoc p (x ∷ []) (sorted_after cmp key (Some (key x)) w));
@@ -222,7 +222,7 @@ module _ (cmp : Cmp) (o : IsKeyOrder cmp) where
   downward_first w p down [] a = refl
   downward_first w p down (k ∷ ks) (above, more) =
       let ih = downward_first w p down ks more in
-      let none : p k ≡ false → filter (λ y. w y && p y) ks ≡ [] = λ h. filter_none _ ks
+      let none : p k ≡ false → filter _ ks ≡ [] = λ h. filter_none _ ks
       (Each-weaker _ _ (not_above h) _ above) in
       grind (arith, ih, none)
     where
@@ -351,7 +351,7 @@ lag_invariant_starts {tool} {b} {p} {mid = mid} m clean more = record {
   wrote = m.wrote;
   bytes = [];
   more = more;
-  all = append-nil (output_of tool p);
+  all = append-nil _;
   split = λ side. sym (append-nil (p side));
   under = m.under;
   under_bound = m.under;
@@ -492,7 +492,7 @@ module _ (cmp : Cmp) (o : IsKeyOrder cmp) where
   past_none key other_key b p r u c = by (last_or None (map key p)) refl
     where
       by : (l : Option (List ℕ)) → last_or None (map key p) ≡ l → EachKey (λ k. is_below cmp k l ≡ false) other_key r
-      by None e = Each-all _ (λ k. refl) (map other_key r)
+      by None e = Each-all _ (λ k. refl) _
       by (Some x) e = EachKey-weaker _ _ (λ k h. not_below k x h) _ _
           (coming_under other_key b x r (last_has key (IsUnder cmp b) None p x e (λ y bad. cc) u) c)
 
@@ -517,7 +517,7 @@ module _ (tool : MergeTool) (o : IsKeyOrder tool.cmp) (eof : Side → Bool) (ls 
 
   pub downward_decided : IsDownwardClosed cmp (is_decided tool eof ls)
   downward_decided a b g h =
-      all_three _ _ _ _ _ _ (downward_up_to cmp o (disorder tool ls) a b g)
+      all_three _ _ _ _ _ _ (downward_up_to cmp o _ a b g)
       (downward_past cmp o (tool.key First) (eof First) (ls First) a b g)
       (downward_past cmp o (tool.key Second) (eof Second) (ls Second) a b g) h
 

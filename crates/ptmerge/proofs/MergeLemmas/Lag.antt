@@ -66,7 +66,7 @@ module _ (cmp : Cmp) (o : IsKeyOrder cmp) (key : Key) where
   none_below : (xs ys : Lines) → IsSortedFrom cmp key None (xs ++ ys)
       → EachKey (λ k. is_below cmp k (last_or None (map key xs)) ≡ false) key ys
   none_below xs ys r =
-      let (_, rest) = sorted_from_parts cmp key None xs ys r in by (last_or None (map key xs)) rest
+      let (_, rest) = sorted_from_parts cmp key None xs ys r in by _ rest
     where
       by : (l : Option (List ℕ)) → IsSortedFrom cmp key l ys → EachKey (λ k. is_below cmp k l ≡ false) key ys
       by None h = Each-all _ (λ k. refl) (map key ys)
@@ -230,7 +230,7 @@ module _ (tool : MergeTool) (o : IsKeyOrder tool.cmp) (eof : Side → Bool) (ls 
       (tool.key of) (ls of) → lines_decide_disorder tool eof ls (disorder tool ls) ≡ false
   not_settled up =
       -- a bound of all keys is not below the last one
-      let above = λ (e : List ℕ) (most : EachKey (λ k. AtMost cmp k e) (tool.key of) (ls of)).
+      let above = λ (e : List ℕ) (most : EachKey _ (tool.key of) (ls of)).
       (let (below, _) = past_none cmp o (tool.key of) (λ k. k) (AtLeast e) (ls of) (e ∷ []) most
       (self_at_most cmp o e, tt) in undecided e below) in
       of_other cmp of (λ side. first_disorder cmp (tool.key side) (ls side)) (lines_decide_disorder tool eof ls)
@@ -268,7 +268,7 @@ module _ (tool : MergeTool) (o : IsKeyOrder tool.cmp) (given : Side → Received
       by : (d : Option MergeDisorder)
           → lines_decide_disorder tool (λ side. (unread side).eof) unread_lines d ≡ false
       by None = refl
-      by (Some d) = none_decided d.first_disorder.last_key
+      by (Some d) = none_decided _
 
 -- ---- the output decided two blocks earlier
 
@@ -314,8 +314,8 @@ module _ (tool : MergeTool) (o : IsKeyOrder tool.cmp) (given : Side → Received
     -- no line that follows is below that key
     above : (side : Side) → EachKey (λ k. is_below cmp k last ≡ false) (tool.key side) (tail side ++ (future side).rest)
     above side =
-        past_none cmp o (tool.key of) (tool.key side) (bound side) whole (tail side ++ (future side).rest)
-        (front_has (IsUnder cmp (bound side)) (tool.key of) whole point.rest
+        past_none cmp o (tool.key of) _ (bound side) whole _
+        (front_has _ (tool.key of) whole point.rest
         (rw point.split at (under side of))) (future side).may_follow
 
     -- the lines of an input are the processed ones, except for lines that are not below that key
@@ -329,7 +329,7 @@ module _ (tool : MergeTool) (o : IsKeyOrder tool.cmp) (given : Side → Received
       tail = tail of;
       same = sym point.split ∙ split of;
       none_rest = none_below cmp o (tool.key of) whole point.rest in_order;
-      none_tail = front_has (λ k. is_below cmp k last ≡ false) (tool.key of) (tail of) (future of).rest (above of);
+      none_tail = front_has _ (tool.key of) (tail of) (future of).rest (above of);
     })
 
     others : (side : Side) → Differs side (given side)

@@ -14,7 +14,7 @@ ended_more : (end : ℕ) (ls : List (List ℕ)) (bytes : List ℕ) → AreLines 
     → complete_lines end (unlines end ls ++ bytes) ≡ ls ++ complete_lines end bytes
 ended_more end [] bytes w = refl
 ended_more end (line ∷ ls) bytes (free, more) = cc (
-  append_assoc (line ++ end ∷ []) (unlines end ls) bytes,
+  append_assoc _ _ bytes,
   append_assoc line (end ∷ []) (unlines end ls ++ bytes),
   complete_lines_cons end line (unlines end ls ++ bytes) free,
   ended_more end ls bytes more,
@@ -73,7 +73,7 @@ lines_read_more {end} {old} {now} {new} {ls} c e = record {
   given = c.given ++ (e.line ++ e.terminator);
   so_far = ⊎_elim opened (λ (_, done). absurd
       (omega (arith, some_came, ap length (done_gives_nothing done e.advance_ok.reads).bytes_are))) c.so_far;
-  advance_ok = advance_ok_trans old now new c.given (e.line ++ e.terminator) c.advance_ok e.advance_ok;
+  advance_ok = advance_ok_trans old now new c.given _ c.advance_ok e.advance_ok;
   terminator = e.advance_ok.reads.terminator ∙ c.terminator;
 }
   where
@@ -167,11 +167,11 @@ module _ {end : ℕ} {old now new : Reader} {ls : List (List ℕ)} {piece : List
       by_end : (t : Bool) → new.eof ≡ t → KnownLines (known_lines end came)
       by_end true e =
           let all : known_lines end came
-          ≡ lines end ((c.given ++ piece) ++ new.buffered) = rw e in
-          let w = (lines_read_of_input ((c.given ++ piece) ++ new.buffered)
+          ≡ lines end _ = rw e in
+          let w = (lines_read_of_input _
           (record {
             rest = [];
-            is = sym (append-nil ((c.given ++ piece) ++ new.buffered));
+            is = sym (append-nil _);
             whole = λ _. refl;
           })).continues in
           record {
@@ -185,7 +185,7 @@ module _ {end : ℕ} {old now new : Reader} {ls : List (List ℕ)} {piece : List
           ∙ ended_more end ls (piece ++ (new.buffered ++ [])) all) in
           record {
             known = record {
-              more = complete_lines end (piece ++ (new.buffered ++ []));
+              more = complete_lines end _;
               is = is;
               done = λ d. cc (done_gives_nothing d reads).eof;
             };

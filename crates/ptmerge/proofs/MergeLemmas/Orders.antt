@@ -228,8 +228,8 @@ module _ (tool : MergeTool) (o : IsKeyOrder tool.cmp) where
           ++ entries_by_key tool w (others_of k ls)
       by (inl d) = rw (d, ← rest) (grind arith)
       by (inr (without_k, absent)) =
-          let (absent1, absent2) = Each-parts (λ y. bytes_eq y k ≡ false) (map (tool.key First) (ls First))
-          (map (tool.key Second) (ls Second)) absent in
+          let (absent1, absent2) = Each-parts _ _
+          (map _ (ls Second)) absent in
           rw (without_k, ← rest) (grind (
             arith,
             none,

@@ -132,7 +132,7 @@ store_with_line {store = store} s cursor {m} k x slots kept up fits is =
         up Second,
         (has_lines_total (set store.lines cursor.previous_slot x) k 0 inside).most,
       );
-      slots = length-set store.lines cursor.previous_slot x ∙ kept.slots;
+      slots = length-set store.lines _ x ∙ kept.slots;
       denied = kept.denied;
     })
 
