@@ -9,7 +9,8 @@ use proofs.Common.{AdvanceOkPost, AdvancePre, MergeState, MergePost, merge_state
 use proofs.Common.{HaveEqualKeys, HasOnlyLeastKey, IsDisorderDecided, IsReaderOf, AreValidCursors, StartOkPost}
 use proofs.Common.{merge_inputs, ClearFourSlotsPost, suc, ◌-◌, min, append_assoc, append-nil, tied_itself, entries}
 use proofs.Common.{Bool}
-use proofs.MergeLemmas.Step.{Stands, stands_on, advance_pre, reads_less, EndsIfFails, CursorsInvariant, LoopInvariant, advance_ok, goes_merging, passing_now}
+use proofs.MergeLemmas.Step.{Stands, stands_on, advance_pre, reads_less, EndsIfFails, CursorsInvariant, LoopInvariant}
+use proofs.MergeLemmas.Step.{advance_ok, goes_merging, passing_now}
 use proofs.MergeLemmas.Step.{runs_on, slots_of, read_facts_current, iteration_fails, IsLineByLine, current_key_is_above}
 use proofs.MergeLemmas.Step.{alone, write_one_line, reads_ahead, place_is}
 use proofs.MergeLemmas.Step.{wrote_and_sent, StoreHoldsTwoLines, holds_two, keeps_two, ends_well, ends_fallen, start_ok}
@@ -235,7 +236,8 @@ module _ {job : Comm} {cmp : Cmp} {key : Side → Key} {old now : MergeState} {o
         wrote_line_out : MergeInvariant tool b both_written old.out new
         wrote_line_out = let (m, _) = wrote_both (wrote_and_sent _ _ _ _ h.continues.clean wrote_pair written_out) in m
 
-        pub second_fails : EndsIfFails tool old (state_by_side (both reader (now.reader Second)) new after) Second two2 new
+        pub second_fails : EndsIfFails tool old (state_by_side (both reader (now.reader Second)) new after) Second two2
+            new
         second_fails _ _ _ k =
             let g = advance_ok w stood_at First step.first h.came w.fits keeps in
             let m = goes_merging w stood_at First step.first h.came wrote_line_out in

@@ -13,7 +13,8 @@ use proofs.Common.{MergeRunPre, JoinStepPre, AdvancePre, push_nothing, other, if
 use proofs.Common.{max_group_lines, inl, inr, ReadGroupLineOkPost, ReadGroupLinePost, IsGroup, ClearGroupPost}
 use proofs.Common.{group_end_slot, group_first_slot, group, JoinLinePre, ⊎_elim, ◌-◌, ◌==◌, push_trans, nat_tests}
 use proofs.Common.{length_push, unlines-append, append_assoc, merged_entries, nil_from_length, CopyToGroupPost}
-use proofs.MergeLemmas.Step.{Stands, stands_on, advance_pre, reads_less, open_merge, slots_of, wrote_as, IsLineByLine, alone, current_key_is_above, write_one_line}
+use proofs.MergeLemmas.Step.{Stands, stands_on, advance_pre, reads_less, open_merge, slots_of, wrote_as, IsLineByLine}
+use proofs.MergeLemmas.Step.{alone, current_key_is_above, write_one_line}
 use proofs.MergeLemmas.Step.{IsAbove, reads_ahead, place_is, LoopInvariant}
 use proofs.MergeLemmas.Step.{CursorsInvariant, EndsIfFails, iteration_fails, read_facts_current, runs_on, n}
 use proofs.MergeLemmas.Step.{ends_well, ends_fallen, start_ok, next_keeps_slot_count, valid_cursors_kept}
@@ -418,7 +419,8 @@ module _ {job : Join} {cmp : Cmp} {key : Side → Key} {old : MergeState} {phase
           stays : line after two2.current_slot ≡ line made two2.current_slot
           stays = same two2.current_slot (low_slot Second two2 (next_slots at_second comes Second)).current
 
-          pairs_by : {to : ℕ} {kept : Lines} → GroupState call (later after) cursors to a.k (both [] (a.g ++ y ∷ [])) kept → two2.same ≡ false
+          pairs_by : {to : ℕ} {kept : Lines} → GroupState call (later after) cursors to a.k (both [] (a.g ++ y ∷ []))
+              kept → two2.same ≡ false
               → IsGroupIn call a.k (line after two2.previous_slot) kept (a.g ++ y ∷ [])
               → WritePairs call (later after) cursors to
           pairs_by {kept = kept} q other lines_in = record {
@@ -432,7 +434,8 @@ module _ {job : Join} {cmp : Cmp} {key : Side → Key} {old : MergeState} {phase
             head = record { head = (a.heads First).head; is = key1_on };
           }
 
-          reads_by : {to : ℕ} {kept : Lines} → GroupState call (later after) cursors to a.k (both [] (a.g ++ y ∷ [])) kept → two2.same ≡ true
+          reads_by : {to : ℕ} {kept : Lines} → GroupState call (later after) cursors to a.k (both [] (a.g ++ y ∷ []))
+              kept → two2.same ≡ true
               → kept ≡ cond call.keeps_groups (a.g ++ y ∷ []) []
               → ReadGroup call (later after) cursors to
           reads_by {kept = kept} q more copied = record {
@@ -527,7 +530,8 @@ module _ {job : Join} {cmp : Cmp} {key : Side → Key} {old : MergeState} {phase
           → ReadGroupLinePost call.keeps_groups (key Second) cmp two two2 (now.reader Second) reader now.store after out
           end (Err fault) → MergePost (join_with job cmp key) old (state_after_read now Second reader out after)
           (Err fault)
-      read_group_fails (inl e) = group_breaks at_second (starts_none call (within_more at_second)) wrote_none _ _ _ (inl e)
+      read_group_fails (inl e) = group_breaks at_second (starts_none call (within_more at_second)) wrote_none _ _ _
+          (inl e)
       read_group_fails (inr (fine, inr e)) =
           group_breaks at_second (starts_none call (within_more at_second)) wrote_none _ _ _ (inr (fine, e))
       read_group_fails {reader = reader} {after} (inr (fine, inl e)) =

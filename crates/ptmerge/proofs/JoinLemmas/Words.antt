@@ -141,7 +141,8 @@ with_end bytes any tabs short any_is tabs_is =
     let size = length-map bytes is_blank in
     let low : any < 2 ^ length bytes =
     omega (arith, any_is, mask_l-lt (map is_blank bytes), ap (λ (n : ℕ). 2 ^ n) size) in (
-      ap (bit_or any) (power_fits bytes short) ∙ or_shifted_r 1 (length bytes) any low ∙ omega (arith, end_blank bytes, any_is),
+      ap (bit_or any) (power_fits bytes short) ∙ or_shifted_r 1 (length bytes) any low ∙ omega
+          (arith, end_blank bytes, any_is),
       tabs_is
           ∙ sym (end_tab bytes),
     )

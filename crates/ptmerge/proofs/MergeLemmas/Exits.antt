@@ -565,7 +565,8 @@ module _ {tool : MergeTool} {old : MergeState} (w : IsOpenMerge tool old) (new :
 -- the terminator of both readers was set
 pub merge_set : {tool : MergeTool} {old new : MergeState} {set : Side → Reader} → old.out.write_failed ≡ false
     → ((side : Side) → set side ≡ record (old.reader side) { terminator = tool.terminator })
-    → {result : Result (Unit {0}) MergeFault} → MergePost tool (record { reader = set; out = old.out; store = old.store }) new result
+    → {result : Result (Unit {0}) MergeFault} → MergePost tool
+    (record { reader = set; out = old.out; store = old.store }) new result
     → MergePost tool old new result
 unfolding call_set
 merge_set {tool} {old} {new} {set} clean is m = record {

@@ -2,7 +2,8 @@
 -- next line has no lesser key, so the invariant holds again. A step ends the loop when both inputs are at their ends or
 -- a disorder is reported, and a fault of a write or read ends it with a prefix of the output.
 use Rattle.ptmerge.proofs
-use proofs.Common.{AdvancePre, IsReadyToContinue, ◌≡◌, ◌≢◌, ⊎_elim, inl, inr, ℕ, ◌+◌, ◌≤◌, true, false, List, [], ◌∷◌, ◌++◌, Option, Some, None, Err}
+use proofs.Common.{AdvancePre, IsReadyToContinue, ◌≡◌, ◌≢◌, ⊎_elim, inl, inr, ℕ, ◌+◌, ◌≤◌, true, false, List, [], ◌∷◌}
+use proofs.Common.{◌++◌, Option, Some, None, Err}
 use proofs.Common.{length, refl, sym, ◌∙◌, arith, is_lt, is_le, append-nil, Output, PushEffect, Reader, ReaderAdvance}
 use proofs.Common.{IsDone, IsSound, Slots, line, with_line, unlines, IsLine, push_nothing, MergeFault, Read, Memory}
 use proofs.Common.{Side, First, Second, Sorted, CursorStatus, Head, Ended, Disorder, Lines, MergeTool, FirstDisorder}

@@ -51,7 +51,11 @@ pub steps-preserved-in-Continue-branch-2 : goal.steps-preserved-in-Continue-bran
 steps-preserved-in-Continue-branch-2 g c =
     let i = c.steps.invariant in
     let p = c.write_head.ensures in
-    rw p.order (record { iteration = alone_continues i.iteration c.in-First.ensures refl p.wrote c.in_ok-write_head-in-First.ensures.advances; order = i.order })
+    rw p.order (record {
+      iteration = alone_continues i.iteration c.in-First.ensures refl p.wrote
+          c.in_ok-write_head-in-First.ensures.advances;
+      order = i.order;
+    })
 
 pub steps-preserved-in-Continue-branch-3 : goal.steps-preserved-in-Continue-branch-3
 steps-preserved-in-Continue-branch-3 g c =

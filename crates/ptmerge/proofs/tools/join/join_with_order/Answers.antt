@@ -187,7 +187,11 @@ steps-preserved-then-not-has_same_key-2 g c =
     let continues =
     group_closed i.iteration c.in-WritePairs.is p.wrote
     c.in_ok-write_pairs-in-WritePairs.ensures.advances in
-    rw p.order (record { iteration = continues c.clear_group.ensures (sym c.has_same_key-in-WritePairs.ensures ∙ c.if-not-has_same_key-2.true); order = i.order })
+    rw p.order (record {
+      iteration = continues c.clear_group.ensures
+          (sym c.has_same_key-in-WritePairs.ensures ∙ c.if-not-has_same_key-2.true);
+      order = i.order;
+    })
 
 pub steps-preserved : goal.steps-preserved
 steps-preserved g c =
@@ -195,4 +199,8 @@ steps-preserved g c =
     let p = c.write_pairs.ensures in
     let continues = write_pairs_continues i.iteration c.in-WritePairs.is p.wrote
     c.in_ok-write_pairs-in-WritePairs.ensures.advances in
-    rw p.order (record { iteration = continues (sym c.has_same_key-in-WritePairs.ensures ∙ c.if-not-has_same_key-2.false); order = i.order })
+    rw p.order (record {
+      iteration = continues (sym c.has_same_key-in-WritePairs.ensures ∙
+          c.if-not-has_same_key-2.false);
+      order = i.order;
+    })
