@@ -3,23 +3,20 @@
 -- are the entries; a disorder can only be in the second parts. Inputs that are distributed over parts by a function
 -- of the key: a filter by keys commutes with computing the distinct keys, so each part has the entries of its keys,
 -- and the entries of all parts are a permutation of all entries.
-use Rattle.ptmerge.proofs.Common.{arith, append-nil, ◌≡◌, ℕ, ◌+◌, List, [], ◌∷◌, ◌++◌, Bool, true, false, cond, Option}
-use Rattle.ptmerge.proofs.Common.{Some, None, refl, ap, sym, ◌∙◌, filter, Less, Side, First, Second, Lines, MergeTool}
-use Rattle.ptmerge.proofs.Common.{FirstDisorder, entries_by_key, disorder, earlier_disorder, first_disorder, keys}
-use Rattle.ptmerge.proofs.Common.{merged_entries, sorted_prefixes, sorted_prefix, is_up_to, lines_of, Cmp, Key, unlines}
-use Rattle.ptmerge.proofs.Common.{the_lines_of_parts, unlines-append, comm_tool, join_tool, IsConcatOfParts}
-use Rattle.ptmerge.proofs.Common.{CommOfParts, JoinOfParts, ◌&&◌, not, map, tied_itself, bytes_eq, flat_map, is_gt}
-use Rattle.ptmerge.proofs.Common.{is_lt, Equal, bytes_decides, insert_key, distinct_keys, lines_with_key}
-use Rattle.ptmerge.proofs.Common.{entries_of_key, filter-append, IsLine, zero, suc, ◌<◌, ◌==◌, nat_lt, append_assoc}
-use Rattle.ptmerge.proofs.Common.{inr, nat_tests, range_with_len, lines, CommByKey, IsSplittableByKey, JoinByKey}
-use Rattle.ptmerge.proofs.Common.{text_of_part, output_lines}
-use Rattle.ptmerge.proofs.MergeLemmas.Invariant.{IsDisorderFrom, after_from, disorder_after, disorder_at}
-use Rattle.ptmerge.proofs.MergeLemmas.Invariant.{first_disorder_is, is_disordered, sorted_after, sorted_prefix_is}
-use Rattle.ptmerge.proofs.MergeLemmas.Invariant.{Ascends, IsDownwardClosed, all_keys, all_wanted, ascends_distinct}
-use Rattle.ptmerge.proofs.MergeLemmas.Invariant.{downward_splits, up_to_from}
-use Rattle.ptmerge.proofs.MergeLemmas.Orders.{Each, Each-weaker, EachKey, Each-all, EachKey-weaker, insert_least}
-use Rattle.ptmerge.proofs.MergeLemmas.Orders.{Each-parts, IsKeyOrder, AtMost, above_trans, at_most_trans, greater_flips}
-use Rattle.ptmerge.proofs.MergeLemmas.Orders.{line_order}
+use Rattle.ptmerge.proofs
+use proofs.Common.{arith, append-nil, ◌≡◌, ℕ, ◌+◌, List, [], ◌∷◌, ◌++◌, Bool, true, false, cond, Option, Some, None}
+use proofs.Common.{refl, ap, sym, ◌∙◌, filter, Less, Side, First, Second, Lines, MergeTool, FirstDisorder}
+use proofs.Common.{entries_by_key, disorder, earlier_disorder, first_disorder, keys, merged_entries, sorted_prefixes}
+use proofs.Common.{sorted_prefix, is_up_to, lines_of, Cmp, Key, unlines, the_lines_of_parts, unlines-append, comm_tool}
+use proofs.Common.{join_tool, IsConcatOfParts, CommOfParts, JoinOfParts, ◌&&◌, not, map, tied_itself, bytes_eq}
+use proofs.Common.{flat_map, is_gt, is_lt, Equal, bytes_decides, insert_key, distinct_keys, lines_with_key}
+use proofs.Common.{entries_of_key, filter-append, IsLine, zero, suc, ◌<◌, ◌==◌, nat_lt, append_assoc, inr, nat_tests}
+use proofs.Common.{range_with_len, lines, CommByKey, IsSplittableByKey, JoinByKey, text_of_part, output_lines}
+use proofs.MergeLemmas.Invariant.{IsDisorderFrom, after_from, disorder_after, disorder_at, first_disorder_is}
+use proofs.MergeLemmas.Invariant.{is_disordered, sorted_after, sorted_prefix_is, Ascends, IsDownwardClosed, all_keys}
+use proofs.MergeLemmas.Invariant.{all_wanted, ascends_distinct, downward_splits, up_to_from}
+use proofs.MergeLemmas.Orders.{Each, Each-weaker, EachKey, Each-all, EachKey-weaker, insert_least, Each-parts}
+use proofs.MergeLemmas.Orders.{IsKeyOrder, AtMost, above_trans, at_most_trans, greater_flips, line_order}
 use Rattle.std.proofs.lemmas.List.Elements.{All-filter, All-from_recursion, recursion_from_All}
 use Rattle.std.proofs.lemmas.List.Sorted.{IsPermutation-refl, IsPermutation-trans, IsPermutation-append_left}
 use Rattle.std.proofs.lemmas.List.Sorted.{IsPermutation-append_right, IsPermutation-append_comm}
@@ -172,7 +169,7 @@ module _ (cmp : Cmp) (o : IsKeyOrder cmp) (key : Key) where
       × (without_line_number (first_disorder cmp key (xs ++ ys)) ≡ without_line_number (first_disorder cmp key ys))
   together xs ys e b =
       let all = appended None 0 xs ys (sym (first_disorder_is cmp key xs) ∙ e)
-      (Each-all (λ k. is_disordered cmp None k ≡ false) (λ k. refl) (map key ys)) b in
+      (Each-all _ (λ k. refl) (map key ys)) b in
       rw (
         first_disorder_is cmp key (xs ++ ys),
         first_disorder_is cmp key ys,
@@ -182,7 +179,7 @@ module _ (cmp : Cmp) (o : IsKeyOrder cmp) (key : Key) where
 
   -- a list without a disorder is its own sorted prefix
   ordered_whole : (xs : Lines) → first_disorder cmp key xs ≡ None → sorted_prefix cmp key xs ≡ xs
-  ordered_whole xs e = simp append-nil at (together xs [] e (Each-all (λ k. Unit {0}) (λ k. tt) (map key xs))).0
+  ordered_whole xs e = simp append-nil at (together xs [] e (Each-all _ (λ k. tt) (map key xs))).0
 
   -- a property of each line holds for each line of the sorted prefix
   each_ordered : (P : List ℕ → Type 0) (ys : Lines) → EachKey P key ys → EachKey P key (sorted_prefix cmp key ys)
@@ -241,15 +238,15 @@ module _ (tool : MergeTool) (o : IsKeyOrder tool.cmp) where
       (low : (side : Side) → EachKey (λ k. p k ≡ true) (key side) (a side))
       (high : (side : Side) → EachKey (λ k. p k ≡ false) (key side) (b side)) where
     at_most_high : (side : Side) (k : List ℕ) → p k ≡ true → EachKey (AtMost cmp k) (key side) (b side)
-    at_most_high side k h = EachKey-weaker (λ l. p l ≡ false) (AtMost cmp k) (λ l g. grind (arith, down l k)) (key side)
-        (b side) (high side)
+    at_most_high side k h = EachKey-weaker _ _ (λ l g. grind (arith, down l k)) _
+        _ (high side)
 
     both_go_on : (side : Side)
         → (sorted_prefix cmp (key side) (a side ++ b side) ≡ a side ++ sorted_prefix cmp (key side) (b side))
         × (without_line_number (first_disorder cmp (key side) (a side ++ b side))
         ≡ without_line_number (first_disorder cmp (key side) (b side)))
     both_go_on side = together cmp o (key side) (a side) (b side) (none_disordered a in_order side)
-        (EachKey-weaker _ _ (at_most_high side) (key side) (a side) (low side))
+        (EachKey-weaker _ _ (at_most_high side) _ _ (low side))
 
     -- the same keys are wanted
     same_wanted : (k : List ℕ)
@@ -266,7 +263,7 @@ module _ (tool : MergeTool) (o : IsKeyOrder tool.cmp) where
     entries_together : merged_entries tool (λ side. a side ++ b side) ≡ merged_entries tool a ++ merged_entries tool b
     entries_together =
         let w = is_up_to cmp (disorder tool b) in
-        let first_wanted = λ (side : Side). EachKey-weaker _ (λ k. w k ≡ true) low_wanted (key side) (a side)
+        let first_wanted = λ (side : Side). EachKey-weaker _ _ low_wanted _ _
         (low side) in
         let all : Side → Lines = λ side. a side ++ sorted_prefixes tool b side in
         let parts = λ (side : Side). kept_parts p (key side) (a side) (sorted_prefixes tool b side) (low side)
@@ -285,7 +282,7 @@ of_parts tool o first second cut =
     let b : Side → Lines = lines_of tool second in
     let p : List ℕ → Bool = is_under tool.cmp (keys tool b) in
     let low = λ (side : Side). key_split tool side (λ k. p k ≡ true) a
-    (Each-weaker _ (λ k. p k ≡ true) (below_under tool.cmp o (keys tool b)) (keys tool a) cut.below) in
+    (Each-weaker _ _ (below_under tool.cmp o (keys tool b)) _ cut.below) in
     let high = λ (side : Side). key_split tool side (λ k. p k ≡ false) b (none_under tool.cmp o (keys tool b)) in
     ap (unlines tool.terminator)
     ((λ i. merged_entries tool (λ side. the_lines_of_parts tool.terminator (first side) (second side)

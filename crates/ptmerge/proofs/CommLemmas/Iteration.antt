@@ -1,24 +1,24 @@
 -- Proofs for `comm`. A line adds one output line if one input has it alone, and one common output line if both have it.
 -- So each step of the merge extends the output by the entries of its key, and the loop invariant of the merge carries
 -- over.
-use Rattle.ptmerge.proofs.Common.{◌≡◌, ℕ, ◌<◌, false, List, [], ◌∷◌, ◌++◌, Ok, Err, length, refl, sym, ◌∙◌, ap, arith}
-use Rattle.ptmerge.proofs.Common.{Comm, Output, PushEffect, Reader, Slots, line, unlines, MergeFault, Side, First}
-use Rattle.ptmerge.proofs.Common.{Second, Sorted, Head, Ended, comm_with, column_entries, tab_if_shown, Lines}
-use Rattle.ptmerge.proofs.Common.{MergeTool, entries_by_key, lines_with_key, AdvanceOkPost, AdvancePre, MergeState}
-use Rattle.ptmerge.proofs.Common.{MergePost, merge_state, Cmp, Key, both, with_side, other, HaveEqualKeys}
-use Rattle.ptmerge.proofs.Common.{HasOnlyLeastKey, IsDisorderDecided, IsReaderOf, AreValidCursors, StartOkPost}
-use Rattle.ptmerge.proofs.Common.{merge_inputs, ClearFourSlotsPost, suc, ◌-◌, min, append_assoc, append-nil}
-use Rattle.ptmerge.proofs.Common.{tied_itself, entries, Bool}
-use Rattle.ptmerge.proofs.MergeLemmas.Step.{AdvanceErrPost, CursorsInvariant, LoopInvariant, advance_ok, goes_merging}
-use Rattle.ptmerge.proofs.MergeLemmas.Step.{passing_now, runs_on, slots_of, read_facts_current, iteration_fails}
-use Rattle.ptmerge.proofs.MergeLemmas.Step.{IsLineByLine, current_key_is_above, alone, write_one_line, reads_ahead}
-use Rattle.ptmerge.proofs.MergeLemmas.Step.{measure_less, own_reader_kept, place_is, wrote_and_sent, StoreHoldsTwoLines}
-use Rattle.ptmerge.proofs.MergeLemmas.Step.{holds_two, keeps_two, ends_well, ends_fallen, start_ok}
-use Rattle.ptmerge.proofs.MergeLemmas.Orders.{IsKeyOrder, same_bytes}
-use Rattle.ptmerge.proofs.MergeLemmas.Slots.{put_other, put_same}
-use Rattle.ptmerge.proofs.MergeLemmas.Invariant.{AllWritten, MergeInvariant, line_is_least_run, lag_invariant_starts}
-use Rattle.ptmerge.proofs.MergeLemmas.Invariant.{write_least_run, all_keys}
-use Rattle.ptmerge.proofs.MergeLemmas.Exits.{at_current_line, state_by_side, IsOpenMerge}
+use Rattle.ptmerge.proofs
+use proofs.Common.{◌≡◌, ℕ, ◌<◌, List, [], ◌∷◌, ◌++◌, Ok, Err, length, refl, sym, ◌∙◌, ap, arith, Comm, Output}
+use proofs.Common.{PushEffect, Reader, Slots, line, unlines, MergeFault, Side, First, Second, Sorted, Ended}
+use proofs.Common.{comm_with, column_entries, tab_if_shown, Lines, MergeTool, entries_by_key, lines_with_key}
+use proofs.Common.{AdvanceOkPost, AdvancePre, MergeState, MergePost, merge_state, Cmp, Key, both, with_side, other}
+use proofs.Common.{HaveEqualKeys, HasOnlyLeastKey, IsDisorderDecided, IsReaderOf, AreValidCursors, StartOkPost}
+use proofs.Common.{merge_inputs, ClearFourSlotsPost, suc, ◌-◌, min, append_assoc, append-nil, tied_itself, entries}
+use proofs.Common.{Bool}
+use proofs.MergeLemmas.Step.{Stands, stands_on, advance_pre, reads_less, EndsIfFails, CursorsInvariant, LoopInvariant}
+use proofs.MergeLemmas.Step.{advance_ok, goes_merging, passing_now}
+use proofs.MergeLemmas.Step.{runs_on, slots_of, read_facts_current, iteration_fails, IsLineByLine, current_key_is_above}
+use proofs.MergeLemmas.Step.{alone, write_one_line, reads_ahead, place_is}
+use proofs.MergeLemmas.Step.{wrote_and_sent, StoreHoldsTwoLines, holds_two, keeps_two, ends_well, ends_fallen, start_ok}
+use proofs.MergeLemmas.Orders.{IsKeyOrder, same_bytes}
+use proofs.MergeLemmas.Slots.{put_other, put_same}
+use proofs.MergeLemmas.Invariant.{AllWritten, MergeInvariant, line_is_least_run, lag_invariant_starts, write_least_run}
+use proofs.MergeLemmas.Invariant.{all_keys}
+use proofs.MergeLemmas.Exits.{at_current_line, state_by_side, IsOpenMerge}
 use Rattle.ptmerge.specs.declared.faults.MergeFault.TheVariants as faults
 
 -- ---- each line adds one entry
@@ -101,16 +101,7 @@ pub record IterationInvariant (job : Comm) (cmp : Cmp) (key : Side → Key) (old
   pub opened : IsOpenMerge (comm_with job cmp key) old
   pub whole_line_keys : (side : Side) (x : List ℕ) → key side x ≡ x
   pub loop_invariant : LoopInvariant (comm_with job cmp key) (StoreHoldsTwoLines old.store) old now (both one two)
-  pub valid_cursors : AreValidCursors key one two now.store
-  pub own_reader : (side : Side) → IsReaderOf (both one two side) (now.reader side)
-  pub clean : now.out.write_failed ≡ false
-
--- the invariant depends only on the order, and a call leaves the order of a merge unchanged
-pub iteration_as : {K : Type 0} (order : K → Cmp) (key_of : K → Side → Key)
-    {a b c : K} {job : Comm} {old now : MergeState} {one two : Sorted}
-    → b ≡ a → a ≡ c → IterationInvariant job (order a) (key_of a) old now one two
-    → record { iteration : IterationInvariant job (order b) (key_of b) old now one two; order : b ≡ c }
-iteration_as order key_of is same t = record { iteration = rw is t; order = is ∙ same }
+  pub stands : Stands key now one two
 
 -- ---- the start
 
@@ -126,9 +117,11 @@ module _ (job : Comm) {cmp : Cmp} {key : Side → Key} {old : MergeState}
     opened = w;
     whole_line_keys = whole_line_keys;
     loop_invariant = start_ok w (merge_inputs first second store) (both one two) valid_cursors.first h;
-    valid_cursors = valid_cursors;
-    own_reader = elim [ First ↦ reader1 | Second ↦ reader2 ];
-    clean = w.writable;
+    stands = record {
+      valid_cursors = valid_cursors;
+      own_reader = elim [ First ↦ reader1 | Second ↦ reader2 ];
+      clean = w.writable;
+    };
   }
 
 -- ---- a step
@@ -139,31 +132,25 @@ module _ {job : Comm} {cmp : Cmp} {key : Side → Key} {old now : MergeState} {o
     opened as w,
     whole_line_keys,
     loop_invariant.{ls, p, b, sides, merge_invariant, keeps},
-    valid_cursors,
-    own_reader,
-    clean,
+    stands,
   }
 
   abbrev tool : MergeTool
   tool = comm_with job cmp key
 
   stood_at : CursorsInvariant tool old now.reader (both one two) now.store ls p b
-  stood_at = let slots = slots_of one two now.store valid_cursors in
+  stood_at = let slots = slots_of stands in
       record { sides = sides; holds = holds_two w.fits keeps slots; slots = slots }
 
   abbrev head : Side → List ℕ
   head s = line now.store (both one two s).current_slot
-
-  pub advance_pre : (s : Side) → (both one two s).status ≡ Head → AdvancePre key s one two (now.reader s) now.store
-  advance_pre s head = record { valid_cursors = valid_cursors; head = head; own_reader = own_reader s }
 
   -- a step for a line of one input alone
   module _ {s : Side} (step : HasOnlyLeastKey cmp key (both one two) now.store s) where
     pub alone_decreases : {one2 two2 : Sorted} {reader : Reader} {after : Slots} {new : Output}
         → AdvanceOkPost key cmp s one two one2 two2 (now.reader s) reader now.store after new
         → reads_ahead (with_side s reader now.reader) one2 two2 < reads_ahead now.reader one two
-    alone_decreases {one2} {two2} {reader} {after} h = measure_less (key s) cmp s one two one2 two2 now.reader reader
-        now.store after step.status_is h.continues.others h.came
+    alone_decreases h = reads_less stands s h.continues step.status_is h.came
 
     module _ {new : Output} {tabs : List ℕ} (led : tabs ≡ tabs_of job s) (pushed : PushEffect now.out new
         (unlines (now.reader s).terminator (column_entries (hidden_of job s) tabs 1 (head s)))) where
@@ -172,7 +159,7 @@ module _ {job : Comm} {cmp : Cmp} {key : Side → Key} {old now : MergeState} {o
       wrote_line =
           let h = at_current_line (sides s) step.status_is in
           let (above, under) = current_key_is_above _ w.o _ _ _ _ _ _ _ _ _ step.before (sides (other s)).status_is in
-          rw h.all (write_one_line _ w.o (is_line_by_line job cmp key) s (head s) _ _ _ _ _ clean merge_invariant
+          rw h.all (write_one_line _ w.o (is_line_by_line job cmp key) s (head s) _ _ _ _ _ stands.clean merge_invariant
           h.bound above under
           (rw (entries_alone job cmp key s (head s) (whole_line_keys s (head s)))
           (rw ((sides s).lines_read.terminator, led) at pushed)))
@@ -186,15 +173,10 @@ module _ {job : Comm} {cmp : Cmp} {key : Side → Key} {old now : MergeState} {o
         loop_invariant = rw (← place_is s one two one2 two2 h.continues.others)
             (runs_on w stood_at s step.status_is h.came (keeps_two w stood_at s step.status_is h.came keeps)
             (let (m, _) = wrote_line in m));
-        valid_cursors = h.continues.valid_cursors;
-        own_reader =
-            own_reader_kept s one two one2 two2 now.reader reader h.continues.others h.continues.own_reader own_reader;
-        clean = h.continues.clean;
+        stands = stands_on stands s h.continues;
       }
 
-      pub alone_fails : {reader : Reader} {after : Slots} {fault : MergeFault}
-          → AdvanceErrPost s (both one two s) (now.reader s) reader now.store after new fault
-          → MergePost tool old (state_by_side (with_side s reader now.reader) new after) (Err fault)
+      pub alone_fails : EndsIfFails tool old now s (both one two s) new
       alone_fails = iteration_fails w stood_at s step.status_is wrote_line (put_same s (ls s) p)
           (rw (put_other s (ls s) p) (read_facts_current w stood_at (other s)))
 
@@ -203,11 +185,8 @@ module _ {job : Comm} {cmp : Cmp} {key : Side → Key} {old now : MergeState} {o
       → {one2 two2 : Sorted} {reader : Reader} {after : Slots} {mid : Output}
       → AdvanceOkPost key cmp First one two one2 two2 (now.reader First) reader now.store after mid
       → AdvancePre key Second one2 two2 (now.reader Second) after
-  second_advance_pre step h = record {
-    valid_cursors = h.continues.valid_cursors;
-    head = ap (λ (q : Sorted). q.status) h.continues.others ∙ step.second;
-    own_reader = rw h.continues.others (own_reader Second);
-  }
+  second_advance_pre step h = advance_pre (stands_on stands First h.continues) Second
+      (ap (λ (q : Sorted). q.status) h.continues.others ∙ step.second)
 
   module _ (step : HaveEqualKeys cmp key (both one two) now.store) where
     pub pair_decreases : {one2 two2 one3 two3 : Sorted} {reader reader2 : Reader} {after last : Slots}
@@ -215,12 +194,10 @@ module _ {job : Comm} {cmp : Cmp} {key : Side → Key} {old now : MergeState} {o
         → AdvanceOkPost key cmp First one two one2 two2 (now.reader First) reader now.store after mid
         → AdvanceOkPost key cmp Second one2 two2 one3 two3 (now.reader Second) reader2 after last new
         → reads_ahead (both reader reader2) one3 two3 < reads_ahead now.reader one two
-    pair_decreases {one2} {two2} {one3} {two3} {reader} {reader2} {after} {last} h k = omega (
+    pair_decreases h k = omega (
       arith,
-      measure_less (key First) cmp First one two one2 two2 now.reader reader now.store after step.first
-          h.continues.others h.came,
-      measure_less (key Second) cmp Second one2 two2 one3 two3 (with_side First reader now.reader) reader2 after last
-          (second_advance_pre step h).head k.continues.others k.came,
+      reads_less stands First h.continues step.first h.came,
+      reads_less (stands_on stands First h.continues) Second k.continues (second_advance_pre step h).head k.came,
     )
 
     abbrev both_written : Side → Lines
@@ -238,7 +215,7 @@ module _ {job : Comm} {cmp : Cmp} {key : Side → Key} {old now : MergeState} {o
         (elim [ First ↦ line_is_least_run w.o h1.bound refl | Second ↦ line_is_least_run w.o h2.bound (sym step.same) ])
         (elim [ First ↦ h1.all | Second ↦ h2.all ]) (entries_none job (key First x))
         (λ r c. entries_both job (key First x) (length (lines_with_key (key First) (r First) (key First x)))
-        (length (lines_with_key (key Second) (r Second) (key First x)))) clean merge_invariant wrote
+        (length (lines_with_key (key Second) (r Second) (key First x)))) stands.clean merge_invariant wrote
 
     module _ {mid : Output} {tabs : List ℕ} (led : tabs ≡ tab_if_shown job.hide1 ++ tab_if_shown job.hide2)
         (pushed : PushEffect now.out mid (unlines (now.reader First).terminator
@@ -248,9 +225,7 @@ module _ {job : Comm} {cmp : Cmp} {key : Side → Key} {old now : MergeState} {o
       wrote_pair = rw (entries_of_pair job cmp key w.o (head First) (head Second) (whole_line_keys First (head First))
           (sym step.same)) (rw ((sides First).lines_read.terminator, led) at pushed)
 
-      pub pair_fails : {reader : Reader} {after : Slots} {fault : MergeFault}
-          → AdvanceErrPost First one (now.reader First) reader now.store after mid fault
-          → MergePost tool old (state_by_side (with_side First reader now.reader) mid after) (Err fault)
+      pub pair_fails : EndsIfFails tool old now First one mid
       pair_fails = iteration_fails w stood_at First step.first (wrote_both wrote_pair) refl
           (passing_now w stood_at Second step.second)
 
@@ -261,10 +236,9 @@ module _ {job : Comm} {cmp : Cmp} {key : Side → Key} {old now : MergeState} {o
         wrote_line_out : MergeInvariant tool b both_written old.out new
         wrote_line_out = let (m, _) = wrote_both (wrote_and_sent _ _ _ _ h.continues.clean wrote_pair written_out) in m
 
-        pub second_fails : {reader2 : Reader} {last : Slots} {fault : MergeFault}
-            → AdvanceErrPost Second two2 (now.reader Second) reader2 after last new fault
-            → MergePost tool old (state_by_side (both reader reader2) new last) (Err fault)
-        second_fails k =
+        pub second_fails : EndsIfFails tool old (state_by_side (both reader (now.reader Second)) new after) Second two2
+            new
+        second_fails _ _ _ k =
             let g = advance_ok w stood_at First step.first h.came w.fits keeps in
             let m = goes_merging w stood_at First step.first h.came wrote_line_out in
             let (before, _) = wrote_both wrote_pair in
@@ -272,7 +246,7 @@ module _ {job : Comm} {cmp : Cmp} {key : Side → Key} {old now : MergeState} {o
               m,
               lag_invariant_starts (goes_merging w stood_at First step.first h.came before) h.continues.clean
                   written_out,
-            ) refl (read_facts_current w g First) (rw h.continues.others at k)
+            ) refl (read_facts_current w g First) _ _ _ (rw h.continues.others at k)
 
         pub pair_continues : {one3 two3 : Sorted} {reader2 : Reader} {last : Slots}
             → AdvanceOkPost key cmp Second one2 two2 one3 two3 (now.reader Second) reader2 after last new
@@ -286,10 +260,7 @@ module _ {job : Comm} {cmp : Cmp} {key : Side → Key} {old now : MergeState} {o
               whole_line_keys = whole_line_keys;
               loop_invariant = rw k.continues.others (runs_on w g Second step.second came kept
                   (goes_merging w stood_at First step.first h.came wrote_line_out));
-              valid_cursors = k.continues.valid_cursors;
-              own_reader =
-                  elim [ First ↦ rw k.continues.others h.continues.own_reader | Second ↦ k.continues.own_reader ];
-              clean = k.continues.clean;
+              stands = stands_on (stands_on stands First h.continues) Second k.continues;
             }
 
   -- ---- the end
@@ -297,8 +268,8 @@ module _ {job : Comm} {cmp : Cmp} {key : Side → Key} {old now : MergeState} {o
   module _ {after : Slots} (clear : ClearFourSlotsPost now.store after) where
     pub eof : ((side : Side) → (both one two side).status ≡ Ended)
         → MergePost tool old (state_by_side now.reader now.out after) (Ok tt)
-    eof step = ends_well w stood_at merge_invariant clean clear step
+    eof step = ends_well w stood_at merge_invariant stands.clean clear step
 
     pub disordered : {s : Side} {n : ℕ} → IsDisorderDecided cmp key (both one two) now.store s n
         → MergePost tool old (state_by_side now.reader now.out after) (Err (faults.Disorder s n))
-    disordered step = ends_fallen w stood_at merge_invariant clean clear step
+    disordered step = ends_fallen w stood_at merge_invariant stands.clean clear step

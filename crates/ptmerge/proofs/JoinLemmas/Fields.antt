@@ -3,18 +3,17 @@
 -- lengths. Writing the fields of a canonical line gives the line back, since joining undoes splitting; so the fields
 -- after a field are the bytes after it.
 use Rattle.std.proofs.lemmas.Bool.{false_from_ne_true}
-use Rattle.ptmerge.proofs.Common.{nil_from_length, drop_more, length-drop, length-append, ◌≡◌, ℕ, suc, ◌+◌, ◌-◌, ◌≤◌}
-use Rattle.ptmerge.proofs.Common.{Bool, true, false, List, [], ◌∷◌, Option, None, Some, length, drop, get_or, refl}
-use Rattle.ptmerge.proofs.Common.{sym, ◌∙◌, ap, arith, zero, ◌<◌, ◌==◌, cond, ◌++◌, take, append_assoc, position}
-use Rattle.ptmerge.proofs.Common.{IfSome, MatchOption, filter, is_some, position_or_len, slice_split, nat_tests}
-use Rattle.ptmerge.proofs.Common.{drop-drop, take-append-drop, take_all, position_or_len_is, IsFirstByte, nth_field}
-use Rattle.ptmerge.proofs.Common.{is_nonempty, is_blank, Lines, split_around, split_whole, IsFirstPieceEnd}
-use Rattle.ptmerge.proofs.Common.{IsFieldIn, IsPiece, is_separator, entry_with_list, remaining_fields, IsKeySpan}
-use Rattle.ptmerge.proofs.Common.{IsFieldFound, is_evenly_separated, around, ◌||◌, map, remove, unwrap_or}
-use Rattle.ptmerge.proofs.Common.{onto_first, join_with_byte, eqb-true, append-nil, flat_map-append, Join}
-use Rattle.ptmerge.proofs.Common.{output_separator, entry, join_fields, or_filler, field_named, other_fields}
-use Rattle.ptmerge.proofs.Common.{IsCanonical, is_single_spaced, with_prefix, ◌%◌, ◌^◌, eqb, replicate}
-use Rattle.ptmerge.proofs.Common.{bit_or, length-map, drop-append_seam, take_at, nat_tests}
+use Rattle.ptmerge.proofs
+use proofs.Common.{nil_from_length, drop_more, length-drop, length-append, ◌≡◌, ℕ, suc, ◌+◌, ◌-◌, ◌≤◌, Bool, true}
+use proofs.Common.{false, List, [], ◌∷◌, Option, None, Some, length, drop, get_or, refl, sym, ◌∙◌, ap, arith, zero, ◌<◌}
+use proofs.Common.{◌==◌, cond, ◌++◌, take, append_assoc, position, IfSome, MatchOption, filter, is_some}
+use proofs.Common.{position_or_len, slice_split, nat_tests, drop-drop, take-append-drop, take_all, position_or_len_is}
+use proofs.Common.{IsFirstByte, nth_field, is_nonempty, is_blank, Lines, split_around, split_whole, IsFirstPieceEnd}
+use proofs.Common.{IsFieldIn, IsPiece, is_separator, entry_with_list, remaining_fields, IsKeySpan, IsFieldFound}
+use proofs.Common.{is_evenly_separated, around, ◌||◌, map, remove, unwrap_or, onto_first, join_with_byte, eqb-true}
+use proofs.Common.{append-nil, flat_map-append, Join, output_separator, entry, join_fields, or_filler, field_named}
+use proofs.Common.{other_fields, IsCanonical, is_single_spaced, with_prefix, ◌%◌, ◌^◌, eqb, replicate, bit_or}
+use proofs.Common.{length-map, drop-append_seam, take_at}
 use Rattle.std.proofs.lemmas.List.{length-take-le}
 use Rattle.std.proofs.lemmas.List.Quantifiers.{position-Some}
 use Rattle.ptlangs.specs.declared.outlist.OutField.{OutField}
@@ -29,12 +28,12 @@ pub first_is_position : (test : ℕ → Bool) (bytes : List ℕ) (r : Option ℕ
     → r ≡ position test bytes
 first_is_position test bytes None none =
     let is : position_or_len test bytes ≡ length bytes = position_or_len_is test bytes (length bytes) 0 (omega arith)
-    (λ k lt. false_from_ne_true (test (get_or bytes k 0)) (none k (omega arith) lt))
+    (λ k lt. false_from_ne_true _ (none k (omega arith) lt))
     (λ bad. absurd (omega (arith, bad))) in
     rw is (grind (arith, nat_tests))
 first_is_position test bytes (Some at) (range, found) =
     let is : position_or_len test bytes ≡ at = position_or_len_is test bytes at 0 (omega (arith, range.high))
-    (λ k lt. false_from_ne_true (test (get_or bytes k 0)) (range.before k (omega arith) lt)) (λ _. found) in
+    (λ k lt. false_from_ne_true _ (range.before k (omega arith) lt)) (λ _. found) in
     rw is (grind (arith, nat_tests, range.high))
 
 -- ---- the field with a number
@@ -84,7 +83,7 @@ remaining_after separator (Some line) (Some l) field (Some b) (front, is) p =
 pub piece_at : (separator : Option ℕ) (bytes : List ℕ) (at : ℕ)
     → position (is_separator separator) bytes ≡ Some at → IsPiece separator bytes (take at bytes)
     (Some (take (length bytes - (at + 1)) (drop (at + 1) bytes)))
-piece_at separator bytes at is = let (within, found, _) = position-Some (is_separator separator) bytes at 0 is in
+piece_at separator bytes at is = let (within, found, _) = position-Some _ bytes at 0 is in
     record {
       front = [];
       tail = drop at bytes;
@@ -103,7 +102,7 @@ piece_at separator bytes at is = let (within, found, _) = position-Some (is_sepa
 pub ends_at : (separator : Option ℕ) (bytes : List ℕ) (at : ℕ) (end : Option ℕ)
     → end ≡ position (is_separator separator) bytes → end ≡ Some at → IsFirstPieceEnd separator bytes at
 ends_at separator bytes at end first some = let is = sym first ∙ some in record {
-  remainder = slice_split (is_separator separator) (take (length bytes - (at + 1)) (drop (at + 1) bytes));
+  remainder = slice_split (is_separator separator) (take _ _);
   is = split_around (is_separator separator) bytes at is;
   within = omega (arith, (position-Some (is_separator separator) bytes at 0 is).0);
 }
@@ -126,7 +125,7 @@ pub first_piece_span : (c number end : ℕ) (line : List ℕ) → number ≤ 1 �
     → IsKeySpan line (nth_field number (remaining_fields (Some c) (Some line))) (record { start = 0; end = end })
 first_piece_span c number end line low e =
     let first : number - 1 ≡ 0 = omega (arith, low) in
-    front_span line (nth_field number (remaining_fields (Some c) (Some line))) end e.within (rw (e.is, first) refl)
+    front_span line _ end e.within (rw (e.is, first) refl)
 
 -- ---- an empty word is skipped
 
@@ -162,7 +161,7 @@ others_none byte n = grind arith
 
 pub others_more : (count i : ℕ) {fs more : Lines} {f : List ℕ} → i < count → fs ≡ f ∷ more
     → remove fs (count - i) ≡ f ∷ remove more (count - (i + 1))
-others_more count i low is = let at : count - i ≡ suc (count - (i + 1)) = omega arith in rw (is, at) refl
+others_more count i low is = let at : count - i ≡ suc _ = omega arith in rw (is, at) refl
 
 pub others_rest : (n : ℕ) {fs more : Lines} {f : List ℕ} → n ≡ 0 → fs ≡ f ∷ more → remove fs n ≡ more
 others_rest n last is = rw (is, last) refl
@@ -196,9 +195,9 @@ pub entry_listed : (job : Join) (k : List ℕ) (one two : Option (List ℕ)) (it
     → 1 ≤ length items → {bytes : List ℕ} → bytes ≡ output_item job k one two (get_or items 0 d)
     → entry_with_list job (Some items) k one two ≡ bytes ++ with_prefix (output_separator job.separator)
     (map (output_item job k one two) (take (length items - 1) (drop 1 items)))
-entry_listed job k one two items d some {bytes} first = ap (join_with_byte (output_separator job.separator))
-    (first_then_rest (output_item job k one two) items d some first)
-    ∙ join_is_prefixed (output_separator job.separator) bytes _
+entry_listed job k one two items d some {bytes} first = ap (join_with_byte _)
+    (first_then_rest _ items d some first)
+    ∙ join_is_prefixed _ bytes _
 
 -- ---- words with single spaces are written unchanged
 
@@ -222,7 +221,7 @@ single_spaced_words true (b ∷ bytes) tidy =
 single_spaced_words false [] tidy = λ c. refl
 single_spaced_words false (b ∷ bytes) tidy =
     λ c.
-    let more = λ (h : is_single_spaced false bytes ≡ true). word_more c b (slice_split is_blank bytes)
+    let more = λ (h : is_single_spaced false bytes ≡ true). word_more c b _
     (single_spaced_words false bytes h b) in
     grind (arith, tidy, more, single_spaced_words true bytes, eqb-true b 32)
 
@@ -240,7 +239,7 @@ after_key : (key rest line : List ℕ) → line ≡ key ++ rest
     → take (length line - length key) (drop (length key) line) ≡ rest
 after_key key rest line is =
     rw (is, drop-append_seam key rest)
-    (take_all (length (key ++ rest) - length key) rest (omega (arith, length-append key rest)))
+    (take_all _ rest (omega (arith, length-append key rest)))
 
 module _ (job : Join) (key : List ℕ) (none : job.list ≡ None) where
   abbrev prefix : ℕ
@@ -273,8 +272,8 @@ module _ (job : Join) (key : List ℕ) (none : job.list ≡ None) where
       → line ≡ entry job key (of line) []
   first_is {line} w keyed = rw (
     entry_plain job key (Some line) None none,
-    others_none prefix (job.field2 - 1),
-    append-nil (with_prefix prefix (other_fields job.field1 (of line))),
+    others_none prefix _,
+    append-nil _,
   ) (canonical_is w keyed)
 
   pub second_is : {line : List ℕ} → IsCanonical job.separator job.field2 line → nth_field job.field2 (of line) ≡ key
@@ -303,7 +302,7 @@ pub blank_mask : (bytes : List ℕ) (at n : ℕ) → at + n ≤ length bytes →
 blank_mask bytes at n within few =
     let v = chunk at n bytes in
     let long = length-chunk at n bytes within in
-    rw (blank_lanes v n long) (mask_l-mod (map is_blank v) 64 (omega (arith, length-map v is_blank, long, few)))
+    rw (blank_lanes v n long) (mask_l-mod _ 64 (omega (arith, length-map v is_blank, long, few)))
 
 -- a blank among single spaces is a space
 pub space_is : (blank : Bool) (b : ℕ) (v : List ℕ) → is_blank b ≡ true → is_single_spaced blank (b ∷ v) ≡ true
@@ -330,7 +329,7 @@ pub after_piece : (separator : Option ℕ) (line field : List ℕ) (remainder : 
     → is_evenly_separated separator line ≡ true
     → with_prefix (output_separator separator) (remaining_fields separator remainder) ≡ drop end line
 after_piece separator line field None end p e even =
-    sym (nil_from_length (drop end line) (omega (arith, length-drop end line, e)))
+    sym (nil_from_length _ (omega (arith, length-drop end line, e)))
 after_piece separator line field (Some bytes) end p e even =
     let (byte, ends, test) = p.ends in
     let front = p.front ++ field in
@@ -363,8 +362,8 @@ pub around_is : (separator : Option ℕ) (number : ℕ) (line : List ℕ) (found
     → IsFieldFound separator number line found → is_evenly_separated separator line ≡ true
     → with_prefix (output_separator separator) (other_fields number (join_fields separator line))
     ≡ around (output_separator separator) line found
-around_is separator number line None none even = ap (with_prefix (output_separator separator))
-    (remove_past (join_fields separator line) (number - 1) none) ∙ even_prefixed separator line even
+around_is separator number line None none even = ap (with_prefix _)
+    (remove_past _ (number - 1) none) ∙ even_prefixed separator line even
 around_is separator number line (Some span) f even = whole ∙ by span.start long
   where
     c : ℕ

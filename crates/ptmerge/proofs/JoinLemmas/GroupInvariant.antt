@@ -1,31 +1,29 @@
 -- The group of one key: its lines are read, paired and then closed. Output during a group is a prefix of the output for
 -- all inputs, since lesser keys are complete and the pairs of the group are written in their final order. Once both
 -- inputs are past the key, the group is complete, and counts as processed.
-use Rattle.ptmerge.proofs.Common.{◌≡◌, ⊎_elim, ℕ, ◌+◌, ◌*◌, ◌≤◌, ◌<◌, ◌&&◌, Bool, true, false, List, [], ◌∷◌, ◌++◌}
-use Rattle.ptmerge.proofs.Common.{Some, Err, length, max, refl, sym, ◌∙◌, ap, subst, arith, append_assoc, bytes_eq}
-use Rattle.ptmerge.proofs.Common.{bytes_decides, is_gt, append-nil, Output, PushEffect, Reader, Slots, line}
-use Rattle.ptmerge.proofs.Common.{total_bytes, with_line, unlines, max_length, push_trans, unlines-append, MergeFault}
-use Rattle.ptmerge.proofs.Common.{Side, First, Second, Sorted, CursorStatus, Head, Ended, Disorder, is_head}
-use Rattle.ptmerge.proofs.Common.{length-append, Lines, MergeTool, entries_by_key, entries_of_key, lines_with_key}
-use Rattle.ptmerge.proofs.Common.{MergeState, MergePost, NextOkPost, HasSlots, with_side, other, PrecedesInput}
-use Rattle.ptmerge.proofs.Common.{disorder, merged_entries, sorted_prefixes, is_up_to, Cmp, Key, reads_nothing}
-use Rattle.ptmerge.proofs.MergeLemmas.Step.{slots_on, SidesInvariant, IsAbove, IsLineByLine, current_key_is_above}
-use Rattle.ptmerge.proofs.MergeLemmas.Step.{next_at, own_slots, passed_at, sides_invariant_continues, slots_apart}
-use Rattle.ptmerge.proofs.MergeLemmas.Step.{StoreInvariant, AdvanceErrPost, advance_fails}
-use Rattle.ptmerge.proofs.MergeLemmas.Invariant.{Bound, AtLeast, MayFollow, IsUnder, MergeInvariant, InputSplit}
-use Rattle.ptmerge.proofs.MergeLemmas.Invariant.{MayCome, all_keys, splits_step, all_wanted, written_is_wanted}
-use Rattle.ptmerge.proofs.MergeLemmas.Invariant.{LagInvariant}
-use Rattle.ptmerge.proofs.JoinLemmas.GroupSlots.{AllSlots, Extends, GroupBounds, InGroup, largest_group, GroupStore}
-use Rattle.ptmerge.proofs.JoinLemmas.GroupSlots.{group_store_line, group_store_next, low_slot, put_more}
-use Rattle.ptmerge.proofs.MergeLemmas.Orders.{EachKey, EachKey-append, EachKey-weaker, at_most-same, front_first}
-use Rattle.ptmerge.proofs.MergeLemmas.Orders.{front_is, others_of, lines_with_key-above, IsKeyOrder, AtMost}
-use Rattle.ptmerge.proofs.MergeLemmas.Orders.{least_or_above, self_at_most, at_most_trans, same_bytes}
-use Rattle.ptmerge.proofs.MergeLemmas.Slots.{put_both, put_each, put_other, put_same, side_case, has_lines_total}
-use Rattle.ptmerge.proofs.MergeLemmas.Slots.{line_other}
-use Rattle.ptmerge.proofs.MergeLemmas.Exits.{SideAfterNext, IsAtCurrentLine, MatchesStatus, next_same_key}
-use Rattle.ptmerge.proofs.MergeLemmas.Exits.{side_invariant_kept, Fits, read_facts_after_line, read_facts_at_line}
-use Rattle.ptmerge.proofs.MergeLemmas.Exits.{input_split_of, both_begun, IsOpenMerge, ReadFactsOf}
-use Rattle.ptmerge.proofs.MergeLemmas.LinesRead.{Continues, HasBegun, HoldsLines}
+use Rattle.ptmerge.proofs
+use proofs.Common.{◌≡◌, ⊎_elim, ℕ, ◌+◌, ◌*◌, ◌≤◌, ◌<◌, ◌&&◌, Bool, true, false, List, [], ◌∷◌, ◌++◌, Some, Err, length}
+use proofs.Common.{max, refl, sym, ◌∙◌, ap, subst, arith, append_assoc, bytes_eq, bytes_decides, is_gt, append-nil}
+use proofs.Common.{Output, PushEffect, Reader, Slots, line, total_bytes, with_line, unlines, max_length, push_trans}
+use proofs.Common.{unlines-append, MergeFault, Side, First, Second, Sorted, CursorStatus, Head, Ended, Disorder}
+use proofs.Common.{is_head, length-append, Lines, MergeTool, entries_by_key, entries_of_key, lines_with_key, MergeState}
+use proofs.Common.{MergePost, NextOkPost, HasSlots, with_side, other, PrecedesInput, disorder, merged_entries}
+use proofs.Common.{sorted_prefixes, is_up_to, Cmp, Key, reads_nothing}
+use proofs.MergeLemmas.Step.{slots_on, SidesInvariant, IsAbove, IsLineByLine, current_key_is_above, next_at, own_slots}
+use proofs.MergeLemmas.Step.{passed_at, sides_invariant_continues, slots_apart, StoreInvariant, EndsIfFails}
+use proofs.MergeLemmas.Step.{advance_fails}
+use proofs.MergeLemmas.Invariant.{Bound, AtLeast, MayFollow, IsUnder, MergeInvariant, InputSplit, MayCome, all_keys}
+use proofs.MergeLemmas.Invariant.{splits_step, all_wanted, written_is_wanted, LagInvariant}
+use proofs.JoinLemmas.GroupSlots.{AllSlots, Extends, GroupBounds, InGroup, largest_group, GroupStore, group_store_line}
+use proofs.JoinLemmas.GroupSlots.{group_store_next, low_slot, put_more}
+use proofs.MergeLemmas.Orders.{EachKey, EachKey-append, EachKey-weaker, at_most-same, front_first, front_is, others_of}
+use proofs.MergeLemmas.Orders.{lines_with_key-above, IsKeyOrder, AtMost, least_or_above, self_at_most, at_most_trans}
+use proofs.MergeLemmas.Orders.{same_bytes}
+use proofs.MergeLemmas.Slots.{put_both, put_each, put_other, put_same, side_case, has_lines_total, line_other}
+use proofs.MergeLemmas.Exits.{SideAfterNext, IsAtCurrentLine, MatchesStatus, next_same_key, side_invariant_kept, Fits}
+use proofs.MergeLemmas.Exits.{read_facts_after_line, read_facts_at_line, input_split_of, both_begun, IsOpenMerge}
+use proofs.MergeLemmas.Exits.{ReadFactsOf}
+use proofs.MergeLemmas.LinesRead.{Continues, HasBegun, HoldsLines}
 
 -- ---- a fault within a group
 
@@ -40,7 +38,7 @@ under_lower o b x k h u = grind (arith, at_most_trans)
 -- a property of k holds for the keys of all lines of its group
 pub all_own_keys : (P : List ℕ → Type 0) (key : Key) (k : List ℕ) (g : Lines) → P k → EachKey (λ x. x ≡ k) key g
     → EachKey P key g
-all_own_keys P key k g h = EachKey-weaker (λ x. x ≡ k) P (λ x same. subst P (sym same) h) key g
+all_own_keys P key k g h = EachKey-weaker _ P (λ x same. subst P (sym same) h) _ g
 
 -- the lines `p` are processed, the lines `g` are the group of the key `k`, and `d` bounds the lines that may follow
 pub record OutputInGroup (tool : MergeTool) (was mid : Output) (p g : Side → Lines) (d : Side → Bound)
@@ -80,7 +78,7 @@ module _ {tool : MergeTool} {old : MergeState} (w : IsOpenMerge tool old) {mid :
       (gone : (side : Side) → ReadFactsOf tool old now new.reader piece ls (λ side. p side ++ g side) d side)
       (all : Side → Lines) (more : (side : Side) → Continues (now side) (ls side) (all side)) where
     seen : InputSplit tool d (λ side. p side ++ g side) all
-    seen = input_split_of w new now piece ls (λ side. p side ++ g side) d gone all more
+    seen = input_split_of w new gone all more
 
     parts : (w : List ℕ → Bool) → entries_by_key tool w (sorted_prefixes tool all) ≡ entries_by_key tool w
         p ++ entries_by_key tool w (λ side. g side ++ seen.r side)
@@ -98,8 +96,8 @@ module _ {tool : MergeTool} {old : MergeState} (w : IsOpenMerge tool old) {mid :
 
     -- the entries of all lesser keys come first
     front_is_first : entries_by_key tool is_wanted p ≡ front
-    front_is_first = all_wanted tool is_wanted p (λ side. EachKey-weaker (λ x. AtMost cmp x k) (λ x. is_wanted x ≡ true)
-        wanted (key side) (p side) (m.merge_invariant.under First side))
+    front_is_first = all_wanted tool is_wanted p (λ side. EachKey-weaker _ _
+        wanted _ _ (m.merge_invariant.under First side))
 
     pub group_comes_first : {extra : Lines} → OutputStartsWith tool g d k extra → (rest : Lines)
         × (merged_entries tool all ≡ (front ++ extra) ++ rest)
@@ -122,7 +120,7 @@ module _ {tool : MergeTool} {old : MergeState} (w : IsOpenMerge tool old) {mid :
   -- the keys of the processed lines and of the group
   passed_keys : (of side : Side) → EachKey (λ x. AtMost cmp x k) (key side) (p side ++ g side)
   passed_keys of side =
-      EachKey-append (λ x. AtMost cmp x k) (key side) (p side) (g side) (m.merge_invariant.under of side)
+      EachKey-append _ (key side) _ _ (m.merge_invariant.under of side)
       (all_own_keys (λ x. AtMost cmp x k) (key side) k (g side) (self_at_most cmp o k) (m.own side))
 
   pub group_written : {is : Output} (extra : Lines) → PushEffect mid is (unlines terminator extra)
@@ -138,8 +136,8 @@ module _ {tool : MergeTool} {old : MergeState} (w : IsOpenMerge tool old) {mid :
     more = wrote;
     all = sym (unlines-append terminator front extra);
     split = λ side. refl;
-    under = λ of side. EachKey-weaker (λ x. AtMost cmp x k) (IsUnder cmp (d of))
-        (λ x h. under_lower o (d of) x k h (m.under of)) (key side) (p side ++ g side) (passed_keys of side);
+    under = λ of side. EachKey-weaker _ _
+        (λ x h. under_lower o (d of) x k h (m.under of)) _ _ (passed_keys of side);
     under_bound = passed_keys;
     may_follow = rest_not_less;
   }
@@ -305,9 +303,9 @@ module _ (call : JoinCall) {was mid : Output} {p g : Side → Lines} {d : Side �
       record {
         splits = splits_step tool (λ side. AtLeast k) d p g m.merge_invariant.splits
             (λ side r c. at_most-same tool o (key side) k (g side) r (m.own side) (m.beyond side r c)) splits_off;
-        under = λ of side. EachKey-append (IsUnder cmp (d of)) (key side) (p side) (g side)
-            (EachKey-weaker (λ x. AtMost cmp x k) (IsUnder cmp (d of)) (λ x h. under_lower o (d of) x k h (m.under of))
-            (key side) (p side) (m.merge_invariant.under First side))
+        under = λ of side. EachKey-append _ (key side) _ _
+            (EachKey-weaker _ _ (λ x h. under_lower o (d of) x k h (m.under of))
+            _ _ (m.merge_invariant.under First side))
             (all_own_keys (IsUnder cmp (d of)) (key side) k (g side) (m.under of) (m.own side));
         wrote = rw (all, unlines-append call.terminator (entries_by_key tool all_keys p) (pairs k (g First) (g Second)))
             (push_trans _ _ _ _ _ m.clean m.merge_invariant.wrote wrote);
@@ -371,8 +369,8 @@ module _ {call : JoinCall} {now : MergeState} {cursor : Side → Sorted} {end : 
   pub is_past : (s : Side) → ((cursor s).status ≡ Head → ¬ (key s (head_of now cursor s) ≡ k))
       → IsAbove cmp (key s) k (q.d s)
   is_past s other =
-      let (above, _) = current_key_is_above cmp o (key s) k _ (cursor s) now.store (now.reader s) (q.ls s)
-      (q.p s ++ g s) (q.d s) (by (cursor s).status (q.sides s).status_is other) (q.sides s).status_is in
+      let (above, _) = current_key_is_above _ o _ k _ _ _ _ _
+      _ _ (by (cursor s).status (q.sides s).status_is other) (q.sides s).status_is in
       above
     where
       by : (t : CursorStatus) → MatchesStatus cmp (key s) t (cursor s) now.store (now.reader s) (q.ls s) (q.p s ++ g s)
@@ -432,17 +430,10 @@ module _ {call : JoinCall} {now : MergeState} {cursor : Side → Sorted} {end : 
 
   pub own_more : (side : Side) → EachKey (λ z. z ≡ k) (key side) (with_added_line now cursor s g side)
   own_more = put_each (λ side (l : Lines). EachKey (λ z. z ≡ k) (key side) l) s (g s ++ x ∷ []) g
-      (EachKey-append (λ z. z ≡ k) (key s) (g s) (x ∷ []) (q.within.own s) (l.is, tt)) q.within.own
+      (EachKey-append _ (key s) _ _ (q.within.own s) (l.is, tt)) q.within.own
 
   pub within_more : OutputInGroup tool old.out q.mid q.p (with_added_line now cursor s g) q.d k
-  within_more =
-      record {
-        merge_invariant = q.within.merge_invariant;
-        clean = q.within.clean;
-        own = own_more;
-        beyond = q.within.beyond;
-        under = q.within.under;
-      }
+  within_more = assumption (own_more, q.within)
 
   pub rest_facts : ReadFactsOf tool old now.reader now.reader (λ t. []) q.ls
       (λ t. q.p t ++ with_added_line now cursor s g t) q.d (other s)
@@ -463,10 +454,8 @@ module _ {call : JoinCall} {now : MergeState} {cursor : Side → Sorted} {end : 
   pub group_breaks : {out : Output} {extra : Lines}
       → OutputStartsWith tool (with_added_line now cursor s g) q.d k extra
       → PushEffect q.mid out (unlines call.terminator extra)
-      → {new : Reader} {after : Slots} {fault : MergeFault}
-      → AdvanceErrPost s (cursor s) (now.reader s) new now.store after out fault
-      → MergePost tool old (state_after_read now s new out after) (Err fault)
-  group_breaks {extra = extra} begins wrote e = advance_fails w {now = now} {cursor = cursor s}
+      → EndsIfFails tool old now s (cursor s) out
+  group_breaks {extra = extra} begins wrote = advance_fails w {now = now} {cursor = cursor s}
       {p = λ t. q.p t ++ with_added_line now cursor s g t} (record {
         lines_read = (q.sides s).lines_read;
         sound = (q.sides s).sound;
@@ -479,14 +468,14 @@ module _ {call : JoinCall} {now : MergeState} {cursor : Side → Sorted} {end : 
         denied = q.keeps.denied;
         fits = peak_line call q.keeps s (cursor s) (l.slots s);
       }) (group_written w within_more extra wrote)
-      (λ new piece facts all more. group_comes_first w within_more new facts all more begins) e
+      (λ new piece facts all more. group_comes_first w within_more new facts all more begins)
 
   -- the input advances
   module _ {reader : Reader} {next : Sorted} {after : Slots}
       (comes : NextOkPost (key s) cmp (cursor s) next (now.reader s) reader now.store after) where
     gone_to : SideAfterNext call.terminator cmp (key s) (old.reader s) reader next (cursor s).previous_slot now.store
         after (q.ls s) (Some (key s (head_of now cursor s)))
-    gone_to = next_at tool o q.sides l.slots q.keeps.four s l.head reader next after comes
+    gone_to = next_at tool o q.sides l.slots q.keeps.four s l.head _ _ _ comes
 
     pub next_slots : AllSlots (with_side s next cursor)
     next_slots = put_each HasSlots s next cursor (slots_on s (l.slots s) comes) l.slots
@@ -546,7 +535,7 @@ module _ {call : JoinCall} {now : MergeState} {cursor : Side → Sorted} {end : 
                 (with_side s next cursor) after (with_side s n.now_ls q.ls) f (with_side s n.bound q.d))
                 (λ i side. put_both (λ side (l m : Lines). l ≡ q.p side ++ m) s (q.ls s) (λ side. q.p side ++ g side)
                 (g s ++ x ∷ []) g with_head refl side i)
-                (sides_invariant_continues tool o q.sides l.slots q.keeps.four s l.head reader next after
+                (sides_invariant_continues tool o q.sides l.slots q.keeps.four s l.head _ _ _
                 n);
             within = record {
               merge_invariant = q.within.merge_invariant;

@@ -1,22 +1,20 @@
 -- The store of `join`: the slots 0 to 3 hold two lines of each input, and the slots from 4 on hold the group. Reading a
 -- line or copying one changes one slot, so the bytes stored are the sum of both parts. The group is a part of the lines
 -- of one key, so it is bounded by the largest group.
-use Rattle.ptmerge.proofs.Common.{◌≡◌, ⊎_elim, inl, inr, ℕ, ◌+◌, ◌-◌, ◌≤◌, ◌<◌, suc, true, false, length-drop, List, []}
-use Rattle.ptmerge.proofs.Common.{◌∷◌, ◌++◌, length, map, drop, get_or, set, max, refl, sym, ap, ◌∙◌}
-use Rattle.ptmerge.proofs.Common.{arith, ◌*◌, cond, Option, append_assoc, length-append, append-nil, length-set}
-use Rattle.ptmerge.proofs.Common.{drop_more, get_or-drop, drop-set-add, take_more, length_push, drop-append-le}
-use Rattle.ptmerge.proofs.Common.{drop-set-lt, set_at, take_at, bytes_eq, sum_by_push, sum_by-append, sum_by-cons}
-use Rattle.ptmerge.proofs.Common.{Slots, line, total_bytes, with_line, with_denied, unlines, max_length}
-use Rattle.ptmerge.proofs.Common.{total_bytes_set, Join, ClearGroupPost, EnsureSlotPost, CopyToGroupErrPost, group}
-use Rattle.ptmerge.proofs.Common.{CopyToGroupPost, entry, join_fields, pair_entries, max_over_keys, max_group_bytes}
-use Rattle.ptmerge.proofs.Common.{max_group_lines, Lines, lines_with_key, Reader, Side, First, Second, Sorted, Cmp, Key}
-use Rattle.ptmerge.proofs.Common.{HasSlots, with_side}
-use Rattle.ptmerge.proofs.MergeLemmas.Slots.{line_other, HasLines, StoreOfLines, has_lines_total, set_line, put_each}
-use Rattle.ptmerge.proofs.MergeLemmas.Slots.{put_same}
+use Rattle.ptmerge.proofs
+use proofs.Common.{◌≡◌, ⊎_elim, inl, inr, ℕ, ◌+◌, ◌-◌, ◌≤◌, ◌<◌, suc, true, false, length-drop, List, [], ◌∷◌, ◌++◌}
+use proofs.Common.{length, map, drop, get_or, set, max, refl, sym, ap, ◌∙◌, arith, ◌*◌, cond, Option, append_assoc}
+use proofs.Common.{length-append, append-nil, length-set, drop_more, get_or-drop, drop-set-add, take_more, length_push}
+use proofs.Common.{drop-append-le, drop-set-lt, set_at, take_at, bytes_eq, sum_by_push, sum_by-append, sum_by-cons}
+use proofs.Common.{Slots, line, total_bytes, with_line, with_denied, unlines, max_length, total_bytes_set, Join}
+use proofs.Common.{ClearGroupPost, EnsureSlotPost, CopyToGroupErrPost, group, CopyToGroupPost, entry, join_fields}
+use proofs.Common.{pair_entries, max_over_keys, max_group_bytes, max_group_lines, Lines, lines_with_key, Reader, Side}
+use proofs.Common.{First, Second, Sorted, Cmp, Key, HasSlots, with_side}
+use proofs.MergeLemmas.Slots.{line_other, HasLines, StoreOfLines, has_lines_total, set_line, put_each, put_same}
+use proofs.MergeLemmas.Orders.{EachKey, same_bytes}
+use proofs.MergeLemmas.Exits.{SideAfterNext}
+use proofs.MergeLemmas.Step.{own_slots, slot_low}
 use Rattle.std.proofs.Math.ListN.{get_or-append}
-use Rattle.ptmerge.proofs.MergeLemmas.Orders.{EachKey, same_bytes}
-use Rattle.ptmerge.proofs.MergeLemmas.Exits.{SideAfterNext}
-use Rattle.ptmerge.proofs.MergeLemmas.Step.{own_slots, slot_low}
 
 -- the lines of the group, from a slot on
 pub group_from : (store : Slots) (end slot : ℕ) → end ≤ length store.lines → slot < end
@@ -161,7 +159,7 @@ module _ (m : Lines → ℕ) (laws : IsLineMeasure m) (key : Key) where
       (omega (arith, laws.more x g, laws.more x (lines_with_key key (g ++ c) k), group_measure_max k [] g c more))
   group_measure_max k (x ∷ p) g c e =
       let ih = group_measure_max k p g c e in
-      let ls : Lines = lines_with_key key (p ++ (g ++ c)) k in
+      let ls : Lines = lines_with_key key _ k in
       elim (bytes_eq (key x) k) as (λ t. m g ≤ m (cond t (x ∷ ls) ls))
       [ true ↦ omega (arith, ih, laws.more x ls) | false ↦ ih ]
 
@@ -276,7 +274,7 @@ pub group_store_line : {most : GroupBounds} {before store after : Slots} {ls now
 group_store_line {store = store} {after} {ls} {now} {g} s cursor slots x k up fit continues_key is =
     let inside = set_line s cursor store.lines (λ side. max_length (ls side)) (λ side. max_length (now side))
     (total_bytes g) x slots k.lines up fit in
-    let sum = has_lines_total (set store.lines cursor.previous_slot x) (λ side. max_length (now side))
+    let sum = has_lines_total (set store.lines _ x) (λ side. max_length (now side))
     (total_bytes g) inside in
     let size = length-set store.lines cursor.previous_slot x in
     rw is (record {

@@ -1,57 +1,52 @@
 -- The loop invariant of `join`, and its iterations between two groups. Between groups the invariant is that of the
 -- merge. An iteration there writes one unpaired line, opens a group or ends the loop. The remaining work, three times
 -- the reads that are left plus the rank of the phase, decreases in each iteration.
-use Rattle.ptmerge.proofs.Common.{NextOkPost, ◌≡◌, ℕ, Bool, true, false, cond, List, [], ◌∷◌, ◌++◌, map, refl, ap, sym}
-use Rattle.ptmerge.proofs.Common.{◌∙◌, ◌+◌, ◌*◌, ◌≤◌, ◌<◌, Ok, Err, length, subst, arith, append-nil, flat_map-append}
-use Rattle.ptmerge.proofs.Common.{Join, Side, First, Second, unpaired_entries1, unpaired_entries2, unpaired_entry}
-use Rattle.ptmerge.proofs.Common.{entry, join_fields, join_with, join_entries, join_key, pair_entries, Lines}
-use Rattle.ptmerge.proofs.Common.{entries_by_key, Cmp, Key, Output, PushEffect, Reader, Slots, line, unlines}
-use Rattle.ptmerge.proofs.Common.{MergeFault, Sorted, Head, Ended, IsReadyToContinue, AdvanceOkPost, MergeState}
-use Rattle.ptmerge.proofs.Common.{MergePost, merge_state, HasSlots, both, with_side, lines_of, Memory, HaveEqualKeys}
-use Rattle.ptmerge.proofs.Common.{HasOnlyLeastKey, IsDisorderDecided, IsReaderOf, AreValidCursors, StartOkPost}
-use Rattle.ptmerge.proofs.Common.{merge_inputs, ClearFourSlotsPost, ◌⊎◌, MergeRunPre, JoinStepPre, AdvancePre}
-use Rattle.ptmerge.proofs.Common.{push_nothing, other, if◌then◌else◌, max_group_bytes, max_group_lines, inl, inr}
-use Rattle.ptmerge.proofs.Common.{ReadGroupLineOkPost, ReadGroupLinePost, IsGroup, ClearGroupPost, group_end_slot}
-use Rattle.ptmerge.proofs.Common.{group_first_slot, group, JoinLinePre, ⊎_elim, ◌-◌, ◌==◌, push_trans, nat_tests}
-use Rattle.ptmerge.proofs.Common.{length_push, unlines-append, append_assoc, merged_entries, nil_from_length}
-use Rattle.ptmerge.proofs.Common.{CopyToGroupPost}
-use Rattle.ptmerge.proofs.MergeLemmas.Step.{open_merge, slots_of, wrote_as, IsLineByLine, alone, current_key_is_above}
-use Rattle.ptmerge.proofs.MergeLemmas.Step.{write_one_line, IsAbove, reads_ahead, measure_less, own_reader_kept}
-use Rattle.ptmerge.proofs.MergeLemmas.Step.{place_is, LoopInvariant, CursorsInvariant, AdvanceErrPost, iteration_fails}
-use Rattle.ptmerge.proofs.MergeLemmas.Step.{read_facts_current, runs_on, n, ends_well, ends_fallen, start_ok}
-use Rattle.ptmerge.proofs.MergeLemmas.Step.{next_keeps_slot_count, valid_cursors_kept, wrote_and_sent}
+use Rattle.ptmerge.proofs
+use proofs.Common.{NextOkPost, ◌≡◌, ℕ, Bool, true, false, cond, List, [], ◌∷◌, ◌++◌, map, refl, ap, sym, ◌∙◌, ◌+◌, ◌*◌}
+use proofs.Common.{◌≤◌, ◌<◌, Ok, Err, length, subst, arith, append-nil, flat_map-append, Join, Side, First, Second}
+use proofs.Common.{unpaired_entries1, unpaired_entries2, unpaired_entry, entry, join_fields, join_with, join_entries}
+use proofs.Common.{join_key, pair_entries, Lines, entries_by_key, Cmp, Key, Output, PushEffect, Reader, Slots, line}
+use proofs.Common.{unlines, MergeFault, Sorted, Head, Ended, IsReadyToContinue, AdvanceOkPost, MergeState, MergePost}
+use proofs.Common.{merge_state, HasSlots, both, with_side, lines_of, Memory, HaveEqualKeys, HasOnlyLeastKey}
+use proofs.Common.{IsDisorderDecided, IsReaderOf, AreValidCursors, StartOkPost, merge_inputs, ClearFourSlotsPost, ◌⊎◌}
+use proofs.Common.{MergeRunPre, JoinStepPre, AdvancePre, push_nothing, other, if◌then◌else◌, max_group_bytes}
+use proofs.Common.{max_group_lines, inl, inr, ReadGroupLineOkPost, ReadGroupLinePost, IsGroup, ClearGroupPost}
+use proofs.Common.{group_end_slot, group_first_slot, group, JoinLinePre, ⊎_elim, ◌-◌, ◌==◌, push_trans, nat_tests}
+use proofs.Common.{length_push, unlines-append, append_assoc, merged_entries, nil_from_length, CopyToGroupPost}
+use proofs.MergeLemmas.Step.{Stands, stands_on, advance_pre, reads_less, open_merge, slots_of, wrote_as, IsLineByLine}
+use proofs.MergeLemmas.Step.{alone, current_key_is_above, write_one_line}
+use proofs.MergeLemmas.Step.{IsAbove, reads_ahead, place_is, LoopInvariant}
+use proofs.MergeLemmas.Step.{CursorsInvariant, EndsIfFails, iteration_fails, read_facts_current, runs_on, n}
+use proofs.MergeLemmas.Step.{ends_well, ends_fallen, start_ok, next_keeps_slot_count, valid_cursors_kept}
+use proofs.MergeLemmas.Step.{wrote_and_sent}
+use proofs.JoinLemmas.GroupInvariant.{IsPairTool, IsAtKey, head_of, JoinCall, state_after_read, GroupState}
+use proofs.JoinLemmas.GroupInvariant.{store_between_groups, IsAtGroupLine, AdvancedGroup, closes, continues_key}
+use proofs.JoinLemmas.GroupInvariant.{leaves_key, advanced_group, group_breaks, with_added_line, is_past, next_slots}
+use proofs.JoinLemmas.GroupInvariant.{others_stay, passing_now, extends, front_is_not_all, has_entries, group_begun}
+use proofs.JoinLemmas.GroupInvariant.{same_cursors, group_read_facts, starts, none_failed, within_more, group_kept}
+use proofs.JoinLemmas.GroupInvariant.{last_stays, own_more, size_of, starts_none, with_head, OutputStartsWith}
+use proofs.JoinLemmas.GroupInvariant.{group_written, group_comes_first}
+use proofs.MergeLemmas.Invariant.{all_keys, AtLeast, AllWritten, MergeInvariant, Bound}
+use proofs.JoinLemmas.GroupSlots.{GroupBounds, end_within, pair_of, GroupStore, group_store_next, group_store_starts}
+use proofs.JoinLemmas.GroupSlots.{group_is, kept_line, group_store_cleared, low_slot, group_one, InGroup, largest_group}
+use proofs.JoinLemmas.GroupSlots.{CopiedLine, group_in, group_store_copied}
+use proofs.MergeLemmas.Orders.{IsKeyOrder, same_bytes, self_at_most, EachKey-at}
+use proofs.MergeLemmas.Slots.{put_other, put_same}
+use proofs.MergeLemmas.Exits.{at_current_line, IsOpenMerge as OpenMerge, ComeFirst, exit_is_merge_post, continues}
+use proofs.MergeLemmas.Exits.{none_missing, both_begun}
+use proofs.MergeLemmas.LinesRead.{Continues}
 use Rattle.std.specs.List.{flat_map}
-use Rattle.ptmerge.proofs.JoinLemmas.GroupInvariant.{IsPairTool, IsAtKey, head_of, JoinCall, state_after_read}
-use Rattle.ptmerge.proofs.JoinLemmas.GroupInvariant.{GroupState, store_between_groups, IsAtGroupLine, AdvancedGroup}
-use Rattle.ptmerge.proofs.JoinLemmas.GroupInvariant.{closes, continues_key, leaves_key, advanced_group, group_breaks}
-use Rattle.ptmerge.proofs.JoinLemmas.GroupInvariant.{with_added_line, is_past, next_slots, others_stay, passing_now}
-use Rattle.ptmerge.proofs.JoinLemmas.GroupInvariant.{extends, front_is_not_all, has_entries, group_begun, same_cursors}
-use Rattle.ptmerge.proofs.JoinLemmas.GroupInvariant.{group_read_facts, starts, none_failed, within_more, group_kept}
-use Rattle.ptmerge.proofs.JoinLemmas.GroupInvariant.{last_stays, own_more, size_of, starts_none, with_head}
-use Rattle.ptmerge.proofs.JoinLemmas.GroupInvariant.{OutputStartsWith, group_written, group_comes_first}
-use Rattle.ptmerge.proofs.MergeLemmas.Invariant.{all_keys, AtLeast, AllWritten, MergeInvariant, Bound}
 use Rattle.ptmerge.specs.declared.tools.join.JoinPhase.{JoinPhase}
-use Rattle.ptmerge.proofs.JoinLemmas.GroupSlots.{GroupBounds, end_within, pair_of, GroupStore, group_store_next}
-use Rattle.ptmerge.proofs.JoinLemmas.GroupSlots.{group_store_starts, group_is, kept_line, group_store_cleared, low_slot}
-use Rattle.ptmerge.proofs.JoinLemmas.GroupSlots.{group_one, InGroup, largest_group, CopiedLine, group_in}
-use Rattle.ptmerge.proofs.JoinLemmas.GroupSlots.{group_store_copied}
-use Rattle.ptmerge.proofs.MergeLemmas.Orders.{IsKeyOrder, same_bytes, self_at_most, EachKey-at}
-use Rattle.ptmerge.proofs.MergeLemmas.Slots.{put_other, put_same}
-use Rattle.ptmerge.proofs.MergeLemmas.Exits.{at_current_line, IsOpenMerge as OpenMerge, ComeFirst, exit_is_merge_post}
-use Rattle.ptmerge.proofs.MergeLemmas.Exits.{continues, none_missing, both_begun}
-use Rattle.ptmerge.proofs.MergeLemmas.LinesRead.{Continues}
 use Rattle.ptmerge.specs.declared.faults.MergeFault.TheVariants as faults
 use Rattle.ptmerge.specs.declared.tools.join.JoinPhase.TheVariants as phases
 
 -- ---- the output, by lines and by pairs
 
 cond_of_empty : (t : Bool) → cond {A = Lines} t [] [] ≡ []
-cond_of_empty true = refl
-cond_of_empty false = refl
+cond_of_empty t = grind arith
 
 cond_of_append : (t : Bool) (xs ys : Lines) → cond t (xs ++ ys) [] ≡ cond t xs [] ++ cond t ys []
-cond_of_append true xs ys = refl
-cond_of_append false xs ys = refl
+cond_of_append t xs ys = grind arith
 
 module _ (job : Join) (cmp : Cmp) (key : Side → Key) where
   first_alone : (k : List ℕ) (g : Lines) → join_entries job k g [] ≡ unpaired_entries1 job k g
@@ -153,8 +148,7 @@ rank phases.BetweenGroups = 1
 rank p = 0
 
 rank_few : (p : JoinPhase) → rank p ≤ 1
-rank_few phases.BetweenGroups = omega arith
-rank_few p = omega arith
+rank_few p = grind arith
 
 -- ---- an iteration
 
@@ -185,16 +179,8 @@ pub record IterationInvariant (job : Join) (cmp : Cmp) (key : Side → Key) (old
     (now : MergeState) (one two : Sorted) (end : ℕ) : Type 0 where
   pub opened : IsOpenMerge job cmp key old
   pub phased : PhaseInvariant (join_call_of opened) phase now (both one two) end
-  pub valid_cursors : AreValidCursors key one two now.store
-  pub own_reader : (side : Side) → IsReaderOf (both one two side) (now.reader side)
-  pub clean : now.out.write_failed ≡ false
-
--- the invariant depends only on the order, and a call leaves the order of a merge unchanged
-pub iteration_as : {K : Type 0} (order : K → Cmp) (key_of : K → Side → Key) {a b c : K} {job : Join} {old : MergeState}
-    {phase : JoinPhase} {now : MergeState} {one two : Sorted} {end : ℕ}
-    → b ≡ a → a ≡ c → IterationInvariant job (order a) (key_of a) old phase now one two end
-    → record { iteration : IterationInvariant job (order b) (key_of b) old phase now one two end; order : b ≡ c }
-iteration_as order key_of is same t = record { iteration = rw is t; order = is ∙ same }
+  pub stands : Stands key now one two
+  pub open stands use *
 
 -- ---- the start
 
@@ -219,9 +205,11 @@ module _ {job : Join} {cmp : Cmp} {key : Side → Key} {old : MergeState} (a : I
           },
           refl,
         );
-        valid_cursors = valid_cursors;
-        own_reader = elim [ First ↦ reader1 | Second ↦ reader2 ];
-        clean = a.w.writable;
+        stands = record {
+          valid_cursors = valid_cursors;
+          own_reader = elim [ First ↦ reader1 | Second ↦ reader2 ];
+          clean = a.w.writable;
+        };
       }
 
 module _ {job : Join} {cmp : Cmp} {key : Side → Key} {old : MergeState} {phase : JoinPhase} {now : MergeState}
@@ -232,8 +220,8 @@ module _ {job : Join} {cmp : Cmp} {key : Side → Key} {old : MergeState} {phase
   abbrev call : JoinCall
   call = join_call_of t.opened
 
-  pub slots : (side : Side) → HasSlots side (both one two side)
-  slots = slots_of one two now.store t.valid_cursors
+  slots : (side : Side) → HasSlots side (both one two side)
+  slots = slots_of t.stands
 
   pub end_in : (4 ≤ end) × (end ≤ length now.store.lines)
   end_in = by phase t.phased
@@ -251,10 +239,7 @@ module _ {job : Join} {cmp : Cmp} {key : Side → Key} {old : MergeState} {phase
   iteration_continues {next} s {one2} {two2} {reader} {after} {new} {to} continues phased = record {
     opened = t.opened;
     phased = rw (← place_is s one two one2 two2 continues.others) phased;
-    valid_cursors = continues.valid_cursors;
-    own_reader =
-        own_reader_kept s one two one2 two2 now.reader reader continues.others continues.own_reader t.own_reader;
-    clean = continues.clean;
+    stands = stands_on t.stands s continues;
   }
 
   -- advancing an input decreases the remaining work, in every phase
@@ -264,14 +249,8 @@ module _ {job : Join} {cmp : Cmp} {key : Side → Key} {old : MergeState} {phase
       → IsReadyToContinue key s one two one2 two2 reader after out
       → 3 * reads_ahead (with_side s reader now.reader) one2 two2 + rank next
       < 3 * reads_ahead now.reader one two + rank phase
-  measure_decreases s next {one2} {two2} {reader} {made} head came continues = omega (
-    arith,
-    measure_less (key s) cmp s one two one2 two2 now.reader reader now.store made head continues.others came,
-    rank_few next,
-  )
-
-  pub advance_pre : (s : Side) → (both one two s).status ≡ Head → AdvancePre key s one two (now.reader s) now.store
-  advance_pre s head = record { valid_cursors = t.valid_cursors; head = head; own_reader = t.own_reader s }
+  measure_decreases s next head came continues =
+      omega (arith, reads_less t.stands s continues head came, rank_few next)
 
   pub joins : JoinStepPre job key now.out
   joins = record { keys = t.opened.keys; clean = t.clean }
@@ -301,10 +280,10 @@ module _ {job : Join} {cmp : Cmp} {key : Side → Key} {old : MergeState} {phase
       wrote_unpaired =
           let x = head_of now (both one two) s in
           let h = at_current_line (r.sides s) step.status_is in
-          let (above, under) = current_key_is_above cmp o _ _ _ _ _ _ _ _ _ step.before (r.sides (other s)).status_is in
-          rw h.all (write_one_line _ o (is_line_by_line job cmp key) s x r.b r.p _ _ _ t.clean r.merge_invariant h.bound
+          let (above, under) = current_key_is_above _ o _ _ _ _ _ _ _ _ _ step.before (r.sides (other s)).status_is in
+          rw h.all (write_one_line _ o (is_line_by_line job cmp key) s x _ _ _ _ _ t.clean r.merge_invariant h.bound
           above under
-          (wrote_as _ _ _ _ _ _ (r.sides s).lines_read.terminator (entries_alone job cmp key s x (t.opened.keys s x))
+          (wrote_as (r.sides s).lines_read.terminator (entries_alone job cmp key s x (t.opened.keys s x))
           pushed))
 
       pub alone_continues : {one2 two2 : Sorted} {reader : Reader} {after : Slots}
@@ -317,9 +296,7 @@ module _ {job : Join} {cmp : Cmp} {key : Side → Key} {old : MergeState} {phase
           iteration_continues {next = phase} s h.continues
           (rw is (runs_on t.opened.w stood_at s step.status_is h.came keeps m, no_copies))
 
-      pub alone_fails : {reader : Reader} {after : Slots} {fault : MergeFault}
-          → AdvanceErrPost s (both one two s) (now.reader s) reader now.store after new fault
-          → MergePost (join_with job cmp key) old (state_after_read now s reader new after) (Err fault)
+      pub alone_fails : EndsIfFails (join_with job cmp key) old now s (both one two s) new
       alone_fails = iteration_fails t.opened.w stood_at s step.status_is wrote_unpaired (put_same s (r.ls s) r.p)
           (rw (put_other s (r.ls s) r.p) (read_facts_current t.opened.w stood_at (other s)))
 
@@ -365,9 +342,7 @@ module _ {job : Join} {cmp : Cmp} {key : Side → Key} {old : MergeState} {phase
               | Second ↦ record { head = step.second; is = sym step.same }
             ];
           };
-          valid_cursors = t.valid_cursors;
-          own_reader = t.own_reader;
-          clean = t.clean;
+          stands = t.stands;
         }
 
     -- the phase in which the group is read is next
@@ -392,7 +367,7 @@ module _ {job : Join} {cmp : Cmp} {key : Side → Key} {old : MergeState} {phase
     a = rw is at t.phased
 
     pub read_group_pre : AdvancePre key Second one two (now.reader Second) now.store
-    read_group_pre = advance_pre Second (a.heads Second).head
+    read_group_pre = advance_pre t.stands Second (a.heads Second).head
 
     -- the copied lines are all lines read, or none
     all_copied : call.keeps_groups ≡ true → a.kept ≡ a.g
@@ -416,6 +391,12 @@ module _ {job : Join} {cmp : Cmp} {key : Side → Key} {old : MergeState} {phase
       -- the second input advanced
       module _ {reader : Reader} {two2 : Sorted} {made : Slots}
           (comes : NextOkPost (key Second) cmp two two2 (now.reader Second) reader now.store made) where
+        abbrev later : Slots → MergeState
+        later after = state_after_read now Second reader out after
+
+        abbrev cursors : Side → Sorted
+        cursors = with_side Second two2 (both one two)
+
         on_second : AdvancedGroup at_second comes out
         on_second = advanced_group at_second comes (rw (call.laws.none a.k (a.g ++ y ∷ [])) wrote_none)
 
@@ -438,10 +419,10 @@ module _ {job : Join} {cmp : Cmp} {key : Side → Key} {old : MergeState} {phase
           stays : line after two2.current_slot ≡ line made two2.current_slot
           stays = same two2.current_slot (low_slot Second two2 (next_slots at_second comes Second)).current
 
-          pairs_by : {to : ℕ} {kept : Lines} → GroupState call (state_after_read now Second reader out after)
-              (with_side Second two2 (both one two)) to a.k (both [] (a.g ++ y ∷ [])) kept → two2.same ≡ false
+          pairs_by : {to : ℕ} {kept : Lines} → GroupState call (later after) cursors to a.k (both [] (a.g ++ y ∷ []))
+              kept → two2.same ≡ false
               → IsGroupIn call a.k (line after two2.previous_slot) kept (a.g ++ y ∷ [])
-              → WritePairs call (state_after_read now Second reader out after) (with_side Second two2 (both one two)) to
+              → WritePairs call (later after) cursors to
           pairs_by {kept = kept} q other lines_in = record {
             k = a.k;
             g = both [] (a.g ++ y ∷ []);
@@ -453,10 +434,10 @@ module _ {job : Join} {cmp : Cmp} {key : Side → Key} {old : MergeState} {phase
             head = record { head = (a.heads First).head; is = key1_on };
           }
 
-          reads_by : {to : ℕ} {kept : Lines} → GroupState call (state_after_read now Second reader out after)
-              (with_side Second two2 (both one two)) to a.k (both [] (a.g ++ y ∷ [])) kept → two2.same ≡ true
+          reads_by : {to : ℕ} {kept : Lines} → GroupState call (later after) cursors to a.k (both [] (a.g ++ y ∷ []))
+              kept → two2.same ≡ true
               → kept ≡ cond call.keeps_groups (a.g ++ y ∷ []) []
-              → ReadGroup call (state_after_read now Second reader out after) (with_side Second two2 (both one two)) to
+              → ReadGroup call (later after) cursors to
           reads_by {kept = kept} q more copied = record {
             k = a.k;
             g = a.g ++ y ∷ [];
@@ -493,8 +474,7 @@ module _ {job : Join} {cmp : Cmp} {key : Side → Key} {old : MergeState} {phase
               (last_stays at_second comes)
               (λ l. rw (all_copied keeps) (call.laws.largest keeps _ _ (inside l)))
 
-          group_on : GroupState call (state_after_read now Second reader out after)
-              (with_side Second two2 (both one two)) (end + 1) a.k (both [] (a.g ++ y ∷ [])) (a.kept ++ y ∷ [])
+          group_on : GroupState call (later after) cursors (end + 1) a.k (both [] (a.g ++ y ∷ [])) (a.kept ++ y ∷ [])
           group_on = group_kept on_second.group (next_slots at_second comes) kept_too.same kept_too.store_holds
               (omega (arith, a.q.at, length_push a.kept y))
 
@@ -502,7 +482,7 @@ module _ {job : Join} {cmp : Cmp} {key : Side → Key} {old : MergeState} {phase
           all_copied_too = cc (all_copied keeps)
 
           reads_more : two2.same ≡ true
-              → ReadGroup call (state_after_read now Second reader out after) (with_side Second two2 (both one two))
+              → ReadGroup call (later after) cursors
               (end + 1)
           reads_more more =
               reads_by after kept_too.same group_on more
@@ -550,9 +530,10 @@ module _ {job : Join} {cmp : Cmp} {key : Side → Key} {old : MergeState} {phase
           → ReadGroupLinePost call.keeps_groups (key Second) cmp two two2 (now.reader Second) reader now.store after out
           end (Err fault) → MergePost (join_with job cmp key) old (state_after_read now Second reader out after)
           (Err fault)
-      read_group_fails (inl e) = group_breaks at_second (starts_none call (within_more at_second)) wrote_none (inl e)
+      read_group_fails (inl e) = group_breaks at_second (starts_none call (within_more at_second)) wrote_none _ _ _
+          (inl e)
       read_group_fails (inr (fine, inr e)) =
-          group_breaks at_second (starts_none call (within_more at_second)) wrote_none (inr (fine, e))
+          group_breaks at_second (starts_none call (within_more at_second)) wrote_none _ _ _ (inr (fine, e))
       read_group_fails {reader = reader} {after} (inr (fine, inl e)) =
           let q = (on_second e.came).group in
           let new = state_after_read now Second reader out after in
@@ -561,7 +542,7 @@ module _ {job : Join} {cmp : Cmp} {key : Side → Key} {old : MergeState} {phase
           (entries_by_key call.tool all_keys q.p ++ []) =
           λ all more. group_comes_first call.w q.within new (group_read_facts q) all more
           (starts_none call q.within) in
-          rw e.memory (exit_is_merge_post call.w new _ _ _ _ _ (group_read_facts q) lag first (λ all more.
+          rw e.memory (exit_is_merge_post call.w _ (group_read_facts q) lag first (λ all more.
           let size = size_of call q.keeps all (λ side. omega (arith, (more side).longest)) (extends (more Second)) in
           let (_, many) = call.laws.largest e.keeps _ _ (inside e.came (more Second).continues.more) in
           omega (
@@ -584,8 +565,8 @@ module _ {job : Join} {cmp : Cmp} {key : Side → Key} {old : MergeState} {phase
             left = λ four. inr (
               e.keeps,
               λ texts agree same. pairs_are_missing e.came e.keeps (lines_of call.tool texts)
-                  (continues call.w new _ _ _ _ _ (group_read_facts q) texts agree)
-                  (none_missing call.w new _ _ _ _ _ (group_read_facts q) lag first texts agree same),
+                  (continues call.w new (group_read_facts q) texts agree)
+                  (none_missing call.w new (group_read_facts q) lag first texts agree same),
             );
           }))
 
@@ -596,7 +577,7 @@ module _ {job : Join} {cmp : Cmp} {key : Side → Key} {old : MergeState} {phase
     state = rw is at t.phased
 
     pub write_pairs_pre : JoinLinePre job key First one two (now.reader First) now.store now.out
-    write_pairs_pre = record { status_is = advance_pre First state.head.head; joins = joins }
+    write_pairs_pre = record { status_is = advance_pre t.stands First state.head.head; joins = joins }
 
     is_kept : state.kept ≡ state.g Second → (end == 4) ≡ false
     is_kept same =
@@ -657,7 +638,7 @@ module _ {job : Join} {cmp : Cmp} {key : Side → Key} {old : MergeState} {phase
         unlines-append job.terminator
             (pair_entries job state.k (state.g First) (state.g Second)) (pair_entries job state.k z (state.g Second)),
       )
-          (push_trans _ _ _ _ _ t.clean state.q.wrote (wrote_as _ _ _ _ _ _ (state.q.sides First).lines_read.terminator
+          (push_trans _ _ _ _ _ t.clean state.q.wrote (wrote_as (state.q.sides First).lines_read.terminator
           (sym (group_pairs_are z) ∙ (λ j. pair_entries job (sym state.head.is j) z
           (group now.store (group_first_slot two end) (group_end_slot two end)))) pushed))
 
@@ -665,9 +646,7 @@ module _ {job : Join} {cmp : Cmp} {key : Side → Key} {old : MergeState} {phase
           state.q.d state.k (pair_entries job state.k (state.g First ++ z) (state.g Second))
       pairs_begin = starts call (within_more at_first) state.some state.above
 
-      pub pair_fails : {reader : Reader} {after : Slots} {fault : MergeFault}
-          → AdvanceErrPost First one (now.reader First) reader now.store after new fault
-          → MergePost (join_with job cmp key) old (state_after_read now First reader new after) (Err fault)
+      pub pair_fails : EndsIfFails (join_with job cmp key) old now First one new
       pair_fails = group_breaks at_first pairs_begin wrote_more
 
       module _ {one2 two2 : Sorted} {reader : Reader} {after : Slots}

@@ -1,9 +1,10 @@
 -- Several writes, one after another, to an output that may have failed: their bytes are concatenated, and after a
 -- failed write nothing more is written. The bytes written so far and the rest together are all bytes, so a call that
 -- fails leaves a prefix, and the last call completes them.
-use Rattle.ptmerge.proofs.Common.{◌≡◌, ⊎_elim, false, ℕ, List, ◌++◌, Result, Ok, Err, IsErrAnd, true, Output, PushPost}
-use Rattle.ptmerge.proofs.Common.{PushEffect, push_trans, WriteBytesPost, [], ◌∷◌, refl, sym, ◌∙◌, append_assoc}
-use Rattle.ptmerge.proofs.Common.{append-nil, push_past_failure, push_nothing}
+use Rattle.ptmerge.proofs
+use proofs.Common.{◌≡◌, ⊎_elim, false, ℕ, List, ◌++◌, Result, Ok, Err, IsErrAnd, true, Output, PushPost, PushEffect}
+use proofs.Common.{push_trans, WriteBytesPost, [], ◌∷◌, refl, sym, ◌∙◌, append_assoc, append-nil, push_past_failure}
+use proofs.Common.{push_nothing}
 use Rattle.std.proofs.lemmas.Bool.{cases_Bool}
 use Rattle.ptlines.proofs.Push.{push_after_failure}
 use Rattle.std.specs.List.{flat_map}

@@ -1,20 +1,19 @@
 -- Words of a line by masks of its blanks. A mask is the number of a list of bits, so each fact is by induction on that
 -- list: two masks that overlap make one; no blank is misplaced if a mask is zero; and the first run of set bits is the
 -- first word, after which the words of the rest of the line follow.
-use Rattle.ptmerge.proofs.Common.{◌≡◌, ◌≢◌, ℕ, zero, suc, ◌+◌, ◌-◌, ◌*◌, ◌^◌, ◌%◌, ◌<◌, ◌≤◌, Bool, true}
-use Rattle.ptmerge.proofs.Common.{false, cond, not, ◌&&◌, ◌||◌, eqb, ◌==◌, List, [], ◌∷◌, ◌++◌, None, length, map, take}
-use Rattle.ptmerge.proofs.Common.{drop, replicate, filter, refl, sym, ◌∙◌, ap, subst, arith, bit_and, bit_or, take_all}
-use Rattle.ptmerge.proofs.Common.{length-map, length-drop, take-append-drop, drop-drop, nat_tests, Lines}
-use Rattle.ptmerge.proofs.Common.{is_blank, is_nonempty, join_fields, is_single_spaced, has_single_spaces, slice_split}
-use Rattle.ptmerge.proofs.Common.{onto_first, with_prefix}
+use Rattle.ptmerge.proofs
+use proofs.Common.{◌≡◌, ◌≢◌, ℕ, zero, suc, ◌+◌, ◌-◌, ◌*◌, ◌^◌, ◌%◌, ◌<◌, ◌≤◌, Bool, true, false, cond, not, ◌&&◌, ◌||◌}
+use proofs.Common.{eqb, ◌==◌, List, [], ◌∷◌, ◌++◌, None, length, map, take, drop, replicate, filter, refl, sym, ◌∙◌, ap}
+use proofs.Common.{subst, arith, bit_and, bit_or, take_all, length-map, length-drop, take-append-drop, drop-drop}
+use proofs.Common.{nat_tests, Lines, is_blank, is_nonempty, join_fields, is_single_spaced, has_single_spaces}
+use proofs.Common.{slice_split, onto_first, with_prefix, IsFieldAt}
+use proofs.JoinLemmas.Fields.{none_past, single_spaced_words, space_is}
 use Rattle.std.proofs.lemmas.Simd.{mask_l-lt, trailing_mask_l}
 use Rattle.std.proofs.lemmas.List.{drop-map, map-id, take-map}
 use Rattle.std.specs.Simd.Lanes.{chunk, mask_l}
 use Rattle.std.specs.List.{prefix_len}
 use Rattle.memchr.specs.Find.{is_byte}
 use Rattle.std.proofs.Common.{◌/◌}
-use Rattle.ptmerge.proofs.Common.{IsFieldAt}
-use Rattle.ptmerge.proofs.JoinLemmas.Fields.{none_past, single_spaced_words, space_is}
 use Rattle.std.proofs.Math.Nat.{div-div-eq-div-mul, mod-eq_of_lt, mul-lt-mul_of_pos_right, mul_assoc, mul_comm}
 use Rattle.std.proofs.Math.Nat.{one-le-pow, two-pow-succ}
 use Rattle.std.proofs.Math.Pow.{pow-add, pow-lt, pow_mono}
@@ -41,17 +40,17 @@ or_prefix : (n : ℕ) (bits : List Bool) → bit_or (mask_l (take n bits)) (mask
 or_prefix zero bits = or_zero_l (mask_l bits)
 or_prefix (suc n) [] = or_zero_l 0
 or_prefix (suc n) (b ∷ bits) =
-    or_bits b b (mask_l (take n bits)) (mask_l bits) ∙ grind (arith, or_prefix n bits)
+    or_bits b b _ (mask_l bits) ∙ grind (arith, or_prefix n bits)
 
 or_ends : (last n : ℕ) (bits : List Bool) → last ≤ n
     → bit_or (mask_l (take n bits)) (2 ^ last * mask_l (drop last bits)) ≡ mask_l bits
 or_ends zero n bits le = let one : 2 ^ 0 * mask_l bits ≡ mask_l bits = omega arith in
-    ap (bit_or (mask_l (take n bits))) one ∙ or_prefix n bits
+    ap (bit_or _) one ∙ or_prefix n bits
 or_ends (suc last) zero bits le = absurd (omega (arith, le))
 or_ends (suc last) (suc n) [] le = let none : 2 ^ suc last * 0 ≡ 0 = omega arith in ap (bit_or 0) none ∙ or_zero_l 0
 or_ends (suc last) (suc n) (b ∷ bits) le =
     let double : 2 ^ suc last ≡ 2 * 2 ^ last = omega (arith, two-pow-succ last) in
-    let twice : 2 ^ suc last * mask_l (drop last bits) ≡ bit false + 2 * (2 ^ last * mask_l (drop last bits)) =
+    let twice : 2 ^ suc last * mask_l (drop last bits) ≡ bit false + 2 * (2 ^ last * mask_l _) =
     ap (λ (p : ℕ). p * mask_l (drop last bits)) double ∙ mul_assoc 2 (2 ^ last) (mask_l (drop last bits))
     ∙ omega arith in
     ap (bit_or (mask_l (b ∷ take n bits))) twice ∙ or_bits b false (mask_l (take n bits))
@@ -69,7 +68,7 @@ ends_mask test bytes n first all few =
     ap (map test) (take_all n (drop last bytes) (omega (arith, length-drop last bytes, first)))
     ∙ sym (drop-map test last bytes) in
     let front : map test (chunk 0 n bytes) ≡ take n bits = sym (take-map test n bytes) in
-    let small : mask_l (drop last bits) * 2 ^ last < 2 ^ 64 = fits (mask_l (drop last bits)) n last
+    let small : mask_l (drop last bits) * 2 ^ last < 2 ^ 64 = fits (mask_l _) n last
     (rw size at (mask_l-lt (drop last bits))) (omega (arith, all, first, few)) in
     let whole : mask_l (drop last bits) * 2 ^ last % 2 ^ 64 ≡ 2 ^ last * mask_l (drop last bits) = omega
     (arith, small, mul_comm (mask_l (drop last bits)) (2 ^ last), mod-eq_of_lt small) in
@@ -130,6 +129,9 @@ single_spaces_is any before bytes low few is =
         let small : bit_and x y % 2 ^ 64 ≡ bit_and x y = mod-eq_of_lt (omega (arith, and_le_l x y, low)) in
         cc (mod-eq_of_lt low, and_mod x y 64)
 
+power_fits : (v : List ℕ) → length v < 64 → 1 * 2 ^ length v % 2 ^ 64 ≡ 1 * 2 ^ length v
+power_fits v short = mod-eq_of_lt (omega (arith, pow-lt {j = 64} short))
+
 -- a line that ends after these bytes, as if a space followed it
 pub with_end : (bytes : List ℕ) (any tabs : ℕ) → length bytes < 64 → any ≡ mask_l (map is_blank bytes)
     → tabs ≡ mask_l (map (is_byte 9) bytes)
@@ -138,10 +140,9 @@ pub with_end : (bytes : List ℕ) (any tabs : ℕ) → length bytes < 64 → any
 with_end bytes any tabs short any_is tabs_is =
     let size = length-map bytes is_blank in
     let low : any < 2 ^ length bytes =
-    omega (arith, any_is, mask_l-lt (map is_blank bytes), ap (λ (n : ℕ). 2 ^ n) size) in
-    let wide : 2 ^ length bytes < 2 ^ 64 = pow-lt {j = 64} short in
-    let fits : 1 * 2 ^ length bytes % 2 ^ 64 ≡ 1 * 2 ^ length bytes = mod-eq_of_lt (omega (arith, wide)) in (
-      ap (bit_or any) fits ∙ or_shifted_r 1 (length bytes) any low ∙ omega (arith, end_blank bytes, any_is),
+    omega (arith, any_is, mask_l-lt (map is_blank bytes), ap (λ (n : ℕ). 2 ^ n) size) in (
+      ap (bit_or any) (power_fits bytes short) ∙ or_shifted_r 1 (length bytes) any low ∙ omega
+          (arith, end_blank bytes, any_is),
       tabs_is
           ∙ sym (end_tab bytes),
     )
@@ -439,22 +440,17 @@ pub record WordsLeft (line : List ℕ) (passed words : ℕ) : Type 0 where
 pub words_start : (line : List ℕ) (any : ℕ) → length line < 64 → any ≡ mask_l (map is_blank line)
     → WordsLeft line 0 (1 * 2 ^ length line % 2 ^ 64 - 1 - any)
 words_start line any short is =
-    let wide : 2 ^ length line < 2 ^ 64 = pow-lt {j = 64} short in
-    let fits : 1 * 2 ^ length line % 2 ^ 64 ≡ 1 * 2 ^ length line = mod-eq_of_lt (omega (arith, wide)) in
     record {
       at = 0;
       within = omega arith;
-      mask = omega (arith, fits, is, word_mask line);
+      mask = omega (arith, power_fits line short, is, word_mask line);
       fields = refl;
       spaced = λ s. (true, s);
     }
 
 pub any_fits : (line : List ℕ) (any : ℕ) → length line < 64 → any ≡ mask_l (map is_blank line)
     → any ≤ 1 * 2 ^ length line % 2 ^ 64 - 1
-any_fits line any short is =
-    let wide : 2 ^ length line < 2 ^ 64 = pow-lt {j = 64} short in
-    let fits : 1 * 2 ^ length line % 2 ^ 64 ≡ 1 * 2 ^ length line = mod-eq_of_lt (omega (arith, wide)) in
-    omega (arith, fits, is, word_mask line)
+any_fits line any short is = omega (arith, power_fits line short, is, word_mask line)
 
 module _ {line : List ℕ} {passed words : ℕ} (short : length line < 64) (left : WordsLeft line passed words) where
   abbrev rest : List ℕ
@@ -473,7 +469,7 @@ module _ {line : List ℕ} {passed words : ℕ} (short : length line < 64) (left
 
   -- no words are left
   pub none_left : (number : ℕ) → words ≡ 0 → passed ≤ number - 1 → drop (number - 1) (join_fields None line) ≡ []
-  none_left number none le = none_past (join_fields None line) passed (number - 1)
+  none_left number none le = none_past _ passed (number - 1)
       (left.fields ∙ no_words rest (from_none left.at (marks rest) (sym left.mask ∙ none))) le
 
   module _ (some : words ≢ 0) where
@@ -498,7 +494,7 @@ module _ {line : List ℕ} {passed words : ℕ} (short : length line < 64) (left
       after_is,
       lowest (after_run bits) (omega (arith, length-after_run bits, bits_long, short)) (some_after_run bits some_bits),
       from_after left.at (marks rest),
-      from_prefix_len left.at (after_run (marks rest)),
+      from_prefix_len left.at _,
     )
 
     -- the first of them is passed

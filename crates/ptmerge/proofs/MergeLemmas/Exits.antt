@@ -1,34 +1,32 @@
 -- Each input of a merge, and the exits of a tool. At an exit the lines read, the processed ones and a bound on the
 -- others are known for each input, and the contract of the tool follows from these and from the output.
-use Rattle.ptmerge.proofs.Common.{◌≡◌, ◌≢◌, inl, inr, ℕ, ◌+◌, ◌<◌, ◌≤◌, ◌&&◌, Bool, true, false, cond, List, [], ◌∷◌}
-use Rattle.ptmerge.proofs.Common.{◌++◌, Option, Some, None, length, refl, sym, ◌∙◌, ap, subst, arith, nat_lt, bytes_eq}
-use Rattle.ptmerge.proofs.Common.{Ordering, is_eq, is_gt, nat_tests, append-nil, length_push, FillLine, Reader, IsDone}
-use Rattle.ptmerge.proofs.Common.{IsSound, budget, Slots, line, with_line, max_length, line_of_with_line, Sorted}
-use Rattle.ptmerge.proofs.Common.{CursorStatus, Head, Ended, Disorder, Lines, Cmp, Key, is_head, status_at, same_key_at}
-use Rattle.ptmerge.proofs.Common.{NextOkPost, Result, Err, max, Received, known_lines, Output, ReaderAdvance, unlines}
-use Rattle.ptmerge.proofs.Common.{◌⊎◌, ⊎_elim, length-append, Memory, lines, IsLine, advance_trans, append_assoc}
-use Rattle.ptmerge.proofs.Common.{push_trans, bounded_lag_after, unlines-append, MergeFault, Write, Side, First, Second}
-use Rattle.ptmerge.proofs.Common.{MergeTool, entries_by_key, decided_output, disorder, first_disorder, lines_of}
-use Rattle.ptmerge.proofs.Common.{merge_output, merged_entries, sorted_prefix, is_up_to, MergeState, MergePost}
-use Rattle.ptmerge.proofs.Common.{HasNoLine, other, reads_nothing, EnsureFourSlotsErrPost, ◌*◌, option_map, CallEnd}
-use Rattle.ptmerge.proofs.Common.{ReadFault, CallOutcome, AreAllConsistent, with_input, given_before, given_by}
-use Rattle.ptmerge.proofs.Common.{CallProgress, DecidedIfReadFailed, call_on_failed_output, IsPrefix, total_bytes}
-use Rattle.ptmerge.proofs.Common.{both_sides, merge_engine, merge_end, disordered_line}
+use Rattle.ptmerge.proofs
+use proofs.Common.{◌≡◌, ◌≢◌, inl, inr, ℕ, ◌+◌, ◌<◌, ◌≤◌, ◌&&◌, Bool, true, false, cond, List, [], ◌∷◌, ◌++◌, Option}
+use proofs.Common.{Some, None, length, refl, sym, ◌∙◌, ap, subst, arith, nat_lt, bytes_eq, Ordering, is_eq, is_gt}
+use proofs.Common.{nat_tests, append-nil, length_push, FillLine, Reader, IsDone, IsSound, budget, Slots, line}
+use proofs.Common.{with_line, max_length, line_of_with_line, Sorted, CursorStatus, Head, Ended, Disorder, Lines, Cmp}
+use proofs.Common.{Key, is_head, status_at, same_key_at, NextOkPost, Result, Err, max, Received, known_lines, Output}
+use proofs.Common.{ReaderAdvance, unlines, ◌⊎◌, ⊎_elim, length-append, Memory, lines, IsLine, advance_trans}
+use proofs.Common.{append_assoc, push_trans, bounded_lag_after, unlines-append, MergeFault, Write, Side, First, Second}
+use proofs.Common.{MergeTool, entries_by_key, decided_output, disorder, first_disorder, lines_of, merge_output}
+use proofs.Common.{merged_entries, sorted_prefix, is_up_to, MergeState, MergePost, HasNoLine, other, reads_nothing}
+use proofs.Common.{EnsureFourSlotsErrPost, ◌*◌, option_map, CallEnd, ReadFault, CallOutcome, AreAllConsistent}
+use proofs.Common.{with_input, given_before, given_by, CallProgress, DecidedIfReadFailed, call_on_failed_output}
+use proofs.Common.{IsPrefix, total_bytes, both_sides, merge_engine, merge_end, disordered_line}
+use proofs.MergeLemmas.Lag.{decided_at, ProcessedNearly, LinesToCome, LagPoint, back, unsettled, lag_bound}
+use proofs.MergeLemmas.Lag.{unread_decides_nothing, unread_decides_no_disorder}
+use proofs.MergeLemmas.Invariant.{output_of, Bound, NoBound, AtLeast, AfterDisorder, NothingMore, MayFollow, IsUnder}
+use proofs.MergeLemmas.Invariant.{IsSortedUpTo, sorted_up_to_more, is_disordered, IsProcessedPrefix}
+use proofs.MergeLemmas.Invariant.{processed_before_line, processed_all, processed_to_disorder, processed_to_line}
+use proofs.MergeLemmas.Invariant.{LagInvariant, MergeInvariant, InputSplit, IsExactStop, is_continuation, input_split}
+use proofs.MergeLemmas.Invariant.{all_keys, under_fall, sorted_after}
+use proofs.MergeLemmas.LinesRead.{LinesRead, HoldsLines, HasBegun, begun_gives_line, one_line_and_block}
+use proofs.MergeLemmas.LinesRead.{lines_read_more, lines_read_eof, Continues, KnownLines, lines_read_known}
+use proofs.MergeLemmas.LinesRead.{lines_read_of_input}
+use proofs.MergeLemmas.Orders.{EachKey, EachKey-weaker, IsKeyOrder, AtMost, at_most_trans, equal_is}
+use proofs.MergeLemmas.Slots.{with_own, line_other}
 use Rattle.ptlines.proofs.Calls.{call_ends, call_set, call_without_slots}
-use Rattle.ptmerge.proofs.MergeLemmas.Lag.{decided_at, ProcessedNearly, LinesToCome, LagPoint, back, unsettled}
-use Rattle.ptmerge.proofs.MergeLemmas.Lag.{lag_bound, unread_decides_nothing, unread_decides_no_disorder}
-use Rattle.ptmerge.proofs.MergeLemmas.Invariant.{Bound, NoBound, AtLeast, AfterDisorder, NothingMore, MayFollow}
-use Rattle.ptmerge.proofs.MergeLemmas.Invariant.{IsUnder, IsSortedUpTo, sorted_up_to_more, is_disordered}
-use Rattle.ptmerge.proofs.MergeLemmas.Invariant.{IsProcessedPrefix, processed_before_line, processed_all}
-use Rattle.ptmerge.proofs.MergeLemmas.Invariant.{processed_to_disorder, processed_to_line, LagInvariant, MergeInvariant}
-use Rattle.ptmerge.proofs.MergeLemmas.Invariant.{InputSplit, IsExactStop, is_continuation, input_split, all_keys}
-use Rattle.ptmerge.proofs.MergeLemmas.Invariant.{under_fall, sorted_after}
-use Rattle.ptmerge.proofs.MergeLemmas.LinesRead.{LinesRead, HoldsLines, HasBegun, begun_gives_line, one_line_and_block}
-use Rattle.ptmerge.proofs.MergeLemmas.LinesRead.{lines_read_more, lines_read_eof, Continues, KnownLines}
-use Rattle.ptmerge.proofs.MergeLemmas.LinesRead.{lines_read_known, lines_read_of_input}
-use Rattle.ptmerge.proofs.MergeLemmas.Orders.{EachKey, EachKey-weaker, IsKeyOrder, AtMost, at_most_trans, equal_is}
 use Rattle.ptlines.proofs.MaxLength.{max_length-append}
-use Rattle.ptmerge.proofs.MergeLemmas.Slots.{with_own, line_other}
 
 -- The lines `ls` are read and `p` of them are processed: the last one is the current line, or there is none, or it is
 -- out of order.
@@ -204,10 +202,10 @@ module _ (end : ℕ) (cmp : Cmp) (o : IsKeyOrder cmp) (key : Key) (old now new :
         → is_disordered cmp last (key e.line) ≡ false → Goal last (next_cursor Head (cursor.number + 1) same)
     at_head last within sorted_up_to no_disorder =
         let now_is : line after cursor.previous_slot ≡ e.line =
-        rw e.stored (line_of_with_line before cursor.previous_slot e.line within) in
+        rw e.stored (line_of_with_line before _ e.line within) in
         let more = sorted_up_to_more e.line sorted_up_to no_disorder in
         let (may_follow, under) = from_next o key last e.line no_disorder in
-        at_next last (e.line ∷ []) e.line (next_cursor Head (cursor.number + 1) same) (AtLeast (key e.line))
+        at_next last (e.line ∷ []) e.line (next_cursor Head _ same) (AtLeast (key e.line))
         (lines_read_more lines_read e) (inr (omega (arith, length_push ls e.line))) sound (inr (e.line, refl, refl))
         (omega (arith, number, length_push ls e.line))
         (processed_before_line o more) (rw now_is (refl, more, refl)) may_follow under e.stored
@@ -273,14 +271,14 @@ pub next_same_key : (cmp : Cmp) (o : IsKeyOrder cmp) (key : Key) (cursor next : 
     → next.same ≡ (is_head next.status && bytes_eq (key (line before cursor.current_slot))
     (key (line after next.current_slot)))
 next_same_key cmp o key cursor next now new before after some within (inl e) =
-    let last = key (line before cursor.current_slot) in
-    let r = cmp last (key e.next_line.line) in
+    let last = key (line before _) in
+    let r = cmp last (key _) in
     let m = cursor.number + 1 in
     let counted : nat_lt 0 cursor.number ≡ true = grind (arith, nat_tests) in
     let now_is : line after cursor.previous_slot ≡ e.next_line.line = rw e.next_line.stored
     (line_of_with_line before cursor.previous_slot e.next_line.line within) in
     let here = status_same_key m r ∙ ap (λ (t : Bool). is_head (cond (is_gt r) (Disorder m) Head) && t)
-    (equal_is cmp o last (key e.next_line.line)) in
+    (equal_is cmp o last (key _)) in
     rw (e.cursor, counted, now_is) here
 next_same_key cmp o key cursor next now new before after some within (inr e) = rw e.cursor refl
 
@@ -390,8 +388,8 @@ ReadFactsOf tool old now new piece ls p b side =
     ReadFacts tool.terminator tool.cmp (tool.key side) (old.reader side) (now side) (new side) (piece side) (ls side)
     (p side) (b side)
 
-module _ {tool : MergeTool} {old : MergeState} (w : IsOpenMerge tool old) (new : MergeState) (now : Side → Reader)
-    (piece : Side → List ℕ) (ls p : Side → Lines) (b : Side → Bound)
+module _ {tool : MergeTool} {old : MergeState} (w : IsOpenMerge tool old) (new : MergeState) {now : Side → Reader}
+    {piece : Side → List ℕ} {ls p : Side → Lines} {b : Side → Bound}
     (g : (side : Side) → ReadFactsOf tool old now new.reader piece ls p b side) where
   open tool use {cmp, key}
 
@@ -422,19 +420,19 @@ module _ {tool : MergeTool} {old : MergeState} (w : IsOpenMerge tool old) (new :
 
   input_lines : (texts : Side → List ℕ) → AreAllConsistent both_sides given texts → (side : Side)
       → HoldsLines (now side) (ls side) (piece side) (lines tool.terminator (texts side))
-  input_lines texts agree side = lines_read_of_input _ _ _ _ _ _ (g side).lines_read (g side).reads (g side).line
+  input_lines texts agree side = lines_read_of_input (g side).lines_read (g side).reads (g side).line
       (texts side) (agree side refl)
 
   pub continues : (texts : Side → List ℕ) → AreAllConsistent both_sides given texts → (side : Side)
       → Continues (now side) (ls side) (lines tool.terminator (texts side))
   continues texts agree side = (input_lines texts agree side).continues
 
-  known : (side : Side) → KnownLines tool.terminator (old.reader side) (now side) (new.reader side) (ls side)
-      (piece side) (g side).lines_read (g side).reads (g side).line (known_lines tool.terminator (given side))
-  known side = lines_read_known _ _ _ _ _ _ (g side).lines_read (g side).reads (g side).line
+  known : (side : Side) → KnownLines (g side).lines_read (g side).reads (g side).line
+      (known_lines tool.terminator (given side))
+  known side = lines_read_known (g side).lines_read (g side).reads (g side).line
 
   whole_input_split : InputSplit tool b p (λ side. known_lines tool.terminator (given side))
-  whole_input_split = input_split_of (λ side. known_lines tool.terminator (given side)) (λ side. (known side).known)
+  whole_input_split = input_split_of (λ side. known_lines _ (given side)) (λ side. (known side).known)
 
   backs : (side : Side) → LagPoint tool.terminator (given side) (p side)
   backs side = back _ _ _ _ _ _ (new.reader side) (g side).lines_read.so_far
@@ -443,7 +441,7 @@ module _ {tool : MergeTool} {old : MergeState} (w : IsOpenMerge tool old) (new :
   -- the output and the disorder of all possible inputs
   pub exact_output : {was is : Output} {found : Option (Side × ℕ)} → MergeInvariant tool b p was is
       → IsExactStop tool b found → (texts : Side → List ℕ) → AreAllConsistent both_sides given texts
-      → (unlines tool.terminator (entries_by_key tool all_keys p) ≡ merge_output tool texts)
+      → (output_of tool p ≡ merge_output tool texts)
       × (option_map disordered_line (disorder tool (lines_of tool texts)) ≡ found)
   exact_output m stop texts agree =
       let s = input_split_of (lines_of tool texts) (continues texts agree) in
@@ -486,7 +484,7 @@ module _ {tool : MergeTool} {old : MergeState} (w : IsOpenMerge tool old) (new :
           split = sym (append-nil (p side));
         } in
         let begins = subst (λ (all : Side → Received). IsPrefix (decided_output tool all)
-        (unlines tool.terminator (entries_by_key tool all_keys front))) (λ i t. with_own side given t i)
+        (output_of tool front)) (λ i t. with_own side given t i)
         (decided_at tool w.o given front _ tail _ lag.split lag.under_bound future side point) in
         rw (← lag.all) (record {
           rest = begins.rest ++ bytes;
@@ -510,7 +508,7 @@ module _ {tool : MergeTool} {old : MergeState} (w : IsOpenMerge tool old) (new :
       -- everything was written that was decided two blocks of an input earlier
       bounded_lag = λ of read. rw lag.all at (bounded_lag_after (λ came. decided_output tool
           (with_input both_sides of (came tt) given)) (λ u. given of) old.out lag.mid
-          (unlines tool.terminator (entries_by_key tool all_keys front))
+          (output_of tool front)
           (lag_bound tool w.o given front _ tail _ lag.split lag.under_bound future of (backs of)) lag.wrote lag.clean
           new.out bytes lag.more);
       peak = λ texts agree. (let (peak, _, _) = fits (lines_of tool texts) (input_lines texts agree) in peak);
@@ -548,7 +546,7 @@ module _ {tool : MergeTool} {old : MergeState} (w : IsOpenMerge tool old) (new :
         second_unread = λ none. ⊎_elim (λ begun. absurd (has_line First begun none))
             (λ same. same ∙ (λ i. record (old.reader Second) { terminator = w.terminator Second i })) order.first;
         first_waits = λ none. ⊎_elim (λ begun. absurd (has_line Second begun none))
-            (λ few. one_line_and_block _ _ _ _ _ _ (g First).lines_read (g First).reads (g First).line (g First).sound
+            (λ few. one_line_and_block (g First).lines_read (g First).reads (g First).line (g First).sound
             few) order.second;
       };
     }
@@ -560,19 +558,19 @@ module _ {tool : MergeTool} {old : MergeState} (w : IsOpenMerge tool old) (new :
 
         has_line : (side : Side) → HasBegun (now side) (ls side) → ¬ HasNoLine tool.terminator (given side)
         has_line side begun none =
-            begun_gives_line _ _ _ _ _ _ (g side).lines_read (g side).reads (g side).line begun none
+            begun_gives_line (g side).lines_read (g side).reads (g side).line begun none
 
 -- ---- the ends before the start
 
 -- the terminator of both readers was set
-pub merge_set : (tool : MergeTool) (old new : MergeState) (set : Side → Reader) → old.out.write_failed ≡ false
+pub merge_set : {tool : MergeTool} {old new : MergeState} {set : Side → Reader} → old.out.write_failed ≡ false
     → ((side : Side) → set side ≡ record (old.reader side) { terminator = tool.terminator })
-    → (result : Result (Unit {0}) MergeFault)
-    → MergePost tool (record { reader = set; out = old.out; store = old.store }) new result
+    → {result : Result (Unit {0}) MergeFault} → MergePost tool
+    (record { reader = set; out = old.out; store = old.store }) new result
     → MergePost tool old new result
 unfolding call_set
-merge_set tool old new set clean is result m = record {
-  call = call_set both_sides (merge_engine tool) old (state_by_side set old.out old.store) new clean refl refl
+merge_set {tool} {old} {new} {set} clean is m = record {
+  call = call_set both_sides _ old _ new clean refl refl
       (λ side read. is side) (λ side none. cc) m.call;
   stops_at_disorder = m.stops_at_disorder;
   first_reads = λ fine.
@@ -588,7 +586,7 @@ merge_set tool old new set clean is result m = record {
 pub merge_halted : (tool : MergeTool) (old : MergeState) → old.store.denied ≡ false → old.out.write_failed ≡ true
     → MergePost tool old old (Err Write)
 merge_halted tool old allowed fault = record {
-  call = call_on_failed_output both_sides (merge_engine tool) fault allowed;
+  call = call_on_failed_output both_sides _ fault allowed;
   stops_at_disorder = λ side clean. cc;
   first_reads = λ clean. cc;
 }

@@ -1,21 +1,20 @@
 -- The invariant of a merge. Lines are processed in the order of their keys: no line that may still follow has a lesser
 -- key than a processed line. So the output for the processed lines is a prefix of the output for all inputs that begin
 -- with the lines read so far.
-use Rattle.ptmerge.proofs.Common.{nat_tests, ◌≡◌, ℕ, ◌+◌, List, [], ◌∷◌, ◌++◌, Bool, true, false, cond, Option, Some}
-use Rattle.ptmerge.proofs.Common.{None, length, refl, ◌∙◌, map, append_assoc, arith, nat_lt, unwrap_or, if◌then◌else◌}
-use Rattle.ptmerge.proofs.Common.{last_or, is_gt, length_push, Lines, sorted_prefix, first_disorder, FirstDisorder, Cmp}
-use Rattle.ptmerge.proofs.Common.{Key, ◌&&◌, not, ap, sym, append-nil, flat_map-append, filter, flat_map, Less, Greater}
-use Rattle.ptmerge.proofs.Common.{Side, First, Second, MergeTool, insert_key, distinct_keys, keys, entries_of_key}
-use Rattle.ptmerge.proofs.Common.{entries_by_key, earlier_disorder, is_up_to, ◌⊎◌, inl, inr, subst, is_lt, Output}
-use Rattle.ptmerge.proofs.Common.{PushEffect, unlines, push_trans, push_nothing, unlines-append, disorder, is_below}
-use Rattle.ptmerge.proofs.Common.{is_decided, is_past, merged_entries, lines_with_key, option_map, with_side}
-use Rattle.ptmerge.proofs.Common.{disordered_line}
-use Rattle.ptmerge.proofs.MergeLemmas.Orders.{IsKeyOrder, AtMost, at_most_trans, self_at_most, EachKey, EachKey-weaker}
-use Rattle.ptmerge.proofs.MergeLemmas.Orders.{Above, at_most_is_le, above_trans, less_flips, Each, Each-weaker}
-use Rattle.ptmerge.proofs.MergeLemmas.Orders.{Each-insert, Each-distinct, Each-append, Each-all, EachKey-append}
-use Rattle.ptmerge.proofs.MergeLemmas.Orders.{front_first, greater_flips}
+use Rattle.ptmerge.proofs
+use proofs.Common.{nat_tests, ◌≡◌, ℕ, ◌+◌, List, [], ◌∷◌, ◌++◌, Bool, true, false, cond, Option, Some, None, length}
+use proofs.Common.{refl, ◌∙◌, map, append_assoc, arith, nat_lt, unwrap_or, if◌then◌else◌, last_or, is_gt, length_push}
+use proofs.Common.{Lines, sorted_prefix, first_disorder, FirstDisorder, Cmp, Key, ◌&&◌, not, ap, sym, append-nil}
+use proofs.Common.{flat_map-append, filter, flat_map, Less, Greater, Side, First, Second, MergeTool, insert_key}
+use proofs.Common.{distinct_keys, keys, entries_of_key, entries_by_key, earlier_disorder, is_up_to, ◌⊎◌, inl, inr}
+use proofs.Common.{subst, is_lt, Output, PushEffect, unlines, push_trans, push_nothing, unlines-append, disorder}
+use proofs.Common.{is_below, is_decided, is_past, merged_entries, lines_with_key, option_map, with_side}
+use proofs.Common.{disordered_line}
+use proofs.MergeLemmas.Orders.{IsKeyOrder, AtMost, at_most_trans, self_at_most, EachKey, EachKey-weaker, Above}
+use proofs.MergeLemmas.Orders.{at_most_is_le, above_trans, less_flips, Each, Each-weaker, Each-insert, Each-distinct}
+use proofs.MergeLemmas.Orders.{Each-append, Each-all, EachKey-append, front_first, greater_flips}
+use proofs.MergeLemmas.Slots.{put_each}
 use Rattle.ptmerge.specs.MergeSpec.{MergeDisorder}
-use Rattle.ptmerge.proofs.MergeLemmas.Slots.{put_each}
 
 abbrev pub is_disordered : Cmp → Option (List ℕ) → List ℕ → Bool
 is_disordered cmp None k = false
@@ -82,7 +81,7 @@ after_from cmp o key k n [] = (tt, tt)
 after_from cmp o key k n (x ∷ w) =
     let ih = after_from cmp o key (key x) (n + 1) w in
     let (more, _) = ih in
-    let weaker : is_gt (cmp k (key x)) ≡ false → EachKey (AtMost cmp k) key (sorted_after cmp key (Some (key x)) w) =
+    let weaker : is_gt _ ≡ false → EachKey (AtMost cmp k) key _ =
     λ h. EachKey-weaker _ _ (λ y a. at_most_trans cmp o k (key x) y h a) _ _ more in
     grind (arith, ih, weaker, at_most_trans, self_at_most cmp o k)
 
@@ -160,7 +159,7 @@ pub processed_before_line : {cmp : Cmp} (o : IsKeyOrder cmp) {key : Key} {p : Li
     → IsSortedUpTo cmp key (p ++ x ∷ []) (Some (key x)) → IsProcessedPrefix cmp key (p ++ x ∷ []) p (AtLeast (key x))
 processed_before_line {cmp} o {key} {p} {x} g = record {
   future = λ w _.
-      let (more, later) = after_from cmp o key (key x) (length (p ++ x ∷ [])) w in
+      let (more, later) = after_from cmp o key (key x) _ w in
       record {
         rest = x ∷ sorted_after cmp key (Some (key x)) w;
         is = cc (g.ordered w, append_assoc p (x ∷ []) (sorted_after cmp key (Some (key x)) w));
@@ -208,7 +207,7 @@ module _ (cmp : Cmp) (o : IsKeyOrder cmp) where
   ascends_insert : (k : List ℕ) (ks : Lines) → Ascends cmp ks → Ascends cmp (insert_key cmp k ks)
   ascends_insert k [] a = (tt, tt)
   ascends_insert k (x ∷ ks) (above, more) =
-      let less = λ (e : cmp k x ≡ Less). Each-weaker _ (Above cmp k)
+      let less = λ (e : cmp k x ≡ Less). Each-weaker _ _
       (λ y h. above_trans cmp o k x y (ap is_gt e) h) ks above in
       let greater = λ (e : cmp k x ≡ Greater). Each-insert cmp (Above cmp x) k ks e above in
       grind (arith, less, greater, less_flips cmp o k x, ascends_insert k ks more)
@@ -223,7 +222,7 @@ module _ (cmp : Cmp) (o : IsKeyOrder cmp) where
   downward_first w p down [] a = refl
   downward_first w p down (k ∷ ks) (above, more) =
       let ih = downward_first w p down ks more in
-      let none : p k ≡ false → filter (λ y. w y && p y) ks ≡ [] = λ h. filter_none _ ks
+      let none : p k ≡ false → filter _ ks ≡ [] = λ h. filter_none _ ks
       (Each-weaker _ _ (not_above h) _ above) in
       grind (arith, ih, none)
     where
@@ -242,6 +241,10 @@ module _ (cmp : Cmp) (o : IsKeyOrder cmp) where
   pub written_is_wanted : (b1 b2 : Bound) (f1 f2 : Option FirstDisorder) (k : List ℕ) → MayDisorder cmp b1 f1
       → MayDisorder cmp b2 f2 → IsUnder cmp b1 k → IsUnder cmp b2 k → is_up_to cmp (earlier_disorder cmp f1 f2) k ≡ true
   written_is_wanted b1 b2 f1 f2 k h1 h2 u1 u2 = up_to_from k f1 f2 (under_fall b1 k f1 u1 h1) (under_fall b2 k f2 u2 h2)
+
+-- the output for these lines, of all keys
+abbrev pub output_of : MergeTool → (Side → Lines) → List ℕ
+output_of tool p = unlines tool.terminator (entries_by_key tool all_keys p)
 
 module _ (tool : MergeTool) where
   open tool use {cmp, key}
@@ -305,7 +308,7 @@ module _ (tool : MergeTool) where
 pub record MergeInvariant (tool : MergeTool) (b : Side → Bound) (p : Side → Lines) (was is : Output) : Type 0 where
   pub splits : Splits tool b p
   pub under : (of side : Side) → EachKey (IsUnder tool.cmp (b of)) (tool.key side) (p side)
-  pub wrote : PushEffect was is (unlines tool.terminator (entries_by_key tool all_keys p))
+  pub wrote : PushEffect was is (output_of tool p)
 
 -- before anything is read
 pub merge_invariant_starts : (tool : MergeTool) (was : Output)
@@ -322,10 +325,10 @@ pub record LagInvariant (tool : MergeTool) (b : Side → Bound) (p : Side → Li
   pub tail : Side → Lines
   pub bound : Side → Bound
   pub clean : mid.write_failed ≡ false
-  pub wrote : PushEffect was mid (unlines tool.terminator (entries_by_key tool all_keys front))
+  pub wrote : PushEffect was mid (output_of tool front)
   pub bytes : List ℕ
   pub more : PushEffect mid is bytes
-  pub all : unlines tool.terminator (entries_by_key tool all_keys front) ++ bytes ≡ unlines tool.terminator done
+  pub all : output_of tool front ++ bytes ≡ unlines tool.terminator done
   pub split : (side : Side) → p side ≡ front side ++ tail side
   pub under : (of side : Side) → EachKey (IsUnder tool.cmp (b of)) (tool.key side) (p side)
   pub under_bound : (of side : Side) → EachKey (IsUnder tool.cmp (bound of)) (tool.key side) (p side)
@@ -348,7 +351,7 @@ lag_invariant_starts {tool} {b} {p} {mid = mid} m clean more = record {
   wrote = m.wrote;
   bytes = [];
   more = more;
-  all = append-nil (unlines tool.terminator (entries_by_key tool all_keys p));
+  all = append-nil _;
   split = λ side. sym (append-nil (p side));
   under = m.under;
   under_bound = m.under;
@@ -383,7 +386,7 @@ pub write_least_run : {tool : MergeTool} (o : IsKeyOrder tool.cmp) (k : List ℕ
     (f Second ++ lines_with_key (tool.key Second) (r Second) k) ≡ tool.entries k (f First) (f Second) ++ entries_of_key
     tool r k)
     → is.write_failed ≡ false → MergeInvariant tool b p was is
-    → PushEffect is new (unlines tool.terminator (entries_by_key tool all_keys f)) → MergeInvariant tool b q was new
+    → PushEffect is new (output_of tool f) → MergeInvariant tool b q was new
     × AllWritten tool b q was new
 write_least_run {tool} o k q f {b} {p} {was} {is} {new} front all none law clean m wrote =
     let nothing =
@@ -392,8 +395,8 @@ write_least_run {tool} o k q f {b} {p} {was} {is} {new} front all none law clean
     let texts = ap (unlines tool.terminator) (m.splits.split all_keys f nothing)
     ∙ unlines-append tool.terminator (entries_by_key tool all_keys p) (entries_by_key tool all_keys f) in
     let under : (of side : Side) → EachKey (IsUnder tool.cmp (b of)) (tool.key side) (p side ++ f side) =
-    λ of side. EachKey-append (IsUnder tool.cmp (b of)) (tool.key side) _ _ (m.under of side)
-    (EachKey-weaker (λ y. y ≡ k) (IsUnder tool.cmp (b of)) (λ y e. rw e (front of).under) _ _ (front side).own) in
+    λ of side. EachKey-append _ (tool.key side) _ _ (m.under of side)
+    (EachKey-weaker _ _ (λ y e. rw e (front of).under) _ _ (front side).own) in
     subst (λ (l : Side → Lines). MergeInvariant tool b l was new × AllWritten tool b l was new)
     (λ i side. sym (all side) i) (
       record {
@@ -410,7 +413,7 @@ write_least_run {tool} o k q f {b} {p} {was} {is} {new} front all none law clean
         bound = b;
         clean = clean;
         wrote = m.wrote;
-        bytes = unlines tool.terminator (entries_by_key tool all_keys f);
+        bytes = output_of tool f;
         more = wrote;
         all = sym texts;
         split = λ side. refl;
@@ -489,7 +492,7 @@ module _ (cmp : Cmp) (o : IsKeyOrder cmp) where
   past_none key other_key b p r u c = by (last_or None (map key p)) refl
     where
       by : (l : Option (List ℕ)) → last_or None (map key p) ≡ l → EachKey (λ k. is_below cmp k l ≡ false) other_key r
-      by None e = Each-all _ (λ k. refl) (map other_key r)
+      by None e = Each-all _ (λ k. refl) _
       by (Some x) e = EachKey-weaker _ _ (λ k h. not_below k x h) _ _
           (coming_under other_key b x r (last_has key (IsUnder cmp b) None p x e (λ y bad. cc) u) c)
 
@@ -509,24 +512,20 @@ all_three : (x y z u v w : Bool) → (x ≡ true → u ≡ true) → (y ≡ true
     → (x && y && z) ≡ true → (u && v && w) ≡ true
 all_three x y z u v w f g h e = grind arith
 
-and_false : (x y z : Bool) → (y ≡ false) ⊎ (z ≡ false) → (x && y && z) ≡ false
-and_false x y z e = grind arith
-
 module _ (tool : MergeTool) (o : IsKeyOrder tool.cmp) (eof : Side → Bool) (ls : Side → Lines) where
   open tool use {cmp}
 
   pub downward_decided : IsDownwardClosed cmp (is_decided tool eof ls)
   downward_decided a b g h =
-      all_three _ _ _ _ _ _ (downward_up_to cmp o (disorder tool ls) a b g)
+      all_three _ _ _ _ _ _ (downward_up_to cmp o _ a b g)
       (downward_past cmp o (tool.key First) (eof First) (ls First) a b g)
       (downward_past cmp o (tool.key Second) (eof Second) (ls Second) a b g) h
 
   -- no key is decided unless it is past in this input
   pub not_decided : (side : Side) (k : List ℕ) → is_past cmp (tool.key side) (eof side) (ls side) k ≡ false
       → is_decided tool eof ls k ≡ false
-  not_decided First k e = and_false _ _ _ (inl e)
-  not_decided Second k e =
-      and_false (is_up_to cmp (disorder tool ls) k) (is_past cmp (tool.key First) (eof First) (ls First) k) _ (inr e)
+  not_decided First k e = grind (arith, e)
+  not_decided Second k e = grind (arith, e)
 
 -- two lists that continue the lines read so far
 pub record InputSplit (tool : MergeTool) (b : Side → Bound) (p ls : Side → Lines) : Type 0 where
@@ -545,7 +544,7 @@ input_split {tool} o {b} {p} {ls} m s =
     let first =
     all_wanted tool w p (λ side. both_under (tool.key side) (IsUnder tool.cmp (b First)) (IsUnder tool.cmp (b Second))
     (λ k. w k ≡ true)
-    (λ k u1 u2. written_is_wanted tool.cmp o (b First) (b Second) (first_disorder tool.cmp (tool.key First) (ls First))
-    (first_disorder tool.cmp (tool.key Second) (ls Second)) k
+    (λ k u1 u2. written_is_wanted _ o (b First) (b Second) _
+    _ k
     (s.may_disorder First) (s.may_disorder Second) u1 u2) (p side) (m.under First side) (m.under Second side)) in
     (λ i. entries_by_key tool w (λ side. s.parts side i)) ∙ cc (m.splits.split w s.r s.may_follow, first)

@@ -1,24 +1,24 @@
 -- Bounded lag. Leave out the buffered bytes, at most a block, and the terminator of a line that is not yet processed:
 -- the complete lines that remain are all processed. No key below the last of these can follow in either input, so with
 -- any content of the other input they decide only output that is written.
-use Rattle.ptmerge.proofs.Common.{◌≡◌, ◌⊎◌, ⊎_elim, inl, inr, ℕ, ◌+◌, ◌≤◌, false, List, [], ◌∷◌, ◌++◌, Option, Some}
-use Rattle.ptmerge.proofs.Common.{None, length, map, refl, sym, ◌∙◌, ap, arith, append_assoc, length-append, last_or}
-use Rattle.ptmerge.proofs.Common.{append-nil, append_cancel_right, Received, known_lines, LaggedInput, Reader, unlines}
-use Rattle.ptmerge.proofs.Common.{IsLine, AreLines, received_with, complete_lines_of_unlines, unlines_push, the_lines}
-use Rattle.ptmerge.proofs.Common.{Lines, first_disorder, is_below, sorted_prefix, Cmp, Key, Bool, filter-append, filter}
-use Rattle.ptmerge.proofs.Common.{IsPrefix, unlines-append, Side, First, Second, MergeTool, entries_by_key}
-use Rattle.ptmerge.proofs.Common.{decided_entries, disorder, earlier_disorder, is_decided, lines_decide_disorder, other}
-use Rattle.ptmerge.proofs.Common.{ProcessLag, decided_output, disorder_is_decided, with_side, FirstDisorder, map-append}
-use Rattle.ptmerge.proofs.Common.{with_input, both_sides, subst, sorted_prefixes}
-use Rattle.ptmerge.proofs.MergeLemmas.Invariant.{disorder_after, first_disorder_is, is_disordered, sorted_after}
-use Rattle.ptmerge.proofs.MergeLemmas.Invariant.{sorted_prefix_is, Bound, IsDisorderFrom, IsUnder, MayFollow, not_below}
-use Rattle.ptmerge.proofs.MergeLemmas.Invariant.{downward_decided, not_decided, past_none, all_keys, downward_is_prefix}
-use Rattle.ptmerge.proofs.MergeLemmas.Invariant.{AtLeast, none_wanted}
-use Rattle.ptmerge.proofs.MergeLemmas.LinesRead.{IsReadAs}
-use Rattle.ptmerge.proofs.MergeLemmas.Orders.{EachKey, Each-all, EachKey-weaker, Each-parts, kept_none, IsKeyOrder}
-use Rattle.ptmerge.proofs.MergeLemmas.Orders.{AtMost, at_most_trans, self_at_most}
-use Rattle.ptmerge.proofs.Parts.{by_keys_kept}
-use Rattle.ptmerge.proofs.MergeLemmas.Slots.{put_each, put_other, put_same, with_side_is}
+use Rattle.ptmerge.proofs
+use proofs.Common.{◌≡◌, ◌⊎◌, ⊎_elim, inl, inr, ℕ, ◌+◌, ◌≤◌, false, List, [], ◌∷◌, ◌++◌, Option, Some, None, length, map}
+use proofs.Common.{refl, sym, ◌∙◌, ap, arith, append_assoc, length-append, last_or, append-nil, append_cancel_right}
+use proofs.Common.{Received, known_lines, LaggedInput, Reader, unlines, IsLine, AreLines, received_with}
+use proofs.Common.{complete_lines_of_unlines, unlines_push, the_lines, Lines, first_disorder, is_below, sorted_prefix}
+use proofs.Common.{Cmp, Key, Bool, filter-append, filter, IsPrefix, unlines-append, Side, First, Second, MergeTool}
+use proofs.Common.{entries_by_key, decided_entries, disorder, earlier_disorder, is_decided, lines_decide_disorder}
+use proofs.Common.{other, ProcessLag, decided_output, disorder_is_decided, with_side, FirstDisorder, map-append}
+use proofs.Common.{with_input, both_sides, subst, sorted_prefixes}
+use proofs.MergeLemmas.Invariant.{output_of, disorder_after, first_disorder_is, is_disordered, sorted_after}
+use proofs.MergeLemmas.Invariant.{sorted_prefix_is, Bound, IsDisorderFrom, IsUnder, MayFollow, not_below}
+use proofs.MergeLemmas.Invariant.{downward_decided, not_decided, past_none, all_keys, downward_is_prefix, AtLeast}
+use proofs.MergeLemmas.Invariant.{none_wanted}
+use proofs.MergeLemmas.LinesRead.{IsReadAs}
+use proofs.MergeLemmas.Orders.{EachKey, Each-all, EachKey-weaker, Each-parts, kept_none, IsKeyOrder, AtMost}
+use proofs.MergeLemmas.Orders.{at_most_trans, self_at_most}
+use proofs.Parts.{by_keys_kept}
+use proofs.MergeLemmas.Slots.{put_each, put_other, put_same, with_side_is}
 use Rattle.ptlines.proofs.LineSearch.{IsLine-append}
 use Rattle.ptmerge.specs.MergeSpec.{MergeDisorder}
 
@@ -66,7 +66,7 @@ module _ (cmp : Cmp) (o : IsKeyOrder cmp) (key : Key) where
   none_below : (xs ys : Lines) → IsSortedFrom cmp key None (xs ++ ys)
       → EachKey (λ k. is_below cmp k (last_or None (map key xs)) ≡ false) key ys
   none_below xs ys r =
-      let (_, rest) = sorted_from_parts cmp key None xs ys r in by (last_or None (map key xs)) rest
+      let (_, rest) = sorted_from_parts cmp key None xs ys r in by _ rest
     where
       by : (l : Option (List ℕ)) → IsSortedFrom cmp key l ys → EachKey (λ k. is_below cmp k l ≡ false) key ys
       by None h = Each-all _ (λ k. refl) (map key ys)
@@ -205,7 +205,7 @@ module _ (tool : MergeTool) (o : IsKeyOrder tool.cmp) (eof : Side → Bool) (ls 
   pub decided_of_passed : (p : Side → Lines) → ((side : Side) → Differ tool (last_or None (map (tool.key of) (ls of)))
       (tool.key side) (sorted_prefix cmp (tool.key side) (ls side)) (p side))
       → IsPrefix (unlines terminator (decided_entries tool eof ls))
-      (unlines terminator (entries_by_key tool all_keys p))
+      (output_of tool p)
   decided_of_passed p differ =
       let dec = is_decided tool eof ls in
       let (rest, is) = downward_is_prefix tool o dec (downward_decided tool o eof ls) p in
@@ -230,7 +230,7 @@ module _ (tool : MergeTool) (o : IsKeyOrder tool.cmp) (eof : Side → Bool) (ls 
       (tool.key of) (ls of) → lines_decide_disorder tool eof ls (disorder tool ls) ≡ false
   not_settled up =
       -- a bound of all keys is not below the last one
-      let above = λ (e : List ℕ) (most : EachKey (λ k. AtMost cmp k e) (tool.key of) (ls of)).
+      let above = λ (e : List ℕ) (most : EachKey _ (tool.key of) (ls of)).
       (let (below, _) = past_none cmp o (tool.key of) (λ k. k) (AtLeast e) (ls of) (e ∷ []) most
       (self_at_most cmp o e, tt) in undecided e below) in
       of_other cmp of (λ side. first_disorder cmp (tool.key side) (ls side)) (lines_decide_disorder tool eof ls)
@@ -259,7 +259,7 @@ module _ (tool : MergeTool) (o : IsKeyOrder tool.cmp) (given : Side → Received
       (λ i side. with_side_is of nothing given side i)
       (ap (unlines tool.terminator) (none_wanted tool (is_decided tool (λ side. (unread side).eof) unread_lines)
       (sorted_prefixes tool unread_lines) (λ side. Each-all
-      (λ k. is_decided tool (λ side. (unread side).eof) unread_lines k ≡ false) none_decided
+      _ none_decided
       (map (tool.key side) (sorted_prefixes tool unread_lines side)))))
 
   pub unread_decides_no_disorder : disorder_is_decided tool unread ≡ false
@@ -268,7 +268,7 @@ module _ (tool : MergeTool) (o : IsKeyOrder tool.cmp) (given : Side → Received
       by : (d : Option MergeDisorder)
           → lines_decide_disorder tool (λ side. (unread side).eof) unread_lines d ≡ false
       by None = refl
-      by (Some d) = none_decided d.first_disorder.last_key
+      by (Some d) = none_decided _
 
 -- ---- the output decided two blocks earlier
 
@@ -314,8 +314,8 @@ module _ (tool : MergeTool) (o : IsKeyOrder tool.cmp) (given : Side → Received
     -- no line that follows is below that key
     above : (side : Side) → EachKey (λ k. is_below cmp k last ≡ false) (tool.key side) (tail side ++ (future side).rest)
     above side =
-        past_none cmp o (tool.key of) (tool.key side) (bound side) whole (tail side ++ (future side).rest)
-        (front_has (IsUnder cmp (bound side)) (tool.key of) whole point.rest
+        past_none cmp o (tool.key of) _ (bound side) whole _
+        (front_has _ (tool.key of) whole point.rest
         (rw point.split at (under side of))) (future side).may_follow
 
     -- the lines of an input are the processed ones, except for lines that are not below that key
@@ -329,7 +329,7 @@ module _ (tool : MergeTool) (o : IsKeyOrder tool.cmp) (given : Side → Received
       tail = tail of;
       same = sym point.split ∙ split of;
       none_rest = none_below cmp o (tool.key of) whole point.rest in_order;
-      none_tail = front_has (λ k. is_below cmp k last ≡ false) (tool.key of) (tail of) (future of).rest (above of);
+      none_tail = front_has _ (tool.key of) (tail of) (future of).rest (above of);
     })
 
     others : (side : Side) → Differs side (given side)
@@ -357,16 +357,16 @@ module _ (tool : MergeTool) (o : IsKeyOrder tool.cmp) (given : Side → Received
 
     -- the output that this part decides was pushed
     pub decided_at : IsPrefix (decided_output tool (with_input both_sides of point.before.earlier given))
-        (unlines terminator (entries_by_key tool all_keys p))
+        (output_of tool p)
     decided_at = subst (λ (m : Side → Received). IsPrefix (decided_output tool m)
-        (unlines terminator (entries_by_key tool all_keys p)))
+        (output_of tool p))
         (λ i side. with_side_is of point.before.earlier given side i)
         (decided_of_passed tool o (λ side. (mix side).eof) (λ side. known_lines terminator (mix side)) of going
         (rw whole_now no_disorder) p
         (rw whole_now (put_each Differs of point.before.earlier given mine others)))
 
     pub lag_bound : ProcessLag {I = Unit {0}} (λ came. decided_output tool (with_input both_sides of (came tt) given))
-        (λ u. given of) (unlines terminator (entries_by_key tool all_keys p))
+        (λ u. given of) (output_of tool p)
     lag_bound = record { before = λ u. point.before; begins = decided_at }
 
     -- no disorder was decided

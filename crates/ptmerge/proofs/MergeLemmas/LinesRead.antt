@@ -1,12 +1,12 @@
 -- The lines read from a source. The bytes received are the lines read so far, and all but the last have their
 -- terminator. So every input that begins with these bytes begins with these lines.
-use Rattle.ptmerge.proofs.Common.{◌≡◌, ◌⊎◌, ⊎_elim, inl, inr, ℕ, ◌+◌, ◌<◌, ◌≤◌, Bool, true, false, List, [], ◌∷◌, ◌++◌}
-use Rattle.ptmerge.proofs.Common.{None, length, max, refl, sym, ◌∙◌, ap, arith, append_assoc, length-append, append-nil}
-use Rattle.ptmerge.proofs.Common.{nil_from_length, FillLine, Received, IsConsistent, known_lines, Reader, ReaderAdvance}
-use Rattle.ptmerge.proofs.Common.{reads_nothing, AdvanceOk, IsDone, Slots, unlines, lines, complete_lines, IsLine}
-use Rattle.ptmerge.proofs.Common.{AreLines, max_length, received_with, advance_ok_trans, lines_of_unlines}
-use Rattle.ptmerge.proofs.Common.{lines_of_last, unlines_push, IsSound, HasNoLine, IsFirstLineAndBlock, AreLines_push}
-use Rattle.ptmerge.proofs.Common.{complete_lines_none, complete_lines_cons}
+use Rattle.ptmerge.proofs
+use proofs.Common.{◌≡◌, ◌⊎◌, ⊎_elim, inl, inr, ℕ, ◌+◌, ◌<◌, ◌≤◌, Bool, true, false, List, [], ◌∷◌, ◌++◌, None, length}
+use proofs.Common.{max, refl, sym, ◌∙◌, ap, arith, append_assoc, length-append, append-nil, nil_from_length, FillLine}
+use proofs.Common.{Received, IsConsistent, known_lines, Reader, ReaderAdvance, reads_nothing, AdvanceOk, IsDone, Slots}
+use proofs.Common.{unlines, lines, complete_lines, IsLine, AreLines, max_length, received_with, advance_ok_trans}
+use proofs.Common.{lines_of_unlines, lines_of_last, unlines_push, IsSound, HasNoLine, IsFirstLineAndBlock}
+use proofs.Common.{AreLines_push, complete_lines_none, complete_lines_cons}
 use Rattle.ptlines.proofs.MaxLength.{max_length-append, piece_le_max_length}
 
 -- complete lines, and then the complete lines of the rest
@@ -14,7 +14,7 @@ ended_more : (end : ℕ) (ls : List (List ℕ)) (bytes : List ℕ) → AreLines 
     → complete_lines end (unlines end ls ++ bytes) ≡ ls ++ complete_lines end bytes
 ended_more end [] bytes w = refl
 ended_more end (line ∷ ls) bytes (free, more) = cc (
-  append_assoc (line ++ end ∷ []) (unlines end ls) bytes,
+  append_assoc _ _ bytes,
   append_assoc line (end ∷ []) (unlines end ls ++ bytes),
   complete_lines_cons end line (unlines end ls ++ bytes) free,
   ended_more end ls bytes more,
@@ -73,7 +73,7 @@ lines_read_more {end} {old} {now} {new} {ls} c e = record {
   given = c.given ++ (e.line ++ e.terminator);
   so_far = ⊎_elim opened (λ (_, done). absurd
       (omega (arith, some_came, ap length (done_gives_nothing done e.advance_ok.reads).bytes_are))) c.so_far;
-  advance_ok = advance_ok_trans old now new c.given (e.line ++ e.terminator) c.advance_ok e.advance_ok;
+  advance_ok = advance_ok_trans old now new c.given _ c.advance_ok e.advance_ok;
   terminator = e.advance_ok.reads.terminator ∙ c.terminator;
 }
   where
@@ -115,7 +115,7 @@ pub record HoldsLines (now : Reader) (ls : List (List ℕ)) (piece : List ℕ) (
   pub continues : Continues now ls all
   pub longest : max (max_length ls) (length piece) ≤ max_length all
 
-module _ (end : ℕ) (old now new : Reader) (ls : List (List ℕ)) (piece : List ℕ) (c : LinesRead end old now ls)
+module _ {end : ℕ} {old now new : Reader} {ls : List (List ℕ)} {piece : List ℕ} (c : LinesRead end old now ls)
     (reads : ReaderAdvance now new piece) (line : IsLine now.terminator piece) where
   abbrev came : Received
   came = received_with (c.given ++ piece) new
@@ -129,7 +129,7 @@ module _ (end : ℕ) (old now new : Reader) (ls : List (List ℕ)) (piece : List
   front_of is rest = rw is (simp append_assoc)
 
   -- the lines of an input that is consistent with the bytes received
-  pub lines_read_of_input : (input : List ℕ) → IsConsistent (received_with (c.given ++ piece) new) input
+  pub lines_read_of_input : (input : List ℕ) → IsConsistent came input
       → HoldsLines now ls piece (lines end input)
   lines_read_of_input input a = ⊎_elim (λ (is, lines_are).
       let more = lines end (piece ++ (new.buffered ++ a.rest)) in
@@ -161,17 +161,17 @@ module _ (end : ℕ) (old now new : Reader) (ls : List (List ℕ)) (piece : List
     pub known : Continues now ls ws
     pub exact : new.buffered ≡ [] → new.eof ≡ false → ws ≡ ls
 
-  pub lines_read_known : KnownLines (known_lines end (received_with (c.given ++ piece) new))
+  pub lines_read_known : KnownLines (known_lines end came)
   lines_read_known = by_end new.eof refl
     where
-      by_end : (t : Bool) → new.eof ≡ t → KnownLines (known_lines end (received_with (c.given ++ piece) new))
+      by_end : (t : Bool) → new.eof ≡ t → KnownLines (known_lines end came)
       by_end true e =
-          let all : known_lines end (received_with (c.given ++ piece) new)
-          ≡ lines end ((c.given ++ piece) ++ new.buffered) = rw e in
-          let w = (lines_read_of_input ((c.given ++ piece) ++ new.buffered)
+          let all : known_lines end came
+          ≡ lines end _ = rw e in
+          let w = (lines_read_of_input _
           (record {
             rest = [];
-            is = sym (append-nil ((c.given ++ piece) ++ new.buffered));
+            is = sym (append-nil _);
             whole = λ _. refl;
           })).continues in
           record {
@@ -179,13 +179,13 @@ module _ (end : ℕ) (old now new : Reader) (ls : List (List ℕ)) (piece : List
             exact = λ _ going. cc;
           }
       by_end false e = ⊎_elim (λ (given_is, all).
-          let is : known_lines end (received_with (c.given ++ piece) new)
+          let is : known_lines end came
           ≡ ls ++ complete_lines end (piece ++ (new.buffered ++ [])) =
           rw e (ap (complete_lines end) (sym (append-nil ((c.given ++ piece) ++ new.buffered)) ∙ front_of given_is [])
           ∙ ended_more end ls (piece ++ (new.buffered ++ [])) all) in
           record {
             known = record {
-              more = complete_lines end (piece ++ (new.buffered ++ []));
+              more = complete_lines end _;
               is = is;
               done = λ d. cc (done_gives_nothing d reads).eof;
             };
@@ -193,17 +193,17 @@ module _ (end : ℕ) (old now new : Reader) (ls : List (List ℕ)) (piece : List
           }) (λ (_, done). cc (done_gives_nothing done reads).eof) c.so_far
 
   -- after the first line or the end was read, one of both was received
-  pub begun_gives_line : HasBegun now ls → ¬ HasNoLine end (received_with (c.given ++ piece) new)
+  pub begun_gives_line : HasBegun now ls → ¬ HasNoLine end came
   begun_gives_line begun none =
       ⊎_elim (λ done. cc (none.eof, (done_gives_nothing done reads).eof)) (λ some.
-      let nothing : known_lines end (received_with (c.given ++ piece) new) ≡ [] = rw none.eof
+      let nothing : known_lines end came ≡ [] = rw none.eof
       (complete_lines_none end ((c.given ++ piece) ++ new.buffered) none.unterminated) in
       let known = lines_read_known.known in
       absurd (omega (arith, some, ap length (sym nothing ∙ known.is), length-append ls known.more))) begun
 
   -- at most one line was read, or a part of it
   pub one_line_and_block : IsSound new → length ls + length (lines end piece) ≤ 1
-      → IsFirstLineAndBlock end (received_with (c.given ++ piece) new)
+      → IsFirstLineAndBlock end came
   one_line_and_block sound few = record {
     first = c.given ++ piece;
     rest = new.buffered;

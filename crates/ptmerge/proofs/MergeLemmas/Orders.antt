@@ -1,12 +1,12 @@
 -- Consequences of the laws of an order of keys. Distinct keys are sorted, so the entries of the least key come first,
 -- followed by the entries of the lines with other keys.
-use Rattle.ptmerge.proofs.Common.{◌≡◌, ◌⊎◌, ⊎_elim, inl, inr, ℕ, List, Bool, true, false, refl, sym, ◌∙◌, ap, arith}
-use Rattle.ptmerge.proofs.Common.{false≢true}
-use Rattle.ptmerge.proofs.Common.{bytes_eq, Ordering, Less, Equal, Greater, is_eq, is_gt, is_le, ordering_reverse}
-use Rattle.ptmerge.proofs.Common.{bytes_decides, back_total, nat_list_cmp_total, tied_itself, upto, Cmp, byte_cmp}
-use Rattle.ptmerge.proofs.Common.{line_cmp, ◌<◌, length, get_or, suc, zero, [], ◌∷◌, ◌++◌, cond, map, append_assoc}
-use Rattle.ptmerge.proofs.Common.{append-nil, filter, flat_map, Side, First, Second, Lines, MergeTool, insert_key}
-use Rattle.ptmerge.proofs.Common.{distinct_keys, keys, lines_with_key, entries_of_key, entries_by_key, Key, map-append}
+use Rattle.ptmerge.proofs
+use proofs.Common.{◌≡◌, ◌⊎◌, ⊎_elim, inl, inr, ℕ, List, Bool, true, false, refl, sym, ◌∙◌, ap, arith, false≢true}
+use proofs.Common.{bytes_eq, Ordering, Less, Equal, Greater, is_eq, is_gt, is_le, ordering_reverse, bytes_decides}
+use proofs.Common.{back_total, nat_list_cmp_total, tied_itself, upto, Cmp, byte_cmp, line_cmp, ◌<◌, length, get_or, suc}
+use proofs.Common.{zero, [], ◌∷◌, ◌++◌, cond, map, append_assoc, append-nil, filter, flat_map, Side, First, Second}
+use proofs.Common.{Lines, MergeTool, insert_key, distinct_keys, keys, lines_with_key, entries_of_key, entries_by_key}
+use proofs.Common.{Key, map-append}
 use Rattle.std.specs.Cmp.{IsTotalOrder}
 use Rattle.ptmerge.specs.OrderLaws.{reversed_same_bytes, byte_cmp_equal}
 
@@ -66,14 +66,11 @@ module _ (cmp : Cmp) (o : IsKeyOrder cmp) where
 
   -- a ≤ b < c
   pub above_trans : (a b c : List ℕ) → AtMost cmp a b → cmp c b ≡ Greater → cmp c a ≡ Greater
-  above_trans a b c p g = ⊎_elim (λ (_, same). rw same at g)
-      (λ (_, greater). less_flips a c (o.total.trans a b c (greater_flips b a greater) (greater_flips c b g)))
-      (least_or_above a b p)
+  above_trans a b c p g = grind (arith, g, least_or_above a b p, greater_flips, less_flips a c, o.total.trans a b c)
 
   -- a < b ≤ c
   pub above_up : (a b c : List ℕ) → cmp b a ≡ Greater → AtMost cmp b c → cmp c a ≡ Greater
-  above_up a b c g p = ⊎_elim (λ (_, same). rw same g) (λ (_, greater). less_flips a c
-      (o.total.trans a b c (greater_flips b a g) (greater_flips c b greater))) (least_or_above b c p)
+  above_up a b c g p = grind (arith, g, least_or_above b c p, greater_flips, less_flips a c, o.total.trans a b c)
 
   pub at_most_is_le : (a b : List ℕ) → AtMost cmp a b → is_le (cmp a b) ≡ true
   at_most_is_le a b h = grind arith
@@ -105,7 +102,7 @@ EachKey-at P key (x ∷ xs) (suc i) low (_, more) = EachKey-at P key xs i (omega
 
 pub EachKey-weaker : (P Q : List ℕ → Type 0) → ((x : List ℕ) → P x → Q x) → (key : Key) (xs : Lines) → EachKey P key xs
     → EachKey Q key xs
-EachKey-weaker P Q f key xs e = Each-weaker P Q f (map key xs) e
+EachKey-weaker P Q f key xs e = Each-weaker P Q f _ e
 
 pub Each-all : (P : List ℕ → Type 0) → ((x : List ℕ) → P x) → (xs : Lines) → Each P xs
 Each-all P f [] = tt
@@ -121,7 +118,7 @@ Each-parts P (x ∷ xs) ys (here, more) = let (front, rest) = Each-parts P xs ys
 
 pub EachKey-append : (P : List ℕ → Type 0) (key : Key) (xs ys : Lines) → EachKey P key xs → EachKey P key ys
     → EachKey P key (xs ++ ys)
-EachKey-append P key xs ys e h = rw (map-append key xs ys) (Each-append P (map key xs) (map key ys) e h)
+EachKey-append P key xs ys e h = rw (map-append key xs ys) (Each-append P _ _ e h)
 
 pub Each-insert : (cmp : Cmp) (P : List ℕ → Type 0) (k : List ℕ) (xs : Lines) → P k → Each P xs
     → Each P (insert_key cmp k xs)
@@ -131,7 +128,7 @@ Each-insert cmp P k (x ∷ xs) h (here, more) = let ih = Each-insert cmp P k xs 
 pub Each-distinct : (cmp : Cmp) (P : List ℕ → Type 0) (xs : Lines) → Each P xs → Each P (distinct_keys cmp xs)
 Each-distinct cmp P [] e = tt
 Each-distinct cmp P (x ∷ xs) (here, more) =
-    Each-insert cmp P x (distinct_keys cmp xs) here (Each-distinct cmp P xs more)
+    Each-insert cmp P x (distinct_keys cmp xs) here (Each-distinct _ P xs more)
 
 -- the keys other than k
 abbrev others : List ℕ → Lines → Lines
@@ -158,21 +155,10 @@ module _ (cmp : Cmp) (o : IsKeyOrder cmp) where
       → (distinct_keys cmp ks ≡ k ∷ distinct_keys cmp (others k ks))
       ⊎ ((distinct_keys cmp ks ≡ distinct_keys cmp (others k ks)) × Each (λ y. bytes_eq y k ≡ false) ks)
   distinct_least k [] e = inr (refl, tt)
-  distinct_least k (y ∷ ks) (here, more) = by (least_or_above cmp o k y here) (distinct_least k ks more)
-    where
-      above : Each (Above cmp k) (distinct_keys cmp (others k ks))
-      above = Each-distinct _ _ _ (others_above k ks more)
-
-      by : ((bytes_eq y k ≡ true) × (y ≡ k)) ⊎ ((bytes_eq y k ≡ false) × (cmp y k ≡ Greater))
-          → (distinct_keys cmp ks ≡ k ∷ distinct_keys cmp (others k ks))
-          ⊎ ((distinct_keys cmp ks ≡ distinct_keys cmp (others k ks)) × Each (λ z. bytes_eq z k ≡ false) ks)
-          → (insert_key cmp y (distinct_keys cmp ks) ≡ k ∷ distinct_keys cmp (others k (y ∷ ks)))
-          ⊎ ((insert_key cmp y (distinct_keys cmp ks) ≡ distinct_keys cmp (others k (y ∷ ks)))
-          × Each (λ z. bytes_eq z k ≡ false) (y ∷ ks))
-      by (inl (is, same)) (inl d) = inl (rw (is, same, d, tied_itself o.total k))
-      by (inl (is, same)) (inr (without_k, _)) = inl (rw (is, same, without_k, insert_least k _ above))
-      by (inr (apart, greater)) (inl d) = inl (rw (apart, d, greater))
-      by (inr (apart, _)) (inr (without_k, none)) = inr (rw (apart, without_k), (apart, none))
+  distinct_least k (y ∷ ks) (here, more) =
+      let above = Each-distinct cmp _ _ (others_above k ks more) in
+      let least = insert_least k (distinct_keys cmp (others k ks)) above in
+      grind (arith, distinct_least k ks more, least_or_above cmp o k y here, tied_itself o.total k, least)
 
 others-keys : (key1 key2 : Key) (k : List ℕ) (xs ys : Lines)
     → others k (map key1 xs ++ map key2 ys) ≡ map key1 (without key1 k xs) ++ map key2 (without key2 k ys)
@@ -242,8 +228,8 @@ module _ (tool : MergeTool) (o : IsKeyOrder tool.cmp) where
           ++ entries_by_key tool w (others_of k ls)
       by (inl d) = rw (d, ← rest) (grind arith)
       by (inr (without_k, absent)) =
-          let (absent1, absent2) = Each-parts (λ y. bytes_eq y k ≡ false) (map (tool.key First) (ls First))
-          (map (tool.key Second) (ls Second)) absent in
+          let (absent1, absent2) = Each-parts _ _
+          (map _ (ls Second)) absent in
           rw (without_k, ← rest) (grind (
             arith,
             none,
@@ -261,7 +247,7 @@ module _ (tool : MergeTool) (o : IsKeyOrder tool.cmp) where
   pub at_most-same : (key : Key) (k : List ℕ) (f r : Lines) → EachKey (λ x. x ≡ k) key f → EachKey (AtMost cmp k) key r
       → EachKey (AtMost cmp k) key (f ++ r)
   at_most-same key k f r e h =
-      EachKey-append _ key f r (EachKey-weaker _ _ (λ x is. rw is (self_at_most cmp o k)) key f e) h
+      EachKey-append _ key f r (EachKey-weaker _ _ (λ x is. rw is (self_at_most cmp o k)) _ f e) h
 
   glued : (t : Bool) (all a b rest : Lines) → all ≡ a ++ b
       → cond t all [] ++ rest ≡ cond t a [] ++ (cond t b [] ++ rest)

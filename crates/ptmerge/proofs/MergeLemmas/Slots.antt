@@ -1,10 +1,10 @@
 -- Lines in the slots of a store. A slot changes only if its own input reads, so two lines of each input, none longer
 -- than its longest line, bound the bytes stored.
-use Rattle.ptmerge.proofs.Common.{◌≡◌, ◌≢◌, inl, inr, ℕ, zero, suc, ◌+◌, ◌*◌, ◌≤◌, false, List, [], ◌∷◌, ◌++◌, length}
-use Rattle.ptmerge.proofs.Common.{max, refl, sym, ◌∙◌, arith, get_or, set, length-set, get_or-set_other, sum_by-cons}
-use Rattle.ptmerge.proofs.Common.{Slots, line, total_bytes, with_new_slot, with_line, Side, First, Second, Sorted}
-use Rattle.ptmerge.proofs.Common.{HasSlots, EnsureFourSlotsPost, ClearFourSlotsPost, Bool, both, with_side, other}
-use Rattle.ptmerge.proofs.Common.{with_input, both_sides}
+use Rattle.ptmerge.proofs
+use proofs.Common.{◌≡◌, ◌≢◌, inl, inr, ℕ, zero, suc, ◌+◌, ◌*◌, ◌≤◌, false, List, [], ◌∷◌, ◌++◌, length, max, refl, sym}
+use proofs.Common.{◌∙◌, arith, get_or, set, length-set, get_or-set_other, sum_by-cons, Slots, line, total_bytes}
+use proofs.Common.{with_new_slot, with_line, Side, First, Second, Sorted, HasSlots, EnsureFourSlotsPost}
+use proofs.Common.{ClearFourSlotsPost, Bool, both, with_side, other, with_input, both_sides}
 
 -- two functions of the side, each changed at the same side
 pub put_both : {X Y : Type 0} (P : Side → X → Y → Type 0) (s : Side) (x : X) (f : Side → X) (y : Y) (g : Side → Y)
@@ -98,14 +98,7 @@ has_lines_total few m more h = absurd h
 pub set_line : (s : Side) (cursor : Sorted) (xs : List (List ℕ)) (m k : Side → ℕ) (more : ℕ) (x : List ℕ)
     → HasSlots s cursor → HasLines m more xs → ((side : Side) → m side ≤ k side) → length x ≤ k s
     → HasLines k more (set xs cursor.previous_slot x)
-set_line s cursor (a ∷ b ∷ c ∷ d ∷ rest) m k more x slots h up l = by s slots l
-  where
-    by : (t : Side) → HasSlots t cursor → length x ≤ k t
-        → HasLines k more (set (a ∷ b ∷ c ∷ d ∷ rest) cursor.previous_slot x)
-    by First (inl (_, is)) l = rw is (omega (arith, h, up First, up Second))
-    by First (inr (_, is)) l = rw is (omega (arith, h, up First, up Second))
-    by Second (inl (_, is)) l = rw is (omega (arith, h, up First, up Second))
-    by Second (inr (_, is)) l = rw is (omega (arith, h, up First, up Second))
+set_line s cursor (a ∷ b ∷ c ∷ d ∷ rest) m k more x slots h up l = grind (arith, slots, h, up First, up Second, l)
 set_line s cursor few m k more x slots h up l = absurd h
 
 -- The invariant of the store of a merge: two lines of each input, of at most `m` bytes each.
@@ -139,7 +132,7 @@ store_with_line {store = store} s cursor {m} k x slots kept up fits is =
         up Second,
         (has_lines_total (set store.lines cursor.previous_slot x) k 0 inside).most,
       );
-      slots = length-set store.lines cursor.previous_slot x ∙ kept.slots;
+      slots = length-set store.lines _ x ∙ kept.slots;
       denied = kept.denied;
     })
 

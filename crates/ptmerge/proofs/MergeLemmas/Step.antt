@@ -1,39 +1,35 @@
 -- The steps of a merge. A line that precedes everything in the other input is processed, and its input advances; the
 -- next line has no lesser key, so the invariant holds again. A step ends the loop when both inputs are at their ends or
 -- a disorder is reported, and a fault of a write or read ends it with a prefix of the output.
-use Rattle.ptmerge.proofs.Common.{◌≡◌, ◌≢◌, ⊎_elim, inl, inr, ℕ, ◌+◌, ◌≤◌, true, false, List, [], ◌∷◌, ◌++◌, Option}
-use Rattle.ptmerge.proofs.Common.{Some, None, Err, length, refl, sym, ◌∙◌, arith, is_lt, is_le, append-nil, Output}
-use Rattle.ptmerge.proofs.Common.{PushEffect, Reader, ReaderAdvance, IsDone, IsSound, Slots, line, with_line, unlines}
-use Rattle.ptmerge.proofs.Common.{IsLine, push_nothing, MergeFault, Read, Memory, Side, First, Second, Sorted}
-use Rattle.ptmerge.proofs.Common.{CursorStatus, Head, Ended, Disorder, Lines, MergeTool, FirstDisorder, entries_by_key}
-use Rattle.ptmerge.proofs.Common.{earlier_disorder, first_disorder, lines_with_key, MergeState, MergePost, Cmp, Key}
-use Rattle.ptmerge.proofs.Common.{NextErrPost, NextOkPost, HasSlots, base_slot, with_side, other, PrecedesInput}
-use Rattle.ptmerge.proofs.Common.{IsDisorderDecided, IsReportable, previous_key, ap, ◌⊎◌, max, length-set, total_bytes}
-use Rattle.ptmerge.proofs.Common.{max_length, Write, MergeRunPre, merge_state, WriteFaultPost, both, AreValidCursors}
-use Rattle.ptmerge.proofs.Common.{budget, IsReaderOf, push_trans, ◌&&◌, cond, nat_lt, Ordering, is_eq, is_gt, nat_tests}
-use Rattle.ptmerge.proofs.Common.{length_push, CopyToGroupPost, same_key_at, status_at, IsValidCursor, ◌<◌, Result}
-use Rattle.ptmerge.proofs.Common.{ClearFourSlotsPost, Ok, Bool, terminator, initial_cursor, MergeInputs, StartErrPost}
-use Rattle.ptmerge.proofs.Common.{StartOkPost, StartFirstPost, CallOutcome, AllPushed, Received, both_sides}
-use Rattle.ptmerge.proofs.Common.{reads_nothing, merge_engine, merge_end, IsErrAnd, err_from_is_err_and}
-use Rattle.ptmerge.proofs.MergeLemmas.Invariant.{Bound, AtLeast, AfterDisorder, NothingMore, MayFollow, MayDisorder}
-use Rattle.ptmerge.proofs.MergeLemmas.Invariant.{IsDisorderFrom, IsUnder, IsSortedUpTo, IsLeastKeyRun, LagInvariant}
-use Rattle.ptmerge.proofs.MergeLemmas.Invariant.{MergeInvariant, IsExactStop, line_is_least_run, lag_invariant_starts}
-use Rattle.ptmerge.proofs.MergeLemmas.Invariant.{not_below, write_least_run, bound_changes, all_keys, none_wanted}
-use Rattle.ptmerge.proofs.MergeLemmas.Invariant.{NoBound, sorted_up_to_none, merge_invariant_starts, AllWritten}
-use Rattle.ptmerge.proofs.MergeLemmas.Invariant.{exact_at_end}
-use Rattle.ptmerge.proofs.MergeLemmas.Orders.{EachKey, EachKey-weaker, lines_with_key-above, IsKeyOrder, Above}
-use Rattle.ptmerge.proofs.MergeLemmas.Orders.{above_at_most, above_up, greater_flips, is_greater}
-use Rattle.ptmerge.proofs.MergeLemmas.Slots.{both_each, put_both, put_each, put_other, put_same, side_case, line_other}
-use Rattle.ptmerge.proofs.MergeLemmas.Slots.{StoreOfLines, has_lines_total, store_with_line, line_added, HasLines}
-use Rattle.ptmerge.proofs.MergeLemmas.Slots.{store_of_no_lines}
-use Rattle.ptmerge.proofs.MergeLemmas.Exits.{SideInvariant, MatchesStatus, SideAfterNext, IsAtCurrentLine}
-use Rattle.ptmerge.proofs.MergeLemmas.Exits.{next_invariant, at_current_line, side_invariant_kept, IsFailedRead, Fits}
-use Rattle.ptmerge.proofs.MergeLemmas.Exits.{ReadFacts, state_by_side, exit_is_merge_post, FitsIn}
-use Rattle.ptmerge.proofs.MergeLemmas.Exits.{read_facts_after_line, read_facts_at_line, reads_left, next_decreases}
-use Rattle.ptmerge.proofs.MergeLemmas.Exits.{FirstReads, both_begun, ComeFirst, bound_after, HoldsTwoLines, IsOpenMerge}
-use Rattle.ptmerge.proofs.MergeLemmas.Exits.{ReadFactsOf, processed_come_first, exact_output, merge_without_slots}
-use Rattle.ptmerge.proofs.MergeLemmas.Exits.{given}
-use Rattle.ptmerge.proofs.MergeLemmas.LinesRead.{HasBegun, LinesRead, lines_read_none, one_line_at_most}
+use Rattle.ptmerge.proofs
+use proofs.Common.{AdvancePre, IsReadyToContinue, ◌≡◌, ◌≢◌, ⊎_elim, inl, inr, ℕ, ◌+◌, ◌≤◌, true, false, List, [], ◌∷◌}
+use proofs.Common.{◌++◌, Option, Some, None, Err}
+use proofs.Common.{length, refl, sym, ◌∙◌, arith, is_lt, is_le, append-nil, Output, PushEffect, Reader, ReaderAdvance}
+use proofs.Common.{IsDone, IsSound, Slots, line, with_line, unlines, IsLine, push_nothing, MergeFault, Read, Memory}
+use proofs.Common.{Side, First, Second, Sorted, CursorStatus, Head, Ended, Disorder, Lines, MergeTool, FirstDisorder}
+use proofs.Common.{entries_by_key, earlier_disorder, first_disorder, lines_with_key, MergeState, MergePost, Cmp, Key}
+use proofs.Common.{NextErrPost, NextOkPost, HasSlots, base_slot, with_side, other, PrecedesInput, IsDisorderDecided}
+use proofs.Common.{IsReportable, previous_key, ap, ◌⊎◌, max, length-set, total_bytes, max_length, Write, MergeRunPre}
+use proofs.Common.{merge_state, WriteFaultPost, both, AreValidCursors, budget, IsReaderOf, push_trans, ◌&&◌, cond}
+use proofs.Common.{nat_lt, Ordering, is_eq, is_gt, nat_tests, length_push, CopyToGroupPost, same_key_at, status_at}
+use proofs.Common.{IsValidCursor, ◌<◌, Result, ClearFourSlotsPost, Ok, Bool, terminator, initial_cursor, MergeInputs}
+use proofs.Common.{StartErrPost, StartOkPost, StartFirstPost, CallOutcome, AllPushed, Received, both_sides}
+use proofs.Common.{reads_nothing, merge_engine, merge_end, IsErrAnd, err_from_is_err_and}
+use proofs.MergeLemmas.Invariant.{output_of, Bound, AtLeast, AfterDisorder, NothingMore, MayFollow, MayDisorder}
+use proofs.MergeLemmas.Invariant.{IsDisorderFrom, IsUnder, IsSortedUpTo, IsLeastKeyRun, LagInvariant, MergeInvariant}
+use proofs.MergeLemmas.Invariant.{IsExactStop, line_is_least_run, lag_invariant_starts, not_below, write_least_run}
+use proofs.MergeLemmas.Invariant.{bound_changes, all_keys, none_wanted, NoBound, sorted_up_to_none}
+use proofs.MergeLemmas.Invariant.{merge_invariant_starts, AllWritten, exact_at_end}
+use proofs.MergeLemmas.Orders.{EachKey, EachKey-weaker, lines_with_key-above, IsKeyOrder, Above, above_at_most}
+use proofs.MergeLemmas.Orders.{above_up, greater_flips, is_greater}
+use proofs.MergeLemmas.Slots.{both_each, put_both, put_each, put_other, put_same, side_case, line_other, StoreOfLines}
+use proofs.MergeLemmas.Slots.{has_lines_total, store_with_line, line_added, HasLines, store_of_no_lines}
+use proofs.MergeLemmas.Exits.{SideInvariant, MatchesStatus, SideAfterNext, IsAtCurrentLine, next_invariant}
+use proofs.MergeLemmas.Exits.{at_current_line, side_invariant_kept, IsFailedRead, Fits, ReadFacts, state_by_side}
+use proofs.MergeLemmas.Exits.{exit_is_merge_post, FitsIn, read_facts_after_line, read_facts_at_line, reads_left}
+use proofs.MergeLemmas.Exits.{next_decreases, FirstReads, both_begun, ComeFirst, bound_after, HoldsTwoLines}
+use proofs.MergeLemmas.Exits.{IsOpenMerge, ReadFactsOf, processed_come_first, exact_output, merge_without_slots, given}
+use proofs.MergeLemmas.LinesRead.{HasBegun, LinesRead, lines_read_none, one_line_at_most}
 use Rattle.ptmerge.specs.declared.faults.MergeFault.TheVariants as faults
 
 -- ---- slots
@@ -121,7 +117,6 @@ write_one_line tool o laws Second x b p was is new clean m is_from above under w
 
 -- ---- the invariant of both inputs
 
--- the invariant of both inputs
 abbrev pub SidesInvariant : MergeTool → (Side → Reader) → (Side → Reader) → (Side → Sorted) → Slots → (Side → Lines)
     → (Side → Lines) → (Side → Bound) → Type 0
 SidesInvariant tool old now cursor store ls p b = (side : Side)
@@ -180,13 +175,6 @@ module _ (tool : MergeTool) (o : IsKeyOrder tool.cmp) {old now : Side → Reader
         (λ k u. n.under k (rw passed_at.bound at u))
 
 -- ---- the end of the loop
-
--- both inputs are at their ends
-pub all_ended : (tool : MergeTool) (old now : Side → Reader) (cursor : Side → Sorted) (store : Slots)
-    (ls p : Side → Lines) (b : Side → Bound)
-    → SidesInvariant tool old now cursor store ls p b → ((side : Side) → (cursor side).status ≡ Ended) → (side : Side)
-    → (b side ≡ NothingMore) × IsDone (now side)
-all_ended tool old now cursor store ls p b sides eof side = rw (eof side) at (sides side).status_is
 
 -- of two inputs out of order, the input `s` is reported, since its last key l is less or it is the first
 abbrev Precedes : Cmp → Side → List ℕ → List ℕ → Type 0
@@ -268,6 +256,12 @@ buffered_not_done some done = absurd (omega (arith, some, ap length done.buffere
 abbrev pub AdvanceErrPost : Side → Sorted → Reader → Reader → Slots → Slots → Output → MergeFault → Type 0
 AdvanceErrPost s cursor was is before after out fault = ((fault ≡ Write) × WriteFaultPost was is before after out)
     ⊎ ((out.write_failed ≡ false) × NextErrPost s cursor was is before after fault)
+
+-- each such failure ends the call as the contract says
+abbrev pub EndsIfFails : MergeTool → MergeState → MergeState → Side → Sorted → Output → Type 0
+EndsIfFails tool old now s cursor out = (new : Reader) (after : Slots) (fault : MergeFault)
+    → AdvanceErrPost s cursor (now.reader s) new now.store after out fault
+    → MergePost tool old (state_by_side (with_side s new now.reader) out after) (Err fault)
 
 -- In both cases a piece of the next line was read, and is in the store.
 record FailedAdvance (cursor : Sorted) (was is : Reader) (before after : Slots) : Type 0 where
@@ -374,10 +368,8 @@ module _ {tool : MergeTool} {old : MergeState} (w : IsOpenMerge tool old) {now :
       → ((new : MergeState) (piece : Side → List ℕ)
       → ((side : Side) → ReadFactsOf tool old now.reader new.reader piece ls p b side)
       → ComeFirst tool now.reader ls done)
-      → {new : Reader} {after : Slots} {fault : MergeFault}
-      → AdvanceErrPost s cursor (now.reader s) new now.store after out fault
-      → MergePost tool old (state_by_side (with_side s new now.reader) out after) (Err fault)
-  advance_fails {out} {done} lag first {new} {after} {fault} e =
+      → EndsIfFails tool old now s cursor out
+  advance_fails {out} {done} lag first new after fault e =
       let f = failed_advance s cursor (now.reader s) new now.store after out fault a.sound e in
       let facts : (side : Side) → ReadFactsOf tool old now.reader (with_side s new now.reader)
       (with_side s f.piece (λ side. [])) ls p b side =
@@ -386,7 +378,7 @@ module _ {tool : MergeTool} {old : MergeState} (w : IsOpenMerge tool old) {now :
       (rw (a.all, a.bound)
       (read_facts_after_line w.o a.last a.lines_read f.reads f.line f.sound a.sorted_up_to)) a.rest in
       let is = state_by_side (with_side s new now.reader) out after in
-      exit_is_merge_post w is now.reader (with_side s f.piece (λ side. [])) ls p b facts lag
+      exit_is_merge_post w is facts lag
       (first is (with_side s f.piece (λ side. [])) facts)
       (λ all holds. omega (arith, f.peak, f.count, a.fits f.piece all holds)) (a.order new f.piece f.line)
       (put_each (λ side (r : Reader). r.failed ≡ true → IsFailedRead r (ls side) (p side)) s new now.reader
@@ -408,18 +400,11 @@ pub record LoopInvariant (tool : MergeTool) (Keep : Slots → (Side → Lines) �
   pub merge_invariant : MergeInvariant tool b p old.out now.out
   pub keeps : Keep now.store ls
 
-pub slots_of : {key : Side → Key} (one two : Sorted) (store : Slots) → AreValidCursors key one two store → (side : Side)
-    → HasSlots side (both one two side)
-slots_of one two store valid_cursors = elim [ First ↦ valid_cursors.first | Second ↦ valid_cursors.second ]
-
 -- the output as lines with terminators
-pub wrote_as : (end e : ℕ) (xs ys : Lines) (was is : Output) → e ≡ end → ys ≡ xs → PushEffect was is (unlines e xs)
+pub wrote_as : {end e : ℕ} {xs ys : Lines} {was is : Output} → e ≡ end → ys ≡ xs → PushEffect was is (unlines e xs)
     → PushEffect was is (unlines end ys)
-wrote_as end e xs ys was is same list wrote = rw (list, ← same) wrote
+wrote_as same list wrote = rw (list, ← same) wrote
 
--- ---- the number of slots
-
--- after advancing
 pub next_keeps_slot_count : {key : Key} {cmp : Cmp} {cursor next : Sorted} {was is : Reader} {before after : Slots}
     → NextOkPost key cmp cursor next was is before after → length after.lines ≡ length before.lines
 next_keeps_slot_count (inl e) = rw (e.next_line.stored, length-set)
@@ -500,8 +485,7 @@ pub record CursorsInvariant (tool : MergeTool) (old : MergeState) (reader : Side
 -- the two slots change places
 other_slots : (s : Side) (cursor : Sorted) → HasSlots s cursor
     → HasSlots s (record cursor { current_slot = cursor.previous_slot; previous_slot = cursor.current_slot })
-other_slots s cursor (inl (current, previous)) = inr (previous, current)
-other_slots s cursor (inr (current, previous)) = inl (previous, current)
+other_slots s cursor h = grind (arith, h)
 
 pub slots_on : {key : Key} {cmp : Cmp} {cursor next : Sorted} {was is : Reader} {before after : Slots} (s : Side)
     → HasSlots s cursor → NextOkPost key cmp cursor next was is before after → HasSlots s next
@@ -540,9 +524,8 @@ module _ {tool : MergeTool} {old : MergeState} (w : IsOpenMerge tool old) {reade
   pub iteration_fails : (s : Side) → (cursor s).status ≡ Head → {q : Side → Lines} {out : Output}
       → MergeInvariant tool b q old.out out × AllWritten tool b q old.out out → q s ≡ ls s
       → ReadFactsBy (other s) (q (other s))
-      → {new : Reader} {after : Slots} {fault : MergeFault} → AdvanceErrPost s (cursor s) (reader s) new store after out
-      fault → MergePost tool old (state_by_side (with_side s new reader) out after) (Err fault)
-  iteration_fails s head {q} {out} (m, lag) same rest e =
+      → EndsIfFails tool old (state_by_side reader out store) s (cursor s) out
+  iteration_fails s head {q} {out} (m, lag) same rest =
       let h = at_current_line (a.sides s) head in
       advance_fails w {now = state_by_side reader out store} {cursor = cursor s} {p = q} (record {
         lines_read = (a.sides s).lines_read;
@@ -555,18 +538,17 @@ module _ {tool : MergeTool} {old : MergeState} (w : IsOpenMerge tool old) {reade
         order = λ r piece free. both_begun begun;
         denied = a.holds.denied;
         fits = a.holds.line s;
-      }) lag (λ new piece g. processed_come_first w new _ _ _ _ _ g m) e
+      }) lag (λ new piece g. processed_come_first w new g m)
 
   -- the slots are emptied at the end
   module _ {out : Output} (m : MergeInvariant tool b p old.out out) (clean : out.write_failed ≡ false) {after : Slots}
       (clear : ClearFourSlotsPost store after) where
     pushed_all : {found : Option (Side × ℕ)} → (found ≡ None → (side : Side) → IsDone (reader side))
         → IsExactStop tool b found → AllPushed both_sides (merge_engine tool) old (state_by_side reader out after)
-        (given w (state_by_side reader out after) reader (λ side. []) ls p b read_facts_current)
-        (unlines tool.terminator (entries_by_key tool all_keys p)) found
+        (given w (state_by_side reader out after) read_facts_current)
+        (output_of tool p) found
     pushed_all ended stop =
-        let exact = exact_output w (state_by_side reader out after) reader (λ side. []) ls p b read_facts_current m stop
-        in
+        let exact = exact_output w (state_by_side reader out after) read_facts_current m stop in
         record {
           out = λ texts agree. (let (is, _) = exact texts agree in is);
           disorder = λ texts agree. (let (_, is) = exact texts agree in is);
@@ -585,19 +567,20 @@ module _ {tool : MergeTool} {old : MergeState} (w : IsOpenMerge tool old) {reade
 
     concludes : (result : Result (Unit {0}) MergeFault)
         → CallOutcome both_sides (merge_engine tool) old (state_by_side reader out after)
-        (given w (state_by_side reader out after) reader (λ side. []) ls p b read_facts_current)
-        (unlines tool.terminator (entries_by_key tool all_keys p)) (merge_end result)
+        (given w (state_by_side reader out after) read_facts_current)
+        (output_of tool p) (merge_end result)
         → MergePost tool old (state_by_side reader out after) result
-    concludes result ends = exit_is_merge_post w _ _ (λ side. []) ls p b read_facts_current
+    concludes result ends = exit_is_merge_post w _ read_facts_current
         (lag_invariant_starts m clean (push_nothing out))
-        (processed_come_first w (state_by_side reader out after) _ _ _ _ _ read_facts_current m)
+        (processed_come_first w (state_by_side reader out after) read_facts_current m)
         (a.holds.fits after clear.peak clear.slots) (both_begun begun)
         (λ side fail. cc (none_failed side, w.unfailed side)) result ends
 
     pub ends_well : ((side : Side) → (cursor side).status ≡ Ended)
         → MergePost tool old (state_by_side reader out after) (Ok tt)
     ends_well step =
-        let e = all_ended tool _ _ _ _ _ _ _ a.sides step in
+        let e : (side : Side) → (b side ≡ NothingMore) × IsDone (reader side) =
+        λ side. rw (step side) at (a.sides side).status_is in
         concludes (Ok tt) (pushed_all (λ none side. (let (_, done) = e side in done))
         (exact_at_end tool (λ side. (let (none, _) = e side in none))))
 
@@ -659,7 +642,7 @@ abbrev pub reads_ahead : (Side → Reader) → Sorted → Sorted → ℕ
 reads_ahead reader one two =
     (budget (reader First) + reads_left one.status) + (budget (reader Second) + reads_left two.status)
 
-pub measure_less : (key : Key) (cmp : Cmp) (s : Side) (one two one2 two2 : Sorted) (f : Side → Reader) (reader : Reader)
+measure_less : (key : Key) (cmp : Cmp) (s : Side) (one two one2 two2 : Sorted) (f : Side → Reader) (reader : Reader)
     (before after : Slots) → (both one two s).status ≡ Head
     → both one2 two2 (other s) ≡ both one two (other s) → NextOkPost key cmp (both one two s) (both one2 two2 s) (f s)
     reader before after → reads_ahead (with_side s reader f) one2 two2 < reads_ahead f one two
@@ -674,13 +657,36 @@ pub place_is : (s : Side) (one two one2 two2 : Sorted) → both one2 two2 (other
 place_is First one two one2 two2 same = λ i. both one2 (sym same i)
 place_is Second one two one2 two2 same = λ i. both (sym same i) two2
 
-pub own_reader_kept : (s : Side) (one two one2 two2 : Sorted) (f : Side → Reader) (reader : Reader)
-    → both one2 two2 (other s) ≡ both one two (other s) → IsReaderOf (both one2 two2 s) reader
-    → ((side : Side) → IsReaderOf (both one two side) (f side)) → (side : Side)
-    → IsReaderOf (both one2 two2 side) (with_side s reader f side)
-own_reader_kept s one two one2 two2 f reader same h all =
-    side_case (λ side. IsReaderOf (both one2 two2 side) (with_side s reader f side)) s (rw (put_same s reader f) h)
-    (rw (put_other s reader f, same) (all (other s)))
+-- the cursors, the readers and the output between two steps
+pub record Stands (key : Side → Key) (now : MergeState) (one two : Sorted) : Type 0 where
+  pub valid_cursors : AreValidCursors key one two now.store
+  pub own_reader : (side : Side) → IsReaderOf (both one two side) (now.reader side)
+  pub clean : now.out.write_failed ≡ false
+
+module _ {key : Side → Key} {now : MergeState} {one two : Sorted} (t : Stands key now one two) where
+  pub slots_of : (side : Side) → HasSlots side (both one two side)
+  slots_of = elim [ First ↦ t.valid_cursors.first | Second ↦ t.valid_cursors.second ]
+
+  pub advance_pre : (s : Side) → (both one two s).status ≡ Head → AdvancePre key s one two (now.reader s) now.store
+  advance_pre s head = record { valid_cursors = t.valid_cursors; head = head; own_reader = t.own_reader s }
+
+  -- the input `s` advanced
+  module _ (s : Side) {one2 two2 : Sorted} {reader : Reader} {after : Slots} {new : Output}
+      (continues : IsReadyToContinue key s one two one2 two2 reader after new) where
+    pub stands_on : Stands key (state_by_side (with_side s reader now.reader) new after) one2 two2
+    stands_on = record {
+      valid_cursors = continues.valid_cursors;
+      own_reader = side_case (λ side. IsReaderOf (both one2 two2 side) (with_side s reader now.reader side)) s
+          (rw (put_same s reader now.reader) continues.own_reader)
+          (rw (put_other s reader now.reader, continues.others) (t.own_reader (other s)));
+      clean = continues.clean;
+    }
+
+    pub reads_less : {cmp : Cmp} {made : Slots} → (both one two s).status ≡ Head
+        → NextOkPost (key s) cmp (both one two s) (both one2 two2 s) (now.reader s) reader now.store made
+        → reads_ahead (with_side s reader now.reader) one2 two2 < reads_ahead now.reader one two
+    reads_less head came =
+        measure_less (key s) _ s one two one2 two2 now.reader reader now.store _ head continues.others came
 
 -- writing out buffered output does not change what was pushed
 pub wrote_and_sent : (was mid is : Output) (pushed : List ℕ) → mid.write_failed ≡ false → PushEffect was mid pushed
@@ -841,7 +847,7 @@ module _ {tool : MergeTool} {old : MergeState} (w : IsOpenMerge tool old) where
           fits = λ piece all l. within_size tool w.fits First (initial_cursor First) no_lines all piece
               (fresh_slots First) kept (λ side. omega (arith, (l side).longest)) (omega (arith, (l First).longest));
         }) (lag_invariant_starts begins w.writable (push_nothing old.out))
-        (λ new piece g. processed_come_first w new _ _ _ _ _ g begins) (inr (w.writable, f.fails)))
+        (λ new piece g. processed_come_first w new g begins) _ _ _ (inr (w.writable, f.fails)))
     start_fault (inr (inr f)) =
         let s = f.begins in
         let g = began s in
@@ -862,16 +868,14 @@ module _ {tool : MergeTool} {old : MergeState} (w : IsOpenMerge tool old) where
               (fresh_slots Second) (half_store s) (λ side. omega (arith, (l side).longest))
               (omega (arith, (l Second).longest));
         }) (lag_invariant_starts (half_invariant s) w.writable (push_nothing old.out))
-        (λ new piece facts. processed_come_first w new _ _ _ _ _ facts (half_invariant s)) (inr (w.writable, s.later))
+        (λ new piece facts. processed_come_first w new facts (half_invariant s)) _ _ _ (inr (w.writable, s.later))
 
--- the line terminator
 pub ending_is : (zero : Bool) → cond zero 0 10 ≡ terminator zero
 ending_is zero = grind arith
 
 -- the terminator of both readers was set
 pub set_is : (first second set1 set2 : Reader) (zero : Bool) → set1 ≡ record first { terminator = cond zero 0 10 }
-    → set2
-    ≡ record second { terminator = cond zero 0 10 } → (side : Side)
+    → set2 ≡ record second { terminator = cond zero 0 10 } → (side : Side)
     → both set1 set2 side ≡ record (both first second side) { terminator = terminator zero }
 set_is first second set1 set2 zero is1 is2 First = rw (is1, ending_is zero)
 set_is first second set1 set2 zero is1 is2 Second = rw (is2, ending_is zero)

@@ -1,10 +1,10 @@
 -- Each iteration preserves the invariant by one lemma of `Iteration`, and each exit has the postconditions by another.
-use Rattle.ptmerge.proofs.Common.{arith, refl, ◌∙◌, comm_job, comm_with, merge_state}
-use Rattle.ptmerge.proofs.MergeLemmas.Exits.{IsOpenMerge}
-use Rattle.ptmerge.proofs.MergeLemmas.Step.{open_merge, err_is, start_fault}
-use Rattle.ptmerge.proofs.CommLemmas.Iteration.{alone_decreases, alone_continues, alone_fails, eof, disordered}
-use Rattle.ptmerge.proofs.CommLemmas.Iteration.{pair_decreases, pair_continues, pair_fails, second_advance_pre}
-use Rattle.ptmerge.proofs.CommLemmas.Iteration.{second_fails, advance_pre, starts, iteration_as}
+use Rattle.ptmerge.proofs
+use proofs.Common.{arith, refl, ◌∙◌, comm_job, comm_with, merge_state}
+use proofs.MergeLemmas.Exits.{IsOpenMerge}
+use proofs.MergeLemmas.Step.{advance_pre, open_merge, err_is, start_fault}
+use proofs.CommLemmas.Iteration.{alone_decreases, alone_continues, alone_fails, eof, disordered, pair_decreases}
+use proofs.CommLemmas.Iteration.{pair_continues, pair_fails, second_advance_pre, second_fails, starts}
 use Rattle.ptmerge.proofs.tools.comm.comm_with_order.Goals.{After-start}
 use Rattle.ptmerge.specs.declared.key_order.Side.TheVariants as sides
 use Rattle.ptmerge.proofs.tools.comm.comm_with_order.Given as given
@@ -24,21 +24,24 @@ returns-in_err-merge g c = rw (err_is c.from_residual.ensures.1)
 pub steps-init : goal.steps-init
 steps-init g c =
     let p = c.in_ok-merge.ensures in
-    iteration_as g.K.KeyOrder.order g.K.KeyOrder.key_of p.order refl (starts (comm_job c.args.job.now)
-    (opened g (goal.at.steps-init g c).After-start) c.requires.whole_line_keys p.starts
-    (rw p.order at p.valid_cursors) p.own_reader)
+    rw p.order (record {
+      iteration = starts (comm_job c.args.job.now)
+          (opened g (goal.at.steps-init g c).After-start) c.requires.whole_line_keys p.starts
+          (rw p.order at p.valid_cursors) p.own_reader;
+      order = refl;
+    })
 
 pub write_head-requires-clause-status_is : goal.write_head-requires-clause-status_is
 write_head-requires-clause-status_is g c =
-    advance_pre c.steps.invariant.iteration sides.First c.in-First.ensures.status_is
+    advance_pre c.steps.invariant.iteration.stands sides.First c.in-First.ensures.status_is
 
 pub write_head-requires-in-Second-clause-status_is : goal.write_head-requires-in-Second-clause-status_is
 write_head-requires-in-Second-clause-status_is g c =
-    advance_pre c.steps.invariant.iteration sides.Second c.in-Second.ensures.status_is
+    advance_pre c.steps.invariant.iteration.stands sides.Second c.in-Second.ensures.status_is
 
 pub write_head-requires-in-Both-clause-status_is : goal.write_head-requires-in-Both-clause-status_is
 write_head-requires-in-Both-clause-status_is g c =
-    advance_pre c.steps.invariant.iteration sides.First c.in-Both.ensures.first
+    advance_pre c.steps.invariant.iteration.stands sides.First c.in-Both.ensures.first
 
 pub write_out_and_advance-requires-clause-status_is : goal.write_out_and_advance-requires-clause-status_is
 write_out_and_advance-requires-clause-status_is g c = rw c.write_head-in-Both.ensures.order
@@ -48,26 +51,33 @@ pub steps-preserved-in-Continue-branch-2 : goal.steps-preserved-in-Continue-bran
 steps-preserved-in-Continue-branch-2 g c =
     let i = c.steps.invariant in
     let p = c.write_head.ensures in
-    iteration_as g.K.KeyOrder.order g.K.KeyOrder.key_of p.order i.order
-    (alone_continues i.iteration c.in-First.ensures refl p.wrote c.in_ok-write_head-in-First.ensures.advances)
+    rw p.order (record {
+      iteration = alone_continues i.iteration c.in-First.ensures refl p.wrote
+          c.in_ok-write_head-in-First.ensures.advances;
+      order = i.order;
+    })
 
 pub steps-preserved-in-Continue-branch-3 : goal.steps-preserved-in-Continue-branch-3
 steps-preserved-in-Continue-branch-3 g c =
     let i = c.steps.invariant in
     let p = c.write_head-in-Second.ensures in
-    iteration_as g.K.KeyOrder.order g.K.KeyOrder.key_of p.order i.order
-    (alone_continues i.iteration c.in-Second.ensures c.tabs-tabs2.ensures p.wrote
-    c.in_ok-write_head-in-Second.ensures.advances)
+    rw p.order (record {
+      iteration = alone_continues i.iteration c.in-Second.ensures c.tabs-tabs2.ensures p.wrote
+          c.in_ok-write_head-in-Second.ensures.advances;
+      order = i.order;
+    })
 
 pub steps-preserved : goal.steps-preserved
 steps-preserved g c =
     let i = c.steps.invariant in
     let p = c.write_head-in-Both.ensures in
     let q = c.write_out_and_advance.ensures in
-    iteration_as g.K.KeyOrder.order g.K.KeyOrder.key_of (q.order ∙ p.order) i.order
-    (pair_continues i.iteration c.in-Both.ensures c.tabs-tabs3.ensures p.wrote
-    c.in_ok-write_head-in-Both.ensures.advances q.written_out
-    (rw p.order at c.in_ok-write_out_and_advance-in-Both.ensures.advances))
+    rw (q.order ∙ p.order) (record {
+      iteration = pair_continues i.iteration c.in-Both.ensures c.tabs-tabs3.ensures p.wrote
+          c.in_ok-write_head-in-Both.ensures.advances q.written_out
+          (rw p.order at c.in_ok-write_out_and_advance-in-Both.ensures.advances);
+      order = i.order;
+    })
 
 pub steps-smaller-in-Continue-branch-2 : goal.steps-smaller-in-Continue-branch-2
 steps-smaller-in-Continue-branch-2 g c =
@@ -86,19 +96,19 @@ pub returns-in_err-write_head-in-First : goal.returns-in_err-write_head-in-First
 returns-in_err-write_head-in-First g c =
     rw (← c.steps.invariant.order, err_is c.from_residual-in_err-write_head-in-First.ensures.1)
     (alone_fails c.steps.invariant.iteration c.in-First.ensures refl c.write_head.ensures.wrote
-    c.in_err-write_head-in-First.ensures.advances)
+    _ _ _ c.in_err-write_head-in-First.ensures.advances)
 
 pub returns-in_err-write_head-in-Second : goal.returns-in_err-write_head-in-Second
 returns-in_err-write_head-in-Second g c =
     rw (← c.steps.invariant.order, err_is c.from_residual-in_err-write_head-in-Second.ensures.1)
     (alone_fails c.steps.invariant.iteration c.in-Second.ensures c.tabs-tabs2.ensures
-    c.write_head-in-Second.ensures.wrote c.in_err-write_head-in-Second.ensures.advances)
+    c.write_head-in-Second.ensures.wrote _ _ _ c.in_err-write_head-in-Second.ensures.advances)
 
 pub returns-in_err-write_head-in-Both : goal.returns-in_err-write_head-in-Both
 returns-in_err-write_head-in-Both g c =
     rw (← c.steps.invariant.order, err_is c.from_residual-in_err-write_head-in-Both.ensures.1)
     (pair_fails c.steps.invariant.iteration c.in-Both.ensures c.tabs-tabs3.ensures
-    c.write_head-in-Both.ensures.wrote c.in_err-write_head-in-Both.ensures.advances)
+    c.write_head-in-Both.ensures.wrote _ _ _ c.in_err-write_head-in-Both.ensures.advances)
 
 pub returns-in_err-write_out_and_advance-in-Both : goal.returns-in_err-write_out_and_advance-in-Both
 returns-in_err-write_out_and_advance-in-Both g c =
@@ -107,7 +117,7 @@ returns-in_err-write_out_and_advance-in-Both g c =
     (second_fails i.iteration c.in-Both.ensures
     c.tabs-tabs3.ensures c.write_head-in-Both.ensures.wrote
     c.in_ok-write_head-in-Both.ensures.advances c.write_out_and_advance.ensures.written_out
-    c.in_err-write_out_and_advance-in-Both.ensures.advances)
+    _ _ _ c.in_err-write_out_and_advance-in-Both.ensures.advances)
 
 pub returns-in-End : goal.returns-in-End
 returns-in-End g c =

@@ -1,8 +1,9 @@
 -- The output is that of the processed lines, which comes first for all lines that may follow. Each iteration processes
 -- a line.
-use Rattle.ptmerge.proofs.Common.{◌≡◌, comm_job, merge_state, both}
-use Rattle.ptmerge.proofs.CommLemmas.Iteration.{IterationInvariant}
-use Rattle.ptmerge.proofs.MergeLemmas.Step.{reads_ahead}
+use Rattle.ptmerge.proofs
+use proofs.Common.{◌≡◌, comm_job, merge_state, both}
+use proofs.CommLemmas.Iteration.{IterationInvariant}
+use proofs.MergeLemmas.Step.{reads_ahead}
 use Rattle.ptmerge.proofs.tools.comm.comm_with_order.Given as goal
 
 abbrev pub invariant-steps : goal.invariant-steps

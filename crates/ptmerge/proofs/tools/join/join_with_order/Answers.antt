@@ -1,12 +1,12 @@
 -- Each iteration preserves the invariant by one lemma of `Iteration`, and each exit has the
 -- postconditions by another.
-use Rattle.ptmerge.proofs.Common.{refl, sym, ◌∙◌, join_job}
-use Rattle.ptmerge.proofs.JoinLemmas.Iteration.{read_group_pre, read_group_fails, read_group_continues, group_closed}
-use Rattle.ptmerge.proofs.JoinLemmas.Iteration.{group_there, write_pairs_group, write_pairs_pre, pair_fails}
-use Rattle.ptmerge.proofs.JoinLemmas.Iteration.{write_pairs_next, write_pairs_continues, alone_continues, alone_fails}
-use Rattle.ptmerge.proofs.JoinLemmas.Iteration.{begins, end_in, eof, disordered, measure_decreases, joins, opened}
-use Rattle.ptmerge.proofs.JoinLemmas.Iteration.{group_opens, group_opens_decreases, advance_pre, iteration_as}
-use Rattle.ptmerge.proofs.MergeLemmas.Step.{err_is, start_fault}
+use Rattle.ptmerge.proofs
+use proofs.Common.{refl, sym, ◌∙◌, join_job}
+use proofs.JoinLemmas.Iteration.{read_group_pre, read_group_fails, read_group_continues, group_closed, group_there}
+use proofs.JoinLemmas.Iteration.{write_pairs_group, write_pairs_pre, pair_fails, write_pairs_next}
+use proofs.JoinLemmas.Iteration.{write_pairs_continues, alone_continues, alone_fails, begins, end_in, eof, disordered}
+use proofs.JoinLemmas.Iteration.{measure_decreases, joins, opened, group_opens, group_opens_decreases}
+use proofs.MergeLemmas.Step.{advance_pre, err_is, start_fault}
 use Rattle.ptmerge.specs.declared.key_order.Side.TheVariants as sides
 use Rattle.ptmerge.specs.declared.tools.join.JoinPhase.TheVariants as phases
 use Rattle.ptmerge.proofs.tools.join.join_with_order.Goals as goal
@@ -24,19 +24,18 @@ steps-init g c =
     (record { total = g.met.K.KeyOrder.total c.args.order; exact = g.met.K.KeyOrder.exact c.args.order })
     c.requires.keys c.requires.begins in
     let e = c.in_ok-merge.ensures in
-    iteration_as g.K.KeyOrder.order g.K.KeyOrder.key_of e.order refl
-    (begins a e.starts (rw e.order at e.valid_cursors) e.own_reader)
+    rw e.order (record { iteration = begins a e.starts (rw e.order at e.valid_cursors) e.own_reader; order = refl })
 
 pub write_unpaired-requires-clause-status_is : goal.write_unpaired-requires-clause-status_is
 write_unpaired-requires-clause-status_is g c =
-    advance_pre c.steps.invariant.iteration sides.First c.in-First.ensures.status_is
+    advance_pre c.steps.invariant.iteration.stands sides.First c.in-First.ensures.status_is
 
 pub write_unpaired-requires-clause-joins : goal.write_unpaired-requires-clause-joins
 write_unpaired-requires-clause-joins g c = joins c.steps.invariant.iteration
 
 pub write_unpaired-requires-in-Second-clause-status_is : goal.write_unpaired-requires-in-Second-clause-status_is
 write_unpaired-requires-in-Second-clause-status_is g c =
-    advance_pre c.steps.invariant.iteration sides.Second c.in-Second.ensures.status_is
+    advance_pre c.steps.invariant.iteration.stands sides.Second c.in-Second.ensures.status_is
 
 pub write_unpaired-requires-in-Second-clause-joins : goal.write_unpaired-requires-in-Second-clause-joins
 write_unpaired-requires-in-Second-clause-joins g c = joins c.steps.invariant.iteration
@@ -45,17 +44,21 @@ pub steps-preserved-in-Continue-branch-2 : goal.steps-preserved-in-Continue-bran
 steps-preserved-in-Continue-branch-2 g c =
     let i = c.steps.invariant in
     let p = c.write_unpaired.ensures in
-    iteration_as g.K.KeyOrder.order g.K.KeyOrder.key_of p.order i.order
-    (alone_continues i.iteration c.in-BetweenGroups.is c.in-First.ensures
-    p.wrote c.in_ok-write_unpaired-in-First.ensures.advances)
+    rw p.order (record {
+      iteration = alone_continues i.iteration c.in-BetweenGroups.is c.in-First.ensures
+          p.wrote c.in_ok-write_unpaired-in-First.ensures.advances;
+      order = i.order;
+    })
 
 pub steps-preserved-in-Continue-branch-3 : goal.steps-preserved-in-Continue-branch-3
 steps-preserved-in-Continue-branch-3 g c =
     let i = c.steps.invariant in
     let p = c.write_unpaired-in-Second.ensures in
-    iteration_as g.K.KeyOrder.order g.K.KeyOrder.key_of p.order i.order
-    (alone_continues i.iteration c.in-BetweenGroups.is c.in-Second.ensures
-    p.wrote c.in_ok-write_unpaired-in-Second.ensures.advances)
+    rw p.order (record {
+      iteration = alone_continues i.iteration c.in-BetweenGroups.is c.in-Second.ensures
+          p.wrote c.in_ok-write_unpaired-in-Second.ensures.advances;
+      order = i.order;
+    })
 
 pub steps-smaller-in-Continue-branch-2 : goal.steps-smaller-in-Continue-branch-2
 steps-smaller-in-Continue-branch-2 g c = let h = c.in_ok-write_unpaired-in-First.ensures.advances in
@@ -72,14 +75,14 @@ returns-in_err-write_unpaired-in-First g c =
     rw (← c.steps.invariant.order, err_is c.from_residual-in_err-write_unpaired-in-First.ensures.1)
     (alone_fails c.steps.invariant.iteration c.in-BetweenGroups.is c.in-First.ensures
     c.write_unpaired.ensures.wrote
-    c.in_err-write_unpaired-in-First.ensures.advances)
+    _ _ _ c.in_err-write_unpaired-in-First.ensures.advances)
 
 pub returns-in_err-write_unpaired-in-Second : goal.returns-in_err-write_unpaired-in-Second
 returns-in_err-write_unpaired-in-Second g c =
     rw (← c.steps.invariant.order, err_is c.from_residual-in_err-write_unpaired-in-Second.ensures.1)
     (alone_fails c.steps.invariant.iteration c.in-BetweenGroups.is c.in-Second.ensures
     c.write_unpaired-in-Second.ensures.wrote
-    c.in_err-write_unpaired-in-Second.ensures.advances)
+    _ _ _ c.in_err-write_unpaired-in-Second.ensures.advances)
 
 pub steps-preserved-in-Both : goal.steps-preserved-in-Both
 steps-preserved-in-Both g c = record {
@@ -119,18 +122,22 @@ steps-preserved-then-not-has_same_key g c =
     let i = c.steps.invariant in
     let p = c.read_group_line.ensures in
     let ok = c.in_ok-end-in-ReadGroup.ensures in
-    iteration_as g.K.KeyOrder.order g.K.KeyOrder.key_of p.order i.order
-    (write_pairs_next i.iteration c.in-ReadGroup.is p.written_out ok.reads_line ok.continues
-    (sym c.has_same_key.ensures ∙ c.if-not-has_same_key.true))
+    rw p.order (record {
+      iteration = write_pairs_next i.iteration c.in-ReadGroup.is p.written_out ok.reads_line ok.continues
+          (sym c.has_same_key.ensures ∙ c.if-not-has_same_key.true);
+      order = i.order;
+    })
 
 pub steps-preserved-else-not-has_same_key : goal.steps-preserved-else-not-has_same_key
 steps-preserved-else-not-has_same_key g c =
     let i = c.steps.invariant in
     let p = c.read_group_line.ensures in
     let ok = c.in_ok-end-in-ReadGroup.ensures in
-    iteration_as g.K.KeyOrder.order g.K.KeyOrder.key_of p.order i.order
-    (read_group_continues i.iteration c.in-ReadGroup.is p.written_out ok.reads_line ok.continues
-    (sym c.has_same_key.ensures ∙ c.if-not-has_same_key.false))
+    rw p.order (record {
+      iteration = read_group_continues i.iteration c.in-ReadGroup.is p.written_out ok.reads_line ok.continues
+          (sym c.has_same_key.ensures ∙ c.if-not-has_same_key.false);
+      order = i.order;
+    })
 
 pub steps-smaller-else-not-has_same_key : goal.steps-smaller-else-not-has_same_key
 steps-smaller-else-not-has_same_key g c =
@@ -167,7 +174,7 @@ returns-in_err-write_pairs-in-WritePairs g c =
     rw (← c.steps.invariant.order, err_is c.from_residual-in_err-write_pairs-in-WritePairs.ensures.1)
     (pair_fails c.steps.invariant.iteration c.in-WritePairs.is
     c.write_pairs.ensures.wrote
-    c.in_err-write_pairs-in-WritePairs.ensures.advances)
+    _ _ _ c.in_err-write_pairs-in-WritePairs.ensures.advances)
 
 pub clear_group-requires : goal.clear_group-requires
 clear_group-requires g c = group_there c.steps.invariant.iteration c.in-WritePairs.is
@@ -180,8 +187,11 @@ steps-preserved-then-not-has_same_key-2 g c =
     let continues =
     group_closed i.iteration c.in-WritePairs.is p.wrote
     c.in_ok-write_pairs-in-WritePairs.ensures.advances in
-    iteration_as g.K.KeyOrder.order g.K.KeyOrder.key_of p.order i.order
-    (continues c.clear_group.ensures (sym c.has_same_key-in-WritePairs.ensures ∙ c.if-not-has_same_key-2.true))
+    rw p.order (record {
+      iteration = continues c.clear_group.ensures
+          (sym c.has_same_key-in-WritePairs.ensures ∙ c.if-not-has_same_key-2.true);
+      order = i.order;
+    })
 
 pub steps-preserved : goal.steps-preserved
 steps-preserved g c =
@@ -189,5 +199,8 @@ steps-preserved g c =
     let p = c.write_pairs.ensures in
     let continues = write_pairs_continues i.iteration c.in-WritePairs.is p.wrote
     c.in_ok-write_pairs-in-WritePairs.ensures.advances in
-    iteration_as g.K.KeyOrder.order g.K.KeyOrder.key_of p.order i.order
-    (continues (sym c.has_same_key-in-WritePairs.ensures ∙ c.if-not-has_same_key-2.false))
+    rw p.order (record {
+      iteration = continues (sym c.has_same_key-in-WritePairs.ensures ∙
+          c.if-not-has_same_key-2.false);
+      order = i.order;
+    })

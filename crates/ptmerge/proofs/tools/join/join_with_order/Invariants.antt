@@ -1,9 +1,10 @@
 -- Between groups, the output is that of the processed lines. While a group is read or its pairs are written, the
 -- entries of its key so far are written too, and the rest of them come next, for all lines that may follow. Each
 -- iteration processes a line, or moves on to the next phase of the group.
-use Rattle.ptmerge.proofs.Common.{◌≡◌, ◌+◌, ◌*◌, join_job, merge_state, both}
-use Rattle.ptmerge.proofs.JoinLemmas.Iteration.{IterationInvariant, rank}
-use Rattle.ptmerge.proofs.MergeLemmas.Step.{reads_ahead}
+use Rattle.ptmerge.proofs
+use proofs.Common.{◌≡◌, ◌+◌, ◌*◌, join_job, merge_state, both}
+use proofs.JoinLemmas.Iteration.{IterationInvariant, rank}
+use proofs.MergeLemmas.Step.{reads_ahead}
 use Rattle.ptmerge.proofs.tools.join.join_with_order.Given as goal
 
 abbrev pub invariant-steps : goal.invariant-steps

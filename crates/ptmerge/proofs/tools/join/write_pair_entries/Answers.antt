@@ -1,7 +1,8 @@
 -- Each iteration writes the output line of one line of the group. A write that fails leaves a prefix of the pairs.
-use Rattle.ptmerge.proofs.Common.{◌++◌, [], ◌∷◌, List, ℕ, ap, arith, sym, map, join_job, group}
-use Rattle.ptmerge.proofs.JoinLemmas.PartialWrite.{partial_starts, each_done, each_fails, each_more}
-use Rattle.ptmerge.proofs.JoinLemmas.GroupSlots.{pair_of, pairs_text, group_from, group_end}
+use Rattle.ptmerge.proofs
+use proofs.Common.{◌++◌, [], ◌∷◌, List, ℕ, ap, arith, sym, map, join_job, group}
+use proofs.JoinLemmas.PartialWrite.{partial_starts, each_done, each_fails, each_more}
+use proofs.JoinLemmas.GroupSlots.{pair_of, pairs_text, group_from, group_end}
 use Rattle.ptmerge.proofs.tools.join.write_pair_entries.Goals as goal
 
 pub loop-slot-init : goal.loop-slot-init

@@ -1,5 +1,6 @@
-use Rattle.ptmerge.proofs.Common.{List, ℕ, [], ◌∷◌, subst, join_job, PushEffect, unlines, group, pair_entries}
-use Rattle.ptmerge.proofs.MergeLemmas.Step.{wrote_and_sent}
+use Rattle.ptmerge.proofs
+use proofs.Common.{List, ℕ, [], ◌∷◌, subst, join_job, PushEffect, unlines, group, pair_entries}
+use proofs.MergeLemmas.Step.{wrote_and_sent}
 use Rattle.ptmerge.proofs.tools.join.write_pairs.Goals as goal
 
 pub returns-clause-wrote : goal.returns-clause-wrote

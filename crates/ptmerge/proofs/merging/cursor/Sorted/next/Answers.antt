@@ -1,9 +1,10 @@
 -- The stored span of the current line becomes the span of the previous line, since that line keeps its slot. So the two
 -- keys that are compared are the keys of both lines.
-use Rattle.ptmerge.proofs.Common.{◌≡◌, ◌<◌, ◌+◌, sym, ap, ◌∙◌, inl, arith, if◌then◌else◌, nat_tests, line}
-use Rattle.ptmerge.proofs.Common.{line_of_with_line, Head, Disorder}
-use Rattle.ptmerge.proofs.MergeLemmas.Step.{later_status}
-use Rattle.ptmerge.proofs.MergeLemmas.Slots.{line_other}
+use Rattle.ptmerge.proofs
+use proofs.Common.{◌≡◌, ◌<◌, ◌+◌, sym, ap, ◌∙◌, inl, arith, if◌then◌else◌, nat_tests, line, line_of_with_line, Head}
+use proofs.Common.{Disorder}
+use proofs.MergeLemmas.Step.{later_status}
+use proofs.MergeLemmas.Slots.{line_other}
 use Rattle.ptmerge.proofs.merging.cursor.Sorted.next.Goals as goal
 
 pub returns-clause-moves : goal.returns-clause-moves

@@ -1,6 +1,7 @@
 -- The rest of the line has the fields after the skipped ones, and is a suffix of the line.
-use Rattle.ptmerge.proofs.Common.{◌≡◌, drop, Some, option_copied, remaining_fields}
-use Rattle.ptmerge.proofs.JoinLemmas.Fields.{IsRemainderOf}
+use Rattle.ptmerge.proofs
+use proofs.Common.{◌≡◌, drop, Some, option_copied, remaining_fields}
+use proofs.JoinLemmas.Fields.{IsRemainderOf}
 use Rattle.ptmerge.proofs.tools.join.fields.find_by_pieces.Given as goal
 
 abbrev pub invariant-loop-passed : goal.invariant-loop-passed

@@ -1,8 +1,9 @@
 -- A field of the rest of a line is a field of the line. An empty word between two blanks is skipped, and does not
 -- change the remaining fields.
-use Rattle.ptmerge.proofs.Common.{◌≡◌, ◌∷◌, [], None, Some, option_copied, sym, ◌∙◌, MatchOption}
-use Rattle.ptmerge.proofs.Common.{slice_split, is_separator, remaining_fields}
-use Rattle.ptmerge.proofs.JoinLemmas.Fields.{field_in, remaining_after, skip_empty_word}
+use Rattle.ptmerge.proofs
+use proofs.Common.{◌≡◌, ◌∷◌, [], None, Some, option_copied, sym, ◌∙◌, MatchOption, slice_split, is_separator}
+use proofs.Common.{remaining_fields}
+use proofs.JoinLemmas.Fields.{field_in, remaining_after, skip_empty_word}
 use Rattle.ptmerge.proofs.tools.join.fields.next_field.Goals as goal
 
 pub returns-then-is_some-clause-is_piece : goal.returns-then-is_some-clause-is_piece

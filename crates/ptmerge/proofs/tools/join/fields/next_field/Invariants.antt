@@ -1,6 +1,7 @@
 -- Only blanks before a field are skipped, so the remaining fields are unchanged.
-use Rattle.ptmerge.proofs.Common.{◌≡◌, option_copied, remaining_fields}
-use Rattle.ptmerge.proofs.JoinLemmas.Fields.{remaining_length, IsRemainderOf}
+use Rattle.ptmerge.proofs
+use proofs.Common.{◌≡◌, option_copied, remaining_fields}
+use proofs.JoinLemmas.Fields.{remaining_length, IsRemainderOf}
 use Rattle.ptmerge.proofs.tools.join.fields.next_field.Given as goal
 
 -- The rest has the same fields, since only empty words were skipped, and it is a suffix of the line.

@@ -1,9 +1,9 @@
 -- A canonical line is its key and its other fields, so it is written unchanged.
-use Rattle.ptmerge.proofs.Common.{◌≡◌, List, [], ◌∷◌, ◌++◌, ℕ, Option, Result, append-nil, ap, refl, subst, ◌∙◌}
-use Rattle.ptmerge.proofs.Common.{First, Join, Output, PushPost, Second, entry_with_list, join_job, option_copied}
-use Rattle.ptmerge.proofs.Common.{push_past_failure}
-use Rattle.ptmerge.proofs.JoinLemmas.PartialWrite.{push_fails, then_pushes}
-use Rattle.ptmerge.proofs.JoinLemmas.Fields.{first_is, pair_is, second_is}
+use Rattle.ptmerge.proofs
+use proofs.Common.{◌≡◌, List, [], ◌∷◌, ◌++◌, ℕ, Option, Result, append-nil, ap, refl, subst, ◌∙◌, First, Join, Output}
+use proofs.Common.{PushPost, Second, entry_with_list, join_job, option_copied, push_past_failure}
+use proofs.JoinLemmas.PartialWrite.{push_fails, then_pushes}
+use proofs.JoinLemmas.Fields.{first_is, pair_is, second_is}
 use Rattle.ptmerge.specs.JoinFields.{IsKeyOf}
 use Rattle.ptmerge.proofs.tools.join.output.write_entry.Goals as goal
 

@@ -1,9 +1,9 @@
 -- Without an output list the key comes first, followed by the other fields of the first line and then of the second. A
 -- write that fails leaves a prefix of these.
-use Rattle.ptmerge.proofs.Common.{option_copied, refl, join_job}
-use Rattle.ptmerge.proofs.JoinLemmas.PartialWrite.{partial_ends, partial_fails, partial_first, partial_more}
-use Rattle.ptmerge.proofs.JoinLemmas.PartialWrite.{first_fails}
-use Rattle.ptmerge.proofs.JoinLemmas.Fields.{entry_plain}
+use Rattle.ptmerge.proofs
+use proofs.Common.{option_copied, refl, join_job}
+use proofs.JoinLemmas.PartialWrite.{partial_ends, partial_fails, partial_first, partial_more, first_fails}
+use proofs.JoinLemmas.Fields.{entry_plain}
 use Rattle.ptmerge.proofs.tools.join.output.write_fields.Goals as goal
 
 pub returns-in_err-push-in-None : goal.returns-in_err-push-in-None

@@ -1,8 +1,8 @@
 -- The items so far were written, with separators between them; the others are still to be written.
-use Rattle.ptmerge.proofs.Common.{option_copied, map, length, join_job, output_separator, entry_with_list, with_prefix}
-use Rattle.ptmerge.proofs.Common.{Some}
-use Rattle.ptmerge.proofs.JoinLemmas.PartialWrite.{PartialWrite}
-use Rattle.ptmerge.proofs.JoinLemmas.Fields.{output_item}
+use Rattle.ptmerge.proofs
+use proofs.Common.{option_copied, map, length, join_job, output_separator, entry_with_list, with_prefix, Some}
+use proofs.JoinLemmas.PartialWrite.{PartialWrite}
+use proofs.JoinLemmas.Fields.{output_item}
 use Rattle.ptmerge.proofs.tools.join.output.write_listed_fields.Given as goal
 
 abbrev pub invariant-items : goal.invariant-items

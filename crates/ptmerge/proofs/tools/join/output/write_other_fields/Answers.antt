@@ -1,8 +1,9 @@
 -- The fields before and after the join field are the bytes around it.
-use Rattle.ptmerge.proofs.Common.{◌∙◌, ap, sym, subst, option_copied, IsFieldFound, PushPost, around}
-use Rattle.ptmerge.proofs.Common.{is_evenly_separated, other_fields, output_separator, remaining_fields, with_prefix}
-use Rattle.ptmerge.proofs.JoinLemmas.Fields.{around_is, between_is}
-use Rattle.ptmerge.proofs.JoinLemmas.PartialWrite.{push_is_write}
+use Rattle.ptmerge.proofs
+use proofs.Common.{◌∙◌, ap, sym, subst, option_copied, IsFieldFound, PushPost, around, is_evenly_separated}
+use proofs.Common.{other_fields, output_separator, remaining_fields, with_prefix}
+use proofs.JoinLemmas.Fields.{around_is, between_is}
+use proofs.JoinLemmas.PartialWrite.{push_is_write}
 use Rattle.ptmerge.proofs.tools.join.output.write_other_fields.Goals as goal
 
 pub returns : goal.returns

@@ -1,7 +1,8 @@
 -- A write that fails leaves a prefix of the words; one that succeeds takes the first of the remaining words.
-use Rattle.ptmerge.proofs.Common.{◌-◌, ◌∷◌, ℕ, List, ap, arith, with_prefix}
-use Rattle.ptmerge.proofs.JoinLemmas.PartialWrite.{partial_ends, each_fails, each_more}
-use Rattle.ptmerge.proofs.JoinLemmas.Fields.{others_more, others_rest}
+use Rattle.ptmerge.proofs
+use proofs.Common.{◌-◌, ◌∷◌, ℕ, List, ap, arith, with_prefix}
+use proofs.JoinLemmas.PartialWrite.{partial_ends, each_fails, each_more}
+use proofs.JoinLemmas.Fields.{others_more, others_rest}
 use Rattle.ptmerge.proofs.tools.join.output.write_other_words.Goals as goal
 
 pub returns-in_err-write_prefixed_field : goal.returns-in_err-write_prefixed_field

@@ -1,7 +1,8 @@
 use Rattle.std.proofs.lemmas.Simd.{bitmask_splat, length-chunk}
 use Rattle.std.specs.Simd.Lanes.{chunk}
-use Rattle.ptmerge.proofs.Common.{eqb}
-use Rattle.ptmerge.proofs.JoinLemmas.Fields.{blank_mask}
+use Rattle.ptmerge.proofs
+use proofs.Common.{eqb}
+use proofs.JoinLemmas.Fields.{blank_mask}
 use Rattle.ptmerge.proofs.tools.join.words.blanks_in.Goals as goal
 use mir.Syntax.{w8}
 

@@ -1,6 +1,7 @@
-use Rattle.ptmerge.proofs.Common.{is_blank}
+use Rattle.ptmerge.proofs
+use proofs.Common.{is_blank}
+use proofs.JoinLemmas.Words.{ends_mask}
 use Rattle.memchr.specs.Find.{is_byte}
-use Rattle.ptmerge.proofs.JoinLemmas.Words.{ends_mask}
 use Rattle.ptmerge.proofs.tools.join.words.blanks_of_ends.Goals as goal
 
 pub returns : goal.returns

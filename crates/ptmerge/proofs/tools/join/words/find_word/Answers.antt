@@ -1,7 +1,7 @@
 -- The set bits are the words that were not passed, so the first run of them is the next word.
-use Rattle.ptmerge.proofs.Common.{arith}
-use Rattle.ptmerge.proofs.JoinLemmas.Words.{any_fits, none_left, word_found, word_passed, words_small}
-use Rattle.ptmerge.proofs.JoinLemmas.Words.{words_start}
+use Rattle.ptmerge.proofs
+use proofs.Common.{arith}
+use proofs.JoinLemmas.Words.{any_fits, none_left, word_found, word_passed, words_small, words_start}
 use Rattle.ptmerge.proofs.tools.join.words.find_word.Goals as goal
 
 pub overflow_sub-words-2 : goal.overflow_sub-words-2
