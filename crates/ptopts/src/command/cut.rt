@@ -6,9 +6,9 @@ ghost use Rattle.ptlangs.specs.CutLists.{is_selected};
 ghost use Rattle.ptlangs.specs.Jobs as jobs;
 ghost use Rattle.ptopts.specs.declared.command.Tool.TheVariants.{Cut};
 ghost use Rattle.ptopts.specs.Args.{value_of};
-ghost use Rattle.ptopts.specs.Faults.{value_fault, constraints_fault, values_fault, is_cut_list};
+ghost use Rattle.ptopts.specs.Faults.{value_fault, constraints_fault, is_cut_list};
 ghost use Rattle.ptopts.specs.Commands as commands;
-ghost use Rattle.ptopts.specs.Commands.{selected_set, checked_command};
+ghost use Rattle.ptopts.specs.Commands.{selected_set, checked_command, values_fault};
 ghost use Rattle.ptopts.specs.View.{words_view, CommandPost};
 ghost use Rattle.ptopts.specs.ParseSteps.{CheckThenMemoryPost, CheckOrMemoryPost, options_view};
 

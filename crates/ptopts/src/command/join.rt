@@ -6,10 +6,9 @@ ghost use Rattle.std.specs.Str.{byte};
 ghost use Rattle.ptlangs.specs.Jobs as jobs;
 ghost use Rattle.ptopts.specs.declared.command.Tool.TheVariants.{Join};
 ghost use Rattle.ptopts.specs.Args.{value_of};
-ghost use Rattle.ptopts.specs.Faults.{value_fault, each_value_fault, values_fault};
-ghost use Rattle.ptopts.specs.Faults.{is_file_number, is_field_number, is_output_list};
+ghost use Rattle.ptopts.specs.Faults.{value_fault, each_value_fault, is_file_number, is_field_number, is_output_list};
 ghost use Rattle.ptopts.specs.Commands as commands;
-ghost use Rattle.ptopts.specs.Commands.{names_file, number_value, fields_of, checked_command};
+ghost use Rattle.ptopts.specs.Commands.{names_file, number_value, fields_of, checked_command, values_fault};
 ghost use Rattle.ptopts.specs.View.{words_view, CommandPost};
 ghost use Rattle.ptopts.specs.ParseSteps.{CheckPost, CheckThenMemoryPost, CheckOrMemoryPost, options_view};
 

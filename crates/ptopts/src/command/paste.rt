@@ -6,9 +6,9 @@ ghost use Rattle.std.specs.Str.{byte};
 ghost use Rattle.ptlangs.specs.Jobs as jobs;
 ghost use Rattle.ptopts.specs.declared.command.Tool.TheVariants.{Paste};
 ghost use Rattle.ptopts.specs.Args.{value_of};
-ghost use Rattle.ptopts.specs.Faults.{value_fault, values_fault, is_delimiter_list};
+ghost use Rattle.ptopts.specs.Faults.{value_fault, is_delimiter_list};
 ghost use Rattle.ptopts.specs.Commands as commands;
-ghost use Rattle.ptopts.specs.Commands.{delimiters_of, checked_command};
+ghost use Rattle.ptopts.specs.Commands.{delimiters_of, checked_command, values_fault};
 ghost use Rattle.ptopts.specs.View.{words_view, CommandPost};
 ghost use Rattle.ptopts.specs.ParseSteps.{CheckThenMemoryPost, options_view};
 

@@ -4,9 +4,8 @@
 ghost use Rattle.std.specs.Prelude.{◌≡◌, IfOk};
 ghost use Rattle.ptlangs.specs.Jobs as jobs;
 ghost use Rattle.ptopts.specs.declared.command.Tool.TheVariants.{Uniq};
-ghost use Rattle.ptopts.specs.Faults.{values_fault};
 ghost use Rattle.ptopts.specs.Commands as commands;
-ghost use Rattle.ptopts.specs.Commands.{checked_command};
+ghost use Rattle.ptopts.specs.Commands.{checked_command, values_fault};
 ghost use Rattle.ptopts.specs.View.{words_view, CommandPost};
 ghost use Rattle.ptopts.specs.ParseSteps.{CheckPost, options_view};
 
