@@ -20,11 +20,11 @@ pub use Rattle.ptlangs.specs.Numbers.{is_empty}
 pub use Rattle.ptopts.specs.Commands.{Command, Job, RunComm, RunCut, RunJoin, RunPaste, RunTr, RunUniq, command}
 pub use Rattle.ptopts.specs.Commands.{file_names, first_fault, input_operands, job, checked_command, command_of_args}
 pub use Rattle.ptopts.specs.Commands.{command_of_tool, names_file, or_stdin, order_from, output, identity_plan}
-pub use Rattle.ptopts.specs.Commands.{selected_set, ok_unless}
+pub use Rattle.ptopts.specs.Commands.{selected_set, ok_unless, values_fault}
 pub use Rattle.ptopts.specs.Faults.{Fault, InString, NeedsValue, Operands, StandardTwice, Twice, constraints_fault}
 pub use Rattle.ptopts.specs.Faults.{constraint_fault, each_value_fault, token_fault, first_some, form_of_options}
 pub use Rattle.ptopts.specs.Faults.{is_within, is_complemented, is_file_number, is_repeated, is_standard}
-pub use Rattle.ptopts.specs.Faults.{operands_fault, plan_of_operands, parse_fault, strings_fault, values_fault}
+pub use Rattle.ptopts.specs.Faults.{operands_fault, plan_of_operands, parse_fault, strings_fault}
 pub use Rattle.ptopts.specs.Theorems.{AreAllowed, CommandsMatchGrammar, ParseMatchesGrammar, Spelled}
 pub use Rattle.ptopts.specs.Theorems.{GrammarIsUnambiguous, FaultlessIsSpelled, SpellsCommand}
 pub use Rattle.ptopts.specs.View.{CommandPost, with_inputs, fault_view, words_view}
@@ -37,5 +37,5 @@ pub use Rattle.ptopts.specs.Args.{tokens_in, tokens_of, flag, has_option, has_le
 pub use Rattle.ptopts.specs.Args.{is_flag, option_of_token, options, prepend_tokens, parsed_args, parsed_args_from}
 pub use Rattle.ptopts.specs.Args.{takes_next, takes_value, tool_of_name, value_of, value_token, with_value}
 pub use Rattle.ptopts.specs.declared.inputs.Input.{Input}
-pub use Rattle.ptopts.specs.declared.tool.Tool.{Tool}
-pub use Rattle.ptopts.specs.declared.tool.Tool.TheVariants.{Comm, Cut, Join, Paste, Tr, Uniq}
+pub use Rattle.ptopts.specs.declared.command.Tool.{Tool}
+pub use Rattle.ptopts.specs.declared.command.Tool.TheVariants.{Comm, Cut, Join, Paste, Tr, Uniq}

@@ -1,7 +1,8 @@
 -- The command that the words of a command line specify, or the first fault.
 use Rattle.std.specs.Prelude.{ℕ, ◌||◌, ◌+◌, List, [], ◌∷◌, Bool, false, not, Option, Some, None, Result, Ok, Err}
 use Rattle.std.specs.Prelude.{if◌then◌else◌, option_and_then, slice_get, unwrap_or, option_map, codes, bytes_eq, filter}
-use Rattle.std.specs.Prelude.{take}
+use Rattle.std.specs.Prelude.{take, map}
+use Rattle.std.specs.Borrow.{Bor}
 use Rattle.std.specs.List.{list_any}
 use Rattle.std.specs.Result.{result_unwrap_or}
 use Rattle.std.specs.Str.{byte}
@@ -15,15 +16,19 @@ use Rattle.ptlangs.specs.Jobs as jobs
 use Rattle.ptlangs.specs.declared.jobs.Show.{Show}
 use Rattle.ptlangs.specs.declared.jobs.Show.TheVariants.{All, Counts, Repeated, Single}
 use Rattle.ptlangs.specs.declared.outlist.OutField.{OutField}
-use Rattle.ptopts.specs.declared.tool.Tool.{Tool}
-use Rattle.ptopts.specs.declared.tool.Tool.TheVariants.{Cut, Paste, Uniq, Comm, Join, Tr}
+use Rattle.ptopts.specs.declared.command.Tool.{Tool}
+use Rattle.ptopts.specs.declared.command.Tool.TheVariants.{Cut, Paste, Uniq, Comm, Join, Tr}
 use Rattle.ptopts.specs.declared.inputs.Input.{Input}
 use Rattle.ptopts.specs.declared.inputs.Input.TheVariants.{Standard, File}
+use Rattle.ptopts.specs.declared.inputs.Inputs.{Inputs}
+use Rattle.ptopts.specs.declared.command.Command as code
+use Rattle.ptopts.specs.declared.command.Command.TheVariants as parsed
 use Rattle.ptopts.specs.Args.{ParsedOption, tool_of_name, ParsedArgs, parsed_args, options, has_option, value_of}
 use Rattle.ptopts.specs.Args.{values_of}
 use Rattle.ptopts.specs.Faults.{Fault, NoTool, first_some, terminator_of_options, cut_list_value, parse_fault}
-use Rattle.ptopts.specs.Faults.{constraints_fault, values_fault, operands_fault, strings_fault, plan_of_operands}
-use Rattle.ptopts.specs.Faults.{is_standard}
+use Rattle.ptopts.specs.Faults.{constraints_fault, value_fault, each_value_fault, is_cut_list, is_delimiter_list}
+use Rattle.ptopts.specs.Faults.{is_delimiter_value, is_count, is_file_number, is_output_list, is_field_number}
+use Rattle.ptopts.specs.Faults.{operands_fault, strings_fault, plan_of_operands, is_standard}
 
 -- the options of a tool
 pub data Job : Type 0 where
@@ -142,6 +147,21 @@ identity_plan = record { deleted = []; from = []; to = []; squeezed = [] }
 abbrev pub char_tables : List ParsedOption → List (List ℕ) → Tables
 char_tables os operands = tables (result_unwrap_or (plan_of_operands os operands) identity_plan)
 
+-- the first value that fails its test
+abbrev pub values_fault : Tool → List ParsedOption → Option Fault
+values_fault Cut options = first_some (map (value_fault options) (
+    (byte "b", is_cut_list) ∷ (byte "c", is_cut_list) ∷ (byte "f", is_cut_list)
+    ∷ (byte "d", is_delimiter_value (terminator_of_options options)) ∷ []))
+values_fault Paste options = value_fault options (byte "d", is_delimiter_list)
+values_fault Uniq options = first_some (map (value_fault options) ((byte "f", is_count) ∷ (byte "s", is_count) ∷ []))
+values_fault Join options = first_some (
+    each_value_fault options (byte "a", is_file_number)
+    ∷ each_value_fault options (byte "v", is_file_number)
+    ∷ map (value_fault options) (
+    (byte "o", is_output_list) ∷ (byte "t", is_delimiter_value (terminator_of_options options))
+    ∷ (byte "1", is_field_number) ∷ (byte "2", is_field_number) ∷ []))
+values_fault _ options = None
+
 -- the options of a tool
 abbrev pub job : Tool → List ParsedOption → List (List ℕ) → Job
 job Cut os operands = RunCut (cut_from_options os)
@@ -188,6 +208,30 @@ command_over job operands output = record {
   names = file_names operands;
   output = output;
 }
+
+-- ---- commands of the code
+
+-- the words, as lists of bytes
+abbrev pub words_view : List (Bor (List ℕ)) → List (List ℕ)
+words_view words = map (λ w. w.now) words
+
+-- a job with the inputs and the output of the code
+abbrev pub with_inputs : {A : Type 0} → Job → Inputs A → Command
+with_inputs job inputs = record {
+  job = job;
+  order = inputs.order.items;
+  names = words_view inputs.names.items;
+  output = option_map (λ w. w.now) inputs.output;
+}
+
+-- the command
+abbrev pub command_view : {A : Type 0} → code.Command A → Command
+command_view (parsed.Cut job inputs) = with_inputs (RunCut (jobs.cut_job job)) inputs
+command_view (parsed.Paste job inputs) = with_inputs (RunPaste (jobs.paste_job job)) inputs
+command_view (parsed.Uniq job inputs) = with_inputs (RunUniq (jobs.uniq_job job)) inputs
+command_view (parsed.Comm job inputs) = with_inputs (RunComm (jobs.comm_job job)) inputs
+command_view (parsed.Join job inputs) = with_inputs (RunJoin (jobs.join_job job)) inputs
+command_view (parsed.Tr plan inputs) = with_inputs (RunTr plan) inputs
 
 -- ---- commands
 

@@ -15,10 +15,10 @@ use Rattle.ptlangs.specs.TrPlan.{Plan, plan}
 use Rattle.ptlangs.specs.declared.faults.SetFault.{SetFault}
 use Rattle.ptlangs.specs.declared.tr.plan.Form.{Form}
 use Rattle.ptlangs.specs.declared.tr.plan.Form.TheVariants.{Translate, TranslateSqueeze, Squeeze, Delete, DeleteSqueeze}
-use Rattle.ptopts.specs.declared.tool.Tool.{Tool}
-use Rattle.ptopts.specs.declared.tool.Tool.TheVariants.{Cut, Paste, Uniq, Join, Tr}
-use Rattle.ptopts.specs.declared.tool.Constraint.{Constraint}
-use Rattle.ptopts.specs.declared.tool.Constraint.TheVariants.{Conflict, Required}
+use Rattle.ptopts.specs.declared.command.Tool.{Tool}
+use Rattle.ptopts.specs.declared.command.Tool.TheVariants.{Tr}
+use Rattle.ptopts.specs.declared.syntax.Constraint.{Constraint}
+use Rattle.ptopts.specs.declared.syntax.Constraint.TheVariants.{Conflict, Required}
 use Rattle.ptopts.specs.Syntax.{syntax}
 use Rattle.ptopts.specs.Args.{ParsedOption, Token, Valid, MissingValue, UnknownLetter, has_option, has_letter, value_of}
 use Rattle.ptopts.specs.Args.{values_of}
@@ -133,21 +133,6 @@ is_field_number value = option_map_or (λ n. not (n == 0)) (number value) false
 -- the number of one of the two files
 abbrev pub is_file_number : List ℕ → Bool
 is_file_number value = bytes_eq value (codes "1") || bytes_eq value (codes "2")
-
--- the first value that fails its test
-abbrev pub values_fault : Tool → List ParsedOption → Option Fault
-values_fault Cut options = first_some (map (value_fault options) (
-    (byte "b", is_cut_list) ∷ (byte "c", is_cut_list) ∷ (byte "f", is_cut_list)
-    ∷ (byte "d", is_delimiter_value (terminator_of_options options)) ∷ []))
-values_fault Paste options = value_fault options (byte "d", is_delimiter_list)
-values_fault Uniq options = first_some (map (value_fault options) ((byte "f", is_count) ∷ (byte "s", is_count) ∷ []))
-values_fault Join options = first_some (
-    each_value_fault options (byte "a", is_file_number)
-    ∷ each_value_fault options (byte "v", is_file_number)
-    ∷ map (value_fault options) (
-    (byte "o", is_output_list) ∷ (byte "t", is_delimiter_value (terminator_of_options options))
-    ∷ (byte "1", is_field_number) ∷ (byte "2", is_field_number) ∷ []))
-values_fault _ options = None
 
 -- ---- operands
 

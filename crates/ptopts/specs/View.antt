@@ -1,22 +1,16 @@
--- Views, which are functions from the values of the code to those of the definitions: words, faults and commands.
-use Rattle.std.specs.Prelude.{ℕ, List, [], ◌∷◌, Option, Some, None, Result, IsSome, map, option_map}
-use Rattle.std.specs.Borrow.{Bor}
+-- Views, which are functions from the values of the code to those of the definitions: faults, and in `Commands` words
+-- and commands.
+use Rattle.std.specs.Prelude.{ℕ, List, [], ◌∷◌, Option, Some, None, Result, IsSome}
 use Rattle.ptlangs.specs.Results.{ParsePost}
-use Rattle.ptlangs.specs.Jobs as jobs
 use Rattle.ptopts.specs.declared.command.Command as code
-use Rattle.ptopts.specs.declared.command.Command.TheVariants.{Cut, Paste, Uniq, Comm, Join, Tr}
 use Rattle.ptopts.specs.declared.fault.UseFault.{UseFault}
 use Rattle.ptopts.specs.declared.fault.UseFault.TheVariants.{Tool, Unknown, NeedsValue, Twice, Together, Value}
 use Rattle.ptopts.specs.declared.fault.UseFault.TheVariants.{Operands, StandardTwice, NeedsList, String, Memory}
-use Rattle.ptopts.specs.declared.inputs.Inputs.{Inputs}
 use Rattle.ptopts.specs.Args.{tool_of_name}
 use Rattle.ptopts.specs.Faults as faults
 use Rattle.ptopts.specs.Faults.{Fault}
-use Rattle.ptopts.specs.Commands.{Job, RunCut, RunPaste, RunUniq, RunComm, RunJoin, RunTr, Command}
-
--- the words, as lists of bytes
-abbrev pub words_view : List (Bor (List ℕ)) → List (List ℕ)
-words_view words = map (λ w. w.now) words
+use Rattle.ptopts.specs.Commands.{Command}
+pub use Rattle.ptopts.specs.Commands.{words_view, with_inputs, command_view}
 
 -- the fault that an error reports; `None` for an allocation failure
 abbrev pub fault_view : UseFault → Option Fault
@@ -31,24 +25,6 @@ fault_view StandardTwice = Some faults.StandardTwice
 fault_view NeedsList = Some faults.NeedsList
 fault_view (String fault) = Some (faults.InString fault)
 fault_view Memory = None
-
--- a job with the inputs and the output of the code
-abbrev pub with_inputs : {A : Type 0} → Job → Inputs A → Command
-with_inputs job inputs = record {
-  job = job;
-  order = inputs.order.items;
-  names = words_view inputs.names.items;
-  output = option_map (λ w. w.now) inputs.output;
-}
-
--- the command
-abbrev pub command_view : {A : Type 0} → code.Command A → Command
-command_view (Cut job inputs) = with_inputs (RunCut (jobs.cut_job job)) inputs
-command_view (Paste job inputs) = with_inputs (RunPaste (jobs.paste_job job)) inputs
-command_view (Uniq job inputs) = with_inputs (RunUniq (jobs.uniq_job job)) inputs
-command_view (Comm job inputs) = with_inputs (RunComm (jobs.comm_job job)) inputs
-command_view (Join job inputs) = with_inputs (RunJoin (jobs.join_job job)) inputs
-command_view (Tr plan inputs) = with_inputs (RunTr plan) inputs
 
 -- the function returns the command that the definition gives, or its first fault, or an allocation failure
 abbrev pub CommandPost : {A : Type 0} → Result (code.Command A) UseFault → Result Command Fault → Type 0

@@ -1,14 +1,59 @@
-//! The tools that a run can drive: `cut`, `paste`, `tr` and `uniq`. `merge` has `comm` and `join`.
+//! Runs a command with its tool, and the tools that a run can drive: `cut`, `paste`, `tr` and `uniq`. `merge` has `comm`
+//! and `join`.
 
 ghost use Rattle.std.specs.Prelude.{◌≡◌};
-ghost use Rattle.ptrun.specs.Driver.{operand_completion};
+ghost use Rattle.ptopts.specs.View.{command_view};
+ghost use Rattle.ptrun.specs.Driver.{InputsPre, RunWithStorePost, operand_completion};
+ghost use Rattle.ptrun.specs.Runs.{RunPre, sinks, outcome};
+ghost use Rattle.ptrun.specs.SpecOfArgs.{command_spec};
 
+use crate::driver::run_tool;
+use crate::merge::MergeJob;
+use crate::messages::Messages;
+use crate::report::Report;
 use crate::tool::{Completion, Tool};
 use ptflow::{FlowFault, cut, paste, paste_serial, tr, uniq};
 use ptlangs::CharPlan;
 use ptlangs::jobs::{CutJob, PasteJob, UniqJob};
 use ptlines::{LineReader, Out, Sink, Source, Store};
+use ptopts::Command;
 use std::alloc::Allocator;
+
+// Runs a command that was parsed.
+pub(crate) fn run_command<
+    A: Allocator + Copy,
+    B: Allocator + Copy,
+    S: Source,
+    R: Source,
+    W: Sink,
+    E: Sink,
+>(
+    store: &mut Store<A>,
+    command: Command<'_, B>,
+    inputs: &mut [LineReader<S, R>],
+    out: W,
+    messages: Messages<E>,
+) -> Report<W, E>
+    requires given { InputsPre (command_spec (command_view command)) inputs.old }
+    requires unused { RunPre store.old (sinks (W.state out) messages) }
+    ensures { RunWithStorePost (command_spec (command_view command.entry)) inputs.old inputs.new (sinks (W.state out) messages)
+        (outcome W.state E.state result) store.old store.new }
+{
+    match command {
+        Command::Cut(tool, operands) => run_tool(store, &tool, &operands, inputs, out, messages),
+        Command::Paste(tool, operands) => run_tool(store, &tool, &operands, inputs, out, messages),
+        Command::Tr(tool, operands) => run_tool(store, &tool, &operands, inputs, out, messages),
+        Command::Uniq(tool, operands) => run_tool(store, &tool, &operands, inputs, out, messages),
+        Command::Comm(job, operands) => {
+            let tool: MergeJob<B> = MergeJob::Comm(job);
+            run_tool(store, &tool, &operands, inputs, out, messages)
+        }
+        Command::Join(job, operands) => {
+            let tool = MergeJob::Join(job);
+            run_tool(store, &tool, &operands, inputs, out, messages)
+        }
+    }
+}
 
 // The result of a call over the reader at `position`, as that of the tool.
 fn completion_at(pass: Result<(), FlowFault>, position: usize) -> Result<Completion, FlowFault>

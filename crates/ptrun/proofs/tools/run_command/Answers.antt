@@ -1,4 +1,4 @@
-use Rattle.ptrun.proofs.running.run_command.Goals as goal
+use Rattle.ptrun.proofs.tools.run_command.Goals as goal
 
 pub run_tool-requires-in-Comm-clause-given : goal.run_tool-requires-in-Comm-clause-given
 run_tool-requires-in-Comm-clause-given g c = rw c.in-Comm.is at c.requires.given
