@@ -1,90 +1,82 @@
 -- Names of other crates and of this one that many proofs use. They import them from here.
-pub use Rattle.std.proofs.Common.{Bool, Err, Fits, List, None, Ok, OnErr, Option, Result, Some, []}
-pub use Rattle.std.proofs.Common.{add-one, ap, append_assoc, ap₂, arith, bit_and, bit_or, cond, drop, drop-cons, eqb}
-pub use Rattle.std.proofs.Common.{false, get_or, get_or-drop, get_or-take, inl, inr, leb, length, length-append}
-pub use Rattle.std.proofs.Common.{length-drop, ltb, map, max, min, negsuc, not, pos, refl, replicate, set, slice_index}
-pub use Rattle.std.proofs.Common.{slice_index_or, slice_set, subst, suc, sym, take, take-append-drop, true, w8, zero, ℕ}
-pub use Rattle.std.proofs.Common.{ℤ, ⊎_elim, ◌%◌, ◌&&◌, ◌*◌, ◌++◌, ◌+◌, ◌-◌, ◌/◌, ◌<◌, ◌==◌, ◌^◌, ◌||◌, ◌∙◌, ◌∷◌, ◌≡◌}
-pub use Rattle.std.proofs.Common.{◌≢◌, ◌≤◌, ◌⊎◌}
+pub use Rattle.std.proofs.Common.{Bool, Err, Fits, List, None, Ok, OnErr, Option, Result, Some, [], add-one, ap}
+pub use Rattle.std.proofs.Common.{append_assoc, ap₂, arith, bit_and, bit_or, cond, drop, drop-cons, eqb, false, get_or}
+pub use Rattle.std.proofs.Common.{get_or-drop, get_or-take, inl, inr, leb, length, length-append, length-drop, ltb, map}
+pub use Rattle.std.proofs.Common.{max, min, negsuc, not, pos, refl, replicate, set, slice_index, slice_index_or}
+pub use Rattle.std.proofs.Common.{slice_set, subst, suc, sym, take, take-append-drop, true, w8, zero, ℕ, ℤ, ⊎_elim, ◌%◌}
+pub use Rattle.std.proofs.Common.{◌&&◌, ◌*◌, ◌++◌, ◌+◌, ◌-◌, ◌/◌, ◌<◌, ◌==◌, ◌^◌, ◌||◌, ◌∙◌, ◌∷◌, ◌≡◌, ◌≢◌, ◌≤◌, ◌⊎◌}
 pub use Rattle.std.proofs.Math.Nat.{add-mod_left, mod-add-mod, mod-eq_of_lt, mod-lt, mul-le-mul_left, pow-succ'}
 pub use Rattle.std.proofs.Math.Seq.{take-add, take-append-add, take-set-lt}
-pub use Rattle.std.proofs.lemmas.Bool.{and_right, cases_Bool, cases_eq, cases_lt, eq-eqb, eqb-false}
-pub use Rattle.std.proofs.lemmas.Bool.{eqb-true, false_from_ne_true, false≢true, le-ltb, lt-leb, lt-ltb, ne_eqb}
+pub use Rattle.std.proofs.lemmas.Bool.{and_right, cases_Bool, cases_eq, cases_lt, eq-eqb, eqb-false, eqb-true}
+pub use Rattle.std.proofs.lemmas.Bool.{false_from_ne_true, false≢true, le-ltb, lt-ltb, ne_eqb}
 pub use Rattle.std.proofs.lemmas.Bool.Decides.{nat_tests}
 pub use Rattle.std.proofs.lemmas.Grind.{and_numeral, common_steps, get_or_after_one}
 pub use Rattle.std.proofs.lemmas.List.{append-nil, append_cancel_right, drop-append-le, drop-drop, drop-set-lt}
 pub use Rattle.std.proofs.lemmas.List.{drop-take, drop_all, drop_at, drop_more, ext_get_or, get_or-map}
-pub use Rattle.std.proofs.lemmas.List.{get_or-set_other, get_or-set_same, get_or_append_left}
-pub use Rattle.std.proofs.lemmas.List.{get_or_at, get_or_default, get_or_past, get_or_push, length-map, length-set}
-pub use Rattle.std.proofs.lemmas.List.{length-take-le, map-append, nil_from_length, set-append_right, set-get_or}
-pub use Rattle.std.proofs.lemmas.List.{take-append-le, take-map, take-set, take-take, take_all, take_at, take_more}
-pub use Rattle.std.proofs.lemmas.List.{take_more_set, take_rest}
+pub use Rattle.std.proofs.lemmas.List.{get_or-set_other, get_or-set_same, get_or_append_left, get_or_at, get_or_default}
+pub use Rattle.std.proofs.lemmas.List.{get_or_past, get_or_push, length-map, length-set, length-take-le, map-append}
+pub use Rattle.std.proofs.lemmas.List.{nil_from_length, set-append_right, set-get_or, take-append-le, take-map}
+pub use Rattle.std.proofs.lemmas.List.{take-set, take-take, take_all, take_at, take_more, take_more_set, take_rest}
 pub use Rattle.std.proofs.lemmas.List.Concat.{flat_map-append}
-pub use Rattle.std.proofs.lemmas.List.Elements.{All-drop, All-from_get_or, All-from_recursion, All-get_or, All-set}
-pub use Rattle.std.proofs.lemmas.List.Elements.{All-take, filter-append, recursion_from_All}
+pub use Rattle.std.proofs.lemmas.List.Elements.{All-from_get_or, All-get_or, All-set, filter-append}
 pub use Rattle.std.proofs.lemmas.List.Folds.{drop_split, list_any_at}
-pub use Rattle.std.proofs.lemmas.List.FromFn.{get_or-enumerate_from, get_or-map-range_with_len, get_or-range_with_len}
-pub use Rattle.std.proofs.lemmas.List.FromFn.{length-enumerate_from, length-map-range_with_len, length-range_with_len}
-pub use Rattle.std.proofs.lemmas.List.FromFn.{take-map-range_with_len}
+pub use Rattle.std.proofs.lemmas.List.FromFn.{get_or-enumerate_from, get_or-range_with_len, length-enumerate_from}
+pub use Rattle.std.proofs.lemmas.List.FromFn.{length-map-range_with_len, length-range_with_len, take-map-range_with_len}
 pub use Rattle.std.proofs.lemmas.List.Splits.{length-slice_split}
 pub use Rattle.std.proofs.lemmas.List.Sums.{count_by-le-length, count_by_more_no, count_by_more_yes, get_or-le-sum_by}
 pub use Rattle.std.proofs.lemmas.List.Sums.{sum_by-append, sum_by-cons, sum_by-set, sum_by-take-le}
 pub use Rattle.std.proofs.lemmas.Nat.{and_mask, mod-mul-add, ones-le, pow_pos}
 pub use Rattle.std.proofs.lemmas.Result.{err_from_is_err_and}
 pub use Rattle.std.proofs.lemmas.Simd.{Each1-from_get_or, SwzOk, SwzOk-from_below, bit_mask_l, bitmask_splat}
-pub use Rattle.std.proofs.lemmas.Simd.{chunk-drop, get_or-chunk, length-chunk, length-put_chunk}
-pub use Rattle.std.proofs.lemmas.Simd.{length-swz_l, length-zip2, map-map, mask_l-lt, mask_l-mod, ones-mask_l}
-pub use Rattle.std.proofs.lemmas.Simd.{ones-mask_l_cons, pick_l-range_with_len, splat_is_map, swz_l}
-pub use Rattle.std.proofs.lemmas.Simd.{take_more_put_chunk, tops_compared, trailing_mask_l, zip2_of_maps, zip2_splat}
+pub use Rattle.std.proofs.lemmas.Simd.{chunk-drop, get_or-chunk, length-chunk, length-put_chunk, length-swz_l}
+pub use Rattle.std.proofs.lemmas.Simd.{length-zip2, map-map, mask_l-lt, mask_l-mod, ones-mask_l, ones-mask_l_cons}
+pub use Rattle.std.proofs.lemmas.Simd.{pick_l-range_with_len, splat_is_map, swz_l, take_more_put_chunk, tops_compared}
+pub use Rattle.std.proofs.lemmas.Simd.{trailing_mask_l, zip2_of_maps, zip2_splat}
 pub use Rattle.std.proofs.lemmas.Slice.Eq.{bytes_eq-Decides}
 pub use Rattle.std.specs.Int.{bit_at, cast_signed, cast_unsigned, from_bool}
 pub use Rattle.std.specs.Int.RustNames.{count_ones}
 pub use Rattle.std.specs.List.{AllByRecursion, count_by, enumerate_from, flat_map, join_with_byte, last_or, list_all}
 pub use Rattle.std.specs.List.{list_any, onto_first, prefix_len, range_with_len}
 pub use Rattle.std.specs.Option.{is_some, option_eq, option_map_or, option_or}
-pub use Rattle.std.specs.Prelude.{All, bytes_eq, filter, fold, if◌then◌else◌, nat_eq, nat_le, nat_lt}
-pub use Rattle.std.specs.Prelude.{option_map, option_to_list, slice_get, slice_range, sum_by, swap, unwrap_or}
+pub use Rattle.std.specs.Prelude.{All, bytes_eq, filter, fold, if◌then◌else◌, nat_eq, nat_le, nat_lt, option_map}
+pub use Rattle.std.specs.Prelude.{option_to_list, slice_get, slice_range, sum_by, swap, unwrap_or}
 pub use Rattle.std.specs.Simd.Lanes.{Each1, chunk, mask_l, pick_l, put_chunk, sel_l, top, zip2}
-pub use Rattle.memchr.specs.Find.{IsFirstByte, IsLastByte, NoneBefore, Nowhere, Passes, is_byte, is_byte2}
+pub use Rattle.memchr.specs.Find.{IsFirstByte, NoneBefore, Nowhere, Passes, is_byte, is_byte2}
 pub use Rattle.ptlangs.specs.CutLists.{AreSeparated, is_selected}
 pub use Rattle.ptlangs.specs.Jobs.{Cut, Paste, Uniq, cut_job, terminator, paste_job, uniq_job}
 pub use Rattle.ptlangs.specs.TrShifts.{shift_at}
 pub use Rattle.ptlangs.specs.TrTables.{Tables, deletes, image, squeezes}
 pub use Rattle.ptlangs.specs.declared.ranges.Interval.{Interval}
-pub use Rattle.ptlines.proofs.Received.{has_received, has_received_of_set, has_received_set, received_with}
+pub use Rattle.ptlines.proofs.Received.{received_with}
 pub use Rattle.ptlines.proofs.ReadLine.{advance_ok_trans, advance_trans}
-pub use Rattle.ptlines.proofs.KnownBytes.{prepend_known-nil}
 pub use Rattle.ptlines.proofs.PartLaws.{the_lines_of_parts}
 pub use Rattle.ptlines.proofs.Push.{push_nothing, push_past_failure, push_trans}
 pub use Rattle.ptlines.proofs.LineSearch.{line_before_terminator, drop_at_terminator, advance_ok_take}
 pub use Rattle.ptlines.proofs.LineSearch.{line_if_not_found, take_with_terminator}
 pub use Rattle.ptlines.proofs.MatchMasks.{first_at_lowest_bit, none_if_zero_mask, nowhere_trans}
-pub use Rattle.ptlines.proofs.Lag.{bounded_lag_after, bounded_lag_now}
-pub use Rattle.ptlines.proofs.TextLaws.{AreLines_push, complete_lines_cons, complete_lines_none}
-pub use Rattle.ptlines.proofs.TextLaws.{complete_lines_of_unlines, lines-unlines, lines_are, lines_cons, lines_of_last}
-pub use Rattle.ptlines.proofs.TextLaws.{lines_of_unlines, byte_ne, byte_eq, unlines-append, unlines_push}
-pub use Rattle.ptlines.proofs.TextLaws.{the_complete_lines, the_lines}
+pub use Rattle.ptlines.proofs.Lag.{bounded_lag_after}
+pub use Rattle.ptlines.proofs.TextLaws.{complete_lines_cons, complete_lines_none, complete_lines_of_unlines}
+pub use Rattle.ptlines.proofs.TextLaws.{lines-unlines, lines_are, lines_cons, lines_of_last, lines_of_unlines, byte_ne}
+pub use Rattle.ptlines.proofs.TextLaws.{byte_eq, unlines-append, unlines_push, the_complete_lines, the_lines}
 pub use Rattle.ptlines.specs.ReadLine.{FillMemoryErr, FillReadErr, FillPost, FillLine}
-pub use Rattle.ptlines.specs.Received.{IsConsistent, IsPrefix, HasReceived, Received, known_lines}
-pub use Rattle.ptlines.specs.Lag.{LaggedInput, BoundedLag, ProcessLag}
+pub use Rattle.ptlines.specs.Received.{IsConsistent, IsPrefix, Received, known_lines}
+pub use Rattle.ptlines.specs.Lag.{LaggedInput, ProcessLag}
 pub use Rattle.ptlines.specs.Outputs.{Output, PushEffect}
 pub use Rattle.ptlines.specs.Readers.{AdvanceOk, HasReadCause, IsDone, IsSound, Reader, ReaderAdvance, budget}
-pub use Rattle.ptlines.specs.Readers.{remaining_bytes}
-pub use Rattle.ptlines.specs.Slots.{Slots, line, total_bytes, with_denied, with_line}
+pub use Rattle.ptlines.specs.Readers.{no_reader, reader_at}
+pub use Rattle.ptlines.specs.Slots.{Slots, line, total_bytes, with_denied, with_line, AddedSlots}
 pub use Rattle.ptlines.specs.Text.{AreLines, EndsWithByte, IsLine, complete_lines, lines, max_length, max_line_length}
-pub use Rattle.ptlines.specs.Text.{onto_first_if_any, unlines}
+pub use Rattle.ptlines.specs.Text.{onto_first_if_any, unlines, is_blank}
 pub use Rattle.ptflow.specs.Cuts.{select_from, cut, cut_decided, cut_fields, cut_line, cut_lines, cut_tool}
 pub use Rattle.ptflow.specs.Cuts.{is_field_delimiter}
 pub use Rattle.ptflow.specs.Parts.{HasGroupedKeys, BeginsWith, CutOfParts, EndsWith, IsRowSplit, PasteOfParts}
 pub use Rattle.ptflow.specs.Parts.{TrAfterByte, TrMeetsTwice, TrOfAnyParts, TrOfParts, UniqByKey, UniqOfParts}
-pub use Rattle.ptflow.specs.Passes.{StorelessPost, PassPost, PassPre, no_store, only_input, pass_end, pass_engine}
-pub use Rattle.ptlines.specs.Calls.{CallPost, CallOutcome, CallState, call_state, CallEnd, Complete, ReadFault}
-pub use Rattle.ptlines.specs.Calls.{WriteFault, MemoryFault, AreAllConsistent, AllPushed, with_input, inputs_at, is_in}
-pub use Rattle.ptlines.proofs.Calls.{CallProgress, DecidedIfReadFailed, given_before, given_by, reads_nothing}
-pub use Rattle.ptlines.proofs.Calls.{call_ends, call_on_failed_output, call_set, call_without_slots}
-pub use Rattle.ptlines.specs.Slots.{AddedSlots}
+pub use Rattle.ptflow.specs.Passes.{PassPost, PassPre, no_store, only_input, pass_end, pass_engine}
+pub use Rattle.ptlines.specs.Calls.{CallPost, CallOutcome, CallState, call_state, CallEnd, AreAllConsistent, inputs_at}
+pub use Rattle.ptlines.specs.Calls.{is_in}
+pub use Rattle.ptlines.proofs.Calls.{CallProgress, DecidedIfReadFailed, reads_nothing, call_ends, call_on_failed_output}
+pub use Rattle.ptlines.proofs.Calls.{call_set, call_without_slots}
 pub use Rattle.ptflow.specs.PasteCall.{PastePre, PastePost, IsReadable, paste_end, paste_engine, update_at}
-pub use Rattle.ptlines.specs.Readers.{no_reader, reader_at}
 pub use Rattle.ptflow.specs.PasteText.{columns, delimiter, every_kth, join_with_cycle, row_count, is_row_known}
 pub use Rattle.ptflow.specs.PasteText.{known_rows, paste, paste_decided, paste_size, row_at, rows, paste_serial_decided}
 pub use Rattle.ptflow.specs.PasteText.{paste_serial_tool, rows_text, uses_of}
@@ -92,9 +84,8 @@ pub use Rattle.ptflow.specs.ToolSpec.{ToolSpec}
 pub use Rattle.ptflow.specs.TrOutput.{squeeze, squeeze_after, is_not_repeat, tr, tr_decided, tr_tool, translation}
 pub use Rattle.ptflow.specs.Uniqs.{Run, after_fields, init, ends_word, output_of, is_same, key, cons_run, runs}
 pub use Rattle.ptflow.specs.Uniqs.{uniq_tool, word_ends}
-pub use Rattle.ptlines.specs.Text.{is_blank}
-pub use Rattle.ptflow.specs.Private.Vectors.ByteSets.{FilterPre, IsSetOf, keep_flags, kept_bytes, mask_of}
-pub use Rattle.ptflow.specs.Private.Vectors.ByteSets.{set_has, table_has}
+pub use Rattle.ptflow.specs.Private.Vectors.ByteSets.{FilterPre, IsSetOf, keep_flags, kept_bytes, mask_of, set_has}
+pub use Rattle.ptflow.specs.Private.Vectors.ByteSets.{table_has}
 pub use Rattle.ptflow.specs.Private.Vectors.Shift.{IsMappedTo, range_delta, shift_by_ranges, stretch_delta}
 pub use Rattle.ptflow.specs.Private.Vectors.FindNth.{IsNth}
 pub use Rattle.ptflow.specs.Private.Vectors.Compress.{IsCompressTable, IsCompressRow, select_by, true_indices}
@@ -116,11 +107,10 @@ pub use Rattle.ptflow.specs.Private.Paste.RowCells.{begun_after, begun_in, cells
 pub use Rattle.ptflow.specs.Private.Paste.SerialRest.{row_rest, serial_rest}
 pub use Rattle.ptflow.specs.Private.Paste.TakenLines.{AreReceivedLines, LinesTaken}
 pub use Rattle.ptflow.specs.Private.Paste.BufferedRows.{BufferedRowsPre, IsConsumed, AreConsumed, AreFirstRows}
-pub use Rattle.ptflow.specs.Private.Paste.BufferedRows.{RowsTaken, IsFieldCopied}
-pub use Rattle.ptflow.specs.Private.Paste.BufferedRows.{CopyColumnsPost, CopyRowsPost, RowsWritten}
+pub use Rattle.ptflow.specs.Private.Paste.BufferedRows.{RowsTaken, IsFieldCopied, CopyColumnsPost, CopyRowsPost}
+pub use Rattle.ptflow.specs.Private.Paste.BufferedRows.{RowsWritten}
 pub use Rattle.ptflow.specs.Private.Tr.TrFrom.{squeeze_from, tr_from}
-pub use Rattle.ptflow.specs.Private.Uniq.BlockRuns.{IsSpan, RunsFailed, RunsWritten, IsPending}
-pub use Rattle.ptflow.specs.Private.Uniq.BlockRuns.{span_of}
+pub use Rattle.ptflow.specs.Private.Uniq.BlockRuns.{IsSpan, RunsFailed, RunsWritten, IsPending, span_of}
 pub use Rattle.ptflow.specs.Private.Uniq.FirstLine.{first_line, current_run_of}
 pub use Rattle.ptflow.specs.Private.Uniq.RunsFrom.{count_of, has_output, current_run, run_of, run_output, runs_after}
 pub use Rattle.ptflow.specs.Private.Uniq.RunsFrom.{runs_from}
