@@ -1,12 +1,12 @@
 -- The lists of `cut`. An element is split at its dashes, which digits do not contain, so that the split gives its
 -- bounds back; this makes `cut_list` agree with the grammar in both directions. Merging sorted intervals keeps the set
 -- that they select.
-use Rattle.ptlangs.proofs.Common.{Result, ◌≡◌, Bool, List, None, Ok, Option, Some, [], ap, arith, cond, drop, false}
-use Rattle.ptlangs.proofs.Common.{inl, inr, length, refl, subst, suc, sym, take, true, ℕ, ◌&&◌, ◌++◌, ◌+◌, ◌-◌, ◌<◌}
-use Rattle.ptlangs.proofs.Common.{◌||◌, ◌∙◌, ◌∷◌, and_parts, cases_Bool, cond-true, eqb-true, All-cons, slice_split_at}
-use Rattle.ptlangs.proofs.Common.{slice_split_none, AllPass-from_list_all, is_ascii_digit, All, list_all, position}
-use Rattle.ptlangs.proofs.Common.{slice_split, IsValidInterval, cut_list, element_interval, is_dash, and_then, traverse}
-use Rattle.ptlangs.proofs.Common.{is_empty, is_number, value, Interval, ◌≤◌, append_assoc}
+use Rattle.ptlangs.proofs
+use proofs.Common.{Result, ◌≡◌, Bool, List, None, Ok, Option, Some, [], ap, arith, cond, drop, false, inl, inr, length}
+use proofs.Common.{refl, subst, suc, sym, take, true, ℕ, ◌&&◌, ◌++◌, ◌+◌, ◌-◌, ◌<◌, ◌||◌, ◌∙◌, ◌∷◌, and_parts}
+use proofs.Common.{cases_Bool, cond-true, eqb-true, All-cons, slice_split_at, slice_split_none, AllPass-from_list_all}
+use proofs.Common.{is_ascii_digit, All, list_all, position, slice_split, IsValidInterval, cut_list, element_interval}
+use proofs.Common.{is_dash, and_then, traverse, is_empty, is_number, value, Interval, ◌≤◌, append_assoc}
 use Rattle.std.proofs.Common.{leb, max}
 use Rattle.std.proofs.lemmas.List.Sorted.{list_any-IsPermutation}
 use Rattle.std.proofs.lemmas.List.Splits.{join_with_byte-slice_split, length-slice_split}
@@ -14,9 +14,8 @@ use Rattle.std.specs.List.{join_with_byte, list_any}
 use Rattle.std.proofs.lemmas.List.Folds.{list_any-append}
 use Rattle.std.specs.List.Sorted.{IsNonDecreasingBy, IsPermutation}
 use Rattle.ptlangs.specs.declared.ranges.ListFault.{ListFault}
-use Rattle.ptlangs.proofs.ListElements.{split_whole, split_around, some_since, digits_fail, Unbroken, unbroken_cons}
-use Rattle.ptlangs.proofs.ListElements.{unbroken_append, unbroken_nil, unbroken_number, matches_grammar, IsSplit, Whole}
-use Rattle.ptlangs.proofs.ListElements.{Cut, splits, reads_first}
+use proofs.ListElements.{split_whole, split_around, some_since, digits_fail, Unbroken, unbroken_cons, unbroken_append}
+use proofs.ListElements.{unbroken_nil, unbroken_number, matches_grammar, IsSplit, Whole, Cut, splits, reads_first}
 use Rattle.ptlangs.specs.CutLists.{CutListMatchesGrammar, AreSeparated, AreSortedFrom, From, FromTo, SpellsInterval}
 use Rattle.ptlangs.specs.CutLists.{IsIntervalElement, One, UpTo, checked_interval, interval_of_bounds, is_bound}
 use Rattle.ptlangs.specs.CutLists.{is_selected, interval_of_parts, selection}

@@ -1,13 +1,13 @@
 -- The lists of `paste`: each escape is one case of the grammar, so `delim_list` agrees with the grammar in both
 -- directions. The fault of a list is the first one found from left to right, and is never an allocation failure.
-use Rattle.ptlangs.proofs.Common.{◌≡◌, Bool, Err, List, None, Ok, Option, Result, Some, [], ap, arith, cond, eqb}
-use Rattle.ptlangs.proofs.Common.{length, refl, subst, sym, true, ℕ, ◌++◌, ◌<◌, ◌∙◌, ◌∷◌, eqb-true, append-nil}
-use Rattle.ptlangs.proofs.Common.{result_err, delim_list, and_then, cons_ok}
+use Rattle.ptlangs.proofs
+use proofs.Common.{◌≡◌, Bool, Err, List, None, Ok, Option, Result, Some, [], ap, arith, cond, eqb, length, refl, subst}
+use proofs.Common.{sym, true, ℕ, ◌++◌, ◌<◌, ◌∙◌, ◌∷◌, eqb-true, append-nil, result_err, delim_list, and_then, cons_ok}
 use Rattle.ptlangs.specs.DelimLists.{delims, Backslash, IsDelim, IsDelimList, Last, More, Newline, Nothing, Tab}
 use Rattle.ptlangs.specs.DelimLists.{backslash, escape, delim_list_fault, Plain, DelimListMatchesGrammar}
 use Rattle.ptlangs.specs.declared.delims.DelimFault.{DelimFault}
 use Rattle.std.proofs.lemmas.Bool.{cond_both}
-use Rattle.ptlangs.proofs.ListElements.{reads_first}
+use proofs.ListElements.{reads_first}
 
 pub delims_of_some : (bs : List ℕ) → 0 < length bs → delims bs ≡ delim_list bs
 delims_of_some bs h = grind arith

@@ -1,11 +1,11 @@
 -- Lists of elements between separators, and decimal numbers. An element contains no separator, so splitting at
 -- separators gives the elements of the grammar back. A number that is too large stays so with further digits.
-use Rattle.ptlangs.proofs.Common.{◌≡◌, Bool, Err, List, None, Ok, Result, Some, [], ap, arith, cond, drop, false}
-use Rattle.ptlangs.proofs.Common.{get_or, length, refl, subst, sym, take, true, ℕ, ◌++◌, ◌+◌, ◌-◌, ◌∙◌, ◌∷◌, ltb-false}
-use Rattle.ptlangs.proofs.Common.{ltb-true, append_assoc, length-drop, take_all, slice_split_at, slice_split_none}
-use Rattle.ptlangs.proofs.Common.{AllPass-from_list_all, is_ascii_digit, All, position, slice_split, and_then, traverse}
-use Rattle.ptlangs.proofs.Common.{elements, is_number, is_list_separator, cons_ok, eqb, ◌*◌, ◌<◌, ◌≤◌, All-cons}
-use Rattle.ptlangs.proofs.Common.{drop_more, digit_value, digits_value_after, max_u64, is_empty, value}
+use Rattle.ptlangs.proofs
+use proofs.Common.{◌≡◌, Bool, Err, List, None, Ok, Result, Some, [], ap, arith, cond, drop, false, get_or, length, refl}
+use proofs.Common.{subst, sym, take, true, ℕ, ◌++◌, ◌+◌, ◌-◌, ◌∙◌, ◌∷◌, ltb-false, ltb-true, append_assoc, length-drop}
+use proofs.Common.{take_all, slice_split_at, slice_split_none, AllPass-from_list_all, is_ascii_digit, All, position}
+use proofs.Common.{slice_split, and_then, traverse, elements, is_number, is_list_separator, cons_ok, eqb, ◌*◌, ◌<◌, ◌≤◌}
+use proofs.Common.{All-cons, drop_more, digit_value, digits_value_after, max_u64, is_empty, value}
 use Rattle.std.proofs.lemmas.List.Splits.{slice_split_first}
 use Rattle.std.proofs.lemmas.List.Sums.{fails_before_first}
 use Rattle.std.specs.List.{onto_first}

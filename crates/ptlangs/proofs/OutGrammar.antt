@@ -1,9 +1,10 @@
 -- The output lists of `join`: an element is `0`, or the number of a file, a point and a number, and `element_field`
 -- tests exactly this. So `out_list` agrees with the grammar in both directions.
-use Rattle.ptlangs.proofs.Common.{Result, ◌≡◌, ℕ, ◌≤◌, true, false, not, eqb, List, [], ◌∷◌, Ok, refl, subst, arith}
-use Rattle.ptlangs.proofs.Common.{eqb-true, max_u64, is_number, value, is_list_separator}
+use Rattle.ptlangs.proofs
+use proofs.Common.{Result, ◌≡◌, ℕ, ◌≤◌, true, false, not, eqb, List, [], ◌∷◌, Ok, refl, subst, arith, eqb-true, max_u64}
+use proofs.Common.{is_number, value, is_list_separator}
 use Rattle.std.proofs.lemmas.Bool.{cond_both, not-false}
-use Rattle.ptlangs.proofs.ListElements.{Unbroken, matches_grammar, unbroken_cons, unbroken_nil, unbroken_number}
+use proofs.ListElements.{Unbroken, matches_grammar, unbroken_cons, unbroken_nil, unbroken_number}
 use Rattle.ptlangs.specs.declared.outlist.OutFault.{OutFault}
 use Rattle.ptlangs.specs.OutLists.{element_field, SpellsField, IsValidField, IsFieldElement, OutListMatchesGrammar}
 use Rattle.ptlangs.specs.OutLists.{FirstFileField, SecondFileField, JoinField, field_of}

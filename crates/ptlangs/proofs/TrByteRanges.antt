@@ -1,8 +1,9 @@
 -- The byte with an index in a concatenation of ranges: an index past the first range is an index in the rest, less the
 -- length of the first.
-use Rattle.ptlangs.proofs.Common.{◌≡◌, ◌<◌, ◌≤◌, ◌+◌, ◌-◌, ℕ, zero, suc, List, [], ◌∷◌, ◌++◌, length, drop, replicate}
-use Rattle.ptlangs.proofs.Common.{arith, refl, sym, ap, ◌∙◌, Option, Some, None, slice_get, flat_map, drop_more}
-use Rattle.ptlangs.proofs.Common.{length-replicate, CharClass, span, range_bytes, get_or-replicate}
+use Rattle.ptlangs.proofs
+use proofs.Common.{◌≡◌, ◌<◌, ◌≤◌, ◌+◌, ◌-◌, ℕ, zero, suc, List, [], ◌∷◌, ◌++◌, length, drop, replicate, arith, refl}
+use proofs.Common.{sym, ap, ◌∙◌, Option, Some, None, slice_get, flat_map, drop_more, length-replicate, CharClass, span}
+use proofs.Common.{range_bytes, get_or-replicate}
 use Rattle.ptlangs.specs.TrClasses.{class_bytes}
 use Rattle.std.proofs.Math.ListN.{get_or}
 use Rattle.std.proofs.lemmas.List.FromFn.{get_or-range_with_len, length-range_with_len}

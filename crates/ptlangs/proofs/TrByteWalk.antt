@@ -1,11 +1,11 @@
 -- The bytes of a string of `tr`, read one after another: the bytes so far and those that are left are together all
 -- bytes of the string. And the classes that start in two arrays, compared byte by byte as the arrays are paired.
-use Rattle.ptlangs.proofs.Common.{◌≡◌, Bool, Err, List, None, Ok, Option, Result, Some, [], ap, arith, cond, drop, eqb}
-use Rattle.ptlangs.proofs.Common.{false, length, map, refl, suc, sym, true, zero, ℕ, ◌&&◌, ◌++◌, ◌+◌, ◌||◌, ◌∙◌, ◌∷◌}
-use Rattle.ptlangs.proofs.Common.{◌≤◌, ◌<◌, ◌-◌, append-nil, append_assoc, length-map, length-replicate, map-append}
-use Rattle.ptlangs.proofs.Common.{slice_get, cons_ok, array, class_offsets, sequence, is_fill, segment, result_map_both}
-use Rattle.ptlangs.proofs.Common.{CharClass, SetFaultKind, SetElement, Segment, SetRole, eq-eqb, ne_eqb, drop_all}
-use Rattle.ptlangs.proofs.Common.{replicate, span, segments_of, string_segments}
+use Rattle.ptlangs.proofs
+use proofs.Common.{◌≡◌, Bool, Err, List, None, Ok, Option, Result, Some, [], ap, arith, cond, drop, eqb, false, length}
+use proofs.Common.{map, refl, suc, sym, true, zero, ℕ, ◌&&◌, ◌++◌, ◌+◌, ◌||◌, ◌∙◌, ◌∷◌, ◌≤◌, ◌<◌, ◌-◌, append-nil}
+use proofs.Common.{append_assoc, length-map, length-replicate, map-append, slice_get, cons_ok, array, class_offsets}
+use proofs.Common.{sequence, is_fill, segment, result_map_both, CharClass, SetFaultKind, SetElement, Segment, SetRole}
+use proofs.Common.{eq-eqb, ne_eqb, drop_all, replicate, span, segments_of, string_segments}
 use Rattle.ptlangs.specs.TrPlan.{are_paired, members, has_other_case_at}
 use Rattle.std.proofs.lemmas.List.{drop-map, drop-replicate}
 use Rattle.std.specs.Result.{IsErrAnd}
@@ -13,8 +13,8 @@ use Rattle.ptlangs.specs.declared.tr.segments.Member.{Member}
 use Rattle.ptlangs.specs.declared.tr.segments.Segment.TheVariants.{Range, Class, Fill, Repeat}
 use Rattle.ptlangs.specs.TrParsing.{all_paired, member_bytes, classes_match, class_of, marked_array, marked_members}
 use Rattle.ptlangs.specs.TrParsing.{member_results, members_from, plain_members}
-use Rattle.ptlangs.proofs.ListElements.{append_ok as onto, append_ok-nil, cons_ok-append_ok, reads_first}
-use Rattle.ptlangs.proofs.TrByteRanges.{slice_get-none, class_bytes-some}
+use proofs.ListElements.{append_ok as onto, append_ok-nil, cons_ok-append_ok, reads_first}
+use proofs.TrByteRanges.{slice_get-none, class_bytes-some}
 
 -- these items were read without a fault, and `P` holds of them; `rest` is still to be read
 pub record ItemsRead {A : Type 0} (all rest : List (Result A SetFaultKind)) (P : List A → Type 0) : Type 0 where

@@ -1,12 +1,12 @@
 -- Octal and decimal numbers, and the characters of a string at an index. The character at an index depends only on the
 -- bytes from there on, which gives the agreement with the grammar, character by character.
-use Rattle.ptlangs.proofs.Common.{◌≡◌, ◌≤◌, ◌<◌, ◌+◌, ◌-◌, ◌*◌, ℕ, zero, suc, Bool, true, false, cond, eqb, List, []}
-use Rattle.ptlangs.proofs.Common.{◌∷◌, length, take, drop, get_or, arith, refl, sym, ap, ◌∙◌, rules, Option, Some, None}
-use Rattle.ptlangs.proofs.Common.{prefix_len, slice_get, digit_value, digits_value, drop_more, drop-drop}
-use Rattle.ptlangs.proofs.Common.{length-prefix_len, octal, chars, after_backslash, SetChar, Plain, Escaped, Invalid}
-use Rattle.ptlangs.proofs.Common.{inl, inr, subst, ◌++◌, cases_Bool, cases_eq, ne_eqb, drop_at, length-append, AChar}
-use Rattle.ptlangs.proofs.Common.{NoChar, SpellsChar, SpellsChars, cond-false, cond-true, value, Result, Ok, Err}
-use Rattle.ptlangs.proofs.Common.{SetFaultKind}
+use Rattle.ptlangs.proofs
+use proofs.Common.{◌≡◌, ◌≤◌, ◌<◌, ◌+◌, ◌-◌, ◌*◌, ℕ, zero, suc, Bool, true, false, cond, eqb, List, [], ◌∷◌, length}
+use proofs.Common.{take, drop, get_or, arith, refl, sym, ap, ◌∙◌, rules, Option, Some, None, prefix_len, slice_get}
+use proofs.Common.{digit_value, digits_value, drop_more, drop-drop, length-prefix_len, octal, chars, after_backslash}
+use proofs.Common.{SetChar, Plain, Escaped, Invalid, inl, inr, subst, ◌++◌, cases_Bool, cases_eq, ne_eqb, drop_at}
+use proofs.Common.{length-append, AChar, NoChar, SpellsChar, SpellsChars, cond-false, cond-true, value, Result, Ok, Err}
+use proofs.Common.{SetFaultKind}
 use Rattle.ptlangs.specs.TrChars.{ALargeOctal, ALoneBackslash, APlainByte, AnEscape, AnOctal, is_octal_digit, octal_run}
 use Rattle.ptlangs.specs.TrChars.{IsOctalRun, OneDigit, ThreeDigits, TwoDigits, CharsMatchGrammar, byte_of, char_at}
 use Rattle.std.proofs.Common.{nat_le, All}

@@ -1,11 +1,11 @@
 -- The table of the bytes that an array contains, which grows byte by byte, and the table of images. The image of a byte
 -- is the byte of the second array, extended by its last byte, at the index that was pushed last for it.
 use Rattle.std.proofs.lemmas.Map.Views.{any-filter_same}
-use Rattle.ptlangs.proofs.Common.{eqb-true, ◌≡◌, ◌≢◌, inl, inr, ◌<◌, ◌≤◌, ◌+◌, ◌-◌, ℕ, zero, suc, Bool, true, false}
-use Rattle.ptlangs.proofs.Common.{cond, eqb, List, [], ◌∷◌, ◌++◌, length, take, map, replicate, arith, refl, sym, ap}
-use Rattle.ptlangs.proofs.Common.{◌∙◌, Option, Some, None, flat_map, set, cases_eq, eq-eqb, ne_eqb, append_assoc}
-use Rattle.ptlangs.proofs.Common.{append-nil, length-replicate, get_or-replicate, length-append, not, ◌&&◌, last_or}
-use Rattle.ptlangs.proofs.Common.{slice_get, option_and_then, unwrap_or, complement_of, image_by}
+use Rattle.ptlangs.proofs
+use proofs.Common.{eqb-true, ◌≡◌, ◌≢◌, inl, inr, ◌<◌, ◌≤◌, ◌+◌, ◌-◌, ℕ, zero, suc, Bool, true, false, cond, eqb, List}
+use proofs.Common.{[], ◌∷◌, ◌++◌, length, take, map, replicate, arith, refl, sym, ap, ◌∙◌, Option, Some, None, flat_map}
+use proofs.Common.{set, cases_eq, eq-eqb, ne_eqb, append_assoc, append-nil, length-replicate, get_or-replicate}
+use proofs.Common.{length-append, not, ◌&&◌, last_or, slice_get, option_and_then, unwrap_or, complement_of, image_by}
 use Rattle.std.proofs.Common.{◌⊎◌, min}
 use Rattle.std.specs.List.{range_with_len}
 use Rattle.std.specs.Option.{option_to_list}
@@ -20,7 +20,7 @@ use Rattle.ptlangs.specs.TrPlan.{padded_to, has_byte, last_position, next_index_
 use Rattle.std.proofs.lemmas.List.FromFn.{get_or-map-range_with_len, length-map-range_with_len, map-range_with_len_more}
 use Rattle.std.proofs.lemmas.List.{get_or-set_other, get_or-set_same, get_or_default, length-set, map-id, same_lists}
 use Rattle.std.proofs.lemmas.Grind.{common_steps}
-use Rattle.ptlangs.proofs.TrByteRanges.{slice_get-left, slice_get-right, slice_get-none, repeat_there}
+use proofs.TrByteRanges.{slice_get-left, slice_get-right, slice_get-none, repeat_there}
 
 -- the entries of a table of all bytes
 pub length-table : {X : Type 0} (f : ℕ → X) → length (map f all_bytes) ≡ 256

@@ -1,14 +1,14 @@
 -- The elements that the definition computes are those of the grammar, in both directions: each bracketed form, range
 -- and single character is one case of both. The code finds the elements that the definition computes, and a string is
 -- rejected with the fault of its first faulty element.
-use Rattle.ptlangs.proofs.Common.{◌≡◌, ◌<◌, ◌-◌, ℕ, zero, suc, Bool, true, false, List, [], ◌∷◌, ◌++◌, length, drop}
-use Rattle.ptlangs.proofs.Common.{map, arith, refl, sym, ap, subst, ◌∙◌, Option, Some, None, Result, Ok, Err, list_all}
-use Rattle.ptlangs.proofs.Common.{option_and_then, is_ascii_digit, is_ascii_lowercase, ltb-false, ne_eqb, length-map}
-use Rattle.ptlangs.proofs.Common.{length-append, append_assoc, drop_at, drop_all, SetFaultKind, SetChar, Plain, Escaped}
-use Rattle.ptlangs.proofs.Common.{Invalid, SetElement, StartsElement, after_plain, plain_run, after_run, set_elements}
-use Rattle.ptlangs.proofs.Common.{◌||◌, ◌≤◌, and_parts, ltb-true, drop_more, result_map_both, StartsInvalid, FirstFault}
-use Rattle.ptlangs.proofs.Common.{LaterFault, NoElement, NoSegment, sequence, is_fill, segment, segments, chars}
-use Rattle.ptlangs.proofs.Common.{CharClass, Segment, SetRole}
+use Rattle.ptlangs.proofs
+use proofs.Common.{◌≡◌, ◌<◌, ◌-◌, ℕ, zero, suc, Bool, true, false, List, [], ◌∷◌, ◌++◌, length, drop, map, arith, refl}
+use proofs.Common.{sym, ap, subst, ◌∙◌, Option, Some, None, Result, Ok, Err, list_all, option_and_then, is_ascii_digit}
+use proofs.Common.{is_ascii_lowercase, ltb-false, ne_eqb, length-map, length-append, append_assoc, drop_at, drop_all}
+use proofs.Common.{SetFaultKind, SetChar, Plain, Escaped, Invalid, SetElement, StartsElement, after_plain, plain_run}
+use proofs.Common.{after_run, set_elements, ◌||◌, ◌≤◌, and_parts, ltb-true, drop_more, result_map_both, StartsInvalid}
+use proofs.Common.{FirstFault, LaterFault, NoElement, NoSegment, sequence, is_fill, segment, segments, chars, CharClass}
+use proofs.Common.{Segment, SetRole}
 use Rattle.std.proofs.lemmas.Bool.{le-ltb, cond_both}
 use Rattle.ptlangs.specs.TrElements.{ADescendingRange, AnInvalidEnd, AnInvalidChar, StartsBracketed, ARepeat, AClass}
 use Rattle.ptlangs.specs.TrElements.{AnEquivalence, InBrackets, ARange, Alone, AreElements, ByEscape, ByItself}
@@ -22,7 +22,7 @@ use Rattle.ptlangs.specs.TrChars.{byte_of}
 use Rattle.ptlangs.specs.TrClasses.{class_named}
 use Rattle.ptlangs.specs.TrPlan.{FirstFaultIsReported}
 use Rattle.ptlangs.specs.declared.tr.elements.SetElement.TheVariants.{Repeat, Class, Equivalence, Single}
-use Rattle.ptlangs.proofs.TrPlainRuns.{list_all-plain_run}
+use proofs.TrPlainRuns.{list_all-plain_run}
 
 -- ---- from the computed elements to the grammar
 

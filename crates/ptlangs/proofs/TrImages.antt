@@ -1,9 +1,10 @@
 -- The pairs of two arrays, byte by byte: what one more byte of the first array adds, and what is left of the second one
 -- at its end.
-use Rattle.ptlangs.proofs.Common.{◌≡◌, ◌<◌, ℕ, zero, suc, Bool, true, false, List, [], ◌∷◌, ◌++◌, Option, Some, None}
-use Rattle.ptlangs.proofs.Common.{Result, Ok, Err, length, map, take, drop, arith, refl, sym, ap, ◌∙◌, unwrap_or, set}
-use Rattle.ptlangs.proofs.Common.{last_or, append_assoc, length-append, map-append, SetFaultKind, CharClass, sequence}
-use Rattle.ptlangs.proofs.Common.{image_by, not, ClassPlace, Segment, cond, first_array}
+use Rattle.ptlangs.proofs
+use proofs.Common.{◌≡◌, ◌<◌, ℕ, zero, suc, Bool, true, false, List, [], ◌∷◌, ◌++◌, Option, Some, None, Result, Ok, Err}
+use proofs.Common.{length, map, take, drop, arith, refl, sym, ap, ◌∙◌, unwrap_or, set, last_or, append_assoc}
+use proofs.Common.{length-append, map-append, SetFaultKind, CharClass, sequence, image_by, not, ClassPlace, Segment}
+use proofs.Common.{cond, first_array}
 use Rattle.std.specs.Prelude.{is_some}
 use Rattle.ptlangs.specs.TrClasses.{all_bytes}
 use Rattle.ptlangs.specs.declared.tr.images.Images.{Images}
@@ -12,8 +13,8 @@ use Rattle.ptlangs.specs.declared.tr.segments.Member.{Member}
 use Rattle.ptlangs.specs.TrParsing.{HasPaired, all_paired, bytes_left, member_bytes, classes_match, first_members}
 use Rattle.ptlangs.specs.TrParsing.{plain_members}
 use Rattle.std.specs.Result.{IsErrAnd}
-use Rattle.ptlangs.proofs.TrByteWalk.{member_bytes-array, member_bytes-plain}
-use Rattle.ptlangs.proofs.TrContents.{images-push}
+use proofs.TrByteWalk.{member_bytes-array, member_bytes-plain}
+use proofs.TrContents.{images-push}
 
 -- the results are the bytes of the second array from an index on
 abbrev AllOk : List Member → List (Result Member SetFaultKind)

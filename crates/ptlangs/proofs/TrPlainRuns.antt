@@ -1,14 +1,14 @@
 -- Plain bytes in the characters of a string: a byte other than a backslash is a character by itself, so the code may
 -- look at the bytes where the definition looks at characters.
-use Rattle.ptlangs.proofs.Common.{◌≡◌, ◌≢◌, ◌≤◌, ◌<◌, ◌+◌, ◌-◌, inl, inr, ℕ, suc, Bool, true, false, List, [], ◌∷◌}
-use Rattle.ptlangs.proofs.Common.{length, take, drop, get_or, arith, refl, sym, Some, None, prefix_len, list_all}
-use Rattle.ptlangs.proofs.Common.{cases_eq, eq-eqb, ne_eqb, drop_all, drop-drop, take_rest, length-prefix_len}
-use Rattle.ptlangs.proofs.Common.{AllPass-from_list_all, SetChar, Plain, Escaped, Invalid, chars}
-use Rattle.ptlangs.proofs.Common.{after_backslash, after_plain, plain_run, after_run}
+use Rattle.ptlangs.proofs
+use proofs.Common.{◌≡◌, ◌≢◌, ◌≤◌, ◌<◌, ◌+◌, ◌-◌, inl, inr, ℕ, suc, Bool, true, false, List, [], ◌∷◌, length, take, drop}
+use proofs.Common.{get_or, arith, refl, sym, Some, None, prefix_len, list_all, cases_eq, eq-eqb, ne_eqb, drop_all}
+use proofs.Common.{drop-drop, take_rest, length-prefix_len, AllPass-from_list_all, SetChar, Plain, Escaped, Invalid}
+use proofs.Common.{chars, after_backslash, after_plain, plain_run, after_run}
 use Rattle.std.proofs.lemmas.Bool.{and_from, cond_both}
 use Rattle.std.specs.List.{slice_range, take_while, AllPass}
 use Rattle.std.proofs.lemmas.List.Sums.{take_while-cons}
-use Rattle.ptlangs.proofs.TrCharGrammar.{chars_plain, chars_escape, chars-cons}
+use proofs.TrCharGrammar.{chars_plain, chars_escape, chars-cons}
 
 -- a character that starts with a backslash
 abbrev pub IsEscape : SetChar → Type 0

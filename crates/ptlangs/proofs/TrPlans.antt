@@ -1,13 +1,13 @@
 -- The plan of two strings, step by step, and its tables. Reading never fails for lack of memory: no character, no
 -- element and no segment has that fault.
-use Rattle.ptlangs.proofs.Common.{complement_of, ◌≡◌, Bool, Err, List, None, Ok, Option, Result, Some, [], ap, arith}
-use Rattle.ptlangs.proofs.Common.{cond, false, length, map, refl, sym, true, ℕ, ◌++◌, ◌-◌, ◌∙◌, ◌∷◌, ◌≢◌}
-use Rattle.ptlangs.proofs.Common.{result_map_both, and_then, StartsElement, StartsInvalid, subst, FirstFault}
-use Rattle.ptlangs.proofs.Common.{LaterFault, NoElement, NoSegment, array, class_offsets, first_array, in_string}
-use Rattle.ptlangs.proofs.Common.{has_valid_classes, plan, plan_of, second_plan, string_segments, tables}
-use Rattle.ptlangs.proofs.Common.{AChar, NoChar, SpellsChar, SpellsChars, chars, SetFault, SetFaultKind, ClassPlace}
-use Rattle.ptlangs.proofs.Common.{SetElement, Segment, SetRole, First, Form, Delete, DeleteSqueeze, Squeeze, Translate}
-use Rattle.ptlangs.proofs.Common.{TranslateSqueeze, SetChar, Escaped, Invalid, Plain}
+use Rattle.ptlangs.proofs
+use proofs.Common.{complement_of, ◌≡◌, Bool, Err, List, None, Ok, Option, Result, Some, [], ap, arith, cond, false}
+use proofs.Common.{length, map, refl, sym, true, ℕ, ◌++◌, ◌-◌, ◌∙◌, ◌∷◌, ◌≢◌, result_map_both, and_then, StartsElement}
+use proofs.Common.{StartsInvalid, subst, FirstFault, LaterFault, NoElement, NoSegment, array, class_offsets}
+use proofs.Common.{first_array, in_string, has_valid_classes, plan, plan_of, second_plan, string_segments, tables}
+use proofs.Common.{AChar, NoChar, SpellsChar, SpellsChars, chars, SetFault, SetFaultKind, ClassPlace, SetElement}
+use proofs.Common.{Segment, SetRole, First, Form, Delete, DeleteSqueeze, Squeeze, Translate, TranslateSqueeze, SetChar}
+use proofs.Common.{Escaped, Invalid, Plain}
 use Rattle.ptlangs.specs.TrPlan.{image_of, is_deleted, is_squeezed, NoMemoryFault, Plan, fill_count, plan_from}
 use Rattle.ptlangs.specs.TrPlan.{plan_with, second_role, takes_second}
 use Rattle.ptlangs.specs.declared.faults.SetFaultKind.TheVariants.{Memory}
@@ -15,11 +15,11 @@ use Rattle.ptlangs.specs.TrClasses.{all_bytes}
 use Rattle.ptlangs.specs.declared.tr.contents.Contents.{Contents}
 use Rattle.ptlangs.specs.declared.faults.SetString.TheVariants as string
 use Rattle.ptlangs.specs.declared.faults.SetString.{SetString}
-use Rattle.ptlangs.proofs.TrElementGrammar.{StartsElement-front, faults_are_first}
+use proofs.TrElementGrammar.{StartsElement-front, faults_are_first}
 use Rattle.ptlangs.specs.TrParsing.{all_paired, contents_of, first_members, marked_array, ok_map}
 use Rattle.ptlangs.specs.TrTables.{Tables}
-use Rattle.ptlangs.proofs.TrByteWalk.{paired-arrays, paired-plain}
-use Rattle.ptlangs.proofs.TrCharGrammar.{chars_are_spelled}
+use proofs.TrByteWalk.{paired-arrays, paired-plain}
+use proofs.TrCharGrammar.{chars_are_spelled}
 
 -- ---- strings without a fault
 

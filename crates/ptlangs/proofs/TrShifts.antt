@@ -1,9 +1,9 @@
 -- The stretches of a table of images give these images. A prepended byte is below all stretches after it, so none of
 -- these contains it, and its own stretch adds its shift to it and nothing to the bytes above.
-use Rattle.ptlangs.proofs.Common.{◌≡◌, ℕ, zero, suc, ◌+◌, ◌<◌, ◌≤◌, ◌%◌, ◌&&◌, Bool, true, cond, List, [], ◌∷◌, length}
-use Rattle.ptlangs.proofs.Common.{drop, get_or, refl, sym, ◌∙◌, ap, arith, sum_by, Stretch, shift_of, prepend_shift}
-use Rattle.ptlangs.proofs.Common.{stretches_from, shift_at, image_of_shifts, cond-false, eqb-true, ne_eqb, drop_more}
-use Rattle.ptlangs.proofs.Common.{◌-◌}
+use Rattle.ptlangs.proofs
+use proofs.Common.{◌≡◌, ℕ, zero, suc, ◌+◌, ◌<◌, ◌≤◌, ◌%◌, ◌&&◌, Bool, true, cond, List, [], ◌∷◌, length, drop, get_or}
+use proofs.Common.{refl, sym, ◌∙◌, ap, arith, sum_by, Stretch, shift_of, prepend_shift, stretches_from, shift_at}
+use proofs.Common.{image_of_shifts, cond-false, eqb-true, ne_eqb, drop_more, ◌-◌}
 use Rattle.std.proofs.Common.{◌==◌, reverse}
 use Rattle.std.proofs.lemmas.List.Sums.{sum_by-cons}
 use Rattle.std.proofs.lemmas.List.Sorted.{sum_by-IsPermutation, IsPermutation-reverse}

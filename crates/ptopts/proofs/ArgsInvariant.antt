@@ -1,11 +1,11 @@
 -- The loop over the words. The options so far and the parse of the remaining words are the parse of all words, and the
 -- first fault is the same.
-use Rattle.ptopts.proofs.Common.{◌≡◌, ℕ, List, [], ◌∷◌, ◌++◌, Bool, true, false, refl, ap, sym, ◌∙◌, append_assoc}
-use Rattle.ptopts.proofs.Common.{Option, Some, None, drop, append-nil, ◌<◌, ◌≤◌, length, arith, slice_get, OnSome, Bor}
-use Rattle.ptopts.proofs.Common.{length-map, Tool, is_option_arg, is_end_of_options, ParsedOption, Token, tokens_of}
-use Rattle.ptopts.proofs.Common.{takes_next, ParsedArgs, parsed_args, parsed_args_from, prepend_tokens, option_of_token}
-use Rattle.ptopts.proofs.Common.{options, Fault, parse_fault, words_view, options_of_tokens, words_after_value}
-use Rattle.ptopts.proofs.Common.{GroupPost, ArgsPost}
+use Rattle.ptopts.proofs
+use proofs.Common.{◌≡◌, ℕ, List, [], ◌∷◌, ◌++◌, Bool, true, false, refl, ap, sym, ◌∙◌, append_assoc, Option, Some, None}
+use proofs.Common.{drop, append-nil, ◌<◌, ◌≤◌, length, arith, slice_get, OnSome, Bor, length-map, Tool, is_option_arg}
+use proofs.Common.{is_end_of_options, ParsedOption, Token, tokens_of, takes_next, ParsedArgs, parsed_args}
+use proofs.Common.{parsed_args_from, prepend_tokens, option_of_token, options, Fault, parse_fault, words_view}
+use proofs.Common.{options_of_tokens, words_after_value, GroupPost, ArgsPost}
 use Rattle.std.proofs.lemmas.List.Elements.{filter_map-append}
 
 -- the options so far and the parse of the remaining words are the parse of all words

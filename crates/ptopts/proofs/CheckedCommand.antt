@@ -1,9 +1,10 @@
 -- The command after parsing: without a fault of parsing and of the constraints, `command_of_args` reduces to
 -- `checked_command`, and a fault of the constraints is the first fault.
-use Rattle.ptopts.proofs.Common.{◌≡◌, ℕ, List, [], ◌∷◌, Option, Some, None, Ok, Err, refl, ap, sym, ◌∙◌, Tool, IsFault}
-use Rattle.ptopts.proofs.Common.{ParsedOption, tool_of_name, Fault, first_some, constraints_fault, values_fault}
-use Rattle.ptopts.proofs.Common.{operands_fault, strings_fault, Job, job, input_operands, output, checked_command}
-use Rattle.ptopts.proofs.Common.{ok_unless, command, command_of_args, command_of_tool, with_inputs, AreInputs, ArgsPost}
+use Rattle.ptopts.proofs
+use proofs.Common.{◌≡◌, ℕ, List, [], ◌∷◌, Option, Some, None, Ok, Err, refl, ap, sym, ◌∙◌, Tool, IsFault, ParsedOption}
+use proofs.Common.{tool_of_name, Fault, first_some, constraints_fault, values_fault, operands_fault, strings_fault, Job}
+use proofs.Common.{job, input_operands, output, checked_command, ok_unless, command, command_of_args, command_of_tool}
+use proofs.Common.{with_inputs, AreInputs, ArgsPost}
 use Rattle.ptopts.specs.declared.inputs.Inputs.{Inputs}
 
 pub checked_command_ok : {A : Type 0} (tool : Tool) (os : List ParsedOption) (operands : List (List ℕ))

@@ -1,14 +1,14 @@
 -- Words specify a command if and only if the grammar gives them options and operands that the tool allows: no fault of
 -- parsing means that no option is repeated, and the other four faults are the other four conditions.
-use Rattle.ptopts.proofs.Common.{◌≡◌, ℕ, List, [], ◌∷◌, ◌++◌, Bool, true, false, refl, ap, sym, subst, map}
-use Rattle.ptopts.proofs.Common.{append_assoc, append-nil, Option, Some, None, ◌&&◌, Ok, ⊎_elim, is_some, IsTrue}
-use Rattle.ptopts.proofs.Common.{if◌then◌else◌, cases_Bool, Tool, ParsedOption, Valid, Spells, ParsedArgs, parsed_args}
-use Rattle.ptopts.proofs.Common.{options, tool_of_name, Fault, Twice, first_some, is_repeated, token_fault, parse_fault}
-use Rattle.ptopts.proofs.Common.{constraints_fault, values_fault, operands_fault, strings_fault, Command, command}
-use Rattle.ptopts.proofs.Common.{ok_unless, first_fault, command_of_args, command_of_tool, AreAllowed, SpellsCommand}
-use Rattle.ptopts.proofs.Common.{Spelled, CommandsMatchGrammar}
-use Rattle.ptopts.proofs.SpelledIsParsed.{spelled}
-use Rattle.ptopts.proofs.ParsedIsSpelled.{options-map, option_or-none, spelled_unless_faulty}
+use Rattle.ptopts.proofs
+use proofs.Common.{◌≡◌, ℕ, List, [], ◌∷◌, ◌++◌, Bool, true, false, refl, ap, sym, subst, map, append_assoc, append-nil}
+use proofs.Common.{Option, Some, None, ◌&&◌, Ok, ⊎_elim, is_some, IsTrue, if◌then◌else◌, cases_Bool, Tool, ParsedOption}
+use proofs.Common.{Valid, Spells, ParsedArgs, parsed_args, options, tool_of_name, Fault, Twice, first_some, is_repeated}
+use proofs.Common.{token_fault, parse_fault, constraints_fault, values_fault, operands_fault, strings_fault, Command}
+use proofs.Common.{command, ok_unless, first_fault, command_of_args, command_of_tool, AreAllowed, SpellsCommand}
+use proofs.Common.{Spelled, CommandsMatchGrammar}
+use proofs.SpelledIsParsed.{spelled}
+use proofs.ParsedIsSpelled.{options-map, option_or-none, spelled_unless_faulty}
 
 -- like `AreGivenOnce`, for options after others
 abbrev AreGivenOnceAfter : Tool → List ParsedOption → List ParsedOption → Type 0

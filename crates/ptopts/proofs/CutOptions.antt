@@ -1,13 +1,13 @@
 -- One of the three lists of `cut` is present, by `-b` (98), `-c` (99) or `-f` (102). They conflict, so the other two
 -- are absent and have no fault.
-use Rattle.ptopts.proofs.Common.{◌≡◌, ℕ, ◌==◌, List, [], ◌∷◌, Bool, true, false, ◌&&◌, refl, ⊎_elim, cases_Bool, Some}
-use Rattle.ptopts.proofs.Common.{None, IsSome, if◌then◌else◌, Cut, Fault, ParsedOption, constraints_fault}
-use Rattle.ptopts.proofs.Common.{constraint_fault, has_option, value_of}
+use Rattle.ptopts.proofs
+use proofs.Common.{◌≡◌, ℕ, ◌==◌, List, [], ◌∷◌, Bool, true, false, ◌&&◌, refl, ⊎_elim, cases_Bool, Some, None, IsSome}
+use proofs.Common.{if◌then◌else◌, Cut, Fault, ParsedOption, constraints_fault, constraint_fault, has_option, value_of}
 use Rattle.ptopts.specs.declared.syntax.Constraint.TheVariants.{Conflict}
 use Rattle.std.proofs.lemmas.List.Elements.{All-nil, All-cons}
 use Rattle.std.specs.Prelude.{All}
 use Rattle.ptopts.specs.Faults.{Together, value_fault, is_cut_list}
-use Rattle.ptopts.proofs.ParsedIsSpelled.{option_or-none}
+use proofs.ParsedIsSpelled.{option_or-none}
 
 valueless : (letter : ℕ) (os : List ParsedOption) → has_option letter os ≡ false → value_of letter os ≡ None
 valueless letter [] none = refl

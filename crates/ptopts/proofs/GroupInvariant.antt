@@ -1,11 +1,11 @@
 -- The loop over the letters of one word. The options so far and the tokens of the remaining letters are those of the
 -- whole word, and the first fault of later tokens is the same after either.
-use Rattle.ptopts.proofs.Common.{◌≡◌, ℕ, List, [], ◌∷◌, ◌++◌, true, false, refl, sym, ◌∙◌, append_assoc, Option, Some}
-use Rattle.ptopts.proofs.Common.{None, drop, append-nil, length, length-drop, ◌<◌, ◌+◌, slice_index, nat_eq, add-one}
-use Rattle.ptopts.proofs.Common.{drop-cons, ⊎_elim, arith, OnSome, cases_Bool, cases_eq, eq-eqb, ne_eqb, map-append}
-use Rattle.ptopts.proofs.Common.{Tool, is_empty, is_flag, takes_value, ParsedOption, flag, Token, Valid, UnknownLetter}
-use Rattle.ptopts.proofs.Common.{value_token, tokens_in, tokens_of, takes_next, Fault, token_fault, parse_fault}
-use Rattle.ptopts.proofs.Common.{options_of_tokens, option_view, options_view, GroupPost}
+use Rattle.ptopts.proofs
+use proofs.Common.{◌≡◌, ℕ, List, [], ◌∷◌, ◌++◌, true, false, refl, sym, ◌∙◌, append_assoc, Option, Some, None, drop}
+use proofs.Common.{append-nil, length, length-drop, ◌<◌, ◌+◌, slice_index, nat_eq, add-one, drop-cons, ⊎_elim, arith}
+use proofs.Common.{OnSome, cases_Bool, cases_eq, eq-eqb, ne_eqb, map-append, Tool, is_empty, is_flag, takes_value}
+use proofs.Common.{ParsedOption, flag, Token, Valid, UnknownLetter, value_token, tokens_in, tokens_of, takes_next}
+use proofs.Common.{Fault, token_fault, parse_fault, options_of_tokens, option_view, options_view, GroupPost}
 use Rattle.ptopts.specs.declared.parsing.ParsedOption as given
 
 -- the options so far and the tokens of the remaining letters are those of the word

@@ -1,8 +1,8 @@
 -- The number of inputs of a tool whose operands have no fault. Each operand is one input.
-use Rattle.ptopts.proofs.Common.{◌≡◌, ℕ, suc, ◌+◌, ◌&&◌, Bool, true, false, cond, List, [], ◌∷◌, Option, Some, None}
-use Rattle.ptopts.proofs.Common.{length, take, refl, ◌∙◌, ap, arith, nat_le, list_all, Paste, Input, ParsedOption}
-use Rattle.ptopts.proofs.Common.{Fault, Operands, StandardTwice, is_within, is_standard, operands_fault, or_stdin}
-use Rattle.ptopts.proofs.Common.{order_from}
+use Rattle.ptopts.proofs
+use proofs.Common.{◌≡◌, ℕ, suc, ◌+◌, ◌&&◌, Bool, true, false, cond, List, [], ◌∷◌, Option, Some, None, length, take}
+use proofs.Common.{refl, ◌∙◌, ap, arith, nat_le, list_all, Paste, Input, ParsedOption, Fault, Operands, StandardTwice}
+use proofs.Common.{is_within, is_standard, operands_fault, or_stdin, order_from}
 use Rattle.std.specs.Prelude.{not}
 use Rattle.std.proofs.lemmas.Bool.Decides.{nat_tests}
 use Rattle.ptopts.specs.declared.inputs.Input.TheVariants.{Standard, File}

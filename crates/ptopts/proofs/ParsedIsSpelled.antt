@@ -1,17 +1,16 @@
 -- A parse without a faulty token is one of the grammar: each word of options is flags, perhaps with an option that
 -- takes the rest of the word or the next word as its value.
-use Rattle.ptopts.proofs.Common.{◌≡◌, ℕ, ◌==◌, List, [], ◌∷◌, ◌++◌, Bool, true, false, refl, ap, sym, ◌∙◌, subst, map}
-use Rattle.ptopts.proofs.Common.{append_assoc, Option, Some, None, ◌&&◌, ⊎_elim, codes, slice_get, is_some, filter_map}
-use Rattle.ptopts.proofs.Common.{list_all, option_or, and_from, eqb-true, cases_Bool, not_from_false, Tool, is_empty}
-use Rattle.ptopts.proofs.Common.{is_flag, takes_value, is_option_arg, is_end_of_options, ParsedOption, flag, with_value}
-use Rattle.ptopts.proofs.Common.{AreFlags, Spells, OperandsAlone, EndOfOptions, Flags, ValueAttached, ValueNext, Token}
-use Rattle.ptopts.proofs.Common.{Valid, MissingValue, UnknownLetter, value_token, tokens_in, takes_next, ParsedArgs}
-use Rattle.ptopts.proofs.Common.{parsed_args_from, option_of_token, options, Twice, NeedsValue, is_repeated}
-use Rattle.ptopts.proofs.Common.{token_fault, parse_fault, ParseMatchesGrammar, GrammarIsUnambiguous}
-use Rattle.ptopts.proofs.Common.{FaultlessIsSpelled}
+use Rattle.ptopts.proofs
+use proofs.Common.{◌≡◌, ℕ, ◌==◌, List, [], ◌∷◌, ◌++◌, Bool, true, false, refl, ap, sym, ◌∙◌, subst, map, append_assoc}
+use proofs.Common.{Option, Some, None, ◌&&◌, ⊎_elim, codes, slice_get, is_some, filter_map, list_all, option_or}
+use proofs.Common.{and_from, eqb-true, cases_Bool, not_from_false, Tool, is_empty, is_flag, takes_value, is_option_arg}
+use proofs.Common.{is_end_of_options, ParsedOption, flag, with_value, AreFlags, Spells, OperandsAlone, EndOfOptions}
+use proofs.Common.{Flags, ValueAttached, ValueNext, Token, Valid, MissingValue, UnknownLetter, value_token, tokens_in}
+use proofs.Common.{takes_next, ParsedArgs, parsed_args_from, option_of_token, options, Twice, NeedsValue, is_repeated}
+use proofs.Common.{token_fault, parse_fault, ParseMatchesGrammar, GrammarIsUnambiguous, FaultlessIsSpelled}
 use Rattle.std.proofs.lemmas.Slice.Eq.{bytes_eq-Decides}
-use Rattle.ptopts.proofs.SpelledIsParsed.{spelled, args_of, tokens_in-flags, tokens_in-all_flags, takes_next-flags}
-use Rattle.ptopts.proofs.SpelledIsParsed.{takes_next-all_flags}
+use proofs.SpelledIsParsed.{spelled, args_of, tokens_in-flags, tokens_in-all_flags, takes_next-flags}
+use proofs.SpelledIsParsed.{takes_next-all_flags}
 
 -- each token is an option
 abbrev all_given : List Token → Bool

@@ -1,14 +1,15 @@
 -- The parse of words that the grammar accepts gives the options and operands of the grammar. A dash is not an option,
 -- and no option is both with and without a value, so each case of the grammar is the only case of the parse that
 -- applies.
-use Rattle.ptopts.proofs.Common.{◌≡◌, ℕ, ◌==◌, List, [], ◌∷◌, ◌++◌, Bool, true, false, refl, ap, sym, ◌∙◌, subst, map}
-use Rattle.ptopts.proofs.Common.{append_assoc, not, Option, Some, ⊎_elim, IsTrue, slice_get, nat_lt, list_all}
-use Rattle.ptopts.proofs.Common.{and_parts, eqb-true, or_cases, not-true, ne_eqb, cases_Bool, ltb-true, Tool, syntax}
-use Rattle.ptopts.proofs.Common.{has_letter, is_flag, takes_value, ParsedOption, flag, with_value, AreFlags, Spells}
-use Rattle.ptopts.proofs.Common.{OperandsAlone, EndOfOptions, Flags, ValueAttached, ValueNext, Token, Valid, tokens_in}
-use Rattle.ptopts.proofs.Common.{takes_next, ParsedArgs, parsed_args_from, prepend_tokens, starts_with_operand}
+use Rattle.ptopts.proofs
+use proofs.Common.{◌≡◌, ℕ, ◌==◌, List, [], ◌∷◌, ◌++◌, Bool, true, false, refl, ap, sym, ◌∙◌, subst, map, append_assoc}
+use proofs.Common.{not, Option, Some, ⊎_elim, IsTrue, slice_get, nat_lt, list_all, and_parts, eqb-true, or_cases}
+use proofs.Common.{not-true, ne_eqb, cases_Bool, ltb-true, Tool, syntax, has_letter, is_flag, takes_value, ParsedOption}
+use proofs.Common.{flag, with_value, AreFlags, Spells, OperandsAlone, EndOfOptions, Flags, ValueAttached, ValueNext}
+use proofs.Common.{Token, Valid, tokens_in, takes_next, ParsedArgs, parsed_args_from, prepend_tokens}
+use proofs.Common.{starts_with_operand}
 use Rattle.std.specs.Prelude.{◌<◌}
-use Rattle.ptopts.proofs.EachTool.{syntax_is}
+use proofs.EachTool.{syntax_is}
 
 -- a test that holds for each letter of a list holds for a letter of the list
 pub all_of : (p : ℕ → Bool) (cs : List ℕ) (l : ℕ) → list_all p cs ≡ true → has_letter l cs ≡ true → p l ≡ true

@@ -2,32 +2,26 @@
 --
 -- If an operand could not be opened, nothing but messages is required. Otherwise what the engine of such a tool has done
 -- at the positions of its operands is what processing the inputs has to do.
-use Rattle.ptrun.proofs.Common.{AreReadToEnd, ended_operands, IsDone, Disorder}
-use Rattle.ptrun.proofs.Common.{cases_eq, cases_Bool, ◌≡◌, ◌⊎◌, ⊎_elim, inl}
-use Rattle.ptrun.proofs.Common.{inr, ℕ, zero, suc, ◌+◌, ◌<◌, ◌≤◌, ◌^◌, ◌||◌, Bool, true, false, cond, List, []}
-use Rattle.ptrun.proofs.Common.{◌∷◌, ◌++◌, Option, Some, None, Result, Ok, Err, length, take, drop, set, refl}
-use Rattle.ptrun.proofs.Common.{sym, ◌∙◌, ap, subst, arith, take-append-drop, slice_get, list_any}
-use Rattle.ptrun.proofs.Common.{get_or-set_other, list_any-append, false≢true, eqb_tells}
-use Rattle.ptrun.proofs.Common.{Reader, Output, Slots, SinkState, Received}
-use Rattle.ptrun.proofs.Common.{FlowFault, Read, Memory}
-use Rattle.ptrun.proofs.Common.{Completion, AllWritten, InputBytes, ReceivedInputs, at, is_unopened}
-use Rattle.ptrun.proofs.Common.{AreInputsConsistent, is_in, reader_at, is_reader_unopened, HaveReceived}
-use Rattle.ptrun.proofs.Common.{IsNewOrUnopened, HasReadFailed, IsTooLong, unopened_messages, unopened_message}
-use Rattle.ptrun.proofs.Common.{name_of, position, positions, JointTool, bytes_of}
-use Rattle.ptrun.proofs.Common.{received_in, has_unopened, disorder_text, disorder_status, joint_spec}
-use Rattle.ptrun.proofs.Common.{JointPre, HasIndexBelow, result_message}
-use Rattle.ptrun.proofs.Common.{result_status, RunInputsEnd, RunInputsPost}
-use Rattle.ptrun.proofs.Common.{JointPost}
-use Rattle.ptrun.proofs.Common.{run_state, result_of_end, update_at}
+use Rattle.ptrun.proofs
+use proofs.Common.{AreReadToEnd, ended_operands, IsDone, Disorder, cases_eq, cases_Bool, ◌≡◌, ◌⊎◌, ⊎_elim, inl, inr, ℕ}
+use proofs.Common.{zero, suc, ◌+◌, ◌<◌, ◌≤◌, ◌^◌, ◌||◌, Bool, true, false, cond, List, [], ◌∷◌, ◌++◌, Option, Some}
+use proofs.Common.{None, Result, Ok, Err, length, take, drop, set, refl, sym, ◌∙◌, ap, subst, arith, take-append-drop}
+use proofs.Common.{slice_get, list_any, get_or-set_other, list_any-append, false≢true, eqb_tells, Reader, Output, Slots}
+use proofs.Common.{SinkState, Received, FlowFault, Read, Memory, Completion, AllWritten, InputBytes, ReceivedInputs, at}
+use proofs.Common.{is_unopened, AreInputsConsistent, is_in, reader_at, is_reader_unopened, HaveReceived}
+use proofs.Common.{IsNewOrUnopened, HasReadFailed, IsTooLong, unopened_messages, unopened_message, name_of, position}
+use proofs.Common.{positions, JointTool, bytes_of, received_in, has_unopened, disorder_text, disorder_status}
+use proofs.Common.{joint_spec, JointPre, HasIndexBelow, result_message, result_status, RunInputsEnd, RunInputsPost}
+use proofs.Common.{JointPost, run_state, result_of_end, update_at}
 use Rattle.ptlines.specs.Calls.{CallEnd, Complete, OutOfOrder, ReadFault, WriteFault, MemoryFault, CallPost}
 use Rattle.ptlines.specs.Calls.{CallOutcome, AllPushed, AreAllConsistent, NoReadFailed, IsCallUnfinished}
 use Rattle.ptlines.specs.Calls.{inputs_at}
 use Rattle.ptrun.specs.Engines.{in_run}
-use Rattle.ptrun.proofs.OneInput.{at_set, opened_set, lagged_output, none_received, received_of, receives_none, never_long}
-use Rattle.ptrun.proofs.OneInput.{not_long, consistent_bytes, unopened_agrees, unopened_received}
-use Rattle.ptrun.proofs.MessageWrites.{said_nothing}
-use Rattle.ptrun.proofs.OperandInputs.{some_same, any_same, by_position, neither, each_listed, none_passes}
-use Rattle.ptrun.proofs.OperandInputs.{put_here, put_other, fresh_all}
+use proofs.OneInput.{at_set, opened_set, lagged_output, none_received, received_of, receives_none, never_long, not_long}
+use proofs.OneInput.{consistent_bytes, unopened_agrees, unopened_received}
+use proofs.MessageWrites.{said_nothing}
+use proofs.OperandInputs.{some_same, any_same, by_position, neither, each_listed, none_passes, put_here, put_other}
+use proofs.OperandInputs.{fresh_all}
 
 -- ---- an operand could not be opened
 

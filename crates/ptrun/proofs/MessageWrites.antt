@@ -1,10 +1,10 @@
 -- Texts written to a sink one after another: together they are one text, of which a failure leaves a prefix.
-use Rattle.ptrun.proofs.Common.{◌≡◌, ℕ, ◌+◌, ◌<◌, ◌≤◌, Bool, true, false, List, [], ◌∷◌, ◌++◌, length, take}
-use Rattle.ptrun.proofs.Common.{drop, refl, sym, ◌∙◌, ap, arith, append_assoc, length-append, take-append-drop}
-use Rattle.ptrun.proofs.Common.{flat_map, Bor, get_or, take_more, take_all, get_or-map, length-map, append-nil}
-use Rattle.ptrun.proofs.Common.{flat_map-append, false≢true, append_known, SinkState, WriteOutErr, WriteOutOk}
-use Rattle.ptrun.proofs.Common.{unflushed_after, append_known-append, append_known-nil, unflushed_after-append, SayPost}
-use Rattle.ptrun.proofs.Common.{HasSaid, texts, line_of}
+use Rattle.ptrun.proofs
+use proofs.Common.{◌≡◌, ℕ, ◌+◌, ◌<◌, ◌≤◌, Bool, true, false, List, [], ◌∷◌, ◌++◌, length, take, drop, refl, sym, ◌∙◌}
+use proofs.Common.{ap, arith, append_assoc, length-append, take-append-drop, flat_map, Bor, get_or, take_more, take_all}
+use proofs.Common.{get_or-map, length-map, append-nil, flat_map-append, false≢true, append_known, SinkState}
+use proofs.Common.{WriteOutErr, WriteOutOk, unflushed_after, append_known-append, append_known-nil}
+use proofs.Common.{unflushed_after-append, SayPost, HasSaid, texts, line_of}
 
 -- the pieces before this one and a prefix of it are a prefix of the text
 pub say_post_part : {old mid new : SinkState} {text piece : List ℕ} (done more : List ℕ)

@@ -1,22 +1,22 @@
 -- One input: what was received from it, the output that was decided two blocks earlier, and how much of that reached
 -- the sink. What is received in two calls is the concatenation of what each receives, and at most one block of the
 -- output is buffered.
-use Rattle.ptrun.proofs.Common.{append_cancel_left, cases_Bool, ⊎_elim, ◌≡◌, ℕ, ◌<◌, ◌^◌, Bool, true, false, cond, List}
-use Rattle.ptrun.proofs.Common.{[], ◌∷◌, ◌++◌, Option, Some, None, length, map, refl, sym, ◌∙◌, ap, arith, append_assoc}
-use Rattle.ptrun.proofs.Common.{length-append, is_none, slice_get, prepend_known, append-nil, nil_from_length}
-use Rattle.ptrun.proofs.Common.{false≢true, Reader, IsDone, prepend_known-append, Received, IsConsistent, HasReceived}
-use Rattle.ptrun.proofs.Common.{InputBytes, ReceivedInputs, at, is_unopened, IsConsistentAt, AreInputsConsistent}
-use Rattle.ptrun.proofs.Common.{reader_at, no_reader, HasReceivedAt, HaveReceived, IsNew, IsNewOrUnopened, IsTooLong}
-use Rattle.ptrun.proofs.Common.{Completion, AllWritten, Unopened, zero, suc, ◌+◌, ◌≤◌, set, take, drop, subst}
-use Rattle.ptrun.proofs.Common.{length-drop, take-append-drop, append_known, get_or-set_other, take-append_seam}
-use Rattle.ptrun.proofs.Common.{IsPrefix, empty_input, LaggedInput, BufferLag, BoundedLag, Output, IsKnownPrefix}
-use Rattle.ptrun.proofs.Common.{PushEffect, append_known-append, ToolSpec, decided_in_order, CommandSpec}
-use Rattle.ptrun.proofs.Common.{IsPushedUpToBlock, IsWrittenUpToBlock, LagOfLast, LagOfAny, BoundedLagAs, HasBoundedLag}
+use Rattle.ptrun.proofs
+use proofs.Common.{append_cancel_left, cases_Bool, ⊎_elim, ◌≡◌, ℕ, ◌<◌, ◌^◌, Bool, true, false, cond, List, [], ◌∷◌}
+use proofs.Common.{◌++◌, Option, Some, None, length, map, refl, sym, ◌∙◌, ap, arith, append_assoc, length-append}
+use proofs.Common.{is_none, slice_get, prepend_known, append-nil, nil_from_length, false≢true, Reader, IsDone}
+use proofs.Common.{prepend_known-append, Received, IsConsistent, HasReceived, InputBytes, ReceivedInputs, at}
+use proofs.Common.{is_unopened, IsConsistentAt, AreInputsConsistent, reader_at, no_reader, HasReceivedAt, HaveReceived}
+use proofs.Common.{IsNew, IsNewOrUnopened, IsTooLong, Completion, AllWritten, Unopened, zero, suc, ◌+◌, ◌≤◌, set, take}
+use proofs.Common.{drop, subst, length-drop, take-append-drop, append_known, get_or-set_other, take-append_seam}
+use proofs.Common.{IsPrefix, empty_input, LaggedInput, BufferLag, BoundedLag, Output, IsKnownPrefix, PushEffect}
+use proofs.Common.{append_known-append, ToolSpec, decided_in_order, CommandSpec, IsPushedUpToBlock, IsWrittenUpToBlock}
+use proofs.Common.{LagOfLast, LagOfAny, BoundedLagAs, HasBoundedLag}
 use Rattle.std.proofs.Math.ListN.{get_or-map}
 use Rattle.ptlines.proofs.Refill.{remaining_of_empty}
 use Rattle.std.proofs.Common.{is_none}
 use Rattle.ptlines.proofs.Lag.{known_length, bounded_lag_now}
-use Rattle.ptrun.proofs.OperandInputs.{IsEndedAt, least_bytes, at-least_bytes, bytes_at, by_position}
+use proofs.OperandInputs.{IsEndedAt, least_bytes, at-least_bytes, bytes_at, by_position}
 
 -- its end was reached and no call failed, so that it can be read again
 pub record IsAtEof (r : Reader) : Type 0 where

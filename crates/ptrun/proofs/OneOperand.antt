@@ -1,12 +1,13 @@
 -- A tool with one input that accepts one operand: the pass over the reader of this operand is its run.
-use Rattle.ptrun.proofs.Common.{◌≡◌, ℕ, ◌==◌, ◌<◌, true, false, List, [], ◌∷◌, Result, length, get_or, set, refl, sym}
-use Rattle.ptrun.proofs.Common.{◌∙◌, ap, subst, arith, eqb-true, false≢true, get_or_default, get_or-set_same}
-use Rattle.ptrun.proofs.Common.{get_or-set_other, no_reader, Reader, Output, Slots, ToolSpec, PassPre, PassPost}
-use Rattle.ptrun.proofs.Common.{FlowFault, is_in, only_input, pass_engine, pass_end, reader_at, is_reader_unopened}
-use Rattle.ptrun.proofs.Common.{IsNew, JointTool, one_input_tool, JointPre, JointPost, operand_completion, or-false}
+use Rattle.ptrun.proofs
+use proofs.Common.{◌≡◌, ℕ, ◌==◌, ◌<◌, true, false, List, [], ◌∷◌, Result, length, get_or, set, refl, sym, ◌∙◌, ap}
+use proofs.Common.{subst, arith, eqb-true, false≢true, get_or_default, get_or-set_same, get_or-set_other, no_reader}
+use proofs.Common.{Reader, Output, Slots, ToolSpec, PassPre, PassPost, FlowFault, is_in, only_input, pass_engine}
+use proofs.Common.{pass_end, reader_at, is_reader_unopened, IsNew, JointTool, one_input_tool, JointPre, JointPost}
+use proofs.Common.{operand_completion, or-false}
 use Rattle.ptrun.specs.Engines.{end_at}
-use Rattle.ptrun.proofs.OperandInputs.{is_in-same, fresh_all, neither, same_here}
-use Rattle.ptrun.proofs.PlacedCalls.{Placement, placed_call}
+use proofs.OperandInputs.{is_in-same, fresh_all, neither, same_here}
+use proofs.PlacedCalls.{Placement, placed_call}
 
 -- ---- the only operand
 

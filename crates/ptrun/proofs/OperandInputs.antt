@@ -1,18 +1,18 @@
 -- The inputs and the positions of the operands of a command, one operand at a time. The facts follow by induction on
 -- the list of operands.
-use Rattle.ptrun.proofs.Common.{list_any_at, eqb-true, Any-from_list_any, or_left, or_right, or-false, cases_Bool}
-use Rattle.ptrun.proofs.Common.{cases_eq, ◌≡◌, ◌≢◌, ⊎_elim, ℕ, zero, suc, ◌==◌, ◌||◌, Bool, true, false, cond, List, []}
-use Rattle.ptrun.proofs.Common.{◌∷◌, ◌++◌, Option, Some, None, ◌+◌, length, take, map, max, refl, sym, ◌∙◌, ap, subst}
-use Rattle.ptrun.proofs.Common.{arith, append_assoc, All, flat_map, option_map, list_any, append-nil, flat_map-append}
-use Rattle.ptrun.proofs.Common.{filter_map-append, list_any-append, false≢true, nat_tests, eqb_tells, Received}
-use Rattle.ptrun.proofs.Common.{empty_input, InputBytes, ReceivedInputs, at, is_in, input_of_operand}
-use Rattle.ptrun.proofs.Common.{inputs_of_operands, opened_values, opened_inputs, ToolSpec, maximum, up_to_unended}
-use Rattle.ptrun.proofs.Common.{unopened_messages, unopened_message, name_of, HasSaid, SinkState, update_at, ◌<◌, ◌≤◌}
-use Rattle.ptrun.proofs.Common.{drop, get_or, take-append-drop, take_more, get_or-map, length-map, take_all, Reader}
-use Rattle.ptrun.proofs.Common.{reader_at, no_reader, IsNewOrUnopened, position, positions, All-nil, All-cons, Bor}
-use Rattle.ptrun.proofs.Common.{words_view, is_standard, file_names, order_from, Input, Standard, File, DecidesAll}
+use Rattle.ptrun.proofs
+use proofs.Common.{list_any_at, eqb-true, Any-from_list_any, or_left, or_right, or-false, cases_Bool, cases_eq, ◌≡◌}
+use proofs.Common.{◌≢◌, ⊎_elim, ℕ, zero, suc, ◌==◌, ◌||◌, Bool, true, false, cond, List, [], ◌∷◌, ◌++◌, Option, Some}
+use proofs.Common.{None, ◌+◌, length, take, map, max, refl, sym, ◌∙◌, ap, subst, arith, append_assoc, All, flat_map}
+use proofs.Common.{option_map, list_any, append-nil, flat_map-append, filter_map-append, list_any-append, false≢true}
+use proofs.Common.{nat_tests, eqb_tells, Received, empty_input, InputBytes, ReceivedInputs, at, is_in, input_of_operand}
+use proofs.Common.{inputs_of_operands, opened_values, opened_inputs, ToolSpec, maximum, up_to_unended}
+use proofs.Common.{unopened_messages, unopened_message, name_of, HasSaid, SinkState, update_at, ◌<◌, ◌≤◌, drop, get_or}
+use proofs.Common.{take-append-drop, take_more, get_or-map, length-map, take_all, Reader, reader_at, no_reader}
+use proofs.Common.{IsNewOrUnopened, position, positions, All-nil, All-cons, Bor, words_view, is_standard, file_names}
+use proofs.Common.{order_from, Input, Standard, File, DecidesAll}
 use Rattle.std.proofs.Math.ListN.{get_or-map as get_or-map_any}
-use Rattle.ptrun.proofs.MessageWrites.{said_trans}
+use proofs.MessageWrites.{said_trans}
 
 -- ---- membership
 

@@ -1,13 +1,14 @@
 -- `paste`: each operand is a column, so the call of its engine over the columns is the run of the tool.
-use Rattle.ptrun.proofs.Common.{◌≡◌, ℕ, true, false, List, Result, Ok, Err, get_or, refl, arith, Reader, Output, Slots}
-use Rattle.ptrun.proofs.Common.{FlowFault, Read, Write, Memory, Completion, AllWritten, is_in, reader_at}
-use Rattle.ptrun.proofs.Common.{is_reader_unopened, JointPre, JointPost, All-from_get_or, Paste, IsReadable, PastePost}
-use Rattle.ptrun.proofs.Common.{paste_end, paste_engine, paste_rows_tool, inputs_at, result_of_end}
+use Rattle.ptrun.proofs
+use proofs.Common.{◌≡◌, ℕ, true, false, List, Result, Ok, Err, get_or, refl, arith, Reader, Output, Slots, FlowFault}
+use proofs.Common.{Read, Write, Memory, Completion, AllWritten, is_in, reader_at, is_reader_unopened, JointPre}
+use proofs.Common.{JointPost, All-from_get_or, Paste, IsReadable, PastePost, paste_end, paste_engine, paste_rows_tool}
+use proofs.Common.{inputs_at, result_of_end}
 use Rattle.ptflow.proofs.PasteLemmas.Named.{cell_in, decided_same}
 use Rattle.ptflow.specs.PasteCall as pass
 use Rattle.ptrun.specs.Engines.{end_at}
-use Rattle.ptrun.proofs.OperandInputs.{none_passes, fresh_all}
-use Rattle.ptrun.proofs.PlacedCalls.{Placement, placed_call}
+use proofs.OperandInputs.{none_passes, fresh_all}
+use proofs.PlacedCalls.{Placement, placed_call}
 
 abbrev pub rows_completion : Result (Unit {0}) FlowFault → Result Completion FlowFault
 rows_completion (Ok u) = Ok AllWritten

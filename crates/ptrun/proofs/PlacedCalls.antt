@@ -1,8 +1,8 @@
 -- A call over named inputs, as a call over the inputs at the positions that these names have.
-use Rattle.ptrun.proofs.Common.{◌≡◌, ◌⊎◌, ⊎_elim, inl, inr, ℕ, ◌==◌, ◌<◌, ◌^◌, true, false, cond, List, Option}
-use Rattle.ptrun.proofs.Common.{Some, None, length, refl, sym, ◌∙◌, ap, subst, arith, option_map, false≢true, cases_lt}
-use Rattle.ptrun.proofs.Common.{Reader, IsDone, Output, Slots, Received, IsConsistent, HasReceived, IsPrefix}
-use Rattle.ptrun.proofs.Common.{BoundedLag, is_in, inputs_at, reader_at, run_state}
+use Rattle.ptrun.proofs
+use proofs.Common.{◌≡◌, ◌⊎◌, ⊎_elim, inl, inr, ℕ, ◌==◌, ◌<◌, ◌^◌, true, false, cond, List, Option, Some, None, length}
+use proofs.Common.{refl, sym, ◌∙◌, ap, subst, arith, option_map, false≢true, cases_lt, Reader, IsDone, Output, Slots}
+use proofs.Common.{Received, IsConsistent, HasReceived, IsPrefix, BoundedLag, is_in, inputs_at, reader_at, run_state}
 use Rattle.ptlines.specs.Calls.{InputNames, EngineSpec, call_state, CallEnd, Complete, OutOfOrder, ReadFault}
 use Rattle.ptlines.specs.Calls.{WriteFault, MemoryFault, CallPost, CallOutcome, AllPushed, AreAllConsistent}
 use Rattle.ptlines.specs.Calls.{IsCallUnfinished, with_input}

@@ -5,23 +5,22 @@
 -- The output of a tool reaches the sink unless a write fails, and the last message follows the tool's own messages. The
 -- main theorem holds because the bytes that the readers have are consistent with the bytes received, and because each
 -- cause of a failure contradicts a premise.
-use Rattle.ptrun.proofs.Common.{AreReadToEnd, ended_operands, cases_Bool, ◌≡◌, ⊎_elim, ℕ, Bool, true, false, cond, List}
-use Rattle.ptrun.proofs.Common.{[], ◌++◌, Option, Some, None, Result, Ok, Err, length, map, refl, sym, ◌∙◌, ap, arith}
-use Rattle.ptrun.proofs.Common.{append_assoc, subst, length-append, All, append_known, prepend_known, IsAtEnd}
-use Rattle.ptrun.proofs.Common.{append-nil, append_cancel_left, nil_from_length, false≢true, Reader}
-use Rattle.ptrun.proofs.Common.{Output, PushEffect, Slots, SinkState, append_known-nil, push_trans, Received}
-use Rattle.ptrun.proofs.Common.{IsConsistent, IsPrefix, FlowFault, Read, Write, Memory, Completion, InputBytes}
-use Rattle.ptrun.proofs.Common.{ReceivedInputs, at, IsConsistentAt, AreInputsConsistent, reader_at, is_reader_unopened}
-use Rattle.ptrun.proofs.Common.{is_unopened, HasReceivedAt, IsNewOrUnopened, HasReadFailed, IsTooLong, HasBytesAt}
-use Rattle.ptrun.proofs.Common.{HasSaid, CommandSpec, operand_messages, messages, Sinks, sinks}
-use Rattle.ptrun.proofs.Common.{Outcome, HasCause, RunEnd, IsRun, IsRunInStore, IsExact, IsExactUnlessFailed}
-use Rattle.ptrun.proofs.Common.{EndRunPost, RunInputsEnd, RunInputsPost, FinishPost, result_message}
-use Rattle.ptrun.proofs.Common.{result_status, IsPushedUpToBlock, IsWrittenUpToBlock, message_only, ◌+◌}
-use Rattle.ptrun.proofs.Common.{◌<◌, ◌==◌, is_none, not, nat_le, length-map, All-map, nat_tests, eqb_tells, Input}
-use Rattle.ptrun.proofs.Common.{Standard, File, Fault, Command, Job, RunCut, RunPaste, RunUniq, RunComm, RunJoin, RunTr}
-use Rattle.ptrun.proofs.Common.{command_of_args, input_operands, fault_view, command_view, CommandPost, usage_message}
-use Rattle.ptrun.proofs.Common.{usage_status, position, positions, InputsPre, two_input_tool, command_spec, tool_of_job, word_of_job, spec_of_tool}
-use Rattle.ptrun.proofs.Common.{leb-true, ◌≤◌, spec_of_result, tool_name, spec_of_args, spec_of_parsed, is_memory_fault, AreNewInputs}
+use Rattle.ptrun.proofs
+use proofs.Common.{AreReadToEnd, ended_operands, cases_Bool, ◌≡◌, ⊎_elim, ℕ, Bool, true, false, cond, List, [], ◌++◌}
+use proofs.Common.{Option, Some, None, Result, Ok, Err, length, map, refl, sym, ◌∙◌, ap, arith, append_assoc, subst}
+use proofs.Common.{length-append, All, append_known, prepend_known, IsAtEnd, append-nil, append_cancel_left}
+use proofs.Common.{nil_from_length, false≢true, Reader, Output, PushEffect, Slots, SinkState, append_known-nil}
+use proofs.Common.{push_trans, Received, IsConsistent, IsPrefix, FlowFault, Read, Write, Memory, Completion, InputBytes}
+use proofs.Common.{ReceivedInputs, at, IsConsistentAt, AreInputsConsistent, reader_at, is_reader_unopened, is_unopened}
+use proofs.Common.{HasReceivedAt, IsNewOrUnopened, HasReadFailed, IsTooLong, HasBytesAt, HasSaid, CommandSpec}
+use proofs.Common.{operand_messages, messages, Sinks, sinks, Outcome, HasCause, RunEnd, IsRun, IsRunInStore, IsExact}
+use proofs.Common.{IsExactUnlessFailed, EndRunPost, RunInputsEnd, RunInputsPost, FinishPost, result_message}
+use proofs.Common.{result_status, IsPushedUpToBlock, IsWrittenUpToBlock, message_only, ◌+◌, ◌<◌, ◌==◌, is_none, not}
+use proofs.Common.{nat_le, length-map, All-map, nat_tests, eqb_tells, Input, Standard, File, Fault, Command, Job}
+use proofs.Common.{RunCut, RunPaste, RunUniq, RunComm, RunJoin, RunTr, command_of_args, input_operands, fault_view}
+use proofs.Common.{command_view, CommandPost, usage_message, usage_status, position, positions, InputsPre}
+use proofs.Common.{two_input_tool, command_spec, tool_of_job, word_of_job, spec_of_tool, leb-true, ◌≤◌, spec_of_result}
+use proofs.Common.{tool_name, spec_of_args, spec_of_parsed, is_memory_fault, AreNewInputs}
 use Rattle.std.specs.Prelude.{if◌then◌else◌}
 use Rattle.ptlines.specs.Sinks.{flushes_after}
 use Rattle.ptlangs.specs.Results.{IsFault}
@@ -34,10 +33,10 @@ use Rattle.ptopts.proofs.CommandGrammar.{meant_as_spelled}
 use Rattle.ptopts.proofs.InputCounts.{AreTwo}
 use Rattle.ptopts.proofs.EachTool.{AreInputsOf, are_inputs}
 use Rattle.ptopts.specs.declared.command.Command as code
-use Rattle.ptrun.proofs.OneInput.{kept_up, earlier_map, nothing_decided, nothing_read, never_long, received_at}
-use Rattle.ptrun.proofs.OneInput.{received_of, unopened_received}
-use Rattle.ptrun.proofs.MessageWrites.{said_trans}
-use Rattle.ptrun.proofs.OperandInputs.{some_same, fresh_all, positions_within}
+use proofs.OneInput.{kept_up, earlier_map, nothing_decided, nothing_read, never_long, received_at, received_of}
+use proofs.OneInput.{unopened_received}
+use proofs.MessageWrites.{said_trans}
+use proofs.OperandInputs.{some_same, fresh_all, positions_within}
 
 -- ---- the bytes that reached the sink
 

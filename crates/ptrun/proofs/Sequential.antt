@@ -1,33 +1,31 @@
 -- Tools that read their operands one after another. After each operand, the output is that of the operands so far; an
 -- operand whose input was read by an earlier one receives nothing more. An operand that fails leaves a prefix of the
 -- output, with all that was decided by then.
-use Rattle.ptrun.proofs.Common.{IsDone, cases_lt, sequential_slots, take-append-add, cases_eq, cases_Bool, ◌≡◌, ◌≢◌}
-use Rattle.ptrun.proofs.Common.{◌⊎◌, ⊎_elim, inl, inr, ℕ, ◌<◌, ◌≤◌, Bool, true, false, cond, List, [], ◌∷◌, ◌++◌}
-use Rattle.ptrun.proofs.Common.{Some, None, Result, Ok, Err, ◌+◌, length, take, map, set, max, refl, sym, ◌∙◌}
-use Rattle.ptrun.proofs.Common.{ap, subst, arith, append_assoc, length-append, length-set, flat_map, option_map}
-use Rattle.ptrun.proofs.Common.{list_any, append-nil, take_all, map-append, get_or-set_same, get_or-set_other}
-use Rattle.ptrun.proofs.Common.{length-map, take-append_seam, take-length, flat_map-append, false≢true, Reader, IsSound}
-use Rattle.ptrun.proofs.Common.{HasReadCause, Output, PushEffect, Slots, total_bytes, SinkState, push_trans}
-use Rattle.ptrun.proofs.Common.{push_nothing, Received, empty_input, IsConsistent, IsPrefix, HasReceived, AllPushed}
-use Rattle.ptrun.proofs.Common.{CallOutcome, PassPost, ToolSpec, FlowFault, Read, Write, Memory, InputBytes}
-use Rattle.ptrun.proofs.Common.{ReceivedInputs, at, is_unopened, IsConsistentAt, AreInputsConsistent, is_in}
-use Rattle.ptrun.proofs.Common.{input_of_operand, inputs_of_operands, opened_values, opened_inputs, reader_at}
-use Rattle.ptrun.proofs.Common.{no_reader, is_reader_unopened, HasReceivedAt, HaveReceived, IsNewOrUnopened}
-use Rattle.ptrun.proofs.Common.{HasReadFailed, IsTooLong, HasSaid, unopened_messages, unopened_message, name_of}
-use Rattle.ptrun.proofs.Common.{BoundedLag, IsPushedUpToBlock, decided_in_order, up_to_unended, sequential_output}
-use Rattle.ptrun.proofs.Common.{sequential_bound, sequential_decided, sequential_spec, Completion, AllWritten, Unopened}
-use Rattle.ptrun.proofs.Common.{HasCause, fault_at, result_message, result_status, HasIndexBelow, RunInputsPost, get_or}
-use Rattle.ptrun.proofs.Common.{get_or_default, All, DecidesAll, OperandPre, OperandPost, operand_completion}
-use Rattle.ptrun.proofs.Common.{CallState, call_state, only_input, pass_engine, pass_end}
-use Rattle.ptrun.proofs.OneInput.{all_earlier, last_earlier, sends_now, sends_after, IsAtEof, none_received}
-use Rattle.ptrun.proofs.OneInput.{completion_with, received_of, received_at, nothing_read, never_long, not_long}
-use Rattle.ptrun.proofs.OneInput.{OpenedInput, opened_receives, still_unopened, receives_trans, ended_gives_nothing}
-use Rattle.ptrun.proofs.OneInput.{unopened_agrees, none_of, consistent_bytes, consistent_before}
-use Rattle.ptrun.proofs.OneInput.{least_consistent, ended_at, nth_here}
-use Rattle.ptrun.proofs.MessageWrites.{said_nothing}
-use Rattle.ptrun.proofs.OperandInputs.{some_same, holds_more, is_in-same, is_in-other, not_more, by_position, opened_inputs_some}
-use Rattle.ptrun.proofs.OperandInputs.{opened_inputs_none, unopened_same, any_same, any_now, any_before, said_more}
-use Rattle.ptrun.proofs.OperandInputs.{maximum-append, IsEndedAt, least_bytes, decided_inputs, fresh_all}
+use Rattle.ptrun.proofs
+use proofs.Common.{IsDone, cases_lt, sequential_slots, take-append-add, cases_eq, cases_Bool, ◌≡◌, ◌≢◌, ◌⊎◌, ⊎_elim}
+use proofs.Common.{inl, inr, ℕ, ◌<◌, ◌≤◌, Bool, true, false, cond, List, [], ◌∷◌, ◌++◌, Some, None, Result, Ok, Err}
+use proofs.Common.{◌+◌, length, take, map, set, max, refl, sym, ◌∙◌, ap, subst, arith, append_assoc, length-append}
+use proofs.Common.{length-set, flat_map, option_map, list_any, append-nil, take_all, map-append, get_or-set_same}
+use proofs.Common.{get_or-set_other, length-map, take-append_seam, take-length, flat_map-append, false≢true, Reader}
+use proofs.Common.{IsSound, HasReadCause, Output, PushEffect, Slots, total_bytes, SinkState, push_trans, push_nothing}
+use proofs.Common.{Received, empty_input, IsConsistent, IsPrefix, HasReceived, AllPushed, CallOutcome, PassPost}
+use proofs.Common.{ToolSpec, FlowFault, Read, Write, Memory, InputBytes, ReceivedInputs, at, is_unopened}
+use proofs.Common.{IsConsistentAt, AreInputsConsistent, is_in, input_of_operand, inputs_of_operands, opened_values}
+use proofs.Common.{opened_inputs, reader_at, no_reader, is_reader_unopened, HasReceivedAt, HaveReceived}
+use proofs.Common.{IsNewOrUnopened, HasReadFailed, IsTooLong, HasSaid, unopened_messages, unopened_message, name_of}
+use proofs.Common.{BoundedLag, IsPushedUpToBlock, decided_in_order, up_to_unended, sequential_output, sequential_bound}
+use proofs.Common.{sequential_decided, sequential_spec, Completion, AllWritten, Unopened, HasCause, fault_at}
+use proofs.Common.{result_message, result_status, HasIndexBelow, RunInputsPost, get_or, get_or_default, All, DecidesAll}
+use proofs.Common.{OperandPre, OperandPost, operand_completion, CallState, call_state, only_input, pass_engine}
+use proofs.Common.{pass_end}
+use proofs.OneInput.{all_earlier, last_earlier, sends_now, sends_after, IsAtEof, none_received, completion_with}
+use proofs.OneInput.{received_of, received_at, nothing_read, never_long, not_long, OpenedInput, opened_receives}
+use proofs.OneInput.{still_unopened, receives_trans, ended_gives_nothing, unopened_agrees, none_of, consistent_bytes}
+use proofs.OneInput.{consistent_before, least_consistent, ended_at, nth_here}
+use proofs.MessageWrites.{said_nothing}
+use proofs.OperandInputs.{some_same, holds_more, is_in-same, is_in-other, not_more, by_position, opened_inputs_some}
+use proofs.OperandInputs.{opened_inputs_none, unopened_same, any_same, any_now, any_before, said_more, maximum-append}
+use proofs.OperandInputs.{IsEndedAt, least_bytes, decided_inputs, fresh_all}
 
 -- the state once these operands are done
 pub record OperandsDone (word : List ℕ) (t : ToolSpec) (names : List (List ℕ)) (old now : List Reader) (was is : Output)

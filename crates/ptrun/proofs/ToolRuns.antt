@@ -1,18 +1,16 @@
 -- The steps of the driver, by how a tool reads its operands: each is the step of a tool that reads them one after
 -- another, or of one that reads them together.
-use Rattle.ptrun.proofs.Common.{◌≡◌, ℕ, Bool, true, false, List, [], ◌∷◌, Result, refl, sym}
-use Rattle.ptrun.proofs.Common.{false≢true, list_any, Reader, Output, Slots, SinkState, ToolSpec, FlowFault, Completion}
-use Rattle.ptrun.proofs.Common.{HasSaid, is_reader_unopened, unopened_messages, sequential_spec, InputsPre}
-use Rattle.ptrun.proofs.Common.{ReportUnopenedPost, RunInputsPost, OperandPre, OperandPost, RunOnPre}
-use Rattle.ptrun.proofs.Common.{RunOnPost, DecidesAll, OneByOne, Together, ToolInRun, reads_together, spec_of_tool}
-use Rattle.ptrun.proofs.Common.{get_or, set, get_or_default, no_reader, PassPost, only_operand}
-use Rattle.ptrun.proofs.Common.{operand_completion}
-use Rattle.ptrun.proofs.Common.{◌∙◌, is_unopened}
-use Rattle.ptrun.proofs.JointRuns.{none_unopened, joint_post}
-use Rattle.ptrun.proofs.OneInput.{received_of, nothing_read, unopened_agrees}
-use Rattle.ptrun.proofs.OperandInputs.{any_same, fresh_all, unopened_same}
-use Rattle.ptrun.proofs.RunEnds.{unread}
-use Rattle.ptrun.proofs.Common.{All, map, take-length, append-nil, IsNewOrUnopened, total_bytes, IsRun, sinks, joint_spec}
+use Rattle.ptrun.proofs
+use proofs.Common.{◌≡◌, ℕ, Bool, true, false, List, [], ◌∷◌, Result, refl, sym, false≢true, list_any, Reader, Output}
+use proofs.Common.{Slots, SinkState, ToolSpec, FlowFault, Completion, HasSaid, is_reader_unopened, unopened_messages}
+use proofs.Common.{sequential_spec, InputsPre, ReportUnopenedPost, RunInputsPost, OperandPre, OperandPost, RunOnPre}
+use proofs.Common.{RunOnPost, DecidesAll, OneByOne, Together, ToolInRun, reads_together, spec_of_tool, get_or, set}
+use proofs.Common.{get_or_default, no_reader, PassPost, only_operand, operand_completion, ◌∙◌, is_unopened, All, map}
+use proofs.Common.{take-length, append-nil, IsNewOrUnopened, total_bytes, IsRun, sinks, joint_spec}
+use proofs.JointRuns.{none_unopened, joint_post}
+use proofs.OneInput.{received_of, nothing_read, unopened_agrees}
+use proofs.OperandInputs.{any_same, fresh_all, unopened_same}
+use proofs.RunEnds.{unread}
 
 -- the tool, if it reads one operand after another
 abbrev pub one_tool : ToolInRun → ToolSpec

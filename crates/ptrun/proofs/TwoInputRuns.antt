@@ -1,12 +1,12 @@
 -- Tools with two inputs. What the merge has done to its two readers is what the tool has to do with the list from which
 -- both were lent; no other reader changes.
-use Rattle.ptrun.proofs.Common.{subst, length-append, ◌≡◌, ◌≢◌, ℕ, ◌<◌, ◌||◌, ◌&&◌, ◌==◌, true, false, List, [], ◌∷◌}
-use Rattle.ptrun.proofs.Common.{⊎_elim, Result, length, get_or, refl, sym, ◌∙◌, ap, arith, not, All-nil, All-cons}
-use Rattle.ptrun.proofs.Common.{false≢true, nat_tests, eqb_tells, Reader, Output, Slots, Received, update_at, First}
-use Rattle.ptrun.proofs.Common.{Second, decided_output, is_in, reader_at, is_reader_unopened, IsNew, two_input_tool}
-use Rattle.ptrun.proofs.Common.{operand, JointPre, JointPost, merge_completion, result_of_end, ◌-◌, ◌++◌, set}
-use Rattle.ptrun.proofs.Common.{length-set, set-append_left, set-append_right, get_or_append_left, get_or-append_right}
-use Rattle.ptrun.proofs.Common.{get_or_default, get_or-set_same, get_or-set_other, no_reader}
+use Rattle.ptrun.proofs
+use proofs.Common.{subst, length-append, ◌≡◌, ◌≢◌, ℕ, ◌<◌, ◌||◌, ◌&&◌, ◌==◌, true, false, List, [], ◌∷◌, ⊎_elim, Result}
+use proofs.Common.{length, get_or, refl, sym, ◌∙◌, ap, arith, not, All-nil, All-cons, false≢true, nat_tests, eqb_tells}
+use proofs.Common.{Reader, Output, Slots, Received, update_at, First, Second, decided_output, is_in, reader_at}
+use proofs.Common.{is_reader_unopened, IsNew, two_input_tool, operand, JointPre, JointPost, merge_completion}
+use proofs.Common.{result_of_end, ◌-◌, ◌++◌, set, length-set, set-append_left, set-append_right, get_or_append_left}
+use proofs.Common.{get_or-append_right, get_or_default, get_or-set_same, get_or-set_other, no_reader}
 use Rattle.ptlines.specs.Calls.{CallPost, call_state}
 use Rattle.ptmerge.specs.declared.faults.MergeFault.{MergeFault}
 use Rattle.ptmerge.specs.declared.key_order.Side.{Side}
@@ -15,8 +15,8 @@ use Rattle.ptmerge.specs.MergeSpec.{MergeTool}
 use Rattle.ptmerge.specs.Sides.{both, other}
 use Rattle.ptmerge.specs.declared.faults.MergeFault.TheVariants as faults
 use Rattle.ptrun.specs.Engines.{end_at}
-use Rattle.ptrun.proofs.OperandInputs.{same_here, is_in-same, none_passes, each_listed, put_here, put_other, fresh_all}
-use Rattle.ptrun.proofs.PlacedCalls.{Placement, placed_call}
+use proofs.OperandInputs.{same_here, is_in-same, none_passes, each_listed, put_here, put_other, fresh_all}
+use proofs.PlacedCalls.{Placement, placed_call}
 
 -- ---- two operands
 

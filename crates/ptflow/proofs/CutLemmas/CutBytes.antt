@@ -1,13 +1,13 @@
 -- The output of `cut` by bytes for the rest of a text. A piece of a line adds to the line offset, and a terminator
 -- resets it; at offset 0 the output is that of complete lines.
-use Rattle.ptflow.proofs.Common.{◌≡◌, ℕ, ◌+◌, ◌-◌, ◌≤◌, ◌^◌, Bool, false, List, [], ◌∷◌, ◌++◌, map, length, take}
-use Rattle.ptflow.proofs.Common.{drop, Some, refl, ap, arith, append_assoc, common_steps, onto_first}
-use Rattle.ptflow.proofs.Common.{flat_map, mask_l, chunk, length-chunk, chunk-drop, append-nil, take_all}
-use Rattle.ptflow.proofs.Common.{drop_all, append_cancel_right, map-append, IsFirstByte, is_byte, unlines, lines}
-use Rattle.ptflow.proofs.Common.{IsLine, complete_lines, lines_cons, byte_ne, lines_of_unlines, unlines-append}
-use Rattle.ptflow.proofs.Common.{line_before_terminator, select_from, cut_line, cut, cut_decided, cut_lines_from}
-use Rattle.ptflow.proofs.Common.{cut_bytes_from, cut_list_from, IsPrefix, Cut, Interval, ExtendsCut}
-use Rattle.ptflow.proofs.Passes.Lines.{split_of, line_of, end_of, LineSplit, line_split}
+use Rattle.ptflow.proofs
+use proofs.Common.{◌≡◌, ℕ, ◌+◌, ◌-◌, ◌≤◌, ◌^◌, Bool, false, List, [], ◌∷◌, ◌++◌, map, length, take, drop, Some, refl}
+use proofs.Common.{ap, arith, append_assoc, common_steps, onto_first, flat_map, mask_l, chunk, length-chunk, chunk-drop}
+use proofs.Common.{append-nil, take_all, drop_all, append_cancel_right, map-append, IsFirstByte, is_byte, unlines}
+use proofs.Common.{lines, IsLine, complete_lines, lines_cons, byte_ne, lines_of_unlines, unlines-append}
+use proofs.Common.{line_before_terminator, select_from, cut_line, cut, cut_decided, cut_lines_from, cut_bytes_from}
+use proofs.Common.{cut_list_from, IsPrefix, Cut, Interval, ExtendsCut}
+use proofs.Passes.Lines.{split_of, line_of, end_of, LineSplit, line_split}
 
 module _ (end : ℕ) (selected : ℕ → Bool) where
   -- the output for lines

@@ -1,16 +1,15 @@
 -- The output of `cut` by fields for a line, with or without the delimiter, and for the first lines of a block: the
 -- fields of a line with the delimiter, and lines without it unchanged, or nothing with `-s`. No state is carried, so
 -- the output for two lists of lines is the output for each, one after the other.
-use Rattle.ptflow.proofs.Common.{◌≡◌, ℕ, ◌==◌, true, false, arith, List, [], ◌∷◌, ◌++◌, refl, Option, None, Some}
-use Rattle.ptflow.proofs.Common.{is_some, flat_map, list_any, list_any_at, IsFirstByte, is_byte, line_if_not_found}
-use Rattle.ptflow.proofs.Common.{append-nil, unlines, IsLine, byte_ne, unlines-append, Cut, is_field_delimiter}
-use Rattle.ptflow.proofs.Common.{cut_fields, cut_line, cut_lines, cut_tool, cut_fields_from, IsPrefix}
-use Rattle.ptflow.proofs.Common.{IsLineFilter, zero, suc, ◌+◌, ◌-◌, ◌<◌, ◌≤◌, ◌⊎◌, inl, inr, length, take, drop}
-use Rattle.ptflow.proofs.Common.{common_steps, get_or, ap₂, append_assoc, get_or-take, take-append-drop}
-use Rattle.ptflow.proofs.Common.{unwrap_or, take-take, take_all, length-take-le, complete_lines, AreLines}
-use Rattle.ptflow.proofs.Common.{line_before_terminator, complete_lines_cons}
-use Rattle.ptflow.proofs.Common.{the_lines, the_complete_lines, CopyLinesPost, the_lines_of_parts, CutOfParts}
-use Rattle.ptflow.proofs.Passes.Lines.{ended_next, line_split}
+use Rattle.ptflow.proofs
+use proofs.Common.{◌≡◌, ℕ, ◌==◌, true, false, arith, List, [], ◌∷◌, ◌++◌, refl, Option, None, Some, is_some, flat_map}
+use proofs.Common.{list_any, list_any_at, IsFirstByte, is_byte, line_if_not_found, append-nil, unlines, IsLine, byte_ne}
+use proofs.Common.{unlines-append, Cut, is_field_delimiter, cut_fields, cut_line, cut_lines, cut_tool, cut_fields_from}
+use proofs.Common.{IsPrefix, IsLineFilter, zero, suc, ◌+◌, ◌-◌, ◌<◌, ◌≤◌, ◌⊎◌, inl, inr, length, take, drop}
+use proofs.Common.{common_steps, get_or, ap₂, append_assoc, get_or-take, take-append-drop, unwrap_or, take-take}
+use proofs.Common.{take_all, length-take-le, complete_lines, AreLines, line_before_terminator, complete_lines_cons}
+use proofs.Common.{the_lines, the_complete_lines, CopyLinesPost, the_lines_of_parts, CutOfParts}
+use proofs.Passes.Lines.{ended_next, line_split}
 
 pub none_of : (d : ℕ) (line : List ℕ) → IsLine d line → list_any (λ b. b == d) line ≡ false
 none_of d [] free = refl

@@ -1,15 +1,15 @@
 -- The selected fields of a line, in one pass. The fields of an interval, with the delimiter before each, are one slice
 -- of the line; so the output is these slices, the first without the delimiter before it.
-use Rattle.ptflow.proofs.Common.{common_steps, ◌≡◌, ℕ, zero, suc, Bool, true, false, cond, ◌+◌, ◌-◌, ◌<◌, ◌≤◌, List, []}
-use Rattle.ptflow.proofs.Common.{◌∷◌, ◌++◌}
-use Rattle.ptflow.proofs.Common.{length, take, drop, get_or, refl, ap, arith, length-append, length-drop}
-use Rattle.ptflow.proofs.Common.{drop_all, drop_more, drop-drop, drop-take, drop-append-le, length-take-le, Cut}
-use Rattle.ptflow.proofs.Common.{cut_fields, is_selected, AreSeparated, Interval, select_from, fields}
-use Rattle.ptflow.proofs.Common.{prefixed_fields, IsFieldOffset, IsFieldCursor, IsNextSlice, output_from_cursor, min}
+use Rattle.ptflow.proofs
+use proofs.Common.{common_steps, ◌≡◌, ℕ, zero, suc, Bool, true, false, cond, ◌+◌, ◌-◌, ◌<◌, ◌≤◌, List, [], ◌∷◌, ◌++◌}
+use proofs.Common.{length, take, drop, get_or, refl, ap, arith, length-append, length-drop, drop_all, drop_more}
+use proofs.Common.{drop-drop, drop-take, drop-append-le, length-take-le, Cut, cut_fields, is_selected, AreSeparated}
+use proofs.Common.{Interval, select_from, fields, prefixed_fields, IsFieldOffset, IsFieldCursor, IsNextSlice}
+use proofs.Common.{output_from_cursor, min}
 use Rattle.ptflow.specs.declared.tools.cut.fields.FieldCursor.{FieldCursor}
-use Rattle.ptflow.proofs.Vectors.Select.{not_selected, select_none, select_first, select_slice, select_skip}
-use Rattle.ptflow.proofs.CutLemmas.FieldOffsets.{prefixed_fields-append, prefixed_of_fields, join_prefixed}
-use Rattle.ptflow.proofs.CutLemmas.FieldOffsets.{offset_start, offset_add, rest_at, none_left}
+use proofs.Vectors.Select.{not_selected, select_none, select_first, select_slice, select_skip}
+use proofs.CutLemmas.FieldOffsets.{prefixed_fields-append, prefixed_of_fields, join_prefixed, offset_start, offset_add}
+use proofs.CutLemmas.FieldOffsets.{rest_at, none_left}
 
 -- the cursor at the start of a line
 abbrev pub line_start : FieldCursor

@@ -1,12 +1,11 @@
 -- The fields of a line, and where they start. Each delimiter ends one field, so the rest of the fields, after the first
 -- n, starts after the n-th delimiter.
-use Rattle.ptflow.proofs.Common.{common_steps, ◌≡◌, ℕ, zero, suc, ◌+◌, ◌<◌, ◌==◌, ◌-◌, ◌≤◌, Bool, true, false, cond}
-use Rattle.ptflow.proofs.Common.{List, [], ◌∷◌}
-use Rattle.ptflow.proofs.Common.{◌++◌, length, take, drop, get_or, refl, sym, ◌∙◌, ap, arith, onto_first}
-use Rattle.ptflow.proofs.Common.{join_with_byte, append-nil, take-take, take-add, take_all, drop_all, take_at, drop_at}
-use Rattle.ptflow.proofs.Common.{drop_more, drop-drop, length-drop, length-take-le, take-append-drop, flat_map-append}
-use Rattle.ptflow.proofs.Common.{length-slice_split, count_by, is_byte, byte_eq, eqb-true, fields, prefixed_fields}
-use Rattle.ptflow.proofs.Common.{IsFieldOffset, IsNth}
+use Rattle.ptflow.proofs
+use proofs.Common.{common_steps, ◌≡◌, ℕ, zero, suc, ◌+◌, ◌<◌, ◌==◌, ◌-◌, ◌≤◌, Bool, true, false, cond, List, [], ◌∷◌}
+use proofs.Common.{◌++◌, length, take, drop, get_or, refl, sym, ◌∙◌, ap, arith, onto_first, join_with_byte, append-nil}
+use proofs.Common.{take-take, take-add, take_all, drop_all, take_at, drop_at, drop_more, drop-drop, length-drop}
+use proofs.Common.{length-take-le, take-append-drop, flat_map-append, length-slice_split, count_by, is_byte, byte_eq}
+use proofs.Common.{eqb-true, fields, prefixed_fields, IsFieldOffset, IsNth}
 use lib.Seq.{take-nil}
 
 module _ (d : ℕ) where

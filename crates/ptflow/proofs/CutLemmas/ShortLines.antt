@@ -1,19 +1,19 @@
 -- The shuffles of `cut`. A row has the selected indices in order, so a shuffle moves the selected bytes of 16 bytes to
 -- the front; the counts are how many of them a piece of each length has. A line is cut piece by piece.
-use Rattle.ptflow.proofs.Common.{common_steps, ◌≡◌, ℕ, zero, suc, ◌+◌, ◌-◌, ◌<◌, ◌≤◌, Bool, true, false, cond, List, []}
-use Rattle.ptflow.proofs.Common.{◌∷◌, ◌++◌, map, length, take, drop, set, ⊎_elim, ◌&&◌, get_or, length-append}
-use Rattle.ptflow.proofs.Common.{append_assoc, refl, sym, ◌∙◌, ap, arith, w8, All, nat_le, false≢true, range_with_len}
-use Rattle.ptflow.proofs.Common.{list_all, nat_tests, take-add, pick_l, Each1, Each1-from_get_or, swz_l}
-use Rattle.ptflow.proofs.Common.{pick_l-range_with_len, take-map, take-take, take-append-le, take_all, length-take-le}
-use Rattle.ptflow.proofs.Common.{append-nil, All-set, length-range_with_len, select_from, is_selected, Interval}
-use Rattle.ptflow.proofs.Common.{cut_piece, cases_eq, put_chunk, length-drop, length-swz_l}
+use Rattle.ptflow.proofs
+use proofs.Common.{common_steps, ◌≡◌, ℕ, zero, suc, ◌+◌, ◌-◌, ◌<◌, ◌≤◌, Bool, true, false, cond, List, [], ◌∷◌, ◌++◌}
+use proofs.Common.{map, length, take, drop, set, ⊎_elim, ◌&&◌, get_or, length-append, append_assoc, refl, sym, ◌∙◌, ap}
+use proofs.Common.{arith, w8, All, nat_le, false≢true, range_with_len, list_all, nat_tests, take-add, pick_l, Each1}
+use proofs.Common.{Each1-from_get_or, swz_l, pick_l-range_with_len, take-map, take-take, take-append-le, take_all}
+use proofs.Common.{length-take-le, append-nil, All-set, length-range_with_len, select_from, is_selected, Interval}
+use proofs.Common.{cut_piece, cases_eq, put_chunk, length-drop, length-swz_l}
 use Rattle.std.proofs.Common.{get_or-set_same, get_or-set_other, length-set}
-use Rattle.ptflow.proofs.Vectors.Select.{above, select_none}
+use proofs.Vectors.Select.{above, select_none}
 use mir.Val.{bool_byte}
 use Rattle.ptflow.specs.Private.Cut.ShortLines.{selected_indices, selected_after, IsPieceShuffle}
 use Rattle.ptflow.specs.declared.tools.cut.shuffle.PieceShuffle.{PieceShuffle}
-use Rattle.ptflow.proofs.Vectors.Compress.{selected_stored, shuffle_result}
-use Rattle.ptflow.proofs.Vectors.Lanes.{stored_more}
+use proofs.Vectors.Compress.{selected_stored, shuffle_result}
+use proofs.Vectors.Lanes.{stored_more}
 
 last_low : (r : Interval) {limit index : ℕ} → nat_le r.last limit ≡ true → limit < index → r.last < index
 last_low r low later = grind (arith, nat_tests)

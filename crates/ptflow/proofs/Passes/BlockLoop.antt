@@ -1,15 +1,15 @@
 -- A tool that works block by block. The output of each block is pushed before the next is read, so the input with no
 -- output yet is in the reader's buffer.
-use Rattle.ptflow.proofs.Common.{common_steps, ◌≡◌, ℕ, ◌+◌, ◌-◌, ◌≤◌, ◌<◌, ◌^◌, true, false, List, [], ◌++◌, None, Ok}
-use Rattle.ptflow.proofs.Common.{Err, length, drop, refl, arith, append-nil, append_assoc, take_all, Reader}
-use Rattle.ptflow.proofs.Common.{ReaderAdvance, AdvanceOk, IsDone, IsSound, HasReadCause, IsPrefix, Output, PushEffect}
-use Rattle.ptflow.proofs.Common.{Slots, advance_ok_trans, push_trans, ToolSpec, PassPre, PassPost, Read, Write}
-use Rattle.ptflow.proofs.Common.{OutputFailed}
+use Rattle.ptflow.proofs
+use proofs.Common.{common_steps, ◌≡◌, ℕ, ◌+◌, ◌-◌, ◌≤◌, ◌<◌, ◌^◌, true, false, List, [], ◌++◌, None, Ok, Err, length}
+use proofs.Common.{drop, refl, arith, append-nil, append_assoc, take_all, Reader, ReaderAdvance, AdvanceOk, IsDone}
+use proofs.Common.{IsSound, HasReadCause, IsPrefix, Output, PushEffect, Slots, advance_ok_trans, push_trans, ToolSpec}
+use proofs.Common.{PassPre, PassPost, Read, Write, OutputFailed}
 use Rattle.ptflow.specs.Private.Passes.BlockLoop.{IsBlockFilter}
 use Rattle.ptflow.specs.Private.Passes.StepOutput.{OutputPart}
-use Rattle.ptflow.proofs.Passes.Readers.{advance_past}
-use Rattle.ptflow.proofs.Passes.Exits.{Progress, progress_none, progress_flushed, PassState, PassEnding}
-use Rattle.ptflow.proofs.Passes.Exits.{store_unchanged, nothing_more, pass_read, pass_write, pass_done, pass_unended}
+use proofs.Passes.Readers.{advance_past}
+use proofs.Passes.Exits.{Progress, progress_none, progress_flushed, PassState, PassEnding, store_unchanged}
+use proofs.Passes.Exits.{nothing_more, pass_read, pass_write, pass_done, pass_unended}
 
 -- a counter is at most the number of bytes that were processed
 module _ {reader shown : Reader} {block : List ℕ} (advance_ok : AdvanceOk reader shown [])

@@ -2,16 +2,16 @@
 -- allocation failed, or the input ended. Between two steps (`PassState`) the pushed bytes, followed by the output for
 -- the rest, are the output for every continuation of the input. So the output is exact at the end of the input, it is a
 -- prefix of the output for each consistent input, and decided output is written.
-use Rattle.ptflow.proofs.Common.{◌≡◌, ⊎_elim, ℕ, ◌≤◌, ◌<◌, ◌^◌, true, false, List, [], ◌++◌, length, None, Result, Ok}
-use Rattle.ptflow.proofs.Common.{Err, max, refl, sym, ◌∙◌, arith, append_assoc, common_steps, append-nil}
-use Rattle.ptflow.proofs.Common.{false_from_ne_true, false≢true, Reader, ReaderAdvance, AdvanceOk, IsDone, IsSound}
-use Rattle.ptflow.proofs.Common.{HasReadCause, Received, IsPrefix, IsConsistent, Output, PushEffect, Slots, total_bytes}
-use Rattle.ptflow.proofs.Common.{received_with, advance_trans, push_nothing, push_trans, ToolSpec, PassPre, PassPost}
-use Rattle.ptflow.proofs.Common.{only_input, pass_end, pass_engine, CallState, call_state, CallOutcome, AddedSlots}
-use Rattle.ptflow.proofs.Common.{CallProgress, DecidedIfReadFailed, call_ends, call_on_failed_output, call_set}
-use Rattle.ptflow.proofs.Common.{call_without_slots, ProcessLag, bounded_lag_after, FlowFault, Read, Write, Memory}
+use Rattle.ptflow.proofs
+use proofs.Common.{◌≡◌, ⊎_elim, ℕ, ◌≤◌, ◌<◌, ◌^◌, true, false, List, [], ◌++◌, length, None, Result, Ok, Err, max, refl}
+use proofs.Common.{sym, ◌∙◌, arith, append_assoc, common_steps, append-nil, false_from_ne_true, false≢true, Reader}
+use proofs.Common.{ReaderAdvance, AdvanceOk, IsDone, IsSound, HasReadCause, Received, IsPrefix, IsConsistent, Output}
+use proofs.Common.{PushEffect, Slots, total_bytes, received_with, advance_trans, push_nothing, push_trans, ToolSpec}
+use proofs.Common.{PassPre, PassPost, only_input, pass_end, pass_engine, CallState, call_state, CallOutcome, AddedSlots}
+use proofs.Common.{CallProgress, DecidedIfReadFailed, call_ends, call_on_failed_output, call_set, call_without_slots}
+use proofs.Common.{ProcessLag, bounded_lag_after, FlowFault, Read, Write, Memory}
 use Rattle.std.specs.Prelude.{IsErrAnd}
-use Rattle.ptflow.proofs.Passes.Readers.{stays_at_eof}
+use proofs.Passes.Readers.{stays_at_eof}
 
 abbrev state : Reader → Output → Slots → CallState (Unit {0})
 state reader out store = call_state (λ u. reader) out store

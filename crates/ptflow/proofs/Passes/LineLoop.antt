@@ -1,23 +1,21 @@
 -- A tool that works line by line. The items written for the lines so far, and then those of the rest, are the items of
 -- the whole for every continuation; so the state between two lines is a `PassState`, and each exit is a lemma of
 -- `Exits`.
-use Rattle.ptflow.proofs.Common.{◌≡◌, Bool, ℕ, ◌+◌, ◌-◌, ◌<◌, ◌≤◌, ◌^◌, true, false, List, [], ◌∷◌, ◌++◌, Ok, Err}
-use Rattle.ptflow.proofs.Common.{length, drop, max, refl, ◌∙◌, ap, subst, arith, append_assoc, length-append}
-use Rattle.ptflow.proofs.Common.{nil_from_length, get_or-set_same, lines, complete_lines, IsLine, max_length}
-use Rattle.ptflow.proofs.Common.{max_line_length, Received, known_lines, IsPrefix, IsConsistent, Output, PushEffect}
-use Rattle.ptflow.proofs.Common.{Reader, ReaderAdvance, AdvanceOk, IsDone, IsSound, HasReadCause, Slots, line}
-use Rattle.ptflow.proofs.Common.{with_line, with_denied, FillPost, FillLine, advance_ok_trans, push_trans, ToolSpec}
-use Rattle.ptflow.proofs.Common.{PassPre, PassPost, AddedSlots, AreReceivedLines, LinesWritten, LinesFailed}
-use Rattle.ptflow.proofs.Common.{IsLinesLength, IsSwapped, SlotsCleared, IsLineFilter, Read, Write, Memory}
-use Rattle.ptflow.proofs.Common.{received_with, reads_nothing, common_steps}
-use Rattle.ptflow.proofs.Passes.Lines.{line_split, complete_prefix, max_length-append}
-use Rattle.ptflow.proofs.Passes.LinesRead.{lines_none, lines_few, lines_on, lines_more, lines_block, line_prefix}
-use Rattle.ptflow.proofs.Passes.LinesRead.{received_longest, piece_longest, whole_before, before_line, after_line}
-use Rattle.ptflow.proofs.Passes.Exits.{Progress, progress_none, progress_flushed, PassState, LaggedOutput, StoreBounds}
-use Rattle.ptflow.proofs.Passes.Exits.{PassEnding, nothing_more, pass_unslotted, pass_read, pass_memory, pass_write}
-use Rattle.ptflow.proofs.Passes.Exits.{pass_done, pass_unended}
-use Rattle.ptflow.proofs.Passes.Readers.{advance_past}
-use Rattle.ptflow.proofs.Passes.Slots.{SlotBounds, bounds_weaker, bounds_line, bounds_swapped, bounds_cleared}
+use Rattle.ptflow.proofs
+use proofs.Common.{◌≡◌, Bool, ℕ, ◌+◌, ◌-◌, ◌<◌, ◌≤◌, ◌^◌, true, false, List, [], ◌∷◌, ◌++◌, Ok, Err, length, drop, max}
+use proofs.Common.{refl, ◌∙◌, ap, subst, arith, append_assoc, length-append, nil_from_length, get_or-set_same, lines}
+use proofs.Common.{complete_lines, IsLine, max_length, max_line_length, Received, known_lines, IsPrefix, IsConsistent}
+use proofs.Common.{Output, PushEffect, Reader, ReaderAdvance, AdvanceOk, IsDone, IsSound, HasReadCause, Slots, line}
+use proofs.Common.{with_line, with_denied, FillPost, FillLine, advance_ok_trans, push_trans, ToolSpec, PassPre}
+use proofs.Common.{PassPost, AddedSlots, AreReceivedLines, LinesWritten, LinesFailed, IsLinesLength, IsSwapped}
+use proofs.Common.{SlotsCleared, IsLineFilter, Read, Write, Memory, received_with, reads_nothing, common_steps}
+use proofs.Passes.Lines.{line_split, complete_prefix, max_length-append}
+use proofs.Passes.LinesRead.{lines_none, lines_few, lines_on, lines_more, lines_block, line_prefix, received_longest}
+use proofs.Passes.LinesRead.{piece_longest, whole_before, before_line, after_line}
+use proofs.Passes.Exits.{Progress, progress_none, progress_flushed, PassState, LaggedOutput, StoreBounds, PassEnding}
+use proofs.Passes.Exits.{nothing_more, pass_unslotted, pass_read, pass_memory, pass_write, pass_done, pass_unended}
+use proofs.Passes.Readers.{advance_past}
+use proofs.Passes.Slots.{SlotBounds, bounds_weaker, bounds_line, bounds_swapped, bounds_cleared}
 
 -- These lines were read, and each of `width` slots has at most one line.
 pub record LineLoopState {S X E : Type 0} (state : S → Slots → X) (rest_from : X → List (List ℕ) → List E)

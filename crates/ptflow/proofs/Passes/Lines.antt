@@ -1,10 +1,11 @@
 -- Laws of the lines of a text: complete lines and the unfinished line after them, the maximum length, and the lines of
 -- a block one by one. All of them use the first terminator in some bytes, before which there is no other.
-use Rattle.ptflow.proofs.Common.{common_steps, ◌≡◌, ℕ, ◌+◌, ◌==◌, Bool, true, false, cond, List, [], ◌∷◌, ◌++◌, length}
-use Rattle.ptflow.proofs.Common.{refl, ap, arith, take-append-drop, ◌-◌, Some, take, drop, append_assoc, length-append}
-use Rattle.ptflow.proofs.Common.{eqb-true, eqb-false, unlines, lines, complete_lines, onto_first_if_any, IsLine}
-use Rattle.ptflow.proofs.Common.{AreLines, lines_of_unlines, complete_lines_none, complete_lines_cons, append-nil}
-use Rattle.ptflow.proofs.Common.{take_at, IsFirstByte, is_byte, line_before_terminator, drop_at_terminator}
+use Rattle.ptflow.proofs
+use proofs.Common.{common_steps, ◌≡◌, ℕ, ◌+◌, ◌==◌, Bool, true, false, cond, List, [], ◌∷◌, ◌++◌, length, refl, ap}
+use proofs.Common.{arith, take-append-drop, ◌-◌, Some, take, drop, append_assoc, length-append, eqb-true, eqb-false}
+use proofs.Common.{unlines, lines, complete_lines, onto_first_if_any, IsLine, AreLines, lines_of_unlines}
+use proofs.Common.{complete_lines_none, complete_lines_cons, append-nil, take_at, IsFirstByte, is_byte}
+use proofs.Common.{line_before_terminator, drop_at_terminator}
 pub use Rattle.ptlines.proofs.MaxLength.{max_length-append, piece_le_max_length}
 
 -- the complete lines of a text, and the unfinished line after them

@@ -1,8 +1,8 @@
 -- Bytes that are pushed piece by piece: the pushed bytes are a prefix, and the rest is left. A failed push leaves a
 -- prefix too, so the result of several pushes is that of one.
-use Rattle.ptflow.proofs.Common.{arith, common_steps, ◌≡◌, ℕ, Bool, false, true, List, [], ◌++◌, refl, sym, subst}
-use Rattle.ptflow.proofs.Common.{append_assoc, Output}
-use Rattle.ptflow.proofs.Common.{PushEffect, push_nothing, push_trans, push_past_failure}
+use Rattle.ptflow.proofs
+use proofs.Common.{arith, common_steps, ◌≡◌, ℕ, Bool, false, true, List, [], ◌++◌, refl, sym, subst, append_assoc}
+use proofs.Common.{Output, PushEffect, push_nothing, push_trans, push_past_failure}
 use Rattle.ptlines.specs.Outputs.{PushPost}
 use Rattle.std.specs.Prelude.{Err, Result}
 

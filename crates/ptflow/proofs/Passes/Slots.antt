@@ -1,10 +1,10 @@
 -- The slots of a tool that works line by line: at most one line in each of its slots, and nothing in the others. So the
 -- store holds at most `width` times the maximum length of these lines.
-use Rattle.ptflow.proofs.Common.{◌≡◌, ℕ, zero, suc, ◌+◌, ◌-◌, ◌*◌, ◌<◌, ◌≤◌, false, List, [], ◌∷◌, length, take, drop}
-use Rattle.ptflow.proofs.Common.{set, get_or, max, refl, sym, ◌∙◌, ap, subst, arith, inl, inr, take-append-drop}
-use Rattle.ptflow.proofs.Common.{common_steps, mul-le-mul_left, drop_more, length-set, drop-set-lt, sum_by-cons}
-use Rattle.ptflow.proofs.Common.{sum_by-append, get_or-le-sum_by, Slots, total_bytes, with_line, AddedSlots, IsSwapped}
-use Rattle.ptflow.proofs.Common.{SlotsCleared}
+use Rattle.ptflow.proofs
+use proofs.Common.{◌≡◌, ℕ, zero, suc, ◌+◌, ◌-◌, ◌*◌, ◌<◌, ◌≤◌, false, List, [], ◌∷◌, length, take, drop, set, get_or}
+use proofs.Common.{max, refl, sym, ◌∙◌, ap, subst, arith, inl, inr, take-append-drop, common_steps, mul-le-mul_left}
+use proofs.Common.{drop_more, length-set, drop-set-lt, sum_by-cons, sum_by-append, get_or-le-sum_by, Slots, total_bytes}
+use proofs.Common.{with_line, AddedSlots, IsSwapped, SlotsCleared}
 use Rattle.std.proofs.lemmas.List.Edits.{swap_is}
 
 -- each of the first `width` slots holds at most `most` bytes, and the others are empty

@@ -1,22 +1,21 @@
 -- Columns that are copied from the buffers of the readers. A line that is complete in a buffer is the line that `fill`
 -- would return, so a column is filled by it in the same way.
-use Rattle.ptflow.proofs.Common.{◌≡◌, inl, ℕ, ◌+◌, ◌<◌, ◌≤◌, ◌^◌, ◌||◌, Bool, true, false, List, [], ◌∷◌, ◌++◌}
-use Rattle.ptflow.proofs.Common.{◌%◌, eq-eqb, ne_eqb, option_to_list, slice_index_or, None, Some, Ok, length, take}
-use Rattle.ptflow.proofs.Common.{drop, set, get_or, refl, sym, ◌∙◌, ap, subst, arith, append_assoc, length-append}
-use Rattle.ptflow.proofs.Common.{length-drop, append-nil, take-take, take-append-le, length-take-le}
-use Rattle.ptflow.proofs.Common.{length-set, drop-drop, drop_at, IsFirstByte, is_byte, Reader, IsSound}
-use Rattle.ptflow.proofs.Common.{Slots, with_line, FillLine, FillPost, line_before_terminator, take_with_terminator}
-use Rattle.ptflow.proofs.Common.{advance_ok_take, reader_at, uses_of, CellsFilled, after_cell, cells_text, RowShape}
-use Rattle.ptflow.proofs.Common.{BegunText, BufferedRowsPre, IsConsumed, AreConsumed, IsFieldCopied, CopyColumnsPost}
-use Rattle.ptflow.proofs.Common.{CopyRowsPost, RowsTaken, put_chunk, chunk, length-chunk, length-put_chunk}
-use Rattle.ptflow.proofs.Common.{take_more_put_chunk}
+use Rattle.ptflow.proofs
+use proofs.Common.{◌≡◌, inl, ℕ, ◌+◌, ◌<◌, ◌≤◌, ◌^◌, ◌||◌, Bool, true, false, List, [], ◌∷◌, ◌++◌, ◌%◌, eq-eqb, ne_eqb}
+use proofs.Common.{option_to_list, slice_index_or, None, Some, Ok, length, take, drop, set, get_or, refl, sym, ◌∙◌, ap}
+use proofs.Common.{subst, arith, append_assoc, length-append, length-drop, append-nil, take-take, take-append-le}
+use proofs.Common.{length-take-le, length-set, drop-drop, drop_at, IsFirstByte, is_byte, Reader, IsSound, Slots}
+use proofs.Common.{with_line, FillLine, FillPost, line_before_terminator, take_with_terminator, advance_ok_take}
+use proofs.Common.{reader_at, uses_of, CellsFilled, after_cell, cells_text, RowShape, BegunText, BufferedRowsPre}
+use proofs.Common.{IsConsumed, AreConsumed, IsFieldCopied, CopyColumnsPost, CopyRowsPost, RowsTaken, put_chunk, chunk}
+use proofs.Common.{length-chunk, length-put_chunk, take_more_put_chunk}
 use Rattle.memchr.specs.Find.{IsFirst, Passes}
 use Rattle.ptlines.proofs.CopyFacts.{copied_prefix}
 use Rattle.std.proofs.Math.Seq.{take-append-add}
 use borrow.Rule.Slice.PartMut.{mid_of, put_mid}
 use Rattle.ptflow.specs.Private.Paste.BufferedRows.{LineCopied}
-use Rattle.ptflow.proofs.PasteLemmas.RowsTaken.{cells_text-push, rows_taken_trans, row_taken}
-use Rattle.ptflow.proofs.PasteLemmas.FillRow.{each_reader, fill_starts, fill_next}
+use proofs.PasteLemmas.RowsTaken.{cells_text-push, rows_taken_trans, row_taken}
+use proofs.PasteLemmas.FillRow.{each_reader, fill_starts, fill_next}
 
 -- A line that is complete in a buffer is the line that `fill` would return.
 buffered_line : (b r : Reader) (at : ℕ) (store : Slots) (slot : ℕ) → b.fault ≡ None → b.pulled < 2 ^ 63

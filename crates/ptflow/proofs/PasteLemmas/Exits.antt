@@ -1,33 +1,31 @@
 -- The exits of `paste`: success, or a failed read, write or growth, between rows or within one. In each case the rows
 -- so far were pushed, and the readers have given the lines of these rows and perhaps some bytes more.
-use Rattle.ptflow.proofs.Common.{◌≡◌, ◌≢◌, ◌⊎◌, ⊎_elim, inl, inr, ℕ, ◌+◌, ◌*◌, ◌<◌, ◌≤◌, true, false, List, [], ◌∷◌}
-use Rattle.ptflow.proofs.Common.{◌++◌, Result, Ok, Err, length, take, get_or, max, refl, sym, ◌∙◌, ap, arith}
-use Rattle.ptflow.proofs.Common.{append_assoc, length-append, cases_eq, append-nil, lines, IsLine, max_length}
-use Rattle.ptflow.proofs.Common.{max_line_length, Received, IsPrefix, IsConsistent, known_lines, Output, PushEffect}
-use Rattle.ptflow.proofs.Common.{Reader, ReaderAdvance, IsDone, HasReadCause, Slots, with_line, with_denied}
-use Rattle.ptflow.proofs.Common.{received_with, advance_trans, push_trans, bounded_lag_after, Paste, AddedSlots}
-use Rattle.ptflow.proofs.Common.{reader_at, update_at, PastePost, uses_of, columns, rows, rows_text, paste}
-use Rattle.ptflow.proofs.Common.{paste_decided, SlotsBound, SlotsKept, CellsFilled, RowFilled, RowFailed}
-use Rattle.ptflow.proofs.Common.{ClearSlotsPost, CopyRowsPost, RowsTaken, RowsWritten, AreConsumed, BegunText}
-use Rattle.ptflow.proofs.Common.{job_shape, is_write_fault, AreReceivedLines, LinesTaken, AreFirstRows, FlowFault, Read}
-use Rattle.ptflow.proofs.Common.{Write, Memory, CallProgress, CallOutcome, call_state, DecidedIfReadFailed, call_ends}
-use Rattle.ptflow.proofs.Common.{call_without_slots, inputs_at, paste_engine, paste_end, reads_nothing, CallState}
-use Rattle.ptflow.proofs.PasteLemmas.FillRow.{slots_bound_line, cells_total, sum_of_zeros}
-use Rattle.ptflow.proofs.PasteLemmas.RowsTaken.{first_rows_trans, lines_taken_by_cells, lines_taken_by_row, lines_trans}
-use Rattle.ptflow.proofs.PasteLemmas.RowsTaken.{taken_at_most, taken_more, nothing_taken}
-use Rattle.ptflow.proofs.PasteLemmas.Grid.{Column, uses_before_lt, uses_before, grid_none, rows_text-append}
-use Rattle.ptflow.proofs.Passes.LinesRead.{received_longest, piece_longest}
-use Rattle.ptflow.proofs.PasteLemmas.Lag.{EarlierPart, earlier_partial, earlier_before, earlier_buffered, earlier_lines}
-use Rattle.ptflow.proofs.PasteLemmas.Lag.{none_received, begins_earlier}
-use Rattle.ptflow.proofs.Passes.Readers.{eof_gives_nothing, stays_at_eof}
-use Rattle.ptflow.proofs.Passes.Lines.{max_length-append}
-use Rattle.ptflow.proofs.PasteLemmas.BufferedRows.{still_pulled}
-use Rattle.ptflow.proofs.PasteLemmas.Invariant.{PasteInvariant, HasStarted, ReadMore, never_failed, now_short}
-use Rattle.ptflow.proofs.PasteLemmas.Invariant.{now_buffered, given_by, later, rows_by, begins_by, LagsBy, EarlierBy}
-use Rattle.ptflow.proofs.PasteLemmas.Invariant.{lags_by, begins_by_earlier, rows_wrote, rows_kept, row_kept, row_gives}
-use Rattle.ptflow.proofs.PasteLemmas.Invariant.{since_set, set_readable, now_readable, read_lines}
-use Rattle.ptflow.proofs.PasteLemmas.Named.{is_in_used, not_in, used_is_in, consistent_itself, with_received, all_agree}
-use Rattle.ptflow.proofs.PasteLemmas.Named.{same_paste, same_size}
+use Rattle.ptflow.proofs
+use proofs.Common.{◌≡◌, ◌≢◌, ◌⊎◌, ⊎_elim, inl, inr, ℕ, ◌+◌, ◌*◌, ◌<◌, ◌≤◌, true, false, List, [], ◌∷◌, ◌++◌, Result, Ok}
+use proofs.Common.{Err, length, take, get_or, max, refl, sym, ◌∙◌, ap, arith, append_assoc, length-append, cases_eq}
+use proofs.Common.{append-nil, lines, IsLine, max_length, max_line_length, Received, IsPrefix, IsConsistent}
+use proofs.Common.{known_lines, Output, PushEffect, Reader, ReaderAdvance, IsDone, HasReadCause, Slots, with_line}
+use proofs.Common.{with_denied, received_with, advance_trans, push_trans, bounded_lag_after, Paste, AddedSlots}
+use proofs.Common.{reader_at, update_at, PastePost, uses_of, columns, rows, rows_text, paste, paste_decided, SlotsBound}
+use proofs.Common.{SlotsKept, CellsFilled, RowFilled, RowFailed, ClearSlotsPost, CopyRowsPost, RowsTaken, RowsWritten}
+use proofs.Common.{AreConsumed, BegunText, job_shape, is_write_fault, AreReceivedLines, LinesTaken, AreFirstRows}
+use proofs.Common.{FlowFault, Read, Write, Memory, CallProgress, CallOutcome, call_state, DecidedIfReadFailed}
+use proofs.Common.{call_ends, call_without_slots, inputs_at, paste_engine, paste_end, reads_nothing, CallState}
+use proofs.PasteLemmas.FillRow.{slots_bound_line, cells_total, sum_of_zeros}
+use proofs.PasteLemmas.RowsTaken.{first_rows_trans, lines_taken_by_cells, lines_taken_by_row, lines_trans}
+use proofs.PasteLemmas.RowsTaken.{taken_at_most, taken_more, nothing_taken}
+use proofs.PasteLemmas.Grid.{Column, uses_before_lt, uses_before, grid_none, rows_text-append}
+use proofs.Passes.LinesRead.{received_longest, piece_longest}
+use proofs.PasteLemmas.Lag.{EarlierPart, earlier_partial, earlier_before, earlier_buffered, earlier_lines}
+use proofs.PasteLemmas.Lag.{none_received, begins_earlier}
+use proofs.Passes.Readers.{eof_gives_nothing, stays_at_eof}
+use proofs.Passes.Lines.{max_length-append}
+use proofs.PasteLemmas.BufferedRows.{still_pulled}
+use proofs.PasteLemmas.Invariant.{PasteInvariant, HasStarted, ReadMore, never_failed, now_short, now_buffered, given_by}
+use proofs.PasteLemmas.Invariant.{later, rows_by, begins_by, LagsBy, EarlierBy, lags_by, begins_by_earlier, rows_wrote}
+use proofs.PasteLemmas.Invariant.{rows_kept, row_kept, row_gives, since_set, set_readable, now_readable, read_lines}
+use proofs.PasteLemmas.Named.{is_in_used, not_in, used_is_in, consistent_itself, with_received, all_agree, same_paste}
+use proofs.PasteLemmas.Named.{same_size}
 
 -- A slot could not be allocated.
 pub paste_without_slots : {job : Paste} {cells : List ℕ} {old set : List Reader} {was : Output} {first store : Slots}

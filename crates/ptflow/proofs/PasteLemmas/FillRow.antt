@@ -2,24 +2,23 @@
 -- the text of the first fields was copied, and the slots hold the others. Each step changes one reader, so the lines of
 -- the columns before it stay as they are. The slots hold all bytes of the store, so the total is at most the sum of the
 -- columns' bounds.
-use Rattle.ptflow.proofs.Common.{nat_tests, ◌≡◌, ℕ, zero, suc, ◌+◌, ◌<◌, ◌≤◌, false, List, [], ◌∷◌, ◌++◌, length}
-use Rattle.ptflow.proofs.Common.{length-append, get_or_append_left, get_or_push, max_length, take, drop, set, get_or}
-use Rattle.ptflow.proofs.Common.{refl, sym, ◌∙◌, ap, arith, ⊎_elim, take-append-drop, sum_by, cases_eq, length-set}
-use Rattle.ptflow.proofs.Common.{drop-set-lt, get_or-set_same, get_or-set_other, sum_by-cons, sum_by-append}
-use Rattle.ptflow.proofs.Common.{get_or-le-sum_by, Slots, total_bytes, with_line, AddedSlots, SlotsBound, SlotsKept}
-use Rattle.ptflow.proofs.Common.{CellsTaken, Reader, uses_of, ◌≢◌, ◌==◌, ◌||◌, Bool, true, cond, None, Ok}
-use Rattle.ptflow.proofs.Common.{eq-eqb, ne_eqb, append-nil, take-take, get_or_past, get_or_at, get_or_default}
-use Rattle.ptflow.proofs.Common.{sum_by-set, AdvanceOk, IsDone, IsSound, budget, FillLine, FillPost, no_reader}
+use Rattle.ptflow.proofs
+use proofs.Common.{nat_tests, ◌≡◌, ℕ, zero, suc, ◌+◌, ◌<◌, ◌≤◌, false, List, [], ◌∷◌, ◌++◌, length, length-append}
+use proofs.Common.{get_or_append_left, get_or_push, max_length, take, drop, set, get_or, refl, sym, ◌∙◌, ap, arith}
+use proofs.Common.{⊎_elim, take-append-drop, sum_by, cases_eq, length-set, drop-set-lt, get_or-set_same}
+use proofs.Common.{get_or-set_other, sum_by-cons, sum_by-append, get_or-le-sum_by, Slots, total_bytes, with_line}
+use proofs.Common.{AddedSlots, SlotsBound, SlotsKept, CellsTaken, Reader, uses_of, ◌≢◌, ◌==◌, ◌||◌, Bool, true, cond}
+use proofs.Common.{None, Ok, eq-eqb, ne_eqb, append-nil, take-take, get_or_past, get_or_at, get_or_default, sum_by-set}
+use proofs.Common.{AdvanceOk, IsDone, IsSound, budget, FillLine, FillPost, no_reader, reader_at, SetTerminatorsPost}
+use proofs.Common.{CellsFilled, RowFailed, LinesTaken, Err, ext_get_or, get_or-drop, length-drop, take_all, take_more}
+use proofs.Common.{take-append-le, length-take-le, line, RowShape, BegunText, after_cell, cells_text, slots_text}
+use proofs.Common.{CopyColumnsPost, BufferedRowsPre, RowAmid, RowFilled, FillCellPost, NotRead, FillReadErr}
+use proofs.Common.{FillMemoryErr, FlowFault, Read, Write, Memory}
 use Rattle.ptflow.specs.Private.Paste.FillRow.{SetTerminatorPost}
-use Rattle.ptflow.proofs.Common.{reader_at, SetTerminatorsPost, CellsFilled, RowFailed, LinesTaken, Err, ext_get_or}
-use Rattle.ptflow.proofs.Common.{get_or-drop, length-drop, take_all, take_more, take-append-le, length-take-le, line}
-use Rattle.ptflow.proofs.Common.{RowShape, BegunText, after_cell, cells_text, slots_text, CopyColumnsPost}
-use Rattle.ptflow.proofs.Common.{BufferedRowsPre, RowAmid, RowFilled, FillCellPost, NotRead, FillReadErr, FillMemoryErr}
-use Rattle.ptflow.proofs.Common.{FlowFault, Read, Write, Memory}
 use Rattle.std.specs.Prelude.{slice_index_or}
-use Rattle.ptflow.proofs.PasteLemmas.Grid.{uses_here, uses_other, uses_before}
-use Rattle.ptflow.proofs.PasteLemmas.RowsTaken.{nothing_taken, taken_more, taken_line, taken_eof, taken_at_most}
-use Rattle.ptflow.proofs.PasteLemmas.RowsTaken.{none_at_eof, cells_text-append, cells_text-push}
+use proofs.PasteLemmas.Grid.{uses_here, uses_other, uses_before}
+use proofs.PasteLemmas.RowsTaken.{nothing_taken, taken_more, taken_line, taken_eof, taken_at_most, none_at_eof}
+use proofs.PasteLemmas.RowsTaken.{cells_text-append, cells_text-push}
 use Rattle.std.proofs.lemmas.List.{get_or-take}
 
 pub cells_total : (cells : List ℕ) (top : ℕ → ℕ) (ls : List (List ℕ)) → ((c : ℕ) → c < length cells

@@ -1,15 +1,14 @@
 -- The columns and rows of a grid of lines. If each input gives one line to each of its columns, exactly the first row
 -- is removed: the first line of each column is that of the row, and the rest of each column is the column of the rest.
-use Rattle.ptflow.proofs.Common.{◌≡◌, ◌≢◌, ◌⊎◌, ⊎_elim, inl, inr, ℕ, zero, suc, ◌+◌, ◌-◌, ◌*◌, ◌%◌, ◌<◌, ◌≤◌, ◌==◌}
-use Rattle.ptflow.proofs.Common.{Bool, true, false, cond, List, [], ◌∷◌, ◌++◌, Option, length, take, drop, get_or, map}
-use Rattle.ptflow.proofs.Common.{max, refl, sym, ◌∙◌, ap, arith, length-append, length-drop, fold, enumerate_from}
-use Rattle.ptflow.proofs.Common.{range_with_len, cases_lt, eq-eqb, ne_eqb, le-ltb, nat_tests, add-mod_left}
-use Rattle.ptflow.proofs.Common.{mod-eq_of_lt, append-nil, drop_at, drop_all, get_or_past, get_or_append_left}
-use Rattle.ptflow.proofs.Common.{ext_get_or, get_or-map, length-map, map-append, length-enumerate_from}
-use Rattle.ptflow.proofs.Common.{get_or-enumerate_from, sum_by-cons, count_by_more_yes, count_by_more_no}
-use Rattle.ptflow.proofs.Common.{sum_by-take-le, get_or_after_one, map-map, unlines, unlines-append, select_from}
-use Rattle.ptflow.proofs.Common.{update_at, join_with_cycle, every_kth, uses_of, columns, row_count, row_at, rows}
-use Rattle.ptflow.proofs.Common.{is_row_known}
+use Rattle.ptflow.proofs
+use proofs.Common.{◌≡◌, ◌≢◌, ◌⊎◌, ⊎_elim, inl, inr, ℕ, zero, suc, ◌+◌, ◌-◌, ◌*◌, ◌%◌, ◌<◌, ◌≤◌, ◌==◌, Bool, true, false}
+use proofs.Common.{cond, List, [], ◌∷◌, ◌++◌, Option, length, take, drop, get_or, map, max, refl, sym, ◌∙◌, ap, arith}
+use proofs.Common.{length-append, length-drop, fold, enumerate_from, range_with_len, cases_lt, eq-eqb, ne_eqb, le-ltb}
+use proofs.Common.{nat_tests, add-mod_left, mod-eq_of_lt, append-nil, drop_at, drop_all, get_or_past}
+use proofs.Common.{get_or_append_left, ext_get_or, get_or-map, length-map, map-append, length-enumerate_from}
+use proofs.Common.{get_or-enumerate_from, sum_by-cons, count_by_more_yes, count_by_more_no, sum_by-take-le}
+use proofs.Common.{get_or_after_one, map-map, unlines, unlines-append, select_from, update_at, join_with_cycle}
+use proofs.Common.{every_kth, uses_of, columns, row_count, row_at, rows, is_row_known}
 use Rattle.std.specs.Prelude.{slice_index_or}
 
 abbrev pub Column : Type 0

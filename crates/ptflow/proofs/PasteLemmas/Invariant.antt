@@ -1,24 +1,23 @@
 -- The loop invariant of `paste`: the rows taken so far are the first rows of the inputs for every continuation, they
 -- were pushed, and the slots hold at most one line for each column. From it follow the clauses of the contract once the
 -- readers were read further.
-use Rattle.ptflow.proofs.Common.{◌≡◌, ⊎_elim, ℕ, ◌+◌, ◌*◌, ◌<◌, ◌≤◌, ◌^◌, Bool, true, false, List, [], ◌∷◌, ◌++◌}
-use Rattle.ptflow.proofs.Common.{length, refl, ◌∙◌, ap, subst, arith, append_assoc, All, append-nil, All-get_or}
-use Rattle.ptflow.proofs.Common.{lines, max_length, Received, IsPrefix, IsConsistent}
-use Rattle.ptflow.proofs.Common.{known_lines, Output, PushEffect, Reader, ReaderAdvance, IsDone, Slots, total_bytes}
-use Rattle.ptflow.proofs.Common.{received_with, push_nothing, push_trans, Paste, AddedSlots}
-use Rattle.ptflow.proofs.Common.{reader_at, IsReadable, PastePre, uses_of, columns, rows, rows_text, paste}
-use Rattle.ptflow.proofs.Common.{paste_decided, SetTerminatorsPost, SlotsBound, SlotsKept, CellsTaken, CellsFilled}
-use Rattle.ptflow.proofs.Common.{AreReceivedLines, AreFirstRows, RowsTaken, RowsWritten, cells_text, job_shape}
-use Rattle.ptflow.proofs.Common.{BufferedRowsPre, CallState, CallEnd, CallPost, call_state, call_set, inputs_at, is_in}
-use Rattle.ptflow.proofs.Common.{paste_engine, LinesTaken}
-use Rattle.ptflow.proofs.PasteLemmas.FillRow.{slots_bound_start, slots_kept_by_lines}
-use Rattle.ptflow.proofs.PasteLemmas.RowsTaken.{no_rows, first_rows_trans, filled_row_is_first, filled_row_text}
-use Rattle.ptflow.proofs.PasteLemmas.Grid.{Column, last_use, rows_text-append}
-use Rattle.ptflow.proofs.Passes.Lines.{max_length-append}
-use Rattle.ptflow.proofs.Passes.LinesRead.{lines_on}
-use Rattle.ptflow.proofs.PasteLemmas.Lag.{EarlierPart, LagsAt, ended_more, lags_here, decided_is_prefix}
-use Rattle.ptflow.proofs.Passes.Readers.{eof_gives_nothing, may_follow}
-use Rattle.ptflow.proofs.PasteLemmas.Named.{is_in_used, not_in}
+use Rattle.ptflow.proofs
+use proofs.Common.{◌≡◌, ⊎_elim, ℕ, ◌+◌, ◌*◌, ◌<◌, ◌≤◌, ◌^◌, Bool, true, false, List, [], ◌∷◌, ◌++◌, length, refl, ◌∙◌}
+use proofs.Common.{ap, subst, arith, append_assoc, All, append-nil, All-get_or, lines, max_length, Received, IsPrefix}
+use proofs.Common.{IsConsistent, known_lines, Output, PushEffect, Reader, ReaderAdvance, IsDone, Slots, total_bytes}
+use proofs.Common.{received_with, push_nothing, push_trans, Paste, AddedSlots, reader_at, IsReadable, PastePre, uses_of}
+use proofs.Common.{columns, rows, rows_text, paste, paste_decided, SetTerminatorsPost, SlotsBound, SlotsKept}
+use proofs.Common.{CellsTaken, CellsFilled, AreReceivedLines, AreFirstRows, RowsTaken, RowsWritten, cells_text}
+use proofs.Common.{job_shape, BufferedRowsPre, CallState, CallEnd, CallPost, call_state, call_set, inputs_at, is_in}
+use proofs.Common.{paste_engine, LinesTaken}
+use proofs.PasteLemmas.FillRow.{slots_bound_start, slots_kept_by_lines}
+use proofs.PasteLemmas.RowsTaken.{no_rows, first_rows_trans, filled_row_is_first, filled_row_text}
+use proofs.PasteLemmas.Grid.{Column, last_use, rows_text-append}
+use proofs.Passes.Lines.{max_length-append}
+use proofs.Passes.LinesRead.{lines_on}
+use proofs.PasteLemmas.Lag.{EarlierPart, LagsAt, ended_more, lags_here, decided_is_prefix}
+use proofs.Passes.Readers.{eof_gives_nothing, may_follow}
+use proofs.PasteLemmas.Named.{is_in_used, not_in}
 use Rattle.ptlines.specs.Received.{empty_input}
 
 -- ---- inputs that columns use

@@ -1,24 +1,23 @@
 -- Bounded lag of `paste`: all output that was determined two blocks of an input earlier is pushed. Without its last two
 -- blocks that input has fewer lines than one more row takes, so only rows that were already pushed are determined.
-use Rattle.ptflow.proofs.Common.{◌≡◌, ⊎_elim, ℕ, zero, suc, ◌+◌, ◌-◌, ◌*◌, ◌%◌, ◌<◌, ◌≤◌, ◌==◌, Bool, true, false}
-use Rattle.ptflow.proofs.Common.{List, [], ◌∷◌, ◌++◌, length, take, drop, get_or, map, refl, sym, ◌∙◌, ap, subst, arith}
-use Rattle.ptflow.proofs.Common.{append_assoc, take-append-drop, length-append, length-drop, filter, range_with_len}
-use Rattle.ptflow.proofs.Common.{enumerate_from, cases_eq, cases_lt, cases_Bool, nat_tests, append-nil}
-use Rattle.ptflow.proofs.Common.{append_cancel_right, take-append-le, length-take-le, take_all, take_more, get_or-map}
-use Rattle.ptflow.proofs.Common.{get_or_append_left, length-map, take-map-range_with_len, length-map-range_with_len}
-use Rattle.ptflow.proofs.Common.{map-map, unlines, lines, complete_lines, IsLine, AreLines, Received}
-use Rattle.ptflow.proofs.Common.{IsPrefix, known_lines, ProcessLag, Reader, ReaderAdvance, IsDone, received_with}
-use Rattle.ptflow.proofs.Common.{unlines_push, complete_lines_of_unlines, the_lines, Paste, select_from, update_at}
-use Rattle.ptflow.proofs.Common.{every_kth, uses_of, columns, row_count, row_at, rows, rows_text, is_row_known}
-use Rattle.ptflow.proofs.Common.{known_rows, paste_decided, AreReceivedLines}
+use Rattle.ptflow.proofs
+use proofs.Common.{◌≡◌, ⊎_elim, ℕ, zero, suc, ◌+◌, ◌-◌, ◌*◌, ◌%◌, ◌<◌, ◌≤◌, ◌==◌, Bool, true, false, List, [], ◌∷◌}
+use proofs.Common.{◌++◌, length, take, drop, get_or, map, refl, sym, ◌∙◌, ap, subst, arith, append_assoc}
+use proofs.Common.{take-append-drop, length-append, length-drop, filter, range_with_len, enumerate_from, cases_eq}
+use proofs.Common.{cases_lt, cases_Bool, nat_tests, append-nil, append_cancel_right, take-append-le, length-take-le}
+use proofs.Common.{take_all, take_more, get_or-map, get_or_append_left, length-map, take-map-range_with_len}
+use proofs.Common.{length-map-range_with_len, map-map, unlines, lines, complete_lines, IsLine, AreLines, Received}
+use proofs.Common.{IsPrefix, known_lines, ProcessLag, Reader, ReaderAdvance, IsDone, received_with, unlines_push}
+use proofs.Common.{complete_lines_of_unlines, the_lines, Paste, select_from, update_at, every_kth, uses_of, columns}
+use proofs.Common.{row_count, row_at, rows, rows_text, is_row_known, known_rows, paste_decided, AreReceivedLines}
+use proofs.Common.{complete_lines_cons}
 use Rattle.std.specs.Prelude.{slice_index_or}
-use Rattle.ptflow.proofs.CutLemmas.ShortLines.{select_append}
-use Rattle.ptflow.proofs.PasteLemmas.Grid.{Column, for_each_cell, for_each_cell_same, column_of, uses_before_lt}
-use Rattle.ptflow.proofs.PasteLemmas.Grid.{column_at, length-columns, every_kth_short, is_row_unknown, update_here}
-use Rattle.ptflow.proofs.PasteLemmas.Grid.{update_there, last_use, rows_text-append}
-use Rattle.ptflow.proofs.Passes.Lines.{complete_prefix, line_split}
-use Rattle.ptflow.proofs.Common.{complete_lines_cons}
-use Rattle.ptflow.proofs.Passes.LinesRead.{line_take, lines_are_given}
+use proofs.CutLemmas.ShortLines.{select_append}
+use proofs.PasteLemmas.Grid.{Column, for_each_cell, for_each_cell_same, column_of, uses_before_lt, column_at}
+use proofs.PasteLemmas.Grid.{length-columns, every_kth_short, is_row_unknown, update_here, update_there, last_use}
+use proofs.PasteLemmas.Grid.{rows_text-append}
+use proofs.Passes.Lines.{complete_prefix, line_split}
+use proofs.Passes.LinesRead.{line_take, lines_are_given}
 
 -- ---- one input without its last bytes
 

@@ -1,13 +1,12 @@
 -- The inputs that columns name. Only their texts, and what was received from them, decide the output.
-use Rattle.ptflow.proofs.Common.{◌≡◌, ⊎_elim, ℕ, ◌<◌, ◌==◌, true, false, cond, List, [], ◌∷◌, length, get_or, map}
-use Rattle.ptflow.proofs.Common.{refl, sym, ◌∙◌, ap, subst, arith, append-nil, cases_Bool, cases_lt, eq-eqb, nat_tests}
-use Rattle.ptflow.proofs.Common.{list_any_at, sum_by-cons, Received, IsConsistent, lines, max_line_length}
-use Rattle.ptflow.proofs.Common.{Paste, AreAllConsistent, inputs_at, is_in, uses_of, rows}
-use Rattle.ptflow.proofs.Common.{rows_text, paste, paste_size}
+use Rattle.ptflow.proofs
+use proofs.Common.{◌≡◌, ⊎_elim, ℕ, ◌<◌, ◌==◌, true, false, cond, List, [], ◌∷◌, length, get_or, map, refl, sym, ◌∙◌, ap}
+use proofs.Common.{subst, arith, append-nil, cases_Bool, cases_lt, eq-eqb, nat_tests, list_any_at, sum_by-cons}
+use proofs.Common.{Received, IsConsistent, lines, max_line_length, Paste, AreAllConsistent, inputs_at, is_in, uses_of}
+use proofs.Common.{rows, rows_text, paste, paste_size, known_lines, known_rows, paste_decided}
 use Rattle.std.proofs.lemmas.List.Sums.{sum-map}
-use Rattle.ptflow.proofs.Common.{known_lines, known_rows, paste_decided}
 use Rattle.std.specs.Prelude.{sum}
-use Rattle.ptflow.proofs.PasteLemmas.Grid.{columns_same, last_use}
+use proofs.PasteLemmas.Grid.{columns_same, last_use}
 
 module _ (cells : List ℕ) where
   pub cell_in : (c : ℕ) → c < length cells → is_in cells (get_or cells c 0) ≡ true

@@ -1,12 +1,13 @@
 -- `paste` of inputs that are split after the same row, by induction over the number of rows: the first row of the whole
 -- is the first row of the first parts.
-use Rattle.ptflow.proofs.Common.{◌≡◌, ◌⊎◌, inl, inr, ⊎_elim, ℕ, zero, suc, ◌+◌, ◌*◌, ◌<◌, ◌≤◌, List, [], ◌∷◌, ◌++◌}
-use Rattle.ptflow.proofs.Common.{length, take, drop, get_or, refl, sym, ◌∙◌, ap, arith, append_assoc, take-append-drop}
-use Rattle.ptflow.proofs.Common.{length-drop, cases_lt, append-nil, nil_from_length, length-take-le, take_all, drop_all}
-use Rattle.ptflow.proofs.Common.{lines, the_lines_of_parts, uses_of, columns, rows, IsRowSplit, PasteOfParts}
+use Rattle.ptflow.proofs
+use proofs.Common.{◌≡◌, ◌⊎◌, inl, inr, ⊎_elim, ℕ, zero, suc, ◌+◌, ◌*◌, ◌<◌, ◌≤◌, List, [], ◌∷◌, ◌++◌, length, take}
+use proofs.Common.{drop, get_or, refl, sym, ◌∙◌, ap, arith, append_assoc, take-append-drop, length-drop, cases_lt}
+use proofs.Common.{append-nil, nil_from_length, length-take-le, take_all, drop_all, lines, the_lines_of_parts, uses_of}
+use proofs.Common.{columns, rows, IsRowSplit, PasteOfParts}
 use Rattle.std.proofs.lemmas.List.{length-take}
-use Rattle.ptflow.proofs.PasteLemmas.Grid.{Column, IsOneRow, for_each_cell, top_of, columns_same, uses_before_lt}
-use Rattle.ptflow.proofs.PasteLemmas.Grid.{last_use, grid_none, grid_step, rows_text-append}
+use proofs.PasteLemmas.Grid.{Column, IsOneRow, for_each_cell, top_of, columns_same, uses_before_lt, last_use, grid_none}
+use proofs.PasteLemmas.Grid.{grid_step, rows_text-append}
 
 module _ (cells : List ℕ) where
   -- Some column has a line in the first row, or none has.

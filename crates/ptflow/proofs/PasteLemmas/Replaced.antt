@@ -1,16 +1,15 @@
 -- Bytes of which each terminator is replaced, and how the code replaces them: 64 at a time, where the terminators are
 -- the bits of a mask, and then byte by byte.
-use Rattle.ptflow.proofs.Common.{◌≡◌, ◌≢◌, ℕ, zero, suc, ◌+◌, ◌-◌, ◌%◌, ◌^◌, ◌==◌, ◌<◌, ◌≤◌, Bool, cond, List, [], ◌∷◌}
-use Rattle.ptflow.proofs.Common.{◌++◌, length, map, take, drop, get_or, slice_set, refl, sym, ◌∙◌, ap, arith}
-use Rattle.ptflow.proofs.Common.{append_assoc, bit_and, count_by, count_ones, mask_l, chunk, mod-lt, mod-add-mod}
-use Rattle.ptflow.proofs.Common.{mod-eq_of_lt, take-add, take_at, take-append-drop, take-set-lt, eq-eqb}
-use Rattle.ptflow.proofs.Common.{set-append_right, drop_more, take_more_set, take-set, length-set, sum_by-cons}
-use Rattle.ptflow.proofs.Common.{sum_by-append, is_byte, byte_eq, byte_ne, IsLine, IsNth, length-take-le, length-chunk}
-use Rattle.ptflow.proofs.Common.{length-put_chunk, take_more_put_chunk, put_chunk, ones-mask_l, with_replacements}
-use Rattle.ptflow.proofs.Common.{cycle_byte}
-use Rattle.ptflow.proofs.Common.{IsReplacedTo}
+use Rattle.ptflow.proofs
+use proofs.Common.{◌≡◌, ◌≢◌, ℕ, zero, suc, ◌+◌, ◌-◌, ◌%◌, ◌^◌, ◌==◌, ◌<◌, ◌≤◌, Bool, cond, List, [], ◌∷◌, ◌++◌, length}
+use proofs.Common.{map, take, drop, get_or, slice_set, refl, sym, ◌∙◌, ap, arith, append_assoc, bit_and, count_by}
+use proofs.Common.{count_ones, mask_l, chunk, mod-lt, mod-add-mod, mod-eq_of_lt, take-add, take_at, take-append-drop}
+use proofs.Common.{take-set-lt, eq-eqb, set-append_right, drop_more, take_more_set, take-set, length-set, sum_by-cons}
+use proofs.Common.{sum_by-append, is_byte, byte_eq, byte_ne, IsLine, IsNth, length-take-le, length-chunk}
+use proofs.Common.{length-put_chunk, take_more_put_chunk, put_chunk, ones-mask_l, with_replacements, cycle_byte}
+use proofs.Common.{IsReplacedTo}
 use lib.Count.{count_trailing_zeros}
-use Rattle.ptflow.proofs.Vectors.FindNth.{after_set, cleared, without}
+use proofs.Vectors.FindNth.{after_set, cleared, without}
 use Rattle.ptflow.specs.declared.simd.replace.Cycle.{Cycle}
 
 module _ (end : ℕ) where

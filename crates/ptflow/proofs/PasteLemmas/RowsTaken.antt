@@ -1,18 +1,17 @@
 -- Lines that were taken from a reader, and rows whose lines were taken. They compose: if lines or rows are taken and
 -- then more, the concatenation is taken. One filled row is such a row, since each column takes one line. Its fields,
 -- each with the byte after it, are the joined fields and the terminator.
-use Rattle.ptflow.proofs.Common.{◌≡◌, ◌⊎◌, ⊎_elim, inl, inr, ℕ, ◌+◌, ◌≤◌, List, [], ◌∷◌, ◌++◌, None, length, refl, sym}
-use Rattle.ptflow.proofs.Common.{◌∙◌, ap, arith, length-append, append-nil, lines, AreLines, Reader, ReaderAdvance}
-use Rattle.ptflow.proofs.Common.{AdvanceOk, IsDone, IsSound, Slots, FillLine, advance_trans, unlines-append}
-use Rattle.ptflow.proofs.Common.{lines_of_unlines, AreReceivedLines, LinesTaken, suc, ◌*◌, ◌<◌, true, take, subst}
-use Rattle.ptflow.proofs.Common.{append_assoc, eq-eqb, ne_eqb, cases_lt, nil_from_length, take_all, reader_at, map}
-use Rattle.ptflow.proofs.Common.{unlines, join_with_cycle, uses_of, columns, rows, CellsTaken, CellsFilled, RowShape}
-use Rattle.ptflow.proofs.Common.{after_cell, cells_text, AreFirstRows, RowsTaken, reads_nothing}
-use Rattle.ptflow.proofs.Passes.LinesRead.{lines_none, lines_are_given, lines_more}
-use Rattle.ptflow.proofs.Passes.Readers.{eof_gives_nothing, stays_at_eof}
+use Rattle.ptflow.proofs
+use proofs.Common.{◌≡◌, ◌⊎◌, ⊎_elim, inl, inr, ℕ, ◌+◌, ◌≤◌, List, [], ◌∷◌, ◌++◌, None, length, refl, sym, ◌∙◌, ap}
+use proofs.Common.{arith, length-append, append-nil, lines, AreLines, Reader, ReaderAdvance, AdvanceOk, IsDone, IsSound}
+use proofs.Common.{Slots, FillLine, advance_trans, unlines-append, lines_of_unlines, AreReceivedLines, LinesTaken, suc}
+use proofs.Common.{◌*◌, ◌<◌, true, take, subst, append_assoc, eq-eqb, ne_eqb, cases_lt, nil_from_length, take_all}
+use proofs.Common.{reader_at, map, unlines, join_with_cycle, uses_of, columns, rows, CellsTaken, CellsFilled, RowShape}
+use proofs.Common.{after_cell, cells_text, AreFirstRows, RowsTaken, reads_nothing}
+use proofs.Passes.LinesRead.{lines_none, lines_are_given, lines_more}
+use proofs.Passes.Readers.{eof_gives_nothing, stays_at_eof}
 use Rattle.std.specs.Prelude.{slice_index_or}
-use Rattle.ptflow.proofs.PasteLemmas.Grid.{Column, for_each_cell, for_each_cell_unique, uses_before, grid_step}
-use Rattle.ptflow.proofs.PasteLemmas.Grid.{rows_text-append}
+use proofs.PasteLemmas.Grid.{Column, for_each_cell, for_each_cell_unique, uses_before, grid_step, rows_text-append}
 
 AreLines-append : (end : ℕ) (xs ys : List (List ℕ)) → AreLines end xs → AreLines end ys → AreLines end (xs ++ ys)
 AreLines-append end [] ys p q = q

@@ -1,16 +1,16 @@
 -- The output of `paste -s` from a position on: the bytes with their terminators replaced, as long as more bytes follow.
 -- So the terminator of a line that is the last byte so far is held back.
-use Rattle.ptflow.proofs.Common.{◌≡◌, ⊎_elim, ℕ, ◌+◌, ◌%◌, ◌==◌, ◌<◌, Bool, true, false, cond, List, [], ◌∷◌, ◌++◌}
-use Rattle.ptflow.proofs.Common.{Option, length, length-append, refl, sym, ◌∙◌, ap, arith, append_assoc, onto_first}
-use Rattle.ptflow.proofs.Common.{count_by, cases_Bool, append-nil, append_cancel_right, is_byte, lines, complete_lines}
-use Rattle.ptflow.proofs.Common.{IsPrefix, lines_of_unlines, Paste, delimiter, join_with_cycle, mod-add-mod}
-use Rattle.ptflow.proofs.Common.{paste_serial_decided, with_replacements, row_rest, mod-eq_of_lt, byte_eq, option_to_list}
-use Rattle.ptflow.proofs.Common.{None}
-use Rattle.ptflow.proofs.Common.{Some, IsFirstByte, take, drop, line_before_terminator, sum_by-append, mod-lt}
-use Rattle.ptflow.proofs.Vectors.FindNth.{none_counted}
+use Rattle.ptflow.proofs
+use proofs.Common.{◌≡◌, ⊎_elim, ℕ, ◌+◌, ◌%◌, ◌==◌, ◌<◌, Bool, true, false, cond, List, [], ◌∷◌, ◌++◌, Option, length}
+use proofs.Common.{length-append, refl, sym, ◌∙◌, ap, arith, append_assoc, onto_first, count_by, cases_Bool, append-nil}
+use proofs.Common.{append_cancel_right, is_byte, lines, complete_lines, IsPrefix, lines_of_unlines, Paste, delimiter}
+use proofs.Common.{join_with_cycle, mod-add-mod, paste_serial_decided, with_replacements, row_rest, mod-eq_of_lt}
+use proofs.Common.{byte_eq, option_to_list, None, Some, IsFirstByte, take, drop, line_before_terminator, sum_by-append}
+use proofs.Common.{mod-lt}
+use proofs.Vectors.FindNth.{none_counted}
 use Rattle.std.specs.Prelude.{slice_index_or}
-use Rattle.ptflow.proofs.Passes.Lines.{line_split, split_of}
-use Rattle.ptflow.proofs.PasteLemmas.Replaced.{counted, replaced_line, replaced_mod}
+use proofs.Passes.Lines.{line_split, split_of}
+use proofs.PasteLemmas.Replaced.{counted, replaced_line, replaced_mod}
 
 module _ (end : ℕ) (delims : List (Option ℕ)) where
   -- A byte of a line.

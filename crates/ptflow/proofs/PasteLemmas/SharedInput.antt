@@ -1,24 +1,22 @@
 -- Rows of `paste` whose n columns all read one input. Such a row takes n lines, one for each column; if the terminators
 -- of these lines are replaced by the cycle (the delimiters of the row, and a last entry that keeps the terminator),
 -- they become the row. So bytes with count * n terminators, the last at the end, become `count` rows.
-use Rattle.ptflow.proofs.Common.{◌≡◌, ◌≢◌, ℕ, zero, suc, ◌+◌, ◌-◌, ◌*◌, ◌%◌, ◌<◌, ◌≤◌, cond, List, [], ◌∷◌, ◌++◌, None}
-use Rattle.ptflow.proofs.Common.{length, map, take, drop, set, get_or, refl, sym, ◌∙◌, ap, arith, append_assoc}
-use Rattle.ptflow.proofs.Common.{length-drop, take-append-drop, ⊎_elim, inl, count_by, cases_eq, cases_lt, mod-mul-add}
-use Rattle.ptflow.proofs.Common.{take_more, take_all, nil_from_length, length-take-le, length-set, All-get_or}
-use Rattle.ptflow.proofs.Common.{sum_by-append, sum_by-set, is_byte}
-use Rattle.ptflow.proofs.Common.{unlines, lines, AreLines, EndsWithByte, Output, PushEffect, push_nothing}
-use Rattle.ptflow.proofs.Common.{Reader, IsSound, budget, advance_ok_take, byte_eq, unlines-append, lines_are}
-use Rattle.ptflow.proofs.Common.{the_lines, no_reader, reader_at, update_at, join_with_cycle, uses_of, columns, rows}
-use Rattle.ptflow.proofs.Common.{IsSharedCycle, IsWholeRows, LinesTaken, with_replacements, cycle_byte, after_cell}
-use Rattle.ptflow.proofs.Common.{cells_text}
-use Rattle.ptflow.proofs.Common.{mod-eq_of_lt, RowShape, BufferedRowsPre, RowsTaken, RowsWritten, nat_tests}
-use Rattle.ptflow.proofs.Vectors.FindNth.{none_counted}
-use Rattle.ptflow.proofs.PasteLemmas.Grid.{Column, for_each_cell_unique, top_of, grid_step, uses_here, uses_before_lt}
-use Rattle.ptflow.proofs.PasteLemmas.Grid.{last_use, update_here, update_there}
-use Rattle.ptflow.proofs.PasteLemmas.FillRow.{each_reader}
-use Rattle.ptflow.proofs.PasteLemmas.RowsTaken.{nothing_taken, rows_taken_none, row_text}
-use Rattle.ptflow.proofs.PasteLemmas.BufferedRows.{consumed_none, consumed_more}
-use Rattle.ptflow.proofs.PasteLemmas.Replaced.{counted, replaced-append, replaced_line}
+use Rattle.ptflow.proofs
+use proofs.Common.{◌≡◌, ◌≢◌, ℕ, zero, suc, ◌+◌, ◌-◌, ◌*◌, ◌%◌, ◌<◌, ◌≤◌, cond, List, [], ◌∷◌, ◌++◌, None, length, map}
+use proofs.Common.{take, drop, set, get_or, refl, sym, ◌∙◌, ap, arith, append_assoc, length-drop, take-append-drop}
+use proofs.Common.{⊎_elim, inl, count_by, cases_eq, cases_lt, mod-mul-add, take_more, take_all, nil_from_length}
+use proofs.Common.{length-take-le, length-set, All-get_or, sum_by-append, sum_by-set, is_byte, unlines, lines, AreLines}
+use proofs.Common.{EndsWithByte, Output, PushEffect, push_nothing, Reader, IsSound, budget, advance_ok_take, byte_eq}
+use proofs.Common.{unlines-append, lines_are, the_lines, no_reader, reader_at, update_at, join_with_cycle, uses_of}
+use proofs.Common.{columns, rows, IsSharedCycle, IsWholeRows, LinesTaken, with_replacements, cycle_byte, after_cell}
+use proofs.Common.{cells_text, mod-eq_of_lt, RowShape, BufferedRowsPre, RowsTaken, RowsWritten, nat_tests}
+use proofs.Vectors.FindNth.{none_counted}
+use proofs.PasteLemmas.Grid.{Column, for_each_cell_unique, top_of, grid_step, uses_here, uses_before_lt, last_use}
+use proofs.PasteLemmas.Grid.{update_here, update_there}
+use proofs.PasteLemmas.FillRow.{each_reader}
+use proofs.PasteLemmas.RowsTaken.{nothing_taken, rows_taken_none, row_text}
+use proofs.PasteLemmas.BufferedRows.{consumed_none, consumed_more}
+use proofs.PasteLemmas.Replaced.{counted, replaced-append, replaced_line}
 use Rattle.ptflow.specs.declared.simd.replace.Cycle.{Cycle}
 
 -- ---- complete rows are known by the number of terminators

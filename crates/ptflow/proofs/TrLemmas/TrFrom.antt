@@ -1,15 +1,13 @@
 -- The output of `tr` for the rest of a text, and for a text that is cut anywhere. A byte is kept or removed by the last
 -- output byte alone, so that byte is the only state, from block to block and within a block.
-use Rattle.ptflow.proofs.Common.{common_steps, ◌≡◌, ℕ, ◌-◌, ◌==◌, ◌&&◌, not, eqb, Bool, true, false, cond, List, []}
-use Rattle.ptflow.proofs.Common.{◌∷◌, ◌++◌}
-use Rattle.ptflow.proofs.Common.{Option, None, Some, map, length, refl, ap, arith, filter, slice_get, last_or}
-use Rattle.ptflow.proofs.Common.{option_eq, option_or, append-nil, map-append, filter-append, IsPrefix, Tables, deletes}
-use Rattle.ptflow.proofs.Common.{image, squeezes, is_not_repeat, squeeze_after, translation, tr, tr_decided}
-use Rattle.ptflow.proofs.Common.{squeeze_from, tr_from, ⊎_elim, sym, cases_Bool, eq-eqb, eqb-true, squeeze, BeginsWith}
-use Rattle.ptflow.proofs.Common.{Each1, Fits, w8, suc, ◌<◌, drop, from_bool, get_or, kept_bytes, set, take}
-use Rattle.ptflow.proofs.Common.{take_more_set}
-use Rattle.ptflow.proofs.Common.{EndsWith, TrOfAnyParts, TrOfParts, TrAfterByte, TrMeetsTwice, and_right}
-use Rattle.ptflow.proofs.Vectors.Lanes.{bytes_fit}
+use Rattle.ptflow.proofs
+use proofs.Common.{common_steps, ◌≡◌, ℕ, ◌-◌, ◌==◌, ◌&&◌, not, eqb, Bool, true, false, cond, List, [], ◌∷◌, ◌++◌}
+use proofs.Common.{Option, None, Some, map, length, refl, ap, arith, filter, slice_get, last_or, option_eq, option_or}
+use proofs.Common.{append-nil, map-append, filter-append, IsPrefix, Tables, deletes, image, squeezes, is_not_repeat}
+use proofs.Common.{squeeze_after, translation, tr, tr_decided, squeeze_from, tr_from, ⊎_elim, sym, cases_Bool, eq-eqb}
+use proofs.Common.{eqb-true, squeeze, BeginsWith, Each1, Fits, w8, suc, ◌<◌, drop, from_bool, get_or, kept_bytes, set}
+use proofs.Common.{take, take_more_set, EndsWith, TrOfAnyParts, TrOfParts, TrAfterByte, TrMeetsTwice, and_right}
+use proofs.Vectors.Lanes.{bytes_fit}
 
 module _ (squeezed : ℕ → Bool) where
   pub after_one_byte : (last b : ℕ) (bytes : List ℕ)

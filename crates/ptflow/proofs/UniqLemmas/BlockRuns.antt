@@ -1,20 +1,20 @@
 -- The runs of the lines of a block, line by line. A line either has the key of the run before it, and adds to its
 -- count, or ends it. Output that is contiguous in the block is deferred, so the pushed bytes and the deferred ones
 -- together are the output so far.
-use Rattle.ptflow.proofs.Common.{◌≡◌, ℕ, ◌+◌, ◌-◌, ◌<◌, ◌≤◌, ◌&&◌, Bool, true, false, List, [], ◌∷◌, ◌++◌, Some, None}
-use Rattle.ptflow.proofs.Common.{Option, length, take, drop, refl, sym, subst, ◌∙◌, ap, arith, append_assoc}
-use Rattle.ptflow.proofs.Common.{length-append, common_steps, bytes_eq, nat_lt, slice_range, drop_split, append-nil}
-use Rattle.ptflow.proofs.Common.{length-drop, take_at, drop_at, IsFirstByte, is_byte, Output, PushEffect, unlines}
-use Rattle.ptflow.proofs.Common.{complete_lines, IsLine, push_nothing, unlines_push, complete_lines_none, Uniq, Run}
-use Rattle.ptflow.proofs.Common.{key, is_same, output_of, run_of, current_run, runs_after, has_output, RunsWritten}
-use Rattle.ptflow.proofs.Common.{RunsFailed, span_of, IsSpan, IsPending}
+use Rattle.ptflow.proofs
+use proofs.Common.{◌≡◌, ℕ, ◌+◌, ◌-◌, ◌<◌, ◌≤◌, ◌&&◌, Bool, true, false, List, [], ◌∷◌, ◌++◌, Some, None, Option, length}
+use proofs.Common.{take, drop, refl, sym, subst, ◌∙◌, ap, arith, append_assoc, length-append, common_steps, bytes_eq}
+use proofs.Common.{nat_lt, slice_range, drop_split, append-nil, length-drop, take_at, drop_at, IsFirstByte, is_byte}
+use proofs.Common.{Output, PushEffect, unlines, complete_lines, IsLine, push_nothing, unlines_push, complete_lines_none}
+use proofs.Common.{Uniq, Run, key, is_same, output_of, run_of, current_run, runs_after, has_output, RunsWritten}
+use proofs.Common.{RunsFailed, span_of, IsSpan, IsPending}
 use Rattle.ptlines.proofs.Consume.{length_range}
 use Rattle.ptflow.specs.Private.Uniq.BlockRuns.{EndRunPre, IsLineSpan, first_of}
 use Rattle.ptflow.specs.Private.Uniq.RunsFrom.{count_prefix, run_text}
 use Rattle.ptflow.specs.declared.tools.uniq.block_runs.Span.{Span}
-use Rattle.ptflow.proofs.Passes.Prefix.{wrote_then}
-use Rattle.ptflow.proofs.Passes.Lines.{split_of, ended_next}
-use Rattle.ptflow.proofs.UniqLemmas.RunsFrom.{runs_after_more, runs_after_next, entries-append, current_run_is}
+use proofs.Passes.Prefix.{wrote_then}
+use proofs.Passes.Lines.{split_of, ended_next}
+use proofs.UniqLemmas.RunsFrom.{runs_after_more, runs_after_next, entries-append, current_run_is}
 
 -- ---- lines before the rest of a block
 

@@ -1,13 +1,14 @@
 -- The current run of `uniq`, for one line and for the lines of a block. The items of the tool are runs: a line of
 -- another key ends the current run, whose output is known then.
-use Rattle.ptflow.proofs.Common.{◌≡◌, ℕ, ◌<◌, false, List, [], ◌∷◌, ◌++◌, None, Some, length, sym, ◌∙◌, common_steps}
-use Rattle.ptflow.proofs.Common.{ap, arith, swap, is_some, append-nil, get_or-set_other, IsFirstByte, is_byte}
-use Rattle.ptflow.proofs.Common.{known_lines, Slots, line, complete_lines, line_if_not_found, complete_lines_none, Uniq}
-use Rattle.ptflow.proofs.Common.{Option, runs, output_of, uniq_tool, IsLineFilter, Output, first_line, current_run_of}
-use Rattle.ptflow.proofs.Common.{run_of, count_of, current_run, runs_after, run_output, Result, refl}
+use Rattle.ptflow.proofs
+use proofs.Common.{◌≡◌, ℕ, ◌<◌, false, List, [], ◌∷◌, ◌++◌, None, Some, length, sym, ◌∙◌, common_steps, ap, arith, swap}
+use proofs.Common.{is_some, append-nil, get_or-set_other, IsFirstByte, is_byte, known_lines, Slots, line}
+use proofs.Common.{complete_lines, line_if_not_found, complete_lines_none, Uniq, Option, runs, output_of, uniq_tool}
+use proofs.Common.{IsLineFilter, Output, first_line, current_run_of, run_of, count_of, current_run, runs_after}
+use proofs.Common.{run_output, Result, refl}
 use Rattle.ptlines.specs.Outputs.{PushPost}
 use Rattle.ptflow.specs.declared.tools.uniq.CurrentRun.{CurrentRun}
-use Rattle.ptflow.proofs.UniqLemmas.RunsFrom.{entries-append, init_current}
+use proofs.UniqLemmas.RunsFrom.{entries-append, init_current}
 
 -- after the first two slots were swapped
 pub swapped_first : (store : Slots) {after : Slots} → 1 < length store.lines

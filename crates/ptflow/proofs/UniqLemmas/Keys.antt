@@ -1,9 +1,10 @@
 -- The key of a line, in one pass. Skipping a field is skipping blanks and then other bytes; doing so n times leads to
 -- the byte after the n-th field end.
-use Rattle.ptflow.proofs.Common.{◌≡◌, ℕ, zero, suc, ◌+◌, ◌<◌, ◌≤◌, Bool, true, false, cond, min, ltb, List, [], ◌∷◌}
-use Rattle.ptflow.proofs.Common.{None, Some, length, drop, get_or, refl, sym, ◌∙◌, arith, common_steps, slice_get}
-use Rattle.ptflow.proofs.Common.{option_map_or, drop-drop, nat_tests, IsFirstByte, Nowhere, Passes, is_byte, is_byte2}
-use Rattle.ptflow.proofs.Common.{is_blank, ends_word, word_ends, after_fields, after_nonblanks}
+use Rattle.ptflow.proofs
+use proofs.Common.{◌≡◌, ℕ, zero, suc, ◌+◌, ◌<◌, ◌≤◌, Bool, true, false, cond, min, ltb, List, [], ◌∷◌, None, Some}
+use proofs.Common.{length, drop, get_or, refl, sym, ◌∙◌, arith, common_steps, slice_get, option_map_or, drop-drop}
+use proofs.Common.{nat_tests, IsFirstByte, Nowhere, Passes, is_byte, is_byte2, is_blank, ends_word, word_ends}
+use proofs.Common.{after_fields, after_nonblanks}
 use Rattle.std.specs.Prelude.{◌==◌}
 
 -- the rest of these bytes after n more field ends

@@ -1,12 +1,12 @@
 -- `uniq` for a text that is cut between two runs, or whose lines are distributed by their keys. Lines with different
 -- keys are in different runs, so no run is cut or merged.
-use Rattle.ptflow.proofs.Common.{common_steps, arith, ◌≡◌, ◌⊎◌, inl, inr, ⊎_elim, ℕ, ◌+◌, Bool, true, false, cond, List}
-use Rattle.ptflow.proofs.Common.{[], ◌∷◌, ◌++◌, refl, sym, ◌∙◌, ap, filter, AllByRecursion, cases_Bool}
-use Rattle.ptflow.proofs.Common.{bytes_eq-Decides, the_lines_of_parts, lines-unlines, lines_are, Uniq}
-use Rattle.ptflow.proofs.Common.{Run, key, is_same, cons_run, runs, BeginsWith, EndsWith, HasGroupedKeys, UniqOfParts}
-use Rattle.ptflow.proofs.Common.{UniqByKey, run_of}
+use Rattle.ptflow.proofs
+use proofs.Common.{common_steps, arith, ◌≡◌, ◌⊎◌, inl, inr, ⊎_elim, ℕ, ◌+◌, Bool, true, false, cond, List, [], ◌∷◌}
+use proofs.Common.{◌++◌, refl, sym, ◌∙◌, ap, filter, AllByRecursion, cases_Bool, bytes_eq-Decides, the_lines_of_parts}
+use proofs.Common.{lines-unlines, lines_are, Uniq, Run, key, is_same, cons_run, runs, BeginsWith, EndsWith}
+use proofs.Common.{HasGroupedKeys, UniqOfParts, UniqByKey, run_of}
 use Rattle.std.specs.Prelude.{◌≢◌}
-use Rattle.ptflow.proofs.UniqLemmas.RunsFrom.{entries-append}
+use proofs.UniqLemmas.RunsFrom.{entries-append}
 
 module _ (job : Uniq) where
   other_key : (a b : List ℕ) → key job a ≢ key job b → is_same job a b ≡ false

@@ -1,9 +1,9 @@
 -- The runs of some lines, from the first line on. A run that is continued by the first of some lines is one of their
 -- runs with a larger count.
-use Rattle.ptflow.proofs.Common.{◌≡◌, ℕ, ◌+◌, ◌&&◌, Bool, true, false, cond, List, [], ◌∷◌, ◌++◌, refl, ap}
-use Rattle.ptflow.proofs.Common.{arith, common_steps, nat_lt, nat_tests, append-nil, bytes_eq-Decides}
-use Rattle.ptflow.proofs.Common.{IsPrefix, Uniq, Run, key, is_same, cons_run, runs, output_of, init, run_of}
-use Rattle.ptflow.proofs.Common.{current_run, runs_from, runs_after, run_output}
+use Rattle.ptflow.proofs
+use proofs.Common.{◌≡◌, ℕ, ◌+◌, ◌&&◌, Bool, true, false, cond, List, [], ◌∷◌, ◌++◌, refl, ap, arith, common_steps}
+use proofs.Common.{nat_lt, nat_tests, append-nil, bytes_eq-Decides, IsPrefix, Uniq, Run, key, is_same, cons_run, runs}
+use proofs.Common.{output_of, init, run_of, current_run, runs_from, runs_after, run_output}
 
 some_lines : (n : ℕ) → nat_lt 0 (n + 1) ≡ true
 some_lines n = grind (arith, nat_tests)

@@ -1,17 +1,16 @@
 -- Membership tests of a byte set. The tables are filled flag by flag, and each flag is one bit of one entry; a test
 -- looks up the entry and the bit of each byte.
-use Rattle.ptflow.proofs.Common.{◌≡◌, ℕ, suc, ◌+◌, ◌*◌, ◌/◌, ◌%◌, ◌<◌, ◌≤◌, ◌^◌, ◌&&◌, ◌||◌, Bool, true}
-use Rattle.ptflow.proofs.Common.{false, List}
-use Rattle.ptflow.proofs.Common.{[], ◌∷◌, length, map, cond, leb, ltb, eqb, zero, ◌≢◌, ⊎_elim, get_or, get_or-drop}
-use Rattle.ptflow.proofs.Common.{drop, ◌-◌, set, bit_or, replicate, negsuc, pos, bit_and, refl, ap, ◌∙◌, arith, w8}
-use Rattle.ptflow.proofs.Common.{Fits, top, zip2, sel_l, Each1, cast_signed, bit_at, from_bool, swz_l, SwzOk}
-use Rattle.ptflow.proofs.Common.{SwzOk-from_below, zip2_splat, zip2_of_maps, map-map, and_mask, lt-ltb, le-ltb}
-use Rattle.ptflow.proofs.Common.{cases_eq, cases_lt, nat_tests, pow_pos, length-map}
-use Rattle.ptflow.proofs.Common.{set-get_or, get_or-set_same, get_or-set_other, table_has, set_has, IsSetOf, mask_of}
+use Rattle.ptflow.proofs
+use proofs.Common.{◌≡◌, ℕ, suc, ◌+◌, ◌*◌, ◌/◌, ◌%◌, ◌<◌, ◌≤◌, ◌^◌, ◌&&◌, ◌||◌, Bool, true, false, List, [], ◌∷◌, length}
+use proofs.Common.{map, cond, leb, ltb, eqb, zero, ◌≢◌, ⊎_elim, get_or, get_or-drop, drop, ◌-◌, set, bit_or, replicate}
+use proofs.Common.{negsuc, pos, bit_and, refl, ap, ◌∙◌, arith, w8, Fits, top, zip2, sel_l, Each1, cast_signed, bit_at}
+use proofs.Common.{from_bool, swz_l, SwzOk, SwzOk-from_below, zip2_splat, zip2_of_maps, map-map, and_mask, lt-ltb}
+use proofs.Common.{le-ltb, cases_eq, cases_lt, nat_tests, pow_pos, length-map, set-get_or, get_or-set_same}
+use proofs.Common.{get_or-set_other, table_has, set_has, IsSetOf, mask_of}
 use Rattle.std.proofs.lemmas.Nat.Bits.{and_pow, bit_at-lt, bit_at_set_same, bit_at_set_other}
 use Rattle.std.specs.Int.Bits.{or_zero_r}
 use Rattle.ptflow.specs.declared.simd.byte_set.ByteSet.{ByteSet}
-use Rattle.ptflow.proofs.Vectors.Lanes.{sel_maps, mask_right, bytes_same}
+use proofs.Vectors.Lanes.{sel_maps, mask_right, bytes_same}
 
 -- ---- a table of 16 entries, indexed by a nibble of each byte
 

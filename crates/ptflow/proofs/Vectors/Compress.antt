@@ -1,15 +1,13 @@
 -- Compression. A row has the indices of the set flags of a mask, in order; a shuffle by it moves the selected lanes to
 -- the front, and a mask of 16 flags is handled as two of eight.
-use Rattle.ptflow.proofs.Common.{common_steps, ◌≡◌, ℕ, zero, suc, ◌+◌, ◌*◌, ◌^◌, ◌/◌, ◌%◌, ◌<◌, ◌≤◌, Bool, true, false}
-use Rattle.ptflow.proofs.Common.{cond, List}
-use Rattle.ptflow.proofs.Common.{[], ◌∷◌, ◌++◌, map, length, take, drop, set, get_or, length-drop, drop-cons}
-use Rattle.ptflow.proofs.Common.{append_assoc, add-one, refl, sym, ◌∙◌, ap, arith, w8, All, nat_eq, nat_le}
-use Rattle.ptflow.proofs.Common.{range_with_len, mask_l, put_chunk, chunk, pick_l, Each1, take_more_put_chunk}
-use Rattle.ptflow.proofs.Common.{bit_mask_l, mask_l-lt, Each1-from_get_or, swz_l, ones-mask_l_cons}
-use Rattle.ptflow.proofs.Common.{pick_l-range_with_len, take-map, take-take, take_more, take_all, take-append-le}
-use Rattle.ptflow.proofs.Common.{drop-append-le, length-take-le, length-range_with_len, get_or-range_with_len}
-use Rattle.ptflow.proofs.Common.{take-append-add, and_numeral, nat_tests, pow-succ', select_by, true_indices}
-use Rattle.ptflow.proofs.Common.{IsCompressRow, IsCompressTable}
+use Rattle.ptflow.proofs
+use proofs.Common.{common_steps, ◌≡◌, ℕ, zero, suc, ◌+◌, ◌*◌, ◌^◌, ◌/◌, ◌%◌, ◌<◌, ◌≤◌, Bool, true, false, cond, List}
+use proofs.Common.{[], ◌∷◌, ◌++◌, map, length, take, drop, set, get_or, length-drop, drop-cons, append_assoc, add-one}
+use proofs.Common.{refl, sym, ◌∙◌, ap, arith, w8, All, nat_eq, nat_le, range_with_len, mask_l, put_chunk, chunk, pick_l}
+use proofs.Common.{Each1, take_more_put_chunk, bit_mask_l, mask_l-lt, Each1-from_get_or, swz_l, ones-mask_l_cons}
+use proofs.Common.{pick_l-range_with_len, take-map, take-take, take_more, take_all, take-append-le, drop-append-le}
+use proofs.Common.{length-take-le, length-range_with_len, get_or-range_with_len, take-append-add, and_numeral}
+use proofs.Common.{nat_tests, pow-succ', select_by, true_indices, IsCompressRow, IsCompressTable}
 use Rattle.std.specs.Prelude.{bit_and, slice_index_or, count_ones}
 use Rattle.ptlines.proofs.MatchMasks.{mask_append}
 

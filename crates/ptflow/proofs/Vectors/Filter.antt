@@ -1,14 +1,13 @@
 -- Bytes that a filter keeps. Each byte is kept or removed by itself and the byte that it is compared with, so a text
 -- can be processed in pieces, one after another; a piece is kept whole if all bits of its mask are set.
-use Rattle.ptflow.proofs.Common.{common_steps, ◌≡◌, ℕ, ◌+◌, ◌<◌, ◌≤◌, ◌^◌, ◌&&◌, ◌%◌, Bool, true, false, cond, List, []}
-use Rattle.ptflow.proofs.Common.{◌∷◌, ◌++◌, not, eqb, length, map, filter, take, drop, refl, sym, ◌∙◌, ap}
-use Rattle.ptflow.proofs.Common.{arith, append_assoc, append-nil, take-append-drop, take-add, drop-drop, drop_all, w8}
-use Rattle.ptflow.proofs.Common.{chunk, length-chunk, zip2, mask_l, mask_l-mod, length-zip2, bit_and}
-use Rattle.ptflow.proofs.Common.{top, cast_unsigned, select_by, mask_of, is_not_repeat, keep_flags}
-use Rattle.ptflow.proofs.Common.{kept_bytes, FilterPre, pow-succ', negsuc, pos, ℤ}
-use Rattle.ptflow.proofs.Common.{bit_or, mask_l-lt, ◌-◌}
+use Rattle.ptflow.proofs
+use proofs.Common.{common_steps, ◌≡◌, ℕ, ◌+◌, ◌<◌, ◌≤◌, ◌^◌, ◌&&◌, ◌%◌, Bool, true, false, cond, List, [], ◌∷◌, ◌++◌}
+use proofs.Common.{not, eqb, length, map, filter, take, drop, refl, sym, ◌∙◌, ap, arith, append_assoc, append-nil}
+use proofs.Common.{take-append-drop, take-add, drop-drop, drop_all, w8, chunk, length-chunk, zip2, mask_l, mask_l-mod}
+use proofs.Common.{length-zip2, bit_and, top, cast_unsigned, select_by, mask_of, is_not_repeat, keep_flags, kept_bytes}
+use proofs.Common.{FilterPre, pow-succ', negsuc, pos, ℤ, bit_or, mask_l-lt, ◌-◌}
 use Rattle.std.proofs.lemmas.Nat.{and_le_l, and_le_r, le_or_l, le_or_r}
-use Rattle.ptflow.proofs.Vectors.Lanes.{lanes_of, tops_of_lanes}
+use proofs.Vectors.Lanes.{lanes_of, tops_of_lanes}
 
 chunk_parts : (at n m : ℕ) (from : List ℕ) → chunk at (n + m) from ≡ chunk at n from ++ chunk (at + n) m from
 chunk_parts at n m from = cc (take-add n m (drop at from), drop-drop n at from)

@@ -1,21 +1,20 @@
 -- The n-th item of a list that passes a test, by the bits of a mask of which the lowest n are cleared; a field starts
 -- after the n-th delimiter. Then the terminators in 64 bytes, which are processed in order by clearing the lowest bit.
-use Rattle.ptflow.proofs.Common.{◌≡◌, ℕ, zero, suc, ◌+◌, ◌-◌, ◌*◌, ◌/◌, ◌%◌, ◌^◌, ◌<◌, ◌≤◌, min, Bool, true}
-use Rattle.ptflow.proofs.Common.{false, cond, not, Option, Some, List, [], ◌∷◌, length, map, take, drop, get_or, refl}
-use Rattle.ptflow.proofs.Common.{sym, ◌∙◌, ap, subst, arith, get_or-take, length-drop, count_ones, count_by}
-use Rattle.ptflow.proofs.Common.{prefix_len, mask_l, chunk, take-add, take-take, length-take-le, get_or-le-sum_by}
-use Rattle.ptflow.proofs.Common.{sum_by-cons, sum_by-append, sum_by-take-le, trailing_mask_l, ones-mask_l}
-use Rattle.ptflow.proofs.Common.{get_or-chunk, length-chunk, IsFirstByte, NoneBefore, Passes, is_byte}
-use Rattle.ptflow.proofs.Common.{line_before_terminator, line_if_not_found, Nowhere, None, option_map}
-use Rattle.ptflow.proofs.Common.{nowhere_trans, IsLine, byte_ne, IsNth, HasTerminators, count_by_more_yes}
-use Rattle.ptflow.proofs.Common.{length-map, common_steps}
+use Rattle.ptflow.proofs
+use proofs.Common.{◌≡◌, ℕ, zero, suc, ◌+◌, ◌-◌, ◌*◌, ◌/◌, ◌%◌, ◌^◌, ◌<◌, ◌≤◌, min, Bool, true, false, cond, not, Option}
+use proofs.Common.{Some, List, [], ◌∷◌, length, map, take, drop, get_or, refl, sym, ◌∙◌, ap, subst, arith, get_or-take}
+use proofs.Common.{length-drop, count_ones, count_by, prefix_len, mask_l, chunk, take-add, take-take, length-take-le}
+use proofs.Common.{get_or-le-sum_by, sum_by-cons, sum_by-append, sum_by-take-le, trailing_mask_l, ones-mask_l}
+use proofs.Common.{get_or-chunk, length-chunk, IsFirstByte, NoneBefore, Passes, is_byte, line_before_terminator}
+use proofs.Common.{line_if_not_found, Nowhere, None, option_map, nowhere_trans, IsLine, byte_ne, IsNth, HasTerminators}
+use proofs.Common.{count_by_more_yes, length-map, common_steps}
 use Rattle.std.proofs.lemmas.List.{get_or-drop, drop-map}
 use Rattle.std.proofs.Common.{pow-suc, mul_comm, div-one}
 use Rattle.std.proofs.Math.Nat.{div-div-eq-div-mul, zero-div}
-use Rattle.ptflow.proofs.Vectors.Lanes.{map-id}
+use proofs.Vectors.Lanes.{map-id}
 use lib.Bits.{bit_and, and_step, and_self, and_zero_l}
 use lib.Count.{count_trailing_zeros}
-use Rattle.ptflow.proofs.CutLemmas.FieldOffsets.{rest_of}
+use proofs.CutLemmas.FieldOffsets.{rest_of}
 
 -- ---- bits of a mask
 

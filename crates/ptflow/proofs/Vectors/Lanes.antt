@@ -1,15 +1,12 @@
 -- Vector operations, byte by byte: values that are computed for each lane, and the lanes of flags. Each of them is a
 -- `map` over the lanes, so facts about one byte carry over.
-use Rattle.ptflow.proofs.Common.{common_steps, ◌≡◌, ℕ, ◌+◌, ◌<◌, ◌≤◌, ◌%◌, Bool, false, List, [], ◌∷◌, ◌++◌, Option}
-use Rattle.ptflow.proofs.Common.{map, take, drop}
-use Rattle.ptflow.proofs.Common.{length, get_or, replicate, cond, refl, sym, ◌∙◌, ap, arith, w8, Fits, sum_by, zero}
-use Rattle.ptflow.proofs.Common.{suc, slice_get, option_map, sel_l, zip2, top, Each1, take-add, false≢true, map-append}
-use Rattle.ptflow.proofs.Common.{tops_compared, zip2_splat, zip2_of_maps, splat_is_map, Each1-from_get_or, shift_at}
-use Rattle.ptflow.proofs.Common.{stretch_delta, pos, negsuc, filter}
-use Rattle.ptflow.proofs.Common.{cast_unsigned}
-use Rattle.ptflow.proofs.Common.{mask_of, true, set, take_more_set, take-set, take_more}
-use Rattle.ptflow.proofs.Common.{append-nil, add-one}
-use Rattle.ptflow.proofs.Common.{sum_by-append, sum_by-cons, range_delta, shift_by_ranges}
+use Rattle.ptflow.proofs
+use proofs.Common.{common_steps, ◌≡◌, ℕ, ◌+◌, ◌<◌, ◌≤◌, ◌%◌, Bool, false, List, [], ◌∷◌, ◌++◌, Option, map, take, drop}
+use proofs.Common.{length, get_or, replicate, cond, refl, sym, ◌∙◌, ap, arith, w8, Fits, sum_by, zero, suc, slice_get}
+use proofs.Common.{option_map, sel_l, zip2, top, Each1, take-add, false≢true, map-append, tops_compared, zip2_splat}
+use proofs.Common.{zip2_of_maps, splat_is_map, Each1-from_get_or, shift_at, stretch_delta, pos, negsuc, filter}
+use proofs.Common.{cast_unsigned, mask_of, true, set, take_more_set, take-set, take_more, append-nil, add-one}
+use proofs.Common.{sum_by-append, sum_by-cons, range_delta, shift_by_ranges}
 use Rattle.std.specs.Prelude.{is_some}
 use Rattle.ptflow.specs.declared.simd.shift.ShiftRange.{ShiftRange}
 pub use Rattle.std.proofs.lemmas.List.{map-id}

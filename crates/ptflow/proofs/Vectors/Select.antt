@@ -1,14 +1,12 @@
 -- The items of a list that intervals select. Disjoint ascending intervals select one after another, and each selects a
 -- slice; so the selected items are these slices in order.
-use Rattle.ptflow.proofs.Common.{common_steps, ◌≡◌, ⊎_elim, ℕ, zero, suc, ◌+◌, ◌-◌, ◌<◌, ◌≤◌, Bool, true, false, cond}
-use Rattle.ptflow.proofs.Common.{◌&&◌, ◌||◌}
-use Rattle.ptflow.proofs.Common.{List, [], ◌∷◌, ◌++◌, length, take, drop, get_or, min, append_assoc, length-drop}
-use Rattle.ptflow.proofs.Common.{refl, sym, ◌∙◌, ap, arith, nat_le, false≢true, nat_tests, take_all, drop_all}
-use Rattle.ptflow.proofs.Common.{take-take, drop_more, length-take-le, drop-append-le, is_selected, AreSeparated}
-use Rattle.ptflow.proofs.Common.{Interval}
-use Rattle.ptflow.proofs.Common.{select_from, cases_lt}
+use Rattle.ptflow.proofs
+use proofs.Common.{common_steps, ◌≡◌, ⊎_elim, ℕ, zero, suc, ◌+◌, ◌-◌, ◌<◌, ◌≤◌, Bool, true, false, cond, ◌&&◌, ◌||◌}
+use proofs.Common.{List, [], ◌∷◌, ◌++◌, length, take, drop, get_or, min, append_assoc, length-drop, refl, sym, ◌∙◌, ap}
+use proofs.Common.{arith, nat_le, false≢true, nat_tests, take_all, drop_all, take-take, drop_more, length-take-le}
+use proofs.Common.{drop-append-le, is_selected, AreSeparated, Interval, select_from, cases_lt}
 use Rattle.std.proofs.lemmas.List.{take-append-drop}
-use Rattle.ptflow.proofs.CutLemmas.FieldOffsets.{rest_of}
+use proofs.CutLemmas.FieldOffsets.{rest_of}
 use lib.Seq.{take-nil}
 
 -- the position is in the interval

@@ -1,14 +1,13 @@
 -- Tables of images. Of each lane, the vectors that are left have in the row of the lane what was found for it. Each
 -- step halves the rows, and takes of two vectors the one that the lowest bit of the row names.
-use Rattle.ptflow.proofs.Common.{common_steps, ◌≡◌, ◌<◌, ◌≤◌, ◌∙◌, ℕ, zero, suc, ◌*◌, ◌+◌, ◌-◌, ◌/◌, ◌%◌, List, [], All}
-use Rattle.ptflow.proofs.Common.{map, not}
-use Rattle.ptflow.proofs.Common.{length, length-map, length-set, set, sel_l, eqb, bit_and}
-use Rattle.ptflow.proofs.Common.{and_mask, ap, arith, cases_eq, cond, get_or, get_or-chunk, get_or-map, ⊎_elim}
-use Rattle.ptflow.proofs.Common.{Bool, Each1, Fits, cases_lt, chunk, ext_get_or, false, get_or-set_other, ltb, w8, ◌^◌}
-use Rattle.ptflow.proofs.Common.{get_or-set_same, get_or_default, get_or_past, inl, inr, ◌⊎◌, le-ltb, lt-ltb}
-use Rattle.ptflow.proofs.Common.{min, replicate, sym, top, zip2, zip2_splat}
+use Rattle.ptflow.proofs
+use proofs.Common.{common_steps, ◌≡◌, ◌<◌, ◌≤◌, ◌∙◌, ℕ, zero, suc, ◌*◌, ◌+◌, ◌-◌, ◌/◌, ◌%◌, List, [], All, map, not}
+use proofs.Common.{length, length-map, length-set, set, sel_l, eqb, bit_and, and_mask, ap, arith, cases_eq, cond}
+use proofs.Common.{get_or, get_or-chunk, get_or-map, ⊎_elim, Bool, Each1, Fits, cases_lt, chunk, ext_get_or, false}
+use proofs.Common.{get_or-set_other, ltb, w8, ◌^◌, get_or-set_same, get_or_default, get_or_past, inl, inr, ◌⊎◌, le-ltb}
+use proofs.Common.{lt-ltb, min, replicate, sym, top, zip2, zip2_splat}
 use Rattle.std.proofs.lemmas.Simd.{Each1-get_or, get_or-sel_l, length-sel_l}
-use Rattle.ptflow.proofs.Vectors.Lanes.{tests_are}
+use proofs.Vectors.Lanes.{tests_are}
 use Rattle.ptflow.specs.Private.Vectors.Tables.{image_from, lane_of}
 
 -- of `n` vectors, the first ones are those of a function

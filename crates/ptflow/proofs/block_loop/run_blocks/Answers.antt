@@ -1,9 +1,10 @@
 -- Each iteration processes one block, and the contract of `process_block` preserves the invariant. Each exit is a lemma
 -- of `BlockLoop`. The budget decreases, since a block that is not empty is consumed.
-use Rattle.ptflow.proofs.Common.{◌≡◌, [], length, refl, sym, ◌∙◌, arith, eqb-true, nil_from_length, reads_nothing}
-use Rattle.ptflow.proofs.Passes.BlockLoop.{BlockLoopState, blocks_start, block_sent, block_taken, counted_more}
-use Rattle.ptflow.proofs.Passes.BlockLoop.{block_read, block_write, block_flush_failed, block_done, block_unended}
-use Rattle.ptflow.proofs.Passes.Exits.{by_write}
+use Rattle.ptflow.proofs
+use proofs.Common.{◌≡◌, [], length, refl, sym, ◌∙◌, arith, eqb-true, nil_from_length, reads_nothing}
+use proofs.Passes.BlockLoop.{BlockLoopState, blocks_start, block_sent, block_taken, counted_more, block_read}
+use proofs.Passes.BlockLoop.{block_write, block_flush_failed, block_done, block_unended}
+use proofs.Passes.Exits.{by_write}
 use Rattle.ptflow.proofs.block_loop.run_blocks.Given as given
 use Rattle.ptflow.proofs.block_loop.run_blocks.Goals as goal
 use Rattle.ptflow.proofs.block_loop.run_blocks.Goals.{In_ok-write_out_before_blocking}

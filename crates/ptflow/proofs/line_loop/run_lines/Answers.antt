@@ -1,14 +1,14 @@
 -- The buffered output is written before each read, so each exit comes after that. After the line in the last slot it is
 -- written again, and the lines of the block follow. Each exit is an outcome of a pass.
-use Rattle.ptflow.proofs.Common.{◌∙◌, subst, IsLine}
-use Rattle.ptflow.proofs.Passes.LineLoop.{LineLoopState, short_block, filled_line, run_starts, run_unslotted, run_sent}
-use Rattle.ptflow.proofs.Passes.LineLoop.{run_count, run_room, run_flush_failed, run_line, run_line_halts, filled_count}
-use Rattle.ptflow.proofs.Passes.LineLoop.{same_room, some_line, run_broken, run_memory, run_no_block, run_done}
-use Rattle.ptflow.proofs.Passes.LineLoop.{run_unended, run_block, run_block_halts}
-use Rattle.ptflow.proofs.Passes.Exits.{by_write}
-use Rattle.ptflow.proofs.Passes.Readers.{budget_of_line}
-use Rattle.ptflow.proofs.Passes.StepOutput.{returned_err}
-use Rattle.ptflow.proofs.Passes.Slots.{bounds_start, swapped_room}
+use Rattle.ptflow.proofs
+use proofs.Common.{◌∙◌, subst, IsLine}
+use proofs.Passes.LineLoop.{LineLoopState, short_block, filled_line, run_starts, run_unslotted, run_sent, run_count}
+use proofs.Passes.LineLoop.{run_room, run_flush_failed, run_line, run_line_halts, filled_count, same_room, some_line}
+use proofs.Passes.LineLoop.{run_broken, run_memory, run_no_block, run_done, run_unended, run_block, run_block_halts}
+use proofs.Passes.Exits.{by_write}
+use proofs.Passes.Readers.{budget_of_line}
+use proofs.Passes.StepOutput.{returned_err}
+use proofs.Passes.Slots.{bounds_start, swapped_room}
 use Rattle.ptflow.proofs.line_loop.run_lines.Given as given
 use Rattle.ptflow.proofs.line_loop.run_lines.Goals as goal
 use Rattle.ptflow.proofs.line_loop.run_lines.Goals.{In_ok-write_out_before_blocking, In_ok-process_line-in-Ok-true}

@@ -1,7 +1,7 @@
 -- The constraints before this one are met, so the first fault is that of this one, or else that of the remaining ones.
-use Rattle.ptopts.proofs.Common.{◌≡◌, ◌<◌, ◌+◌, ℕ, List, Option, None, Some, length, drop, map, get_or, sym, ap, ◌∙◌}
-use Rattle.ptopts.proofs.Common.{refl, IsSome, option_or, drop_more, err_from_is_err_and, Fault, first_some}
-use Rattle.ptopts.proofs.Common.{constraint_fault, options_view}
+use Rattle.ptopts.proofs
+use proofs.Common.{◌≡◌, ◌<◌, ◌+◌, ℕ, List, Option, None, Some, length, drop, map, get_or, sym, ap, ◌∙◌, refl, IsSome}
+use proofs.Common.{option_or, drop_more, err_from_is_err_and, Fault, first_some, constraint_fault, options_view}
 use Rattle.ptopts.proofs.constraints.check_constraints.Goals as goal
 
 -- the first fault from an index on: that of the item there, or else that of the next ones

@@ -1,8 +1,9 @@
 -- A flag is appended and the loop continues. The first letter that is not a flag ends the word: it is an option with
 -- its value, or its fault is returned, which is then the first of the word.
-use Rattle.ptopts.proofs.Common.{◌≡◌, ◌<◌, ◌∙◌, ℕ, List, true, false, slice_index, length, refl, subst, sym}
-use Rattle.ptopts.proofs.Common.{err_from_is_err_and, is_flag, fault_view}
-use Rattle.ptopts.proofs.GroupInvariant.{flag_read, value_read, fault_read}
+use Rattle.ptopts.proofs
+use proofs.Common.{◌≡◌, ◌<◌, ◌∙◌, ℕ, List, true, false, slice_index, length, refl, subst, sym, err_from_is_err_and}
+use proofs.Common.{is_flag, fault_view}
+use proofs.GroupInvariant.{flag_read, value_read, fault_read}
 use Rattle.ptopts.proofs.parsing.read_group.Goals as goal
 
 pub returns-in_err-option-clause-err : goal.returns-in_err-option-clause-err

@@ -1,9 +1,10 @@
 -- Each iteration reads one word of options, and its value if that is the next word. The loop ends at the first operand,
 -- after `--`, or after the last word.
-use Rattle.ptopts.proofs.Common.{◌≡◌, true, false, ap, ◌∙◌, sym, option_map, List, ℕ, Bor, err_from_is_err_and}
-use Rattle.ptopts.proofs.Common.{is_option_arg, is_end_of_options, words_view, fault_view, options_view}
+use Rattle.ptopts.proofs
+use proofs.Common.{◌≡◌, true, false, ap, ◌∙◌, sym, option_map, List, ℕ, Bor, err_from_is_err_and, is_option_arg}
+use proofs.Common.{is_end_of_options, words_view, fault_view, options_view}
 use Rattle.std.proofs.lemmas.Option.{slice_get-map}
-use Rattle.ptopts.proofs.ArgsInvariant.{reads_group, group_fails, left_smaller}
+use proofs.ArgsInvariant.{reads_group, group_fails, left_smaller}
 use Rattle.ptopts.proofs.parsing.read_words.Goals as goal
 
 pub loop-word-preserved : goal.loop-word-preserved

@@ -1,8 +1,9 @@
 -- The first option with the letter is the one that the definition finds, if there is one.
-use Rattle.ptopts.proofs.Common.{◌==◌, rules, ◌∙◌, tests, sym, option_map, List, ℕ, ap, option_and_then, Bor}
-use Rattle.ptopts.proofs.Common.{YieldsList-from_slice, find_from_yields_List}
+use Rattle.ptopts.proofs
+use proofs.Common.{◌==◌, rules, ◌∙◌, tests, sym, option_map, List, ℕ, ap, option_and_then, Bor, YieldsList-from_slice}
+use proofs.Common.{find_from_yields_List}
 use Rattle.ptopts.specs.declared.parsing.ParsedOption.{ParsedOption}
-use Rattle.ptopts.proofs.OptionViews.{value_of-view}
+use proofs.OptionViews.{value_of-view}
 use Rattle.ptopts.proofs.values.value.Goals as goal
 
 pub returns-in_err-find : goal.returns-in_err-find

@@ -1,11 +1,11 @@
 -- Each iteration reports one more operand if it could not be opened.
-use Rattle.ptrun.proofs.Common.{scaled_Fits, ◌<◌, length, take, refl, sym, ◌∙◌, ap, arith, get_or_default, subst}
-use Rattle.ptrun.proofs.Common.{words_view, positions, no_reader, is_reader_unopened, Standard, false≢true, IsSound}
-use Rattle.ptrun.proofs.Common.{reader_at}
+use Rattle.ptrun.proofs
+use proofs.Common.{scaled_Fits, ◌<◌, length, take, refl, sym, ◌∙◌, ap, arith, get_or_default, subst, words_view}
+use proofs.Common.{positions, no_reader, is_reader_unopened, Standard, false≢true, IsSound, reader_at}
 use Rattle.ptrun.proofs.driver.report_unopened.Goals as goal
-use Rattle.ptrun.proofs.OperandInputs.{names_counted, operand_low, operand_step, position_in_range, positions_end, said_more, any_now, any_before}
-use Rattle.ptrun.proofs.OperandInputs.{holds_more}
-use Rattle.ptrun.proofs.MessageWrites.{said_nothing}
+use proofs.OperandInputs.{names_counted, operand_low, operand_step, position_in_range, positions_end, said_more}
+use proofs.OperandInputs.{any_now, any_before, holds_more}
+use proofs.MessageWrites.{said_nothing}
 use Rattle.ptrun.proofs.driver.report_unopened.Goals.{then-is_refused, else-is_refused}
 
 pub loop-input-init : goal.loop-input-init

@@ -1,13 +1,11 @@
 -- Each iteration processes one more operand. If one fails, the run stops there, and the operands after it are unchanged.
-use Rattle.ptrun.proofs.Common.{scaled_Fits, ◌<◌, ◌<◌, ◌+◌, length, drop, sym, ◌∙◌, arith, positions}
-use Rattle.ptrun.proofs.Common.{Standard}
+use Rattle.ptrun.proofs
+use proofs.Common.{scaled_Fits, ◌<◌, ◌+◌, length, drop, sym, ◌∙◌, arith, positions, Standard}
 use Rattle.std.proofs.lemmas.Result.{err_from_is_err_and}
 use Rattle.ptrun.proofs.driver.run_one_by_one.Goals as goal
-use Rattle.ptrun.proofs.OperandInputs.{names_counted, operand_low, operand_step, position_in_range, positions_end}
-use Rattle.ptrun.proofs.Sequential.{done_as, done_nothing, operand_ready, done_all, done_unopened, done_operand}
-use Rattle.ptrun.proofs.Sequential.{done_stopped}
-use Rattle.ptrun.proofs.ToolRuns.{sequential_post}
-use Rattle.ptrun.proofs.ToolRuns.{operand_pre, operand_post, decides_all}
+use proofs.OperandInputs.{names_counted, operand_low, operand_step, position_in_range, positions_end}
+use proofs.Sequential.{done_as, done_nothing, operand_ready, done_all, done_unopened, done_operand, done_stopped}
+use proofs.ToolRuns.{sequential_post, operand_pre, operand_post, decides_all}
 use Rattle.ptrun.proofs.driver.run_one_by_one.Goals.{then-is_refused, else-is_refused+in_ok-run_on}
 
 pub loop-input-init : goal.loop-input-init

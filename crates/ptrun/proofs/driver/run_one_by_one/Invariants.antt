@@ -1,8 +1,9 @@
 -- The operands so far were processed, or reported if they could not be opened, and the output contains what the tool
 -- writes for them.
-use Rattle.ptrun.proofs.Common.{take, words_view, positions}
-use Rattle.ptrun.proofs.Sequential.{OperandsDone}
-use Rattle.ptrun.proofs.ToolRuns.{one_tool}
+use Rattle.ptrun.proofs
+use proofs.Common.{take, words_view, positions}
+use proofs.Sequential.{OperandsDone}
+use proofs.ToolRuns.{one_tool}
 use Rattle.ptrun.proofs.driver.run_one_by_one.Given as goal
 
 abbrev pub invariant-loop-input : goal.invariant-loop-input

@@ -1,10 +1,11 @@
 -- A tool that reads its operands together reads nothing if one could not be opened. Otherwise, and if it reads one
 -- operand after another, its inputs are processed, and the end of the run follows from the result.
-use Rattle.ptrun.proofs.Common.{ℕ, arith, ap, false≢true, refl, sym, ◌∙◌, subst, HasIndexBelow, length, outcome, Output}
-use Rattle.ptrun.proofs.RunEnds.{run_in_store}
-use Rattle.ptrun.proofs.OperandInputs.{names_counted, position_in_range}
-use Rattle.ptrun.proofs.MessageWrites.{said_nothing}
-use Rattle.ptrun.proofs.ToolRuns.{unopened_run, together_pre, together_post, together_says, reads_if}
+use Rattle.ptrun.proofs
+use proofs.Common.{ℕ, arith, ap, false≢true, refl, sym, ◌∙◌, subst, HasIndexBelow, length, outcome, Output}
+use proofs.RunEnds.{run_in_store}
+use proofs.OperandInputs.{names_counted, position_in_range}
+use proofs.MessageWrites.{said_nothing}
+use proofs.ToolRuns.{unopened_run, together_pre, together_post, together_says, reads_if}
 use Rattle.ptrun.proofs.driver.run_tool.Goals as goal
 
 pub positions_of-requires-clause-in_range : goal.positions_of-requires-clause-in_range

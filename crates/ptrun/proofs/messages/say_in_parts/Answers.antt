@@ -1,8 +1,8 @@
 -- Each part that is taken extends the prefix of the message that the sink has taken; a part that fails ends it.
-use Rattle.ptrun.proofs.Common.{ℕ, List, [], ◌∷◌, ◌++◌, sym, ◌∙◌, ap, append-nil}
+use Rattle.ptrun.proofs
+use proofs.Common.{ℕ, List, [], ◌∷◌, ◌++◌, sym, ◌∙◌, ap, append-nil}
 use Rattle.ptrun.proofs.messages.say_in_parts.Goals as goal
-use Rattle.ptrun.proofs.MessageWrites.{say_post_part, say_post_all, took_trans, joined, joined_more, joined_all}
-use Rattle.ptrun.proofs.MessageWrites.{line_split}
+use proofs.MessageWrites.{say_post_part, say_post_all, took_trans, joined, joined_more, joined_all, line_split}
 
 pub returns-in-Err : goal.returns-in-Err
 returns-in-Err g c =

@@ -1,10 +1,10 @@
 -- A mask of 16 flags is two of eight, and the second half of the vector is rotated to the front for the second one.
-use Rattle.ptflow.proofs.Common.{◌≡◌, ◌++◌, ◌/◌, ◌∙◌, ℕ, length, take, drop, sym, ap, length-drop, length-append}
-use Rattle.ptflow.proofs.Common.{get_or, arith, range_with_len, mask_l, pick_l, length-take-le, take-map}
-use Rattle.ptflow.proofs.Common.{pick_l-range_with_len}
+use Rattle.ptflow.proofs
+use proofs.Common.{◌≡◌, ◌++◌, ◌/◌, ◌∙◌, ℕ, length, take, drop, sym, ap, length-drop, length-append, get_or, arith}
+use proofs.Common.{range_with_len, mask_l, pick_l, length-take-le, take-map, pick_l-range_with_len}
 use Rattle.std.specs.Prelude.{bit_and}
 use Rattle.std.proofs.lemmas.List.{take-append-drop}
-use Rattle.ptflow.proofs.Vectors.Compress.{low_half, high_half, select_by_halves}
+use proofs.Vectors.Compress.{low_half, high_half, select_by_halves}
 use Rattle.ptflow.proofs.simd.compress.compress16.Goals as goal
 
 pub returns-clause-packed : goal.returns-clause-packed

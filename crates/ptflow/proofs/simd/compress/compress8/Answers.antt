@@ -1,8 +1,9 @@
 -- The row of the mask has the indices of the set flags first, so the shuffle moves those lanes to the front.
-use Rattle.ptflow.proofs.Common.{◌∙◌, [], refl, sym, subst, slice_index_or, arith, w8, swz_l, length-swz_l}
-use Rattle.ptflow.proofs.Common.{SwzOk-from_below, ones-le, IsCompressRow}
+use Rattle.ptflow.proofs
+use proofs.Common.{◌∙◌, [], refl, sym, subst, slice_index_or, arith, w8, swz_l, length-swz_l, SwzOk-from_below, ones-le}
+use proofs.Common.{IsCompressRow}
 use Rattle.std.specs.Prelude.{count_ones}
-use Rattle.ptflow.proofs.Vectors.Compress.{flags_of, row_lanes, row_of_mask, row_selects, selected_stored}
+use proofs.Vectors.Compress.{flags_of, row_lanes, row_of_mask, row_selects, selected_stored}
 use Rattle.ptflow.proofs.simd.compress.compress8.Goals as goal
 
 pub swizzle : goal.swizzle

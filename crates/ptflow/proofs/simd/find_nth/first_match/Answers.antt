@@ -1,8 +1,9 @@
 -- The first match is the lowest bit of the mask, or is after the first bytes.
-use Rattle.ptflow.proofs.Common.{◌≡◌, ℕ, List, ◌+◌, ◌≤◌, map, take, None, Some, arith, first_at_lowest_bit, is_byte}
-use Rattle.ptflow.proofs.Common.{none_if_zero_mask, Nowhere, Passes, take_rest, mask_l, length}
+use Rattle.ptflow.proofs
+use proofs.Common.{◌≡◌, ℕ, List, ◌+◌, ◌≤◌, map, take, None, Some, arith, first_at_lowest_bit, is_byte}
+use proofs.Common.{none_if_zero_mask, Nowhere, Passes, take_rest, mask_l, length}
 use lib.Count.{count_trailing_zeros}
-use Rattle.ptflow.proofs.Vectors.FindNth.{first_in_rest}
+use proofs.Vectors.FindNth.{first_in_rest}
 use Rattle.ptflow.proofs.simd.find_nth.first_match.Goals as goal
 
 pub returns-then-mask-ne0 : goal.returns-then-mask-ne0

@@ -1,7 +1,8 @@
 -- A chunk with too few matches is skipped; otherwise a bit of its mask is the match.
-use Rattle.ptflow.proofs.Common.{◌≡◌, ◌+◌, take, ◌∙◌, ap, arith, count_ones, count_by, chunk, length-chunk, ones-mask_l}
-use Rattle.ptflow.proofs.Common.{is_byte, IsNth}
-use Rattle.ptflow.proofs.Vectors.FindNth.{count_up_to, count_chunk, count_in_prefix, nth_in_prefix, near}
+use Rattle.ptflow.proofs
+use proofs.Common.{◌≡◌, ◌+◌, take, ◌∙◌, ap, arith, count_ones, count_by, chunk, length-chunk, ones-mask_l, is_byte}
+use proofs.Common.{IsNth}
+use proofs.Vectors.FindNth.{count_up_to, count_chunk, count_in_prefix, nth_in_prefix, near}
 use Rattle.ptflow.proofs.simd.find_nth.nth_index.Goals as goal
 use Rattle.ptflow.proofs.simd.find_nth.nth_index.Goals.{After-nth_bit}
 

@@ -1,14 +1,14 @@
 -- Each step reads the line of the next column into its slot. If the columns before it were all copied, it is copied
 -- from there, and the further columns are from the buffers. A failed write, read or growth stops the row; nothing was
 -- pushed.
-use Rattle.ptflow.proofs.Common.{◌≡◌, ◌+◌, ◌<◌, ℕ, List, [], ◌++◌, length, take, get_or, set, ◌∙◌, ap, arith}
-use Rattle.ptflow.proofs.Common.{err_from_is_err_and, PushEffect, Reader, Slots, push_nothing, push_trans, reader_at}
-use Rattle.ptflow.proofs.Common.{uses_of, ◌||◌}
-use Rattle.ptflow.proofs.Common.{BegunText, BufferedRowsPre, RowAmid, after_cell, begun_in, shape_of}
+use Rattle.ptflow.proofs
+use proofs.Common.{◌≡◌, ◌+◌, ◌<◌, ℕ, List, [], ◌++◌, length, take, get_or, set, ◌∙◌, ap, arith, err_from_is_err_and}
+use proofs.Common.{PushEffect, Reader, Slots, push_nothing, push_trans, reader_at, uses_of, ◌||◌, BegunText}
+use proofs.Common.{BufferedRowsPre, RowAmid, after_cell, begun_in, shape_of}
 use borrow.Author.Rules.{scaled_Fits}
-use Rattle.ptflow.proofs.PasteLemmas.Grid.{uses_before_lt}
-use Rattle.ptflow.proofs.PasteLemmas.FillRow.{at_index, amid_next, amid_failed, amid_resumed, with_slot, readable_after}
-use Rattle.ptflow.proofs.PasteLemmas.BufferedRows.{still_readable}
+use proofs.PasteLemmas.Grid.{uses_before_lt}
+use proofs.PasteLemmas.FillRow.{at_index, amid_next, amid_failed, amid_resumed, with_slot, readable_after}
+use proofs.PasteLemmas.BufferedRows.{still_readable}
 use Rattle.ptflow.proofs.tools.paste.fill_row.Goals.{After-fill_cell, In_ok-has_line}
 use Rattle.ptflow.proofs.tools.paste.fill_row.Given as given
 use Rattle.ptflow.proofs.tools.paste.fill_row.Goals as goal

@@ -1,19 +1,18 @@
 -- Each iteration takes the rows that are complete in the buffers, and finishes the next row; then the invariant holds
 -- again. If that row has no line, all readers are at the end of their inputs.
-use Rattle.ptflow.proofs.Common.{Bool, not, true, false, ◌≡◌, ◌≤◌, Ok, sym, ◌∙◌, ap, subst, arith, length, take}
-use Rattle.ptflow.proofs.Common.{err_from_is_err_and, Paste, PushEffect, paste_job, RowShape, BegunText, RowAmid}
-use Rattle.ptflow.proofs.Common.{CellsFilled, CopyRowsPost, FillRowPost, RowFilled, Result, FlowFault, begun_after}
-use Rattle.ptflow.proofs.Common.{begun_in, job_shape, shape_of, [], ◌∷◌, ◌++◌, Err, Write, Output, PastePost, rows_text}
-use Rattle.ptflow.proofs.Common.{slots_text, call_on_failed_output, List, Reader, Slots}
+use Rattle.ptflow.proofs
+use proofs.Common.{Bool, not, true, false, ◌≡◌, ◌≤◌, Ok, sym, ◌∙◌, ap, subst, arith, length, take, err_from_is_err_and}
+use proofs.Common.{Paste, PushEffect, paste_job, RowShape, BegunText, RowAmid, CellsFilled, CopyRowsPost, FillRowPost}
+use proofs.Common.{RowFilled, Result, FlowFault, begun_after, begun_in, job_shape, shape_of, [], ◌∷◌, ◌++◌, Err, Write}
+use proofs.Common.{Output, PastePost, rows_text, slots_text, call_on_failed_output, List, Reader, Slots}
 use Rattle.std.proofs.Math.Bool.{not-not}
 use Rattle.ptflow.specs.declared.tools.paste.row.BegunRow.{BegunRow}
-use Rattle.ptflow.proofs.PasteLemmas.Exits.{paste_without_slots, paste_rows_write_failed, paste_shared_write_failed}
-use Rattle.ptflow.proofs.PasteLemmas.Exits.{paste_fill_failed, paste_done, paste_row_write_failed}
-use Rattle.ptflow.proofs.PasteLemmas.Invariant.{PasteInvariant, HasStarted, invariant_starts, invariant_rows}
-use Rattle.ptflow.proofs.PasteLemmas.Invariant.{invariant_written, invariant_sent, invariant_slots, invariant_more}
-use Rattle.ptflow.proofs.PasteLemmas.Invariant.{now_readable, row_wrote}
-use Rattle.ptflow.proofs.PasteLemmas.BufferedRows.{still_readable}
-use Rattle.ptflow.proofs.PasteLemmas.FillRow.{amid_starts, amid_text}
+use proofs.PasteLemmas.Exits.{paste_without_slots, paste_rows_write_failed, paste_shared_write_failed}
+use proofs.PasteLemmas.Exits.{paste_fill_failed, paste_done, paste_row_write_failed}
+use proofs.PasteLemmas.Invariant.{PasteInvariant, HasStarted, invariant_starts, invariant_rows, invariant_written}
+use proofs.PasteLemmas.Invariant.{invariant_sent, invariant_slots, invariant_more, now_readable, row_wrote}
+use proofs.PasteLemmas.BufferedRows.{still_readable}
+use proofs.PasteLemmas.FillRow.{amid_starts, amid_text}
 use Rattle.ptflow.proofs.tools.paste.paste.Goals.{After-ensure_slots, After-fill_row}
 use Rattle.ptflow.proofs.tools.paste.paste.Given as given
 use Rattle.ptflow.proofs.tools.paste.paste.Goals as goal

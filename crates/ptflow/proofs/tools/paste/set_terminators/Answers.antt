@@ -1,9 +1,10 @@
 -- Each step sets the terminator of one more reader. Setting it twice, for a reader that several columns use, has no
 -- further effect.
-use Rattle.ptflow.proofs.Common.{◌≡◌, ◌<◌, ℕ, List, subst, Bool, true, false, cond, length, get_or, refl, ◌∙◌, arith}
-use Rattle.ptflow.proofs.Common.{take_all, All-get_or, terminator, SetTerminatorsPost}
+use Rattle.ptflow.proofs
+use proofs.Common.{◌≡◌, ◌<◌, ℕ, List, subst, Bool, true, false, cond, length, get_or, refl, ◌∙◌, arith, take_all}
+use proofs.Common.{All-get_or, terminator, SetTerminatorsPost}
 use borrow.Author.Rules.{scaled_Fits}
-use Rattle.ptflow.proofs.PasteLemmas.FillRow.{at_index, set_terminator_more}
+use proofs.PasteLemmas.FillRow.{at_index, set_terminator_more}
 use Rattle.ptflow.proofs.tools.paste.set_terminators.Goals as goal
 
 ending_is : (zero : Bool) → cond zero 0 10 ≡ terminator zero

@@ -1,11 +1,12 @@
 -- Each step writes the field of one more column. A failed write leaves a prefix of the row.
-use Rattle.ptflow.proofs.Common.{◌≡◌, ℕ, ◌+◌, ◌<◌, ◌≤◌, List, [], ◌∷◌, ◌++◌, length, take, drop, get_or, sym, ◌∙◌, ap}
-use Rattle.ptflow.proofs.Common.{subst, arith, length-take-le, length-drop, take_more, take-append-drop, take-take}
-use Rattle.ptflow.proofs.Common.{drop_all, append-nil, append_assoc, drop-append-le, err_from_is_err_and, PushEffect}
-use Rattle.ptflow.proofs.Common.{push_past_failure, push_trans, RowShape, after_cell, cells_text, shape_of}
+use Rattle.ptflow.proofs
+use proofs.Common.{◌≡◌, ℕ, ◌+◌, ◌<◌, ◌≤◌, List, [], ◌∷◌, ◌++◌, length, take, drop, get_or, sym, ◌∙◌, ap, subst, arith}
+use proofs.Common.{length-take-le, length-drop, take_more, take-append-drop, take-take, drop_all, append-nil}
+use proofs.Common.{append_assoc, drop-append-le, err_from_is_err_and, PushEffect, push_past_failure, push_trans}
+use proofs.Common.{RowShape, after_cell, cells_text, shape_of}
 use Rattle.std.proofs.lemmas.List.{length-take}
-use Rattle.ptflow.proofs.Passes.Prefix.{push_failed}
-use Rattle.ptflow.proofs.PasteLemmas.RowsTaken.{cells_text-append, cells_text-push}
+use proofs.Passes.Prefix.{push_failed}
+use proofs.PasteLemmas.RowsTaken.{cells_text-append, cells_text-push}
 use Rattle.ptflow.proofs.tools.paste.write_row.Goals.{After-write_slot}
 use Rattle.ptflow.proofs.tools.paste.write_row.Given as given
 use Rattle.ptflow.proofs.tools.paste.write_row.Goals as goal

@@ -1,8 +1,9 @@
 -- `tr` is a block tool: without a last byte the output for the rest is that for a text, and all output is decided at
 -- once. The store is never used, so `Memory` is never returned.
-use Rattle.ptflow.proofs.Common.{◌++◌, None, refl, sym, ◌∙◌, ap, no_store, tr_tool, tr_from}
-use Rattle.ptflow.proofs.Passes.Exits.{pass_unchanged, never_memory}
-use Rattle.ptflow.proofs.TrLemmas.TrFrom.{rest_decided}
+use Rattle.ptflow.proofs
+use proofs.Common.{◌++◌, None, refl, sym, ◌∙◌, ap, no_store, tr_tool, tr_from}
+use proofs.Passes.Exits.{pass_unchanged, never_memory}
+use proofs.TrLemmas.TrFrom.{rest_decided}
 use Rattle.ptflow.proofs.tools.tr.tr.Goals as goal
 
 pub returns-then-has_failed-clause-pass : goal.returns-then-has_failed-clause-pass

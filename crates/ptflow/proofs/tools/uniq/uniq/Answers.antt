@@ -1,9 +1,10 @@
 -- On an output that has failed nothing is done. `uniq` is a line tool, and setting the terminator does not change the
 -- input, so the contract of `run_lines` is that of the call.
-use Rattle.ptflow.proofs.Common.{refl, uniq_job, uniq_tool}
+use Rattle.ptflow.proofs
+use proofs.Common.{refl, uniq_job, uniq_tool}
 use Rattle.std.proofs.Common.{rules}
-use Rattle.ptflow.proofs.Passes.Exits.{pass_unchanged, pass_set}
-use Rattle.ptflow.proofs.UniqLemmas.FirstLine.{uniq_line_tool}
+use proofs.Passes.Exits.{pass_unchanged, pass_set}
+use proofs.UniqLemmas.FirstLine.{uniq_line_tool}
 use Rattle.ptflow.proofs.tools.uniq.uniq.Goals as goal
 
 pub returns-then-has_failed : goal.returns-then-has_failed

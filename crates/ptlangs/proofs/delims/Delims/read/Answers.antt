@@ -1,6 +1,7 @@
-use Rattle.ptlangs.proofs.Common.{◌<◌, ◌∙◌, ap, length, arith}
-use Rattle.ptlangs.proofs.DelimGrammar.{delims_of_some}
-use Rattle.ptlangs.proofs.ListElements.{append_ok, append_ok-cons_ok}
+use Rattle.ptlangs.proofs
+use proofs.Common.{◌<◌, ◌∙◌, ap, length, arith}
+use proofs.DelimGrammar.{delims_of_some}
+use proofs.ListElements.{append_ok, append_ok-cons_ok}
 use Rattle.ptlangs.proofs.delims.Delims.read.Goals as goal
 
 pub loop-kept-preserved : goal.loop-kept-preserved

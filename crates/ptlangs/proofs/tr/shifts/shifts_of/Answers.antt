@@ -1,8 +1,9 @@
 -- From byte 255 down: a byte with the same shift as the next one extends its stretch, a byte with another shift starts
 -- a new stretch, and a byte that is its own image is in none.
-use Rattle.ptlangs.proofs.Common.{◌≡◌, ◌-◌, List, drop, length, get_or, sym, ◌∙◌, ap, arith, drop_all, Stretch}
-use Rattle.ptlangs.proofs.Common.{stretches_from, prepend_shift, shift_of, image_of_shifts}
-use Rattle.ptlangs.proofs.TrShifts.{moves_all, moved_one, no_more_behind}
+use Rattle.ptlangs.proofs
+use proofs.Common.{◌≡◌, ◌-◌, List, drop, length, get_or, sym, ◌∙◌, ap, arith, drop_all, Stretch, stretches_from}
+use proofs.Common.{prepend_shift, shift_of, image_of_shifts}
+use proofs.TrShifts.{moves_all, moved_one, no_more_behind}
 use Rattle.ptlangs.proofs.tr.shifts.shifts_of.Goals as goal
 
 pub loop-index-init : goal.loop-index-init

@@ -1,9 +1,9 @@
 -- Each step of the code is one step of `command_of_args`: the tool, the parse, the constraints, and `checked_command`
 -- for the rest. A step that fails returns the first fault.
-use Rattle.ptopts.proofs.Common.{List, ℕ, Option, Result, sym, ◌∙◌, ap, subst, Bor, err_from_is_err_and, IsFault, Tool}
-use Rattle.ptopts.proofs.Common.{Fault, Command, command_of_args, command_of_tool, words_view, fault_view, CommandPost}
-use Rattle.ptopts.proofs.Common.{options_view}
-use Rattle.ptopts.proofs.CheckedCommand.{meaning_read, meaning_refused}
+use Rattle.ptopts.proofs
+use proofs.Common.{List, ℕ, Option, Result, sym, ◌∙◌, ap, subst, Bor, err_from_is_err_and, IsFault, Tool, Fault}
+use proofs.Common.{Command, command_of_args, command_of_tool, words_view, fault_view, CommandPost, options_view}
+use proofs.CheckedCommand.{meaning_read, meaning_refused}
 use Rattle.ptopts.proofs.command.Command.read.Goals as goal
 
 pub returns-in_err-check_constraints-clause-parsed : goal.returns-in_err-check_constraints-clause-parsed

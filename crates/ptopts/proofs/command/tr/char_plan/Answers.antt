@@ -1,9 +1,9 @@
 -- The operands are the strings: `CharPlan::read` gives the plan, or the fault, that the definition gives for the
 -- operands.
-use Rattle.ptopts.proofs.Common.{◌≡◌, ℕ, List, [], ◌∷◌, Bool, Option, Some, None, Result, Ok, Err, refl, ap, ◌∙◌}
-use Rattle.ptopts.proofs.Common.{option_map, slice_index_or, Bor, result_err, result_unwrap_or, err_from_is_err_and}
-use Rattle.ptopts.proofs.Common.{ParsedOption, InString, form_of_options, is_complemented, plan_of_operands}
-use Rattle.ptopts.proofs.Common.{identity_plan, words_view, options_view}
+use Rattle.ptopts.proofs
+use proofs.Common.{◌≡◌, ℕ, List, [], ◌∷◌, Bool, Option, Some, None, Result, Ok, Err, refl, ap, ◌∙◌, option_map}
+use proofs.Common.{slice_index_or, Bor, result_err, result_unwrap_or, err_from_is_err_and, ParsedOption, InString}
+use proofs.Common.{form_of_options, is_complemented, plan_of_operands, identity_plan, words_view, options_view}
 use Rattle.std.proofs.Common.{slice_get}
 use Rattle.std.proofs.Math.ListN.{get_or}
 use Rattle.ptlangs.specs.declared.faults.SetFault.{SetFault}

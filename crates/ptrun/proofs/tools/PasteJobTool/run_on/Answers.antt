@@ -1,10 +1,11 @@
 -- In series, the pass over the reader of the only operand is that of the tool. In parallel each operand is a column, so
 -- facts about columns are facts about operands.
-use Rattle.ptrun.proofs.Common.{paste_job}
+use Rattle.ptrun.proofs
+use proofs.Common.{paste_job}
 use Rattle.std.proofs.lemmas.Result.{err_from_is_err_and}
 use Rattle.ptrun.proofs.tools.PasteJobTool.run_on.Goals as goal
-use Rattle.ptrun.proofs.PasteRuns.{cells_ready, rows_post}
-use Rattle.ptrun.proofs.ToolRuns.{operand_passed}
+use proofs.PasteRuns.{cells_ready, rows_post}
+use proofs.ToolRuns.{operand_passed}
 
 pub returns-then-self : goal.returns-then-self
 returns-then-self g c = rw c.if-self.true

@@ -1,9 +1,10 @@
 -- The first match is known. Another one is found by the mask of the first bytes: shifted, it is that of the bytes from an
 -- index on.
-use Rattle.ptflow.proofs.Common.{◌≡◌, ◌+◌, ◌-◌, ◌<◌, take, drop, length, ◌∙◌, ap, arith, count_ones, count_by}
-use Rattle.ptflow.proofs.Common.{ones-mask_l, length-take-le, length-drop, count_by-le-length, is_byte, IsNth}
-use Rattle.ptflow.proofs.Vectors.FindNth.{first_is_nth, no_nth_before_first, no_nth, count_up_to, count_in_prefix}
-use Rattle.ptflow.proofs.Vectors.FindNth.{nth_in_prefix, mask_from}
+use Rattle.ptflow.proofs
+use proofs.Common.{◌≡◌, ◌+◌, ◌-◌, ◌<◌, take, drop, length, ◌∙◌, ap, arith, count_ones, count_by, ones-mask_l}
+use proofs.Common.{length-take-le, length-drop, count_by-le-length, is_byte, IsNth}
+use proofs.Vectors.FindNth.{first_is_nth, no_nth_before_first, no_nth, count_up_to, count_in_prefix, nth_in_prefix}
+use proofs.Vectors.FindNth.{mask_from}
 use Rattle.ptflow.proofs.simd.find_nth.ByteMatches.nth.Goals as goal
 use Rattle.ptflow.proofs.simd.find_nth.ByteMatches.nth.Goals.{After-nth_bit-at, then-at-to, else-at-to}
 

@@ -1,7 +1,8 @@
 -- Whole chunks come first, and then the bytes after them, one by one.
-use Rattle.ptflow.proofs.Common.{◌≡◌, ◌+◌, ◌%◌, ◌<◌, ℕ, [], ◌∷◌, refl, sym, ◌∙◌, ap, arith, length, length-set}
-use Rattle.ptflow.proofs.Common.{slice_index_or, mod-lt, mod-eq_of_lt, count_by, is_byte, take}
-use Rattle.ptflow.proofs.PasteLemmas.Replaced.{replaced_by_map, replaced_terminator, replaced_other}
+use Rattle.ptflow.proofs
+use proofs.Common.{◌≡◌, ◌+◌, ◌%◌, ◌<◌, ℕ, [], ◌∷◌, refl, sym, ◌∙◌, ap, arith, length, length-set, slice_index_or}
+use proofs.Common.{mod-lt, mod-eq_of_lt, count_by, is_byte, take}
+use proofs.PasteLemmas.Replaced.{replaced_by_map, replaced_terminator, replaced_other}
 use Rattle.ptflow.proofs.simd.replace.Cycle.replace.Goals.{then-from-at, else-from-at}
 use Rattle.ptflow.proofs.simd.replace.Cycle.replace.Goals as goal
 

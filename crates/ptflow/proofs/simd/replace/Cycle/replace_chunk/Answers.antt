@@ -1,8 +1,9 @@
 -- The terminators of a chunk are the bits of its mask, in order; each iteration replaces the lowest one by the next
 -- byte of the cycle.
-use Rattle.ptflow.proofs.Common.{◌≡◌, ◌+◌, ◌%◌, ◌<◌, ◌∙◌, ap, arith, count_ones, chunk, count_by, count_by-le-length}
-use Rattle.ptflow.proofs.Common.{length-chunk, ones-mask_l, is_byte, refl}
-use Rattle.ptflow.proofs.PasteLemmas.Replaced.{replace_starts, end_within, replace_next, replace_end}
+use Rattle.ptflow.proofs
+use proofs.Common.{◌≡◌, ◌+◌, ◌%◌, ◌<◌, ◌∙◌, ap, arith, count_ones, chunk, count_by, count_by-le-length, length-chunk}
+use proofs.Common.{ones-mask_l, is_byte, refl}
+use proofs.PasteLemmas.Replaced.{replace_starts, end_within, replace_next, replace_end}
 use Rattle.ptflow.proofs.simd.replace.Cycle.replace_chunk.Goals as goal
 
 pub loop-after-init : goal.loop-after-init

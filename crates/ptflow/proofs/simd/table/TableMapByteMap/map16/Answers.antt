@@ -1,6 +1,7 @@
-use Rattle.ptflow.proofs.Common.{◌/◌, ◌^◌, ◌+◌, ◌-◌, ◌%◌, ltb, zip2_of_maps, zip2_splat, splat_is_map}
-use Rattle.ptflow.proofs.Vectors.Lanes.{tests_are}
-use Rattle.ptflow.proofs.Vectors.Tables.{images_of, offset}
+use Rattle.ptflow.proofs
+use proofs.Common.{◌/◌, ◌^◌, ◌+◌, ◌-◌, ◌%◌, ltb, zip2_of_maps, zip2_splat, splat_is_map}
+use proofs.Vectors.Lanes.{tests_are}
+use proofs.Vectors.Tables.{images_of, offset}
 use Rattle.ptflow.proofs.simd.table.TableMapByteMap.map16.Goals as goal
 
 pub returns : goal.returns

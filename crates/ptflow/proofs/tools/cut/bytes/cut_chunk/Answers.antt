@@ -1,11 +1,11 @@
 -- The lowest bit that is left is the next terminator. The line up to it is cut, the next line begins after it, and the
 -- bit is cleared. Each set bit of the mask has one iteration, so no bit is left at the end.
-use Rattle.ptflow.proofs.Common.{◌≡◌, ◌+◌, ◌-◌, suc, map, take, drop, ◌∙◌, ap, arith, count_ones, chunk, length-chunk}
-use Rattle.ptflow.proofs.Common.{take_more_put_chunk, take_rest, drop-drop, ones-mask_l, is_byte, is_selected}
-use Rattle.ptflow.proofs.Common.{cut_piece}
+use Rattle.ptflow.proofs
+use proofs.Common.{◌≡◌, ◌+◌, ◌-◌, suc, map, take, drop, ◌∙◌, ap, arith, count_ones, chunk, length-chunk}
+use proofs.Common.{take_more_put_chunk, take_rest, drop-drop, ones-mask_l, is_byte, is_selected, cut_piece}
 use lib.Count.{count_trailing_zeros}
-use Rattle.ptflow.proofs.CutLemmas.CutBytes.{line_on, terminators_next, cut_next}
-use Rattle.ptflow.proofs.Vectors.FindNth.{NextTerminator, cleared, next_terminator, some_counted}
+use proofs.CutLemmas.CutBytes.{line_on, terminators_next, cut_next}
+use proofs.Vectors.FindNth.{NextTerminator, cleared, next_terminator, some_counted}
 use Rattle.ptflow.proofs.tools.cut.bytes.cut_chunk.Goals as goal
 use Rattle.ptflow.proofs.tools.cut.bytes.cut_chunk.Goals.{In-loop-end}
 

@@ -1,8 +1,9 @@
 -- Each iteration cuts the line up to the next terminator. The bytes after the last one are a piece of an unfinished
 -- line.
-use Rattle.ptflow.proofs.Common.{◌+◌, [], length, take, drop, arith, length-drop, take_rest, take_all, is_selected}
-use Rattle.ptflow.proofs.Common.{line_if_not_found, cut_piece}
-use Rattle.ptflow.proofs.CutLemmas.CutBytes.{line_on, piece_next, cut_next}
+use Rattle.ptflow.proofs
+use proofs.Common.{◌+◌, [], length, take, drop, arith, length-drop, take_rest, take_all, is_selected, line_if_not_found}
+use proofs.Common.{cut_piece}
+use proofs.CutLemmas.CutBytes.{line_on, piece_next, cut_next}
 use Rattle.ptflow.proofs.tools.cut.bytes.cut_tail.Goals as goal
 
 pub lines-preserved : goal.lines-preserved

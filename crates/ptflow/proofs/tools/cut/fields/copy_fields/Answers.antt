@@ -1,8 +1,9 @@
 -- Each iteration copies the next slice. The copied bytes are not longer than the line, so there is room for the rest.
-use Rattle.ptflow.proofs.Common.{◌≡◌, ◌+◌, ◌-◌, ◌≤◌, ◌++◌, length, take, drop, refl, ap, arith, append_assoc}
-use Rattle.ptflow.proofs.Common.{length-take-le, length-drop, is_selected, cut_job, cut_fields, output_from_cursor}
-use Rattle.ptflow.proofs.CutLemmas.FieldLoop.{cursor_starts, selected_remaining, output_is_short, output_is_near}
-use Rattle.ptflow.proofs.CutLemmas.FieldOffsets.{slice_of}
+use Rattle.ptflow.proofs
+use proofs.Common.{◌≡◌, ◌+◌, ◌-◌, ◌≤◌, ◌++◌, length, take, drop, refl, ap, arith, append_assoc, length-take-le}
+use proofs.Common.{length-drop, is_selected, cut_job, cut_fields, output_from_cursor}
+use proofs.CutLemmas.FieldLoop.{cursor_starts, selected_remaining, output_is_short, output_is_near}
+use proofs.CutLemmas.FieldOffsets.{slice_of}
 use Rattle.ptflow.proofs.tools.cut.fields.copy_fields.Given as given
 use Rattle.ptflow.proofs.tools.cut.fields.copy_fields.Goals as goal
 use Rattle.ptflow.proofs.tools.cut.fields.copy_fields.Goals.{In-Some}

@@ -1,9 +1,10 @@
 -- Each iteration pushes the next slice. A push may fail: then the pushed bytes are a prefix of the selected fields.
-use Rattle.ptflow.proofs.Common.{◌≡◌, ◌+◌, ◌-◌, ◌≤◌, ◌++◌, take, drop, length, ◌∙◌, ap, arith, take_all, is_selected}
-use Rattle.ptflow.proofs.Common.{cut_job, output_from_cursor}
-use Rattle.ptflow.proofs.Passes.Prefix.{prefix_starts, front_more, front_fails}
-use Rattle.ptflow.proofs.CutLemmas.FieldLoop.{cursor_starts, selected_remaining}
-use Rattle.ptflow.proofs.CutLemmas.FieldOffsets.{slice_of}
+use Rattle.ptflow.proofs
+use proofs.Common.{◌≡◌, ◌+◌, ◌-◌, ◌≤◌, ◌++◌, take, drop, length, ◌∙◌, ap, arith, take_all, is_selected, cut_job}
+use proofs.Common.{output_from_cursor}
+use proofs.Passes.Prefix.{prefix_starts, front_more, front_fails}
+use proofs.CutLemmas.FieldLoop.{cursor_starts, selected_remaining}
+use proofs.CutLemmas.FieldOffsets.{slice_of}
 use Rattle.ptflow.proofs.tools.cut.fields.write_fields.Given as given
 use Rattle.ptflow.proofs.tools.cut.fields.write_fields.Goals as goal
 use Rattle.ptflow.proofs.tools.cut.fields.write_fields.Goals.{In-Some}

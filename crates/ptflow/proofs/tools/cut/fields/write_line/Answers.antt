@@ -1,9 +1,10 @@
 -- The output of a line that contains the delimiter is its selected fields; that of any other line is the line itself,
 -- or nothing with `-s`. The terminator follows.
-use Rattle.ptflow.proofs.Common.{◌≡◌, [], ◌∷◌, push_nothing, push_past_failure, sym, ◌∙◌, cut_job, cut_fields, list_any}
-use Rattle.ptflow.proofs.Common.{is_field_delimiter}
-use Rattle.ptflow.proofs.Passes.Prefix.{wrote_then}
-use Rattle.ptflow.proofs.CutLemmas.FieldLines.{found, of_fields, of_line, of_none, line_written, line_dropped}
+use Rattle.ptflow.proofs
+use proofs.Common.{◌≡◌, [], ◌∷◌, push_nothing, push_past_failure, sym, ◌∙◌, cut_job, cut_fields, list_any}
+use proofs.Common.{is_field_delimiter}
+use proofs.Passes.Prefix.{wrote_then}
+use proofs.CutLemmas.FieldLines.{found, of_fields, of_line, of_none, line_written, line_dropped}
 use Rattle.ptflow.proofs.tools.cut.fields.write_line.Given as given
 use Rattle.ptflow.proofs.tools.cut.fields.write_line.Goals as goal
 use Rattle.ptflow.proofs.tools.cut.fields.write_line.Goals.{After-is_some}

@@ -1,12 +1,12 @@
 -- Each step copies the field of one more column and the byte after it. It ends at a field that cannot be copied, and
 -- then nothing was consumed.
-use Rattle.ptflow.proofs.Common.{◌≡◌, length, take, set, get_or, refl, ◌∙◌, ap, arith, set-get_or}
-use Rattle.ptflow.proofs.Common.{mod-add-mod}
+use Rattle.ptflow.proofs
+use proofs.Common.{◌≡◌, length, take, set, get_or, refl, ◌∙◌, ap, arith, set-get_or, mod-add-mod}
 use Rattle.std.proofs.lemmas.List.{take_more_set}
 use borrow.Author.Rules.{scaled_Fits}
-use Rattle.ptflow.proofs.PasteLemmas.FillRow.{at_index}
-use Rattle.ptflow.proofs.PasteLemmas.Grid.{uses_before_lt}
-use Rattle.ptflow.proofs.PasteLemmas.BufferedRows.{columns_start, columns_more, still_readable, after_last, after_other}
+use proofs.PasteLemmas.FillRow.{at_index}
+use proofs.PasteLemmas.Grid.{uses_before_lt}
+use proofs.PasteLemmas.BufferedRows.{columns_start, columns_more, still_readable, after_last, after_other}
 use Rattle.ptflow.proofs.tools.paste.buffered_rows.copy_columns.Goals.{else-cells-test, then-cells-test+in_default}
 use Rattle.ptflow.proofs.tools.paste.buffered_rows.copy_columns.Goals.{then-cells-test+in-Some+then-column-cells}
 use Rattle.ptflow.proofs.tools.paste.buffered_rows.copy_columns.Goals as goal

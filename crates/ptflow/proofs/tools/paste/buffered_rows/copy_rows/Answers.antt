@@ -1,10 +1,10 @@
 -- Each step copies one more row. The loop ends at a row that is not complete.
 use Rattle.std.proofs.Math.Bool.{not-not}
-use Rattle.ptflow.proofs.Common.{◌∙◌, ap, not, [], sym, arith}
-use Rattle.ptflow.proofs.PasteLemmas.FillRow.{fill_starts}
-use Rattle.ptflow.proofs.PasteLemmas.RowsTaken.{rows_taken_none}
-use Rattle.ptflow.proofs.PasteLemmas.BufferedRows.{consumed_none, consumed_trans, still_readable, rows_and_begun}
-use Rattle.ptflow.proofs.PasteLemmas.BufferedRows.{rows_more}
+use Rattle.ptflow.proofs
+use proofs.Common.{◌∙◌, ap, not, [], sym, arith}
+use proofs.PasteLemmas.FillRow.{fill_starts}
+use proofs.PasteLemmas.RowsTaken.{rows_taken_none}
+use proofs.PasteLemmas.BufferedRows.{consumed_none, consumed_trans, still_readable, rows_and_begun, rows_more}
 use Rattle.ptflow.proofs.tools.paste.buffered_rows.copy_rows.Goals as goal
 
 pub rows-init : goal.rows-init

@@ -1,10 +1,10 @@
 -- `SerialPaste` is a block filter for `paste -s`: at the start of a row the rest of the row is the whole output, and
 -- the delimiters and the terminator do not change from block to block.
-use Rattle.ptflow.proofs.Common.{◌≡◌, ◌++◌, cond, [], ◌∷◌, refl, sym, ◌∙◌, paste_job, paste_serial_tool, row_rest}
-use Rattle.ptflow.proofs.Common.{serial_rest}
+use Rattle.ptflow.proofs
+use proofs.Common.{◌≡◌, ◌++◌, cond, [], ◌∷◌, refl, sym, ◌∙◌, paste_job, paste_serial_tool, row_rest, serial_rest}
 use Rattle.std.proofs.Common.{rules}
-use Rattle.ptflow.proofs.Passes.Exits.{pass_unchanged, pass_set, ready_set}
-use Rattle.ptflow.proofs.PasteLemmas.SerialRest.{serial_is_decided}
+use proofs.Passes.Exits.{pass_unchanged, pass_set, ready_set}
+use proofs.PasteLemmas.SerialRest.{serial_is_decided}
 use Rattle.ptflow.proofs.tools.paste.serial.paste_serial.Goals as goal
 
 pub returns-then-has_failed : goal.returns-then-has_failed

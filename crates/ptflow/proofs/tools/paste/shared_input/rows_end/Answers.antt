@@ -1,7 +1,8 @@
 -- Each search moves back to the last terminator before `at`; or there is none.
-use Rattle.ptflow.proofs.Common.{◌≡◌, ℕ, zero, suc, ◌+◌, ◌-◌, ◌<◌, ◌≤◌, Bool, true, List, length, take, get_or, sym}
-use Rattle.ptflow.proofs.Common.{◌∙◌, ap, arith, get_or-take, count_by, false_from_ne_true, length-take-le, take_all}
-use Rattle.ptflow.proofs.Common.{take-take, count_by_more_no, count_by_more_yes, eqb-true, is_byte}
+use Rattle.ptflow.proofs
+use proofs.Common.{◌≡◌, ℕ, zero, suc, ◌+◌, ◌-◌, ◌<◌, ◌≤◌, Bool, true, List, length, take, get_or, sym, ◌∙◌, ap, arith}
+use proofs.Common.{get_or-take, count_by, false_from_ne_true, length-take-le, take_all, take-take, count_by_more_no}
+use proofs.Common.{count_by_more_yes, eqb-true, is_byte}
 use Rattle.ptflow.proofs.tools.paste.shared_input.rows_end.Goals as goal
 
 -- None of the last n items passes.

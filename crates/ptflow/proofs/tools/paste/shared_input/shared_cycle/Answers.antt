@@ -1,8 +1,8 @@
 -- The bytes of the cycle are the delimiters between the columns, and the terminator.
-use Rattle.ptflow.proofs.Common.{◌≡◌, ◌+◌, ◌<◌, ◌%◌, [], ◌∷◌, ◌++◌, refl, length, get_or, sym, ◌∙◌, ap, arith, ⊎_elim}
-use Rattle.ptflow.proofs.Common.{cases_lt, All-from_get_or, length-append, get_or_append_left, get_or_push}
-use Rattle.ptflow.proofs.Common.{mod-eq_of_lt, eqb-false, shape_of}
-use Rattle.ptflow.proofs.PasteLemmas.BufferedRows.{after_last, after_other}
+use Rattle.ptflow.proofs
+use proofs.Common.{◌≡◌, ◌+◌, ◌<◌, ◌%◌, [], ◌∷◌, ◌++◌, refl, length, get_or, sym, ◌∙◌, ap, arith, ⊎_elim, cases_lt}
+use proofs.Common.{All-from_get_or, length-append, get_or_append_left, get_or_push, mod-eq_of_lt, eqb-false, shape_of}
+use proofs.PasteLemmas.BufferedRows.{after_last, after_other}
 use Rattle.ptflow.proofs.tools.paste.shared_input.shared_cycle.Goals as goal
 
 pub returns : goal.returns

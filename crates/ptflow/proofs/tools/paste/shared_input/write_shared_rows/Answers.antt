@@ -1,7 +1,8 @@
 -- The buffer of the only reader begins with complete rows, and their copy is pushed.
-use Rattle.ptflow.proofs.Common.{get_or, arith, set-get_or}
-use Rattle.ptflow.proofs.PasteLemmas.SharedInput.{copied_rows, no_rows_written}
-use Rattle.ptflow.proofs.PasteLemmas.FillRow.{at_index}
+use Rattle.ptflow.proofs
+use proofs.Common.{get_or, arith, set-get_or}
+use proofs.PasteLemmas.SharedInput.{copied_rows, no_rows_written}
+use proofs.PasteLemmas.FillRow.{at_index}
 use Rattle.ptflow.proofs.tools.paste.shared_input.write_shared_rows.Goals as goal
 
 pub returns-in_default-clause-rows : goal.returns-in_default-clause-rows

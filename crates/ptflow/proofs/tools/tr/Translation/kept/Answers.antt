@@ -1,6 +1,7 @@
-use Rattle.ptflow.proofs.Common.{sym, ◌∙◌, ap, not, deletes}
-use Rattle.ptflow.proofs.TrLemmas.TrFrom.{filter_all}
-use Rattle.ptflow.proofs.Vectors.Lanes.{bytes_fit, filter_same}
+use Rattle.ptflow.proofs
+use proofs.Common.{sym, ◌∙◌, ap, not, deletes}
+use proofs.TrLemmas.TrFrom.{filter_all}
+use proofs.Vectors.Lanes.{bytes_fit, filter_same}
 use Rattle.ptflow.proofs.tools.tr.Translation.kept.Goals as goal
 
 pub returns-in-Some-clause-kept : goal.returns-in-Some-clause-kept

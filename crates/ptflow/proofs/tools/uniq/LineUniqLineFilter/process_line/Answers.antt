@@ -1,11 +1,11 @@
 -- A line with the key of the current run adds to its count. Any other line ends the run, whose output is pushed, and
 -- becomes the first line of the next one by a swap of the two slots.
-use Rattle.ptflow.proofs.Common.{[], ◌∷◌, ◌&&◌, ◌≡◌, refl, sym, subst, arith, line, nat_lt, is_same, uniq_job}
-use Rattle.ptflow.proofs.Common.{first_line, RunsWritten, current_run_of, run_of, push_nothing}
-use Rattle.ptflow.proofs.Passes.StepOutput.{on_err}
-use Rattle.ptflow.proofs.UniqLemmas.BlockRuns.{RunSteps, steps_none, steps_more, steps_next, steps_written}
-use Rattle.ptflow.proofs.UniqLemmas.BlockRuns.{steps_failed}
-use Rattle.ptflow.proofs.UniqLemmas.FirstLine.{swapped_first}
+use Rattle.ptflow.proofs
+use proofs.Common.{[], ◌∷◌, ◌&&◌, ◌≡◌, refl, sym, subst, arith, line, nat_lt, is_same, uniq_job, first_line}
+use proofs.Common.{RunsWritten, current_run_of, run_of, push_nothing}
+use proofs.Passes.StepOutput.{on_err}
+use proofs.UniqLemmas.BlockRuns.{RunSteps, steps_none, steps_more, steps_next, steps_written, steps_failed}
+use proofs.UniqLemmas.FirstLine.{swapped_first}
 use Rattle.ptflow.proofs.tools.uniq.LineUniqLineFilter.process_line.Given as given
 use Rattle.ptflow.proofs.tools.uniq.LineUniqLineFilter.process_line.Goals as goal
 use Rattle.ptflow.proofs.tools.uniq.LineUniqLineFilter.process_line.Goals.{After-is_same_run}

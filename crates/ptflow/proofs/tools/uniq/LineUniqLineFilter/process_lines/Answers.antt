@@ -1,8 +1,8 @@
 -- The runs that end in the block are written (`write_runs`), and the last run becomes the current one.
-use Rattle.ptflow.proofs.Common.{[], ◌≡◌, sym, ap, arith, unlines, complete_lines, uniq_job, current_run_of}
-use Rattle.ptflow.proofs.Common.{push_nothing}
-use Rattle.ptflow.proofs.UniqLemmas.BlockRuns.{steps_none, steps_written}
-use Rattle.ptflow.proofs.UniqLemmas.FirstLine.{not_found}
+use Rattle.ptflow.proofs
+use proofs.Common.{[], ◌≡◌, sym, ap, arith, unlines, complete_lines, uniq_job, current_run_of, push_nothing}
+use proofs.UniqLemmas.BlockRuns.{steps_none, steps_written}
+use proofs.UniqLemmas.FirstLine.{not_found}
 use Rattle.ptflow.proofs.tools.uniq.LineUniqLineFilter.process_lines.Given as given
 use Rattle.ptflow.proofs.tools.uniq.LineUniqLineFilter.process_lines.Goals as goal
 use Rattle.ptflow.proofs.tools.uniq.LineUniqLineFilter.process_lines.Goals.{Then-is_none}

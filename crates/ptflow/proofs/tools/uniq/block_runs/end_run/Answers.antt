@@ -1,10 +1,11 @@
 -- Two adjacent ranges are one range, so the run joins the deferred output. Otherwise that is pushed, and a failed push
 -- leaves a prefix of both.
-use Rattle.ptflow.proofs.Common.{ℕ, true, not, ◌≡◌, [], refl, sym, ◌∙◌, subst, PushEffect, push_past_failure}
-use Rattle.ptflow.proofs.Common.{append_assoc, span_of, uniq_job}
+use Rattle.ptflow.proofs
+use proofs.Common.{ℕ, true, not, ◌≡◌, [], refl, sym, ◌∙◌, subst, PushEffect, push_past_failure, append_assoc, span_of}
+use proofs.Common.{uniq_job}
 use Rattle.ptflow.specs.Private.Uniq.RunsFrom.{count_prefix}
-use Rattle.ptflow.proofs.Passes.StepOutput.{on_err}
-use Rattle.ptflow.proofs.UniqLemmas.BlockRuns.{due_is, pending_joined}
+use proofs.Passes.StepOutput.{on_err}
+use proofs.UniqLemmas.BlockRuns.{due_is, pending_joined}
 use Rattle.ptflow.proofs.tools.uniq.block_runs.end_run.Goals as goal
 use Rattle.ptlangs.specs.contracts.jobs.Show.{the_type}
 use Rattle.ptlangs.specs.declared.jobs.Show.{Show}

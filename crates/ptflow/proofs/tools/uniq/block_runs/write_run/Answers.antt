@@ -1,7 +1,8 @@
 -- The output of a run is pushed in two parts, and a failed push leaves a prefix of the whole.
-use Rattle.ptflow.proofs.Common.{◌≡◌, ◌++◌, true, sym, ◌∙◌, push_past_failure, has_output}
-use Rattle.ptflow.proofs.Passes.Prefix.{push_failed, push_then}
-use Rattle.ptflow.proofs.Passes.StepOutput.{returned_err}
+use Rattle.ptflow.proofs
+use proofs.Common.{◌≡◌, ◌++◌, true, sym, ◌∙◌, push_past_failure, has_output}
+use proofs.Passes.Prefix.{push_failed, push_then}
+use proofs.Passes.StepOutput.{returned_err}
 use Rattle.ptflow.proofs.tools.uniq.block_runs.write_run.Goals as goal
 
 pub returns-in_err-flush_with_count : goal.returns-in_err-flush_with_count

@@ -1,12 +1,12 @@
 -- A segment without a byte at the index is passed: what is left is what the text gives from the index on.
-use Rattle.ptlangs.proofs.Common.{◌≡◌, ◌∷◌, ◌++◌, ◌+◌, ◌*◌, ◌≤◌, cond, ◌||◌, ◌∙◌, [], Ok, List, Result, length, map}
-use Rattle.ptlangs.proofs.Common.{drop, ap, sym, refl, arith, drop_all, sequence, segments, chars, set_elements}
-use Rattle.ptlangs.proofs.Common.{is_fill, Segment, SetFaultKind}
+use Rattle.ptlangs.proofs
+use proofs.Common.{◌≡◌, ◌∷◌, ◌++◌, ◌+◌, ◌*◌, ◌≤◌, cond, ◌||◌, ◌∙◌, [], Ok, List, Result, length, map, drop, ap, sym}
+use proofs.Common.{refl, arith, drop_all, sequence, segments, chars, set_elements, is_fill, Segment, SetFaultKind}
 use Rattle.ptlangs.specs.declared.tr.segments.Member.{Member}
 use Rattle.ptlangs.specs.TrParsing.{NextItemPost, member_results, most_left}
-use Rattle.ptlangs.proofs.TrElementGrammar.{segments-element, segments-fault}
+use proofs.TrElementGrammar.{segments-element, segments-fault}
 use Rattle.std.proofs.Math.Nat.{le_trans}
-use Rattle.ptlangs.proofs.TrByteWalk.{drop-found, fill_step, length-marked, on_fault, segment-passed}
+use proofs.TrByteWalk.{drop-found, fill_step, length-marked, on_fault, segment-passed}
 use Rattle.ptlangs.proofs.tr.bytes.Bytes.next.Goals as goal
 use Rattle.ptlangs.proofs.tr.bytes.Bytes.next.Goals.{then-self-2, else-self-2}
 use Rattle.ptlangs.specs.declared.tr.bytes.Bytes.{Bytes}

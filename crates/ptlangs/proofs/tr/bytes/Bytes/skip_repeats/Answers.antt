@@ -1,9 +1,10 @@
 -- The copies that are left come first in what is left to read.
-use Rattle.ptlangs.proofs.Common.{◌≡◌, ◌-◌, ◌∙◌, ◌++◌, Ok, Result, ap, arith, map, replicate, chars, drop, append_assoc}
-use Rattle.ptlangs.proofs.Common.{map-append, segments, set_elements, SetFaultKind}
+use Rattle.ptlangs.proofs
+use proofs.Common.{◌≡◌, ◌-◌, ◌∙◌, ◌++◌, Ok, Result, ap, arith, map, replicate, chars, drop, append_assoc, map-append}
+use proofs.Common.{segments, set_elements, SetFaultKind}
 use Rattle.ptlangs.specs.declared.tr.segments.Member.{Member}
 use Rattle.ptlangs.specs.TrParsing.{marked_members, member_results, plain_members}
-use Rattle.ptlangs.proofs.TrByteWalk.{copies-passed}
+use proofs.TrByteWalk.{copies-passed}
 use Rattle.ptlangs.proofs.tr.bytes.Bytes.skip_repeats.Goals as goal
 
 pub returns-clause-passed : goal.returns-clause-passed

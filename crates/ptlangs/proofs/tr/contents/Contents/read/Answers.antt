@@ -1,10 +1,11 @@
 -- The fault of a byte is the fault of the string. At the end all bytes are read.
-use Rattle.ptlangs.proofs.Common.{◌≡◌, ◌∙◌, ◌∷◌, ◌++◌, List, Ok, ap, sym, refl, arith, array, map-append}
-use Rattle.ptlangs.proofs.Common.{string_segments, replicate, Segment, []}
+use Rattle.ptlangs.proofs
+use proofs.Common.{◌≡◌, ◌∙◌, ◌∷◌, ◌++◌, List, Ok, ap, sym, refl, arith, array, map-append, string_segments, replicate}
+use proofs.Common.{Segment, []}
 use Rattle.ptlangs.specs.TrParsing.{member_bytes, contents_of, ok_map, plain_members}
-use Rattle.ptlangs.proofs.TrByteWalk.{member_bytes-array, member_bytes-plain, items_end, items_fault, items_more}
-use Rattle.ptlangs.proofs.TrByteWalk.{on_fault, string-fault, string-read}
-use Rattle.ptlangs.proofs.TrContents.{contents-new}
+use proofs.TrByteWalk.{member_bytes-array, member_bytes-plain, items_end, items_fault, items_more, on_fault}
+use proofs.TrByteWalk.{string-fault, string-read}
+use proofs.TrContents.{contents-new}
 use Rattle.ptlangs.proofs.tr.contents.Contents.read.Goals as goal
 
 pub returns-in_err-member-clause-is : goal.returns-in_err-member-clause-is

@@ -1,10 +1,10 @@
 -- A byte that the complement contains is paired after those below it.
-use Rattle.ptlangs.proofs.Common.{◌+◌, [], ◌∙◌, ℕ, ap, arith, true, false, append-nil, map-append, complement_of, ◌≡◌}
-use Rattle.ptlangs.proofs.Common.{List, subst}
+use Rattle.ptlangs.proofs
+use proofs.Common.{◌+◌, [], ◌∙◌, ℕ, ap, arith, true, false, append-nil, map-append, complement_of, ◌≡◌, List, subst}
 use Rattle.ptlangs.specs.TrParsing.{PairPost, all_paired, plain_members, HasPaired, contents_of}
-use Rattle.ptlangs.proofs.TrByteWalk.{on_fault}
-use Rattle.ptlangs.proofs.TrContents.{complement-around, is_kept, others_below, others_below-all, others_below-more}
-use Rattle.ptlangs.proofs.TrImages.{paired_same}
+use proofs.TrByteWalk.{on_fault}
+use proofs.TrContents.{complement-around, is_kept, others_below, others_below-all, others_below-more}
+use proofs.TrImages.{paired_same}
 use Rattle.ptlangs.specs.declared.tr.segments.Member.{Member}
 use Rattle.ptlangs.proofs.tr.images.Images.push_ascending.Goals.{Joined-first-from, then-first-from+in_ok-push}
 use Rattle.ptlangs.proofs.tr.images.Images.push_ascending.Goals.{else-first-from}

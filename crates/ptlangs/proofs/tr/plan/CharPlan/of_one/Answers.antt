@@ -1,7 +1,8 @@
-use Rattle.ptlangs.proofs.Common.{[], ap, sym, ◌∙◌, Form, Squeeze, Delete, plan_of, tables}
+use Rattle.ptlangs.proofs
+use proofs.Common.{[], ap, sym, ◌∙◌, Form, Squeeze, Delete, plan_of, tables}
 use Rattle.ptlangs.specs.declared.tr.contents.Contents.{Contents}
-use Rattle.ptlangs.proofs.TrContents.{none_contained}
-use Rattle.ptlangs.proofs.TrPlans.{tables_are, is_squeeze}
+use proofs.TrContents.{none_contained}
+use proofs.TrPlans.{tables_are, is_squeeze}
 use Rattle.ptlangs.proofs.tr.plan.CharPlan.of_one.Goals as goal
 
 pub returns-in-Delete : goal.returns-in-Delete

@@ -1,8 +1,9 @@
 -- Each iteration copies the output of the first lines of the rest to the buffer, which is pushed at the end.
-use Rattle.ptflow.proofs.Common.{ℕ, List, ◌+◌, ◌≤◌, length, drop, ◌++◌, take, ◌∙◌, ap, arith, length-drop, take_rest}
-use Rattle.ptflow.proofs.Common.{IsLine, complete_lines, line_if_not_found, complete_lines_none, cut_job, cut_lines}
-use Rattle.ptflow.proofs.Passes.StepOutput.{on_err}
-use Rattle.ptflow.proofs.Passes.Lines.{taken_more, taken_all}
+use Rattle.ptflow.proofs
+use proofs.Common.{ℕ, List, ◌+◌, ◌≤◌, length, drop, ◌++◌, take, ◌∙◌, ap, arith, length-drop, take_rest, IsLine}
+use proofs.Common.{complete_lines, line_if_not_found, complete_lines_none, cut_job, cut_lines}
+use proofs.Passes.StepOutput.{on_err}
+use proofs.Passes.Lines.{taken_more, taken_all}
 use Rattle.ptflow.proofs.tools.cut.fields.FieldCutLineFilter.process_lines.Given as given
 use Rattle.ptflow.proofs.tools.cut.fields.FieldCutLineFilter.process_lines.Goals as goal
 use Rattle.ptflow.proofs.tools.cut.fields.FieldCutLineFilter.process_lines.Goals.{In_default}

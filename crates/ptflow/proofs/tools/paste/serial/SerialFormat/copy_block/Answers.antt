@@ -1,10 +1,10 @@
 -- The terminator that was held back comes first. Then a block is its bytes up to the last one, and the last one.
-use Rattle.ptflow.proofs.Common.{◌≡◌, ◌+◌, ◌-◌, ◌<◌, ◌++◌, ℕ, Bool, true, false, cond, List, [], ◌∷◌, length, take}
-use Rattle.ptflow.proofs.Common.{get_or, refl, sym, ◌∙◌, ap, arith, append_assoc, take_more, take_all, take_more_set}
-use Rattle.ptflow.proofs.Common.{from_bool, mod-lt, count_by, is_byte, serial_rest, row_rest}
-use Rattle.ptflow.proofs.Common.{Option, ◌==◌, not, set, eqb-true, take-set}
+use Rattle.ptflow.proofs
+use proofs.Common.{◌≡◌, ◌+◌, ◌-◌, ◌<◌, ◌++◌, ℕ, Bool, true, false, cond, List, [], ◌∷◌, length, take, get_or, refl, sym}
+use proofs.Common.{◌∙◌, ap, arith, append_assoc, take_more, take_all, take_more_set, from_bool, mod-lt, count_by}
+use proofs.Common.{is_byte, serial_rest, row_rest, Option, ◌==◌, not, set, eqb-true, take-set}
 use Rattle.std.proofs.lemmas.List.{length-take}
-use Rattle.ptflow.proofs.PasteLemmas.SerialRest.{copied_on, row_byte}
+use proofs.PasteLemmas.SerialRest.{copied_on, row_byte}
 use Rattle.ptflow.proofs.tools.paste.serial.SerialFormat.copy_block.Goals.{After-copy_cells-end}
 use Rattle.ptflow.proofs.tools.paste.serial.SerialFormat.copy_block.Goals as goal
 

@@ -1,7 +1,8 @@
-use Rattle.ptflow.proofs.Common.{◌≡◌, ◌+◌, ◌-◌, ◌%◌, ◌≤◌, ◌++◌, ℕ, List, length, take, drop, sym, ◌∙◌, ap, arith}
-use Rattle.ptflow.proofs.Common.{with_replacements, length-take-le, take_at, take-append-add, count_by, is_byte}
+use Rattle.ptflow.proofs
+use proofs.Common.{◌≡◌, ◌+◌, ◌-◌, ◌%◌, ◌≤◌, ◌++◌, ℕ, List, length, take, drop, sym, ◌∙◌, ap, arith, with_replacements}
+use proofs.Common.{length-take-le, take_at, take-append-add, count_by, is_byte}
 use borrow.Rule.Slice.PartMut.{put_mid}
-use Rattle.ptflow.proofs.PasteLemmas.Replaced.{length-replaced}
+use proofs.PasteLemmas.Replaced.{length-replaced}
 use Rattle.ptflow.proofs.tools.paste.serial.SerialFormat.copy_cells.Goals as goal
 
 put_taken : (at : ℕ) (was xs : List ℕ) {n : ℕ} → length xs ≡ n → at + n ≤ length was

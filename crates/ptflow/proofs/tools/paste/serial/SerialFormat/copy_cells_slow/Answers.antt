@@ -1,11 +1,12 @@
 -- Each step copies one line and the delimiter after its column. After the last terminator the rest is a part of a line,
 -- which is copied as it is.
-use Rattle.ptflow.proofs.Common.{◌≡◌, ◌+◌, ◌-◌, ◌%◌, ◌<◌, ◌++◌, length, take, sym, ◌∙◌, ap, arith, length-drop}
-use Rattle.ptflow.proofs.Common.{take_rest, take_all, line_if_not_found, mod-lt, mod-eq_of_lt, delimiter, count_by}
-use Rattle.ptflow.proofs.Common.{is_byte, None, option_to_list, slice_index_or}
-use Rattle.ptflow.proofs.Vectors.FindNth.{none_counted}
-use Rattle.ptflow.proofs.PasteLemmas.Replaced.{replaced_none}
-use Rattle.ptflow.proofs.PasteLemmas.SerialRest.{next_piece}
+use Rattle.ptflow.proofs
+use proofs.Common.{◌≡◌, ◌+◌, ◌-◌, ◌%◌, ◌<◌, ◌++◌, length, take, sym, ◌∙◌, ap, arith, length-drop, take_rest, take_all}
+use proofs.Common.{line_if_not_found, mod-lt, mod-eq_of_lt, delimiter, count_by, is_byte, None, option_to_list}
+use proofs.Common.{slice_index_or}
+use proofs.Vectors.FindNth.{none_counted}
+use proofs.PasteLemmas.Replaced.{replaced_none}
+use proofs.PasteLemmas.SerialRest.{next_piece}
 use Rattle.ptflow.proofs.tools.paste.serial.SerialFormat.copy_cells_slow.Goals as goal
 
 pub pieces-preserved : goal.pieces-preserved
