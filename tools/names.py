@@ -1,21 +1,22 @@
 """The names of the tools, in the order in which a sentence lists them, and the letters that each takes: both are read
-from crates/ptopts/src/command.rt and the files below it, so that no script lists them."""
+from crates/ptopts/src/tool.rt, so that no script lists them."""
 import os
 import re
 
-SOURCE = os.path.join(os.path.dirname(os.path.dirname(os.path.realpath(__file__))), "crates/ptopts/src/command")
+SOURCE = os.path.join(os.path.dirname(os.path.dirname(os.path.realpath(__file__))), "crates/ptopts/src/tool.rt")
 
 
-def text(file):
-    with open(SOURCE + file, encoding="utf-8") as it:
-        return it.read()
+def listed():
+    with open(SOURCE, encoding="utf-8") as it:
+        return re.search(r'^pub const TOOLS: &str = "(.*)";$', it.read(), re.M)[1]
 
 
 def letters_of(field):
-    """For each tool, in the order of the code, the letters of one field of its `SYNTAX`: `flags` or `value_letters`."""
-    tools = re.findall(r"=> (\w+)::SYNTAX,", text(".rt"))
-    return {name: re.search(rf'^    {field}: b"(\w*)",$', text(f"/{name}.rt"), re.M)[1] for name in tools}
+    """For each tool, the letters of one field of its `Syntax`: `flags` or `value_letters`."""
+    with open(SOURCE, encoding="utf-8") as it:
+        rows = re.findall(rf'^const (\w+): Syntax = Syntax \{{.*?\n    {field}: b"(\w*)",', it.read(), re.M | re.S)
+    return {name.lower(): found for name, found in rows}
 
 
-LISTED = re.search(r'^pub const TOOLS: &str = "(.*)";$', text(".rt"), re.M)[1]
+LISTED = listed()
 NAMES = re.split(", | or ", LISTED)

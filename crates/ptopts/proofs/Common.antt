@@ -37,5 +37,5 @@ pub use Rattle.ptopts.specs.Args.{tokens_in, tokens_of, flag, has_option, has_le
 pub use Rattle.ptopts.specs.Args.{is_flag, option_of_token, options, prepend_tokens, parsed_args, parsed_args_from}
 pub use Rattle.ptopts.specs.Args.{takes_next, takes_value, tool_of_name, value_of, value_token, with_value}
 pub use Rattle.ptopts.specs.declared.inputs.Input.{Input}
-pub use Rattle.ptopts.specs.declared.command.Tool.{Tool}
-pub use Rattle.ptopts.specs.declared.command.Tool.TheVariants.{Comm, Cut, Join, Paste, Tr, Uniq}
+pub use Rattle.ptopts.specs.declared.tool.Tool.{Tool}
+pub use Rattle.ptopts.specs.declared.tool.Tool.TheVariants.{Comm, Cut, Join, Paste, Tr, Uniq}

@@ -3,7 +3,7 @@
 use Rattle.ptopts.proofs
 use proofs.Common.{◌≡◌, ℕ, ◌==◌, List, [], ◌∷◌, Bool, true, false, ◌&&◌, refl, ⊎_elim, cases_Bool, Some, None, IsSome}
 use proofs.Common.{if◌then◌else◌, Cut, Fault, ParsedOption, constraints_fault, constraint_fault, has_option, value_of}
-use Rattle.ptopts.specs.declared.syntax.Constraint.TheVariants.{Conflict}
+use Rattle.ptopts.specs.declared.tool.Constraint.TheVariants.{Conflict}
 use Rattle.std.proofs.lemmas.List.Elements.{All-nil, All-cons}
 use Rattle.std.specs.Prelude.{All}
 use Rattle.ptopts.specs.Faults.{Together, value_fault, is_cut_list}

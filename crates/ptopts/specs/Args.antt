@@ -7,7 +7,7 @@ use Rattle.std.specs.List.{list_all, list_any}
 use Rattle.std.specs.Option.{option_map_or}
 use Rattle.std.specs.Str.{byte}
 use Rattle.ptlangs.specs.Numbers.{is_empty}
-use Rattle.ptopts.specs.declared.command.Tool.{Tool}
+use Rattle.ptopts.specs.declared.tool.Tool.{Tool}
 use Rattle.ptopts.specs.Syntax.{syntax, tools}
 
 -- the tool with this name; `None` if there is none

@@ -16,8 +16,8 @@ use Rattle.ptlangs.specs.Jobs as jobs
 use Rattle.ptlangs.specs.declared.jobs.Show.{Show}
 use Rattle.ptlangs.specs.declared.jobs.Show.TheVariants.{All, Counts, Repeated, Single}
 use Rattle.ptlangs.specs.declared.outlist.OutField.{OutField}
-use Rattle.ptopts.specs.declared.command.Tool.{Tool}
-use Rattle.ptopts.specs.declared.command.Tool.TheVariants.{Cut, Paste, Uniq, Comm, Join, Tr}
+use Rattle.ptopts.specs.declared.tool.Tool.{Tool}
+use Rattle.ptopts.specs.declared.tool.Tool.TheVariants.{Cut, Paste, Uniq, Comm, Join, Tr}
 use Rattle.ptopts.specs.declared.inputs.Input.{Input}
 use Rattle.ptopts.specs.declared.inputs.Input.TheVariants.{Standard, File}
 use Rattle.ptopts.specs.declared.inputs.Inputs.{Inputs}

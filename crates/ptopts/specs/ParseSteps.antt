@@ -2,7 +2,7 @@
 use Rattle.std.specs.Prelude.{◌≡◌, ℕ, List, [], ◌∷◌, ◌++◌, Bool, true, false, Option, None, Result, Ok, Err, IsSome}
 use Rattle.std.specs.Prelude.{OnSome, option_map, map, filter_map, drop, slice_index, ◌+◌}
 use Rattle.std.specs.Borrow.{Bor}
-use Rattle.ptopts.specs.declared.command.Tool.{Tool}
+use Rattle.ptopts.specs.declared.tool.Tool.{Tool}
 use Rattle.ptopts.specs.declared.fault.UseFault.{UseFault}
 use Rattle.ptopts.specs.declared.inputs.Inputs.{Inputs}
 use Rattle.ptopts.specs.declared.parsing.ParsedOption as given

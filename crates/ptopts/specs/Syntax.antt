@@ -3,11 +3,11 @@
 -- is reported first, that `-v` may be repeated, and the limit of 512 operands.
 use Prim.Native.String.{String}
 use Rattle.std.specs.Prelude.{ℕ, List, [], ◌∷◌, Bool, true, false, codes, slice_index}
-use Rattle.ptopts.specs.declared.command.Tool.{Tool}
-use Rattle.ptopts.specs.declared.command.Tool.TheVariants.{Cut, Paste, Uniq, Comm, Join, Tr}
-use Rattle.ptopts.specs.declared.syntax.Constraint.{Constraint}
-use Rattle.ptopts.specs.declared.syntax.Constraint.TheVariants.{Conflict, Required}
-use Rattle.ptopts.specs.declared.syntax.Syntax as code
+use Rattle.ptopts.specs.declared.tool.Tool.{Tool}
+use Rattle.ptopts.specs.declared.tool.Tool.TheVariants.{Cut, Paste, Uniq, Comm, Join, Tr}
+use Rattle.ptopts.specs.declared.tool.Constraint.{Constraint}
+use Rattle.ptopts.specs.declared.tool.Constraint.TheVariants.{Conflict, Required}
+use Rattle.ptopts.specs.declared.tool.Syntax as code
 
 -- the options and operands that a tool accepts
 pub record Syntax : Type 0 where

@@ -1,6 +1,6 @@
 -- Theorems on the grammar of words, their parse from left to right, and the commands that they specify.
 use Rattle.std.specs.Prelude.{◌≡◌, ◌↔◌, ℕ, List, [], ◌∷◌, ◌++◌, map, false, Some, None, Ok, IsTrue, is_some}
-use Rattle.ptopts.specs.declared.command.Tool.{Tool}
+use Rattle.ptopts.specs.declared.tool.Tool.{Tool}
 use Rattle.ptopts.specs.Args.{ParsedOption, Valid, Spells, tool_of_name, parsed_args, options}
 use Rattle.ptopts.specs.Faults.{is_repeated, parse_fault, constraints_fault, operands_fault, strings_fault}
 use Rattle.ptopts.specs.Commands.{Command, command, command_of_args, values_fault}

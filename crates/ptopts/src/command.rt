@@ -1,12 +1,10 @@
-//! The tools, and the command of a command line: the job of a tool, and its inputs. `ptext` and `ptrun` use it.
+//! The command of a command line: the job of a tool, and its inputs. `ptext` and `ptrun` use it.
 
 ghost use Rattle.std.specs.Prelude.{◌≡◌, IfOk, None, option_map};
 ghost use Rattle.ptopts.specs.Faults.{constraints_fault, operands_fault};
 ghost use Rattle.ptopts.specs.Commands.{checked_command, command_of_args, input_operands, output};
 ghost use Rattle.ptopts.specs.View.{words_view, command_view, CommandPost, HasToolName};
 ghost use Rattle.ptopts.specs.ParseSteps.{CheckThenMemoryPost, AreInputs, options_view};
-ghost use Rattle.ptopts.specs.Syntax.{syntax, syntax_view};
-ghost use Rattle.ptopts.specs.Args.{tool_of_name, is_flag, takes_value, has_letter};
 
 mod comm;
 mod cut;
@@ -26,24 +24,10 @@ use crate::fault::UseFault;
 use crate::inputs::Inputs;
 use crate::operand_checks::{check_operands, is_standard};
 use crate::parsing::{ParsedArgs, ParsedOption, read_words};
-use crate::syntax::Syntax;
+use crate::tool::Tool;
 use ptlangs::CharPlan;
 use ptlangs::jobs::{CommJob, CutJob, JoinJob, PasteJob, UniqJob};
 use std::alloc::{AllocError, Allocator, Global};
-
-/// The names of the tools, as part of a sentence.
-pub const TOOLS: &str = "cut, paste, join, comm, uniq or tr";
-
-/// One of the tools.
-#[derive(Clone, Copy, Debug, PartialEq, Eq)]
-pub(crate) enum Tool {
-    Cut,
-    Paste,
-    Uniq,
-    Comm,
-    Join,
-    Tr,
-}
 
 /// The job of a tool, with its inputs and its output.
 #[derive(Drop)]
@@ -60,58 +44,6 @@ pub enum Command<'a, A: Allocator = Global> {
     Join(JoinJob<A>, Inputs<'a, A>),
     /// `tr`, with the plan for each byte of standard input.
     Tr(CharPlan, Inputs<'a, A>),
-}
-
-impl Tool {
-    /// The tool with this name, or `None`.
-    pub(crate) fn from_name(name: &str) -> Option<Tool>
-        ensures { result ≡ tool_of_name name.now }
-    {
-        match name {
-            "cut" => Some(Tool::Cut),
-            "paste" => Some(Tool::Paste),
-            "join" => Some(Tool::Join),
-            "comm" => Some(Tool::Comm),
-            "uniq" => Some(Tool::Uniq),
-            "tr" => Some(Tool::Tr),
-            _ => None,
-        }
-    }
-
-    /// The syntax of the tool.
-    pub(crate) fn syntax(self) -> Syntax
-        ensures { syntax_view result ≡ syntax self }
-    {
-        match self {
-            Tool::Cut => cut::SYNTAX,
-            Tool::Paste => paste::SYNTAX,
-            Tool::Uniq => uniq::SYNTAX,
-            Tool::Comm => comm::SYNTAX,
-            Tool::Join => join::SYNTAX,
-            Tool::Tr => tr::SYNTAX,
-        }
-    }
-
-    /// Whether the letter is an option without a value.
-    pub(crate) fn has_flag(self, letter: u8) -> bool
-        ensures { result ≡ is_flag self letter }
-    {
-        self.syntax().flags.contains(&letter)
-    }
-
-    /// Whether the letter is an option with a value.
-    pub(crate) fn takes_value(self, letter: u8) -> bool
-        ensures { result ≡ takes_value self letter }
-    {
-        self.syntax().value_letters.contains(&letter)
-    }
-
-    /// Whether the option may be repeated.
-    pub(crate) fn may_repeat(self, letter: u8) -> bool
-        ensures { result ≡ has_letter letter (syntax self).repeatable }
-    {
-        self.syntax().repeatable.contains(&letter)
-    }
 }
 
 impl<'a, A: Allocator + Copy> Command<'a, A> {

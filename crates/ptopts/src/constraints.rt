@@ -4,10 +4,9 @@ ghost use Rattle.std.specs.Prelude.{option_map, ◌≡◌, ◌∷◌, []};
 ghost use Rattle.ptopts.specs.Faults.{first_some, constraint_fault, constraints_fault, first_value};
 ghost use Rattle.ptopts.specs.ParseSteps.{CheckPost, options_view};
 
-use crate::command::Tool;
 use crate::fault::UseFault;
 use crate::parsing::{ParsedOption, has_letter};
-use crate::syntax::Constraint;
+use crate::tool::{Constraint, Tool};
 use crate::values::value;
 
 /// Checks the constraints of the tool.

@@ -9,10 +9,11 @@ mod grammar;
 mod inputs;
 mod operand_checks;
 mod parsing;
-mod syntax;
+mod tool;
 mod values;
 
-pub use command::{Command, TOOLS};
+pub use command::Command;
 pub use fault::UseFault;
 pub use grammar::{commands_are_spelled, words_have_one_reading};
 pub use inputs::{Input, Inputs};
+pub use tool::TOOLS;

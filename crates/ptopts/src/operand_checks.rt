@@ -9,9 +9,9 @@ ghost use Rattle.ptopts.specs.Faults.{operands_fault};
 ghost use Rattle.ptopts.specs.View.{words_view};
 ghost use Rattle.ptopts.specs.ParseSteps.{CheckPost, options_view};
 
-use crate::command::Tool;
 use crate::fault::UseFault;
 use crate::parsing::{ParsedOption, has_letter};
+use crate::tool::Tool;
 
 /// Checks the operands of the tool.
 ///

@@ -8,8 +8,8 @@ ghost use Rattle.ptopts.specs.View.{words_view};
 ghost use Rattle.ptopts.specs.ParseSteps.{CheckPost, option_view, options_view, next_view, token_at, words_after_value};
 ghost use Rattle.ptopts.specs.ParseSteps.{GroupPost, GroupFaultPost, ArgsPost, ArgsFaultPost};
 
-use crate::command::Tool;
 use crate::fault::UseFault;
+use crate::tool::Tool;
 use std::alloc::{Allocator, Global};
 
 /// An option, with its value if it has one.

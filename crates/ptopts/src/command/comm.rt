@@ -1,31 +1,20 @@
-//! The options and operands of `comm`, and its command, which is its job and its inputs, made from them. `command` uses
-//! both.
+//! Makes the command of `comm`, which is its job and its inputs, from parsed options and operands. `command` calls
+//! `comm_command`.
 
 ghost use Rattle.std.specs.Prelude.{◌≡◌};
 ghost use Rattle.ptlangs.specs.Jobs as jobs;
-ghost use Rattle.ptopts.specs.declared.command.Tool.TheVariants.{Comm};
+ghost use Rattle.ptopts.specs.declared.tool.Tool.TheVariants.{Comm};
 ghost use Rattle.ptopts.specs.Commands as commands;
 ghost use Rattle.ptopts.specs.Commands.{checked_command};
 ghost use Rattle.ptopts.specs.View.{words_view, CommandPost};
 ghost use Rattle.ptopts.specs.ParseSteps.{options_view};
 
-use crate::command::{Command, Tool, read_inputs};
+use crate::command::{Command, read_inputs};
 use crate::fault::UseFault;
 use crate::parsing::{ParsedOption, has_letter};
-use crate::syntax::Syntax;
+use crate::tool::Tool;
 use ptlangs::jobs::CommJob;
 use std::alloc::Allocator;
-
-/// The options and operands of `comm`.
-pub(crate) const SYNTAX: Syntax = Syntax {
-    flags: b"123rz",
-    value_letters: b"",
-    repeatable: b"",
-    constraints: &[],
-    min_operands: 2,
-    max_operands: 2,
-    stdin_once: true,
-};
 
 /// The job of `comm`.
 fn comm_job(options: &[ParsedOption]) -> CommJob

@@ -1,10 +1,10 @@
-//! The options and operands of `cut`, and its command, which is its job and its inputs, made from them. `command` uses
-//! both.
+//! Makes the command of `cut`, which is its job and its inputs, from parsed options and operands. `command` calls
+//! `cut_command`.
 
 ghost use Rattle.std.specs.Prelude.{◌≡◌, None, Err, All, IfOk, IsSome, codes, option_map};
 ghost use Rattle.ptlangs.specs.CutLists.{is_selected};
 ghost use Rattle.ptlangs.specs.Jobs as jobs;
-ghost use Rattle.ptopts.specs.declared.command.Tool.TheVariants.{Cut};
+ghost use Rattle.ptopts.specs.declared.tool.Tool.TheVariants.{Cut};
 ghost use Rattle.ptopts.specs.Args.{value_of};
 ghost use Rattle.ptopts.specs.Faults.{value_fault, constraints_fault, is_cut_list};
 ghost use Rattle.ptopts.specs.Commands as commands;
@@ -12,36 +12,14 @@ ghost use Rattle.ptopts.specs.Commands.{selected_set, checked_command, values_fa
 ghost use Rattle.ptopts.specs.View.{words_view, CommandPost};
 ghost use Rattle.ptopts.specs.ParseSteps.{CheckThenMemoryPost, CheckOrMemoryPost, options_view};
 
-use crate::command::{Command, Tool, read_inputs};
+use crate::command::{Command, read_inputs};
 use crate::fault::UseFault;
 use crate::parsing::{ParsedOption, has_letter};
-use crate::syntax::{Constraint, OPERAND_LIMIT, Syntax};
+use crate::tool::Tool;
 use crate::values::{delimiter, list_fault, value};
 use ptlangs::jobs::CutJob;
 use ptlangs::ranges::{ListFault, Ranges};
 use std::alloc::Allocator;
-
-/// The options and operands of `cut`.
-pub(crate) const SYNTAX: Syntax = Syntax {
-    flags: b"nsz",
-    value_letters: b"bcfd",
-    repeatable: b"",
-    constraints: &[
-        Constraint::Conflict(b'b', b'c'),
-        Constraint::Conflict(b'b', b'f'),
-        Constraint::Conflict(b'c', b'f'),
-        Constraint::Required(b'b', b'c', b'f'),
-        Constraint::Conflict(b'c', b'n'),
-        Constraint::Conflict(b'f', b'n'),
-        Constraint::Conflict(b'b', b'd'),
-        Constraint::Conflict(b'c', b'd'),
-        Constraint::Conflict(b'b', b's'),
-        Constraint::Conflict(b'c', b's'),
-    ],
-    min_operands: 0,
-    max_operands: OPERAND_LIMIT,
-    stdin_once: false,
-};
 
 /// The list that is the value of this option, if it is present.
 fn cut_list<'a, A: Allocator + Copy>(

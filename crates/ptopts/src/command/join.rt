@@ -1,10 +1,10 @@
-//! The options and operands of `join`, and its command, which is its job and its inputs, made from them. `command` uses
-//! both.
+//! Makes the command of `join`, which is its job and its inputs, from parsed options and operands. `command` calls
+//! `join_command`.
 
 ghost use Rattle.std.specs.Prelude.{◌≡◌, None, IfOk, slice_index_or, false, unwrap_or, codes, option_map, []};
 ghost use Rattle.std.specs.Str.{byte};
 ghost use Rattle.ptlangs.specs.Jobs as jobs;
-ghost use Rattle.ptopts.specs.declared.command.Tool.TheVariants.{Join};
+ghost use Rattle.ptopts.specs.declared.tool.Tool.TheVariants.{Join};
 ghost use Rattle.ptopts.specs.Args.{value_of};
 ghost use Rattle.ptopts.specs.Faults.{value_fault, each_value_fault, is_file_number, is_field_number, is_output_list};
 ghost use Rattle.ptopts.specs.Commands as commands;
@@ -12,26 +12,15 @@ ghost use Rattle.ptopts.specs.Commands.{names_file, number_value, fields_of, che
 ghost use Rattle.ptopts.specs.View.{words_view, CommandPost};
 ghost use Rattle.ptopts.specs.ParseSteps.{CheckPost, CheckThenMemoryPost, CheckOrMemoryPost, options_view};
 
-use crate::command::{Command, Tool, read_inputs};
+use crate::command::{Command, read_inputs};
 use crate::fault::UseFault;
 use crate::parsing::{ParsedOption, has_letter};
-use crate::syntax::{Constraint, Syntax};
+use crate::tool::Tool;
 use crate::values::{delimiter, list_fault, value};
 use ptlangs::jobs::JoinJob;
 use ptlangs::numbers;
 use ptlangs::outlist::{OutFault, OutList};
 use std::alloc::{AllocError, Allocator};
-
-/// The options and operands of `join`.
-pub(crate) const SYNTAX: Syntax = Syntax {
-    flags: b"rz",
-    value_letters: b"aveot12",
-    repeatable: b"av",
-    constraints: &[Constraint::Conflict(b'a', b'v')],
-    min_operands: 2,
-    max_operands: 2,
-    stdin_once: true,
-};
 
 /// For each of the two files, whether a value of this option names it.
 fn selected_files<'a>(options: &[ParsedOption<'a>], letter: u8) -> Result<[bool; 2], UseFault<'a>>

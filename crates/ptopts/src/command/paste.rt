@@ -1,10 +1,10 @@
-//! The options and operands of `paste`, and its command, which is its job and its inputs, made from them. `command` uses
-//! both.
+//! Makes the command of `paste`, which is its job and its inputs, from parsed options and operands. `command` calls
+//! `paste_command`.
 
 ghost use Rattle.std.specs.Prelude.{◌≡◌, IfOk, option_map};
 ghost use Rattle.std.specs.Str.{byte};
 ghost use Rattle.ptlangs.specs.Jobs as jobs;
-ghost use Rattle.ptopts.specs.declared.command.Tool.TheVariants.{Paste};
+ghost use Rattle.ptopts.specs.declared.tool.Tool.TheVariants.{Paste};
 ghost use Rattle.ptopts.specs.Args.{value_of};
 ghost use Rattle.ptopts.specs.Faults.{value_fault, is_delimiter_list};
 ghost use Rattle.ptopts.specs.Commands as commands;
@@ -12,25 +12,14 @@ ghost use Rattle.ptopts.specs.Commands.{delimiters_of, checked_command, values_f
 ghost use Rattle.ptopts.specs.View.{words_view, CommandPost};
 ghost use Rattle.ptopts.specs.ParseSteps.{CheckThenMemoryPost, options_view};
 
-use crate::command::{Command, Tool, read_inputs};
+use crate::command::{Command, read_inputs};
 use crate::fault::UseFault;
 use crate::parsing::{ParsedOption, has_letter};
-use crate::syntax::{OPERAND_LIMIT, Syntax};
+use crate::tool::Tool;
 use crate::values::{list_fault, value};
 use ptlangs::delims::{DelimFault, Delims};
 use ptlangs::jobs::PasteJob;
 use std::alloc::Allocator;
-
-/// The options and operands of `paste`.
-pub(crate) const SYNTAX: Syntax = Syntax {
-    flags: b"sz",
-    value_letters: b"d",
-    repeatable: b"",
-    constraints: &[],
-    min_operands: 1,
-    max_operands: OPERAND_LIMIT,
-    stdin_once: false,
-};
 
 /// The delimiter list, if there is one.
 fn delimiter_list<'a, A: Allocator + Copy>(

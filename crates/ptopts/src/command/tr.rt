@@ -1,31 +1,20 @@
-//! The options and operands of `tr`, and its command, which is its job and its inputs, made from them. `command` uses
-//! both.
+//! Makes the command of `tr`, which is its job and its inputs, from parsed options and operands. `command` calls
+//! `tr_command`.
 
 ghost use Rattle.std.specs.Prelude.{◌≡◌, IfOk, None, slice_get, option_copied};
-ghost use Rattle.ptopts.specs.declared.command.Tool.TheVariants.{Tr};
+ghost use Rattle.ptopts.specs.declared.tool.Tool.TheVariants.{Tr};
 ghost use Rattle.ptopts.specs.Faults as faults;
 ghost use Rattle.ptopts.specs.Faults.{form_of_options, operands_fault, strings_fault};
 ghost use Rattle.ptopts.specs.Commands.{char_tables, checked_command};
 ghost use Rattle.ptopts.specs.View.{words_view, CommandPost};
 ghost use Rattle.ptopts.specs.ParseSteps.{CheckPost, options_view};
 
-use crate::command::{Command, Tool, read_inputs};
+use crate::command::{Command, read_inputs};
 use crate::fault::UseFault;
 use crate::parsing::{ParsedOption, has_letter};
-use crate::syntax::{Constraint, Syntax};
+use crate::tool::Tool;
 use ptlangs::{CharPlan, Form};
 use std::alloc::Allocator;
-
-/// The options and operands of `tr`.
-pub(crate) const SYNTAX: Syntax = Syntax {
-    flags: b"cCds",
-    value_letters: b"",
-    repeatable: b"",
-    constraints: &[Constraint::Conflict(b'c', b'C')],
-    min_operands: 1,
-    max_operands: 2,
-    stdin_once: false,
-};
 
 /// The form of `tr`, from its options and the number of its strings (POSIX.1-2017, XCU, `tr`, the synopsis).
 fn form(options: &[ParsedOption], strings: &[&str]) -> Form

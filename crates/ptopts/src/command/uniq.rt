@@ -1,36 +1,21 @@
-//! The options and operands of `uniq`, and its command, which is its job and its inputs, made from them. `command` uses
-//! both.
+//! Makes the command of `uniq`, which is its job and its inputs, from parsed options and operands. `command` calls
+//! `uniq_command`.
 
 ghost use Rattle.std.specs.Prelude.{◌≡◌, IfOk};
 ghost use Rattle.ptlangs.specs.Jobs as jobs;
-ghost use Rattle.ptopts.specs.declared.command.Tool.TheVariants.{Uniq};
+ghost use Rattle.ptopts.specs.declared.tool.Tool.TheVariants.{Uniq};
 ghost use Rattle.ptopts.specs.Commands as commands;
 ghost use Rattle.ptopts.specs.Commands.{checked_command, values_fault};
 ghost use Rattle.ptopts.specs.View.{words_view, CommandPost};
 ghost use Rattle.ptopts.specs.ParseSteps.{CheckPost, options_view};
 
-use crate::command::{Command, Tool, read_inputs};
+use crate::command::{Command, read_inputs};
 use crate::fault::UseFault;
 use crate::parsing::{ParsedOption, has_letter};
-use crate::syntax::{Constraint, Syntax};
+use crate::tool::Tool;
 use crate::values::number;
 use ptlangs::jobs::{Show, UniqJob};
 use std::alloc::Allocator;
-
-/// The options and operands of `uniq`.
-pub(crate) const SYNTAX: Syntax = Syntax {
-    flags: b"cduz",
-    value_letters: b"fs",
-    repeatable: b"",
-    constraints: &[
-        Constraint::Conflict(b'c', b'd'),
-        Constraint::Conflict(b'c', b'u'),
-        Constraint::Conflict(b'd', b'u'),
-    ],
-    min_operands: 0,
-    max_operands: 2,
-    stdin_once: false,
-};
 
 /// The lines that are written.
 fn show(options: &[ParsedOption]) -> Show
