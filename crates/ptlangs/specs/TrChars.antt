@@ -9,7 +9,7 @@ use Rattle.std.specs.Str.{byte}
 use Rattle.ptlangs.specs.declared.faults.SetFaultKind.{SetFaultKind}
 use Rattle.ptlangs.specs.declared.faults.SetFaultKind.TheVariants.{Octal, Escape}
 
--- a character: a plain byte, or an escape with the byte that it denotes, or with the fault that it denotes none
+-- a character: a plain byte, an escape with the byte that it denotes, or an escape that denotes none, with its fault
 pub data SetChar : Type 0 where
   Plain : ℕ → SetChar
   Escaped : ℕ → SetChar
@@ -34,8 +34,6 @@ letter_escapes =
 -- the byte that a backslash before `c` denotes: `c` itself, unless `c` is one of `letter_escapes`
 abbrev pub byte_of_escape : ℕ → ℕ
 byte_of_escape c = option_map_or (λ (p : ℕ × ℕ). p.1) (find (λ (p : ℕ × ℕ). p.0 == c) letter_escapes) c
-
--- the octal digits of an escape, all that there are up to three, before the rest
 
 -- the bytes start with an octal digit
 abbrev pub starts_octal : List ℕ → Bool

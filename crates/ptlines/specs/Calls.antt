@@ -72,7 +72,7 @@ module _ {I : Type 0} (names : InputNames I) where
   abbrev pub NoReadFailed : CallState I → CallState I → Type 0
   NoReadFailed old new = (i : I) → names.is_read i ≡ true → (new.reader i).failed ≡ (old.reader i).failed
 
-  -- A read of this input failed, or it has 2^63 bytes or more; no other call failed.
+  -- A read of this input failed, or it has 2^63 bytes or more. No other read, write or request for memory failed.
   pub record ReadFaultPost (old new : CallState I) (input : I) : Type 0 where
     pub named : names.is_read input ≡ true
     pub unfailed : (old.reader input).failed ≡ false
@@ -81,14 +81,14 @@ module _ {I : Type 0} (names : InputNames I) where
     pub clean : new.out.write_failed ≡ false
     pub not_denied : new.store.denied ≡ false
 
-  -- A write failed, and no other call.
+  -- A write failed, but no read and no request for memory.
   pub record WriteFaultPost (old new : CallState I) : Type 0 where
     pub write_failed : new.out.write_failed ≡ true
     pub unfailed : NoReadFailed old new
     pub not_denied : new.store.denied ≡ false
 
   module _ (engine : EngineSpec I) where
-    -- All output was pushed, up to the line out of order that was found, if any. No call failed, and the readers and
+    -- All output was pushed, up to the line out of order that was found, if any. Nothing failed, and the readers and
     -- the store can be used again.
     pub record AllPushed (old new : CallState I) (given : I → Received) (pushed : List ℕ) (found : Option (I × ℕ))
         : Type 0 where
@@ -115,8 +115,8 @@ module _ {I : Type 0} (names : InputNames I) where
         ⊎ ((engine.keeps_groups ≡ true)
         × ((texts : I → List ℕ) → AreAllConsistent given texts → pushed ≢ engine.text texts))
 
-    -- The store could not grow, and no other call failed. Memory was requested for the first slots, or for something
-    -- that was left to do.
+    -- The store could not grow, but no read and no write failed. Memory was requested for the first slots, or for what
+    -- was left to do.
     pub record MemoryFaultPost (old new : CallState I) (given : I → Received) (pushed : List ℕ) : Type 0 where
       pub denied : new.store.denied ≡ true
       pub unfailed : NoReadFailed old new

@@ -1,5 +1,5 @@
--- Views, which are functions from the values of the code to those of the definitions: faults, and in `Commands` words
--- and commands.
+-- Views, which are functions from the values of the code to those of the definitions. (`Commands` has those of words
+-- and commands.)
 use Rattle.std.specs.Prelude.{ℕ, List, [], ◌∷◌, Option, Some, None, Result, IsSome}
 use Rattle.ptlangs.specs.Results.{ParsePost}
 use Rattle.ptopts.specs.declared.command.Command as code

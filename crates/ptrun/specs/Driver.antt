@@ -80,8 +80,8 @@ HasIndexBelow count (Ok (Disorder position line)) = position < count
 HasIndexBelow count (Err (Read position)) = position < count
 HasIndexBelow count _ = Unit {0}
 
--- The postcondition of finishing the output: what was buffered is sent, and the sink is flushed once. If a write failed,
--- that is the result, in place of any other, and nothing was flushed.
+-- The postcondition of finishing the output: what was buffered is sent, and the sink is flushed once. If a write
+-- failed, that is the result, in place of any other, and nothing was flushed.
 pub record FinishPost (old new : Output) (run_result final_result : Result Completion FlowFault) : Type 0 where
   pub wrote : PushEffect old (record new { flushes = old.flushes }) []
   pub same_result : new.write_failed ≡ false → final_result ≡ run_result
@@ -177,8 +177,8 @@ pub record RunInputsPost (m : CommandSpec) (old new : List Reader) (was is : Out
   pub slots : (w : InputBytes) → AreInputsConsistent received w
       → length store.lines ≤ max (length before.lines) (m.slot_bound w)
 
--- The postcondition of a run with a lent store: the peak that it reports, and whether memory was denied, are the store's
--- own, and if it reads nothing, then inputs, store and output are unchanged.
+-- The postcondition of a run with a lent store: the peak that it reports, and whether memory was denied, are the
+-- store's own, and if it reads nothing, then inputs, store and output are unchanged.
 pub record RunWithStorePost (m : CommandSpec) (old new : List Reader) (handed : Sinks) (o : Outcome)
     (lent left : Slots) : Type 0 where
   pub run : IsRunInStore m old new handed o lent left

@@ -20,7 +20,7 @@ at_positions engine position = record {
 }
 
 -- An engine in a run. All inputs are new, so one is left to read even if a first slot is missing: `left` of a call then
--- holds without its condition, and `unread` states nothing.
+-- holds without its condition, `unread` states nothing, and `added` only that no slot was taken away.
 abbrev pub in_run : EngineSpec ℕ → EngineSpec ℕ
 in_run engine = record engine { first_slots = 0 }
 

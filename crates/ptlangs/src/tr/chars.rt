@@ -59,7 +59,8 @@ fn octal_len(bytes: &[u8]) -> usize
     bytes.iter().take(3).take_while(|b| is_octal(**b)).count()
 }
 
-/// The byte that a backslash before these bytes denotes, and the number of these bytes that it takes.
+/// The byte that a backslash before these bytes denotes, or the fault of the escape, and the number of these bytes that
+/// it takes.
 #[tactic(auto, using(crate::proofs::TrCharGrammar::octal_steps))]
 fn escape(bytes: &[u8]) -> (Result<u8, SetFaultKind>, usize)
     ensures denoted { result.0 ≡ byte_of (after_backslash bytes.now).0 }

@@ -9,11 +9,11 @@ use proofs.Common.{AdvanceOkPost, AdvancePre, MergeState, MergePost, merge_state
 use proofs.Common.{HaveEqualKeys, HasOnlyLeastKey, IsDisorderDecided, IsReaderOf, AreValidCursors, StartOkPost}
 use proofs.Common.{merge_inputs, ClearFourSlotsPost, suc, ◌-◌, min, append_assoc, append-nil, tied_itself, entries}
 use proofs.Common.{Bool}
-use proofs.MergeLemmas.Step.{Stands, stands_on, advance_pre, reads_less, EndsIfFails, CursorsInvariant, LoopInvariant}
-use proofs.MergeLemmas.Step.{advance_ok, goes_merging, passing_now}
-use proofs.MergeLemmas.Step.{runs_on, slots_of, read_facts_current, iteration_fails, IsLineByLine, current_key_is_above}
-use proofs.MergeLemmas.Step.{alone, write_one_line, reads_ahead, place_is}
-use proofs.MergeLemmas.Step.{wrote_and_sent, StoreHoldsTwoLines, holds_two, keeps_two, ends_well, ends_fallen, start_ok}
+use proofs.MergeLemmas.Step.{BetweenSteps, between_next, advance_pre, reads_less, EndsIfFails, CursorsInvariant}
+use proofs.MergeLemmas.Step.{LoopInvariant, advance_ok, goes_merging, passing_now, runs_on, slots_of}
+use proofs.MergeLemmas.Step.{read_facts_current, iteration_fails, IsLineByLine, current_key_is_above, alone}
+use proofs.MergeLemmas.Step.{write_one_line, reads_ahead, place_is, wrote_and_sent, StoreHoldsTwoLines, holds_two}
+use proofs.MergeLemmas.Step.{keeps_two, ends_well, ends_fallen, start_ok}
 use proofs.MergeLemmas.Orders.{IsKeyOrder, same_bytes}
 use proofs.MergeLemmas.Slots.{put_other, put_same}
 use proofs.MergeLemmas.Invariant.{AllWritten, MergeInvariant, line_is_least_run, lag_invariant_starts, write_least_run}
@@ -101,7 +101,7 @@ pub record IterationInvariant (job : Comm) (cmp : Cmp) (key : Side → Key) (old
   pub opened : IsOpenMerge (comm_with job cmp key) old
   pub whole_line_keys : (side : Side) (x : List ℕ) → key side x ≡ x
   pub loop_invariant : LoopInvariant (comm_with job cmp key) (StoreHoldsTwoLines old.store) old now (both one two)
-  pub stands : Stands key now one two
+  pub between : BetweenSteps key now one two
 
 -- ---- the start
 
@@ -117,7 +117,7 @@ module _ (job : Comm) {cmp : Cmp} {key : Side → Key} {old : MergeState}
     opened = w;
     whole_line_keys = whole_line_keys;
     loop_invariant = start_ok w (merge_inputs first second store) (both one two) valid_cursors.first h;
-    stands = record {
+    between = record {
       valid_cursors = valid_cursors;
       own_reader = elim [ First ↦ reader1 | Second ↦ reader2 ];
       clean = w.writable;
@@ -132,14 +132,14 @@ module _ {job : Comm} {cmp : Cmp} {key : Side → Key} {old now : MergeState} {o
     opened as w,
     whole_line_keys,
     loop_invariant.{ls, p, b, sides, merge_invariant, keeps},
-    stands,
+    between,
   }
 
   abbrev tool : MergeTool
   tool = comm_with job cmp key
 
-  stood_at : CursorsInvariant tool old now.reader (both one two) now.store ls p b
-  stood_at = let slots = slots_of stands in
+  lines_before : CursorsInvariant tool old now.reader (both one two) now.store ls p b
+  lines_before = let slots = slots_of between in
       record { sides = sides; holds = holds_two w.fits keeps slots; slots = slots }
 
   abbrev head : Side → List ℕ
@@ -150,7 +150,7 @@ module _ {job : Comm} {cmp : Cmp} {key : Side → Key} {old now : MergeState} {o
     pub alone_decreases : {one2 two2 : Sorted} {reader : Reader} {after : Slots} {new : Output}
         → AdvanceOkPost key cmp s one two one2 two2 (now.reader s) reader now.store after new
         → reads_ahead (with_side s reader now.reader) one2 two2 < reads_ahead now.reader one two
-    alone_decreases h = reads_less stands s h.continues step.status_is h.came
+    alone_decreases h = reads_less between s h.continues step.status_is h.came
 
     module _ {new : Output} {tabs : List ℕ} (led : tabs ≡ tabs_of job s) (pushed : PushEffect now.out new
         (unlines (now.reader s).terminator (column_entries (hidden_of job s) tabs 1 (head s)))) where
@@ -159,7 +159,7 @@ module _ {job : Comm} {cmp : Cmp} {key : Side → Key} {old now : MergeState} {o
       wrote_line =
           let h = at_current_line (sides s) step.status_is in
           let (above, under) = current_key_is_above _ w.o _ _ _ _ _ _ _ _ _ step.before (sides (other s)).status_is in
-          rw h.all (write_one_line _ w.o (is_line_by_line job cmp key) s (head s) _ _ _ _ _ stands.clean merge_invariant
+          rw h.all (write_one_line _ w.o (is_line_by_line job cmp key) s (head s) _ _ _ _ _ between.clean merge_invariant
           h.bound above under
           (rw (entries_alone job cmp key s (head s) (whole_line_keys s (head s)))
           (rw ((sides s).lines_read.terminator, led) at pushed)))
@@ -171,21 +171,21 @@ module _ {job : Comm} {cmp : Cmp} {key : Side → Key} {old now : MergeState} {o
         opened = w;
         whole_line_keys = whole_line_keys;
         loop_invariant = rw (← place_is s one two one2 two2 h.continues.others)
-            (runs_on w stood_at s step.status_is h.came (keeps_two w stood_at s step.status_is h.came keeps)
+            (runs_on w lines_before s step.status_is h.came (keeps_two w lines_before s step.status_is h.came keeps)
             (let (m, _) = wrote_line in m));
-        stands = stands_on stands s h.continues;
+        between = between_next between s h.continues;
       }
 
       pub alone_fails : EndsIfFails tool old now s (both one two s) new
-      alone_fails = iteration_fails w stood_at s step.status_is wrote_line (put_same s (ls s) p)
-          (rw (put_other s (ls s) p) (read_facts_current w stood_at (other s)))
+      alone_fails = iteration_fails w lines_before s step.status_is wrote_line (put_same s (ls s) p)
+          (rw (put_other s (ls s) p) (read_facts_current w lines_before (other s)))
 
   -- a step for a line of both inputs, after the first input advanced: the second one is still at the line
   pub second_advance_pre : HaveEqualKeys cmp key (both one two) now.store
       → {one2 two2 : Sorted} {reader : Reader} {after : Slots} {mid : Output}
       → AdvanceOkPost key cmp First one two one2 two2 (now.reader First) reader now.store after mid
       → AdvancePre key Second one2 two2 (now.reader Second) after
-  second_advance_pre step h = advance_pre (stands_on stands First h.continues) Second
+  second_advance_pre step h = advance_pre (between_next between First h.continues) Second
       (ap (λ (q : Sorted). q.status) h.continues.others ∙ step.second)
 
   module _ (step : HaveEqualKeys cmp key (both one two) now.store) where
@@ -196,8 +196,8 @@ module _ {job : Comm} {cmp : Cmp} {key : Side → Key} {old now : MergeState} {o
         → reads_ahead (both reader reader2) one3 two3 < reads_ahead now.reader one two
     pair_decreases h k = omega (
       arith,
-      reads_less stands First h.continues step.first h.came,
-      reads_less (stands_on stands First h.continues) Second k.continues (second_advance_pre step h).head k.came,
+      reads_less between First h.continues step.first h.came,
+      reads_less (between_next between First h.continues) Second k.continues (second_advance_pre step h).head k.came,
     )
 
     abbrev both_written : Side → Lines
@@ -215,7 +215,7 @@ module _ {job : Comm} {cmp : Cmp} {key : Side → Key} {old now : MergeState} {o
         (elim [ First ↦ line_is_least_run w.o h1.bound refl | Second ↦ line_is_least_run w.o h2.bound (sym step.same) ])
         (elim [ First ↦ h1.all | Second ↦ h2.all ]) (entries_none job (key First x))
         (λ r c. entries_both job (key First x) (length (lines_with_key (key First) (r First) (key First x)))
-        (length (lines_with_key (key Second) (r Second) (key First x)))) stands.clean merge_invariant wrote
+        (length (lines_with_key (key Second) (r Second) (key First x)))) between.clean merge_invariant wrote
 
     module _ {mid : Output} {tabs : List ℕ} (led : tabs ≡ tab_if_shown job.hide1 ++ tab_if_shown job.hide2)
         (pushed : PushEffect now.out mid (unlines (now.reader First).terminator
@@ -226,8 +226,8 @@ module _ {job : Comm} {cmp : Cmp} {key : Side → Key} {old now : MergeState} {o
           (sym step.same)) (rw ((sides First).lines_read.terminator, led) at pushed)
 
       pub pair_fails : EndsIfFails tool old now First one mid
-      pair_fails = iteration_fails w stood_at First step.first (wrote_both wrote_pair) refl
-          (passing_now w stood_at Second step.second)
+      pair_fails = iteration_fails w lines_before First step.first (wrote_both wrote_pair) refl
+          (passing_now w lines_before Second step.second)
 
       -- the first input advanced, and the output was written out
       module _ {one2 two2 : Sorted} {reader : Reader} {after : Slots}
@@ -239,12 +239,12 @@ module _ {job : Comm} {cmp : Cmp} {key : Side → Key} {old now : MergeState} {o
         pub second_fails : EndsIfFails tool old (state_by_side (both reader (now.reader Second)) new after) Second two2
             new
         second_fails _ _ _ k =
-            let g = advance_ok w stood_at First step.first h.came w.fits keeps in
-            let m = goes_merging w stood_at First step.first h.came wrote_line_out in
+            let g = advance_ok w lines_before First step.first h.came w.fits keeps in
+            let m = goes_merging w lines_before First step.first h.came wrote_line_out in
             let (before, _) = wrote_both wrote_pair in
             iteration_fails w g Second step.second (
               m,
-              lag_invariant_starts (goes_merging w stood_at First step.first h.came before) h.continues.clean
+              lag_invariant_starts (goes_merging w lines_before First step.first h.came before) h.continues.clean
                   written_out,
             ) refl (read_facts_current w g First) _ _ _ (rw h.continues.others at k)
 
@@ -252,15 +252,15 @@ module _ {job : Comm} {cmp : Cmp} {key : Side → Key} {old now : MergeState} {o
             → AdvanceOkPost key cmp Second one2 two2 one3 two3 (now.reader Second) reader2 after last new
             → IterationInvariant job cmp key old (state_by_side (both reader reader2) new last) one3 two3
         pair_continues k =
-            let g = advance_ok w stood_at First step.first h.came w.fits keeps in
+            let g = advance_ok w lines_before First step.first h.came w.fits keeps in
             let came = rw h.continues.others at k.came in
-            let kept = keeps_two w g Second step.second came (keeps_two w stood_at First step.first h.came keeps) in
+            let kept = keeps_two w g Second step.second came (keeps_two w lines_before First step.first h.came keeps) in
             record {
               opened = w;
               whole_line_keys = whole_line_keys;
               loop_invariant = rw k.continues.others (runs_on w g Second step.second came kept
-                  (goes_merging w stood_at First step.first h.came wrote_line_out));
-              stands = stands_on (stands_on stands First h.continues) Second k.continues;
+                  (goes_merging w lines_before First step.first h.came wrote_line_out));
+              between = between_next (between_next between First h.continues) Second k.continues;
             }
 
   -- ---- the end
@@ -268,8 +268,8 @@ module _ {job : Comm} {cmp : Cmp} {key : Side → Key} {old now : MergeState} {o
   module _ {after : Slots} (clear : ClearFourSlotsPost now.store after) where
     pub eof : ((side : Side) → (both one two side).status ≡ Ended)
         → MergePost tool old (state_by_side now.reader now.out after) (Ok tt)
-    eof step = ends_well w stood_at merge_invariant stands.clean clear step
+    eof step = ends_well w lines_before merge_invariant between.clean clear step
 
     pub disordered : {s : Side} {n : ℕ} → IsDisorderDecided cmp key (both one two) now.store s n
         → MergePost tool old (state_by_side now.reader now.out after) (Err (faults.Disorder s n))
-    disordered step = ends_fallen w stood_at merge_invariant stands.clean clear step
+    disordered step = ends_fallen w lines_before merge_invariant between.clean clear step

@@ -13,11 +13,10 @@ use proofs.Common.{MergeRunPre, JoinStepPre, AdvancePre, push_nothing, other, if
 use proofs.Common.{max_group_lines, inl, inr, ReadGroupLineOkPost, ReadGroupLinePost, IsGroup, ClearGroupPost}
 use proofs.Common.{group_end_slot, group_first_slot, group, JoinLinePre, ⊎_elim, ◌-◌, ◌==◌, push_trans, nat_tests}
 use proofs.Common.{length_push, unlines-append, append_assoc, merged_entries, nil_from_length, CopyToGroupPost}
-use proofs.MergeLemmas.Step.{Stands, stands_on, advance_pre, reads_less, open_merge, slots_of, wrote_as, IsLineByLine}
-use proofs.MergeLemmas.Step.{alone, current_key_is_above, write_one_line}
-use proofs.MergeLemmas.Step.{IsAbove, reads_ahead, place_is, LoopInvariant}
-use proofs.MergeLemmas.Step.{CursorsInvariant, EndsIfFails, iteration_fails, read_facts_current, runs_on, n}
-use proofs.MergeLemmas.Step.{ends_well, ends_fallen, start_ok, next_keeps_slot_count, valid_cursors_kept}
+use proofs.MergeLemmas.Step.{BetweenSteps, between_next, advance_pre, reads_less, open_merge, slots_of, wrote_as}
+use proofs.MergeLemmas.Step.{IsLineByLine, alone, current_key_is_above, write_one_line, IsAbove, reads_ahead, place_is}
+use proofs.MergeLemmas.Step.{LoopInvariant, CursorsInvariant, EndsIfFails, iteration_fails, read_facts_current, runs_on}
+use proofs.MergeLemmas.Step.{n, ends_well, ends_fallen, start_ok, next_keeps_slot_count, valid_cursors_kept}
 use proofs.MergeLemmas.Step.{wrote_and_sent}
 use proofs.JoinLemmas.GroupInvariant.{IsPairTool, IsAtKey, head_of, JoinCall, state_after_read, GroupState}
 use proofs.JoinLemmas.GroupInvariant.{store_between_groups, IsAtGroupLine, AdvancedGroup, closes, continues_key}
@@ -179,8 +178,8 @@ pub record IterationInvariant (job : Join) (cmp : Cmp) (key : Side → Key) (old
     (now : MergeState) (one two : Sorted) (end : ℕ) : Type 0 where
   pub opened : IsOpenMerge job cmp key old
   pub phased : PhaseInvariant (join_call_of opened) phase now (both one two) end
-  pub stands : Stands key now one two
-  pub open stands use *
+  pub between : BetweenSteps key now one two
+  pub open between use *
 
 -- ---- the start
 
@@ -205,7 +204,7 @@ module _ {job : Join} {cmp : Cmp} {key : Side → Key} {old : MergeState} (a : I
           },
           refl,
         );
-        stands = record {
+        between = record {
           valid_cursors = valid_cursors;
           own_reader = elim [ First ↦ reader1 | Second ↦ reader2 ];
           clean = a.w.writable;
@@ -221,7 +220,7 @@ module _ {job : Join} {cmp : Cmp} {key : Side → Key} {old : MergeState} {phase
   call = join_call_of t.opened
 
   slots : (side : Side) → HasSlots side (both one two side)
-  slots = slots_of t.stands
+  slots = slots_of t.between
 
   pub end_in : (4 ≤ end) × (end ≤ length now.store.lines)
   end_in = by phase t.phased
@@ -239,7 +238,7 @@ module _ {job : Join} {cmp : Cmp} {key : Side → Key} {old : MergeState} {phase
   iteration_continues {next} s {one2} {two2} {reader} {after} {new} {to} continues phased = record {
     opened = t.opened;
     phased = rw (← place_is s one two one2 two2 continues.others) phased;
-    stands = stands_on t.stands s continues;
+    between = between_next t.between s continues;
   }
 
   -- advancing an input decreases the remaining work, in every phase
@@ -250,7 +249,7 @@ module _ {job : Join} {cmp : Cmp} {key : Side → Key} {old : MergeState} {phase
       → 3 * reads_ahead (with_side s reader now.reader) one2 two2 + rank next
       < 3 * reads_ahead now.reader one two + rank phase
   measure_decreases s next head came continues =
-      omega (arith, reads_less t.stands s continues head came, rank_few next)
+      omega (arith, reads_less t.between s continues head came, rank_few next)
 
   pub joins : JoinStepPre job key now.out
   joins = record { keys = t.opened.keys; clean = t.clean }
@@ -267,8 +266,8 @@ module _ {job : Join} {cmp : Cmp} {key : Side → Key} {old : MergeState} {phase
     no_copies : end ≡ 4
     no_copies = let (_, four) = between in four
 
-    stood_at : CursorsInvariant (join_with job cmp key) old now.reader (both one two) now.store r.ls r.p r.b
-    stood_at =
+    lines_before : CursorsInvariant (join_with job cmp key) old now.reader (both one two) now.store r.ls r.p r.b
+    lines_before =
         record { sides = r.sides; holds = store_between_groups call r.keeps slots; slots = slots }
 
     -- a step for an unpaired line
@@ -291,14 +290,14 @@ module _ {job : Join} {cmp : Cmp} {key : Side → Key} {old : MergeState} {phase
           → IterationInvariant job cmp key old phase (state_after_read now s reader new after) one2 two2 end
       alone_continues h =
           let keeps =
-          group_store_next s (both one two s) (slots s) r.keeps (n t.opened.w stood_at s step.status_is h.came) in
+          group_store_next s (both one two s) (slots s) r.keeps (n t.opened.w lines_before s step.status_is h.came) in
           let (m, _) = wrote_unpaired in
           iteration_continues {next = phase} s h.continues
-          (rw is (runs_on t.opened.w stood_at s step.status_is h.came keeps m, no_copies))
+          (rw is (runs_on t.opened.w lines_before s step.status_is h.came keeps m, no_copies))
 
       pub alone_fails : EndsIfFails (join_with job cmp key) old now s (both one two s) new
-      alone_fails = iteration_fails t.opened.w stood_at s step.status_is wrote_unpaired (put_same s (r.ls s) r.p)
-          (rw (put_other s (r.ls s) r.p) (read_facts_current t.opened.w stood_at (other s)))
+      alone_fails = iteration_fails t.opened.w lines_before s step.status_is wrote_unpaired (put_same s (r.ls s) r.p)
+          (rw (put_other s (r.ls s) r.p) (read_facts_current t.opened.w lines_before (other s)))
 
     -- both inputs have the same key, and a group of it begins
     pub group_opens : HaveEqualKeys cmp key (both one two) now.store
@@ -342,7 +341,7 @@ module _ {job : Join} {cmp : Cmp} {key : Side → Key} {old : MergeState} {phase
               | Second ↦ record { head = step.second; is = sym step.same }
             ];
           };
-          stands = t.stands;
+          between = t.between;
         }
 
     -- the phase in which the group is read is next
@@ -354,11 +353,11 @@ module _ {job : Join} {cmp : Cmp} {key : Side → Key} {old : MergeState} {phase
     module _ {after : Slots} (clear : ClearFourSlotsPost now.store after) where
       pub eof : ((side : Side) → (both one two side).status ≡ Ended)
           → MergePost (join_with job cmp key) old (record now { store = after }) (Ok tt)
-      eof step = ends_well t.opened.w stood_at r.merge_invariant t.clean clear step
+      eof step = ends_well t.opened.w lines_before r.merge_invariant t.clean clear step
 
       pub disordered : {s : Side} {n : ℕ} → IsDisorderDecided cmp key (both one two) now.store s n
           → MergePost (join_with job cmp key) old (record now { store = after }) (Err (faults.Disorder s n))
-      disordered step = ends_fallen t.opened.w stood_at r.merge_invariant t.clean clear step
+      disordered step = ends_fallen t.opened.w lines_before r.merge_invariant t.clean clear step
 
   -- ---- reading the group
 
@@ -367,7 +366,7 @@ module _ {job : Join} {cmp : Cmp} {key : Side → Key} {old : MergeState} {phase
     a = rw is at t.phased
 
     pub read_group_pre : AdvancePre key Second one two (now.reader Second) now.store
-    read_group_pre = advance_pre t.stands Second (a.heads Second).head
+    read_group_pre = advance_pre t.between Second (a.heads Second).head
 
     -- the copied lines are all lines read, or none
     all_copied : call.keeps_groups ≡ true → a.kept ≡ a.g
@@ -577,7 +576,7 @@ module _ {job : Join} {cmp : Cmp} {key : Side → Key} {old : MergeState} {phase
     state = rw is at t.phased
 
     pub write_pairs_pre : JoinLinePre job key First one two (now.reader First) now.store now.out
-    write_pairs_pre = record { status_is = advance_pre t.stands First state.head.head; joins = joins }
+    write_pairs_pre = record { status_is = advance_pre t.between First state.head.head; joins = joins }
 
     is_kept : state.kept ≡ state.g Second → (end == 4) ≡ false
     is_kept same =

@@ -658,12 +658,12 @@ place_is First one two one2 two2 same = λ i. both one2 (sym same i)
 place_is Second one two one2 two2 same = λ i. both (sym same i) two2
 
 -- the cursors, the readers and the output between two steps
-pub record Stands (key : Side → Key) (now : MergeState) (one two : Sorted) : Type 0 where
+pub record BetweenSteps (key : Side → Key) (now : MergeState) (one two : Sorted) : Type 0 where
   pub valid_cursors : AreValidCursors key one two now.store
   pub own_reader : (side : Side) → IsReaderOf (both one two side) (now.reader side)
   pub clean : now.out.write_failed ≡ false
 
-module _ {key : Side → Key} {now : MergeState} {one two : Sorted} (t : Stands key now one two) where
+module _ {key : Side → Key} {now : MergeState} {one two : Sorted} (t : BetweenSteps key now one two) where
   pub slots_of : (side : Side) → HasSlots side (both one two side)
   slots_of = elim [ First ↦ t.valid_cursors.first | Second ↦ t.valid_cursors.second ]
 
@@ -673,8 +673,8 @@ module _ {key : Side → Key} {now : MergeState} {one two : Sorted} (t : Stands 
   -- the input `s` advanced
   module _ (s : Side) {one2 two2 : Sorted} {reader : Reader} {after : Slots} {new : Output}
       (continues : IsReadyToContinue key s one two one2 two2 reader after new) where
-    pub stands_on : Stands key (state_by_side (with_side s reader now.reader) new after) one2 two2
-    stands_on = record {
+    pub between_next : BetweenSteps key (state_by_side (with_side s reader now.reader) new after) one2 two2
+    between_next = record {
       valid_cursors = continues.valid_cursors;
       own_reader = side_case (λ side. IsReaderOf (both one2 two2 side) (with_side s reader now.reader side)) s
           (rw (put_same s reader now.reader) continues.own_reader)

@@ -33,15 +33,15 @@ steps-init g c =
 
 pub write_head-requires-clause-status_is : goal.write_head-requires-clause-status_is
 write_head-requires-clause-status_is g c =
-    advance_pre c.steps.invariant.iteration.stands sides.First c.in-First.ensures.status_is
+    advance_pre c.steps.invariant.iteration.between sides.First c.in-First.ensures.status_is
 
 pub write_head-requires-in-Second-clause-status_is : goal.write_head-requires-in-Second-clause-status_is
 write_head-requires-in-Second-clause-status_is g c =
-    advance_pre c.steps.invariant.iteration.stands sides.Second c.in-Second.ensures.status_is
+    advance_pre c.steps.invariant.iteration.between sides.Second c.in-Second.ensures.status_is
 
 pub write_head-requires-in-Both-clause-status_is : goal.write_head-requires-in-Both-clause-status_is
 write_head-requires-in-Both-clause-status_is g c =
-    advance_pre c.steps.invariant.iteration.stands sides.First c.in-Both.ensures.first
+    advance_pre c.steps.invariant.iteration.between sides.First c.in-Both.ensures.first
 
 pub write_out_and_advance-requires-clause-status_is : goal.write_out_and_advance-requires-clause-status_is
 write_out_and_advance-requires-clause-status_is g c = rw c.write_head-in-Both.ensures.order

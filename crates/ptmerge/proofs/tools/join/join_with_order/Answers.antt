@@ -28,14 +28,14 @@ steps-init g c =
 
 pub write_unpaired-requires-clause-status_is : goal.write_unpaired-requires-clause-status_is
 write_unpaired-requires-clause-status_is g c =
-    advance_pre c.steps.invariant.iteration.stands sides.First c.in-First.ensures.status_is
+    advance_pre c.steps.invariant.iteration.between sides.First c.in-First.ensures.status_is
 
 pub write_unpaired-requires-clause-joins : goal.write_unpaired-requires-clause-joins
 write_unpaired-requires-clause-joins g c = joins c.steps.invariant.iteration
 
 pub write_unpaired-requires-in-Second-clause-status_is : goal.write_unpaired-requires-in-Second-clause-status_is
 write_unpaired-requires-in-Second-clause-status_is g c =
-    advance_pre c.steps.invariant.iteration.stands sides.Second c.in-Second.ensures.status_is
+    advance_pre c.steps.invariant.iteration.between sides.Second c.in-Second.ensures.status_is
 
 pub write_unpaired-requires-in-Second-clause-joins : goal.write_unpaired-requires-in-Second-clause-joins
 write_unpaired-requires-in-Second-clause-joins g c = joins c.steps.invariant.iteration
