@@ -2,16 +2,15 @@
 -- bounds back; this makes `cut_list` agree with the grammar in both directions. Merging sorted intervals keeps the set
 -- that they select.
 use Rattle.ptlangs.proofs
-use proofs.Common.{Result, ◌≡◌, Bool, List, None, Ok, Option, Some, [], ap, arith, cond, drop, false, inl, inr, length}
-use proofs.Common.{refl, subst, suc, sym, take, true, ℕ, ◌&&◌, ◌++◌, ◌+◌, ◌-◌, ◌<◌, ◌||◌, ◌∙◌, ◌∷◌, and_parts}
-use proofs.Common.{cases_Bool, cond-true, eqb-true, All-cons, slice_split_at, slice_split_none, AllPass-from_list_all}
-use proofs.Common.{is_ascii_digit, All, list_all, position, slice_split, IsValidInterval, cut_list, element_interval}
-use proofs.Common.{is_dash, and_then, traverse, is_empty, is_number, value, Interval, ◌≤◌, append_assoc}
-use Rattle.std.proofs.Common.{leb, max}
+use proofs.Common.{Result, ◌≡◌, Bool, List, None, Ok, Option, Some, [], ap, arith, cond, drop, false, inl, inr}
+use proofs.Common.{length, refl, subst, suc, sym, take, true, ℕ, ◌&&◌, ◌++◌, ◌+◌, ◌-◌, ◌<◌, ◌||◌, ◌∙◌, ◌∷◌, and_parts}
+use proofs.Common.{cases_Bool, eqb-true, All-cons, slice_split_at, slice_split_none, AllPass-from_list_all}
+use proofs.Common.{is_ascii_digit, All, position, slice_split, IsValidInterval, cut_list, element_interval, is_dash}
+use proofs.Common.{and_then, traverse, is_empty, is_number, value, Interval, ◌≤◌}
+use Rattle.std.proofs.Common.{leb, max, rules}
 use Rattle.std.proofs.lemmas.List.Sorted.{list_any-IsPermutation}
 use Rattle.std.proofs.lemmas.List.Splits.{join_with_byte-slice_split, length-slice_split}
-use Rattle.std.specs.List.{join_with_byte, list_any}
-use Rattle.std.proofs.lemmas.List.Folds.{list_any-append}
+use Rattle.std.specs.List.{join_with_byte}
 use Rattle.std.specs.List.Sorted.{IsNonDecreasingBy, IsPermutation}
 use Rattle.ptlangs.specs.declared.ranges.ListFault.{ListFault}
 use proofs.ListElements.{split_whole, split_around, some_since, digits_fail, Unbroken, unbroken_cons, unbroken_append}
@@ -19,6 +18,7 @@ use proofs.ListElements.{unbroken_nil, unbroken_number, matches_grammar, IsSplit
 use Rattle.ptlangs.specs.CutLists.{CutListMatchesGrammar, AreSeparated, AreSortedFrom, From, FromTo, SpellsInterval}
 use Rattle.ptlangs.specs.CutLists.{IsIntervalElement, One, UpTo, checked_interval, interval_of_bounds, is_bound}
 use Rattle.ptlangs.specs.CutLists.{is_selected, interval_of_parts, selection}
+use Rattle.std.proofs.lemmas.Grind.{common_steps}
 
 -- ---- the elements, split at dashes
 
@@ -55,7 +55,7 @@ twice false x y = refl
 pub parts_without_dash : (bs : List ℕ) → position is_dash bs ≡ None → is_empty bs ≡ false
     → interval_of_parts (slice_split is_dash bs) ≡ interval_of_bounds bs bs
 parts_without_dash [] h some = cc
-parts_without_dash (b ∷ bs) h some = cc (split_whole is_dash (b ∷ bs) h, twice (list_all is_ascii_digit (b ∷ bs)) _ _)
+parts_without_dash (b ∷ bs) h some = search (rules, split_whole, twice)
 
 pub parts_around_dash : (bs : List ℕ) (i : ℕ) → position is_dash bs ≡ Some i
     → interval_of_parts (slice_split is_dash bs)
@@ -75,8 +75,7 @@ checked_proper interval_of_parts r h = grind arith
 
 element_proper : (bs : List ℕ) (r : Interval) → element_interval bs ≡ Ok r → IsValidInterval r
 element_proper [] r h = cc
-element_proper (b ∷ bs) r h =
-    let (_, valid) = checked_proper (interval_of_parts (slice_split is_dash (b ∷ bs))) r h in valid
+element_proper (b ∷ bs) r h = search (rules, checked_proper)
 
 pub each_proper : (all : List (List ℕ)) (rs : List Interval) → traverse element_interval all ≡ Ok rs
     → All IsValidInterval rs
@@ -120,7 +119,7 @@ checked_ok r proper = grind arith
 parts_of_element : (bs : List ℕ) (r : Interval) → SpellsInterval bs r
     → (is_empty bs ≡ false) × (interval_of_parts (slice_split is_dash bs) ≡ Some r)
 parts_of_element bs r (One [] h) = cc
-parts_of_element bs r (One (b ∷ n) h) = (refl, ap interval_of_parts (bound_is_one_part (b ∷ n) h) ∙ cond-true _ _ _ h)
+parts_of_element bs r (One (b ∷ n) h) = grind (arith, common_steps, bound_is_one_part)
 parts_of_element bs r (FromTo [] m h k) = cc
 parts_of_element bs r (FromTo (b ∷ n) [] h k) = cc
 parts_of_element bs r (FromTo (b ∷ n) (c ∷ m) h k) = (
@@ -138,14 +137,11 @@ parts_of_element bs r (From (b ∷ n) h) = (
 )
 
 accepts_element : (bs : List ℕ) (r : Interval) → SpellsInterval bs r → IsValidInterval r → element_interval bs ≡ Ok r
-accepts_element bs r e proper =
-    let (some, parts) = parts_of_element bs r e in
-    rw (some, parts) (checked_ok r proper)
+accepts_element bs r e proper = grind (arith, parts_of_element, checked_ok)
 
 unbroken : (bs : List ℕ) (r : Interval) → SpellsInterval bs r → Unbroken bs
 unbroken bs r (One n h) = unbroken_number n h
-unbroken bs r (FromTo n m h k) =
-    unbroken_append n _ (unbroken_number n h) (unbroken_cons 45 m refl (unbroken_number m k))
+unbroken bs r (FromTo n m h k) = grind (arith, unbroken_append, unbroken_number, unbroken_cons)
 unbroken bs r (UpTo m h) = unbroken_cons 45 m refl (unbroken_number m h)
 unbroken bs r (From n h) =
     unbroken_append n _ (unbroken_number n h) (unbroken_cons 45 [] refl unbroken_nil)
@@ -181,15 +177,13 @@ three_parts n m bs rest h = grind arith
 
 spelled_cut : (n : List ℕ) (s : ℕ) (bs : List ℕ) (rest : List (List ℕ)) (r : Interval) → s ≡ 45
     → IsSplit is_dash bs rest → interval_of_parts (n ∷ rest) ≡ Some r → SpellsInterval (n ++ s ∷ bs) r
-spelled_cut n s bs rest r at (Whole xs) e =
-    subst (λ (d : ℕ). SpellsInterval (n ++ d ∷ xs) r) (sym at) (spelled_ends n xs r e)
-spelled_cut n s bs rest r at (Cut m d xs others cut split) e =
-    let none = sym (three_parts n m xs others split) ∙ e in cc
+spelled_cut n s bs rest r at (Whole xs) e = grind (arith, spelled_ends)
+spelled_cut n s bs rest r at (Cut m d xs others cut split) e = grind (arith, three_parts)
 
 spelled : (bs : List ℕ) (parts : List (List ℕ)) (r : Interval) → IsSplit is_dash bs parts
     → interval_of_parts parts ≡ Some r → SpellsInterval bs r
 spelled bs parts r (Whole xs) e = spelled_one xs r e
-spelled bs parts r (Cut n s xs rest cut split) e = spelled_cut n s xs rest r (eqb-true s 45 cut) split e
+spelled bs parts r (Cut n s xs rest cut split) e = grind (arith, spelled_cut, eqb-true)
 
 reads_element : (bs : List ℕ) (r : Interval) → element_interval bs ≡ Ok r → IsIntervalElement bs r
 reads_element [] r h = cc
@@ -216,8 +210,7 @@ pub record Merges (sorted kept : List Interval) (current : Interval) (rest : Lis
 -- the last interval may be extended
 AreSeparated-longer : (low : ℕ) (kept : List Interval) (r s : Interval) → s.first ≡ r.first → r.last ≤ s.last
     → AreSeparated low (kept ++ r ∷ []) → AreSeparated low (kept ++ s ∷ [])
-AreSeparated-longer low [] r s e h separated =
-    let (above, ascending, _) = separated in (omega arith, omega arith, tt)
+AreSeparated-longer low [] r s e h separated = grind arith
 AreSeparated-longer low (k ∷ kept) r s e h separated =
     let (above, ascending, others) = separated in
     (above, ascending, AreSeparated-longer (k.last + 1) kept r s e h others)
@@ -225,8 +218,7 @@ AreSeparated-longer low (k ∷ kept) r s e h separated =
 -- an interval after a gap may be appended
 AreSeparated-more : (low : ℕ) (kept : List Interval) (r s : Interval) → r.last + 1 < s.first → s.first ≤ s.last
     → AreSeparated low (kept ++ r ∷ []) → AreSeparated low ((kept ++ r ∷ []) ++ s ∷ [])
-AreSeparated-more low [] r s gap proper separated =
-    let (above, ascending, _) = separated in (above, ascending, (gap, proper, tt))
+AreSeparated-more low [] r s gap proper separated = grind arith
 AreSeparated-more low (k ∷ kept) r s gap proper separated =
     let (above, ascending, others) = separated in
     (above, ascending, AreSeparated-more (k.last + 1) kept r s gap proper others)
@@ -236,8 +228,7 @@ holds n r = leb r.first n && leb n r.last
 
 InOrder-lower : (low high : ℕ) (rest : List Interval) → low ≤ high → AreSortedFrom high rest → AreSortedFrom low rest
 InOrder-lower low high [] h ordered = tt
-InOrder-lower low high (r ∷ rest) h ordered =
-    let (above, ascending, others) = ordered in (omega arith, ascending, others)
+InOrder-lower low high (r ∷ rest) h ordered = grind arith
 
 -- two intervals that overlap or are adjacent select the numbers of their union
 union_of_touching : (a b c d n : ℕ) → a ≤ c → c - 1 ≤ b → c ≤ d
@@ -250,27 +241,10 @@ or_first p q m x e = grind arith
 pub absorbs : {sorted : List Interval} (kept : List Interval) (r s t : Interval) (rest : List Interval)
     → t.first ≡ r.first
     → t.last ≡ max r.last s.last → s.first - 1 ≤ r.last → Merges sorted kept r (s ∷ rest) → Merges sorted kept t rest
-absorbs kept r s t rest e e' touch m =
-    let (above, ascending, others) = m.ordered in
-    let step : (n : ℕ) → is_selected (t ∷ rest) n ≡ is_selected (r ∷ s ∷ rest) n = λ n. sym
-    (or_first _ _ (holds n t) _
-    (rw (e, e') (union_of_touching r.first r.last s.first s.last n above touch ascending))) in
-    record {
-      positive = omega arith;
-      separated = AreSeparated-longer 0 kept r t e (omega arith) m.separated;
-      ordered = InOrder-lower t.first s.first rest (omega arith) others;
-      same = λ n. list_any-append _ kept _ ∙ ap (λ x. list_any (holds n) kept || x) (step n)
-          ∙ sym (list_any-append _ kept _) ∙ m.same n;
-    }
+absorbs kept r s t rest e e' touch m = grind (arith, common_steps, or_first, union_of_touching, AreSeparated-longer,
+    InOrder-lower)
 
 pub starts_next : {sorted : List Interval} (kept : List Interval) (r s : Interval) {rest : List Interval}
     → r.last < s.first - 1
     → Merges sorted kept r (s ∷ rest) → Merges sorted (kept ++ r ∷ []) s rest
-starts_next kept r s gap m =
-    let (above, ascending, others) = m.ordered in
-    record {
-      positive = omega (arith, above);
-      separated = AreSeparated-more 0 kept r s (omega arith) ascending m.separated;
-      ordered = others;
-      same = λ n. ap (λ xs. is_selected xs n) (append_assoc kept _ _) ∙ m.same n;
-    }
+starts_next kept r s gap m = grind (arith, common_steps, AreSeparated-more)

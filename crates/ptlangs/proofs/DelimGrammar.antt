@@ -100,7 +100,7 @@ escape_fault b = grind arith
 
 delims_fault : (bs : List ℕ) → IsOfText (delims bs)
 delims_fault [] = tt
-delims_fault (b ∷ []) = fault_of_either (eqb b backslash) _ _ refl tt
+delims_fault (b ∷ []) = grind (arith, fault_of_either)
 delims_fault (b ∷ c ∷ more) =
     fault_of_either _ _ _ (after_escape _ _ (escape_fault c) (delims_fault more))
     (after_first _ _ (delims_fault (c ∷ more)))
@@ -111,7 +111,7 @@ delim_fault (b ∷ bs) = delims_fault (b ∷ bs)
 
 module _ (text left : List ℕ) (so_far : result_err (delim_list text) ≡ result_err (delim_list left)) where
   pub left_fault : (e : DelimFault) → delim_list left ≡ Err e → result_err (delim_list text) ≡ delim_list_fault e
-  left_fault e bad = so_far ∙ ap result_err bad ∙ sym (subst IsOfText bad (delim_fault left))
+  left_fault e bad = grind (arith, delim_fault)
 
   pub left_without_fault : (d : Option ℕ) (remaining : List ℕ) → 0 < length remaining
       → delim_list left ≡ cons_ok d (delims remaining)

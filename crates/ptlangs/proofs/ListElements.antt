@@ -1,17 +1,18 @@
 -- Lists of elements between separators, and decimal numbers. An element contains no separator, so splitting at
 -- separators gives the elements of the grammar back. A number that is too large stays so with further digits.
 use Rattle.ptlangs.proofs
-use proofs.Common.{◌≡◌, Bool, Err, List, None, Ok, Result, Some, [], ap, arith, cond, drop, false, get_or, length, refl}
-use proofs.Common.{subst, sym, take, true, ℕ, ◌++◌, ◌+◌, ◌-◌, ◌∙◌, ◌∷◌, ltb-false, ltb-true, append_assoc, length-drop}
-use proofs.Common.{take_all, slice_split_at, slice_split_none, AllPass-from_list_all, is_ascii_digit, All, position}
-use proofs.Common.{slice_split, and_then, traverse, elements, is_number, is_list_separator, cons_ok, eqb, ◌*◌, ◌<◌, ◌≤◌}
-use proofs.Common.{All-cons, drop_more, digit_value, digits_value_after, max_u64, is_empty, value}
+use proofs.Common.{◌≡◌, Bool, Err, List, None, Ok, Result, Some, [], ap, arith, cond, drop, false, get_or, length}
+use proofs.Common.{refl, subst, sym, take, true, ℕ, ◌++◌, ◌+◌, ◌-◌, ◌∙◌, ◌∷◌, ltb-false, ltb-true, append_assoc}
+use proofs.Common.{length-drop, take_all, slice_split_at, slice_split_none, is_ascii_digit, All, position}
+use proofs.Common.{slice_split, and_then, traverse, elements, is_number, is_list_separator, cons_ok, eqb, ◌*◌, ◌<◌}
+use proofs.Common.{◌≤◌, All-cons, digit_value, digits_value_after, max_u64, is_empty, value}
 use Rattle.std.proofs.lemmas.List.Splits.{slice_split_first}
 use Rattle.std.proofs.lemmas.List.Sums.{fails_before_first}
 use Rattle.std.specs.List.{onto_first}
-use Rattle.std.proofs.lemmas.List.Elements.{All-append}
 use Rattle.std.proofs.lemmas.Bool.{cond_both}
 use Rattle.ptlangs.specs.Numbers.{IsListOf, number, Last, More}
+use Rattle.std.proofs.Common.{rules}
+use Rattle.std.proofs.lemmas.Grind.{common_steps}
 
 -- ---- splitting at the first separator
 
@@ -72,8 +73,7 @@ each_more read x y xs e at ok = grind (arith, e, ok, append_ok-cons_ok)
 pub digits_fail : (p : ℕ → Bool) → ((b : ℕ) → is_ascii_digit b ≡ true → p b ≡ false) → (n : List ℕ) → is_number n ≡ true
     → All (λ b. p b ≡ false) n
 digits_fail p fails [] h = cc
-digits_fail p fails (b ∷ bs) h =
-    λ k d below. fails _ (AllPass-from_list_all is_ascii_digit (b ∷ bs) h k d below)
+digits_fail p fails (b ∷ bs) h = grind (arith, common_steps)
 
 -- a text without a separator
 abbrev pub Unbroken : List ℕ → Type 0
@@ -86,7 +86,7 @@ pub unbroken_cons : (b : ℕ) (bs : List ℕ) → is_list_separator b ≡ false 
 unbroken_cons = All-cons _
 
 pub unbroken_append : (xs ys : List ℕ) → Unbroken xs → Unbroken ys → Unbroken (xs ++ ys)
-unbroken_append = All-append (λ b. is_list_separator b ≡ false)
+unbroken_append = grind (arith, common_steps)
 
 pub unbroken_nil : Unbroken []
 unbroken_nil k d below = absurd (omega arith)
@@ -150,8 +150,7 @@ module _ {A E : Type 0} (read : List ℕ → Result A E) (Spells : List ℕ → 
 
     pub matches_grammar : (bs : List ℕ) (xs : List A) → (IsListOf Spells bs xs → traverse read (elements bs) ≡ Ok xs)
         × (traverse read (elements bs) ≡ Ok xs → IsListOf Spells bs xs)
-    matches_grammar bs xs =
-        (from_grammar bs xs, reads_parts bs _ xs (splits is_list_separator bs))
+    matches_grammar bs xs = search (rules, from_grammar, reads_parts, splits)
 
 -- ---- reading decimal digits from left to right
 
@@ -166,10 +165,7 @@ too_large bs h = grind arith
 -- if the number is too large at digit `i`, it is too large
 pub too_large_at : (bs : List ℕ) (i n : ℕ) → i < length bs → value bs ≡ digits_value_after 10 n (drop i bs)
     → max_u64 < n * 10 + digit_value (get_or bs i 0) → None ≡ number bs
-too_large_at bs i n below e h =
-    let is =
-    e ∙ ap (digits_value_after 10 n) (drop_more bs i 0 below) in
-    too_large bs (omega (arith, after-ge (n * 10 + digit_value (get_or bs i 0)) (drop (i + 1) bs)))
+too_large_at bs i n below e h = grind (arith, common_steps, too_large, after-ge)
 
 pub is_empty_by_length : {X : Type 0} (xs : List X) → is_empty xs ≡ eqb (length xs) 0
 is_empty_by_length xs = grind arith

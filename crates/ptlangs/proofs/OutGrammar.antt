@@ -21,15 +21,12 @@ field_accepted file n h positive fits = grind arith
 
 accepts_element : (e : List ℕ) (f : OutField) → SpellsField e f → IsValidField f → element_field e ≡ Ok f
 accepts_element e f JoinField proper = refl
-accepts_element e f (FirstFileField n h) proper =
-    let (positive, fits) = proper in field_accepted First n h positive fits
-accepts_element e f (SecondFileField n h) proper =
-    let (positive, fits) = proper in field_accepted Second n h positive fits
+accepts_element e f (FirstFileField n h) proper = grind (arith, field_accepted)
+accepts_element e f (SecondFileField n h) proper = grind (arith, field_accepted)
 
 after_file_number : (name : ℕ) (n : List ℕ) → is_list_separator name ≡ false → is_number n ≡ true
     → Unbroken (name ∷ 46 ∷ n)
-after_file_number name n plain h =
-    unbroken_cons name (46 ∷ n) plain (unbroken_cons 46 n refl (unbroken_number n h))
+after_file_number name n plain h = grind (arith, unbroken_cons, unbroken_number)
 
 unbroken : (e : List ℕ) (f : OutField) → SpellsField e f → Unbroken e
 unbroken e f JoinField = unbroken_cons 48 [] refl unbroken_nil

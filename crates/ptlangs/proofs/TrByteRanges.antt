@@ -9,6 +9,7 @@ use Rattle.std.proofs.Math.ListN.{get_or}
 use Rattle.std.proofs.lemmas.List.FromFn.{get_or-range_with_len, length-range_with_len}
 use Rattle.std.proofs.lemmas.Option.{slice_get-get_or, slice_get_past, slice_get_within}
 use Rattle.std.specs.Prelude.{◌^◌, IfSome}
+use Rattle.std.proofs.lemmas.Grind.{common_steps}
 
 pub slice_get-left : {X : Type 0} (xs ys : List X) (i : ℕ) → i < length xs → slice_get (xs ++ ys) i ≡ slice_get xs i
 slice_get-left [] ys i h = absurd (omega arith)
@@ -17,7 +18,7 @@ slice_get-left (x ∷ xs) ys (suc i) h = slice_get-left xs ys i (omega arith)
 
 pub slice_get-right : {X : Type 0} (xs ys : List X) (i j : ℕ) → i ≡ length xs + j
     → slice_get (xs ++ ys) i ≡ slice_get ys j
-slice_get-right [] ys i j e = ap (slice_get ys) (omega arith)
+slice_get-right [] ys i j e = grind arith
 slice_get-right (x ∷ xs) ys zero j e = absurd (omega arith)
 slice_get-right (x ∷ xs) ys (suc i) j e = slice_get-right xs ys i j (omega arith)
 
@@ -74,6 +75,6 @@ repeat_there n b i h =
     ∙ ap Some (get_or-replicate n i b 0 h))
 
 pub repeat_past : (n b i : ℕ) → n ≤ i → None ≡ slice_get (replicate n b) i
-repeat_past n b i h = sym (slice_get_past _ i (omega (arith, length-replicate n b)))
+repeat_past n b i h = grind (arith, common_steps, slice_get_past)
 
 pub ruleset member_steps = (length-replicate, length-span, class_bytes-short, repeat_there, repeat_past)

@@ -1,9 +1,9 @@
 -- The bytes of a string of `tr`, read one after another: the bytes so far and those that are left are together all
 -- bytes of the string. And the classes that start in two arrays, compared byte by byte as the arrays are paired.
 use Rattle.ptlangs.proofs
-use proofs.Common.{◌≡◌, Bool, Err, List, None, Ok, Option, Result, Some, [], ap, arith, cond, drop, eqb, false, length}
-use proofs.Common.{map, refl, suc, sym, true, zero, ℕ, ◌&&◌, ◌++◌, ◌+◌, ◌||◌, ◌∙◌, ◌∷◌, ◌≤◌, ◌<◌, ◌-◌, append-nil}
-use proofs.Common.{append_assoc, length-map, length-replicate, map-append, slice_get, cons_ok, array, class_offsets}
+use proofs.Common.{◌≡◌, Bool, Err, List, None, Ok, Option, Result, Some, [], ap, arith, cond, drop, eqb, false}
+use proofs.Common.{length, map, refl, suc, sym, true, zero, ℕ, ◌&&◌, ◌++◌, ◌+◌, ◌||◌, ◌∙◌, ◌∷◌, ◌≤◌, ◌<◌, ◌-◌}
+use proofs.Common.{append-nil, length-map, length-replicate, map-append, slice_get, cons_ok, array, class_offsets}
 use proofs.Common.{sequence, is_fill, segment, result_map_both, CharClass, SetFaultKind, SetElement, Segment, SetRole}
 use proofs.Common.{eq-eqb, ne_eqb, drop_all, replicate, span, segments_of, string_segments}
 use Rattle.ptlangs.specs.TrPlan.{are_paired, members, has_other_case_at}
@@ -15,6 +15,7 @@ use Rattle.ptlangs.specs.TrParsing.{all_paired, member_bytes, classes_match, cla
 use Rattle.ptlangs.specs.TrParsing.{member_results, members_from, plain_members}
 use proofs.ListElements.{append_ok as onto, append_ok-nil, cons_ok-append_ok, reads_first}
 use proofs.TrByteRanges.{slice_get-none, class_bytes-some}
+use Rattle.std.proofs.lemmas.Grind.{common_steps}
 
 -- these items were read without a fault, and `P` holds of them; `rest` is still to be read
 pub record ItemsRead {A : Type 0} (all rest : List (Result A SetFaultKind)) (P : List A → Type 0) : Type 0 where
@@ -32,15 +33,10 @@ module _ {A : Type 0} {all rest : List (Result A SetFaultKind)} {P : List A → 
   pub items_more : {after : List (Result A SetFaultKind)} (Q : List A → Type 0) (more : List A)
       → rest ≡ map Ok more ++ after → (P r.done → Q (r.done ++ more))
       → ItemsRead all after Q
-  items_more {after} Q more s h = record {
-    done = r.done ++ more;
-    so_far = r.so_far ∙ ap (λ xs. map Ok r.done ++ xs) s ∙ sym (append_assoc _ _ after)
-        ∙ ap (λ xs. xs ++ after) (sym (map-append Ok r.done more));
-    holds = h r.holds;
-  }
+  items_more {after} Q more s h = grind (arith, common_steps)
 
   sequence-read : sequence all ≡ onto r.done (sequence rest)
-  sequence-read = ap sequence r.so_far ∙ sequence-done r.done rest
+  sequence-read = grind (arith, sequence-done)
 
   pub items_end : rest ≡ [] → sequence all ≡ Ok r.done
   items_end e = cc (sequence-read, append-nil r.done)
@@ -107,7 +103,7 @@ length-marked n x = grind (arith, length-map, member_bytes-members)
 
 pub drop-found : {X : Type 0} (xs : List X) (i : ℕ) (x : X) → Some x ≡ slice_get xs i → drop i xs ≡ x ∷ drop (i + 1) xs
 drop-found [] i x e = absurd (cc)
-drop-found (y ∷ xs) zero x e = let same : y ≡ x = cc in ap (λ z. z ∷ xs) same
+drop-found (y ∷ xs) zero x e = cc
 drop-found (y ∷ xs) (suc i) x e =
     let next : suc i + 1 ≡ suc _ = omega arith in
     drop-found xs i x e ∙ ap (λ k. x ∷ drop k (y ∷ xs)) (sym next)
@@ -125,10 +121,7 @@ segment-passed n x i rs e = rw (drop_all i _ (slice_get-none _ i e)) refl
 -- if a segment has only copies of a byte, those from an index on are passed
 pub copies-passed : (count i b : ℕ) (ms : List Member) → (0 < count → ms ≡ plain_members (replicate count b))
     → drop i ms ≡ plain_members (replicate (count - i) b) ++ drop (i + (count - i)) ms
-copies-passed zero i b ms h =
-    let none : zero - i ≡ 0 = omega arith in
-    let same : i ≡ i + 0 = omega arith in
-    rw none (ap (λ k. drop k ms) same)
+copies-passed zero i b ms h = grind arith
 copies-passed (suc n) i b ms h =
     let copies = plain_members (replicate (suc n) b) in
     let all : length copies ≤ i + (suc n - i) =
@@ -172,7 +165,7 @@ string-read role (b ∷ text) n ms some e =
 pub string-ok : (role : SetRole) (text : List ℕ) (n : ℕ) (ps : List Segment) → string_segments role text ≡ Ok ps
     → member_results n (segments_of role text) ≡ map Ok (marked_array n ps)
 string-ok role [] n ps e = absurd (cc)
-string-ok role (b ∷ text) n ps e = members-ok n (segments_of role (b ∷ text)) ps e
+string-ok role (b ∷ text) n ps e = grind (arith, members-ok)
 
 -- ---- a fault that is passed on
 
@@ -210,7 +203,7 @@ offsets at (m ∷ ms) = offset_of at m.class ++ offsets (suc at) ms
 
 offsets-plain : (at : ℕ) (bytes : List ℕ) (ms : List Member)
     → offsets at (plain_members bytes ++ ms) ≡ offsets (at + length bytes) ms
-offsets-plain at [] ms = ap (λ k. offsets k ms) (omega arith)
+offsets-plain at [] ms = grind arith
 offsets-plain at (b ∷ bytes) ms = offsets-plain _ bytes ms ∙ ap (λ k. offsets k ms) (omega arith)
 
 offsets-members : (at : ℕ) (bytes : List ℕ) (ms : List Member)
@@ -299,9 +292,7 @@ paired_from from (t ∷ to) i = by_class t.class (paired_from from to _) ∙ sym
 pub paired-arrays : (n : ℕ) (firsts seconds : List Segment)
     → are_paired (class_offsets 0 0 firsts) (class_offsets n 0 seconds)
     ≡ all_paired (marked_array 0 firsts) (marked_array n seconds)
-paired-arrays n firsts seconds =
-    (λ i. are_paired (class_offsets-are 0 firsts 0 i) (class_offsets-are n seconds 0 i))
-    ∙ paired_from (marked_array 0 firsts) _ 0
+paired-arrays n firsts seconds = grind (arith, class_offsets-are, paired_from)
 
 pub paired-plain : (n : ℕ) (bytes : List ℕ) (seconds : List Segment)
     → are_paired [] (class_offsets n 0 seconds) ≡ all_paired (plain_members bytes) (marked_array n seconds)

@@ -1,14 +1,14 @@
 -- Octal and decimal numbers, and the characters of a string at an index. The character at an index depends only on the
 -- bytes from there on, which gives the agreement with the grammar, character by character.
 use Rattle.ptlangs.proofs
-use proofs.Common.{◌≡◌, ◌≤◌, ◌<◌, ◌+◌, ◌-◌, ◌*◌, ℕ, zero, suc, Bool, true, false, cond, eqb, List, [], ◌∷◌, length}
-use proofs.Common.{take, drop, get_or, arith, refl, sym, ap, ◌∙◌, rules, Option, Some, None, prefix_len, slice_get}
-use proofs.Common.{digit_value, digits_value, drop_more, drop-drop, length-prefix_len, octal, chars, after_backslash}
-use proofs.Common.{SetChar, Plain, Escaped, Invalid, inl, inr, subst, ◌++◌, cases_Bool, cases_eq, ne_eqb, drop_at}
-use proofs.Common.{length-append, AChar, NoChar, SpellsChar, SpellsChars, cond-false, cond-true, value, Result, Ok, Err}
-use proofs.Common.{SetFaultKind}
-use Rattle.ptlangs.specs.TrChars.{ALargeOctal, ALoneBackslash, APlainByte, AnEscape, AnOctal, is_octal_digit, octal_run}
-use Rattle.ptlangs.specs.TrChars.{IsOctalRun, OneDigit, ThreeDigits, TwoDigits, CharsMatchGrammar, byte_of, char_at}
+use proofs.Common.{◌≡◌, ◌≤◌, ◌<◌, ◌+◌, ◌-◌, ◌*◌, ℕ, zero, suc, Bool, true, false, cond, List, [], ◌∷◌, length, take}
+use proofs.Common.{drop, get_or, arith, refl, sym, ap, ◌∙◌, rules, Option, Some, None, prefix_len, slice_get}
+use proofs.Common.{digit_value, digits_value, length-prefix_len, octal, chars, after_backslash, SetChar, Plain}
+use proofs.Common.{Escaped, Invalid, inl, inr, ◌++◌, cases_Bool, cases_eq, ne_eqb, drop_at, length-append, AChar}
+use proofs.Common.{NoChar, SpellsChar, SpellsChars, value, Result, Ok, Err, SetFaultKind}
+use Rattle.ptlangs.specs.TrChars.{ALargeOctal, ALoneBackslash, APlainByte, AnEscape, AnOctal, is_octal_digit}
+use Rattle.ptlangs.specs.TrChars.{octal_run, IsOctalRun, OneDigit, ThreeDigits, TwoDigits, CharsMatchGrammar, byte_of}
+use Rattle.ptlangs.specs.TrChars.{char_at}
 use Rattle.std.proofs.Common.{nat_le, All}
 use Rattle.std.proofs.lemmas.Bool.{lt-leb, le-leb}
 use Rattle.std.proofs.lemmas.List.{length-take, take-take, get_or-take}
@@ -18,6 +18,7 @@ use Rattle.std.proofs.lemmas.Int.Digits.{digits_value_more}
 use Rattle.std.proofs.lemmas.Str.Parse.{digits_value-take-le, digit_from_value}
 use Rattle.ptlangs.specs.TrParsing.{char_from}
 use Rattle.std.proofs.lemmas.Str.{digit_value_digit}
+use Rattle.std.proofs.lemmas.Grind.{common_steps}
 
 pub ruleset number_steps = (digits_value_more, digits_value-take-le, digit_from_value)
 
@@ -29,7 +30,7 @@ byte_of_octal (Some v) = Ok v
 -- a number is above the limit if its first digits are
 pub too_large : (base limit : ℕ) (ds : List ℕ) (i : ℕ) → 1 ≤ base → limit < digits_value base (take i ds)
     → nat_le (digits_value base ds) limit ≡ false
-too_large base limit ds i one h = grind (arith, digits_value-take-le base ds i one)
+too_large base limit ds i one h = search (rules, digits_value-take-le)
 
 -- the value after one more digit
 pub number_step : (base : ℕ) (ds : List ℕ) (i value digit : ℕ) → i < length ds → base ≤ 10
@@ -94,19 +95,16 @@ chars-cons b bs = grind arith
 
 pub chars_plain : (bs : List ℕ) (i b : ℕ) → i < length bs → get_or bs i 0 ≡ b → (b ≡ 92 → ⊥)
     → chars (drop i bs) ≡ Plain b ∷ chars (drop (i + 1) bs)
-chars_plain bs i b h e n =
-    let not_escape : eqb b 92 ≡ false = grind arith in
-    rw (drop_more bs i 0 h, e, chars-cons b (drop (i + 1) bs), not_escape) refl
+chars_plain bs i b h e n = grind (arith, common_steps, chars-cons)
 
 pub chars_escape : (bs : List ℕ) (i : ℕ) → i < length bs → get_or bs i 0 ≡ 92
     → chars (drop i bs) ≡ (after_backslash (drop (i + 1) bs)).0
     ∷ chars (drop (i + 1 + (after_backslash (drop (i + 1) bs)).1) bs)
-chars_escape bs i h e =
-    rw (drop_more bs i 0 h, e, chars-cons 92 (drop (i + 1) bs), drop-drop) refl
+chars_escape bs i h e = grind (arith, common_steps, chars-cons)
 
 pub char_from-plain : (bs : List ℕ) (i b : ℕ) → get_or bs i 0 ≡ b → (b ≡ 92 → ⊥) → char_from bs i ≡ Plain b
 unfolding char_from
-char_from-plain bs i b e n = rw (char_from, e, ne_eqb b 92 n) refl
+char_from-plain bs i b e n = grind (arith, ne_eqb)
 
 pub char_from-escape : (bs : List ℕ) (i : ℕ) → get_or bs i 0 ≡ 92
     → char_from bs i ≡ (after_backslash (drop (i + 1) bs)).0
@@ -122,9 +120,9 @@ pub ruleset octal_steps = (length-octal_run, take-octal_run, octal_digits)
 run_is : (digits rest : List ℕ) → IsOctalRun digits rest
     → after_backslash (digits ++ rest) ≡ (octal (digits_value 8 digits), length digits)
 run_is digits rest (OneDigit a [] ha n) = rw ha refl
-run_is digits rest (OneDigit a (b ∷ more) ha n) = rw (ha, n) refl
-run_is digits rest (TwoDigits a b [] ha hb n) = rw (ha, hb) refl
-run_is digits rest (TwoDigits a b (c ∷ more) ha hb n) = rw (ha, hb, n) refl
+run_is digits rest (OneDigit a (b ∷ more) ha n) = cc
+run_is digits rest (TwoDigits a b [] ha hb n) = cc
+run_is digits rest (TwoDigits a b (c ∷ more) ha hb n) = cc
 run_is digits rest (ThreeDigits a b c more ha hb hc) = rw (ha, hb, hc) refl
 
 escape_is : (digits rest : List ℕ) {u : SetChar} → IsOctalRun digits rest → octal (digits_value 8 digits) ≡ u
@@ -134,11 +132,8 @@ escape_is digits rest run is =
 
 char_is : (bs : List ℕ) (u : SetChar) (rest : List ℕ) → SpellsChar bs u rest → chars bs ≡ u ∷ chars rest
 char_is bs u rest (APlainByte b more n) = rw (chars-cons b more, ne_eqb b 92 n) refl
-char_is bs u rest (AnOctal digits more run small) =
-    escape_is digits more run
-    (cond-true _ _ _ (le-leb _ 255 small))
-char_is bs u rest (ALargeOctal digits more run large) =
-    escape_is digits more run (cond-false _ _ _ (lt-leb _ 255 large))
+char_is bs u rest (AnOctal digits more run small) = grind (arith, escape_is, le-leb)
+char_is bs u rest (ALargeOctal digits more run large) = grind (arith, escape_is, lt-leb)
 char_is bs u rest (AnEscape b more n) = rw (chars-cons 92 _, n) refl
 char_is bs u rest ALoneBackslash = refl
 
@@ -221,4 +216,4 @@ spelled (suc n) (b ∷ bs) h =
     (AChar _ f.rest f.next_char _ f.spelled (spelled n f.rest (omega arith)))
 
 pub chars_are_spelled : CharsMatchGrammar
-chars_are_spelled bs us = (chars_are bs us, λ e. subst (SpellsChars bs) e (spelled (length bs) bs (omega arith)))
+chars_are_spelled bs us = grind (arith, chars_are, spelled)

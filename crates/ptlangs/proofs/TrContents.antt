@@ -21,6 +21,7 @@ use Rattle.std.proofs.lemmas.List.FromFn.{get_or-map-range_with_len, length-map-
 use Rattle.std.proofs.lemmas.List.{get_or-set_other, get_or-set_same, get_or_default, length-set, map-id, same_lists}
 use Rattle.std.proofs.lemmas.Grind.{common_steps}
 use proofs.TrByteRanges.{slice_get-left, slice_get-right, slice_get-none, repeat_there}
+use Rattle.std.proofs.Common.{rules}
 
 -- the entries of a table of all bytes
 pub length-table : {X : Type 0} (f : ℕ → X) → length (map f all_bytes) ≡ 256
@@ -121,7 +122,7 @@ get_or-has contents bytes b d h e = rw e (get_or-table _ b d h)
 -- the complement goes on after the bytes below `m`
 others-split : (bytes : List ℕ) (m k : ℕ)
     → (rest : List ℕ) × (others_below bytes (m + k) ≡ others_below bytes m ++ rest)
-others-split bytes m zero = ([], ap (others_below bytes) (omega arith) ∙ sym (append-nil _))
+others-split bytes m zero = search rules
 others-split bytes m (suc k) =
     let (rest, is) = others-split bytes m k in
     let more =
@@ -145,7 +146,7 @@ complement-around bytes b low h =
     )
 
 has_byte-filter : (p : ℕ → Bool) (b : ℕ) (xs : List ℕ) → has_byte b (filter p xs) ≡ (p b && has_byte b xs)
-has_byte-filter p b xs = any-filter_same _ p (p b) (λ k e. ap p (eqb-true k b e)) xs
+has_byte-filter p b xs = grind (arith, any-filter_same, eqb-true)
 
 has_byte-range : (n b : ℕ) → b < n → has_byte b (range_with_len 0 n) ≡ true
 has_byte-range zero b low = absurd (omega arith)
@@ -246,14 +247,14 @@ last_position-same b (x ∷ bytes) = ap (λ o. next_index_or o (eqb x b)) (last_
     ∙ ap Some (omega arith)
 
 last_position-other : (b k : ℕ) (bytes : List ℕ) → k ≢ b → last_position k (bytes ++ b ∷ []) ≡ last_position k bytes
-last_position-other b k [] n = rw (ne_eqb b k (λ e. n (sym e))) refl
+last_position-other b k [] n = grind (arith, ne_eqb)
 last_position-other b k (x ∷ bytes) n = cc (last_position-other b k bytes n)
 
 -- the last of the first `n + 1` bytes is the one with index `n`, or the last of all
 last_or-take : (o : Option ℕ) (b : ℕ) (bytes : List ℕ) (n : ℕ)
     → last_or o (take (suc n) (b ∷ bytes)) ≡ slice_get (b ∷ bytes) (min n (length bytes))
-last_or-take o b bytes zero = let first : min 0 (length bytes) ≡ 0 = omega arith in rw first refl
-last_or-take o b [] (suc n) = let first : min (suc n) 0 ≡ 0 = omega arith in rw first refl
+last_or-take o b bytes zero = grind arith
+last_or-take o b [] (suc n) = grind arith
 last_or-take o b (c ∷ bytes) (suc n) =
     let next : min (suc n) (length (c ∷ bytes)) ≡ suc _ = omega arith in
     rw next (last_or-take (Some b) c bytes n)

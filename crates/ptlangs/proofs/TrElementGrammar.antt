@@ -2,27 +2,28 @@
 -- and single character is one case of both. The code finds the elements that the definition computes, and a string is
 -- rejected with the fault of its first faulty element.
 use Rattle.ptlangs.proofs
-use proofs.Common.{◌≡◌, ◌<◌, ◌-◌, ℕ, zero, suc, Bool, true, false, List, [], ◌∷◌, ◌++◌, length, drop, map, arith, refl}
-use proofs.Common.{sym, ap, subst, ◌∙◌, Option, Some, None, Result, Ok, Err, list_all, option_and_then, is_ascii_digit}
-use proofs.Common.{is_ascii_lowercase, ltb-false, ne_eqb, length-map, length-append, append_assoc, drop_at, drop_all}
+use proofs.Common.{◌≡◌, ◌<◌, ◌-◌, ℕ, zero, suc, Bool, true, false, List, [], ◌∷◌, ◌++◌, length, drop, map, arith}
+use proofs.Common.{refl, sym, ap, subst, ◌∙◌, Option, Some, None, Result, Ok, Err, list_all, option_and_then}
+use proofs.Common.{is_ascii_digit, is_ascii_lowercase, ltb-false, ne_eqb, length-append, append_assoc, drop_all}
 use proofs.Common.{SetFaultKind, SetChar, Plain, Escaped, Invalid, SetElement, StartsElement, after_plain, plain_run}
 use proofs.Common.{after_run, set_elements, ◌||◌, ◌≤◌, and_parts, ltb-true, drop_more, result_map_both, StartsInvalid}
-use proofs.Common.{FirstFault, LaterFault, NoElement, NoSegment, sequence, is_fill, segment, segments, chars, CharClass}
-use proofs.Common.{Segment, SetRole}
+use proofs.Common.{FirstFault, LaterFault, NoElement, NoSegment, sequence, is_fill, segment, segments, chars}
+use proofs.Common.{CharClass, Segment, SetRole}
 use Rattle.std.proofs.lemmas.Bool.{le-ltb, cond_both}
 use Rattle.ptlangs.specs.TrElements.{ADescendingRange, AnInvalidEnd, AnInvalidChar, StartsBracketed, ARepeat, AClass}
 use Rattle.ptlangs.specs.TrElements.{AnEquivalence, InBrackets, ARange, Alone, AreElements, ByEscape, ByItself}
-use Rattle.ptlangs.specs.TrElements.{DenotesByte, HasBracketed, after_two, class_at, class_after_colon, class_with_name}
-use Rattle.ptlangs.specs.TrElements.{equivalence_at, equivalence_with_byte, equivalence_after_equals, first_set_element}
-use Rattle.ptlangs.specs.TrElements.{bracketed_at, bracketed_inside, single_or_range, char_or_range, is_plain, or_char}
-use Rattle.ptlangs.specs.TrElements.{elements_after, range_to, repeat_at, repeat_count, repeat_after_star, with_rest}
-use Rattle.std.proofs.Common.{nat_lt}
+use Rattle.ptlangs.specs.TrElements.{DenotesByte, HasBracketed, after_two, class_at, class_with_name, equivalence_at}
+use Rattle.ptlangs.specs.TrElements.{equivalence_after_equals, first_set_element, bracketed_at, single_or_range}
+use Rattle.ptlangs.specs.TrElements.{char_or_range, or_char, elements_after, range_to, repeat_at, repeat_count}
+use Rattle.ptlangs.specs.TrElements.{repeat_after_star, with_rest}
+use Rattle.std.proofs.Common.{nat_lt, rules}
 use Rattle.std.specs.Option.{option_or}
 use Rattle.ptlangs.specs.TrChars.{byte_of}
 use Rattle.ptlangs.specs.TrClasses.{class_named}
 use Rattle.ptlangs.specs.TrPlan.{FirstFaultIsReported}
 use Rattle.ptlangs.specs.declared.tr.elements.SetElement.TheVariants.{Repeat, Class, Equivalence, Single}
 use proofs.TrPlainRuns.{list_all-plain_run}
+use Rattle.std.proofs.lemmas.Grind.{common_steps}
 
 -- ---- from the computed elements to the grammar
 
@@ -80,12 +81,7 @@ name_found (c ∷ name) us t =
     (with_rest (Class (class_named (c ∷ name))) o)) 58 93 us _ (λ rest. AClass c name rest t)
 
 class_starts : (us : List SetChar) → StartsFound (Plain 91 ∷ us) (class_at us)
-class_starts us = after_plain_cases (λ xs o. StartsFound (Plain 91 ∷ xs) (option_and_then class_after_colon o)) 58 us
-    _
-    (λ more. subst (λ (xs : List SetChar). StartsFound (Plain 91 ∷ Plain 58 ∷ xs) (class_after_colon more))
-    (sym (run_split is_ascii_lowercase more))
-    (name_found _ (after_run is_ascii_lowercase more)
-    (list_all-plain_run is_ascii_lowercase more)))
+class_starts us = grind (arith, after_plain_cases, run_split, name_found, list_all-plain_run)
 
 equivalence_found : (u : SetChar) (v : ℕ) (us : List SetChar) → DenotesByte u v
     → StartsFound (Plain 91 ∷ Plain 61 ∷ u ∷ us) (with_rest (Equivalence v) (after_two 61 93 us))
@@ -109,11 +105,7 @@ starts_either : (us : List SetChar) (o q : Option (SetElement × List SetChar)) 
 starts_either us o q here there = grind arith
 
 bracketed_starts : (us : List SetChar) → StartsFound us (bracketed_at us)
-bracketed_starts us = after_plain_cases (λ xs o. StartsFound xs (option_and_then bracketed_inside o)) 91 us _
-    (λ more. starts_either _ _ _
-    (repeat_starts more)
-    (starts_either _ _ _ (class_starts more)
-    (equivalence_starts more)))
+bracketed_starts us = grind (arith, after_plain_cases, starts_either, repeat_starts, class_starts, equivalence_starts)
 
 -- ---- from the grammar to the computed elements
 
@@ -129,29 +121,14 @@ plain_run-map test (b ∷ bs) c rest t n =
 
 pub after_run-map : (test : ℕ → Bool) (bs : List ℕ) (c : ℕ) (rest : List SetChar) → list_all test bs ≡ true
     → test c ≡ false → after_run test (map Plain bs ++ Plain c ∷ rest) ≡ Plain c ∷ rest
-after_run-map test bs c rest t n =
-    rw (plain_run-map test bs c rest t n) (drop_at _ _ _ (length-map bs Plain))
+after_run-map test bs c rest t n = grind (arith, common_steps, plain_run-map)
 
 pub bracketed_at-StartsBracketed : (us : List SetChar) (p : SetElement) (rest : List SetChar)
     → StartsBracketed us p rest → bracketed_at us ≡ Some (p, rest)
-bracketed_at-StartsBracketed us p rest (ARepeat u v digits more m t) =
-    rw (
-      byte_of-DenotesByte u v m,
-      after_run-map is_ascii_digit digits 93 more t refl,
-      plain_run-map is_ascii_digit digits 93 more t refl,
-    ) refl
-bracketed_at-StartsBracketed us p rest (AClass c name more t) =
-    let (lower, _) = and_parts (is_ascii_lowercase c) _ t in
-    let no_star = ne_eqb c 42 (λ e. cc) in
-    rw (
-      no_star,
-      after_run-map is_ascii_lowercase _ 58 _ t refl,
-      plain_run-map is_ascii_lowercase _ 58 _ t refl,
-    ) refl
-bracketed_at-StartsBracketed us p rest (AnEquivalence u v more m) =
-    cond_both (is_plain 42 u) _ _ (λ (o : Option _). option_or (option_and_then (repeat_after_star 61) o)
-    (option_or None (equivalence_with_byte (byte_of u) (Plain 61 ∷ Plain 93 ∷ more))) ≡ Some (Equivalence v, more))
-    (λ t. rw (byte_of-DenotesByte u v m) refl) (λ t. rw (byte_of-DenotesByte u v m) refl)
+bracketed_at-StartsBracketed us p rest (ARepeat u v digits more m t) = grind (arith, byte_of-DenotesByte,
+    after_run-map, plain_run-map)
+bracketed_at-StartsBracketed us p rest (AClass c name more t) = search (rules, ne_eqb, after_run-map, plain_run-map)
+bracketed_at-StartsBracketed us p rest (AnEquivalence u v more m) = grind (arith, byte_of-DenotesByte)
 
 pub bracketed_at-none : (us : List SetChar) → bracketed_at us ≡ None → ¬ HasBracketed us
 bracketed_at-none us e (p, rest, f) = cc (bracketed_at-StartsBracketed us p rest f)
@@ -223,13 +200,8 @@ pub first_set_element-StartsElement : (us : List SetChar) (p : SetElement) (rest
     → StartsElement us p rest → first_set_element us ≡ Ok (p, rest)
 first_set_element-StartsElement us p rest (InBrackets xs q more f) =
     first_set_element-found xs q more (bracketed_at-StartsBracketed xs q more f)
-first_set_element-StartsElement us p rest (ARange u v a b more n m w h) =
-    cc (
-      bracketed_at-unless (u ∷ Plain 45 ∷ v ∷ more) n,
-      byte_of-DenotesByte u a m,
-      byte_of-DenotesByte v b w,
-      le-ltb b a h,
-    )
+first_set_element-StartsElement us p rest (ARange u v a b more n m w h) = grind (arith, bracketed_at-unless,
+    byte_of-DenotesByte, le-ltb)
 first_set_element-StartsElement us p rest (Alone u a more n d m) =
     rw (bracketed_at-unless _ n, byte_of-DenotesByte u a m) (by_dash _ refl)
   where
@@ -273,10 +245,7 @@ elements_after_is (u ∷ us) (suc skip) = elements_after_is us skip
 drop_prefix : (u : SetChar) (us rest front : List SetChar) → u ∷ us ≡ front ++ rest → 0 < length front
     → drop (length us - length rest) us ≡ rest
 drop_prefix u us rest [] e h = absurd (omega arith)
-drop_prefix u us rest (f ∷ front) e h =
-    let same : us ≡ front ++ rest = cc in
-    let count : length us - length rest ≡ length front = omega (arith, ap length same, length-append front rest) in
-    rw (count, same) (drop_at front rest _ refl)
+drop_prefix u us rest (f ∷ front) e h = grind (arith, common_steps, length-append)
 
 -- the first element, then those of the rest
 pub set_elements-first : (us : List SetChar) (p : SetElement) (rest : List SetChar)
@@ -317,8 +286,7 @@ set_elements-AreElements us (p ∷ ps) (rest, begins, more) =
 pub AreElements-set_elements : (ps : List SetElement) (us : List SetChar) → set_elements us ≡ map Ok ps
     → AreElements us ps
 AreElements-set_elements [] [] e = refl
-AreElements-set_elements [] (u ∷ us) e =
-    by_first u us (λ p rest b is. let never = sym is ∙ e in cc) (λ k b is. let never = sym is ∙ e in cc)
+AreElements-set_elements [] (u ∷ us) e = search (rules, by_first)
 AreElements-set_elements (p ∷ ps) [] e = absurd (cc)
 AreElements-set_elements (p ∷ ps) (u ∷ us) e = by_first u us
     (λ q rest b is.
@@ -339,9 +307,7 @@ pub class_at-found : (us : List SetChar) {inside : List SetChar} (after : List S
     → Some inside ≡ after_plain 58 us → name ≡ plain_run is_ascii_lowercase inside
     → after ≡ after_run is_ascii_lowercase inside → 0 < length name → Some rest ≡ after_two 58 93 after
     → found ≡ class_named name → Some (Class found, rest) ≡ class_at us
-class_at-found us after name found e n a h r f =
-    let named = class_with_name-named name after h in
-    rw (← e, ← a, ← n, named, ← r, f) refl
+class_at-found us after name found e n a h r f = search (rules, class_with_name-named)
 
 pub chars-some : (bs : List ℕ) (i : ℕ) → i < length bs → 0 < length (chars (drop i bs))
 chars-some bs i h = rw (drop_more bs i 0 h) (omega arith)
@@ -364,16 +330,14 @@ pub segments-fault : (role : SetRole) (has_fill : Bool) (bs : List ℕ) (i end :
     → length bs ≤ end → Err k ≡ first_set_element (chars (drop i bs))
     → segments role has_fill (set_elements (chars (drop i bs)))
     ≡ Err k ∷ segments role has_fill (set_elements (chars (drop end bs)))
-segments-fault role has_fill bs i end k h n e =
-    rw (set_elements-fault _ k (chars-some bs i h) (sym e), drop_all end bs n) refl
+segments-fault role has_fill bs i end k h n e = grind (arith, set_elements-fault, chars-some, drop_all)
 
 -- ---- the fault of a string is that of its first faulty element
 
 first_set_element-faulty : (us : List SetChar) (k : SetFaultKind) → StartsInvalid us k
     → (first_set_element us ≡ Err k) × (0 < length us)
 first_set_element-faulty us k (AnInvalidChar j rest) = (refl, omega arith)
-first_set_element-faulty us k (AnInvalidEnd u a j rest n m) =
-    (rw (bracketed_at-unless _ n, byte_of-DenotesByte u a m) refl, omega arith)
+first_set_element-faulty us k (AnInvalidEnd u a j rest n m) = grind (arith, bracketed_at-unless, byte_of-DenotesByte)
 first_set_element-faulty us k (ADescendingRange u v a b rest n m w h) =
     let falls : nat_lt b a ≡ true = grind arith in (
       rw (bracketed_at-unless _ n, byte_of-DenotesByte u a m, byte_of-DenotesByte v b w, falls)
@@ -388,11 +352,9 @@ rest_fails x r k e = grind arith
 module _ (role : SetRole) where
   fault_is : (has_fill : Bool) (us : List SetChar) {k : SetFaultKind} → FirstFault role has_fill us k
       → sequence (segments role has_fill (set_elements us)) ≡ Err k
-  fault_is has_fill us (NoElement f vs j b) =
-      let (fault, some) = first_set_element-faulty vs j b in
-      rw (set_elements-fault vs j some fault) refl
-  fault_is has_fill us (NoSegment f vs rest p j b e) =
-      rw (set_elements-first vs p rest (first_set_element-StartsElement vs p rest b), e) refl
+  fault_is has_fill us (NoElement f vs j b) = grind (arith, first_set_element-faulty, set_elements-fault)
+  fault_is has_fill us (NoSegment f vs rest p j b e) = grind (arith, set_elements-first,
+      first_set_element-StartsElement)
   fault_is has_fill us (LaterFault f vs rest p x j b e later) =
       cc (
         set_elements-first vs p rest (first_set_element-StartsElement vs p rest b),
@@ -424,7 +386,4 @@ module _ (role : SetRole) where
       (λ i b is. let never = sym all ∙ is in cc)
 
 pub faults_are_first : FirstFaultIsReported
-faults_are_first role b text k = (
-  fault_is role false (chars (b ∷ text)),
-  is_fault role _ false _ k refl,
-)
+faults_are_first role b text k = grind (arith, fault_is, is_fault)

@@ -27,8 +27,7 @@ sequence-ok (m ∷ ms) = rw (sequence-ok ms) refl
 -- the second array has no fault
 pub never_fault : {X : Type 0} (ms : List Member) (rs : List (Result Member SetFaultKind)) {k : SetFaultKind}
     → rs ≡ AllOk ms → sequence rs ≡ Err k → X
-never_fault ms rs is e = let whole = ap sequence is ∙ sequence-ok ms in
-    absurd (cc)
+never_fault ms rs is e = grind (arith, sequence-ok)
 
 -- one byte of the second array is taken
 pub record TakesNext (n : ℕ) (to : List Member) (t : Member) (after : List (Result Member SetFaultKind)) : Type 0 where
@@ -41,8 +40,7 @@ takes_next : (o : Option ℕ) (n : ℕ) (to : List Member) (t : Member) (after :
     → (drop n to ≡ t ∷ drop (suc n) to) × (after ≡ AllOk (drop (suc n) to))
     × (last_or o (member_bytes (take (suc n) to)) ≡ Some t.byte)
 takes_next o zero [] t after e = absurd (cc)
-takes_next o zero (x ∷ to) t after e = let same : x ≡ t = cc in
-    (ap (λ y. y ∷ to) same, cc, ap (λ (y : Member). Some y.byte) same)
+takes_next o zero (x ∷ to) t after e = grind arith
 takes_next o (suc n) [] t after e = absurd (cc)
 takes_next o (suc n) (x ∷ to) t after e = takes_next _ n to t after e
 
@@ -58,9 +56,9 @@ pub record HasEnded (n : ℕ) (to : List Member) : Type 0 where
   pub taken : take (suc n) to ≡ take n to
 
 pub ended : (n : ℕ) (to : List Member) → AllOk (drop n to) ≡ [] → HasEnded n to
-ended zero [] e = record { now = refl; next = refl; taken = refl }
+ended zero [] e = grind arith
 ended zero (x ∷ to) e = absurd (cc)
-ended (suc n) [] e = record { now = refl; next = refl; taken = refl }
+ended (suc n) [] e = grind arith
 ended (suc n) (x ∷ to) e = let rest = ended n to e in
     record { now = rest.now; next = rest.next; taken = ap (λ ms. x ∷ ms) rest.taken }
 
@@ -107,26 +105,18 @@ module _ (before to : List Member) (old : Images) (from : Member) (h : HasPaired
         second = second;
         last = Some t.byte;
       })
-  push-next second t s fine =
-      let next = next_taken _ to t _ (sym h.left ∙ s) in
-      paired second _ next.left (sym next.last) (λ more. rw (next.at, fine) refl)
+  push-next second t s fine = grind (arith, next_taken, paired)
 
   -- none is left: the last one stays
   pub push-last : (second : Bytes) → bytes_left old.second ≡ [] → bytes_left second ≡ []
       → HasPaired (before ++ from ∷ []) to
       (record { table = set old.table from.byte (unwrap_or old.last from.byte); second = second; last = old.last })
-  push-last second s end =
-      let no_more = ended _ to (sym h.left ∙ s) in
-      paired second old.last (end ∙ ap AllOk (sym no_more.next))
-      (h.last ∙ ap (λ ms. last_or None (member_bytes ms)) (sym no_more.taken))
-      (λ more. rw (no_more.now, no_more.next) refl)
+  push-last second s end = grind (arith, ended, paired)
 
   -- a class without its other case
   pub push-unpaired : (after : List (Result Member SetFaultKind)) (t : Member) → bytes_left old.second ≡ Ok t ∷ after
       → classes_match from.class t.class ≡ false → (more : List Member) → all_paired (before ++ from ∷ more) to ≡ false
-  push-unpaired after t s wrong more =
-      let next = next_taken _ to t after (sym h.left ∙ s) in
-      h.decides _ ∙ rw (next.at, wrong) refl
+  push-unpaired after t s wrong more = grind (arith, next_taken)
 
 -- the images and the table after a step, as the code writes them
 pub written : (before to : List Member) (m : Images) (i u byte : ℕ) (table : List ℕ) (second : Bytes) (last : Option ℕ)
@@ -152,7 +142,7 @@ pub record IsPassing (from to : List Member) (images : Images) : Type 0 where
 split_ok : (rest : List Member) (t : Member) (after : List (Result Member SetFaultKind)) → AllOk rest ≡ Ok t ∷ after
     → (more : List Member) × (rest ≡ t ∷ more) × (after ≡ AllOk more)
 split_ok [] t after e = absurd (cc)
-split_ok (x ∷ rest) t after e = let same : x ≡ t = cc in (rest, ap (λ y. y ∷ rest) same, cc)
+split_ok (x ∷ rest) t after e = grind arith
 
 unmatched : (class : Option CharClass) → classes_match None class ≡ not (is_some class)
 unmatched class = grind arith
@@ -170,27 +160,16 @@ plain-passed (b ∷ bytes) rest after e =
 module _ {from to : List Member} {old : Images} (p : IsPassing from to old) where
   pub passing-next : (second : Bytes) (t : Member) → bytes_left old.second ≡ Ok t ∷ bytes_left second
       → is_some t.class ≡ false → IsPassing from to (record { table = old.table; second = second; last = old.last })
-  passing-next second t s plain =
-      let (more, is, left) = split_ok p.rest t _ (sym p.left ∙ s) in
-      record {
-        rest = more;
-        left = left;
-        decides = p.decides ∙ ap (all_paired []) is ∙ rw (unmatched t.class, plain) refl;
-        table = p.table;
-      }
+  passing-next second t s plain = grind (arith, split_ok, unmatched)
 
   pub passing-copies : (second : Bytes) (bytes : List ℕ)
       → bytes_left old.second ≡ AllOk (plain_members bytes) ++ bytes_left second
       → IsPassing from to (record { table = old.table; second = second; last = old.last })
-  passing-copies second bytes s =
-      let (more, left, decides) = plain-passed bytes p.rest _ (sym p.left ∙ s) in
-      record { rest = more; left = left; decides = p.decides ∙ decides; table = p.table }
+  passing-copies second bytes s = grind (arith, plain-passed, bytes)
 
   pub passing-unpaired : (after : List (Result Member SetFaultKind)) (t : Member) → bytes_left old.second ≡ Ok t ∷ after
       → is_some t.class ≡ true → all_paired from to ≡ false
-  passing-unpaired after t s class =
-      let (more, is, left) = split_ok p.rest t after (sym p.left ∙ s) in
-      p.decides ∙ ap (all_paired []) is ∙ rw (unmatched t.class, class) refl
+  passing-unpaired after t s class = grind (arith, split_ok, unmatched)
 
   pub passing-end : bytes_left old.second ≡ [] → all_paired from to ≡ true
   passing-end s = p.decides ∙ by_rest p.rest (sym p.left ∙ s)

@@ -1,14 +1,15 @@
 -- Plain bytes in the characters of a string: a byte other than a backslash is a character by itself, so the code may
 -- look at the bytes where the definition looks at characters.
 use Rattle.ptlangs.proofs
-use proofs.Common.{◌≡◌, ◌≢◌, ◌≤◌, ◌<◌, ◌+◌, ◌-◌, inl, inr, ℕ, suc, Bool, true, false, List, [], ◌∷◌, length, take, drop}
-use proofs.Common.{get_or, arith, refl, sym, Some, None, prefix_len, list_all, cases_eq, eq-eqb, ne_eqb, drop_all}
-use proofs.Common.{drop-drop, take_rest, length-prefix_len, AllPass-from_list_all, SetChar, Plain, Escaped, Invalid}
-use proofs.Common.{chars, after_backslash, after_plain, plain_run, after_run}
+use proofs.Common.{◌≡◌, ◌≢◌, ◌≤◌, ◌<◌, ◌+◌, ◌-◌, inl, inr, ℕ, suc, Bool, true, false, List, [], ◌∷◌, length, take}
+use proofs.Common.{drop, get_or, arith, refl, Some, None, prefix_len, list_all, cases_eq, eq-eqb, ne_eqb, drop_all}
+use proofs.Common.{take_rest, length-prefix_len, AllPass-from_list_all, SetChar, Plain, Escaped, Invalid, chars}
+use proofs.Common.{after_backslash, after_plain, plain_run, after_run}
 use Rattle.std.proofs.lemmas.Bool.{and_from, cond_both}
 use Rattle.std.specs.List.{slice_range, take_while, AllPass}
 use Rattle.std.proofs.lemmas.List.Sums.{take_while-cons}
 use proofs.TrCharGrammar.{chars_plain, chars_escape, chars-cons}
+use Rattle.std.proofs.lemmas.Grind.{common_steps}
 
 -- a character that starts with a backslash
 abbrev pub IsEscape : SetChar → Type 0
@@ -29,14 +30,12 @@ plain_run-escape test u us e = grind arith
 
 pub after_plain-here : (bs : List ℕ) (i c : ℕ) → i < length bs → get_or bs i 0 ≡ c → c ≢ 92
     → Some (chars (drop (i + 1) bs)) ≡ after_plain c (chars (drop i bs))
-after_plain-here bs i c h e n = rw (chars_plain bs i c h e n, eq-eqb c c refl) refl
+after_plain-here bs i c h e n = grind (arith, chars_plain, eq-eqb)
 
 pub after_plain-other : (bs : List ℕ) (i c : ℕ) → i < length bs → get_or bs i 0 ≢ c
     → None ≡ after_plain c (chars (drop i bs))
-after_plain-other bs i c h n = elim (cases_eq _ 92) [
-  | inl e ↦ rw (chars_escape bs i h e) (sym (after_plain-escape c _ _ (IsEscape-after_backslash (drop _ bs))))
-  | inr m ↦ rw (chars_plain bs i _ h refl m, ne_eqb _ c n) refl
-]
+after_plain-other bs i c h n = grind (arith, chars_escape, after_plain-escape, IsEscape-after_backslash, chars_plain,
+    ne_eqb)
 
 pub after_plain-end : (bs : List ℕ) (i c : ℕ) → length bs ≤ i → None ≡ after_plain c (chars (drop i bs))
 after_plain-end bs i c h = rw (drop_all i bs h) refl
@@ -79,21 +78,12 @@ prefix_len-from_run test bs i count e = simp (e, take_rest, length-prefix_len)
 -- the bytes from `i` to the end of the run
 pub run_range : (test : ℕ → Bool) → test 92 ≡ false → (bs : List ℕ) (i count : ℕ) → IsRunLength test bs i count
     → slice_range bs i (i + count) ≡ plain_run test (chars (drop i bs))
-run_range test n bs i count e =
-    let same : i + count - i ≡ prefix_len test (drop i bs) = omega (arith, prefix_len-from_run test bs i count e) in
-    rw (same, plain_run-chars test n _) refl
+run_range test n bs i count e = grind (arith, prefix_len-from_run, plain_run-chars)
 
 pub run_rest : (test : ℕ → Bool) → test 92 ≡ false → (bs : List ℕ) (i count : ℕ) → IsRunLength test bs i count
     → chars (drop (i + count) bs) ≡ after_run test (chars (drop i bs))
-run_rest test n bs i count e =
-    let split : drop (i + count) bs ≡ drop _ (drop i bs) =
-    rw (drop-drop, prefix_len-from_run test bs i count e) refl in
-    rw (
-      plain_run-chars test n _,
-      length-prefix_len test _,
-      drop-prefix_len test n _,
-      split,
-    ) refl
+run_rest test n bs i count e = grind (arith, common_steps, prefix_len-from_run, plain_run-chars, length-prefix_len,
+    drop-prefix_len)
 
 -- each byte of a run passes the test
 pub list_all-plain_run : (test : ℕ → Bool) (us : List SetChar) → list_all test (plain_run test us) ≡ true

@@ -1,13 +1,13 @@
 -- The plan of two strings, step by step, and its tables. Reading never fails for lack of memory: no character, no
 -- element and no segment has that fault.
 use Rattle.ptlangs.proofs
-use proofs.Common.{complement_of, ◌≡◌, Bool, Err, List, None, Ok, Option, Result, Some, [], ap, arith, cond, false}
-use proofs.Common.{length, map, refl, sym, true, ℕ, ◌++◌, ◌-◌, ◌∙◌, ◌∷◌, ◌≢◌, result_map_both, and_then, StartsElement}
-use proofs.Common.{StartsInvalid, subst, FirstFault, LaterFault, NoElement, NoSegment, array, class_offsets}
-use proofs.Common.{first_array, in_string, has_valid_classes, plan, plan_of, second_plan, string_segments, tables}
-use proofs.Common.{AChar, NoChar, SpellsChar, SpellsChars, chars, SetFault, SetFaultKind, ClassPlace, SetElement}
-use proofs.Common.{Segment, SetRole, First, Form, Delete, DeleteSqueeze, Squeeze, Translate, TranslateSqueeze, SetChar}
-use proofs.Common.{Escaped, Invalid, Plain}
+use proofs.Common.{◌≡◌, Bool, Err, List, None, Ok, Option, Result, Some, [], ap, arith, cond, false, length, map}
+use proofs.Common.{refl, sym, true, ℕ, ◌++◌, ◌-◌, ◌∙◌, ◌∷◌, ◌≢◌, result_map_both, and_then, StartsElement}
+use proofs.Common.{StartsInvalid, FirstFault, LaterFault, NoElement, NoSegment, array, class_offsets, first_array}
+use proofs.Common.{in_string, has_valid_classes, plan, plan_of, second_plan, string_segments, tables, AChar, NoChar}
+use proofs.Common.{SpellsChar, SpellsChars, chars, SetFault, SetFaultKind, ClassPlace, SetElement, Segment, SetRole}
+use proofs.Common.{First, Form, Delete, DeleteSqueeze, Squeeze, Translate, TranslateSqueeze, SetChar, Escaped}
+use proofs.Common.{Invalid, Plain}
 use Rattle.ptlangs.specs.TrPlan.{image_of, is_deleted, is_squeezed, NoMemoryFault, Plan, fill_count, plan_from}
 use Rattle.ptlangs.specs.TrPlan.{plan_with, second_role, takes_second}
 use Rattle.ptlangs.specs.declared.faults.SetFaultKind.TheVariants.{Memory}
@@ -20,6 +20,7 @@ use Rattle.ptlangs.specs.TrParsing.{all_paired, contents_of, first_members, mark
 use Rattle.ptlangs.specs.TrTables.{Tables}
 use proofs.TrByteWalk.{paired-arrays, paired-plain}
 use proofs.TrCharGrammar.{chars_are_spelled}
+use Rattle.std.proofs.Common.{rules}
 
 -- ---- strings without a fault
 
@@ -63,8 +64,8 @@ second_read form complement firsts text role fill first unfilled at was e f =
 pub valid-paired : (form : Form) (complement : Bool) (firsts ps : List Segment) (n : ℕ) → (form ≡ DeleteSqueeze → ⊥)
     → has_valid_classes form complement (class_offsets 0 0 firsts) (class_offsets n 0 ps)
     ≡ all_paired (first_members complement firsts) (marked_array n ps)
-valid-paired form true firsts ps n other = grind (arith, paired-plain n (complement_of (array 0 firsts)) ps, other)
-valid-paired form false firsts ps n other = grind (arith, paired-arrays n firsts ps, other)
+valid-paired form true firsts ps n other = search (rules, paired-plain)
+valid-paired form false firsts ps n other = search (rules, paired-arrays)
 
 -- a result of which only the fault was changed
 pub in_string-ok : {A : Type 0} (string : SetString) (r : Result A SetFaultKind) (x : A) → Ok x ≡ in_string string r
@@ -129,9 +130,7 @@ not_memory_after (u ∷ us) rest fine = let (_, others) = fine in not_memory_aft
 
 element_not_memory : (us : List SetChar) (p : SetElement) (rest : List SetChar) → StartsElement us p rest
     → AreNotMemory us → AreNotMemory rest
-element_not_memory us p rest begins fine =
-    let (front, all, _) = StartsElement-front us p rest begins in
-    not_memory_after front rest (subst AreNotMemory all fine)
+element_not_memory us p rest begins fine = grind (arith, StartsElement-front, not_memory_after)
 
 -- ---- neither have segments
 
@@ -175,16 +174,14 @@ of_string string r fault speaks e = grind arith
 rest_not_memory : (form : Form) (complement : Bool) (firsts : List Segment) (s2 : Option (List ℕ)) (fault : SetFault)
     → plan_from form complement firsts s2 ≡ Err fault → fault.kind ≢ Memory
 rest_not_memory form complement firsts None fault e = cc
-rest_not_memory form complement firsts (Some text) fault e =
-    of_string _ _ fault
-    (second_not_memory form complement firsts _
-    (string_not_memory _ text _ refl)) e
+rest_not_memory form complement firsts (Some text) fault e = grind (arith, of_string, second_not_memory,
+    string_not_memory)
 
 plan_not_memory : (string : SetString) (form : Form) (complement : Bool) (s2 : Option (List ℕ))
     (r : Result (List Segment) SetFaultKind) (fault : SetFault)
     → FaultIsNotMemory r → and_then (in_string string r) (λ firsts. plan_from form complement firsts s2) ≡ Err fault
     → fault.kind ≢ Memory
-plan_not_memory string form complement s2 (Ok firsts) fault speaks e = rest_not_memory form complement firsts s2 fault e
+plan_not_memory string form complement s2 (Ok firsts) fault speaks e = search (rules, rest_not_memory)
 plan_not_memory string form complement s2 (Err k) fault speaks e = λ memory. speaks (cc)
 
 pub never_memory : NoMemoryFault

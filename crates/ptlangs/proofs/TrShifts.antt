@@ -2,12 +2,13 @@
 -- these contains it, and its own stretch adds its shift to it and nothing to the bytes above.
 use Rattle.ptlangs.proofs
 use proofs.Common.{◌≡◌, ℕ, zero, suc, ◌+◌, ◌<◌, ◌≤◌, ◌%◌, ◌&&◌, Bool, true, cond, List, [], ◌∷◌, length, drop, get_or}
-use proofs.Common.{refl, sym, ◌∙◌, ap, arith, sum_by, Stretch, shift_of, prepend_shift, stretches_from, shift_at}
-use proofs.Common.{image_of_shifts, cond-false, eqb-true, ne_eqb, drop_more, ◌-◌}
+use proofs.Common.{refl, ◌∙◌, ap, arith, sum_by, Stretch, shift_of, prepend_shift, stretches_from, shift_at}
+use proofs.Common.{image_of_shifts, eqb-true, ne_eqb, ◌-◌}
 use Rattle.std.proofs.Common.{◌==◌, reverse}
 use Rattle.std.proofs.lemmas.List.Sums.{sum_by-cons}
 use Rattle.std.proofs.lemmas.List.Sorted.{sum_by-IsPermutation, IsPermutation-reverse}
 use Rattle.std.proofs.lemmas.Bool.{cond_both}
+use Rattle.std.proofs.lemmas.Grind.{common_steps}
 
 -- the sum of the numbers that the stretches add to a byte
 abbrev pub moved : List Stretch → ℕ → ℕ
@@ -44,18 +45,11 @@ module _ (b by : ℕ) where
 
   front_from : (ss : List Stretch) → AreFrom (b + 1) ss → AreFrom b (prepend_shift b by ss)
   front_from [] from = ((omega arith, omega arith), tt)
-  front_from (s ∷ ss) from =
-      let ((above, ascending), others) = from in
-      cond_both (goes_on s) _ _ (AreFrom b)
-      (λ is. ((omega arith, omega (arith, above)), weaker b ss others))
-      (λ is. ((omega arith, omega arith), weaker b (s ∷ ss) from))
+  front_from (s ∷ ss) from = grind (arith, weaker)
 
   alone : (last : ℕ) (more : List Stretch) → b ≤ last → AreFrom (b + 1) more
       → moved (record { first = b; last = last; by = by } ∷ more) b ≡ by
-  alone last more low rest =
-      sum_by-cons _ _ more
-      ∙ ap (λ (n : ℕ). shift_at (record { first = b; last = last; by = by }) b + n)
-      (none_below _ b more rest (omega arith)) ∙ grind (arith, low)
+  alone last more low rest = grind (arith, common_steps, none_below)
 
   -- the first stretch adds its shift to the byte, and no other stretch adds to it
   at_front : (ss : List Stretch) → AreFrom (b + 1) ss → moved (prepend_shift b by ss) b ≡ by
@@ -88,14 +82,7 @@ are_from b (image ∷ images) =
 moves_by : (b k : ℕ) (images : List ℕ) → k < length images
     → moved (stretches_from b images) (b + k) ≡ shift_of (b + k) (get_or images k 0)
 moves_by b k [] low = absurd (omega arith)
-moves_by b zero (image ∷ images) low =
-    let same : b + 0 ≡ b = omega arith in
-    let rest = stretches_from _ images in
-    let here =
-    cond_both _ _ _ (λ (ss : List Stretch). moved ss b ≡ shift_of b image)
-    (λ is. none_below _ b rest (are_from _ images) (omega arith) ∙ sym (eqb-true _ 0 is))
-    (λ is. at_front b _ rest (are_from _ images)) in
-    rw same here
+moves_by b zero (image ∷ images) low = grind (arith, none_below, are_from, eqb-true, at_front)
 moves_by b (suc k) (image ∷ images) low =
     let same : b + suc k ≡ (b + 1) + k = omega arith in
     let rest = stretches_from _ images in
@@ -110,25 +97,19 @@ back b image low small = omega (arith, low)
 -- the stretches give the image of each byte
 pub moves_all : (images : List ℕ) → length images ≡ 256 → ((b : ℕ) → b < 256 → get_or images b 0 < 256) → (b : ℕ)
     → b < 256 → image_of_shifts (stretches_from 0 images) b ≡ get_or images b 0
-moves_all images long small b low =
-    let same : b ≡ 0 + b = omega arith in
-    ap (λ (n : ℕ). (b + n) % 256) (ap (moved (stretches_from 0 images)) same
-    ∙ moves_by 0 b images (omega (arith, low)) ∙ ap (λ (n : ℕ). shift_of n (get_or images b 0)) (sym same))
-    ∙ back b _ low (small b low)
+moves_all images long small b low = grind (arith, common_steps, moves_by, back)
 
 -- the stretches from `n` on, from those from `n + 1` on
 from_one : (n m : ℕ) (images : List ℕ) → n < length images → m ≡ n + 1
     → stretches_from n (drop n images)
     ≡ cond (shift_of n (get_or images n 0) == 0) (stretches_from m (drop m images))
     (prepend_shift n (shift_of n (get_or images n 0)) (stretches_from m (drop m images)))
-from_one n m images low is = rw is (ap (stretches_from n) (drop_more images n 0 low))
+from_one n m images low is = grind (arith, common_steps)
 
 -- the bytes from `n` on have no more stretches than all bytes
 no_more : (b n : ℕ) (images : List ℕ)
     → length (stretches_from (b + n) (drop n images)) ≤ length (stretches_from b images)
-no_more b zero images =
-    let same : b + 0 ≡ b = omega arith in
-    omega (arith, ap (λ (m : ℕ). length (stretches_from m images)) same)
+no_more b zero images = grind arith
 no_more b (suc n) [] = omega arith
 no_more b (suc n) (image ∷ images) =
     let same : b + suc n ≡ (b + 1) + n = omega arith in
@@ -144,8 +125,7 @@ pub moved_one : (n : ℕ) (images : List ℕ) → 0 < n → n ≤ length images
     → (shift_of (n - 1) (get_or images (n - 1) 0) ≡ 0 → ⊥)
     → stretches_from (n - 1) (drop (n - 1) images)
     ≡ prepend_shift (n - 1) (shift_of (n - 1) (get_or images (n - 1) 0)) (stretches_from n (drop n images))
-moved_one n images low within moves = from_one _ n images (omega arith) (omega arith)
-    ∙ cond-false _ _ _ (ne_eqb _ 0 moves)
+moved_one n images low within moves = grind (arith, common_steps, from_one, ne_eqb)
 
 pub no_more_behind : (n : ℕ) (images : List ℕ)
     → length (stretches_from n (drop n images)) ≤ length (stretches_from 0 images)

@@ -97,9 +97,9 @@ byte_cmp_after_prefix at a b la lb same =
     (ap (byte_cmp (take at a)) (sym same) ∙ tied_itself nat_list_cmp_total (take at a))
 
 first_decides : (r o k : Ordering) → o ≡ r → (r ≡ Equal → ⊥) → r ≡ ordering_then o k
-first_decides Less o k is other = sym (ap (λ q. ordering_then q k) is)
+first_decides Less o k is other = cc
 first_decides Equal o k is other = absurd (other refl)
-first_decides Greater o k is other = sym (ap (λ q. ordering_then q k) is)
+first_decides Greater o k is other = cc
 
 -- Two words of `n` bytes, read at the same index of two slices.
 module _ {n : ℕ} {read : List ℕ → ℕ} (is_number : (xs : List ℕ) → length xs ≡ n → read xs ≡ number 0 xs)
@@ -144,8 +144,8 @@ shorter_prefix_same m n a b less same = sym (take-take m n a less) ∙ ap (take 
 pub cmp_by_length : (n : ℕ) (a b : List ℕ) → n ≡ min (length a) (length b) → take n a ≡ take n b
     → nat_cmp (length a) (length b) ≡ byte_cmp a b
 cmp_by_length n [] [] least same = refl
-cmp_by_length n [] (y ∷ b) least same = nat_cmp_less 0 (length (y ∷ b)) (omega arith)
-cmp_by_length n (x ∷ a) [] least same = nat_cmp_greater (length (x ∷ a)) 0 (omega arith)
+cmp_by_length n [] (y ∷ b) least same = grind (arith, nat_cmp_less)
+cmp_by_length n (x ∷ a) [] least same = grind (arith, nat_cmp_greater)
 cmp_by_length zero (x ∷ a) (y ∷ b) least same = absurd (omega arith)
 cmp_by_length (suc n) (x ∷ a) (y ∷ b) least same =
     next (length a) (length b)

@@ -1,13 +1,11 @@
 -- The ends of a call, for every engine: the output had failed before, a first slot could not be added, or the call made
 -- some progress and then ended in one of five ways.
-use Rattle.ptlines.proofs.Common.{◌≡◌, ℕ, ◌<◌, ◌≤◌, true, false, List, [], Option, length, max, refl, sym, ◌∙◌}
-use Rattle.ptlines.proofs.Common.{ap, arith, Reader, ReaderAdvance, IsSound, remaining_bytes, Received, IsPrefix}
-use Rattle.ptlines.proofs.Common.{HasReceived, PushEffect}
-use Rattle.ptlines.specs.Calls.{InputNames, EngineSpec, CallState, call_state, CallEnd, Complete, OutOfOrder, ReadFault}
-use Rattle.ptlines.specs.Calls.{WriteFault, MemoryFault, CallPost, CallOutcome, AreAllConsistent, AllPushed, with_input}
-use Rattle.ptlines.specs.Calls.{NoReadFailed}
+use Rattle.ptlines.proofs.Common.{◌≡◌, ℕ, ◌<◌, ◌≤◌, true, false, List, [], Option, length, max, refl, ◌∙◌, ap, arith}
+use Rattle.ptlines.proofs.Common.{Reader, ReaderAdvance, IsSound, Received, IsPrefix, PushEffect}
+use Rattle.ptlines.specs.Calls.{InputNames, EngineSpec, CallState, CallEnd, Complete, OutOfOrder, ReadFault}
+use Rattle.ptlines.specs.Calls.{WriteFault, MemoryFault, CallPost, CallOutcome, AreAllConsistent, AllPushed}
+use Rattle.ptlines.specs.Calls.{with_input, NoReadFailed}
 use Rattle.ptlines.specs.Lag.{BoundedLag}
-use Rattle.ptlines.specs.Slots.{AddedAtLeast}
 use Rattle.ptlines.proofs.KnownBytes.{prepend_known-nil}
 use Rattle.ptlines.proofs.Lag.{bounded_lag_now}
 use Rattle.ptlines.proofs.Push.{push_nothing}
@@ -15,14 +13,7 @@ use Rattle.ptlines.proofs.Received.{received_with, has_received, has_received_se
 
 -- nothing was consumed
 pub reads_nothing : (r : Reader) → ReaderAdvance r r []
-reads_nothing r = record {
-  moved = sym (prepend_known-nil (remaining_bytes r));
-  count = omega arith;
-  refused = refl;
-  terminator = refl;
-  still = λ eof. (refl, eof);
-  end = λ h. h;
-}
+reads_nothing r = grind (arith, prepend_known-nil)
 
 -- What was received before a call, and by its end, if it took these bytes.
 abbrev pub given_before : {I : Type 0} → CallState I → I → Received
@@ -141,11 +132,10 @@ module _ {I : Type 0} (names : InputNames I) (engine : EngineSpec I) where
           → DecidedIfReadFailed pushed end → (i : I) → names.is_read i ≡ true → (new.reader i).failed ≡ true
           → new.out.write_failed ≡ false → IsPrefix (engine.decided given) pushed
       decided_at (ReadFault input) e decided i read failed clean = decided i read failed
-      decided_at Complete e decided i read failed clean = cc (e.unfailed i read, p.never_failed i read)
-      decided_at (OutOfOrder input line) e decided i read failed clean =
-          cc (e.pushed_all.unfailed i read, p.never_failed i read)
+      decided_at Complete e decided i read failed clean = grind arith
+      decided_at (OutOfOrder input line) e decided i read failed clean = grind arith
       decided_at WriteFault e decided i read failed clean = cc (e.write_failed)
-      decided_at MemoryFault e decided i read failed clean = cc (e.unfailed i read, p.never_failed i read)
+      decided_at MemoryFault e decided i read failed clean = grind arith
 
       unfoldable pub call_ends : (end : CallEnd I) → CallOutcome names engine old new given pushed end
           → DecidedIfReadFailed pushed end → CallPost names engine old new end
@@ -172,45 +162,19 @@ module _ {I : Type 0} (names : InputNames I) (engine : EngineSpec I) where
       → set.reader i ≡ record (old.reader i) { terminator = engine.terminator })
       (other : (i : I) → names.is_read i ≡ false → set.reader i ≡ old.reader i) where
     unfailed_set : NoReadFailed names set new → NoReadFailed names old new
-    unfailed_set unfailed i read = unfailed i read ∙ ap (λ r. r.failed) (is i read)
+    unfailed_set unfailed i read = grind arith
 
     pushed_set : {given : I → Received} {pushed : List ℕ} {found : Option (I × ℕ)}
         → AllPushed names engine set new given pushed found → AllPushed names engine old new given pushed found
-    pushed_set e = record {
-      out = e.out;
-      disorder = e.disorder;
-      ended = e.ended;
-      fault = e.fault;
-      short = e.short;
-      unfailed = unfailed_set e.unfailed;
-      clean = e.clean;
-      not_denied = e.not_denied;
-      empty = e.empty;
-    }
+    pushed_set e = grind (arith, unfailed_set)
 
     pub ends_set : (given : I → Received) (pushed : List ℕ) (end : CallEnd I)
         → CallOutcome names engine set new given pushed end → CallOutcome names engine old new given pushed end
     ends_set given pushed Complete e = pushed_set e
-    ends_set given pushed (OutOfOrder input line) e = record { named = e.named; pushed_all = pushed_set e.pushed_all }
-    ends_set given pushed (ReadFault input) e = record {
-      named = e.named;
-      unfailed = sym (ap (λ r. r.failed) (is input e.named)) ∙ e.unfailed;
-      cause = rw (is input e.named) at e.cause;
-      others = λ i read differs. e.others i read differs ∙ ap (λ r. r.failed) (is i read);
-      clean = e.clean;
-      not_denied = e.not_denied;
-    }
-    ends_set given pushed WriteFault e = record {
-      write_failed = e.write_failed;
-      unfailed = unfailed_set e.unfailed;
-      not_denied = e.not_denied;
-    }
-    ends_set given pushed MemoryFault e = record {
-      denied = e.denied;
-      unfailed = unfailed_set e.unfailed;
-      clean = e.clean;
-      left = e.left;
-    }
+    ends_set given pushed (OutOfOrder input line) e = grind (arith, pushed_set)
+    ends_set given pushed (ReadFault input) e = grind arith
+    ends_set given pushed WriteFault e = grind (arith, unfailed_set)
+    ends_set given pushed MemoryFault e = grind (arith, unfailed_set)
 
     unfoldable pub call_set : {end : CallEnd I} → CallPost names engine set new end → CallPost names engine old new end
     call_set {end} c = record {

@@ -1,6 +1,8 @@
 -- Facts about bytes that may be unknown, and about unflushed bytes: appending twice is appending the concatenation.
-use Rattle.ptlines.proofs.Common.{◌≡◌, ℕ, Bool, ◌∷◌, List, [], ◌++◌, Option, None, Some, refl, sym, ap, append_assoc}
+use Rattle.ptlines.proofs.Common.{◌≡◌, ℕ, Bool, ◌∷◌, List, [], ◌++◌, Option, None, Some, refl, ap, append_assoc}
 use Rattle.ptlines.proofs.Common.{append-nil, append_known, prepend_known, unflushed_after}
+use Rattle.std.proofs.Common.{arith}
+use Rattle.std.proofs.lemmas.Grind.{common_steps}
 
 pub append_known-append : (known : Option (List ℕ)) (xs ys : List ℕ)
     → append_known (append_known known xs) ys ≡ append_known known (xs ++ ys)
@@ -14,7 +16,7 @@ append_known-nil (Some t) = ap (λ l. Some l) (append-nil t)
 pub prepend_known-append : (xs ys : List ℕ) (known : Option (List ℕ))
     → prepend_known xs (prepend_known ys known) ≡ prepend_known (xs ++ ys) known
 prepend_known-append xs ys None = refl
-prepend_known-append xs ys (Some t) = ap (λ l. Some l) (sym (append_assoc xs ys t))
+prepend_known-append xs ys (Some t) = grind (arith, common_steps)
 
 pub prepend_known-nil : (known : Option (List ℕ)) → prepend_known [] known ≡ known
 prepend_known-nil None = refl

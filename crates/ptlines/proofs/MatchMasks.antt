@@ -1,14 +1,14 @@
 -- The number of trailing zeros of a match mask is the index of the first match, and a mask of zero means that there is
 -- none. Masks of adjacent chunks are combined by shifting and adding.
-use Rattle.ptlines.proofs.Common.{◌≡◌, ⊎_elim, ℕ, suc, ◌+◌, ◌*◌, ◌^◌, ◌%◌, ◌<◌, ◌≤◌, Bool, true, false, cond, not, List}
-use Rattle.ptlines.proofs.Common.{[], ◌∷◌, ◌++◌, Option, None, Some, length, take, drop, map, refl, sym, ◌∙◌, ap, subst}
-use Rattle.ptlines.proofs.Common.{arith, bit_or, take-add, drop-drop, map-append, length-map, none_from_empty_mask}
+use Rattle.ptlines.proofs.Common.{◌≡◌, ℕ, suc, ◌+◌, ◌*◌, ◌^◌, ◌%◌, ◌<◌, ◌≤◌, Bool, true, false, cond, not, List, []}
+use Rattle.ptlines.proofs.Common.{◌∷◌, ◌++◌, Option, None, Some, length, take, drop, map, refl, sym, ◌∙◌, ap, subst}
+use Rattle.ptlines.proofs.Common.{arith, bit_or, take-add, drop-drop, length-map, none_from_empty_mask}
 use Rattle.ptlines.proofs.Common.{trailing_mask_l, run_in_chunk_fails, run_in_chunk_stops, length-chunk, mask_l-lt}
-use Rattle.ptlines.proofs.Common.{false≢true, cases_order, prefix_len, mask_l, chunk, Nowhere, NoneBefore, Passes}
-use Rattle.ptlines.proofs.Common.{IsFirst}
+use Rattle.ptlines.proofs.Common.{false≢true, prefix_len, mask_l, chunk, Nowhere, NoneBefore, Passes, IsFirst}
 use Rattle.std.proofs.Math.Nat.{pow-succ', mul_assoc}
-use Rattle.std.proofs.lemmas.Grind.{or_before_shift}
+use Rattle.std.proofs.lemmas.Grind.{or_before_shift, common_steps}
 use lib.Count.{count_trailing_zeros}
+use Rattle.std.proofs.Common.{rules}
 
 pub none_if_zero_mask_at : (test : ℕ → Bool) (hay : List ℕ) (i n : ℕ) → i + n ≤ length hay
     → mask_l (map test (chunk i n hay)) ≡ 0 → Nowhere (Passes test hay) i (i + n)
@@ -51,37 +51,24 @@ first_at_lowest_bit_of_chunk test hay i n few room some =
 
 pub none_if_zero_mask : (test : ℕ → Bool) (hay : List ℕ) (i n m : ℕ) → i + n ≤ length hay
     → m ≡ mask_l (map test (chunk i n hay)) → m ≡ 0 → Nowhere (Passes test hay) i (i + n)
-none_if_zero_mask test hay i n m room is none = none_if_zero_mask_at test hay i n room (sym is ∙ none)
+none_if_zero_mask test hay i n m room is none = grind (arith, none_if_zero_mask_at)
 
 pub first_at_lowest_bit : (test : ℕ → Bool) (hay : List ℕ) (i n m : ℕ) → n ≤ 64 → i + n ≤ length hay
     → m ≡ mask_l (map test (chunk i n hay)) → (m ≡ 0 → ⊥)
     → IsFirst (Passes test hay) i (i + n) (Some (i + count_trailing_zeros 64 m))
-first_at_lowest_bit test hay i n m few room is some =
-    subst (λ m. IsFirst (Passes test hay) i (i + n) (Some (i + count_trailing_zeros 64 m))) (sym is)
-    (first_at_lowest_bit_of_chunk test hay i n few room
-    (omega (arith, λ (none : mask_l (map test (chunk i n hay)) ≡ 0). some (is ∙ none))))
+first_at_lowest_bit test hay i n m few room is some = grind (arith, first_at_lowest_bit_of_chunk)
 
 -- ---- a search that continues after indices without a match
 
 module _ (P : ℕ → Type 0) where
   pub nowhere_trans : (i j k : ℕ) → Nowhere P i j → Nowhere P j k → Nowhere P i k
-  nowhere_trans i j k none more m low high =
-      ⊎_elim (λ is. more m (omega (arith, is)) high)
-      (λ h. ⊎_elim (λ less. none m low less) (λ past. more m (omega (arith, past)) high) h) (cases_order m j)
+  nowhere_trans i j k none more m low high = grind arith
 
   -- nothing matches before `later`, so a search that begins at `j` finds the first match from `i` on
   pub first_after : (i j k later : ℕ) (r : Option ℕ) → i ≤ j → j ≤ later → Nowhere P i later → IsFirst P j k r
       → IsFirst P i k r
-  first_after i j k later None order near none first =
-      nowhere_trans i j k (λ m low high. none m low (omega (arith, high, near))) first
-  first_after i j k later (Some m) order near none (first, found) = (
-    record {
-      low = omega (arith, order, first.low);
-      high = first.high;
-      before = nowhere_trans i j m (λ n low high. none n low (omega (arith, high, near))) first.before;
-    },
-    found,
-  )
+  first_after i j k later None order near none first = grind (arith, nowhere_trans)
+  first_after i j k later (Some m) order near none (first, found) = grind (arith, nowhere_trans)
 
 -- ---- masks of adjacent chunks
 
@@ -103,20 +90,10 @@ chunk_append {X} i m n xs = take-add m n (drop i xs)
 mask_16_append : (test : ℕ → Bool) (hay : List ℕ) (i n : ℕ) → i + 16 ≤ length hay
     → mask_l (map test (chunk i (16 + n) hay))
     ≡ mask_l (map test (chunk i 16 hay)) + 65536 * mask_l (map test (chunk (i + 16) n hay))
-mask_16_append test hay i n room =
-    let front = map test (chunk i 16 hay) in
-    let back = map test (chunk (i + 16) n hay) in
-    let long : length front ≡ 16 = length-map (chunk i 16 hay) test ∙ length-chunk i 16 hay room in
-    ap (λ l. mask_l (map test l)) (chunk_append i 16 n hay)
-    ∙ ap mask_l (map-append test (chunk i 16 hay) (chunk (i + 16) n hay))
-    ∙ mask_append front back
-    ∙ ap (λ k. mask_l front + 2 ^ k * mask_l back) long
+mask_16_append test hay i n room = grind (arith, common_steps, length-chunk, chunk_append, mask_append)
 
 mask_16_lt : (test : ℕ → Bool) (hay : List ℕ) (i : ℕ) → i + 16 ≤ length hay → mask_l (map test (chunk i 16 hay)) < 65536
-mask_16_lt test hay i room =
-    let flags = map test (chunk i 16 hay) in
-    subst (λ n. mask_l flags < 2 ^ n) (length-map (chunk i 16 hay) test ∙ length-chunk i 16 hay room)
-    (mask_l-lt flags)
+mask_16_lt test hay i room = search (rules, length-chunk, mask_l-lt)
 
 -- three masks of 16 bytes make one of 48
 pub mask_48 : (test : ℕ → Bool) (hay : List ℕ) (i a b c : ℕ) → i + 48 ≤ length hay
@@ -155,7 +132,7 @@ module _ (test : ℕ → Bool) (hay : List ℕ) where
 
   pub first_of_mask_64 : (m : ℕ) → 64 ≤ length hay → m ≡ mask_l (map test (chunk 0 64 hay)) → (m ≡ 0 → ⊥)
       → IsFirst (Passes test hay) 0 64 (Some (count_trailing_zeros 64 m))
-  first_of_mask_64 m room is some = first_from_start 64 m (omega arith) room is some
+  first_of_mask_64 m room is some = grind (arith, first_from_start)
 
   pub first_of_mask_16 : (m : ℕ) → 64 ≤ length hay → m ≡ mask_l (map test (chunk 0 16 hay)) → (m ≡ 0 → ⊥)
       → IsFirst (Passes test hay) 0 64 (Some (count_trailing_zeros 64 m))

@@ -1,16 +1,14 @@
 -- A text that has only complete lines is the text of its lines. So the lines of the concatenation are those of both
 -- parts.
-use Rattle.ptlines.proofs.Common.{◌≡◌, ⊎_elim, ℕ, List, ◌++◌, sym, ◌∙◌, ap, unlines, lines}
+use Rattle.ptlines.proofs.Common.{◌≡◌, ℕ, List, ◌++◌, sym, ◌∙◌, ap, unlines, lines}
 use Rattle.ptlines.specs.Parts.{HasOnlyCompleteLines, LinesOfParts}
 use Rattle.ptlines.proofs.TextLaws.{lines_are, lines_of_unlines, unlines-lines}
+use Rattle.std.proofs.Common.{arith}
 
 -- a text that has only complete lines is the text of its lines
 pub unlines_of_complete : (end : ℕ) (bytes : List ℕ) → HasOnlyCompleteLines end bytes
     → unlines end (lines end bytes) ≡ bytes
-unlines_of_complete end bytes whole = ⊎_elim
-    (λ none. ap (λ l. unlines end (lines end l)) none ∙ sym none)
-    (λ ends. ⊎_elim (λ same. same) (λ (_, unended, _). absurd (unended ends)) (unlines-lines end bytes))
-    whole
+unlines_of_complete end bytes whole = grind (arith, unlines-lines)
 
 pub the_lines_of_parts : LinesOfParts
 the_lines_of_parts end a b whole =

@@ -1,24 +1,22 @@
 -- The effects of pushes compose: two pushes are one push of the concatenation, and after a failed write nothing changes
 -- any more.
-use Rattle.ptlines.proofs.Common.{◌≡◌, ℕ, true, false, List, [], ◌++◌, Option, length, refl, sym, ◌∙◌, ap}
-use Rattle.ptlines.proofs.Common.{subst, arith, append_assoc, Result, Ok, Err, OnOk, OnErr, false≢true}
-use Rattle.ptlines.proofs.Common.{append-nil, append_known, Output, with_written_out, with_direct_write}
-use Rattle.ptlines.proofs.Common.{IsKnownPrefix, PushEffect, PushPost, OutputErr}
+use Rattle.ptlines.proofs.Common.{◌≡◌, ℕ, true, false, List, [], ◌++◌, Option, length, sym, ◌∙◌, ap, arith}
+use Rattle.ptlines.proofs.Common.{append_assoc, Result, Ok, Err, OnOk, OnErr, false≢true, append_known, Output}
+use Rattle.ptlines.proofs.Common.{with_written_out, with_direct_write, IsKnownPrefix, PushEffect, PushPost, OutputErr}
 use Rattle.ptlines.specs.declared.out.WriteFault.{WriteFault}
 use Rattle.ptlines.specs.Outputs.{output_bytes}
 use Rattle.ptlines.proofs.KnownBytes.{append_known-append, append_known-nil}
+use Rattle.std.proofs.Common.{rules}
+use Rattle.std.proofs.lemmas.Grind.{common_steps}
 
 pub known_prefix_refl : (known : Option (List ℕ)) → IsKnownPrefix known known
-known_prefix_refl known = record { front = []; is = sym (append_known-nil known) }
+known_prefix_refl known = grind (arith, append_known-nil)
 
 pub known_prefix_by : (known : Option (List ℕ)) (bytes : List ℕ) → IsKnownPrefix known (append_known known bytes)
-known_prefix_by known bytes = record { front = bytes; is = refl }
+known_prefix_by known bytes = grind arith
 
 pub known_prefix_trans : {a b c : Option (List ℕ)} → IsKnownPrefix a b → IsKnownPrefix b c → IsKnownPrefix a c
-known_prefix_trans {a} first second = record {
-  front = first.front ++ second.front;
-  is = second.is ∙ ap (λ t. append_known t second.front) first.is ∙ append_known-append a first.front second.front;
-}
+known_prefix_trans {a} first second = grind (arith, append_known-append)
 
 known_prefix_append : {a b : Option (List ℕ)} (bytes : List ℕ) → IsKnownPrefix a b
     → IsKnownPrefix a (append_known b bytes)
@@ -26,27 +24,12 @@ known_prefix_append {a} {b} bytes first = known_prefix_trans first (known_prefix
 
 -- a push of nothing
 pub push_nothing : (o : Output) → PushEffect o o []
-push_nothing o = record {
-  kept = known_prefix_refl o.accepted;
-  beginning = known_prefix_by (output_bytes o) [];
-  whole = λ _. sym (append_known-nil (output_bytes o));
-  stays = λ _. refl;
-  buffered = omega arith;
-  flushes = refl;
-}
+push_nothing o = grind (arith, known_prefix_refl, known_prefix_by, append_known-nil)
 
 -- after a failed write nothing more is written
 pub push_past_failure : (a b : Output) (xs ys : List ℕ) → b.write_failed ≡ true → PushEffect a b xs
     → PushEffect a b (xs ++ ys)
-push_past_failure a b xs ys fault wrote = record {
-  kept = wrote.kept;
-  beginning = subst (λ t. IsKnownPrefix (output_bytes b) t) (append_known-append (output_bytes a) xs ys)
-      (known_prefix_append ys wrote.beginning);
-  whole = λ clean. absurd (false≢true (sym clean ∙ fault));
-  stays = wrote.stays;
-  buffered = wrote.buffered;
-  flushes = wrote.flushes;
-}
+push_past_failure a b xs ys fault wrote = grind (arith, append_known-append, known_prefix_append)
 
 pub push_after_failure : (o : Output) (bytes : List ℕ) → o.write_failed ≡ true → PushEffect o o bytes
 push_after_failure o bytes fault = push_past_failure o o [] bytes fault (push_nothing o)
@@ -54,48 +37,17 @@ push_after_failure o bytes fault = push_past_failure o o [] bytes fault (push_no
 -- two pushes in sequence
 pub push_trans : (a b c : Output) (xs ys : List ℕ) → b.write_failed ≡ false → PushEffect a b xs → PushEffect b c ys
     → PushEffect a c (xs ++ ys)
-push_trans a b c xs ys clean first second =
-    let joined : append_known (output_bytes b) ys ≡ append_known (output_bytes a) (xs ++ ys) =
-    ap (λ t. append_known t ys) (first.whole clean) ∙ append_known-append (output_bytes a) xs ys in
-    record {
-      kept = known_prefix_trans first.kept second.kept;
-      beginning = subst (λ t. IsKnownPrefix (output_bytes c) t) joined second.beginning;
-      whole = λ still. second.whole still ∙ joined;
-      stays = λ fault. absurd (false≢true (sym clean ∙ ap (λ o. o.write_failed) (first.stays fault) ∙ fault));
-      buffered = omega (arith, first.buffered, second.buffered);
-      flushes = second.flushes ∙ first.flushes;
-    }
+push_trans a b c xs ys clean first second = grind (arith, append_known-append, known_prefix_trans)
 
 -- the block was written to the sink
 pub push_written_out : (old new : Output) → old.write_failed ≡ false → new ≡ with_written_out old
     → PushEffect old new []
-push_written_out old new clean is = subst (λ o. PushEffect old o []) (sym is) (record {
-  kept = known_prefix_by old.accepted old.buffered;
-  beginning = known_prefix_refl (append_known (output_bytes old) []);
-  whole = λ _. refl;
-  stays = λ fault. absurd (false≢true (sym clean ∙ fault));
-  buffered = omega arith;
-  flushes = refl;
-})
+push_written_out old new clean is = grind (arith, known_prefix_by, known_prefix_refl)
 
 -- the bytes were written directly to the sink, with an empty block
 pub push_direct : (old new : Output) (bytes : List ℕ) → old.write_failed ≡ false → old.buffered ≡ []
     → new ≡ with_direct_write old bytes → PushEffect old new bytes
-push_direct old new bytes clean empty is =
-    let text_old : output_bytes old ≡ old.accepted = ap (λ s. append_known old.accepted s) empty
-    ∙ append_known-nil old.accepted in
-    let text_new : append_known (append_known old.accepted bytes) old.buffered ≡ append_known (output_bytes old) bytes =
-    ap (λ s. append_known (append_known old.accepted bytes) s) empty
-    ∙ append_known-nil (append_known old.accepted bytes) ∙ ap (λ t. append_known t bytes) (sym text_old) in
-    subst (λ o. PushEffect old o bytes) (sym is) (record {
-      kept = known_prefix_by old.accepted bytes;
-      beginning = subst (λ t. IsKnownPrefix t (append_known (output_bytes old) bytes)) (sym text_new)
-          (known_prefix_refl (append_known (output_bytes old) bytes));
-      whole = λ _. text_new;
-      stays = λ fault. absurd (false≢true (sym clean ∙ fault));
-      buffered = omega arith;
-      flushes = refl;
-    })
+push_direct old new bytes clean empty is = grind (arith, append_known-nil, known_prefix_by, known_prefix_refl)
 
 -- a write failed while the block, and then some of the bytes, were written
 pub push_broken : (old new : Output) (written_out bytes more : List ℕ) → old.write_failed ≡ false
@@ -122,28 +74,19 @@ push_broken old new written_out bytes more clean is broken =
 pub push_large : (old new : Output) (bytes : List ℕ) (r : Result (Unit {0}) WriteFault) → old.write_failed ≡ false
     → old.buffered ≡ [] → OnOk r (new ≡ with_direct_write old bytes) → OnErr r (OutputErr old new bytes)
     → PushEffect old new bytes
-push_large old new bytes (Ok u) clean empty ok err = push_direct old new bytes clean empty ok
-push_large old new bytes (Err e) clean empty ok err =
-    push_broken old new bytes bytes [] clean (ap (λ s. s ++ bytes) empty ∙ sym (append-nil bytes)) err
+push_large old new bytes (Ok u) clean empty ok err = search (rules, push_direct)
+push_large old new bytes (Err e) clean empty ok err = grind (arith, common_steps, push_broken)
 
 -- the sink was flushed; except for the count of flushes that is a push of nothing
 push_flush_ok : (old : Output) → old.write_failed ≡ false → PushEffect old (record old { unflushed = false }) []
-push_flush_ok old clean = record {
-  kept = known_prefix_refl old.accepted;
-  beginning = known_prefix_by (output_bytes old) [];
-  whole = λ _. sym (append_known-nil (output_bytes old));
-  stays = λ fault. absurd (false≢true (sym clean ∙ fault));
-  buffered = omega arith;
-  flushes = refl;
-}
+push_flush_ok old clean = grind (arith, known_prefix_refl, known_prefix_by, append_known-nil)
 
 pub push_flush : (old new : Output) (r : Result (Unit {0}) WriteFault) → old.write_failed ≡ false → old.buffered ≡ []
     → OnOk r (new ≡ record old { unflushed = false }) → OnErr r (OutputErr old new []) → PushEffect old new []
-push_flush old new (Ok u) clean empty ok err = subst (λ o. PushEffect old o []) (sym ok) (push_flush_ok old clean)
-push_flush old new (Err e) clean empty ok err = push_broken old new [] [] [] clean (ap (λ s. s ++ []) empty) err
+push_flush old new (Ok u) clean empty ok err = search (rules, push_flush_ok)
+push_flush old new (Err e) clean empty ok err = grind (arith, common_steps, push_broken)
 
 -- a push after others, with its result
 pub push_post_trans : {E : Type 0} (a b c : Output) (xs ys : List ℕ) (r : Result (Unit {0}) E) → b.write_failed ≡ false
     → PushEffect a b xs → PushPost b c ys r → PushPost a c (xs ++ ys) r
-push_post_trans a b c xs ys r clean first second =
-    record { wrote = push_trans a b c xs ys clean first second.wrote; clean = second.clean; fault = second.fault }
+push_post_trans a b c xs ys r clean first second = search (rules, push_trans)

@@ -1,59 +1,33 @@
 -- A line is read piece by piece: the pieces put together are the line, and what was consumed in several calls is the
 -- concatenation of what each consumed. A line whose terminator is among the next 64 bytes is copied at once.
-use Rattle.ptlines.proofs.Common.{◌≡◌, ℕ, ◌+◌, ◌-◌, ◌^◌, ◌<◌, ◌≤◌, None, Some, get_or, take, drop, Bool, List, [], ◌∷◌}
+use Rattle.ptlines.proofs.Common.{◌≡◌, ℕ, ◌+◌, ◌-◌, ◌^◌, ◌<◌, ◌≤◌, None, Some, get_or, take, Bool, List, [], ◌∷◌}
 use Rattle.ptlines.proofs.Common.{◌++◌, length, set, max, refl, sym, ◌∙◌, ap, subst, arith, append_assoc}
-use Rattle.ptlines.proofs.Common.{length-append, nat_tests, append-nil, set-set, get_or-set_same, take-take}
-use Rattle.ptlines.proofs.Common.{get_or-take, prepend_known, Slots, line, total_bytes, with_line, false, not, ◌==◌}
-use Rattle.ptlines.proofs.Common.{inl, inr, Ok, IsLine, Reader, remaining_bytes, ReaderAdvance, AdvanceOk, IsDone}
-use Rattle.ptlines.proofs.Common.{budget, PiecePartial, PieceLine, FillLine, FillPost, IsAppended, IsFirst, IsFirstByte}
-use Rattle.ptlines.proofs.Common.{Passes, is_byte, slice_range}
+use Rattle.ptlines.proofs.Common.{length-append, nat_tests, append-nil, set-set, get_or-take, Slots, line}
+use Rattle.ptlines.proofs.Common.{total_bytes, with_line, false, not, ◌==◌, inl, inr, Ok, IsLine, Reader}
+use Rattle.ptlines.proofs.Common.{ReaderAdvance, AdvanceOk, IsDone, budget, PiecePartial, PieceLine, FillLine}
+use Rattle.ptlines.proofs.Common.{FillPost, IsAppended, IsFirst, IsFirstByte, Passes, is_byte, slice_range}
 use Rattle.ptlines.proofs.KnownBytes.{prepend_known-append}
 use Rattle.ptlines.proofs.SlotTotals.{total_bytes_set}
 use Rattle.ptlines.proofs.LineSearch.{IsLine-append, line_before_terminator, take_with_terminator, advance_ok_take}
 use Rattle.ptlines.proofs.Consume.{length_range, rest_of_range}
+use Rattle.std.proofs.Common.{rules}
+use Rattle.std.proofs.lemmas.Grind.{common_steps}
 
 pub advance_trans : (a b c : Reader) (xs ys : List ℕ) → ReaderAdvance a b xs → ReaderAdvance b c ys
     → ReaderAdvance a c (xs ++ ys)
-advance_trans a b c xs ys first second = record {
-  moved = first.moved ∙ ap (λ t. prepend_known xs t) second.moved
-      ∙ prepend_known-append xs ys (remaining_bytes c);
-  terminator = second.terminator ∙ first.terminator;
-  count = omega (arith, first.count, second.count, length-append xs ys);
-  refused = second.refused ∙ first.refused;
-  still = λ eof. let (pulled, still_eof) = first.still eof in let (pulled_more, at_eof) = second.still still_eof in
-      (pulled_more ∙ pulled, at_eof);
-  end = λ h. second.end (first.end h);
-}
+advance_trans a b c xs ys first second = grind (arith, prepend_known-append, length-append)
 
 pub advance_ok_trans : (a b c : Reader) (xs ys : List ℕ) → AdvanceOk a b xs → AdvanceOk b c ys
     → AdvanceOk a c (xs ++ ys)
-advance_ok_trans a b c xs ys first second = record {
-  reads = advance_trans a b c xs ys first.reads second.reads;
-  fault = second.fault;
-  failed = second.failed ∙ first.failed;
-  short = λ h. second.short (first.short h);
-}
+advance_ok_trans a b c xs ys first second = search (rules, advance_trans)
 
 -- a piece that was moved after a refill that consumed nothing
 module _ (old now new : Reader) (before after : Slots) (slot : ℕ) (first : AdvanceOk old now []) where
   pub partial_after_refill : PiecePartial now new before after slot → PiecePartial old new before after slot
-  partial_after_refill partial = record {
-    piece = partial.piece;
-    advance_ok = advance_ok_trans _ _ _ _ _ first partial.advance_ok;
-    whole = subst (λ end. IsLine end partial.piece) first.reads.terminator partial.whole;
-    some = partial.some;
-    empty = partial.empty;
-    appended = partial.appended;
-  }
+  partial_after_refill partial = grind (arith, advance_ok_trans)
 
   pub line_after_refill : PieceLine now new before after slot → PieceLine old new before after slot
-  line_after_refill last = record {
-    piece = last.piece;
-    advance_ok = subst (λ end. AdvanceOk old new (last.piece ++ end ∷ [])) first.reads.terminator
-        (advance_ok_trans _ _ _ _ _ first last.advance_ok);
-    whole = subst (λ end. IsLine end last.piece) first.reads.terminator last.whole;
-    appended = last.appended;
-  }
+  line_after_refill last = grind (arith, advance_ok_trans)
 
 -- setting a slot twice, the second time to a longer line, is the same as setting it once to that line
 pub with_line_twice : (store : Slots) (slot : ℕ) (xs ys : List ℕ) → slot < length store.lines → length xs ≤ length ys
@@ -71,14 +45,11 @@ with_line_twice store slot xs ys within longer =
 
 pub line_of_with_line : (store : Slots) (slot : ℕ) (xs : List ℕ) → slot < length store.lines
     → line (with_line store slot xs) slot ≡ xs
-line_of_with_line store slot xs within = get_or-set_same store.lines slot xs [] within
+line_of_with_line store slot xs within = search rules
 
 pub appended_twice : (s t u : Slots) (slot : ℕ) (xs ys : List ℕ) → slot < length s.lines → t ≡ with_line s slot xs
     → IsAppended t u slot ys → u ≡ with_line s slot (xs ++ ys)
-appended_twice s t u slot xs ys within is appended =
-    appended ∙ ap (λ v. with_line v slot (line v slot ++ ys)) is
-    ∙ ap (λ l. with_line (with_line s slot xs) slot (l ++ ys)) (line_of_with_line s slot xs within)
-    ∙ with_line_twice s slot xs (xs ++ ys) within (omega (arith, length-append xs ys))
+appended_twice s t u slot xs ys within is appended = grind (arith, line_of_with_line, with_line_twice, length-append)
 
 -- The bytes consumed since `old` are a prefix of one line, and the slot holds them.
 pub record LineSoFar (old now : Reader) (before so_far : Slots) (slot : ℕ) : Type 0 where
@@ -100,9 +71,7 @@ line_so_far_partial old now new before so_far after slot within begun partial = 
 
 budget_decreases : (old new : Reader) (bytes : List ℕ) → AdvanceOk old new bytes → 0 < length bytes
     → old.pulled < 2 ^ 63 → budget new < budget old
-budget_decreases old new bytes advance_ok some short =
-    let new_short : new.pulled < 2 ^ 63 = advance_ok.short short in
-    omega (arith, advance_ok.reads.count)
+budget_decreases old new bytes advance_ok some short = grind arith
 
 pub fill_line : (old now new : Reader) (before so_far after : Slots) (slot : ℕ) → slot < length before.lines
     → old.pulled < 2 ^ 63 → LineSoFar old now before so_far slot → PieceLine now new so_far after slot
@@ -188,30 +157,6 @@ module _ (n : ℕ) (old new : Reader) (block front : List ℕ) (start end size :
       → IsFirst (Passes (is_byte old.terminator) front) 0 n (Some size)
       → new ≡ record old { buffered = slice_range block (start + size + 1) end }
       → after ≡ with_line before slot (take size front) → FillLine old new before after slot
-  fill_short_line clean short high fits buffered is_front first step stored =
-      let long : end - start ≤ length old.buffered =
-      omega (arith, length_range block start end (omega (arith, high)) fits, ap length buffered) in
-      let found = first_in_block high long is_front first in
-      let (none, _) = found in
-      let within : size + 1 ≤ length old.buffered = omega (arith, none.high) in
-      let past : start + (size + 1) ≡ start + size + 1 = omega arith in
-      let rest : slice_range block (start + size + 1) end ≡ drop (size + 1) old.buffered =
-      ap (λ k. slice_range block k end) (sym past)
-      ∙ rest_of_range block start end (size + 1) old.buffered (omega (arith, high)) fits buffered within in
-      let moved : new ≡ record old { buffered = drop (size + 1) old.buffered } = step
-      ∙ ap (λ (h : List ℕ). record old { buffered = h }) rest in
-      let line : take size front ≡ take size old.buffered =
-      sym (take-take size (end - start) front (omega (arith, high))) ∙ ap (take size) is_front in
-      let advance_ok =
-      subst (λ b. AdvanceOk old new b) (take_with_terminator old.terminator old.buffered size found)
-      (advance_ok_take old new (size + 1) clean within moved) in
-      record {
-        line = take size old.buffered;
-        terminator = old.terminator ∷ [];
-        advance_ok = advance_ok;
-        whole = line_before_terminator old.terminator old.buffered size found;
-        ends = inl refl;
-        stored = stored ∙ ap (with_line before slot) line;
-        less = budget_decreases _ _ _ advance_ok
-            (omega (arith, length-append (take size old.buffered) (old.terminator ∷ []))) short;
-      }
+  fill_short_line clean short high fits buffered is_front first step stored = grind (arith, common_steps,
+      length_range, first_in_block, rest_of_range, take_with_terminator, advance_ok_take, line_before_terminator,
+      budget_decreases, length-append)

@@ -1,20 +1,21 @@
 -- The total length of the lines in a store, and the bounds of its lines and buffers, after one slot is set, added or
 -- exchanged. The total changes by the difference of the lengths of the new and the old line, and always fits 128 bits.
 use Rattle.ptlines.proofs.Common.{◌≡◌, ◌≢◌, ℕ, zero, suc, ◌+◌, ◌*◌, ◌^◌, ◌<◌, ◌≤◌, List, [], ◌∷◌, ◌++◌, length, take}
-use Rattle.ptlines.proofs.Common.{drop, get_or, sym, ◌∙◌, ap, arith, set, Bool, take-append-drop, subst, refl}
-use Rattle.ptlines.proofs.Common.{get_or-take, max, get_or-drop, set-get_or, get_or-set_same, get_or-set_other, set-set}
-use Rattle.ptlines.proofs.Common.{swap, length-map, map-append, Slots, LengthsAreBounded, line, total_bytes, with_line}
-use Rattle.ptlines.proofs.Common.{with_denied, true}
+use Rattle.ptlines.proofs.Common.{drop, get_or, sym, ◌∙◌, ap, arith, set, Bool, subst, refl, max, set-get_or}
+use Rattle.ptlines.proofs.Common.{get_or-set_same, get_or-set_other, set-set, swap, length-map, Slots}
+use Rattle.ptlines.proofs.Common.{LengthsAreBounded, line, total_bytes, with_line, with_denied, true}
 use Rattle.ptlines.specs.Slots.{SlotBuffer, slot_lines, AreBuffersBounded, AreCounted}
 use Rattle.std.proofs.lemmas.List.{map-set, get_or-map}
-use Rattle.std.proofs.lemmas.List.Elements.{All-append, All-set, All-get_or}
-use Rattle.std.proofs.lemmas.List.Sums.{sum_by-append, sum_by-set, sum_by-le}
+use Rattle.std.proofs.lemmas.List.Elements.{All-set, All-get_or}
+use Rattle.std.proofs.lemmas.List.Sums.{sum_by-le}
 use Rattle.std.proofs.lemmas.List.Sorted.{sum_by-IsPermutation, IsPermutation-swap}
+use Rattle.std.proofs.Common.{rules}
+use Rattle.std.proofs.lemmas.Grind.{common_steps}
 
 -- the total after one line is set
 pub total_bytes_set : (lines : List (List ℕ)) (slot : ℕ) (bytes : List ℕ) → slot < length lines
     → total_bytes (set lines slot bytes) + length (get_or lines slot []) ≡ total_bytes lines + length bytes
-total_bytes_set lines slot bytes within = sum_by-set length lines slot bytes [] within
+total_bytes_set lines slot bytes within = grind (arith, common_steps)
 
 -- the total with one more line fits 128 bits
 pub total_fits : (lines : List (List ℕ)) (more : ℕ) → LengthsAreBounded lines → length lines < 2 ^ 63 → more < 2 ^ 64
@@ -32,7 +33,7 @@ module _ {X : Type 0} where
   pub get_or_any_default : (xs : List X) (at : ℕ) (d e : X) → at < length xs → get_or xs at d ≡ get_or xs at e
   get_or_any_default [] at d e within = absurd (omega arith)
   get_or_any_default (x ∷ xs) zero d e within = refl
-  get_or_any_default (x ∷ xs) (suc at) d e within = get_or_any_default xs at d e (omega (arith, within))
+  get_or_any_default (x ∷ xs) (suc at) d e within = grind (arith, common_steps)
 
   -- setting an element after a split of the list, and before it
   pub set_after_split : (xs : List X) (at : ℕ) (w : X) → at < length xs
@@ -44,9 +45,9 @@ module _ {X : Type 0} where
 
   pub set_before_split : (xs : List X) (at cut : ℕ) (w : X) → at < cut
       → set (take cut xs) at w ++ drop cut xs ≡ set xs at w
-  set_before_split xs at zero w near = absurd (omega (arith, near))
+  set_before_split xs at zero w near = grind arith
   set_before_split [] at (suc cut) w near = refl
-  set_before_split (x ∷ xs) zero (suc cut) w near = ap (λ l. w ∷ l) (take-append-drop cut xs)
+  set_before_split (x ∷ xs) zero (suc cut) w near = grind (arith, common_steps)
   set_before_split (x ∷ xs) (suc at) (suc cut) w near =
       ap (λ l. x ∷ l) (set_before_split xs at cut w (omega (arith, near)))
 
@@ -100,32 +101,19 @@ module _ (slots after : List SlotBuffer) (slot : ℕ) (had new : SlotBuffer) (d 
   low = omega (arith, within, length-map slots line_of)
 
   line_was : had.line ≡ get_or (slot_lines slots) slot []
-  line_was = ap line_of was ∙ sym (get_or-map line_of slots slot d [] within)
+  line_was = grind (arith, common_steps)
 
   lines_are : slot_lines after ≡ set (slot_lines slots) slot new.line
   lines_are = ap slot_lines is ∙ map-set line_of slots slot new
 
   lengths_after_set : length new.line ≤ 2 ^ 63 → LengthsAreBounded (slot_lines slots)
       → LengthsAreBounded (slot_lines after)
-  lengths_after_set few short =
-      subst LengthsAreBounded (sym lines_are) (All-set IsBounded (slot_lines slots) slot new.line few short)
+  lengths_after_set few short = search (rules, lines_are)
 
   -- the new line is a part of the new total, so a buffer that grows to twice its length stays below the bound
   buffers_after_set : new.buffer_size ≤ max had.buffer_size (2 * length new.line + 64) → (peak : ℕ)
       → total_bytes (slot_lines after) ≤ peak → AreBuffersBounded peak slots → AreBuffersBounded peak after
-  buffers_after_set room peak less fit =
-      let held : HasBoundedBuffer peak had =
-      subst (HasBoundedBuffer peak) (sym was) (All-get_or (HasBoundedBuffer peak) slots slot d within fit) in
-      let few : length new.line ≤ peak =
-      omega (
-        arith,
-        less,
-        ap total_bytes lines_are,
-        total_bytes_set (slot_lines slots) slot new.line low,
-        total_bytes_set (slot_lines slots) slot [] low,
-      ) in
-      subst (AreBuffersBounded peak) (sym is)
-      (All-set (HasBoundedBuffer peak) slots slot new (omega (arith, room, held, few)) fit)
+  buffers_after_set room peak less fit = grind (arith, common_steps, lines_are, total_bytes_set, low)
 
 -- A slot that was `had` is set to another one: the old line was part of the total, and the new total follows.
 module _ (slots : List SlotBuffer) (slot : ℕ) {byte_count before : ℕ} (had : SlotBuffer) (within : slot < length slots)
@@ -165,18 +153,18 @@ module _ (slots : List SlotBuffer) (slot : ℕ) {byte_count before : ℕ} (had :
 -- one slot, at two default values
 pub same_slot : (slots : List SlotBuffer) (slot : ℕ) {a b : SlotBuffer} → slot < length slots → a ≡ get_or slots slot a
     → b ≡ get_or slots slot b → a ≡ b
-same_slot slots slot {a} {b} within a_is b_is = a_is ∙ get_or_any_default slots slot a b within ∙ sym b_is
+same_slot slots slot {a} {b} within a_is b_is = grind (arith, get_or_any_default)
 
 empty_bounded : LengthsAreBounded ([] ∷ [])
 empty_bounded zero d within = omega arith
-empty_bounded (suc k) d within = absurd (omega (arith, within))
+empty_bounded (suc k) d within = grind arith
 
 abbrev pub empty_slot : SlotBuffer
 empty_slot = record { line = []; buffer_size = 128 }
 
 empty_fits : (peak : ℕ) → AreBuffersBounded peak (empty_slot ∷ [])
 empty_fits peak zero d within = omega arith
-empty_fits peak (suc k) d within = absurd (omega (arith, within))
+empty_fits peak (suc k) d within = grind arith
 
 -- the model of a store
 abbrev pub store_of : List SlotBuffer → ℕ → Bool → Slots
@@ -186,20 +174,16 @@ module _ (slots : List SlotBuffer) {peak : ℕ} {denied : Bool} {now : Slots} (s
     (is : store_of slots peak denied ≡ now) where
   -- a slot number below the number of slots is an index of the list
   pub slot_in_range : slot < length now.lines → slot < length slots
-  slot_in_range within = omega (arith, within, ap (λ t. length t.lines) is, length-map slots line_of)
+  slot_in_range within = grind (arith, common_steps)
 
   -- the line of a slot is that of the element of the list
   pub line_before : {had : SlotBuffer} → slot < length slots → had ≡ get_or slots slot had → had.line ≡ line now slot
-  line_before {had} within there = ap line_of there ∙ sym (get_or-map line_of slots slot had [] within)
-      ∙ ap (λ t. line t slot) is
+  line_before {had} within there = grind (arith, common_steps)
 
   -- memory could not be allocated, so the slot is as before
   pub denied_line : {had new : SlotBuffer} → had ≡ get_or slots slot had → new ≡ had
       → store_of (set slots slot new) peak true ≡ with_denied now
-  denied_line {had} there same =
-      let lines : slot_lines (set slots slot _) ≡ slot_lines slots =
-      ap slot_lines (ap (set slots slot) (same ∙ there) ∙ set-get_or slots slot had) in
-      (λ i. record { lines = lines i; peak = peak; denied = true }) ∙ ap with_denied is
+  denied_line {had} there same = grind (arith, common_steps)
 
   -- the model of the store after a slot was set
   pub store_after_set : (new : SlotBuffer) {bytes : List ℕ} {byte_count peak_now : ℕ} → new.line ≡ bytes
@@ -216,17 +200,8 @@ module _ (slots : List SlotBuffer) {peak : ℕ} {denied : Bool} {now : Slots} (s
 -- the invariant after an empty slot was added
 pub counted_after_add : (slots : List SlotBuffer) {after : List SlotBuffer} {byte_count peak : ℕ}
     → after ≡ slots ++ empty_slot ∷ [] → AreCounted byte_count peak slots → AreCounted byte_count peak after
-counted_after_add slots {after} {byte_count} {peak} is counted =
-    let lines : slot_lines after ≡ slot_lines slots ++ [] ∷ [] = ap slot_lines is
-    ∙ map-append line_of slots (empty_slot ∷ []) in
-    record {
-      total = omega (arith, counted.total, ap total_bytes lines, sum_by-append length (slot_lines slots) ([] ∷ []));
-      below_peak = counted.below_peak;
-      lines = subst LengthsAreBounded (sym lines)
-          (All-append IsBounded (slot_lines slots) ([] ∷ []) counted.lines empty_bounded);
-      buffers = subst (AreBuffersBounded peak) (sym is)
-          (All-append (HasBoundedBuffer peak) slots (empty_slot ∷ []) counted.buffers (empty_fits peak));
-    }
+counted_after_add slots {after} {byte_count} {peak} is counted = grind (arith, common_steps, empty_bounded,
+    empty_fits)
 
 -- the slots after the line of one was appended to that of another
 module _ (slots after : List SlotBuffer) (from to : ℕ) (had source new d e : SlotBuffer) (more : List ℕ)
@@ -246,18 +221,16 @@ module _ (slots front back : List SlotBuffer) (from to : ℕ) (d e new : SlotBuf
     (within : to < length slots)
     (front_is : front ≡ take to slots) (back_is : back ≡ drop to slots) where
   back_set : front ++ set back 0 new ≡ set slots to new
-  back_set = (λ i. front_is i ++ set (back_is i) 0 new) ∙ set_after_split slots to new within
+  back_set = grind (arith, set_after_split)
 
   back_slot : get_or back 0 d ≡ get_or slots to d
-  back_slot = let here : to + 0 ≡ to = omega arith in
-      ap (λ l. get_or l 0 d) back_is ∙ get_or-drop to slots 0 d
-      ∙ ap (λ n. get_or slots n d) here
+  back_slot = grind (arith, common_steps)
 
   front_slot : get_or front from e ≡ get_or slots from e
-  front_slot = ap (λ l. get_or l from e) front_is ∙ get_or-take to slots from e near
+  front_slot = grind (arith, common_steps)
 
   pub back_same : new ≡ get_or back 0 d → front ++ set back 0 new ≡ slots
-  back_same new_is = back_set ∙ ap (set slots to) (new_is ∙ back_slot) ∙ set-get_or slots to d
+  back_same new_is = grind (arith, common_steps, back_set, back_slot)
 
   pub append_to_back : more ≡ (get_or front from e).line → new.line ≡ (get_or back 0 d).line ++ more
       → slot_lines (front ++ set back 0 new)
@@ -267,30 +240,28 @@ module _ (slots front back : List SlotBuffer) (from to : ℕ) (d e new : SlotBuf
 
   pub bounded_back : length new.line ≤ 2 ^ 63 → LengthsAreBounded (slot_lines slots)
       → LengthsAreBounded (slot_lines (front ++ set back 0 new))
-  bounded_back = lengths_after_set slots (front ++ set back 0 new) to (get_or back 0 d) new d within back_set back_slot
+  bounded_back = search (rules, lengths_after_set, back_set, back_slot)
 
   pub buffers_back : new.buffer_size ≤ max (get_or back 0 d).buffer_size (2 * length new.line + 64) → (peak : ℕ)
       → total_bytes (slot_lines (front ++ set back 0 new)) ≤ peak → AreBuffersBounded peak slots
       → AreBuffersBounded peak (front ++ set back 0 new)
-  buffers_back = buffers_after_set slots (front ++ set back 0 new) to (get_or back 0 d) new d within back_set back_slot
+  buffers_back = search (rules, buffers_after_set, back_set, back_slot)
 
 -- The slots are split at `from`, so the target lies in the front part.
 module _ (slots front back : List SlotBuffer) (from to : ℕ) (d e new : SlotBuffer) (more : List ℕ) (near : to < from)
     (within : from < length slots)
     (front_is : front ≡ take from slots) (back_is : back ≡ drop from slots) where
   front_set : set front to new ++ back ≡ set slots to new
-  front_set = (λ i. set (front_is i) to new ++ back_is i) ∙ set_before_split slots to from new near
+  front_set = grind (arith, set_before_split)
 
   target_slot : get_or front to d ≡ get_or slots to d
-  target_slot = ap (λ l. get_or l to d) front_is ∙ get_or-take from slots to d near
+  target_slot = grind (arith, common_steps)
 
   source_slot : get_or back 0 e ≡ get_or slots from e
-  source_slot = let here : from + 0 ≡ from = omega arith in
-      ap (λ l. get_or l 0 e) back_is ∙ get_or-drop from slots 0 e
-      ∙ ap (λ n. get_or slots n e) here
+  source_slot = grind (arith, common_steps)
 
   pub front_same : new ≡ get_or front to d → set front to new ++ back ≡ slots
-  front_same new_is = front_set ∙ ap (set slots to) (new_is ∙ target_slot) ∙ set-get_or slots to d
+  front_same new_is = grind (arith, common_steps, front_set, target_slot)
 
   pub append_to_front : more ≡ (get_or back 0 e).line → new.line ≡ (get_or front to d).line ++ more
       → slot_lines (set front to new ++ back)
@@ -327,17 +298,4 @@ pub copy_total : (lines cleared after : List (List ℕ)) (from to byte_count siz
     → (byte_count + size ≡ total_bytes after) × (byte_count ≡ total_bytes (set lines to []))
     × (byte_count + size ≡ total_bytes (set lines to (get_or lines from [])))
 copy_total lines cleared after from to byte_count size v differ from_in to_in cleared_is after_is counts there long =
-    let bytes : v ≡ get_or lines from [] =
-    there ∙ ap (λ l. get_or l from v) after_is
-    ∙ get_or-set_other lines to from (get_or lines from []) v differ ∙ get_or_any_default lines from v [] from_in in
-    let before : byte_count ≡ total_bytes (set lines to []) = counts ∙ ap total_bytes cleared_is in
-    let all : byte_count + size ≡ total_bytes (set lines to (get_or lines from [])) =
-    omega (
-      arith,
-      before,
-      long,
-      ap length bytes,
-      total_bytes_set lines to [] to_in,
-      total_bytes_set lines to (get_or lines from []) to_in,
-    ) in
-    (all ∙ sym (ap total_bytes after_is), before, all)
+    search (rules, get_or_any_default, total_bytes_set)

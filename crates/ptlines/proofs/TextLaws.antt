@@ -5,6 +5,8 @@ use Rattle.ptlines.proofs.Common.{◌++◌, length, drop, get_or, refl, sym, ◌
 use Rattle.ptlines.proofs.Common.{eq-eqb, eqb-true, eqb-false, cases_Bool, nat_tests, append-nil, unlines, lines}
 use Rattle.ptlines.proofs.Common.{onto_first_if_any, complete_lines, IsLine, AreLines, AreLinesOf, EndsWithByte}
 use Rattle.ptlines.proofs.Common.{LinesAreUnique, CompleteLinesAreLines}
+use Rattle.std.proofs.Common.{rules}
+use Rattle.std.proofs.lemmas.Grind.{common_steps}
 
 pub byte_eq : (end : ℕ) → (end == end) ≡ true
 byte_eq end = eq-eqb end end refl
@@ -28,25 +30,21 @@ lines_of_last end (b ∷ c ∷ line) (differs, free) some =
 
 pub unlines-append : (end : ℕ) (xs ys : List (List ℕ)) → unlines end (xs ++ ys) ≡ unlines end xs ++ unlines end ys
 unlines-append end [] ys = refl
-unlines-append end (x ∷ xs) ys = ap (λ l. (x ++ end ∷ []) ++ l) (unlines-append end xs ys)
-    ∙ sym (append_assoc (x ++ end ∷ []) (unlines end xs) (unlines end ys))
+unlines-append end (x ∷ xs) ys = grind (arith, common_steps)
 
 pub unlines_push : (end : ℕ) (xs : List (List ℕ)) (line : List ℕ)
     → unlines end (xs ++ line ∷ []) ≡ unlines end xs ++ (line ++ end ∷ [])
-unlines_push end xs line = unlines-append end xs (line ∷ [])
-    ∙ ap (λ l. unlines end xs ++ l) (append-nil (line ++ end ∷ []))
+unlines_push end xs line = search (rules, unlines-append)
 
 pub AreLines_push : (end : ℕ) (ls : List (List ℕ)) (line : List ℕ) → AreLines end ls → IsLine end line
     → AreLines end (ls ++ line ∷ [])
 AreLines_push end [] line w l = (l, tt)
-AreLines_push end (x ∷ ls) line (first, others) l = (first, AreLines_push end ls line others l)
+AreLines_push end (x ∷ ls) line (first, others) l = grind (arith, common_steps)
 
 -- the text of some lines followed by more bytes: the first line, and what comes after it
 unlines_first : (end : ℕ) (line : List ℕ) (ls : List (List ℕ)) (bytes : List ℕ)
     → unlines end (line ∷ ls) ++ bytes ≡ line ++ end ∷ (unlines end ls ++ bytes)
-unlines_first end line ls bytes =
-    append_assoc (line ++ end ∷ []) (unlines end ls) bytes
-    ∙ append_assoc line (end ∷ []) (unlines end ls ++ bytes)
+unlines_first end line ls bytes = grind (arith, common_steps)
 
 -- the text of some lines followed by more bytes has these lines, followed by the lines of the bytes
 pub lines_of_unlines : (end : ℕ) (ls : List (List ℕ)) (bytes : List ℕ) → AreLines end ls
@@ -87,18 +85,15 @@ complete_lines_of_unlines end (line ∷ ls) piece (first, others) p =
 lines_extra_terminator : (end : ℕ) (bytes : List ℕ) → bytes ≢ [] → ¬ EndsWithByte end bytes
     → lines end (bytes ++ end ∷ []) ≡ lines end bytes
 lines_extra_terminator end [] some not_eof = absurd (some refl)
-lines_extra_terminator end (b ∷ []) some not_eof =
-    ⊎_elim (λ e. absurd (not_eof ([], ap (λ x. x ∷ []) (eqb-true b end e))))
-    (λ (e : (b == end) ≡ false). rw (byte_eq end, e) refl) (cases_Bool (b == end))
+lines_extra_terminator end (b ∷ []) some not_eof = grind (arith, eqb-true, byte_eq)
 lines_extra_terminator end (b ∷ c ∷ bytes) some not_eof =
     let more =
     lines_extra_terminator end (c ∷ bytes) (λ e. cc) (λ (front, e). not_eof (b ∷ front, ap (λ xs. b ∷ xs) e)) in
     ap (λ ls. cond (b == end) ([] ∷ ls) (onto_first b ls)) more
 
 lines-only : (end : ℕ) (bytes : List ℕ) (ls : List (List ℕ)) → AreLinesOf end bytes ls → ls ≡ lines end bytes
-lines-only end bytes ls (w, inl whole) = sym (lines-unlines end ls w) ∙ ap (lines end) whole
-lines-only end bytes ls (w, inr (some, unended, added)) =
-    sym (lines-unlines end ls w) ∙ ap (lines end) added ∙ lines_extra_terminator end bytes some unended
+lines-only end bytes ls (w, inl whole) = grind (arith, lines-unlines)
+lines-only end bytes ls (w, inr (some, unended, added)) = grind (arith, lines-unlines, lines_extra_terminator)
 
 -- no line contains the terminator
 pub lines_are : (end : ℕ) (bytes : List ℕ) → AreLines end (lines end bytes)
@@ -123,8 +118,7 @@ unlines_onto end b c bytes = put (c == end) (lines end bytes)
     put false (l ∷ ls) = refl
 
 tail_ends : (end b c : ℕ) (bytes : List ℕ) → EndsWithByte end (b ∷ c ∷ bytes) → EndsWithByte end (c ∷ bytes)
-tail_ends end b c bytes ([], e) = let bad : b ∷ c ∷ bytes ≡ end ∷ [] = e in let worse : c ∷ bytes ≡ [] =
-    ap (drop 1) bad in cc
+tail_ends end b c bytes ([], e) = cc
 tail_ends end b c bytes (f ∷ fs, e) = (fs, ap (drop 1) e)
 
 -- the text of the lines is the text, with one terminator added if the last line was incomplete
@@ -161,7 +155,7 @@ unlines-lines end (b ∷ c ∷ bytes) = put (b == end) refl (unlines-lines end (
         inr ((λ z. cc), (λ x. u (tail_ends end b c bytes x)), unlines_onto end b c bytes ∙ ap (λ xs. b ∷ xs) h)
 
 pub the_lines : LinesAreUnique
-the_lines end bytes = ((lines_are end bytes, unlines-lines end bytes), lines-only end bytes)
+the_lines end bytes = grind (arith, lines_are, unlines-lines, lines-only)
 
 -- the complete lines are the lines up to the last terminator
 complete_lines_up_to_last : (end : ℕ) (front rest : List ℕ) → IsLine end rest
@@ -174,5 +168,4 @@ complete_lines_up_to_last end front rest free =
     ∙ complete_lines_of_unlines end (lines end all) rest (lines_are end all) free
 
 pub the_complete_lines : CompleteLinesAreLines
-the_complete_lines end rest free =
-    (complete_lines_none end rest free, λ front. complete_lines_up_to_last end front rest free)
+the_complete_lines end rest free = grind (arith, complete_lines_none, complete_lines_up_to_last)
