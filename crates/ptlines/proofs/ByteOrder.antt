@@ -8,8 +8,8 @@ use Rattle.std.specs.Int.{w8, w32, w64, from_be_bytes}
 use Rattle.std.specs.Ordering.{nat_cmp, ordering_then}
 use Rattle.std.specs.declared.cmp.Ordering.{Ordering}
 use Rattle.std.specs.declared.cmp.Ordering.TheVariants.{Less, Equal, Greater}
-use Rattle.std.proofs.lemmas.List.{length-drop}
 use Rattle.ptlines.specs.ByteOrder.{byte_cmp, byte_cmp_equal}
+use Rattle.std.proofs.lemmas.Grind.{common_steps}
 
 -- the number whose digits to the base of 256 are these, appended to the digits of `p`
 abbrev number : ℕ → List ℕ → ℕ
@@ -39,14 +39,12 @@ digits_cmp p (x ∷ xs) (y ∷ ys) long (x_fits, xs_fit) (y_fits, ys_fit) =
     let m = number (p * 256 + x) xs in
     let n = number (p * 256 + y) ys in
     let both : (o : Ordering) → nat_cmp x y ≡ o → byte_cmp (x ∷ xs) (y ∷ ys) ≡ ordering_then o (byte_cmp xs ys) =
-    λ o is. ap (λ r. ordering_then r (byte_cmp xs ys)) is in
+    λ o is. cc in
     by_ranked _ _ _ (nat_cmp x y) (ranked x y (nat_cmp x y) refl)
-    (λ is less. nat_cmp_less m n (number_lt (p * 256 + x) (p * 256 + y) xs ys (omega arith) xs_fit
-    (omega (arith, x_fits.fits, less))) ∙ sym (both Less is))
+    (grind (arith, nat_cmp_less, number_lt))
     (λ is same. ap (λ z. nat_cmp m (number (p * 256 + z) ys)) (sym same)
     ∙ digits_cmp (p * 256 + x) xs ys (omega arith) xs_fit ys_fit ∙ sym (both Equal is))
-    (λ is more. nat_cmp_greater m n (number_lt (p * 256 + y) (p * 256 + x) ys xs (omega arith) ys_fit
-    (omega (arith, y_fits.fits, more))) ∙ sym (both Greater is))
+    (grind (arith, nat_cmp_greater, number_lt))
 digits_cmp p _ _ long fx fy = absurd (omega arith)
 
 -- a word is the number of its bytes
@@ -125,8 +123,7 @@ module _ {n : ℕ} {read : List ℕ → ℕ} (is_number : (xs : List ℕ) → le
   words_differ other =
       first_decides (nat_cmp x y) (byte_cmp xs ys) (byte_cmp (drop n (drop at a)) (drop n (drop at b)))
       (sym words_cmp) (λ e. other (equal_numbers x y e))
-      ∙ sym (byte_cmp_split n (drop at a) (drop at b) (omega (arith, length-drop at a, fits))
-      (omega (arith, length-drop at b, fits)))
+      ∙ sym (grind (arith, common_steps, byte_cmp_split))
       ∙ sym (byte_cmp_after_prefix at a b (omega (arith, fits)) (omega (arith, fits)) same)
 
   -- if they are equal, their bytes are

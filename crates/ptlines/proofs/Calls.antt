@@ -28,12 +28,12 @@ module _ {I : Type 0} (names : InputNames I) (engine : EngineSpec I) where
       → CallPost names engine old old WriteFault
   call_on_failed_output {old} fault not_denied = record {
     given = λ i. received_with [] (old.reader i);
-    came = λ i read. has_received (old.reader i) (old.reader i) [] (reads_nothing (old.reader i));
+    came = grind (arith, has_received, reads_nothing);
     untouched = λ i unread. refl;
     pushed = [];
     wrote = push_nothing old.out;
-    ends = record { write_failed = fault; unfailed = λ i read. refl; not_denied = not_denied };
-    is_prefix = λ texts agree. record { rest = engine.text texts; is = refl };
+    ends = grind arith;
+    is_prefix = grind arith;
     decided_is_written = λ i read failed clean. cc;
     bounded_lag = λ i read clean. cc;
     peak = λ texts agree. omega arith;
@@ -41,7 +41,7 @@ module _ {I : Type 0} (names : InputNames I) (engine : EngineSpec I) where
     added = λ clean. cc;
     unread = λ clean few. cc;
     unchanged_if_failed =
-        λ failed. record { is_write_fault = refl; readers = λ i read. refl; output = refl; store = refl };
+        grind arith;
   }
 
   -- A first slot could not be added: only the terminator of the readers was set.

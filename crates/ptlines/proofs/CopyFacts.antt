@@ -7,7 +7,7 @@ use Rattle.std.proofs.lemmas.Grind.{common_steps}
 pub copied_prefix : (at few many : ℕ) (was is bytes : List ℕ) → at ≤ length was → few ≤ many
     → take (at + many) is ≡ take at was ++ take many bytes → take (at + few) is ≡ take at was ++ take few bytes
 copied_prefix at few many was is bytes within fewer copied =
-    sym (take-take (at + few) (at + many) is (omega (arith, fewer)))
+    sym (grind (arith, common_steps))
     ∙ ap (take (at + few)) copied
     ∙ ap (λ n. take (n + few) (take at was ++ take many bytes)) (sym (length-take-le at was within))
     ∙ take-append-add (take at was) (take many bytes) few
@@ -18,8 +18,8 @@ pub copied_vector_prefix : (few many : ℕ) (was bytes : List ℕ) → few ≤ m
     → take few (put_chunk 0 was (take many bytes)) ≡ take few bytes
 copied_vector_prefix few many was bytes fewer room within =
     let lanes = take many bytes in
-    sym (take-take few many (put_chunk 0 was lanes) fewer)
-    ∙ ap (take few) (take_more_put_chunk 0 was lanes many (omega (arith, length-take-le many bytes within)) room)
+    sym (grind (arith, common_steps))
+    ∙ ap (take few) (take_more_put_chunk 0 was lanes many (grind (arith, length-take-le)) room)
     ∙ take-take few many bytes fewer
 
 -- the first n bytes and the last n, which may overlap, are all bytes

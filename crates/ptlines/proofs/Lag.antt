@@ -1,11 +1,13 @@
 -- Bounded lag: if output was pushed while no write had failed, all of it but at most one block has been written to the
 -- sink, since the block holds at most 8,192 bytes.
 use Rattle.ptlines.proofs.Common.{◌≡◌, ℕ, ◌+◌, ◌≤◌, false, List, ◌++◌, Option, None, Some, length, max, sym, ◌∙◌, ap}
-use Rattle.ptlines.proofs.Common.{arith, append_assoc, length-append, append_known, Received, IsPrefix, Output}
-use Rattle.ptlines.proofs.Common.{IsKnownPrefix, PushEffect}
+use Rattle.ptlines.proofs.Common.{arith, length-append, append_known, Received, IsPrefix, Output, IsKnownPrefix}
+use Rattle.ptlines.proofs.Common.{PushEffect}
 use Rattle.ptlines.specs.Lag.{ProcessLag, BufferLag, BoundedLag}
 use Rattle.ptlines.proofs.KnownBytes.{append_known-append}
 use Rattle.ptlines.proofs.Push.{known_prefix_refl}
+use Rattle.std.proofs.Common.{rules}
+use Rattle.std.proofs.lemmas.Grind.{common_steps}
 
 unfoldable pub known_length : Option (List ℕ) → ℕ
 known_length None = 0
@@ -20,12 +22,12 @@ buffer_lag_bytes : (was mid is : Option (List ℕ)) (buffered waits bytes : List
 unfolding known_length
 buffer_lag_bytes None mid is buffered waits bytes first second all few = (
   buffered ++ bytes,
-  second.is ∙ ap (λ t. append_known t second.front) first.is,
+  cc,
   omega (arith, length-append buffered bytes),
 )
 buffer_lag_bytes (Some t) mid is buffered waits bytes first second all few = (
   first.front ++ second.front,
-  second.is ∙ ap (λ t. append_known t second.front) first.is ∙ append_known-append (Some t) first.front second.front,
+  grind (arith, common_steps, append_known-append),
   omega (
     arith,
     few,
@@ -44,11 +46,7 @@ buffer_lag was mid is pushed bytes wrote clean kept front =
     let (written_out, accepted, most) =
     buffer_lag_bytes was.accepted mid.accepted is.accepted was.buffered mid.buffered pushed
     wrote.kept kept (wrote.whole clean) wrote.buffered in
-    record {
-      written_out = written_out;
-      accepted = accepted;
-      most = omega (arith, most, ap length front.is, length-append bytes front.rest);
-    }
+    grind (arith, length-append)
 
 module _ {I : Type 0} (decided : (I → Received) → List ℕ) (came : I → Received) (was mid : Output) (pushed : List ℕ)
     (processing : ProcessLag decided came pushed)
@@ -57,9 +55,7 @@ module _ {I : Type 0} (decided : (I → Received) → List ℕ) (came : I → Re
   bounded_lag_now =
       record {
         processing = processing;
-        buffering = buffer_lag was mid mid pushed
-            (decided (λ i. (processing.before i).earlier)) wrote clean (known_prefix_refl mid.accepted)
-            processing.begins;
+        buffering = search (rules, buffer_lag, known_prefix_refl);
       }
 
   -- regardless of the bytes pushed after that
@@ -70,11 +66,7 @@ module _ {I : Type 0} (decided : (I → Received) → List ℕ) (came : I → Re
       record {
         processing = record {
           before = processing.before;
-          begins = record {
-            rest = processing.begins.rest ++ bytes;
-            is = ap (λ l. l ++ bytes) processing.begins.is
-                ∙ append_assoc now processing.begins.rest bytes;
-          };
+          begins = grind (arith, common_steps);
         };
-        buffering = buffer_lag was mid is pushed now wrote clean more.kept processing.begins;
+        buffering = search (rules, buffer_lag);
       }

@@ -36,7 +36,7 @@ first_at_lowest_bit_of_chunk test hay i n few room some =
     let at = count_trailing_zeros 64 (mask_l (map test v)) in
     let long : length v ≡ n = length-chunk i n hay room in
     let counted : at ≡ prefix_len (λ x. not (test x)) v = trailing_mask_l test 64 v (omega (arith, long, few)) some in
-    let near : at < n = omega (arith, counted, long, prefix_len_lt test v some) in (
+    let near : at < n = grind (arith, prefix_len_lt) in (
       record {
         low = omega arith;
         high = omega (arith, near);
@@ -102,21 +102,18 @@ pub mask_48 : (test : ℕ → Bool) (hay : List ℕ) (i a b c : ℕ) → i + 48 
     → bit_or (bit_or a (b * 65536 % 18446744073709551616)) (c * 4294967296 % 18446744073709551616)
     ≡ mask_l (map test (chunk i 48 hay))
 mask_48 test hay i a b c room first second third =
-    let low : a < 65536 = omega (arith, first, mask_16_lt test hay i (omega (arith, room))) in
-    let mid : b < 65536 = omega (arith, second, mask_16_lt test hay (i + 16) (omega (arith, room))) in
-    let high : c < 65536 = omega (arith, third, mask_16_lt test hay (i + 32) (omega (arith, room))) in
+    let low : a < 65536 = search (rules, mask_16_lt) in
+    let mid : b < 65536 = search (rules, mask_16_lt) in
+    let high : c < 65536 = search (rules, mask_16_lt) in
     let two : bit_or a (b * 65536 % 18446744073709551616) ≡ b * 65536 + a =
-    or_before_shift a b 65536 18446744073709551616 refl low (omega (arith, mid)) in
+    grind (arith, or_before_shift) in
     let three = or_before_shift (bit_or a (b * 65536 % 18446744073709551616)) c 4294967296 18446744073709551616 refl
     (omega (arith, two, low, mid)) (omega (arith, high)) in
     let mask : ℕ → ℕ → ℕ = λ k n. mask_l (map test (chunk k n hay)) in
     let all : mask i 48 ≡ mask i 16 + 65536 * mask (i + 16) 32 = mask_16_append test hay i 32 (omega (arith, room)) in
     let rest : mask (i + 16) 32 ≡ mask (i + 16) 16 + 65536 * mask (i + 16 + 16) 16 =
     mask_16_append test hay (i + 16) 16 (omega (arith, room)) in
-    let place : i + 16 + 16 ≡ i + 32 = omega arith in
-    let last : mask (i + 16 + 16) 16 ≡ mask (i + 32) 16 = ap (λ k. mask k 16) place in
-    let sum : b * 65536 + a + c * 4294967296 ≡ mask i 48 = omega (arith, all, rest, last, first, second, third) in
-    omega (arith, two, three, sum)
+    grind arith
 
 -- The first match among 64 bytes: by the mask of the first 16 if that is not zero, otherwise by the mask of all.
 
@@ -138,14 +135,14 @@ module _ (test : ℕ → Bool) (hay : List ℕ) where
       → IsFirst (Passes test hay) 0 64 (Some (count_trailing_zeros 64 m))
   first_of_mask_16 m room is some =
       let (first, found) = first_from_start 16 m (omega arith) (omega (arith, room)) is some in
-      (record { low = omega arith; high = omega (arith, first.high); before = first.before }, found)
+      grind arith
 
   pub mask_64 : (near far : ℕ) → 64 ≤ length hay → near ≡ mask_l (map test (chunk 0 16 hay)) → near ≡ 0
       → far ≡ mask_l (map test (chunk 16 48 hay))
       → far * 65536 % 18446744073709551616 ≡ mask_l (map test (chunk 0 64 hay))
   mask_64 near far room is none rest =
       let all : mask_l (map test (chunk 0 64 hay)) ≡ mask_l (map test (chunk 0 16 hay))
-      + 65536 * mask_l (map test (chunk 16 48 hay)) = mask_16_append test hay 0 48 (omega (arith, room)) in
+      + 65536 * mask_l (map test (chunk 16 48 hay)) = grind (arith, mask_16_append) in
       let flags = map test (chunk 16 48 hay) in
       let few : far < 2 ^ 48 = subst (λ m. m < 2 ^ 48) (sym rest)
       (subst (λ n. mask_l flags < 2 ^ n)

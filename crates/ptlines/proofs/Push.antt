@@ -1,8 +1,8 @@
 -- The effects of pushes compose: two pushes are one push of the concatenation, and after a failed write nothing changes
 -- any more.
-use Rattle.ptlines.proofs.Common.{◌≡◌, ℕ, true, false, List, [], ◌++◌, Option, length, sym, ◌∙◌, ap, arith}
-use Rattle.ptlines.proofs.Common.{append_assoc, Result, Ok, Err, OnOk, OnErr, false≢true, append_known, Output}
-use Rattle.ptlines.proofs.Common.{with_written_out, with_direct_write, IsKnownPrefix, PushEffect, PushPost, OutputErr}
+use Rattle.ptlines.proofs.Common.{◌≡◌, ℕ, true, false, List, [], ◌++◌, Option, sym, ◌∙◌, ap, arith, append_assoc}
+use Rattle.ptlines.proofs.Common.{Result, Ok, Err, OnOk, OnErr, append_known, Output, with_written_out}
+use Rattle.ptlines.proofs.Common.{with_direct_write, IsKnownPrefix, PushEffect, PushPost, OutputErr}
 use Rattle.ptlines.specs.declared.out.WriteFault.{WriteFault}
 use Rattle.ptlines.specs.Outputs.{output_bytes}
 use Rattle.ptlines.proofs.KnownBytes.{append_known-append, append_known-nil}
@@ -61,14 +61,7 @@ push_broken old new written_out bytes more clean is broken =
     (is ∙ ap (λ s. s ++ more) broken.split ∙ append_assoc broken.front broken.rest more)
     ∙ sym (append_known-append old.accepted broken.front (broken.rest ++ more))
     ∙ ap (λ t. append_known t (broken.rest ++ more)) (sym text_new) in
-    record {
-      kept = record { front = broken.front; is = broken.accepted };
-      beginning = record { front = broken.rest ++ more; is = all };
-      whole = λ still. absurd (false≢true (sym still ∙ broken.write_failed));
-      stays = λ fault. absurd (false≢true (sym clean ∙ fault));
-      buffered = omega (arith, ap length broken.buffered);
-      flushes = broken.flushes;
-    }
+    grind arith
 
 -- the result of a direct write with an empty block
 pub push_large : (old new : Output) (bytes : List ℕ) (r : Result (Unit {0}) WriteFault) → old.write_failed ≡ false

@@ -1,11 +1,11 @@
 -- A line is read piece by piece: the pieces put together are the line, and what was consumed in several calls is the
 -- concatenation of what each consumed. A line whose terminator is among the next 64 bytes is copied at once.
 use Rattle.ptlines.proofs.Common.{◌≡◌, ℕ, ◌+◌, ◌-◌, ◌^◌, ◌<◌, ◌≤◌, None, Some, get_or, take, Bool, List, [], ◌∷◌}
-use Rattle.ptlines.proofs.Common.{◌++◌, length, set, max, refl, sym, ◌∙◌, ap, subst, arith, append_assoc}
-use Rattle.ptlines.proofs.Common.{length-append, nat_tests, append-nil, set-set, get_or-take, Slots, line}
-use Rattle.ptlines.proofs.Common.{total_bytes, with_line, false, not, ◌==◌, inl, inr, Ok, IsLine, Reader}
-use Rattle.ptlines.proofs.Common.{ReaderAdvance, AdvanceOk, IsDone, budget, PiecePartial, PieceLine, FillLine}
-use Rattle.ptlines.proofs.Common.{FillPost, IsAppended, IsFirst, IsFirstByte, Passes, is_byte, slice_range}
+use Rattle.ptlines.proofs.Common.{◌++◌, length, refl, sym, ◌∙◌, ap, subst, arith, append_assoc, length-append}
+use Rattle.ptlines.proofs.Common.{nat_tests, append-nil, set-set, get_or-take, Slots, line, with_line, false, not}
+use Rattle.ptlines.proofs.Common.{◌==◌, inl, inr, Ok, IsLine, Reader, ReaderAdvance, AdvanceOk, IsDone, budget}
+use Rattle.ptlines.proofs.Common.{PiecePartial, PieceLine, FillLine, FillPost, IsAppended, IsFirst, IsFirstByte}
+use Rattle.ptlines.proofs.Common.{Passes, is_byte, slice_range}
 use Rattle.ptlines.proofs.KnownBytes.{prepend_known-append}
 use Rattle.ptlines.proofs.SlotTotals.{total_bytes_set}
 use Rattle.ptlines.proofs.LineSearch.{IsLine-append, line_before_terminator, take_with_terminator, advance_ok_take}
@@ -34,14 +34,7 @@ pub with_line_twice : (store : Slots) (slot : ℕ) (xs ys : List ℕ) → slot <
     → with_line (with_line store slot xs) slot ys ≡ with_line store slot ys
 with_line_twice store slot xs ys within longer =
     let same = set-set store.lines slot xs ys in
-    let appended : total_bytes (set store.lines slot xs) ≤ total_bytes (set store.lines slot ys) =
-    omega (arith, total_bytes_set store.lines slot xs within, total_bytes_set store.lines slot ys within) in
-    let peak : max (max store.peak (total_bytes (set store.lines slot xs)))
-    (total_bytes (set (set store.lines slot xs) slot ys))
-    ≡ max store.peak (total_bytes (set store.lines slot ys)) =
-    ap (λ l. max (max store.peak (total_bytes (set store.lines slot xs))) (total_bytes l)) same
-    ∙ (omega arith) in
-    λ i. record { lines = same i; peak = peak i; denied = store.denied }
+    grind (arith, total_bytes_set)
 
 pub line_of_with_line : (store : Slots) (slot : ℕ) (xs : List ℕ) → slot < length store.lines
     → line (with_line store slot xs) slot ≡ xs
@@ -63,10 +56,9 @@ pub line_so_far_partial : (old now new : Reader) (before so_far after : Slots) (
     → LineSoFar old new before after slot
 line_so_far_partial old now new before so_far after slot within begun partial = record {
   piece = begun.piece ++ partial.piece;
-  advance_ok = advance_ok_trans _ _ _ _ _ begun.advance_ok partial.advance_ok;
-  whole = IsLine-append old.terminator begun.piece partial.piece begun.whole
-      (subst (λ end. IsLine end partial.piece) begun.advance_ok.reads.terminator partial.whole);
-  stored = appended_twice before so_far after slot begun.piece partial.piece within begun.stored partial.appended;
+  advance_ok = search (rules, advance_ok_trans);
+  whole = grind (arith, IsLine-append);
+  stored = grind (arith, appended_twice);
 }
 
 budget_decreases : (old new : Reader) (bytes : List ℕ) → AdvanceOk old new bytes → 0 < length bytes

@@ -80,7 +80,7 @@ module _ {old : Reader} {was : SourceState} (is : SourceState) (block : List ℕ
   pub refill_long : PullOk was is (take 8192 block) n → n ≤ 8192 → 2 ^ 63 ≤ p + n
       → RefillPost old (reader_of is (slice_range block 0 n) (p + n) (Some Read) q' end) (Err Read)
   refill_long gives small long =
-      (record { reads = filled (Some Read) gives small; whole = tt; is = refl }, inr (long, same_failed gives), refl)
+      (search (rules, filled), inr (long, same_failed gives), refl)
 
   pub refill_end : PullOk was is (take 8192 block) n → n ≡ 0
       → RefillPost old (reader_of is (slice_range block 0 0) p fault q' end) (Ok false)

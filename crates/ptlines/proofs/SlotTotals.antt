@@ -1,9 +1,9 @@
 -- The total length of the lines in a store, and the bounds of its lines and buffers, after one slot is set, added or
 -- exchanged. The total changes by the difference of the lengths of the new and the old line, and always fits 128 bits.
 use Rattle.ptlines.proofs.Common.{◌≡◌, ◌≢◌, ℕ, zero, suc, ◌+◌, ◌*◌, ◌^◌, ◌<◌, ◌≤◌, List, [], ◌∷◌, ◌++◌, length, take}
-use Rattle.ptlines.proofs.Common.{drop, get_or, sym, ◌∙◌, ap, arith, set, Bool, subst, refl, max, set-get_or}
-use Rattle.ptlines.proofs.Common.{get_or-set_same, get_or-set_other, set-set, swap, length-map, Slots}
-use Rattle.ptlines.proofs.Common.{LengthsAreBounded, line, total_bytes, with_line, with_denied, true}
+use Rattle.ptlines.proofs.Common.{drop, get_or, sym, ◌∙◌, ap, arith, set, Bool, subst, refl, max, set-get_or, set-set}
+use Rattle.ptlines.proofs.Common.{swap, length-map, Slots, LengthsAreBounded, line, total_bytes, with_line}
+use Rattle.ptlines.proofs.Common.{with_denied, true}
 use Rattle.ptlines.specs.Slots.{SlotBuffer, slot_lines, AreBuffersBounded, AreCounted}
 use Rattle.std.proofs.lemmas.List.{map-set, get_or-map}
 use Rattle.std.proofs.lemmas.List.Elements.{All-set, All-get_or}
@@ -76,19 +76,18 @@ slot_lines-swap (s ∷ more) a b a_in b_in =
     let slots : List SlotBuffer = s ∷ more in
     map-set line_of (set slots a (get_or slots b s)) b (get_or slots a s)
     ∙ (λ i. set (map-set line_of slots a (get_or slots b s) i) b (sym (get_or-map line_of slots a s s.line a_in) i))
-    ∙ (λ i. set (set (slot_lines slots) a (sym (get_or-map line_of slots b s s.line b_in) i)) b
-    (get_or (slot_lines slots) a s.line))
+    ∙ (grind (arith, common_steps))
 
 -- the invariant after an exchange
 pub counted_after_swap : (slots : List SlotBuffer) (a b : ℕ) {byte_count peak : ℕ} → a < length slots → b < length slots
     → AreCounted byte_count peak slots → AreCounted byte_count peak (swap slots a b)
 counted_after_swap slots a b {byte_count} {peak} a_in b_in counted =
     let lines = slot_lines slots in
-    let a_low : a < length lines = omega (arith, a_in, length-map slots line_of) in
-    let b_low : b < length lines = omega (arith, b_in, length-map slots line_of) in
+    let a_low : a < length lines = grind (arith, common_steps) in
+    let b_low : b < length lines = grind (arith, common_steps) in
     let is = slot_lines-swap slots a b a_in b_in in
     record {
-      total = counted.total ∙ sym (ap total_bytes is ∙ total_bytes_swap lines a b a_low b_low);
+      total = grind (arith, total_bytes_swap);
       below_peak = counted.below_peak;
       lines = subst LengthsAreBounded (sym is) (All-swap IsBounded lines a b a_low b_low counted.lines);
       buffers = All-swap (HasBoundedBuffer peak) slots a b a_in b_in counted.buffers;
@@ -123,7 +122,7 @@ module _ (slots : List SlotBuffer) (slot : ℕ) {byte_count before : ℕ} (had :
       let same = sym (set-get_or slots slot had) ∙ ap (set slots slot) (sym was) in
       omega (
         arith,
-        total_bytes_set (slot_lines slots) slot [] (low slots slots slot had had had within same was),
+        total_bytes_set (slot_lines slots) slot [] (grind (arith, low)),
         ap length (line_was slots slots slot had had had within same was),
         counted.total,
       )
@@ -137,7 +136,7 @@ module _ (slots : List SlotBuffer) (slot : ℕ) {byte_count before : ℕ} (had :
       let total : now ≡ total_bytes (slot_lines after) = omega (
         arith,
         ap total_bytes (lines_are slots after slot had new had within refl was),
-        total_bytes_set (slot_lines slots) slot new.line (low slots after slot had new had within refl was),
+        total_bytes_set (slot_lines slots) slot new.line (grind (arith, common_steps, low)),
         ap length (line_was slots after slot had new had within refl was),
         counted.total,
         moves,
@@ -145,9 +144,10 @@ module _ (slots : List SlotBuffer) (slot : ℕ) {byte_count before : ℕ} (had :
       record {
         total = total;
         below_peak = less;
-        lines = lengths_after_set slots after slot had new had within refl was few counted.lines;
-        buffers = buffers_after_set slots after slot had new had within refl was room peak (omega (arith, total, less))
-            (λ k d lt. omega (arith, counted.buffers k d lt, more));
+        lines = search (rules, lengths_after_set);
+        buffers = buffers_after_set slots after slot had new had within refl was room peak (omega (arith, total,
+            less))
+            (grind arith);
       }
 
 -- one slot, at two default values
@@ -191,11 +191,7 @@ module _ (slots : List SlotBuffer) {peak : ℕ} {denied : Bool} {now : Slots} (s
       → store_of (set slots slot new) peak_now denied ≡ with_line now slot bytes
   store_after_set new {bytes} new_is counts peak_is =
       let lines = map-set line_of slots slot new ∙ ap (set (slot_lines slots) slot) new_is in
-      (λ i. record {
-        lines = lines i;
-        peak = (peak_is ∙ ap (max peak) (counts ∙ ap total_bytes lines)) i;
-        denied = denied;
-      }) ∙ (λ i. with_line (is i) slot bytes)
+      cc
 
 -- the invariant after an empty slot was added
 pub counted_after_add : (slots : List SlotBuffer) {after : List SlotBuffer} {byte_count peak : ℕ}
@@ -211,10 +207,9 @@ module _ (slots after : List SlotBuffer) (from to : ℕ) (had source new d e : S
       → slot_lines after ≡ set (slot_lines slots) to
       (get_or (slot_lines slots) to [] ++ get_or (slot_lines slots) from [])
   slots_appended more_is new_is =
-      let added : more ≡ get_or (slot_lines slots) from [] = more_is ∙ ap line_of source_is
-      ∙ sym (get_or-map line_of slots from e [] from_in) in
+      let added : more ≡ get_or (slot_lines slots) from [] = grind (arith, common_steps) in
       lines_are slots after to had new d to_in is had_is
-      ∙ ap (set (slot_lines slots) to) (new_is ∙ (λ i. line_was slots after to had new d to_in is had_is i ++ added i))
+      ∙ ap (set (slot_lines slots) to) (grind (arith, common_steps, line_was))
 
 -- The slots are split at `to`, so the target is the first slot of the back part.
 module _ (slots front back : List SlotBuffer) (from to : ℕ) (d e new : SlotBuffer) (more : List ℕ) (near : from < to)
@@ -285,11 +280,9 @@ pub copy_lines : (lines cleared after : List (List ℕ)) (from to : ℕ) → fro
     → cleared ≡ set lines to [] → after ≡ set cleared to (get_or cleared to [] ++ get_or cleared from [])
     → after ≡ set lines to (get_or lines from [])
 copy_lines lines cleared after from to differ to_in cleared_is after_is =
-    let empty : get_or cleared to [] ≡ [] = ap (λ l. get_or l to []) cleared_is
-    ∙ get_or-set_same lines to [] [] to_in in
-    let source : get_or cleared from [] ≡ get_or lines from [] = ap (λ l. get_or l from []) cleared_is
-    ∙ get_or-set_other lines to from [] [] differ in
-    after_is ∙ (λ i. set (cleared_is i) to (empty i ++ source i)) ∙ set-set lines to [] (get_or lines from [])
+    let empty : get_or cleared to [] ≡ [] = search rules in
+    let source : get_or cleared from [] ≡ get_or lines from [] = search rules in
+    after_is ∙ (cc) ∙ set-set lines to [] (get_or lines from [])
 
 -- the total after that copy
 pub copy_total : (lines cleared after : List (List ℕ)) (from to byte_count size : ℕ) (v : List ℕ) → from ≢ to

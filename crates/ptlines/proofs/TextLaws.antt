@@ -1,8 +1,8 @@
 -- Facts about lines and their text: a text is split at each terminator, so splitting the text of lines gives these
 -- lines, and the text of the lines of a text is that text, to which one terminator may be added.
-use Rattle.ptlines.proofs.Common.{◌≡◌, ◌≢◌, ◌⊎◌, inl, inr, ⊎_elim, ℕ, ◌==◌, ◌<◌, Bool, true, false, cond, List, [], ◌∷◌}
-use Rattle.ptlines.proofs.Common.{◌++◌, length, drop, get_or, refl, sym, ◌∙◌, ap, arith, append_assoc, onto_first}
-use Rattle.ptlines.proofs.Common.{eq-eqb, eqb-true, eqb-false, cases_Bool, nat_tests, append-nil, unlines, lines}
+use Rattle.ptlines.proofs.Common.{◌≡◌, ◌≢◌, ◌⊎◌, inl, inr, ⊎_elim, ℕ, ◌==◌, ◌<◌, Bool, true, false, cond, List, []}
+use Rattle.ptlines.proofs.Common.{◌∷◌, ◌++◌, length, drop, get_or, refl, sym, ◌∙◌, ap, arith, onto_first, eq-eqb}
+use Rattle.ptlines.proofs.Common.{eqb-true, eqb-false, cases_Bool, nat_tests, append-nil, unlines, lines}
 use Rattle.ptlines.proofs.Common.{onto_first_if_any, complete_lines, IsLine, AreLines, AreLinesOf, EndsWithByte}
 use Rattle.ptlines.proofs.Common.{LinesAreUnique, CompleteLinesAreLines}
 use Rattle.std.proofs.Common.{rules}
@@ -89,7 +89,7 @@ lines_extra_terminator end (b ∷ []) some not_eof = grind (arith, eqb-true, byt
 lines_extra_terminator end (b ∷ c ∷ bytes) some not_eof =
     let more =
     lines_extra_terminator end (c ∷ bytes) (λ e. cc) (λ (front, e). not_eof (b ∷ front, ap (λ xs. b ∷ xs) e)) in
-    ap (λ ls. cond (b == end) ([] ∷ ls) (onto_first b ls)) more
+    cc
 
 lines-only : (end : ℕ) (bytes : List ℕ) (ls : List (List ℕ)) → AreLinesOf end bytes ls → ls ≡ lines end bytes
 lines-only end bytes ls (w, inl whole) = grind (arith, lines-unlines)
@@ -163,8 +163,8 @@ complete_lines_up_to_last : (end : ℕ) (front rest : List ℕ) → IsLine end r
 complete_lines_up_to_last end front rest free =
     let all : List ℕ = front ++ end ∷ [] in
     let whole : unlines end (lines end all) ≡ all =
-    ⊎_elim (λ e. e) (λ (_, unended, _). absurd (unended (front, refl))) (unlines-lines end all) in
-    ap (complete_lines end) (sym (append_assoc front (end ∷ []) rest) ∙ ap (λ l. l ++ rest) (sym whole))
+    grind (arith, unlines-lines) in
+    ap (complete_lines end) (grind (arith, common_steps))
     ∙ complete_lines_of_unlines end (lines end all) rest (lines_are end all) free
 
 pub the_complete_lines : CompleteLinesAreLines

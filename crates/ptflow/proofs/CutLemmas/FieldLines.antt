@@ -3,8 +3,8 @@
 -- the output for two lists of lines is the output for each, one after the other.
 use Rattle.ptflow.proofs
 use proofs.Common.{◌≡◌, ℕ, ◌==◌, true, false, arith, List, [], ◌∷◌, ◌++◌, refl, Option, None, Some, is_some, flat_map}
-use proofs.Common.{list_any, list_any_at, IsFirstByte, is_byte, line_if_not_found, append-nil, unlines, IsLine, byte_ne}
-use proofs.Common.{unlines-append, Cut, is_field_delimiter, cut_fields, cut_line, cut_lines, cut_tool, cut_fields_from}
+use proofs.Common.{list_any, list_any_at, IsFirstByte, is_byte, line_if_not_found, append-nil, unlines, IsLine}
+use proofs.Common.{byte_ne, Cut, is_field_delimiter, cut_fields, cut_line, cut_lines, cut_tool, cut_fields_from}
 use proofs.Common.{IsPrefix, IsLineFilter, zero, suc, ◌+◌, ◌-◌, ◌<◌, ◌≤◌, ◌⊎◌, inl, inr, length, take, drop}
 use proofs.Common.{common_steps, get_or, ap₂, append_assoc, get_or-take, take-append-drop, unwrap_or, take-take}
 use proofs.Common.{take_all, length-take-le, complete_lines, AreLines, line_before_terminator, complete_lines_cons}

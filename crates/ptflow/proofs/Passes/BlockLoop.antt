@@ -10,6 +10,7 @@ use Rattle.ptflow.specs.Private.Passes.StepOutput.{OutputPart}
 use proofs.Passes.Readers.{advance_past}
 use proofs.Passes.Exits.{Progress, progress_none, progress_flushed, PassState, PassEnding, store_unchanged}
 use proofs.Passes.Exits.{nothing_more, pass_read, pass_write, pass_done, pass_unended}
+use Rattle.std.proofs.Common.{rules}
 
 -- a counter is at most the number of bytes that were processed
 module _ {reader shown : Reader} {block : List ℕ} (advance_ok : AdvanceOk reader shown [])
@@ -120,8 +121,7 @@ module _ {X : Type 0} {rest_from : X → List ℕ → List ℕ} {IsUnchanged : X
           (same : new.failed ≡ reader.failed) where
         pub block_done : is'.write_failed ≡ false → new.fault ≡ None → new.pulled < 2 ^ 63
             → PassPost tool old new was is' store store (Ok tt)
-        block_done clean fault short =
-            pass_done ending wrote done refl same ready.not_denied clean fault short ready.empty
+        block_done clean fault short = search (rules, pass_done, ending)
 
         pub block_unended : is'.write_failed ≡ true → PassPost tool old new was is' store store (Err Write)
         block_unended fault = pass_unended ending wrote done refl same ready.not_denied fault

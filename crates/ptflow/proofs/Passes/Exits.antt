@@ -3,11 +3,11 @@
 -- the rest, are the output for every continuation of the input. So the output is exact at the end of the input, it is a
 -- prefix of the output for each consistent input, and decided output is written.
 use Rattle.ptflow.proofs
-use proofs.Common.{◌≡◌, ⊎_elim, ℕ, ◌≤◌, ◌<◌, ◌^◌, true, false, List, [], ◌++◌, length, None, Result, Ok, Err, max, refl}
-use proofs.Common.{sym, ◌∙◌, arith, append_assoc, common_steps, append-nil, false_from_ne_true, false≢true, Reader}
-use proofs.Common.{ReaderAdvance, AdvanceOk, IsDone, IsSound, HasReadCause, Received, IsPrefix, IsConsistent, Output}
-use proofs.Common.{PushEffect, Slots, total_bytes, received_with, advance_trans, push_nothing, push_trans, ToolSpec}
-use proofs.Common.{PassPre, PassPost, only_input, pass_end, pass_engine, CallState, call_state, CallOutcome, AddedSlots}
+use proofs.Common.{◌≡◌, ⊎_elim, ℕ, ◌≤◌, ◌<◌, ◌^◌, true, false, List, [], ◌++◌, length, None, Result, Ok, Err, max}
+use proofs.Common.{refl, arith, append_assoc, common_steps, append-nil, false_from_ne_true, Reader, ReaderAdvance}
+use proofs.Common.{AdvanceOk, IsDone, IsSound, HasReadCause, Received, IsPrefix, IsConsistent, Output, PushEffect}
+use proofs.Common.{Slots, total_bytes, received_with, advance_trans, push_nothing, push_trans, ToolSpec, PassPre}
+use proofs.Common.{PassPost, only_input, pass_end, pass_engine, CallState, call_state, CallOutcome, AddedSlots}
 use proofs.Common.{CallProgress, DecidedIfReadFailed, call_ends, call_on_failed_output, call_set, call_without_slots}
 use proofs.Common.{ProcessLag, bounded_lag_after, FlowFault, Read, Write, Memory}
 use Rattle.std.specs.Prelude.{IsErrAnd}
@@ -95,7 +95,7 @@ pass_unslotted tool {old} was {before} {store} ready sound clean adds few same d
 pub never_memory : {tool : ToolSpec} {old new : Reader} {was is : Output} {store : Slots}
     {result : Result (Unit {0}) FlowFault}
     → store.denied ≡ false → PassPost tool old new was is store store result → result ≡ Err Memory → ⊥
-never_memory not_denied post is_memory = false≢true (sym not_denied ∙ (rw is_memory at post.call.ends).denied)
+never_memory not_denied post is_memory = grind arith
 
 -- After the last step, a call reads a piece, and then it ends.
 pub record PassEnding {X : Type 0} {rest_from : X → List ℕ → List ℕ} {start now : X} {old reader : Reader}

@@ -16,6 +16,7 @@ use proofs.Passes.Exits.{Progress, progress_none, progress_flushed, PassState, L
 use proofs.Passes.Exits.{nothing_more, pass_unslotted, pass_read, pass_memory, pass_write, pass_done, pass_unended}
 use proofs.Passes.Readers.{advance_past}
 use proofs.Passes.Slots.{SlotBounds, bounds_weaker, bounds_line, bounds_swapped, bounds_cleared}
+use Rattle.std.proofs.Common.{rules}
 
 -- These lines were read, and each of `width` slots has at most one line.
 pub record LineLoopState {S X E : Type 0} (state : S → Slots → X) (rest_from : X → List (List ℕ) → List E)
@@ -193,7 +194,7 @@ module _ {S X E : Type 0} {tool : ToolSpec} {state : S → Slots → X} {rest_fr
 
       works_piece : {new : Reader} {piece : List ℕ} → ReaderAdvance reader new piece → IsLine end piece → IsSound new
           → LaggedOutput tool (received piece new) (written run.passed)
-      works_piece {new} {piece} reads free is_sound = works_line reads piece new.buffered refl free (omega arith)
+      works_piece {new} {piece} reads free is_sound = grind (arith, works_line)
 
       -- the slots hold at most the maximum length of a line, for each consistent input
       kept : {after : Slots} {most : ℕ} (given : Received) → SlotBounds width most before after
@@ -361,8 +362,7 @@ module _ {S X E : Type 0} {tool : ToolSpec} {state : S → Slots → X} {rest_fr
 
         last_ending : {after' : Slots} → SlotBounds width (max (max_length run.ls) 0) before after'
             → PassEnding tool (midway run) new before after' []
-        last_ending fit = piece_ending run ready sound advance_ok.reads tt is_sound
-            (stored run ready sound advance_ok.reads tt is_sound fit)
+        last_ending fit = search (rules, piece_ending, stored)
 
         pub run_done : {after' : Slots} → SlotsCleared (width - 1) after after' → is'.write_failed ≡ false
             → PassPost tool old new was is' before after' (Ok tt)

@@ -1,14 +1,15 @@
 -- The lines that were read from a reader. A line that was read is complete, so it is a line of the input for every
 -- continuation; the same holds for the complete lines of a block.
 use Rattle.ptflow.proofs
-use proofs.Common.{common_steps, ◌≡◌, inl, inr, ℕ, zero, suc, ◌-◌, ◌<◌, ◌≤◌, true, false, List, [], ◌∷◌, ◌++◌, length}
-use proofs.Common.{take, drop, max, refl, arith, append_assoc, length-append, length-drop, take-append-drop, false≢true}
-use proofs.Common.{append-nil, unlines, lines, IsLine, AreLines, max_length, max_line_length, Received, IsConsistent}
-use proofs.Common.{known_lines, LaggedInput, Reader, ReaderAdvance, AdvanceOk, IsDone, IsSound, Slots, FillLine}
-use proofs.Common.{lines_of_unlines, lines_of_last, lines_cons, lines-unlines, complete_lines_of_unlines}
+use proofs.Common.{common_steps, ◌≡◌, inl, inr, ℕ, zero, suc, ◌-◌, ◌≤◌, true, false, List, [], ◌∷◌, ◌++◌, length}
+use proofs.Common.{take, drop, max, refl, arith, append_assoc, length-append, length-drop, take-append-drop}
+use proofs.Common.{false≢true, append-nil, unlines, lines, IsLine, AreLines, max_length, max_line_length, Received}
+use proofs.Common.{IsConsistent, known_lines, LaggedInput, Reader, ReaderAdvance, AdvanceOk, IsDone, IsSound, Slots}
+use proofs.Common.{FillLine, lines_of_unlines, lines_of_last, lines_cons, lines-unlines, complete_lines_of_unlines}
 use proofs.Common.{AreReceivedLines, received_with}
 use proofs.Passes.Lines.{piece_le_max_length, max_length-append}
 use proofs.Passes.Readers.{eof_gives_nothing, stays_at_eof}
+use Rattle.std.proofs.Common.{rules}
 
 longest_prefix : (end : ℕ) (ls : List (List ℕ)) (piece rest : List ℕ) → AreLines end ls → IsLine end piece
     → max (max_length ls) (length piece) ≤ max_length (lines end (unlines end ls ++ (piece ++ rest)))
@@ -46,8 +47,7 @@ module _ (end : ℕ) (now : Reader) (given : List ℕ) (ls : List (List ℕ))
 
     -- and the read of its rest failed
     pub whole_before : new.buffered ≡ [] → new.eof ≡ false → known_lines end (received_with (given ++ piece) new) ≡ ls
-    whole_before empty going =
-        grind (arith, common_steps, known_lines, append-nil, complete_lines_of_unlines, free, false≢true, stays_at_eof)
+    whole_before empty going = search (rules, complete_lines_of_unlines, free, stays_at_eof)
 
   -- one line was read
   module _ (new : Reader) (before after : Slots) (slot : ℕ) (next_line : FillLine now new before after slot)

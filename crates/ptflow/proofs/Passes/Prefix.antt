@@ -5,6 +5,7 @@ use proofs.Common.{arith, common_steps, ◌≡◌, ℕ, Bool, false, true, List,
 use proofs.Common.{Output, PushEffect, push_nothing, push_trans, push_past_failure}
 use Rattle.ptlines.specs.Outputs.{PushPost}
 use Rattle.std.specs.Prelude.{Err, Result}
+use Rattle.std.proofs.Common.{rules}
 
 -- one push after another, even after a fault
 pub wrote_then : (a b c : Output) {xs ys : List ℕ} → PushEffect a b xs → PushEffect b c ys → PushEffect a c (xs ++ ys)
@@ -39,7 +40,7 @@ module _ {whole rest : List ℕ} {was is : Output} (f : WrittenPrefix whole rest
     all_split = cc (append_assoc f.pushed bytes more)
 
     pub front_more : WrittenPrefix whole more was is'
-    front_more = record { pushed = f.pushed ++ bytes; wrote = wrote_then _ _ _ f.wrote wrote; split = all_split }
+    front_more = search (rules, wrote_then, all_split)
 
     pub front_fails : is'.write_failed ≡ true → PushEffect was is' whole
     front_fails fault = rw all_split (push_past_failure _ _ _ more fault (wrote_then _ _ _ f.wrote wrote))

@@ -2,8 +2,8 @@
 -- store holds at most `width` times the maximum length of these lines.
 use Rattle.ptflow.proofs
 use proofs.Common.{◌≡◌, ℕ, zero, suc, ◌+◌, ◌-◌, ◌*◌, ◌<◌, ◌≤◌, false, List, [], ◌∷◌, length, take, drop, set, get_or}
-use proofs.Common.{max, refl, sym, ◌∙◌, ap, subst, arith, inl, inr, take-append-drop, common_steps, mul-le-mul_left}
-use proofs.Common.{drop_more, length-set, drop-set-lt, sum_by-cons, sum_by-append, get_or-le-sum_by, Slots, total_bytes}
+use proofs.Common.{max, refl, sym, ◌∙◌, ap, subst, arith, inl, inr, take-append-drop, common_steps, drop_more}
+use proofs.Common.{length-set, drop-set-lt, sum_by-cons, sum_by-append, get_or-le-sum_by, Slots, total_bytes}
 use proofs.Common.{with_line, AddedSlots, IsSwapped, SlotsCleared}
 use Rattle.std.proofs.lemmas.List.Edits.{swap_is}
 
@@ -50,13 +50,7 @@ bounds_start {width} {store} adds denied empty peak = record {
 
 pub bounds_weaker : {width most : ℕ} (more : ℕ) {before store : Slots} → SlotBounds width most before store
     → most ≤ more → SlotBounds width more before store
-bounds_weaker {width} more bounds high = record {
-  denied = bounds.denied;
-  size = bounds.size;
-  short = λ i low. omega (arith, bounds.short i low);
-  others = bounds.others;
-  peak = omega (arith, mul-le-mul_left width high);
-}
+bounds_weaker {width} more bounds high = grind arith
 
 -- a line was put into a slot
 pub bounds_line : {width most : ℕ} {before store : Slots} (new : Slots) (slot : ℕ) (bytes : List ℕ)

@@ -2,13 +2,13 @@
 -- would return, so a column is filled by it in the same way.
 use Rattle.ptflow.proofs
 use proofs.Common.{◌≡◌, inl, ℕ, ◌+◌, ◌<◌, ◌≤◌, ◌^◌, ◌||◌, Bool, true, false, List, [], ◌∷◌, ◌++◌, ◌%◌, eq-eqb, ne_eqb}
-use proofs.Common.{option_to_list, slice_index_or, None, Some, Ok, length, take, drop, set, get_or, refl, sym, ◌∙◌, ap}
-use proofs.Common.{subst, arith, append_assoc, length-append, length-drop, append-nil, take-take, take-append-le}
-use proofs.Common.{length-take-le, length-set, drop-drop, drop_at, IsFirstByte, is_byte, Reader, IsSound, Slots}
-use proofs.Common.{with_line, FillLine, FillPost, line_before_terminator, take_with_terminator, advance_ok_take}
-use proofs.Common.{reader_at, uses_of, CellsFilled, after_cell, cells_text, RowShape, BegunText, BufferedRowsPre}
-use proofs.Common.{IsConsumed, AreConsumed, IsFieldCopied, CopyColumnsPost, CopyRowsPost, RowsTaken, put_chunk, chunk}
-use proofs.Common.{length-chunk, length-put_chunk, take_more_put_chunk}
+use proofs.Common.{option_to_list, slice_index_or, None, Some, Ok, length, take, drop, set, get_or, refl, sym, ◌∙◌}
+use proofs.Common.{ap, arith, append_assoc, length-append, length-drop, take-take, take-append-le, length-take-le}
+use proofs.Common.{drop_at, IsFirstByte, is_byte, Reader, IsSound, Slots, with_line, FillLine, FillPost}
+use proofs.Common.{line_before_terminator, take_with_terminator, advance_ok_take, reader_at, uses_of, CellsFilled}
+use proofs.Common.{after_cell, cells_text, RowShape, BegunText, BufferedRowsPre, IsConsumed, AreConsumed}
+use proofs.Common.{IsFieldCopied, CopyColumnsPost, CopyRowsPost, RowsTaken, put_chunk, chunk, length-chunk}
+use proofs.Common.{length-put_chunk, take_more_put_chunk}
 use Rattle.memchr.specs.Find.{IsFirst, Passes}
 use Rattle.ptlines.proofs.CopyFacts.{copied_prefix}
 use Rattle.std.proofs.Math.Seq.{take-append-add}
@@ -16,6 +16,8 @@ use borrow.Rule.Slice.PartMut.{mid_of, put_mid}
 use Rattle.ptflow.specs.Private.Paste.BufferedRows.{LineCopied}
 use proofs.PasteLemmas.RowsTaken.{cells_text-push, rows_taken_trans, row_taken}
 use proofs.PasteLemmas.FillRow.{each_reader, fill_starts, fill_next}
+use Rattle.std.proofs.Common.{rules}
+use Rattle.std.proofs.lemmas.Grind.{common_steps}
 
 -- A line that is complete in a buffer is the line that `fill` would return.
 buffered_line : (b r : Reader) (at : ℕ) (store : Slots) (slot : ℕ) → b.fault ≡ None → b.pulled < 2 ^ 63
@@ -45,13 +47,7 @@ buffered_line b r at store slot clean short first step =
     }
 
 sound_after_consume : {b r : Reader} → IsSound b → IsConsumed b r → IsSound r
-sound_after_consume {b} s step = subst IsSound (sym step.is) (record {
-  buffered = omega (arith, length-drop step.size b.buffered, s.buffered);
-  count = omega (arith, length-drop step.size b.buffered, s.count);
-  end = s.end;
-  long = s.long;
-  unfailed = s.unfailed;
-})
+sound_after_consume {b} s step = grind (arith, common_steps)
 
 -- ---- one column
 
@@ -74,41 +70,21 @@ field_copied {b = b} {r = r} true clean ends sound p = record {
   is = p.is;
   consumed = record { size = p.at + 1; is = p.consumed };
 }
-field_copied {b = b} {r = r} {before = before} false clean ends sound p = record {
-  field = [];
-  fills = (
-    advance_ok_take b r 0 clean (omega arith) p.same,
-    rw p.same (record { eof = p.eof; buffered = p.none; left = sound.end p.eof }),
-    refl,
-  );
-  is = p.is ∙ sym (append-nil before);
-  consumed = record { size = 0; is = p.same };
-}
+field_copied {b = b} {r = r} {before = before} false clean ends sound p = search (rules, advance_ok_take, clean)
 
 pub consumed_none : {old : List Reader} → AreConsumed old old
 consumed_none = record { count = refl; buffered = λ p. record { size = 0; is = refl } }
 
 -- Some bytes were consumed, and then more.
 both_consumed : {a b c : Reader} → IsConsumed a b → IsConsumed b c → IsConsumed a c
-both_consumed {a} p q = record {
-  size = p.size + q.size;
-  is = q.is ∙ ap (λ (x : Reader). record x { buffered = drop q.size x.buffered }) p.is
-      ∙ ap (λ (l : List ℕ). record a { buffered = l }) (drop-drop q.size p.size a.buffered);
-}
+both_consumed {a} p q = grind (arith, common_steps)
 
 pub consumed_more : {old now : List Reader} {input : ℕ} {b r : Reader} → AreConsumed old now → input < length now
     → b ≡ reader_at now input → IsConsumed b r → AreConsumed old (set now input r)
-consumed_more {old} {now} {input} {b} {r} c low is_read step = record {
-  count = length-set now input r ∙ c.count;
-  buffered = each_reader (λ p x. IsConsumed (reader_at old p) x) now low
-      (both_consumed (c.buffered input) (rw is_read at step)) (λ p differ. c.buffered p);
-}
+consumed_more {old} {now} {input} {b} {r} c low is_read step = search (rules, each_reader, both_consumed)
 
 pub consumed_trans : {a b c : List Reader} → AreConsumed a b → AreConsumed b c → AreConsumed a c
-consumed_trans p q = record {
-  count = q.count ∙ p.count;
-  buffered = λ input. both_consumed (p.buffered input) (q.buffered input);
-}
+consumed_trans p q = grind (arith, both_consumed)
 
 -- The readers are still readable.
 pub still_readable : {row : RowShape} {old new : List Reader} → AreConsumed old new → BufferedRowsPre row old
@@ -177,13 +153,7 @@ after_other row c index other at = rw (ne_eqb (c + 1) (length row.cells) other, 
 
 module _ {row : RowShape} where
   pub columns_start : {begun : BegunText} → CopyColumnsPost row begun begun
-  columns_start {begun} = record {
-    fields = [];
-    is = sym (append-nil begun.text);
-    consumed = consumed_none;
-    width = omega arith;
-    filled = λ from front f. rw (append-nil front) f;
-  }
+  columns_start {begun} = search (rules, consumed_none)
 
   module _ {begun now : BegunText} (s : CopyColumnsPost row begun now) (low : now.count < length row.cells)
       (ready : BufferedRowsPre row now.readers) (used : 0 < uses_of row.cells (get_or row.cells now.count 0))
@@ -244,8 +214,7 @@ module _ {row : RowShape} where
     -- One more column was copied, and the byte after it.
     pub columns_more : {next byte : List ℕ} → IsFieldCopied row.terminator b r now.text copied has
         → next ≡ copied ++ byte → byte ≡ after_cell row now.count → CopyColumnsPost row begun (with_column next)
-    columns_more field stored after = one_more (field_copied has clean ends sound field)
-        (stored ∙ ap (λ (l : List ℕ). copied ++ l) after)
+    columns_more field stored after = grind (arith, one_more, field_copied, clean, ends)
 
   -- The first columns of a row were copied after whole rows.
   pub rows_and_begun : {old now new : List Reader} {n at to : ℕ} {any_line : Bool} (into next : List ℕ)

@@ -8,18 +8,19 @@ use proofs.Common.{get_or_append_left, get_or_push, max_length, take, drop, set,
 use proofs.Common.{⊎_elim, take-append-drop, sum_by, cases_eq, length-set, drop-set-lt, get_or-set_same}
 use proofs.Common.{get_or-set_other, sum_by-cons, sum_by-append, get_or-le-sum_by, Slots, total_bytes, with_line}
 use proofs.Common.{AddedSlots, SlotsBound, SlotsKept, CellsTaken, Reader, uses_of, ◌≢◌, ◌==◌, ◌||◌, Bool, true, cond}
-use proofs.Common.{None, Ok, eq-eqb, ne_eqb, append-nil, take-take, get_or_past, get_or_at, get_or_default, sum_by-set}
-use proofs.Common.{AdvanceOk, IsDone, IsSound, budget, FillLine, FillPost, no_reader, reader_at, SetTerminatorsPost}
-use proofs.Common.{CellsFilled, RowFailed, LinesTaken, Err, ext_get_or, get_or-drop, length-drop, take_all, take_more}
-use proofs.Common.{take-append-le, length-take-le, line, RowShape, BegunText, after_cell, cells_text, slots_text}
-use proofs.Common.{CopyColumnsPost, BufferedRowsPre, RowAmid, RowFilled, FillCellPost, NotRead, FillReadErr}
-use proofs.Common.{FillMemoryErr, FlowFault, Read, Write, Memory}
-use Rattle.ptflow.specs.Private.Paste.FillRow.{SetTerminatorPost}
+use proofs.Common.{None, Ok, eq-eqb, ne_eqb, append-nil, take-take, get_or_past, get_or_at, get_or_default}
+use proofs.Common.{sum_by-set, AdvanceOk, IsDone, IsSound, budget, FillLine, FillPost, no_reader, reader_at}
+use proofs.Common.{SetTerminatorsPost, CellsFilled, RowFailed, LinesTaken, Err, ext_get_or, get_or-drop, length-drop}
+use proofs.Common.{take_all, take-append-le, length-take-le, line, RowShape, BegunText, after_cell, cells_text}
+use proofs.Common.{slots_text, CopyColumnsPost, BufferedRowsPre, RowAmid, RowFilled, FillCellPost, FillReadErr}
+use proofs.Common.{FlowFault, Read, Write, Memory}
 use Rattle.std.specs.Prelude.{slice_index_or}
 use proofs.PasteLemmas.Grid.{uses_here, uses_other, uses_before}
 use proofs.PasteLemmas.RowsTaken.{nothing_taken, taken_more, taken_line, taken_eof, taken_at_most, none_at_eof}
 use proofs.PasteLemmas.RowsTaken.{cells_text-append, cells_text-push}
 use Rattle.std.proofs.lemmas.List.{get_or-take}
+use Rattle.std.proofs.Common.{rules}
+use Rattle.std.proofs.lemmas.Grind.{common_steps}
 
 pub cells_total : (cells : List ℕ) (top : ℕ → ℕ) (ls : List (List ℕ)) → ((c : ℕ) → c < length cells
     → length (get_or ls c []) ≤ top (get_or cells c 0))
@@ -104,15 +105,7 @@ module _ {cells : List ℕ} {fields : List (List ℕ)} {before store : Slots} (s
   where
     -- More fields that are in no slot.
     pub slots_kept_more : (more : List (List ℕ)) → SlotsKept cells (fields ++ more) before store
-    slots_kept_more more = record {
-      same = s.same;
-      kept = λ first top k high. s.kept first top k (λ c low. omega (
-        arith,
-        high c (omega (arith, low, length-append fields more)),
-        ap length
-            (get_or_append_left fields more [] c low),
-      ));
-    }
+    slots_kept_more more = grind (arith, common_steps, length-append)
 
     -- One more field, which is in the slot of its column.
     pub slots_kept_line : {n : ℕ} (field : List ℕ) → length fields ≡ n → n < length cells
@@ -132,16 +125,7 @@ module _ {cells : List ℕ} {fields : List (List ℕ)} {before store : Slots} (s
         → CellsTaken cells n old new fields input_lines → (first : Slots) (top : ℕ → ℕ)
         → SlotsBound cells top first before
         → ((input : ℕ) → max_length (input_lines input) ≤ top input) → SlotsBound cells top first store
-    slots_kept_by_lines {input_lines = input_lines} t first top k high = s.kept first top k (λ c low.
-        let input = get_or cells c 0 in
-        let j = uses_of (take c cells) input in
-        omega (
-          arith,
-          high input,
-          line_le_max_length (input_lines input) j,
-          ap length
-              (t.fields_taken c (omega (arith, low, t.width))),
-        ))
+    slots_kept_by_lines {input_lines = input_lines} t first top k high = grind (arith, line_le_max_length)
 
 -- ---- readers by their indices
 
@@ -156,10 +140,7 @@ at_other readers input other r differ = get_or-set_other readers input other r n
 -- A fact of each reader, after one of them was set.
 pub each_reader : (P : ℕ → Reader → Type 0) (readers : List Reader) {input : ℕ} {r : Reader} → input < length readers
     → P input r → ((q : ℕ) → q ≢ input → P q (reader_at readers q)) → (q : ℕ) → P q (reader_at (set readers input r) q)
-each_reader P readers {input} {r} low here other q = ⊎_elim
-    (λ same. rw same (rw (at_same readers input r low) here))
-    (λ differ. rw (at_other readers input q r differ) (other q differ))
-    (cases_eq q input)
+each_reader P readers {input} {r} low here other q = grind (arith, at_same, at_other)
 
 -- The reader that an index expression read.
 pub at_index : (readers : List Reader) (input : ℕ) (r : Reader) → input < length readers
@@ -171,15 +152,8 @@ pub set_terminator_more : (end : ℕ) (cells : List ℕ) (i : ℕ) (old now : Li
     → get_or cells i 0 < length now → SetTerminatorsPost end (take i cells) old now
     → r ≡ record (reader_at now (get_or cells i 0)) { terminator = end } → IsSound r
     → SetTerminatorsPost end (take (i + 1) cells) old (set now (get_or cells i 0) r)
-set_terminator_more end cells i old now r low within a told sound =
-    let input = get_or cells i 0 in
-    let before : (let x : Reader = record (reader_at now input) { terminator = end } in
-    x ≡ record (reader_at old input) { terminator = end }) = grind (arith, (a input).set, (a input).left) in
-    each_reader (λ q x. SetTerminatorPost end (uses_of (take (i + 1) cells) q) (reader_at old q) x) now within (record {
-      set = λ some. told ∙ before;
-      left = λ none. absurd (omega (arith, none, uses_here cells i input low refl));
-      sound = λ some. sound;
-    }) (λ q differ. rw (uses_other cells i q low (λ e. differ (sym e))) (a q))
+set_terminator_more end cells i old now r low within a told sound = grind (arith, common_steps, each_reader,
+    uses_here, uses_other)
 
 or-true : (t : Bool) → (t || true) ≡ true
 or-true true = refl
@@ -360,7 +334,7 @@ module _ {cells : List ℕ} {n : ℕ} {old now : List Reader} {fields : List (Li
         → (field : List ℕ) × (after ≡ with_line before slot field) × CellsFilled cells (n + 1) old (set now p r)
         (fields ++ field ∷ []) (any_line || has)
     fill_next before after slot true e = (e.line, e.stored, rw or-true (fill_line e))
-    fill_next before after slot false (advance_ok, done, kept) = ([], kept, rw or-false (fill_eof advance_ok done))
+    fill_next before after slot false (advance_ok, done, kept) = grind (arith, or-false, fill_eof)
 
   -- The step for this column failed.
   abbrev pub fill_failed : {CellFailed : Reader → Reader → Slots → Slots → ℕ → Type 0} {before store : Slots}
@@ -392,14 +366,7 @@ module _ {row : RowShape} where
   pub amid_starts : {mid : List Reader} {begun : BegunText} {store : Slots} {fields : List (List ℕ)}
       → CellsFilled row.cells begun.count mid begun.readers fields begun.any_line
       → begun.text ≡ cells_text row 0 fields → RowAmid row begun.count mid store begun store
-  amid_starts {begun = begun} {fields = fields} f is = record {
-    fields = fields;
-    filled = f;
-    within = omega arith;
-    is = is ∙ ap (cells_text row 0) (sym (take_all begun.count fields (omega (arith, f.consumed.width))));
-    held = λ c over under. absurd (omega (arith, over, under));
-    slots = slots_kept_start;
-  }
+  amid_starts {begun = begun} {fields = fields} f is = grind (arith, common_steps, slots_kept_start)
 
   module _ {n : ℕ} {from : List Reader} {first store : Slots} {now : BegunText} (a : RowAmid row n from first now store)
       (low : n < length row.cells) (within : get_or row.cells n 0 < length now.readers) {b : Reader}
@@ -439,33 +406,13 @@ module _ {row : RowShape} where
       fill_failed a.filled low within {CellFailed = FillReadErr} after r a.slots is_read p (λ few. sound.buffered),
       named,
     )
-    amid_failed r after into Write (same, kept, going) =
-        fill_failed a.filled low within {CellFailed = NotRead} after r a.slots is_read (same, kept, going)
-        (λ few. rw same few)
-    amid_failed r after into Memory (p, sound) =
-        fill_failed a.filled low within {CellFailed = FillMemoryErr} after r a.slots is_read p (λ few. sound.buffered)
+    amid_failed r after into Write (same, kept, going) = search rules
+    amid_failed r after into Memory (p, sound) = search rules
 
   amid_copied : {n : ℕ} {from : List Reader} {first store : Slots} {now : BegunText}
       → RowAmid row (n + 1) from first now store → now.count ≡ n
       → RowAmid row (n + 1) from first (with_slot row n store now) store
-  amid_copied {n} {store = store} {now = now} a here =
-      let width = a.filled.consumed.width in
-      let front = take n a.fields in
-      record {
-        fields = a.fields;
-        filled = a.filled;
-        within = omega arith;
-        is = cc (
-          a.is,
-          here,
-          a.held n (omega (arith, here)) (omega arith),
-          cells_text-push row 0 front (get_or a.fields n []) {k = n}
-              (omega (arith, length-take-le n a.fields (omega (arith, width)))),
-          take_more a.fields n [] (omega (arith, width)),
-        );
-        held = λ c over under. absurd (omega (arith, over, under));
-        slots = a.slots;
-      }
+  amid_copied {n} {store = store} {now = now} a here = grind (arith, common_steps, cells_text-push, length-take-le)
 
   -- More fields were copied from the buffers.
   amid_columns : {from : List Reader} {first store : Slots} {now next : BegunText}
@@ -522,18 +469,11 @@ module _ {row : RowShape} where
 after_fill : (b r : Reader) (before after : Slots) (slot : ℕ) (has : Bool) → FillPost b r before after slot (Ok has)
     → (r.fault ≡ None) × (r.terminator ≡ b.terminator)
 after_fill b r before after slot true e = (e.advance_ok.fault, e.advance_ok.reads.terminator)
-after_fill b r before after slot false (advance_ok, done, kept) = (advance_ok.fault, advance_ok.reads.terminator)
+after_fill b r before after slot false (advance_ok, done, kept) = grind arith
 
 pub readable_after : {row : RowShape} (now : List Reader) {input : ℕ} {b : Reader} (r : Reader)
     → BufferedRowsPre row now → input < length now → 0 < uses_of row.cells input → b ≡ reader_at now input
     → (before after : Slots) (slot : ℕ) (has : Bool) → FillPost b r before after slot (Ok has)
     → BufferedRowsPre row (set now input r)
-readable_after {row} now {input} {b} r ready low used is_read before after slot has e =
-    let (unfailed, same_end) = after_fill b r before after slot has e in
-    record {
-      within = λ c d within. omega (arith, ready.within c d within, length-set now input r);
-      unfailed = each_reader (λ p x. 0 < uses_of row.cells p → x.fault ≡ None) now low (λ some. unfailed)
-          (λ p differ. ready.unfailed p);
-      same_end = each_reader (λ p x. 0 < uses_of row.cells p → x.terminator ≡ row.terminator) now low
-          (λ some. cc (same_end, is_read, ready.same_end input used)) (λ p differ. ready.same_end p);
-    }
+readable_after {row} now {input} {b} r ready low used is_read before after slot has e = search (rules, same_end,
+    after_fill, each_reader)

@@ -1,15 +1,15 @@
 -- The columns and rows of a grid of lines. If each input gives one line to each of its columns, exactly the first row
 -- is removed: the first line of each column is that of the row, and the rest of each column is the column of the rest.
 use Rattle.ptflow.proofs
-use proofs.Common.{◌≡◌, ◌≢◌, ◌⊎◌, ⊎_elim, inl, inr, ℕ, zero, suc, ◌+◌, ◌-◌, ◌*◌, ◌%◌, ◌<◌, ◌≤◌, ◌==◌, Bool, true, false}
+use proofs.Common.{◌≡◌, ◌≢◌, ◌⊎◌, ⊎_elim, inr, ℕ, zero, suc, ◌+◌, ◌-◌, ◌*◌, ◌%◌, ◌<◌, ◌≤◌, ◌==◌, Bool, true, false}
 use proofs.Common.{cond, List, [], ◌∷◌, ◌++◌, Option, length, take, drop, get_or, map, max, refl, sym, ◌∙◌, ap, arith}
 use proofs.Common.{length-append, length-drop, fold, enumerate_from, range_with_len, cases_lt, eq-eqb, ne_eqb, le-ltb}
-use proofs.Common.{nat_tests, add-mod_left, mod-eq_of_lt, append-nil, drop_at, drop_all, get_or_past}
-use proofs.Common.{get_or_append_left, ext_get_or, get_or-map, length-map, map-append, length-enumerate_from}
-use proofs.Common.{get_or-enumerate_from, sum_by-cons, count_by_more_yes, count_by_more_no, sum_by-take-le}
-use proofs.Common.{get_or_after_one, map-map, unlines, unlines-append, select_from, update_at, join_with_cycle}
-use proofs.Common.{every_kth, uses_of, columns, row_count, row_at, rows, is_row_known}
+use proofs.Common.{nat_tests, add-mod_left, mod-eq_of_lt, drop_all, get_or_past, ext_get_or, get_or-map}
+use proofs.Common.{length-enumerate_from, get_or-enumerate_from, sum_by-cons, count_by_more_yes, count_by_more_no}
+use proofs.Common.{sum_by-take-le, get_or_after_one, map-map, unlines, unlines-append, select_from, update_at}
+use proofs.Common.{join_with_cycle, every_kth, uses_of, columns, row_count, row_at, rows, is_row_known}
 use Rattle.std.specs.Prelude.{slice_index_or}
+use Rattle.std.proofs.lemmas.Grind.{common_steps}
 
 abbrev pub Column : Type 0
 Column = List (List ℕ)
@@ -47,11 +47,7 @@ module _ {k j : ℕ} (low : j < k) where
       ((select_from (is_kth k j) n xs ≡ []) × (length xs ≤ a) × (drop b xs ≡ []))
   chosen_before n a zero xs here all = absurd (omega arith)
   chosen_before n a (suc b) [] here all = inr (refl, omega arith, refl)
-  chosen_before n zero (suc b) (x ∷ xs) here all = inl (
-    rw (is_kth_here n (omega arith)) (ap (λ (l : Column). x ∷ l)
-        (chosen_after (n + 1) b xs (omega arith) (omega arith))),
-    omega arith,
-  )
+  chosen_before n zero (suc b) (x ∷ xs) here all = grind (arith, is_kth_here, chosen_after)
   chosen_before n (suc a) (suc b) (x ∷ xs) here all =
       grind (arith, is_kth_not n (omega arith) (omega arith), chosen_before (n + 1) a b xs (omega arith) (omega arith))
 
@@ -131,8 +127,7 @@ abbrev pub for_each_cell : {Y : Type 0} → (ℕ → ℕ → Y) → List ℕ →
 for_each_cell f cells = map (λ (cell : ℕ × ℕ). f cell.0 cell.1) (enumerate_from 0 cells)
 
 length-for_each_cell : {Y : Type 0} (f : ℕ → ℕ → Y) (cells : List ℕ) → length (for_each_cell f cells) ≡ length cells
-length-for_each_cell f cells = length-map (enumerate_from 0 cells) (λ (cell : ℕ × ℕ). f cell.0 cell.1)
-    ∙ length-enumerate_from 0 cells
+length-for_each_cell f cells = grind (arith, common_steps, length-enumerate_from)
 
 get_or-for_each_cell : {Y : Type 0} (f : ℕ → ℕ → Y) (cells : List ℕ) (c : ℕ) (d : Y) → c < length cells
     → get_or (for_each_cell f cells) c d ≡ f c (get_or cells c 0)
@@ -225,22 +220,11 @@ module _ (cells : List ℕ) where
     ins p = input_lines p ++ more p
 
     rest_is : (p : ℕ) → drop (uses_of cells p) (input_lines p ++ more p) ≡ more p
-    rest_is p = grind (
-      arith,
-      t.all p,
-      drop_at (input_lines p) (more p) (uses_of cells p),
-      drop_all (uses_of cells p) (input_lines p ++ more p),
-      length-append (input_lines p) (more p),
-    )
+    rest_is p = grind (arith, common_steps, drop_all, length-append)
 
     input_lines_at : (p j : ℕ) → j < uses_of cells p → slice_index_or (input_lines p ++ more p) j [] ≡ slice_index_or
         (input_lines p) j []
-    input_lines_at p j low = grind (
-      arith,
-      t.all p,
-      append-nil (input_lines p),
-      get_or_append_left (input_lines p) (more p) [] j,
-    )
+    input_lines_at p j low = grind (arith, common_steps)
 
     pub grid_step : (c : ℕ) → c < length cells → uses_of (take c cells) (get_or cells c 0) < length
         (input_lines (get_or cells c 0))
@@ -278,8 +262,7 @@ module _ (cells : List ℕ) where
 pub rows_text-append : (end : ℕ) (delims : List (Option ℕ)) (xs ys : List Column)
     → unlines end (map (join_with_cycle delims 0) (xs ++ ys)) ≡ unlines end (map (join_with_cycle delims 0) xs)
     ++ unlines end (map (join_with_cycle delims 0) ys)
-rows_text-append end delims xs ys = ap (unlines end) (map-append (join_with_cycle delims 0) xs ys)
-    ∙ unlines-append end (map (join_with_cycle delims 0) xs) (map (join_with_cycle delims 0) ys)
+rows_text-append end delims xs ys = grind (arith, common_steps, unlines-append)
 
 -- ---- the rows that are determined
 
@@ -288,7 +271,7 @@ pub is_row_unknown : (cols : List Column) (eof : List Bool) (r c : ℕ) → c < 
     → length (get_or cols c []) ≤ r → is_row_known cols eof r ≡ false
 is_row_unknown [] eof r c low within going few = absurd (omega arith)
 is_row_unknown (col ∷ cols) [] r c low within going few = absurd (omega arith)
-is_row_unknown (col ∷ cols) (e ∷ eof) r zero low within going few = rw (going, le-ltb r (length col) few) refl
+is_row_unknown (col ∷ cols) (e ∷ eof) r zero low within going few = grind (arith, le-ltb)
 is_row_unknown (col ∷ cols) (e ∷ eof) r (suc c) low within going few =
     grind (arith, nat_tests, is_row_unknown cols eof r c (omega arith) (omega arith) going few)
 

@@ -2,13 +2,13 @@
 -- were pushed, and the slots hold at most one line for each column. From it follow the clauses of the contract once the
 -- readers were read further.
 use Rattle.ptflow.proofs
-use proofs.Common.{◌≡◌, ⊎_elim, ℕ, ◌+◌, ◌*◌, ◌<◌, ◌≤◌, ◌^◌, Bool, true, false, List, [], ◌∷◌, ◌++◌, length, refl, ◌∙◌}
-use proofs.Common.{ap, subst, arith, append_assoc, All, append-nil, All-get_or, lines, max_length, Received, IsPrefix}
+use proofs.Common.{◌≡◌, ℕ, ◌+◌, ◌*◌, ◌<◌, ◌≤◌, ◌^◌, Bool, true, false, List, [], ◌∷◌, ◌++◌, length, ◌∙◌, ap, subst}
+use proofs.Common.{arith, append_assoc, All, append-nil, All-get_or, lines, max_length, Received, IsPrefix}
 use proofs.Common.{IsConsistent, known_lines, Output, PushEffect, Reader, ReaderAdvance, IsDone, Slots, total_bytes}
-use proofs.Common.{received_with, push_nothing, push_trans, Paste, AddedSlots, reader_at, IsReadable, PastePre, uses_of}
-use proofs.Common.{columns, rows, rows_text, paste, paste_decided, SetTerminatorsPost, SlotsBound, SlotsKept}
+use proofs.Common.{received_with, push_nothing, push_trans, Paste, AddedSlots, reader_at, IsReadable, PastePre}
+use proofs.Common.{uses_of, columns, rows, rows_text, paste, paste_decided, SetTerminatorsPost, SlotsBound, SlotsKept}
 use proofs.Common.{CellsTaken, CellsFilled, AreReceivedLines, AreFirstRows, RowsTaken, RowsWritten, cells_text}
-use proofs.Common.{job_shape, BufferedRowsPre, CallState, CallEnd, CallPost, call_state, call_set, inputs_at, is_in}
+use proofs.Common.{job_shape, BufferedRowsPre, CallState, CallEnd, CallPost, call_state, inputs_at, is_in}
 use proofs.Common.{paste_engine, LinesTaken}
 use proofs.PasteLemmas.FillRow.{slots_bound_start, slots_kept_by_lines}
 use proofs.PasteLemmas.RowsTaken.{no_rows, first_rows_trans, filled_row_is_first, filled_row_text}
@@ -19,6 +19,7 @@ use proofs.PasteLemmas.Lag.{EarlierPart, LagsAt, ended_more, lags_here, decided_
 use proofs.Passes.Readers.{eof_gives_nothing, may_follow}
 use proofs.PasteLemmas.Named.{is_in_used, not_in}
 use Rattle.ptlines.specs.Received.{empty_input}
+use Rattle.std.proofs.lemmas.Grind.{common_steps}
 
 -- ---- inputs that columns use
 
@@ -36,10 +37,7 @@ whole_lines_after : {end : ℕ} {now : Reader} {given : List ℕ} {ls : Column} 
     (record { bytes = rest; eof = eof })
 whole_lines_after {end} {now} {given} {ls} k rest true may =
     lines_on end now given ls k rest (λ done. ap (λ (g : Received). g.bytes) (may done))
-whole_lines_after {end} {now} {given} {ls} k rest false may = ⊎_elim
-    (λ (is, are). rw is (ended_more end ls rest are))
-    (λ (is, done). cc (ap (λ (g : Received). g.eof) (may done)))
-    k.so_far
+whole_lines_after {end} {now} {given} {ls} k rest false may = grind (arith, ended_more)
 
 -- The rows of all that is received, if `rest` is received after some rows.
 rows_after : (job : Paste) {cells : List ℕ} {set now : List Reader} {ls : ℕ → Column}
@@ -96,11 +94,7 @@ module _ (job : Paste) {cells : List ℕ} {set now new : List Reader} {ls : ℕ 
         })
 
     pub begins_by : IsPrefix (rows_text job taken_rows) (paste job cells texts)
-    begins_by = record {
-      rest = rows_text job (rows (columns cells (λ p. lines job.terminator (later p))));
-      is = ap (rows_text job) rows_by ∙ rows_text-append job.terminator job.delimiters taken_rows
-          (rows (columns cells (λ p. lines job.terminator (later p))));
-    }
+    begins_by = grind (arith, common_steps, rows_by, rows_text-append)
 
   -- What was received after the rows.
   abbrev pub rest_by : ℕ → Received
@@ -151,23 +145,16 @@ module _ {job : Paste} {cells : List ℕ} {old set : List Reader} {was : Output}
   readable = all_used (λ q. IsReadable (reader_at old q)) cells s.ready.readable
 
   pub set_readable : BufferedRowsPre (job_shape job cells) set
-  set_readable = record {
-    within = λ c d low. omega (arith, s.ready.within c d low, s.count);
-    unfailed = λ p some. ap (λ (r : Reader). r.fault) ((s.are_set p).set some) ∙ (readable p some).readable;
-    same_end = λ p some. ap (λ (r : Reader). r.terminator) ((s.are_set p).set some);
-  }
+  set_readable = grind (arith, readable)
 
   pub never_failed : (p : ℕ) → is_in cells p ≡ true → (reader_at set p).failed ≡ false
-  never_failed p named = let some = is_in_used cells p named in
-      ((s.are_set p).sound some).unfailed (ap (λ (r : Reader). r.refused) ((s.are_set p).set some)
-      ∙ (readable p some).opened) (set_readable.unfailed p some)
+  never_failed p named = grind (arith, is_in_used, readable, set_readable)
 
   -- A call from there on is the whole call.
   pub since_set : {new : CallState ℕ} {end : CallEnd ℕ}
       → CallPost (inputs_at cells) (paste_engine job cells) (call_state (reader_at set) was first) new end
       → CallPost (inputs_at cells) (paste_engine job cells) (call_state (reader_at old) was first) new end
-  since_set = call_set _ _ _ _ _ s.writable refl refl
-      (λ p named. (s.are_set p).set (is_in_used cells p named)) (λ p other. (s.are_set p).left (not_in cells p other))
+  since_set = grind (arith, is_in_used, not_in)
 
 -- ---- rows that were taken
 

@@ -1,16 +1,15 @@
 -- Bounded lag of `paste`: all output that was determined two blocks of an input earlier is pushed. Without its last two
 -- blocks that input has fewer lines than one more row takes, so only rows that were already pushed are determined.
 use Rattle.ptflow.proofs
-use proofs.Common.{◌≡◌, ⊎_elim, ℕ, zero, suc, ◌+◌, ◌-◌, ◌*◌, ◌%◌, ◌<◌, ◌≤◌, ◌==◌, Bool, true, false, List, [], ◌∷◌}
-use proofs.Common.{◌++◌, length, take, drop, get_or, map, refl, sym, ◌∙◌, ap, subst, arith, append_assoc}
-use proofs.Common.{take-append-drop, length-append, length-drop, filter, range_with_len, enumerate_from, cases_eq}
-use proofs.Common.{cases_lt, cases_Bool, nat_tests, append-nil, append_cancel_right, take-append-le, length-take-le}
-use proofs.Common.{take_all, take_more, get_or-map, get_or_append_left, length-map, take-map-range_with_len}
-use proofs.Common.{length-map-range_with_len, map-map, unlines, lines, complete_lines, IsLine, AreLines, Received}
-use proofs.Common.{IsPrefix, known_lines, ProcessLag, Reader, ReaderAdvance, IsDone, received_with, unlines_push}
-use proofs.Common.{complete_lines_of_unlines, the_lines, Paste, select_from, update_at, every_kth, uses_of, columns}
-use proofs.Common.{row_count, row_at, rows, rows_text, is_row_known, known_rows, paste_decided, AreReceivedLines}
-use proofs.Common.{complete_lines_cons}
+use proofs.Common.{◌≡◌, ⊎_elim, ℕ, zero, suc, ◌+◌, ◌-◌, ◌*◌, ◌<◌, ◌≤◌, Bool, true, false, List, [], ◌∷◌, ◌++◌, length}
+use proofs.Common.{take, drop, get_or, map, refl, sym, ◌∙◌, ap, subst, arith, append_assoc, take-append-drop}
+use proofs.Common.{length-append, length-drop, filter, range_with_len, enumerate_from, cases_eq, cases_lt, cases_Bool}
+use proofs.Common.{nat_tests, append-nil, append_cancel_right, take-append-le, length-take-le, take_all, take_more}
+use proofs.Common.{get_or-map, length-map, take-map-range_with_len, length-map-range_with_len, map-map, unlines}
+use proofs.Common.{lines, complete_lines, IsLine, AreLines, Received, IsPrefix, known_lines, ProcessLag, Reader}
+use proofs.Common.{ReaderAdvance, IsDone, received_with, unlines_push, complete_lines_of_unlines, the_lines, Paste}
+use proofs.Common.{update_at, every_kth, uses_of, columns, row_count, row_at, rows, rows_text, is_row_known}
+use proofs.Common.{known_rows, paste_decided, AreReceivedLines, complete_lines_cons}
 use Rattle.std.specs.Prelude.{slice_index_or}
 use proofs.CutLemmas.ShortLines.{select_append}
 use proofs.PasteLemmas.Grid.{Column, for_each_cell, for_each_cell_same, column_of, uses_before_lt, column_at}
@@ -18,6 +17,7 @@ use proofs.PasteLemmas.Grid.{length-columns, every_kth_short, is_row_unknown, up
 use proofs.PasteLemmas.Grid.{rows_text-append}
 use proofs.Passes.Lines.{complete_prefix, line_split}
 use proofs.Passes.LinesRead.{line_take, lines_are_given}
+use Rattle.std.proofs.lemmas.Grind.{common_steps}
 
 -- ---- one input without its last bytes
 
@@ -65,9 +65,7 @@ are_split end (x ∷ xs) l (first, are) = let (more, last) = are_split end xs l 
 
 -- If there are no lines, nothing was given.
 pub none_received : {end : ℕ} {reader : Reader} {given : List ℕ} → AreReceivedLines end reader given [] → given ≡ []
-none_received {end} {reader} {given} k =
-    let ((are, whole), unique) = the_lines end given in
-    grind (arith, k.so_far, whole, length-append given (end ∷ []))
+none_received {end} {reader} {given} k = grind (arith, common_steps, the_lines, length-append)
 
 module _ (end : ℕ) (reader : Reader) (given : List ℕ) (buffered : length reader.buffered ≤ 8192) where
   module _ (most : ℕ) (xs : Column) (l : List ℕ) (few : length xs < most) where
@@ -216,10 +214,7 @@ same_rows f g a (suc m) same = λ i. same a (omega arith) i ∷ same_rows f g (a
 -- A column keeps its lines if more follow.
 every_kth_more : (k j r : ℕ) (xs more : Column) → r < length (every_kth k j xs)
     → slice_index_or (every_kth k j xs) r [] ≡ slice_index_or (every_kth k j (xs ++ more)) r []
-every_kth_more k j r xs more low = cc (
-  select_append (λ i. i % k == j) 0 xs more,
-  get_or_append_left (every_kth k j xs) (select_from (λ i. i % k == j) (0 + length xs) more) [] r low,
-)
+every_kth_more k j r xs more low = grind (arith, common_steps, select_append)
 
 -- ---- the text of rows
 
@@ -243,10 +238,7 @@ module _ (job : Paste) (cells : List ℕ) (came : ℕ → Received) where
   grid given = columns cells (known_of given)
 
   update_same : (here : ℕ) (x : Received) → x ≡ came here → update_at here x came ≡ came
-  update_same here x same = λ i p. ⊎_elim
-      (λ is. cc (update_here here x came p is, same, is))
-      (update_there here x came p)
-      (cases_eq p here) i
+  update_same here x same = grind (arith, update_here, update_there)
 
   -- The rows that were taken, if the input `here` without its last bytes has fewer lines than one more row takes. That
   -- input is then not known to end, so each row that is determined has all its lines of that input, and is a row of the
@@ -371,6 +363,4 @@ module _ (job : Paste) (cells : List ℕ) (came : ℕ → Received) where
     -- The input has not given more than that.
     pub decided_is_prefix : cut.front ≡ (came here).bytes → (came here).eof ≡ false
         → IsPrefix (paste_decided job cells came) (rows_text job taken_rows)
-    decided_is_prefix same going = subst (λ (g : ℕ → Received). IsPrefix (paste_decided job cells g)
-        (rows_text job taken_rows))
-        (update_same here front (λ i. record { bytes = same i; eof = sym going i })) begins_earlier
+    decided_is_prefix same going = grind (arith, update_same, begins_earlier)

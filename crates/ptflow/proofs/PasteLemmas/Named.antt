@@ -1,9 +1,9 @@
 -- The inputs that columns name. Only their texts, and what was received from them, decide the output.
 use Rattle.ptflow.proofs
-use proofs.Common.{◌≡◌, ⊎_elim, ℕ, ◌<◌, ◌==◌, true, false, cond, List, [], ◌∷◌, length, get_or, map, refl, sym, ◌∙◌, ap}
-use proofs.Common.{subst, arith, append-nil, cases_Bool, cases_lt, eq-eqb, nat_tests, list_any_at, sum_by-cons}
-use proofs.Common.{Received, IsConsistent, lines, max_line_length, Paste, AreAllConsistent, inputs_at, is_in, uses_of}
-use proofs.Common.{rows, rows_text, paste, paste_size, known_lines, known_rows, paste_decided}
+use proofs.Common.{◌≡◌, ℕ, ◌<◌, ◌==◌, true, false, cond, List, [], ◌∷◌, length, get_or, map, refl, sym, ◌∙◌, ap}
+use proofs.Common.{subst, arith, append-nil, eq-eqb, nat_tests, list_any_at, sum_by-cons, Received, IsConsistent}
+use proofs.Common.{max_line_length, Paste, AreAllConsistent, inputs_at, is_in, uses_of, paste, paste_size}
+use proofs.Common.{paste_decided}
 use Rattle.std.proofs.lemmas.List.Sums.{sum-map}
 use Rattle.std.specs.Prelude.{sum}
 use proofs.PasteLemmas.Grid.{columns_same, last_use}
@@ -22,8 +22,7 @@ is_in_used (x ∷ cells) p named =
     grind (arith, nat_tests, sum_by-cons (λ y. cond (y == p) 1 0) x cells, is_in_used cells p)
 
 pub not_in : (cells : List ℕ) (p : ℕ) → is_in cells p ≡ false → uses_of cells p ≡ 0
-not_in cells p other = ⊎_elim (λ some. cc (other, used_is_in cells p some)) (λ none. omega (arith, none))
-    (cases_lt 0 (uses_of cells p))
+not_in cells p other = grind (arith, used_is_in)
 
 -- ---- functions that are equal at these inputs
 
@@ -40,11 +39,7 @@ consistent_itself given = record { rest = []; is = sym (append-nil given.bytes);
 module _ (job : Paste) (cells : List ℕ) where
   pub decided_same : (f g : ℕ → Received) → ((p : ℕ) → is_in cells p ≡ true → f p ≡ g p)
       → paste_decided job cells f ≡ paste_decided job cells g
-  decided_same f g same = λ i.
-      rows_text job (known_rows
-      (columns_same cells (λ p. known_lines job.terminator (f p)) (λ p. known_lines job.terminator (g p))
-      (λ p some. ap (known_lines job.terminator) (same p (used_is_in cells p some))) i)
-      (map_same (λ p. (f p).eof) (λ p. (g p).eof) cells (λ p named. ap (λ h. h.eof) (same p named)) i))
+  decided_same f g same = grind (arith, columns_same, used_is_in, map_same)
 
   -- Texts that are consistent at these inputs, and at all others what was received.
   module _ (given : ℕ → Received) (texts : ℕ → List ℕ) (agree : AreAllConsistent (inputs_at cells) given texts) where
@@ -52,16 +47,13 @@ module _ (job : Paste) (cells : List ℕ) where
     with_received p = cond (is_in cells p) (texts p) (given p).bytes
 
     pub all_agree : (p : ℕ) → IsConsistent (given p) (with_received p)
-    all_agree p = ⊎_elim (λ named. rw named (agree p named)) (λ other. rw other (consistent_itself (given p)))
-        (cases_Bool (is_in cells p))
+    all_agree p = grind (arith, consistent_itself)
 
     same_texts : (p : ℕ) → is_in cells p ≡ true → with_received p ≡ texts p
     same_texts p named = ap (λ b. cond b (texts p) (given p).bytes) named
 
     pub same_paste : paste job cells with_received ≡ paste job cells texts
-    same_paste = ap (λ (grid : List (List (List ℕ))). rows_text job (rows grid))
-        (columns_same cells (λ p. lines job.terminator (with_received p)) (λ p. lines job.terminator (texts p))
-        (λ p some. ap (lines job.terminator) (same_texts p (used_is_in cells p some))))
+    same_paste = grind (arith, columns_same, same_texts, used_is_in)
 
     pub same_size : paste_size job cells with_received ≡ paste_size job cells texts
     same_size = sym (sum-map (λ p. max_line_length job.terminator (with_received p)) cells)

@@ -2,12 +2,13 @@
 -- is the first row of the first parts.
 use Rattle.ptflow.proofs
 use proofs.Common.{◌≡◌, ◌⊎◌, inl, inr, ⊎_elim, ℕ, zero, suc, ◌+◌, ◌*◌, ◌<◌, ◌≤◌, List, [], ◌∷◌, ◌++◌, length, take}
-use proofs.Common.{drop, get_or, refl, sym, ◌∙◌, ap, arith, append_assoc, take-append-drop, length-drop, cases_lt}
-use proofs.Common.{append-nil, nil_from_length, length-take-le, take_all, drop_all, lines, the_lines_of_parts, uses_of}
-use proofs.Common.{columns, rows, IsRowSplit, PasteOfParts}
+use proofs.Common.{drop, get_or, refl, sym, ◌∙◌, ap, arith, append_assoc, take-append-drop, cases_lt, append-nil}
+use proofs.Common.{nil_from_length, length-take-le, drop_all, lines, the_lines_of_parts, uses_of, columns, rows}
+use proofs.Common.{IsRowSplit, PasteOfParts}
 use Rattle.std.proofs.lemmas.List.{length-take}
-use proofs.PasteLemmas.Grid.{Column, IsOneRow, for_each_cell, top_of, columns_same, uses_before_lt, last_use, grid_none}
-use proofs.PasteLemmas.Grid.{grid_step, rows_text-append}
+use proofs.PasteLemmas.Grid.{Column, IsOneRow, for_each_cell, top_of, columns_same, uses_before_lt, last_use}
+use proofs.PasteLemmas.Grid.{grid_none, grid_step, rows_text-append}
+use Rattle.std.proofs.lemmas.Grind.{common_steps}
 
 module _ (cells : List ℕ) where
   -- Some column has a line in the first row, or none has.
@@ -32,17 +33,7 @@ module _ (cells : List ℕ) where
 
   module _ (ins more : ℕ → Column) (reach : (p : ℕ) → length (ins p) < uses_of cells p → more p ≡ []) where
     first_taken : IsOneRow cells (first ins) (λ p. rest ins p ++ more p)
-    first_taken = record {
-      all = λ p. grind (
-        arith,
-        reach p,
-        append-nil (more p),
-        drop_all (uses_of cells p) (ins p),
-        take_all (uses_of cells p) (ins p),
-        length-take-le (uses_of cells p) (ins p),
-        cases_lt (length (ins p)) (uses_of cells p),
-      );
-    }
+    first_taken = grind (arith, common_steps, drop_all, length-take-le)
 
     -- The lines of the first row precede all others, for each continuation.
     first_row : (c : ℕ) → c < length cells → uses_of (take c cells) (get_or cells c 0) < length (ins (get_or cells c 0))
@@ -66,14 +57,10 @@ module _ (cells : List ℕ) where
 
   more_is_empty : (n : ℕ) (ins more : ℕ → Column) → TakesAll (suc n) ins more → (p : ℕ)
       → length (ins p) < uses_of cells p → more p ≡ []
-  more_is_empty n ins more reach p few =
-      let size : suc n * uses_of cells p ≡ uses_of cells p + n * uses_of cells p = omega arith in
-      grind (arith, size, reach p (omega (arith, few)))
+  more_is_empty n ins more reach p few = grind arith
 
   later : (n : ℕ) (ins more : ℕ → Column) → TakesAll (suc n) ins more → TakesAll n (rest ins) more
-  later n ins more reach p some =
-      let size : suc n * uses_of cells p ≡ uses_of cells p + n * uses_of cells p = omega arith in
-      grind (arith, size, length-drop (uses_of cells p) (ins p), reach p some)
+  later n ins more reach p some = grind (arith, common_steps)
 
   abbrev Append : (ℕ → Column) → (ℕ → Column) → Type 0
   Append ins more = rows (columns cells (λ p. ins p ++ more p)) ≡ rows (columns cells ins) ++ rows (columns cells more)

@@ -1,28 +1,27 @@
 -- Bytes of which each terminator is replaced, and how the code replaces them: 64 at a time, where the terminators are
 -- the bits of a mask, and then byte by byte.
 use Rattle.ptflow.proofs
-use proofs.Common.{◌≡◌, ◌≢◌, ℕ, zero, suc, ◌+◌, ◌-◌, ◌%◌, ◌^◌, ◌==◌, ◌<◌, ◌≤◌, Bool, cond, List, [], ◌∷◌, ◌++◌, length}
-use proofs.Common.{map, take, drop, get_or, slice_set, refl, sym, ◌∙◌, ap, arith, append_assoc, bit_and, count_by}
-use proofs.Common.{count_ones, mask_l, chunk, mod-lt, mod-add-mod, mod-eq_of_lt, take-add, take_at, take-append-drop}
-use proofs.Common.{take-set-lt, eq-eqb, set-append_right, drop_more, take_more_set, take-set, length-set, sum_by-cons}
-use proofs.Common.{sum_by-append, is_byte, byte_eq, byte_ne, IsLine, IsNth, length-take-le, length-chunk}
+use proofs.Common.{◌≡◌, ◌≢◌, ℕ, zero, suc, ◌+◌, ◌-◌, ◌%◌, ◌^◌, ◌==◌, ◌<◌, ◌≤◌, Bool, cond, List, [], ◌∷◌, ◌++◌}
+use proofs.Common.{length, map, take, drop, get_or, slice_set, refl, sym, ◌∙◌, ap, arith, append_assoc, bit_and}
+use proofs.Common.{count_by, count_ones, mask_l, chunk, mod-lt, mod-add-mod, mod-eq_of_lt, take-add, take_at}
+use proofs.Common.{take-append-drop, take-set-lt, eq-eqb, set-append_right, drop_more, take_more_set, take-set}
+use proofs.Common.{length-set, sum_by-append, is_byte, byte_eq, byte_ne, IsLine, IsNth, length-take-le, length-chunk}
 use proofs.Common.{length-put_chunk, take_more_put_chunk, put_chunk, ones-mask_l, with_replacements, cycle_byte}
 use proofs.Common.{IsReplacedTo}
 use lib.Count.{count_trailing_zeros}
 use proofs.Vectors.FindNth.{after_set, cleared, without}
 use Rattle.ptflow.specs.declared.simd.replace.Cycle.{Cycle}
+use Rattle.std.proofs.lemmas.Grind.{common_steps}
 
 module _ (end : ℕ) where
   pub counted : (b : ℕ) (bytes : List ℕ) {t : Bool} → (b == end) ≡ t
       → count_by (is_byte end) (b ∷ bytes) ≡ cond t 1 0 + count_by (is_byte end) bytes
-  counted b bytes is = sum_by-cons (λ x. cond (is_byte end x) 1 0) b bytes
-      ∙ ap (λ (t : Bool). cond t 1 0 + count_by (is_byte end) bytes) is
+  counted b bytes is = grind (arith, common_steps)
 
   module _ (text_of : ℕ → List ℕ) where
     pub replaced-append : (number : ℕ) (xs ys : List ℕ) → with_replacements end text_of number (xs ++ ys)
         ≡ with_replacements end text_of number xs ++ with_replacements end text_of (number + count_by (is_byte end) xs) ys
-    replaced-append number [] ys =
-        let same : number + 0 ≡ number = omega arith in ap (λ n. with_replacements end text_of n ys) (sym same)
+    replaced-append number [] ys = grind arith
     replaced-append number (b ∷ xs) ys =
         grind (arith, append_assoc, counted b xs, replaced-append (number + 1) xs ys, replaced-append number xs ys)
 
@@ -87,8 +86,7 @@ module _ (end : ℕ) where
     replaced_next : (n number : ℕ) (bytes : List ℕ) (k : ℕ) → IsNth (is_byte end) 0 n bytes k
         → slice_set (first_replaced n number bytes) k (byte (number + n)) ≡ first_replaced (suc n) number bytes
     replaced_next n number [] k (low, test, before) = absurd (omega (arith, low))
-    replaced_next zero number (b ∷ bytes) zero (low, test, before) =
-        let same : number + 0 ≡ number = omega arith in rw test (ap (λ k. byte k ∷ bytes) same)
+    replaced_next zero number (b ∷ bytes) zero (low, test, before) = grind arith
     replaced_next (suc m) number (b ∷ bytes) zero (low, test, before) = absurd (omega (arith, before))
     replaced_next zero number (b ∷ bytes) (suc k) (low, test, before) =
         let more = λ (e : count_by (is_byte end) (take k bytes) ≡ zero). replaced_next zero number bytes k (
@@ -199,7 +197,7 @@ module _ {end : ℕ} {byte : ℕ → ℕ} where
 
     pub replace_end : n ≡ count_ones mask
         → (n ≡ count_by (is_byte end) ends) × (take (at + 64) to ≡ take at was ++ all end byte first ends)
-    replace_end over = (over ∙ ends_counted, cc (all_replaced end byte first ends n (over ∙ ends_counted), r.is))
+    replace_end over = grind (arith, ends_counted, all_replaced)
 
 -- ---- some more bytes, from a cycle
 

@@ -3,15 +3,17 @@
 -- each with the byte after it, are the joined fields and the terminator.
 use Rattle.ptflow.proofs
 use proofs.Common.{◌≡◌, ◌⊎◌, ⊎_elim, inl, inr, ℕ, ◌+◌, ◌≤◌, List, [], ◌∷◌, ◌++◌, None, length, refl, sym, ◌∙◌, ap}
-use proofs.Common.{arith, length-append, append-nil, lines, AreLines, Reader, ReaderAdvance, AdvanceOk, IsDone, IsSound}
-use proofs.Common.{Slots, FillLine, advance_trans, unlines-append, lines_of_unlines, AreReceivedLines, LinesTaken, suc}
-use proofs.Common.{◌*◌, ◌<◌, true, take, subst, append_assoc, eq-eqb, ne_eqb, cases_lt, nil_from_length, take_all}
-use proofs.Common.{reader_at, map, unlines, join_with_cycle, uses_of, columns, rows, CellsTaken, CellsFilled, RowShape}
-use proofs.Common.{after_cell, cells_text, AreFirstRows, RowsTaken, reads_nothing}
+use proofs.Common.{arith, length-append, lines, AreLines, Reader, ReaderAdvance, AdvanceOk, IsDone, IsSound, Slots}
+use proofs.Common.{FillLine, advance_trans, unlines-append, lines_of_unlines, AreReceivedLines, LinesTaken, suc, ◌*◌}
+use proofs.Common.{◌<◌, true, take, subst, append_assoc, eq-eqb, ne_eqb, take_all, reader_at, map, unlines}
+use proofs.Common.{join_with_cycle, uses_of, columns, rows, CellsTaken, CellsFilled, RowShape, after_cell, cells_text}
+use proofs.Common.{AreFirstRows, RowsTaken}
 use proofs.Passes.LinesRead.{lines_none, lines_are_given, lines_more}
 use proofs.Passes.Readers.{eof_gives_nothing, stays_at_eof}
 use Rattle.std.specs.Prelude.{slice_index_or}
 use proofs.PasteLemmas.Grid.{Column, for_each_cell, for_each_cell_unique, uses_before, grid_step, rows_text-append}
+use Rattle.std.proofs.Common.{rules}
+use Rattle.std.proofs.lemmas.Grind.{common_steps}
 
 AreLines-append : (end : ℕ) (xs ys : List (List ℕ)) → AreLines end xs → AreLines end ys → AreLines end (xs ++ ys)
 AreLines-append end [] ys p q = q
@@ -28,17 +30,8 @@ none_received {end} {b} {c} {bytes} {ls} done reads k =
 pub lines_trans : {end : ℕ} {b c : Reader} {bs cs : List ℕ} {xs ys : List (List ℕ)} → AreReceivedLines end b bs xs
     → ReaderAdvance b c cs → AreReceivedLines end c cs ys
     → AreReceivedLines end c (bs ++ cs) (xs ++ ys)
-lines_trans {end} {b} {c} {bs} {cs} {xs} {ys} p reads q = record {
-  so_far = ⊎_elim
-      (λ (first, are). ⊎_elim
-      (λ (then, more). inl (rw (first, then, unlines-append end xs ys) refl, AreLines-append end xs ys are more))
-      (λ (then, done). inr (rw (first, lines_of_unlines end xs cs are, then) refl, done))
-      q.so_far)
-      (λ (is, done).
-      let (none, empty, eof) = eof_gives_nothing b c cs done reads in
-      inr (rw (none, none_received done reads q) (simp append-nil is), stays_at_eof b c cs done reads))
-      p.so_far;
-}
+lines_trans {end} {b} {c} {bs} {cs} {xs} {ys} p reads q = search (rules, unlines-append, AreLines-append,
+    lines_of_unlines, eof_gives_nothing, none_received, stays_at_eof)
 
 -- At most the requested number of lines is taken.
 pub taken_at_most : {end : ℕ} {b c : Reader} {n : ℕ} {ys : List (List ℕ)} → LinesTaken end b c n ys → length ys ≤ n
@@ -49,17 +42,7 @@ pub none_at_eof : {end : ℕ} {b c : Reader} {n : ℕ} {ys : List (List ℕ)} �
 none_at_eof t done = none_received done t.reads t.came
 
 pub nothing_taken : {end : ℕ} {r : Reader} {n : ℕ} → n ≡ 0 → LinesTaken end r r n []
-nothing_taken {end} {r} {n} zero = record {
-  bytes = [];
-  reads = reads_nothing r;
-  failed = refl;
-  fault = refl;
-  short = λ h. h;
-  buffered = λ h. h;
-  none = λ h. refl;
-  came = lines_none end r;
-  enough = inl (omega (arith, zero));
-}
+nothing_taken {end} {r} {n} zero = grind (arith, lines_none)
 
 abbrev pub taken_more : {end : ℕ} {a b c : Reader} {k m n : ℕ} {xs ys : List (List ℕ)} → k ≡ m + n
     → LinesTaken end a b m xs → LinesTaken end b c n ys → LinesTaken end a c k (xs ++ ys)
@@ -86,17 +69,7 @@ taken_more {end} {a} {b} {c} {k} {m} {n} {xs} {ys} all p q = record {
 taken_one : {end : ℕ} {b c : Reader} {bytes : List ℕ} {ls : List (List ℕ)} → AdvanceOk b c bytes → b.fault ≡ None
     → IsSound c → AreReceivedLines end c bytes ls
     → (length ls ≡ 1) ⊎ (IsDone c × (length ls ≤ 1)) → LinesTaken end b c 1 ls
-taken_one {end} {b} {c} {bytes} advance_ok clean sound came enough = record {
-  bytes = bytes;
-  reads = advance_ok.reads;
-  failed = advance_ok.failed;
-  fault = advance_ok.fault ∙ sym clean;
-  short = advance_ok.short;
-  buffered = λ h. sound.buffered;
-  none = λ h. absurd (omega (arith, h));
-  came = came;
-  enough = enough;
-}
+taken_one {end} {b} {c} {bytes} advance_ok clean sound came enough = grind arith
 
 -- A line was read into a slot.
 pub taken_line : {end : ℕ} {b c : Reader} {before after : Slots} {slot : ℕ} (e : FillLine b c before after slot)
@@ -108,8 +81,7 @@ taken_line {end} {b} {c} {before} {after} {slot} e same clean sound = taken_one 
 -- No line was left.
 pub taken_eof : {end : ℕ} {b c : Reader} → AdvanceOk b c [] → IsDone c → b.fault ≡ None → IsSound c
     → LinesTaken end b c 1 []
-taken_eof {end} {b} {c} advance_ok done clean sound = taken_one advance_ok clean sound (lines_none end c)
-    (inr (done, omega arith))
+taken_eof {end} {b} {c} advance_ok done clean sound = grind (arith, taken_one, lines_none)
 
 -- ---- the text of a row, column by column
 
@@ -129,14 +101,13 @@ module _ (row : RowShape) where
   -- One more field.
   pub cells_text-push : (c : ℕ) (xs : List (List ℕ)) (x : List ℕ) {k : ℕ} → c + length xs ≡ k
       → cells_text row c (xs ++ x ∷ []) ≡ cells_text row c xs ++ (x ++ after_cell row k)
-  cells_text-push c xs x {k} here = cc (here, cells_text-append c xs (x ∷ []), append-nil (x ++ after_cell row k))
+  cells_text-push c xs x {k} here = search (rules, cells_text-append)
 
   -- The columns from c to the last one.
   pub row_text : (c : ℕ) (xs : List (List ℕ)) → c + length xs ≡ length row.cells → 0 < length xs
       → cells_text row c xs ≡ join_with_cycle row.delims c xs ++ row.terminator ∷ []
   row_text c [] all some = absurd (omega (arith, some))
-  row_text c (x ∷ []) all some = append-nil (x ++ after_cell row c)
-      ∙ rw (eq-eqb (c + 1) (length row.cells) (omega (arith, all))) refl
+  row_text c (x ∷ []) all some = search (rules, eq-eqb)
   row_text c (x ∷ y ∷ more) all some =
       rw (
         ne_eqb (c + 1) (length row.cells) (λ same. absurd (omega (arith, all, same))),
@@ -147,21 +118,14 @@ module _ (row : RowShape) where
   pub filled_row_text : {old new : List Reader} {fields : List (List ℕ)}
       → CellsFilled row.cells (length row.cells) old new fields true
       → cells_text row 0 fields ≡ unlines row.terminator (map (join_with_cycle row.delims 0) (fields ∷ []))
-  filled_row_text {fields = fields} f =
-      let (c, low, one) = f.some refl in
-      row_text 0 fields (omega (arith, f.consumed.width)) (omega (arith, f.consumed.width, low))
-      ∙ sym (append-nil (join_with_cycle row.delims 0 fields ++ row.terminator ∷ []))
+  filled_row_text {fields = fields} f = search (rules, row_text)
 
 -- ---- rows that were taken
 
 -- If no line is taken from a reader, its terminator does not matter.
 retarget_terminator : {end : ℕ} {b c : Reader} {n : ℕ} {ys : Column} → (0 < n → b.terminator ≡ end)
     → LinesTaken b.terminator b c n ys → LinesTaken end b c n ys
-retarget_terminator {end} {b} {c} {n} {ys} same t = ⊎_elim
-    (λ some. subst (λ (e : ℕ). LinesTaken e b c n ys) (same some) t)
-    (λ few. rw (t.none (omega (arith, few)), nil_from_length ys (omega (arith, few, taken_at_most t)))
-    (nothing_taken (omega (arith, few))))
-    (cases_lt 0 n)
+retarget_terminator {end} {b} {c} {n} {ys} same t = grind (arith, common_steps, taken_at_most, nothing_taken)
 
 module _ {row : RowShape} where
   -- Rows are taken, and then more.
@@ -212,8 +176,7 @@ module _ (row : RowShape) {old new : List Reader} {fields : List (List ℕ)}
   pub lines_taken_by_cells : {n : ℕ} {input_lines : ℕ → Column} → CellsTaken row.cells n old new fields input_lines
       → (p : ℕ)
       → LinesTaken row.terminator (reader_at old p) (reader_at new p) (uses_of (take n row.cells) p) (input_lines p)
-  lines_taken_by_cells {n} t p = retarget_terminator
-      (λ some. same_end p (omega (arith, some, uses_before row.cells n p))) (t.lines_taken p)
+  lines_taken_by_cells {n} t p = grind (arith, common_steps, retarget_terminator, uses_before)
 
   -- The lines that all columns of a row take from one reader.
   pub lines_taken_by_row : {input_lines : ℕ → Column}

@@ -11,6 +11,7 @@ use proofs.Vectors.FindNth.{none_counted}
 use Rattle.std.specs.Prelude.{slice_index_or}
 use proofs.Passes.Lines.{line_split, split_of}
 use proofs.PasteLemmas.Replaced.{counted, replaced_line, replaced_mod}
+use Rattle.std.proofs.lemmas.Grind.{common_steps}
 
 module _ (end : ℕ) (delims : List (Option ℕ)) where
   -- A byte of a line.
@@ -40,8 +41,7 @@ module _ (end : ℕ) (delims : List (Option ℕ)) where
   pub row_rest_on : (number : ℕ) (bytes more : List ℕ) → 0 < length more
       → row_rest end delims number (bytes ++ more) ≡ with_replacements end (delimiter delims) number bytes
       ++ row_rest end delims (number + count_by (is_byte end) bytes) more
-  row_rest_on number [] more some =
-      let same : number + 0 ≡ number = omega arith in ap (λ n. row_rest end delims n more) (sym same)
+  row_rest_on number [] more some = grind arith
   row_rest_on number (b ∷ bytes) more some = ⊎_elim
       (λ is. grind (
         arith,
@@ -130,10 +130,7 @@ module _ (end : ℕ) (delims : List (Option ℕ)) where
       (join_with_cycle delims number (xs ++ ys))
   joined_begins number [] ys = record { rest = join_with_cycle delims number ys; is = refl }
   joined_begins number (x ∷ []) [] = record { rest = []; is = sym (append-nil x) }
-  joined_begins number (x ∷ []) (y ∷ ys) = record {
-    rest = delimiter delims number ++ join_with_cycle delims (number + 1) (y ∷ ys);
-    is = append_assoc x (delimiter delims number) (join_with_cycle delims (number + 1) (y ∷ ys));
-  }
+  joined_begins number (x ∷ []) (y ∷ ys) = grind (arith, common_steps)
   joined_begins number (x ∷ z ∷ xs) ys = let b = joined_begins (number + 1) (z ∷ xs) ys in record {
     rest = b.rest;
     is = rw b.is (simp append_assoc);

@@ -18,6 +18,8 @@ use proofs.PasteLemmas.RowsTaken.{nothing_taken, rows_taken_none, row_text}
 use proofs.PasteLemmas.BufferedRows.{consumed_none, consumed_more}
 use proofs.PasteLemmas.Replaced.{counted, replaced-append, replaced_line}
 use Rattle.ptflow.specs.declared.simd.replace.Cycle.{Cycle}
+use Rattle.std.proofs.Common.{rules}
+use Rattle.std.proofs.lemmas.Grind.{common_steps}
 
 -- ---- complete rows are known by the number of terminators
 
@@ -66,8 +68,7 @@ whole_rows_counted end n count bytes last counted =
 are_parts : (end n : ℕ) (ls : List (List ℕ)) → AreLines end ls → AreLines end (take n ls) × AreLines end (drop n ls)
 are_parts end zero ls are_lines = (tt, are_lines)
 are_parts end (suc n) [] are_lines = (tt, tt)
-are_parts end (suc n) (line ∷ ls) (free, are_lines) =
-    let (front, rest) = are_parts end n ls are_lines in ((free, front), rest)
+are_parts end (suc n) (line ∷ ls) (free, are_lines) = grind (arith, common_steps)
 
 -- The lines `ls` in rows of n.
 abbrev pub rows_in : ℕ → ℕ → List (List ℕ) → List (List (List ℕ))
@@ -156,7 +157,7 @@ module _ (cells : List ℕ) (input : ℕ) (same : (c : ℕ) → c < length cells
       )
 
   uses_all : uses_of cells input ≡ length cells
-  uses_all = cc (take_all (length cells) cells (omega arith), uses_before_column (length cells) (omega arith))
+  uses_all = grind (arith, common_steps, uses_before_column)
 
   uses_none : (q : ℕ) → q ≢ input → uses_of cells q ≡ 0
   uses_none q differ = ⊎_elim
@@ -294,9 +295,4 @@ module _ {row : RowShape} {cycle : Cycle} (t : IsSharedCycle row cycle) {old : L
 
 -- Nothing is in the buffer, or the columns share no reader.
 pub no_rows_written : {row : RowShape} {old : List Reader} {out : Output} → RowsWritten row old old out out
-no_rows_written {out = out} = record {
-  written = [];
-  rows = rows_taken_none;
-  consumed = consumed_none;
-  wrote = push_nothing out;
-}
+no_rows_written {out = out} = search (rules, rows_taken_none, consumed_none, push_nothing)

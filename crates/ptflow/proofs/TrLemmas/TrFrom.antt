@@ -222,8 +222,7 @@ pub first_squeezed : (squeezed : ℕ → Bool) (last : Option ℕ) (from into : 
     → take count (set into 0 (get_or from 0 0)) ++ kept_bytes squeezed from (drop 1 from)
     ≡ squeeze_from squeezed last from
 first_squeezed squeezed last [] into some room is count_is = absurd (omega arith)
-first_squeezed squeezed last (b ∷ from) into {repeats = true} some room is count_is =
-    cc (count_is, from_one squeezed last b from, is)
+first_squeezed squeezed last (b ∷ from) into {repeats = true} some room is count_is = grind (arith, from_one)
 first_squeezed squeezed last (b ∷ from) into {repeats = false} some room is count_is =
     grind (arith, common_steps, from_one, take_more_set)
 

@@ -15,6 +15,7 @@ use Rattle.ptflow.specs.declared.tools.uniq.block_runs.Span.{Span}
 use proofs.Passes.Prefix.{wrote_then}
 use proofs.Passes.Lines.{split_of, ended_next}
 use proofs.UniqLemmas.RunsFrom.{runs_after_more, runs_after_next, entries-append, current_run_is}
+use Rattle.std.proofs.Common.{rules}
 
 -- ---- lines before the rest of a block
 
@@ -90,13 +91,7 @@ module _ (job : Uniq) (first : List ℕ) (count : ℕ) {block : List ℕ} {line 
   pub pending_joined : {out : Output} → pending.to ≡ l.from → count_prefix job.show count ≡ []
       → IsPending (span_of block pending ++ run_text job (run_of (first_of first block line) count)) block
       (record { from = pending.from; to = l.to }) out out
-  pending_joined {out} touch none =
-      let fits : IsSpan block l = record { ordered = omega (arith, line_in.some); within = line_in.within } in record {
-        pushed = [];
-        wrote = push_nothing out;
-        all = cc (span_join pre.pending_in fits touch, due_is);
-        span = omega arith;
-      }
+  pending_joined {out} touch none = search (rules, line_in, push_nothing, span_join, due_is)
 
 module _ {bytes block : List ℕ} {pending : Span} {was is : Output} (waits : IsPending bytes block pending was is)
     (more : List ℕ) {is' : Output} where
@@ -275,7 +270,7 @@ module _ {job : Uniq} {first block rest : List ℕ} {start count : ℕ} {line : 
 
     pub running_unended : is'.write_failed ≡ true
         → RunsFailed job (run_of first start) (complete_lines job.terminator block) was is'
-    running_unended fault = steps_failed so_far.steps all_wrote [] (all_lines ∙ sym (append-nil so_far.front)) fault
+    running_unended fault = search (rules, steps_failed, steps, all_wrote, all_lines)
 
     pub runs_loop_passed : take (length block - length rest) block
         ≡ unlines job.terminator (complete_lines job.terminator block)

@@ -41,12 +41,7 @@ module _ (job : Uniq) where
       → runs job (xs ++ ys) ≡ runs job xs ++ runs job ys
   runs-append [] ys change = refl
   runs-append (x ∷ []) [] change = refl
-  runs-append (x ∷ []) (y ∷ ys) change =
-      let (count, more, is) = onto_is y (runs job ys) in
-      ap (cons_run job x) is
-      ∙ ap (λ t. cond t (run_of x (count + 1) ∷ more) (run_of x 1 ∷ run_of y count ∷ more))
-      (other_key x y (change x y ([], refl) (ys, refl)))
-      ∙ ap (λ rs. run_of x 1 ∷ rs) (sym is)
+  runs-append (x ∷ []) (y ∷ ys) change = grind (arith, onto_is, other_key)
   runs-append (x ∷ z ∷ xs) ys change =
       let (count, more, is) = onto_is z (runs job xs) in
       ap (cons_run job x) (runs-append (z ∷ xs) ys (λ last first (front, ends) begins.

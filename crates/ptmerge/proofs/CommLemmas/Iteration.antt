@@ -2,13 +2,12 @@
 -- So each step of the merge extends the output by the entries of its key, and the loop invariant of the merge carries
 -- over.
 use Rattle.ptmerge.proofs
-use proofs.Common.{◌≡◌, ℕ, ◌<◌, List, [], ◌∷◌, ◌++◌, Ok, Err, length, refl, sym, ◌∙◌, ap, arith, Comm, Output}
-use proofs.Common.{PushEffect, Reader, Slots, line, unlines, MergeFault, Side, First, Second, Sorted, Ended}
-use proofs.Common.{comm_with, column_entries, tab_if_shown, Lines, MergeTool, entries_by_key, lines_with_key}
-use proofs.Common.{AdvanceOkPost, AdvancePre, MergeState, MergePost, merge_state, Cmp, Key, both, with_side, other}
-use proofs.Common.{HaveEqualKeys, HasOnlyLeastKey, IsDisorderDecided, IsReaderOf, AreValidCursors, StartOkPost}
-use proofs.Common.{merge_inputs, ClearFourSlotsPost, suc, ◌-◌, min, append_assoc, append-nil, tied_itself, entries}
-use proofs.Common.{Bool}
+use proofs.Common.{◌≡◌, ℕ, ◌<◌, List, [], ◌∷◌, ◌++◌, Ok, Err, length, refl, sym, arith, Comm, Output, PushEffect}
+use proofs.Common.{Reader, Slots, line, unlines, MergeFault, Side, First, Second, Sorted, Ended, comm_with}
+use proofs.Common.{column_entries, tab_if_shown, Lines, MergeTool, entries_by_key, lines_with_key, AdvanceOkPost}
+use proofs.Common.{AdvancePre, MergeState, MergePost, merge_state, Cmp, Key, both, with_side, other, HaveEqualKeys}
+use proofs.Common.{HasOnlyLeastKey, IsDisorderDecided, IsReaderOf, AreValidCursors, StartOkPost, merge_inputs}
+use proofs.Common.{ClearFourSlotsPost, suc, ◌-◌, append-nil, entries, Bool}
 use proofs.MergeLemmas.Step.{BetweenSteps, between_next, advance_pre, reads_less, EndsIfFails, CursorsInvariant}
 use proofs.MergeLemmas.Step.{LoopInvariant, advance_ok, goes_merging, passing_now, runs_on, slots_of}
 use proofs.MergeLemmas.Step.{read_facts_current, iteration_fails, IsLineByLine, current_key_is_above, alone}
@@ -16,10 +15,11 @@ use proofs.MergeLemmas.Step.{write_one_line, reads_ahead, place_is, wrote_and_se
 use proofs.MergeLemmas.Step.{keeps_two, ends_well, ends_fallen, start_ok}
 use proofs.MergeLemmas.Orders.{IsKeyOrder, same_bytes}
 use proofs.MergeLemmas.Slots.{put_other, put_same}
-use proofs.MergeLemmas.Invariant.{AllWritten, MergeInvariant, line_is_least_run, lag_invariant_starts, write_least_run}
-use proofs.MergeLemmas.Invariant.{all_keys}
+use proofs.MergeLemmas.Invariant.{AllWritten, MergeInvariant, line_is_least_run, lag_invariant_starts}
+use proofs.MergeLemmas.Invariant.{write_least_run, all_keys}
 use proofs.MergeLemmas.Exits.{at_current_line, state_by_side, IsOpenMerge}
 use Rattle.ptmerge.specs.declared.faults.MergeFault.TheVariants as faults
+use Rattle.std.proofs.Common.{rules}
 
 -- ---- each line adds one entry
 
@@ -56,42 +56,23 @@ module _ (job : Comm) (x : List ℕ) where
   one_common_entry = grind (arith, no_entries, append-nil (common_entries 1))
 
   entries_both : (n k : ℕ) → entries job x (suc n) (suc k) ≡ entries job x 1 1 ++ entries job x n k
-  entries_both n k =
-      let least : min (suc n) (suc k) ≡ suc (min n k) = omega arith in
-      let nothing_follows : (i j : ℕ) → suc i - suc j ≡ i - j = λ i j. omega arith in
-      rw (
-        one_common_entry,
-        least,
-        nothing_follows n k,
-        nothing_follows k n,
-        one_more_entry job.hide3 (tab_if_shown job.hide1 ++ tab_if_shown job.hide2) x (min n k),
-      ) (simp append_assoc)
+  entries_both n k = grind (arith, one_common_entry, one_more_entry)
 
 module _ (job : Comm) (cmp : Cmp) (key : Side → Key) where
   is_line_by_line : IsLineByLine (comm_with job cmp key)
-  is_line_by_line = record {
-    none = entries_none job;
-    first = λ k x g. rw (only_first job k (suc (length g)), only_first job k 1, only_first job k (length g))
-        (one_more_entry job.hide1 [] k (length g));
-    second = λ k x g. rw (only_second job k (suc (length g)), only_second job k 1, only_second job k (length g))
-        (one_more_entry job.hide2 (tab_if_shown job.hide1) k (length g));
-  }
+  is_line_by_line = grind (arith, entries_none, only_first, one_more_entry, only_second)
 
   -- the entries of one line of one input alone, if the key is the line
   entries_alone : (s : Side) (x : List ℕ) → key s x ≡ x → entries_by_key (comm_with job cmp key) all_keys
       (alone s x) ≡ column_entries (hidden_of job s) (tabs_of job s) 1 x
-  entries_alone First x whole_line_keys =
-      rw (whole_line_keys, same_bytes (refl {a = x}), append-nil) (only_first job x 1)
-  entries_alone Second x whole_line_keys =
-      simp (whole_line_keys, same_bytes (refl {a = x}), append-nil) (only_second job x 1)
+  entries_alone First x whole_line_keys = grind (arith, same_bytes, only_first)
+  entries_alone Second x whole_line_keys = grind (arith, same_bytes, only_second)
 
   -- the entries of one line of both inputs
   entries_of_pair : IsKeyOrder cmp → (x y : List ℕ) → key First x ≡ x → key Second y ≡ key First x
       → entries_by_key (comm_with job cmp key) all_keys (both (x ∷ []) (y ∷ [])) ≡ column_entries job.hide3
       (tab_if_shown job.hide1 ++ tab_if_shown job.hide2) 1 x
-  entries_of_pair o x y whole_line_keys same = simp
-      (same ∙ whole_line_keys, whole_line_keys, tied_itself o.total x, same_bytes (refl {a = x}), append-nil)
-      (one_common_entry job x)
+  entries_of_pair o x y whole_line_keys same = grind (arith, same_bytes, one_common_entry)
 
 -- ---- the loop invariant
 
@@ -139,8 +120,7 @@ module _ {job : Comm} {cmp : Cmp} {key : Side → Key} {old now : MergeState} {o
   tool = comm_with job cmp key
 
   lines_before : CursorsInvariant tool old now.reader (both one two) now.store ls p b
-  lines_before = let slots = slots_of between in
-      record { sides = sides; holds = holds_two w.fits keeps slots; slots = slots }
+  lines_before = search (rules, slots_of, holds_two)
 
   abbrev head : Side → List ℕ
   head s = line now.store (both one two s).current_slot
@@ -185,8 +165,7 @@ module _ {job : Comm} {cmp : Cmp} {key : Side → Key} {old now : MergeState} {o
       → {one2 two2 : Sorted} {reader : Reader} {after : Slots} {mid : Output}
       → AdvanceOkPost key cmp First one two one2 two2 (now.reader First) reader now.store after mid
       → AdvancePre key Second one2 two2 (now.reader Second) after
-  second_advance_pre step h = advance_pre (between_next between First h.continues) Second
-      (ap (λ (q : Sorted). q.status) h.continues.others ∙ step.second)
+  second_advance_pre step h = grind (arith, advance_pre, between_next)
 
   module _ (step : HaveEqualKeys cmp key (both one two) now.store) where
     pub pair_decreases : {one2 two2 one3 two3 : Sorted} {reader reader2 : Reader} {after last : Slots}
@@ -194,11 +173,7 @@ module _ {job : Comm} {cmp : Cmp} {key : Side → Key} {old now : MergeState} {o
         → AdvanceOkPost key cmp First one two one2 two2 (now.reader First) reader now.store after mid
         → AdvanceOkPost key cmp Second one2 two2 one3 two3 (now.reader Second) reader2 after last new
         → reads_ahead (both reader reader2) one3 two3 < reads_ahead now.reader one two
-    pair_decreases h k = omega (
-      arith,
-      reads_less between First h.continues step.first h.came,
-      reads_less (between_next between First h.continues) Second k.continues (second_advance_pre step h).head k.came,
-    )
+    pair_decreases h k = grind (arith, reads_less, between_next, second_advance_pre)
 
     abbrev both_written : Side → Lines
     both_written = both (ls First) (ls Second)
@@ -222,8 +197,7 @@ module _ {job : Comm} {cmp : Cmp} {key : Side → Key} {old now : MergeState} {o
         (column_entries job.hide3 tabs 1 (head First)))) where
       wrote_pair : PushEffect now.out mid
           (unlines job.terminator (entries_by_key tool all_keys (both (head First ∷ []) (head Second ∷ []))))
-      wrote_pair = rw (entries_of_pair job cmp key w.o (head First) (head Second) (whole_line_keys First (head First))
-          (sym step.same)) (rw ((sides First).lines_read.terminator, led) at pushed)
+      wrote_pair = grind (arith, entries_of_pair)
 
       pub pair_fails : EndsIfFails tool old now First one mid
       pair_fails = iteration_fails w lines_before First step.first (wrote_both wrote_pair) refl

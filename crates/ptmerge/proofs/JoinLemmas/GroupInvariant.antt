@@ -2,23 +2,23 @@
 -- all inputs, since lesser keys are complete and the pairs of the group are written in their final order. Once both
 -- inputs are past the key, the group is complete, and counts as processed.
 use Rattle.ptmerge.proofs
-use proofs.Common.{◌≡◌, ⊎_elim, ℕ, ◌+◌, ◌*◌, ◌≤◌, ◌<◌, ◌&&◌, Bool, true, false, List, [], ◌∷◌, ◌++◌, Some, Err, length}
+use proofs.Common.{◌≡◌, ⊎_elim, ℕ, ◌+◌, ◌*◌, ◌≤◌, ◌<◌, ◌&&◌, Bool, true, false, List, [], ◌∷◌, ◌++◌, Some, length}
 use proofs.Common.{max, refl, sym, ◌∙◌, ap, subst, arith, append_assoc, bytes_eq, bytes_decides, is_gt, append-nil}
 use proofs.Common.{Output, PushEffect, Reader, Slots, line, total_bytes, with_line, unlines, max_length, push_trans}
-use proofs.Common.{unlines-append, MergeFault, Side, First, Second, Sorted, CursorStatus, Head, Ended, Disorder}
-use proofs.Common.{is_head, length-append, Lines, MergeTool, entries_by_key, entries_of_key, lines_with_key, MergeState}
-use proofs.Common.{MergePost, NextOkPost, HasSlots, with_side, other, PrecedesInput, disorder, merged_entries}
-use proofs.Common.{sorted_prefixes, is_up_to, Cmp, Key, reads_nothing}
-use proofs.MergeLemmas.Step.{slots_on, SidesInvariant, IsAbove, IsLineByLine, current_key_is_above, next_at, own_slots}
-use proofs.MergeLemmas.Step.{passed_at, sides_invariant_continues, slots_apart, StoreInvariant, EndsIfFails}
-use proofs.MergeLemmas.Step.{advance_fails}
+use proofs.Common.{unlines-append, Side, First, Second, Sorted, CursorStatus, Head, Ended, Disorder, is_head}
+use proofs.Common.{length-append, Lines, MergeTool, entries_by_key, entries_of_key, lines_with_key, MergeState}
+use proofs.Common.{NextOkPost, HasSlots, with_side, other, PrecedesInput, disorder, merged_entries, sorted_prefixes}
+use proofs.Common.{is_up_to, Cmp, Key, reads_nothing}
+use proofs.MergeLemmas.Step.{slots_on, SidesInvariant, IsAbove, IsLineByLine, current_key_is_above, next_at}
+use proofs.MergeLemmas.Step.{own_slots, passed_at, sides_invariant_continues, slots_apart, StoreInvariant}
+use proofs.MergeLemmas.Step.{EndsIfFails, advance_fails}
 use proofs.MergeLemmas.Invariant.{Bound, AtLeast, MayFollow, IsUnder, MergeInvariant, InputSplit, MayCome, all_keys}
 use proofs.MergeLemmas.Invariant.{splits_step, all_wanted, written_is_wanted, LagInvariant}
-use proofs.JoinLemmas.GroupSlots.{AllSlots, Extends, GroupBounds, InGroup, largest_group, GroupStore, group_store_line}
-use proofs.JoinLemmas.GroupSlots.{group_store_next, low_slot, put_more}
-use proofs.MergeLemmas.Orders.{EachKey, EachKey-append, EachKey-weaker, at_most-same, front_first, front_is, others_of}
-use proofs.MergeLemmas.Orders.{lines_with_key-above, IsKeyOrder, AtMost, least_or_above, self_at_most, at_most_trans}
-use proofs.MergeLemmas.Orders.{same_bytes}
+use proofs.JoinLemmas.GroupSlots.{AllSlots, Extends, GroupBounds, InGroup, largest_group, GroupStore}
+use proofs.JoinLemmas.GroupSlots.{group_store_line, group_store_next, low_slot, put_more}
+use proofs.MergeLemmas.Orders.{EachKey, EachKey-append, EachKey-weaker, at_most-same, front_first, front_is}
+use proofs.MergeLemmas.Orders.{others_of, lines_with_key-above, IsKeyOrder, AtMost, least_or_above, self_at_most}
+use proofs.MergeLemmas.Orders.{at_most_trans, same_bytes}
 use proofs.MergeLemmas.Slots.{put_both, put_each, put_other, put_same, side_case, has_lines_total, line_other}
 use proofs.MergeLemmas.Exits.{SideAfterNext, IsAtCurrentLine, MatchesStatus, next_same_key, side_invariant_kept, Fits}
 use proofs.MergeLemmas.Exits.{read_facts_after_line, read_facts_at_line, input_split_of, both_begun, IsOpenMerge}

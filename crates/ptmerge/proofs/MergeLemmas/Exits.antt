@@ -2,17 +2,17 @@
 -- others are known for each input, and the contract of the tool follows from these and from the output.
 use Rattle.ptmerge.proofs
 use proofs.Common.{◌≡◌, ◌≢◌, inl, inr, ℕ, ◌+◌, ◌<◌, ◌≤◌, ◌&&◌, Bool, true, false, cond, List, [], ◌∷◌, ◌++◌, Option}
-use proofs.Common.{Some, None, length, refl, sym, ◌∙◌, ap, subst, arith, nat_lt, bytes_eq, Ordering, is_eq, is_gt}
-use proofs.Common.{nat_tests, append-nil, length_push, FillLine, Reader, IsDone, IsSound, budget, Slots, line}
-use proofs.Common.{with_line, max_length, line_of_with_line, Sorted, CursorStatus, Head, Ended, Disorder, Lines, Cmp}
-use proofs.Common.{Key, is_head, status_at, same_key_at, NextOkPost, Result, Err, max, Received, known_lines, Output}
+use proofs.Common.{Some, None, length, refl, sym, ◌∙◌, ap, subst, arith, bytes_eq, Ordering, is_eq, is_gt, nat_tests}
+use proofs.Common.{append-nil, length_push, FillLine, Reader, IsDone, IsSound, budget, Slots, line, with_line}
+use proofs.Common.{max_length, line_of_with_line, Sorted, CursorStatus, Head, Ended, Disorder, Lines, Cmp, Key}
+use proofs.Common.{is_head, status_at, same_key_at, NextOkPost, Result, Err, max, Received, known_lines, Output}
 use proofs.Common.{ReaderAdvance, unlines, ◌⊎◌, ⊎_elim, length-append, Memory, lines, IsLine, advance_trans}
-use proofs.Common.{append_assoc, push_trans, bounded_lag_after, unlines-append, MergeFault, Write, Side, First, Second}
-use proofs.Common.{MergeTool, entries_by_key, decided_output, disorder, first_disorder, lines_of, merge_output}
-use proofs.Common.{merged_entries, sorted_prefix, is_up_to, MergeState, MergePost, HasNoLine, other, reads_nothing}
-use proofs.Common.{EnsureFourSlotsErrPost, ◌*◌, option_map, CallEnd, ReadFault, CallOutcome, AreAllConsistent}
-use proofs.Common.{with_input, given_before, given_by, CallProgress, DecidedIfReadFailed, call_on_failed_output}
-use proofs.Common.{IsPrefix, total_bytes, both_sides, merge_engine, merge_end, disordered_line}
+use proofs.Common.{append_assoc, push_trans, bounded_lag_after, unlines-append, MergeFault, Write, Side, First}
+use proofs.Common.{Second, MergeTool, entries_by_key, decided_output, disorder, first_disorder, lines_of}
+use proofs.Common.{merge_output, merged_entries, sorted_prefix, is_up_to, MergeState, MergePost, HasNoLine, other}
+use proofs.Common.{reads_nothing, EnsureFourSlotsErrPost, ◌*◌, option_map, CallEnd, ReadFault, CallOutcome}
+use proofs.Common.{AreAllConsistent, with_input, given_before, given_by, CallProgress, DecidedIfReadFailed}
+use proofs.Common.{call_on_failed_output, IsPrefix, total_bytes, both_sides, merge_engine, merge_end, disordered_line}
 use proofs.MergeLemmas.Lag.{decided_at, ProcessedNearly, LinesToCome, LagPoint, back, unsettled, lag_bound}
 use proofs.MergeLemmas.Lag.{unread_decides_nothing, unread_decides_no_disorder}
 use proofs.MergeLemmas.Invariant.{output_of, Bound, NoBound, AtLeast, AfterDisorder, NothingMore, MayFollow, IsUnder}
@@ -27,6 +27,8 @@ use proofs.MergeLemmas.Orders.{EachKey, EachKey-weaker, IsKeyOrder, AtMost, at_m
 use proofs.MergeLemmas.Slots.{with_own, line_other}
 use Rattle.ptlines.proofs.Calls.{call_ends, call_set, call_without_slots}
 use Rattle.ptlines.proofs.MaxLength.{max_length-append}
+use Rattle.std.proofs.Common.{rules}
+use Rattle.std.proofs.lemmas.Grind.{common_steps}
 
 -- The lines `ls` are read and `p` of them are processed: the last one is the current line, or there is none, or it is
 -- out of order.
@@ -85,14 +87,7 @@ module _ {end : ℕ} {cmp : Cmp} {key : Key} {old now : Reader} {cursor : Sorted
       by (Disorder n) st = rw same2 st
 
   pub at_current_line : cursor.status ≡ Head → IsAtCurrentLine cmp key cursor store ls p b
-  at_current_line head =
-      let (all, sorted_up_to, bound) = rw head at s.status_is in
-      record {
-        all = all;
-        sorted_up_to = sorted_up_to;
-        bound = bound;
-        some = omega (arith, s.number, ap length all, length_push p (line store cursor.current_slot));
-      }
+  at_current_line head = grind (arith, common_steps)
 
   pub read_facts_at_line : ReadFacts end cmp key old now now [] ls p b
   read_facts_at_line = let nothing_follows = by cursor.status s.status_is in assumption (reads_nothing now)
@@ -152,10 +147,7 @@ from_next : {cmp : Cmp} (o : IsKeyOrder cmp) (key : Key) (last : Option (List �
     → ((r : Lines) → EachKey (AtMost cmp (key x)) key r → MayFollow cmp key (bound_after last) r)
     × ((k : List ℕ) → IsUnder cmp (bound_after last) k → AtMost cmp k (key x))
 from_next o key None x h = (λ r c. tt, λ k u. absurd u)
-from_next {cmp} o key (Some j) x h = (
-  λ r c. EachKey-weaker _ _ (λ y a. at_most_trans cmp o j (key x) y h a) _ _ c,
-  λ k u. at_most_trans cmp o k j (key x) u h,
-)
+from_next {cmp} o key (Some j) x h = search (rules, EachKey-weaker, at_most_trans)
 
 module _ (end : ℕ) (cmp : Cmp) (o : IsKeyOrder cmp) (key : Key) (old now new : Reader) (cursor next : Sorted)
     (before after : Slots) (ls : Lines) where
@@ -180,20 +172,9 @@ module _ (end : ℕ) (cmp : Cmp) (o : IsKeyOrder cmp) (key : Key) (old now new :
       → ((r : Lines) → MayFollow cmp key b r → MayFollow cmp key (bound_after last) r)
       → ((k : List ℕ) → IsUnder cmp (bound_after last) k → IsUnder cmp b k)
       → after ≡ with_line before cursor.previous_slot bytes → length bytes ≤ max_length (ls ++ more) → Goal last q
-  at_next last more bytes q b lines_read begun sound processed_nearly number processed_prefix status_is may_follow under
-      stored fits = record {
-        now_ls = ls ++ more;
-        bound = b;
-        side_invariant = assumption;
-        may_follow = may_follow;
-        under = under;
-        bytes = bytes;
-        stored = stored;
-        longer = omega (arith, max_length-append ls more);
-        more = more;
-        continues_key = refl;
-        fits = fits;
-      }
+  at_next last more bytes q b lines_read begun sound processed_nearly number processed_prefix status_is may_follow
+      under
+      stored fits = grind (arith, max_length-append)
 
   -- a line was read
   module _ (e : FillLine now new before after cursor.previous_slot) (sound : IsSound new)
@@ -253,10 +234,8 @@ module _ (end : ℕ) (cmp : Cmp) (o : IsKeyOrder cmp) (key : Key) (old now new :
 pub next_decreases : {key : Key} {cmp : Cmp} {cursor next : Sorted} {now new : Reader} {before after : Slots}
     → cursor.status ≡ Head → NextOkPost key cmp cursor next now new before after
     → budget new + reads_left next.status < budget now + reads_left cursor.status
-next_decreases {next = next} head (inl e) = omega
-    (arith, e.next_line.less, reads_left_most next.status, ap reads_left head)
-next_decreases head (inr e) =
-    omega (arith, e.advance_ok.reads.count, ap (λ (q : Sorted). reads_left q.status) e.cursor, ap reads_left head)
+next_decreases {next = next} head (inl e) = grind (arith, reads_left_most)
+next_decreases head (inr e) = grind arith
 
 -- ---- whether the current line has the key of the previous one
 
@@ -270,16 +249,8 @@ pub next_same_key : (cmp : Cmp) (o : IsKeyOrder cmp) (key : Key) (cursor next : 
     → NextOkPost key cmp cursor next now new before after
     → next.same ≡ (is_head next.status && bytes_eq (key (line before cursor.current_slot))
     (key (line after next.current_slot)))
-next_same_key cmp o key cursor next now new before after some within (inl e) =
-    let last = key (line before _) in
-    let r = cmp last (key _) in
-    let m = cursor.number + 1 in
-    let counted : nat_lt 0 cursor.number ≡ true = grind (arith, nat_tests) in
-    let now_is : line after cursor.previous_slot ≡ e.next_line.line = rw e.next_line.stored
-    (line_of_with_line before cursor.previous_slot e.next_line.line within) in
-    let here = status_same_key m r ∙ ap (λ (t : Bool). is_head (cond (is_gt r) (Disorder m) Head) && t)
-    (equal_is cmp o last (key _)) in
-    rw (e.cursor, counted, now_is) here
+next_same_key cmp o key cursor next now new before after some within (inl e) = grind (arith, line_of_with_line,
+    status_same_key, equal_is)
 next_same_key cmp o key cursor next now new before after some within (inr e) = rw e.cursor refl
 
 -- ---- an exit
@@ -461,9 +432,7 @@ module _ {tool : MergeTool} {old : MergeState} (w : IsOpenMerge tool old) (new :
 
     future : (side : Side) → LinesToCome tool side (known_lines tool.terminator (given side)) (p side) (tail side)
         (bound side)
-    future side =
-        let s = whole_input_split in
-        record { rest = s.r side; is = s.parts side; may_follow = lag.may_follow side (s.r side) (s.may_follow side) }
+    future side = grind (arith, whole_input_split)
 
     -- everything is decided once the last line of an input is processed
     decided : (side : Side) → IsFailedRead (new.reader side) (ls side) (p side)
@@ -585,11 +554,7 @@ merge_set {tool} {old} {new} {set} clean is m = record {
 -- the output had failed, and nothing was done
 pub merge_halted : (tool : MergeTool) (old : MergeState) → old.store.denied ≡ false → old.out.write_failed ≡ true
     → MergePost tool old old (Err Write)
-merge_halted tool old allowed fault = record {
-  call = call_on_failed_output both_sides _ fault allowed;
-  stops_at_disorder = λ side clean. cc;
-  first_reads = λ clean. cc;
-}
+merge_halted tool old allowed fault = grind (arith, call_on_failed_output)
 
 -- one of the first slots could not be added
 pub merge_without_slots : {tool : MergeTool} {old : MergeState} → IsOpenMerge tool old → {new : MergeState}

@@ -3,18 +3,19 @@
 -- with the lines read so far.
 use Rattle.ptmerge.proofs
 use proofs.Common.{nat_tests, ◌≡◌, ℕ, ◌+◌, List, [], ◌∷◌, ◌++◌, Bool, true, false, cond, Option, Some, None, length}
-use proofs.Common.{refl, ◌∙◌, map, append_assoc, arith, nat_lt, unwrap_or, if◌then◌else◌, last_or, is_gt, length_push}
-use proofs.Common.{Lines, sorted_prefix, first_disorder, FirstDisorder, Cmp, Key, ◌&&◌, not, ap, sym, append-nil}
+use proofs.Common.{refl, ◌∙◌, map, append_assoc, arith, nat_lt, unwrap_or, if◌then◌else◌, last_or, is_gt, Lines}
+use proofs.Common.{sorted_prefix, first_disorder, FirstDisorder, Cmp, Key, ◌&&◌, not, ap, sym, append-nil}
 use proofs.Common.{flat_map-append, filter, flat_map, Less, Greater, Side, First, Second, MergeTool, insert_key}
-use proofs.Common.{distinct_keys, keys, entries_of_key, entries_by_key, earlier_disorder, is_up_to, ◌⊎◌, inl, inr}
-use proofs.Common.{subst, is_lt, Output, PushEffect, unlines, push_trans, push_nothing, unlines-append, disorder}
-use proofs.Common.{is_below, is_decided, is_past, merged_entries, lines_with_key, option_map, with_side}
-use proofs.Common.{disordered_line}
+use proofs.Common.{distinct_keys, keys, entries_of_key, entries_by_key, earlier_disorder, is_up_to, subst, is_lt}
+use proofs.Common.{Output, PushEffect, unlines, push_trans, push_nothing, unlines-append, disorder, is_below}
+use proofs.Common.{is_decided, is_past, merged_entries, lines_with_key, option_map, with_side, disordered_line}
 use proofs.MergeLemmas.Orders.{IsKeyOrder, AtMost, at_most_trans, self_at_most, EachKey, EachKey-weaker, Above}
 use proofs.MergeLemmas.Orders.{at_most_is_le, above_trans, less_flips, Each, Each-weaker, Each-insert, Each-distinct}
 use proofs.MergeLemmas.Orders.{Each-append, Each-all, EachKey-append, front_first, greater_flips}
 use proofs.MergeLemmas.Slots.{put_each}
 use Rattle.ptmerge.specs.MergeSpec.{MergeDisorder}
+use Rattle.std.proofs.Common.{rules}
+use Rattle.std.proofs.lemmas.Grind.{common_steps}
 
 abbrev pub is_disordered : Cmp → Option (List ℕ) → List ℕ → Bool
 is_disordered cmp None k = false
@@ -59,15 +60,12 @@ pub record IsSortedUpTo (cmp : Cmp) (key : Key) (q : Lines) (last : Option (List
   pub may_disorder : (w : Lines) → first_disorder cmp key (q ++ w) ≡ disorder_after cmp key last (length q) w
 
 pub sorted_up_to_none : {cmp : Cmp} {key : Key} → IsSortedUpTo cmp key [] None
-sorted_up_to_none {cmp} {key} = record { ordered = sorted_prefix_is cmp key; may_disorder = first_disorder_is cmp key }
+sorted_up_to_none {cmp} {key} = grind (arith, sorted_prefix_is, first_disorder_is)
 
 pub sorted_up_to_more : {cmp : Cmp} {key : Key} {q : Lines} {last : Option (List ℕ)} (x : List ℕ)
     → IsSortedUpTo cmp key q last → is_disordered cmp last (key x) ≡ false
     → IsSortedUpTo cmp key (q ++ x ∷ []) (Some (key x))
-sorted_up_to_more {q = q} x b no_disorder = record {
-  ordered = λ w. rw (append_assoc, b.ordered (x ∷ w), no_disorder, append_assoc);
-  may_disorder = λ w. rw (append_assoc, b.may_disorder (x ∷ w), no_disorder, length_push q x);
-}
+sorted_up_to_more {q = q} x b no_disorder = grind (arith, common_steps)
 
 -- the disorder, if there is one, comes after a key that is at least k
 abbrev pub IsDisorderFrom : Cmp → List ℕ → Option FirstDisorder → Type 0
@@ -136,50 +134,22 @@ pub record IsProcessedPrefix (cmp : Cmp) (key : Key) (ls p : Lines) (b : Bound) 
 -- all lines read are processed
 pub processed_to_line : {cmp : Cmp} (o : IsKeyOrder cmp) {key : Key} {ls : Lines} {k : List ℕ}
     → IsSortedUpTo cmp key ls (Some k) → IsProcessedPrefix cmp key ls ls (AtLeast k)
-processed_to_line {cmp} o {key} {ls} {k} g = record {
-  future = λ w _.
-      let (more, later) = after_from cmp o key k (length ls) w in
-      record {
-        rest = sorted_after cmp key (Some k) w;
-        is = g.ordered w;
-        may_follow = more;
-        may_disorder = rw (g.may_disorder w) later;
-      };
-}
+processed_to_line {cmp} o {key} {ls} {k} g = grind (arith, after_from)
 
 pub processed_all : {cmp : Cmp} {key : Key} {ls : Lines} {last : Option (List ℕ)} → IsSortedUpTo cmp key ls last
     → IsProcessedPrefix cmp key ls ls NothingMore
-processed_all g = record {
-  future = λ w none. rw none
-      (record { rest = []; is = g.ordered []; may_follow = refl; may_disorder = g.may_disorder [] });
-}
+processed_all g = grind arith
 
 -- the current line is not yet processed
 pub processed_before_line : {cmp : Cmp} (o : IsKeyOrder cmp) {key : Key} {p : Lines} {x : List ℕ}
     → IsSortedUpTo cmp key (p ++ x ∷ []) (Some (key x)) → IsProcessedPrefix cmp key (p ++ x ∷ []) p (AtLeast (key x))
-processed_before_line {cmp} o {key} {p} {x} g = record {
-  future = λ w _.
-      let (more, later) = after_from cmp o key (key x) _ w in
-      record {
-        rest = x ∷ sorted_after cmp key (Some (key x)) w;
-        is = cc (g.ordered w, append_assoc p (x ∷ []) (sorted_after cmp key (Some (key x)) w));
-        may_follow = (self_at_most cmp o (key x), more);
-        may_disorder = rw (g.may_disorder w) later;
-      };
-}
+processed_before_line {cmp} o {key} {p} {x} g = grind (arith, common_steps, after_from, self_at_most)
 
 -- the current line is out of order
 pub processed_to_disorder : {cmp : Cmp} {key : Key} {p : Lines} {k : List ℕ} (x : List ℕ)
     → IsSortedUpTo cmp key p (Some k) → is_gt (cmp k (key x)) ≡ true
     → IsProcessedPrefix cmp key (p ++ x ∷ []) p (AfterDisorder (record { last_key = k; line = length p + 1 }))
-processed_to_disorder {p = p} x g fell = record {
-  future = λ w _. record {
-    rest = [];
-    is = rw (append_assoc p (x ∷ []) w, g.ordered (x ∷ w), fell);
-    may_follow = refl;
-    may_disorder = rw (append_assoc p (x ∷ []) w, g.may_disorder (x ∷ w), fell);
-  };
-}
+processed_to_disorder {p = p} x g fell = grind (arith, common_steps)
 
 -- ---- the output
 
@@ -240,7 +210,7 @@ module _ (cmp : Cmp) (o : IsKeyOrder cmp) where
 
   pub written_is_wanted : (b1 b2 : Bound) (f1 f2 : Option FirstDisorder) (k : List ℕ) → MayDisorder cmp b1 f1
       → MayDisorder cmp b2 f2 → IsUnder cmp b1 k → IsUnder cmp b2 k → is_up_to cmp (earlier_disorder cmp f1 f2) k ≡ true
-  written_is_wanted b1 b2 f1 f2 k h1 h2 u1 u2 = up_to_from k f1 f2 (under_fall b1 k f1 u1 h1) (under_fall b2 k f2 u2 h2)
+  written_is_wanted b1 b2 f1 f2 k h1 h2 u1 u2 = grind (arith, up_to_from, under_fall)
 
 -- the output for these lines, of all keys
 abbrev pub output_of : MergeTool → (Side → Lines) → List ℕ
@@ -251,15 +221,11 @@ module _ (tool : MergeTool) where
 
   pub all_wanted : (w : List ℕ → Bool) (p : Side → Lines) → ((side : Side)
       → EachKey (λ k. w k ≡ true) (key side) (p side)) → entries_by_key tool w p ≡ entries_by_key tool all_keys p
-  all_wanted w p e =
-      let ks = distinct_keys cmp (keys tool p) in
-      let pass = filter_all w ks (Each-distinct _ _ _ (Each-append _ _ _ (e First) (e Second))) in
-      ap (flat_map (entries_of_key tool p)) (pass ∙ sym (filter_all all_keys ks (Each-all _ (λ k. refl) ks)))
+  all_wanted w p e = grind (arith, filter_all, Each-distinct, Each-append, Each-all)
 
   pub none_wanted : (w : List ℕ → Bool) (r : Side → Lines) → ((side : Side)
       → EachKey (λ k. w k ≡ false) (key side) (r side)) → entries_by_key tool w r ≡ []
-  none_wanted w r e = ap (flat_map (entries_of_key tool r)) (filter_none w (distinct_keys cmp (keys tool r))
-      (Each-distinct _ _ _ (Each-append _ _ _ (e First) (e Second))))
+  none_wanted w r e = grind (arith, filter_none, Each-distinct, Each-append)
 
   -- the entries of the keys that pass the test come first
   pub downward_splits : IsKeyOrder cmp → (w p : List ℕ → Bool) → IsDownwardClosed cmp p → (ls : Side → Lines)
@@ -313,8 +279,7 @@ pub record MergeInvariant (tool : MergeTool) (b : Side → Bound) (p : Side → 
 -- before anything is read
 pub merge_invariant_starts : (tool : MergeTool) (was : Output)
     → MergeInvariant tool (λ side. NoBound) (λ side. []) was was
-merge_invariant_starts tool was =
-    record { splits = record { split = λ w r c. refl }; under = λ of side. tt; wrote = push_nothing was }
+merge_invariant_starts tool was = search (rules, push_nothing)
 
 -- The entries `done` are written, and by the last time at which no write had failed, those of all processed lines `p`
 -- except perhaps the last ones, which precede all that may follow.
@@ -368,13 +333,7 @@ pub record IsLeastKeyRun (cmp : Cmp) (key : Key) (b : Bound) (k : List ℕ) (f :
 -- the current line, or no line
 pub line_is_least_run : {cmp : Cmp} (o : IsKeyOrder cmp) {key : Key} {b : Bound} {k x : List ℕ} → b ≡ AtLeast (key x)
     → key x ≡ k → IsLeastKeyRun cmp key b k (x ∷ [])
-line_is_least_run {cmp} o {key} {x = x} is same = rw (is, ← same)
-    (record {
-      own = (refl, tt);
-      may_follow = λ r c. (self_at_most cmp o (key x), c);
-      bound_after = λ r c. c;
-      under = self_at_most cmp o (key x);
-    })
+line_is_least_run {cmp} o {key} {x = x} is same = grind (arith, self_at_most)
 
 -- such lines are processed
 pub write_least_run : {tool : MergeTool} (o : IsKeyOrder tool.cmp) (k : List ℕ) (q f : Side → Lines)
@@ -449,13 +408,7 @@ IsExactStop tool b found = (ls r : Side → Lines) → ((s : Side) → MayFollow
 -- both inputs are at their ends
 pub exact_at_end : (tool : MergeTool) {b : Side → Bound} → ((side : Side) → b side ≡ NothingMore)
     → IsExactStop tool b None
-exact_at_end tool ended ls r follow disorder_at =
-    let none : (side : Side) → r side ≡ [] = λ side. rw (ended side) at (follow side) in
-    let in_order : (side : Side) → first_disorder tool.cmp (tool.key side) (ls side) ≡ None =
-    λ side. rw (ended side) at (disorder_at side) in (
-      λ i. entries_by_key tool (is_up_to tool.cmp (disorder tool ls)) (λ side. none side i),
-      rw (in_order First, in_order Second) refl,
-    )
+exact_at_end tool ended ls r follow disorder_at = grind arith
 
 -- ---- the decided output
 
@@ -502,8 +455,7 @@ module _ (cmp : Cmp) (o : IsKeyOrder cmp) where
 
   downward_up_to : (d : Option MergeDisorder) → IsDownwardClosed cmp (is_up_to cmp d)
   downward_up_to None a b g h = refl
-  downward_up_to (Some d) a b g h =
-      grind (arith, at_most_trans cmp o a b d.first_disorder.last_key, greater_flips cmp o b a g)
+  downward_up_to (Some d) a b g h = search (rules, at_most_trans, greater_flips)
 
   downward_past : (key : Key) (eof : Bool) (ls : Lines) → IsDownwardClosed cmp (is_past cmp key eof ls)
   downward_past key eof ls a b g h = grind (arith, downward_lt)
@@ -516,10 +468,7 @@ module _ (tool : MergeTool) (o : IsKeyOrder tool.cmp) (eof : Side → Bool) (ls 
   open tool use {cmp}
 
   pub downward_decided : IsDownwardClosed cmp (is_decided tool eof ls)
-  downward_decided a b g h =
-      all_three _ _ _ _ _ _ (downward_up_to cmp o _ a b g)
-      (downward_past cmp o (tool.key First) (eof First) (ls First) a b g)
-      (downward_past cmp o (tool.key Second) (eof Second) (ls Second) a b g) h
+  downward_decided a b g h = search (rules, all_three, downward_up_to, downward_past)
 
   -- no key is decided unless it is past in this input
   pub not_decided : (side : Side) (k : List ℕ) → is_past cmp (tool.key side) (eof side) (ls side) k ≡ false

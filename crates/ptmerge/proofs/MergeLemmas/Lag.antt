@@ -80,8 +80,7 @@ Shape end given ls = AreLines end ls × ((given ≡ unlines end ls) ⊎ (given +
 
 shape_of : (end : ℕ) (given : List ℕ) (ls : Lines) (now : Reader) → IsReadAs end given ls now → Shape end given ls
 shape_of end given ls now (inl (is, all)) = (all, inl is)
-shape_of end given ls now (inr (is, _)) = let (all, ends) =
-    rw is at (the_lines end given).0 in (all, ⊎_elim (λ e. inl (sym e)) (λ (_, _, is). inr (sym is)) ends)
+shape_of end given ls now (inr (is, _)) = grind (arith, the_lines)
 
 last_of : {A : Type 0} (xs : List A) → (xs ≡ []) ⊎ ((front : List A) × (x : A) × (xs ≡ front ++ x ∷ []))
 last_of [] = inl refl
@@ -249,8 +248,7 @@ module _ (tool : MergeTool) (o : IsKeyOrder tool.cmp) (given : Side → Received
   unread_lines side = known_lines tool.terminator (unread side)
 
   none_decided : (k : List ℕ) → is_decided tool (λ side. (unread side).eof) unread_lines k ≡ false
-  none_decided k =
-      not_decided tool o (λ side. (unread side).eof) unread_lines of k (rw (put_same of nothing given) refl)
+  none_decided k = grind (arith, not_decided, put_same)
 
   -- then nothing is decided, and no disorder
   pub unread_decides_nothing : decided_output tool (with_input both_sides of nothing given) ≡ []
@@ -305,8 +303,7 @@ module _ (tool : MergeTool) (o : IsKeyOrder tool.cmp) (given : Side → Received
         rw point.split at own
 
     ordered : (sorted_prefix cmp (tool.key of) whole ≡ whole) × (first_disorder cmp (tool.key of) whole ≡ None)
-    ordered = let (own, _) = sorted_from_parts cmp (tool.key of) None whole point.rest in_order in
-        sorted_from_start cmp (tool.key of) whole own
+    ordered = grind (arith, sorted_from_parts, in_order, sorted_from_start)
 
     no_disorder : first_disorder cmp (tool.key of) whole ≡ None
     no_disorder = let (_, none) = ordered in none

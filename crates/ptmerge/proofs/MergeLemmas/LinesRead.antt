@@ -2,12 +2,14 @@
 -- terminator. So every input that begins with these bytes begins with these lines.
 use Rattle.ptmerge.proofs
 use proofs.Common.{◌≡◌, ◌⊎◌, ⊎_elim, inl, inr, ℕ, ◌+◌, ◌<◌, ◌≤◌, Bool, true, false, List, [], ◌∷◌, ◌++◌, None, length}
-use proofs.Common.{max, refl, sym, ◌∙◌, ap, arith, append_assoc, length-append, append-nil, nil_from_length, FillLine}
-use proofs.Common.{Received, IsConsistent, known_lines, Reader, ReaderAdvance, reads_nothing, AdvanceOk, IsDone, Slots}
-use proofs.Common.{unlines, lines, complete_lines, IsLine, AreLines, max_length, received_with, advance_ok_trans}
-use proofs.Common.{lines_of_unlines, lines_of_last, unlines_push, IsSound, HasNoLine, IsFirstLineAndBlock}
-use proofs.Common.{AreLines_push, complete_lines_none, complete_lines_cons}
+use proofs.Common.{max, refl, sym, ◌∙◌, ap, arith, append_assoc, length-append, append-nil, FillLine, Received}
+use proofs.Common.{IsConsistent, known_lines, Reader, ReaderAdvance, AdvanceOk, IsDone, Slots, unlines, lines}
+use proofs.Common.{complete_lines, IsLine, AreLines, max_length, received_with, advance_ok_trans, lines_of_unlines}
+use proofs.Common.{lines_of_last, unlines_push, IsSound, HasNoLine, IsFirstLineAndBlock, AreLines_push}
+use proofs.Common.{complete_lines_none, complete_lines_cons}
 use Rattle.ptlines.proofs.MaxLength.{max_length-append, piece_le_max_length}
+use Rattle.std.proofs.Common.{rules}
+use Rattle.std.proofs.lemmas.Grind.{common_steps}
 
 -- complete lines, and then the complete lines of the rest
 ended_more : (end : ℕ) (ls : List (List ℕ)) (bytes : List ℕ) → AreLines end ls
@@ -33,12 +35,7 @@ pub record LinesRead (end : ℕ) (old now : Reader) (ls : List (List ℕ)) : Typ
   pub terminator : now.terminator ≡ end
 
 pub lines_read_none : {end : ℕ} {old : Reader} → old.fault ≡ None → old.terminator ≡ end → LinesRead end old old []
-lines_read_none {old = old} clean terminator = record {
-  given = [];
-  so_far = inl (refl, tt);
-  advance_ok = record { reads = reads_nothing old; fault = clean; failed = refl; short = λ h. h };
-  terminator = terminator;
-}
+lines_read_none {old = old} clean terminator = grind arith
 
 -- nothing was read, and the end of the source was reached
 pub record GivesNothing (new : Reader) (bytes : List ℕ) : Type 0 where
@@ -49,14 +46,7 @@ pub record GivesNothing (new : Reader) (bytes : List ℕ) : Type 0 where
 -- at the end of a source nothing more is read
 pub done_gives_nothing : {now new : Reader} {bytes : List ℕ} → IsDone now → ReaderAdvance now new bytes
     → GivesNothing new bytes
-done_gives_nothing {now} {new} {bytes} done reads =
-    let (pulled, eof) = reads.still done.eof in
-    let none : length bytes + length new.buffered ≡ 0 = omega (arith, reads.count, pulled, ap length done.buffered) in
-    record {
-      bytes_are = nil_from_length bytes (omega (arith, none));
-      buffered = nil_from_length new.buffered (omega (arith, none));
-      eof = eof;
-    }
+done_gives_nothing {now} {new} {bytes} done reads = grind (arith, common_steps)
 
 -- a line was read, or the end of the source
 abbrev pub HasBegun : Reader → List (List ℕ) → Type 0
@@ -96,13 +86,7 @@ lines_read_more {end} {old} {now} {new} {ls} c e = record {
 
 pub lines_read_eof : {end : ℕ} {old now new : Reader} {ls : List (List ℕ)} → LinesRead end old now ls
     → AdvanceOk now new [] → IsDone new → LinesRead end old new ls
-lines_read_eof {end} {old} {now} {new} c g done = record {
-  given = c.given ++ [];
-  so_far = ⊎_elim (λ (is, all). inl (rw (append-nil c.given) is, all))
-      (λ (is, _). inr (rw (append-nil c.given) is, done)) c.so_far;
-  advance_ok = advance_ok_trans old now new c.given [] c.advance_ok g;
-  terminator = g.reads.terminator ∙ c.terminator;
-}
+lines_read_eof {end} {old} {now} {new} c g done = grind (arith, advance_ok_trans)
 
 -- the list `all` continues the lines `ls`
 pub record Continues (now : Reader) (ls all : List (List ℕ)) : Type 0 where
@@ -131,30 +115,8 @@ module _ {end : ℕ} {old now new : Reader} {ls : List (List ℕ)} {piece : List
   -- the lines of an input that is consistent with the bytes received
   pub lines_read_of_input : (input : List ℕ) → IsConsistent came input
       → HoldsLines now ls piece (lines end input)
-  lines_read_of_input input a = ⊎_elim (λ (is, lines_are).
-      let more = lines end (piece ++ (new.buffered ++ a.rest)) in
-      let all : lines end input ≡ ls ++ more = ap (lines end) (a.is ∙ front_of is a.rest)
-      ∙ lines_of_unlines end ls (piece ++ (new.buffered ++ a.rest)) lines_are in
-      record {
-        continues = record {
-          more = more;
-          is = all;
-          done = λ d. (let none = done_gives_nothing d reads in rw (none.bytes_are, none.buffered, a.whole none.eof));
-        };
-        longest = omega (
-          arith,
-          ap max_length all,
-          max_length-append ls more,
-          piece_le_max_length end piece (new.buffered ++ a.rest) free,
-        );
-      }) (λ (is, done).
-      let none = done_gives_nothing done reads in
-      let same : lines end input ≡ ls = rw (a.is, none.bytes_are, none.buffered, a.whole none.eof) (simp append-nil is)
-      in
-      record {
-        continues = record { more = []; is = same ∙ sym (append-nil ls); done = λ _. refl };
-        longest = omega (arith, ap max_length same, ap length none.bytes_are);
-      }) c.so_far
+  lines_read_of_input input a = search (rules, front_of, lines_of_unlines, done_gives_nothing, max_length-append,
+      piece_le_max_length, free)
 
   -- the lines that are known to be complete: `ls` and, if a read failed, no more
   pub record KnownLines (ws : List (List ℕ)) : Type 0 where
@@ -204,13 +166,4 @@ module _ {end : ℕ} {old now new : Reader} {ls : List (List ℕ)} {piece : List
   -- at most one line was read, or a part of it
   pub one_line_and_block : IsSound new → length ls + length (lines end piece) ≤ 1
       → IsFirstLineAndBlock end came
-  one_line_and_block sound few = record {
-    first = c.given ++ piece;
-    rest = new.buffered;
-    split = refl;
-    one_line = ⊎_elim (λ (is, all). rw (is, lines_of_unlines end ls piece all)
-        (omega (arith, few, length-append ls (lines end piece))))
-        (λ (is, done). rw ((done_gives_nothing done reads).bytes_are, append-nil c.given, is) (omega (arith, few)))
-        c.so_far;
-    block = sound.buffered;
-  }
+  one_line_and_block sound few = search (rules, lines_of_unlines, length-append, done_gives_nothing)

@@ -1,14 +1,15 @@
 -- Consequences of the laws of an order of keys. Distinct keys are sorted, so the entries of the least key come first,
 -- followed by the entries of the lines with other keys.
 use Rattle.ptmerge.proofs
-use proofs.Common.{◌≡◌, ◌⊎◌, ⊎_elim, inl, inr, ℕ, List, Bool, true, false, refl, sym, ◌∙◌, ap, arith, false≢true}
-use proofs.Common.{bytes_eq, Ordering, Less, Equal, Greater, is_eq, is_gt, is_le, ordering_reverse, bytes_decides}
-use proofs.Common.{back_total, nat_list_cmp_total, tied_itself, upto, Cmp, byte_cmp, line_cmp, ◌<◌, length, get_or, suc}
-use proofs.Common.{zero, [], ◌∷◌, ◌++◌, cond, map, append_assoc, append-nil, filter, flat_map, Side, First, Second}
-use proofs.Common.{Lines, MergeTool, insert_key, distinct_keys, keys, lines_with_key, entries_of_key, entries_by_key}
-use proofs.Common.{Key, map-append}
+use proofs.Common.{◌≡◌, ◌⊎◌, inl, inr, ℕ, List, Bool, true, false, refl, sym, ◌∙◌, ap, arith, false≢true, bytes_eq}
+use proofs.Common.{Ordering, Less, Equal, Greater, is_eq, is_gt, is_le, ordering_reverse, bytes_decides, back_total}
+use proofs.Common.{nat_list_cmp_total, tied_itself, upto, Cmp, byte_cmp, line_cmp, ◌<◌, length, get_or, suc, zero, []}
+use proofs.Common.{◌∷◌, ◌++◌, cond, map, append_assoc, append-nil, filter, flat_map, Side, First, Second, Lines}
+use proofs.Common.{MergeTool, insert_key, distinct_keys, keys, lines_with_key, entries_of_key, entries_by_key, Key}
+use proofs.Common.{map-append}
 use Rattle.std.specs.Cmp.{IsTotalOrder}
 use Rattle.ptmerge.specs.OrderLaws.{reversed_same_bytes, byte_cmp_equal}
+use Rattle.std.proofs.Common.{rules}
 
 pub record IsKeyOrder (cmp : Cmp) : Type 0 where
   pub total : IsTotalOrder cmp
@@ -61,16 +62,15 @@ module _ (cmp : Cmp) (o : IsKeyOrder cmp) where
   -- k equals y, or is less
   pub least_or_above : (k y : List ℕ) → AtMost cmp k y
       → ((bytes_eq y k ≡ true) × (y ≡ k)) ⊎ ((bytes_eq y k ≡ false) × (cmp y k ≡ Greater))
-  least_or_above k y h =
-      grind (arith, h, o.exact k y, less_flips k y, above_not_same k y, same_bytes {a = y} {b = k})
+  least_or_above k y h = search (rules, less_flips, above_not_same, same_bytes)
 
   -- a ≤ b < c
   pub above_trans : (a b c : List ℕ) → AtMost cmp a b → cmp c b ≡ Greater → cmp c a ≡ Greater
-  above_trans a b c p g = grind (arith, g, least_or_above a b p, greater_flips, less_flips a c, o.total.trans a b c)
+  above_trans a b c p g = search (rules, least_or_above, greater_flips, less_flips)
 
   -- a < b ≤ c
   pub above_up : (a b c : List ℕ) → cmp b a ≡ Greater → AtMost cmp b c → cmp c a ≡ Greater
-  above_up a b c g p = grind (arith, g, least_or_above b c p, greater_flips, less_flips a c, o.total.trans a b c)
+  above_up a b c g p = search (rules, least_or_above, greater_flips, less_flips)
 
   pub at_most_is_le : (a b : List ℕ) → AtMost cmp a b → is_le (cmp a b) ≡ true
   at_most_is_le a b h = grind arith

@@ -1,10 +1,12 @@
 -- Lines in the slots of a store. A slot changes only if its own input reads, so two lines of each input, none longer
 -- than its longest line, bound the bytes stored.
 use Rattle.ptmerge.proofs
-use proofs.Common.{◌≡◌, ◌≢◌, inl, inr, ℕ, zero, suc, ◌+◌, ◌*◌, ◌≤◌, false, List, [], ◌∷◌, ◌++◌, length, max, refl, sym}
-use proofs.Common.{◌∙◌, arith, get_or, set, length-set, get_or-set_other, sum_by-cons, Slots, line, total_bytes}
-use proofs.Common.{with_new_slot, with_line, Side, First, Second, Sorted, HasSlots, EnsureFourSlotsPost}
-use proofs.Common.{ClearFourSlotsPost, Bool, both, with_side, other, with_input, both_sides}
+use proofs.Common.{◌≡◌, ◌≢◌, ℕ, zero, suc, ◌+◌, ◌*◌, ◌≤◌, false, List, [], ◌∷◌, ◌++◌, length, max, refl, sym, arith}
+use proofs.Common.{get_or, set, get_or-set_other, Slots, line, total_bytes, with_new_slot, with_line, Side, First}
+use proofs.Common.{Second, Sorted, HasSlots, EnsureFourSlotsPost, ClearFourSlotsPost, Bool, both, with_side, other}
+use proofs.Common.{with_input, both_sides}
+use Rattle.std.proofs.Common.{rules}
+use Rattle.std.proofs.lemmas.Grind.{common_steps}
 
 -- two functions of the side, each changed at the same side
 pub put_both : {X Y : Type 0} (P : Side → X → Y → Type 0) (s : Side) (x : X) (f : Side → X) (y : Y) (g : Side → Y)
@@ -39,12 +41,11 @@ with_side_is Second x f First = refl
 with_side_is Second x f Second = refl
 
 pub with_own : {X : Type 0} (s : Side) (f : Side → X) (side : Side) → with_input both_sides s (f s) f side ≡ f side
-with_own s f side =
-    sym (with_side_is s (f s) f side) ∙ put_each (λ t x. x ≡ f t) s (f s) f refl (λ t. refl) side
+with_own s f side = grind (arith, with_side_is, put_each)
 
 -- a property of one side and of the other
 pub side_case : (Q : Side → Type 0) (s : Side) → Q s → Q (other s) → (side : Side) → Q side
-side_case Q s p q = put_both {X = Unit {0}} {Y = Unit {0}} (λ side x y. Q side) s tt (λ side. tt) tt (λ side. tt) p q
+side_case Q s p q = grind (arith, put_both)
 
 -- ---- the slots
 
@@ -68,13 +69,7 @@ HasLines m more few = ⊥
 
 four_total : (a b c d : List ℕ) (rest : List (List ℕ))
     → total_bytes (a ∷ b ∷ c ∷ d ∷ rest) ≡ ((length a + length b) + length c) + length d + total_bytes rest
-four_total a b c d rest = omega (
-  arith,
-  sum_by-cons length a (b ∷ c ∷ d ∷ rest),
-  sum_by-cons length b (c ∷ d ∷ rest),
-  sum_by-cons length c (d ∷ rest),
-  sum_by-cons length d rest,
-)
+four_total a b c d rest = grind (arith, common_steps)
 
 pub has_lines_none : (xs : List (List ℕ)) → 4 ≤ length xs → total_bytes xs ≡ 0 → HasLines (λ side. 0) 0 xs
 has_lines_none (a ∷ b ∷ c ∷ d ∷ rest) four none = omega (arith, four_total a b c d rest)
@@ -89,16 +84,14 @@ pub record LinesTotal (xs : List (List ℕ)) (m : Side → ℕ) (more : ℕ) : T
 
 pub has_lines_total : (xs : List (List ℕ)) (m : Side → ℕ) (more : ℕ) → HasLines m more xs
     → LinesTotal xs m more
-has_lines_total (a ∷ b ∷ c ∷ d ∷ rest) m more h =
-    let sum = four_total a b c d rest in
-    record { four = omega arith; most = omega (arith, sum, h); is = omega (arith, sum, h) }
+has_lines_total (a ∷ b ∷ c ∷ d ∷ rest) m more h = grind (arith, four_total)
 has_lines_total few m more h = absurd h
 
 -- the next line of an input replaces its previous line
 pub set_line : (s : Side) (cursor : Sorted) (xs : List (List ℕ)) (m k : Side → ℕ) (more : ℕ) (x : List ℕ)
     → HasSlots s cursor → HasLines m more xs → ((side : Side) → m side ≤ k side) → length x ≤ k s
     → HasLines k more (set xs cursor.previous_slot x)
-set_line s cursor (a ∷ b ∷ c ∷ d ∷ rest) m k more x slots h up l = grind (arith, slots, h, up First, up Second, l)
+set_line s cursor (a ∷ b ∷ c ∷ d ∷ rest) m k more x slots h up l = search rules
 set_line s cursor few m k more x slots h up l = absurd h
 
 -- The invariant of the store of a merge: two lines of each input, of at most `m` bytes each.
@@ -110,50 +103,20 @@ pub record StoreOfLines (before store : Slots) (m : Side → ℕ) : Type 0 where
 
 pub store_of_no_lines : {before store : Slots} → EnsureFourSlotsPost before store → before.denied ≡ false
     → total_bytes before.lines ≡ 0 → StoreOfLines before store (λ side. 0)
-store_of_no_lines {store = store} four allowed empty = record {
-  lines = has_lines_none store.lines (omega (arith, four.slots)) (four.total_bytes ∙ empty);
-  peak = omega (arith, four.peak);
-  slots = four.slots;
-  denied = four.denied ∙ allowed;
-}
+store_of_no_lines {store = store} four allowed empty = grind (arith, has_lines_none)
 
 pub store_with_line : {before store after : Slots} (s : Side) (cursor : Sorted) {m : Side → ℕ} (k : Side → ℕ)
     (x : List ℕ)
     → HasSlots s cursor → StoreOfLines before store m → ((side : Side) → m side ≤ k side) → length x ≤ k s
     → after ≡ with_line store cursor.previous_slot x → StoreOfLines before after k
-store_with_line {store = store} s cursor {m} k x slots kept up fits is =
-    let inside = set_line s cursor store.lines m k 0 x slots kept.lines up fits in
-    rw is (record {
-      lines = inside;
-      peak = omega (
-        arith,
-        kept.peak,
-        up First,
-        up Second,
-        (has_lines_total (set store.lines cursor.previous_slot x) k 0 inside).most,
-      );
-      slots = length-set store.lines _ x ∙ kept.slots;
-      denied = kept.denied;
-    })
+store_with_line {store = store} s cursor {m} k x slots kept up fits is = grind (arith, common_steps, set_line,
+    has_lines_total)
 
 -- the first four slots were emptied
 cleared : (lines : List (List ℕ)) (peak : ℕ) (denied : Bool) → 4 ≤ length lines
     → let s : Slots = record { lines = lines; peak = peak; denied = denied } in
     ClearFourSlotsPost s (with_line (with_line (with_line (with_line s 0 []) 1 []) 2 []) 3 [])
-cleared (a ∷ b ∷ c ∷ d ∷ rest) peak denied four = record {
-  slots = refl;
-  emptied = omega (arith, four_total a b c d rest, four_total [] [] [] [] rest);
-  peak =
-      omega (
-        arith,
-        four_total a b c d rest,
-        four_total [] b c d rest,
-        four_total [] [] c d rest,
-        four_total [] [] [] d rest,
-        four_total [] [] [] [] rest,
-      );
-  denied = refl;
-}
+cleared (a ∷ b ∷ c ∷ d ∷ rest) peak denied four = search (rules, four_total)
 cleared few peak denied four = absurd (omega arith)
 
 pub four_cleared : (s a b c d : Slots) → 4 ≤ length s.lines → a ≡ with_line s 0 [] → b ≡ with_line a 1 []

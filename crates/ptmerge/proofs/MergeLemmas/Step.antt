@@ -2,19 +2,18 @@
 -- next line has no lesser key, so the invariant holds again. A step ends the loop when both inputs are at their ends or
 -- a disorder is reported, and a fault of a write or read ends it with a prefix of the output.
 use Rattle.ptmerge.proofs
-use proofs.Common.{AdvancePre, IsReadyToContinue, ◌≡◌, ◌≢◌, ⊎_elim, inl, inr, ℕ, ◌+◌, ◌≤◌, true, false, List, [], ◌∷◌}
-use proofs.Common.{◌++◌, Option, Some, None, Err}
-use proofs.Common.{length, refl, sym, ◌∙◌, arith, is_lt, is_le, append-nil, Output, PushEffect, Reader, ReaderAdvance}
-use proofs.Common.{IsDone, IsSound, Slots, line, with_line, unlines, IsLine, push_nothing, MergeFault, Read, Memory}
-use proofs.Common.{Side, First, Second, Sorted, CursorStatus, Head, Ended, Disorder, Lines, MergeTool, FirstDisorder}
-use proofs.Common.{entries_by_key, earlier_disorder, first_disorder, lines_with_key, MergeState, MergePost, Cmp, Key}
-use proofs.Common.{NextErrPost, NextOkPost, HasSlots, base_slot, with_side, other, PrecedesInput, IsDisorderDecided}
-use proofs.Common.{IsReportable, previous_key, ap, ◌⊎◌, max, length-set, total_bytes, max_length, Write, MergeRunPre}
-use proofs.Common.{merge_state, WriteFaultPost, both, AreValidCursors, budget, IsReaderOf, push_trans, ◌&&◌, cond}
-use proofs.Common.{nat_lt, Ordering, is_eq, is_gt, nat_tests, length_push, CopyToGroupPost, same_key_at, status_at}
-use proofs.Common.{IsValidCursor, ◌<◌, Result, ClearFourSlotsPost, Ok, Bool, terminator, initial_cursor, MergeInputs}
-use proofs.Common.{StartErrPost, StartOkPost, StartFirstPost, CallOutcome, AllPushed, Received, both_sides}
-use proofs.Common.{reads_nothing, merge_engine, merge_end, IsErrAnd, err_from_is_err_and}
+use proofs.Common.{AdvancePre, IsReadyToContinue, ◌≡◌, ◌≢◌, inl, inr, ℕ, ◌+◌, ◌≤◌, true, false, List, [], ◌∷◌, ◌++◌}
+use proofs.Common.{Option, Some, None, Err, length, refl, sym, ◌∙◌, arith, is_lt, is_le, append-nil, Output}
+use proofs.Common.{PushEffect, Reader, ReaderAdvance, IsDone, IsSound, Slots, line, with_line, unlines, IsLine}
+use proofs.Common.{push_nothing, MergeFault, Read, Memory, Side, First, Second, Sorted, CursorStatus, Head, Ended}
+use proofs.Common.{Disorder, Lines, MergeTool, FirstDisorder, entries_by_key, earlier_disorder, first_disorder}
+use proofs.Common.{lines_with_key, MergeState, MergePost, Cmp, Key, NextErrPost, NextOkPost, HasSlots, base_slot}
+use proofs.Common.{with_side, other, PrecedesInput, IsDisorderDecided, IsReportable, previous_key, ap, ◌⊎◌, max}
+use proofs.Common.{length-set, total_bytes, max_length, Write, MergeRunPre, merge_state, WriteFaultPost, both}
+use proofs.Common.{AreValidCursors, budget, IsReaderOf, push_trans, cond, Ordering, is_eq, is_gt, CopyToGroupPost}
+use proofs.Common.{same_key_at, status_at, IsValidCursor, ◌<◌, Result, ClearFourSlotsPost, Ok, Bool, terminator}
+use proofs.Common.{initial_cursor, MergeInputs, StartErrPost, StartOkPost, StartFirstPost, CallOutcome, AllPushed}
+use proofs.Common.{Received, both_sides, reads_nothing, merge_engine, merge_end, IsErrAnd, err_from_is_err_and}
 use proofs.MergeLemmas.Invariant.{output_of, Bound, AtLeast, AfterDisorder, NothingMore, MayFollow, MayDisorder}
 use proofs.MergeLemmas.Invariant.{IsDisorderFrom, IsUnder, IsSortedUpTo, IsLeastKeyRun, LagInvariant, MergeInvariant}
 use proofs.MergeLemmas.Invariant.{IsExactStop, line_is_least_run, lag_invariant_starts, not_below, write_least_run}
@@ -28,9 +27,12 @@ use proofs.MergeLemmas.Exits.{SideInvariant, MatchesStatus, SideAfterNext, IsAtC
 use proofs.MergeLemmas.Exits.{at_current_line, side_invariant_kept, IsFailedRead, Fits, ReadFacts, state_by_side}
 use proofs.MergeLemmas.Exits.{exit_is_merge_post, FitsIn, read_facts_after_line, read_facts_at_line, reads_left}
 use proofs.MergeLemmas.Exits.{next_decreases, FirstReads, both_begun, ComeFirst, bound_after, HoldsTwoLines}
-use proofs.MergeLemmas.Exits.{IsOpenMerge, ReadFactsOf, processed_come_first, exact_output, merge_without_slots, given}
+use proofs.MergeLemmas.Exits.{IsOpenMerge, ReadFactsOf, processed_come_first, exact_output, merge_without_slots}
+use proofs.MergeLemmas.Exits.{given}
 use proofs.MergeLemmas.LinesRead.{HasBegun, LinesRead, lines_read_none, one_line_at_most}
 use Rattle.ptmerge.specs.declared.faults.MergeFault.TheVariants as faults
+use Rattle.std.proofs.Common.{rules}
+use Rattle.std.proofs.lemmas.Grind.{common_steps}
 
 -- ---- slots
 
@@ -66,8 +68,8 @@ current_key_is_above cmp o key x Head cursor store now ls p b before (_, _, boun
       λ r c. EachKey-weaker _ _ (λ k h. above_up cmp o x head k above h) _ _ c,
       above_at_most cmp o x head above,
     )
-current_key_is_above cmp o key x Ended cursor store now ls p b before (bound, _) = rw bound (λ r none. rw none tt, tt)
-current_key_is_above cmp o key x (Disorder n) cursor store now ls p b before st = rw st (λ r none. rw none tt, before)
+current_key_is_above cmp o key x Ended cursor store now ls p b before (bound, _) = grind arith
+current_key_is_above cmp o key x (Disorder n) cursor store now ls p b before st = grind arith
 
 -- ---- one line
 
@@ -148,12 +150,7 @@ module _ (tool : MergeTool) (o : IsKeyOrder tool.cmp) {old now : Side → Reader
     -- the other input is unchanged
     other_stays : SideInvariant terminator cmp (key (other s)) (old (other s)) (now (other s)) (cursor (other s)) after
         (ls (other s)) (p (other s)) (b (other s))
-    other_stays =
-        let (apart, apart_previous) = slots_apart s (cursor s) (cursor (other s)) (slots s) (slots (other s)) in
-        side_invariant_kept (sides (other s)) (rw n.stored (line_other store (cursor s).previous_slot
-        (cursor (other s)).current_slot n.bytes apart))
-        (rw n.stored (line_other store (cursor s).previous_slot (cursor (other s)).previous_slot n.bytes
-        apart_previous))
+    other_stays = grind (arith, slots_apart, side_invariant_kept, n, line_other)
 
     pub sides_invariant_continues : SidesInvariant tool old (with_side s new now) (with_side s next cursor) after
         (with_side s n.now_ls ls) (with_side s (ls s) p) (with_side s n.bound b)
@@ -219,14 +216,9 @@ module _ (cmp : Cmp) (o : IsKeyOrder cmp) where
             (rw bound at is_disordered),
         EachKey-weaker _ _ (λ k h. ap is_le (above_up cmp o l head k above h)) _ _ (rw bound at c),
       )
-  named_other key s d Ended cursor store now ls p b named (bound, _) f r c is_disordered =
-      rw (rw bound at is_disordered, rw bound at c) (tt, tt)
-  named_other key s d (Disorder m) cursor store now ls p b named st f r c is_disordered =
-      rw (rw st at is_disordered, rw st at c) (
-        named_precedes s d.last_key (key (line store cursor.current_slot)) (key (line store cursor.previous_slot)) m
-            named,
-        tt,
-      )
+  named_other key s d Ended cursor store now ls p b named (bound, _) f r c is_disordered = grind arith
+  named_other key s d (Disorder m) cursor store now ls p b named st f r c is_disordered = grind (arith,
+      named_precedes)
 
 -- an input is out of order, and no key that may follow is up to its last key
 pub stops_at : (tool : MergeTool) (o : IsKeyOrder tool.cmp) (old now : Side → Reader) (cursor : Side → Sorted)
@@ -276,33 +268,9 @@ record FailedAdvance (cursor : Sorted) (was is : Reader) (before after : Slots) 
 failed_advance : (s : Side) (cursor : Sorted) (was is : Reader) (before after : Slots) (out : Output)
     (fault : MergeFault) → IsSound was → AdvanceErrPost s cursor was is before after out fault
     → FailedAdvance cursor was is before after
-failed_advance s cursor was is before after out fault sound (inl (_, e)) = rw (e.unread, e.store) (record {
-  piece = [];
-  reads = reads_nothing was;
-  line = tt;
-  sound = sound;
-  peak = omega arith;
-  count = sym (length-set before.lines cursor.previous_slot []);
-  failed = λ fail unfailed. cc;
-})
-failed_advance s cursor was is before after out (Read file) sound (inr (_, (e, _, is_sound))) = record {
-  piece = e.piece;
-  reads = e.faults.reads;
-  line = e.faults.whole;
-  sound = is_sound;
-  peak = rw e.stored (omega arith);
-  count = rw e.stored refl;
-  failed = λ fail unfailed. ⊎_elim (λ (_, buffered, eof). (buffered, eof)) (λ (_, same). cc) e.cause;
-}
-failed_advance s cursor was is before after out Memory sound (inr (_, (e, is_sound))) = record {
-  piece = e.piece;
-  reads = e.faults.reads;
-  line = e.faults.whole;
-  sound = is_sound;
-  peak = rw e.stored (omega arith);
-  count = rw e.stored refl;
-  failed = λ fail unfailed. cc (e.failed);
-}
+failed_advance s cursor was is before after out fault sound (inl (_, e)) = search rules
+failed_advance s cursor was is before after out (Read file) sound (inr (_, (e, _, is_sound))) = grind arith
+failed_advance s cursor was is before after out Memory sound (inr (_, (e, is_sound))) = grind arith
 failed_advance s cursor was is before after out other sound (inr (_, moves)) = absurd moves
 
 -- the input `s` is to advance, and all its lines are processed
@@ -331,36 +299,18 @@ module _ {tool : MergeTool} {old : MergeState} (w : IsOpenMerge tool old) {now :
 
   none_fails : (new : Reader) → new.failed ≡ (now.reader s).failed → (side : Side)
       → (with_side s new now.reader side).failed ≡ (old.reader side).failed
-  none_fails new same = put_each (λ side (r : Reader). r.failed ≡ (old.reader side).failed) s new now.reader
-      (same ∙ none_failed_yet s) none_failed_yet
+  none_fails new same = grind (arith, put_each, none_failed_yet)
 
   -- how the call ends
   advance_ends : (new : Reader) (after : Slots) (out : Output) (given : Side → Received) (pushed : List ℕ)
       (fault : MergeFault) → AdvanceErrPost s cursor (now.reader s) new now.store after out fault
       → CallOutcome both_sides (merge_engine tool) old (state_by_side (with_side s new now.reader) out after) given
       pushed (merge_end (Err fault))
-  advance_ends new after out given pushed fault (inl (is_write, e)) = rw is_write (record {
-    write_failed = e.write_failed;
-    unfailed = λ side read. none_fails new (ap (λ (r : Reader). r.failed) e.unread) side;
-    not_denied = rw e.store a.denied;
-  })
-  advance_ends new after out given pushed (Read file) (inr (clean, (e, file_is, _))) = rw file_is (record {
-    named = refl;
-    unfailed = w.unfailed s;
-    cause = rw (put_same s new now.reader) (⊎_elim (λ failed. inl failed)
-        (λ (long, same). inr (long, same ∙ none_failed_yet s)) e.cause);
-    others = λ side read. side_case (λ side. side ≢ s
-        → (with_side s new now.reader side).failed ≡ (old.reader side).failed) s (λ differs. absurd (differs refl))
-        (λ _. rw (put_other s new now.reader) (none_failed_yet (other s))) side;
-    clean = clean;
-    not_denied = rw e.stored a.denied;
-  })
-  advance_ends new after out given pushed Memory (inr (clean, (e, _))) = record {
-    denied = rw e.stored refl;
-    unfailed = λ side read. none_fails new e.failed side;
-    clean = clean;
-    left = λ enough. inl (s, refl, rw (put_same s new now.reader) (buffered_not_done e.left));
-  }
+  advance_ends new after out given pushed fault (inl (is_write, e)) = grind (arith, none_fails)
+  advance_ends new after out given pushed (Read file) (inr (clean, (e, file_is, _))) = grind (arith, put_same,
+      none_failed_yet, side_case, put_other)
+  advance_ends new after out given pushed Memory (inr (clean, (e, _))) = grind (arith, none_fails, put_same,
+      buffered_not_done)
   advance_ends new after out given pushed other (inr (_, moves)) = absurd moves
 
   -- the merge ends with this fault
@@ -418,30 +368,13 @@ pub within_size : (tool : MergeTool) → HoldsTwoLines tool → {before store : 
     → StoreOfLines before store (λ side. max_length (ls side))
     → ((side : Side) → max_length (ls side) ≤ max_length (all side)) → length piece ≤ max_length (all s)
     → FitsIn tool before (with_line store cursor.previous_slot piece) all
-within_size tool fits s cursor ls all piece slots k up fit =
-    let kept = store_with_line s cursor (λ side. max_length (all side)) piece slots k up fit refl in
-    omega (arith, kept.peak, kept.slots, fits all)
+within_size tool fits s cursor ls all piece slots k up fit = grind (arith, common_steps, store_with_line)
 
 -- the conditions at the start
 pub open_merge : {tool : MergeTool} {first second : Reader} {out : Output} {store : Slots} → IsKeyOrder tool.cmp
     → HoldsTwoLines tool → MergeRunPre tool.terminator first second out store
     → IsOpenMerge tool (merge_state first second out store)
-open_merge {tool} {first} {second} {store = store} o fits b = record {
-  o = o;
-  fits = fits;
-  terminator =
-      both_each (λ (side : Side) (r : Reader). r.terminator ≡ tool.terminator) first second b.terminator1 b.terminator2;
-  sound = both_each (λ (side : Side) (r : Reader). IsSound r) first second b.sound1 b.sound2;
-  readable = elim [ First ↦ b.ready.readable1 | Second ↦ b.ready.readable2 ];
-  -- a sound reader has not failed
-  unfailed = elim [
-    | First ↦ b.sound1.unfailed b.ready.opened1 b.ready.readable1
-    | Second ↦ b.sound2.unfailed b.ready.opened2 b.ready.readable2
-  ];
-  writable = b.writable;
-  allowed = b.ready.allowed;
-  empty = b.ready.empty;
-}
+open_merge {tool} {first} {second} {store = store} o fits b = grind (arith, both_each)
 
 -- The store between two steps: it holds two lines of each input, and is within the measure for all lists that continue
 -- these lines, also when it is emptied and when it holds a piece of a further line.
@@ -461,19 +394,8 @@ StoreHoldsTwoLines before store ls = StoreOfLines before store (λ side. max_len
 pub holds_two : {tool : MergeTool} (fits : HoldsTwoLines tool) {before store : Slots} {reader : Side → Reader}
     {cursor : Side → Sorted} {ls : Side → Lines} → StoreHoldsTwoLines before store ls
     → ((side : Side) → HasSlots side (cursor side)) → StoreInvariant tool before reader cursor store ls
-holds_two {tool} fits {store = store} {cursor = cursor} {ls} k slots = record {
-  lines = k.lines;
-  denied = k.denied;
-  fits = λ after peak same all l.
-      let sum = (has_lines_total store.lines (λ side. max_length (ls side)) 0 k.lines).most in (
-        omega (arith, peak, sum, k.peak, fits all, (l First).longest, (l Second).longest),
-        omega (arith, same, k.slots, fits all),
-        omega (arith, same, k.slots),
-      );
-  line = λ s piece all l. within_size tool fits s (cursor s) ls all piece (slots s) k
-      (λ side. omega (arith, (l side).longest))
-      (omega (arith, (l s).longest, ap length (put_same s piece (λ side. []))));
-}
+holds_two {tool} fits {store = store} {cursor = cursor} {ls} k slots = grind (arith, has_lines_total, within_size,
+    put_same)
 
 -- the cursors between two steps, for any output
 pub record CursorsInvariant (tool : MergeTool) (old : MergeState) (reader : Side → Reader) (cursor : Side → Sorted)
@@ -622,14 +544,7 @@ module _ {tool : MergeTool} {old : MergeState} (w : IsOpenMerge tool old) {reade
     pub runs_on : {Keep : Slots → (Side → Lines) → Type 0} {out : Output} → Keep after (with_side s n.now_ls ls)
         → MergeInvariant tool b (with_side s (ls s) p) old.out out
         → LoopInvariant tool Keep old (state_by_side (with_side s new reader) out after) (with_side s next cursor)
-    runs_on keeps m = record {
-      ls = with_side s n.now_ls ls;
-      p = with_side s (ls s) p;
-      b = with_side s n.bound b;
-      sides = sides_next;
-      merge_invariant = goes_merging m;
-      keeps = keeps;
-    }
+    runs_on keeps m = search (rules, n, sides_next, goes_merging)
 
 -- ---- after one input advanced
 
@@ -646,10 +561,8 @@ measure_less : (key : Key) (cmp : Cmp) (s : Side) (one two one2 two2 : Sorted) (
     (before after : Slots) → (both one two s).status ≡ Head
     → both one2 two2 (other s) ≡ both one two (other s) → NextOkPost key cmp (both one two s) (both one2 two2 s) (f s)
     reader before after → reads_ahead (with_side s reader f) one2 two2 < reads_ahead f one two
-measure_less key cmp First one two one2 two2 f reader before after head same came =
-    omega (arith, next_decreases head came, ap (λ (q : Sorted). reads_left q.status) same)
-measure_less key cmp Second one two one2 two2 f reader before after head same came =
-    omega (arith, next_decreases head came, ap (λ (q : Sorted). reads_left q.status) same)
+measure_less key cmp First one two one2 two2 f reader before after head same came = grind (arith, next_decreases)
+measure_less key cmp Second one two one2 two2 f reader before after head same came = grind (arith, next_decreases)
 
 -- the cursors after this input advanced
 pub place_is : (s : Side) (one two one2 two2 : Sorted) → both one2 two2 (other s) ≡ both one two (other s)
@@ -674,19 +587,12 @@ module _ {key : Side → Key} {now : MergeState} {one two : Sorted} (t : Between
   module _ (s : Side) {one2 two2 : Sorted} {reader : Reader} {after : Slots} {new : Output}
       (continues : IsReadyToContinue key s one two one2 two2 reader after new) where
     pub between_next : BetweenSteps key (state_by_side (with_side s reader now.reader) new after) one2 two2
-    between_next = record {
-      valid_cursors = continues.valid_cursors;
-      own_reader = side_case (λ side. IsReaderOf (both one2 two2 side) (with_side s reader now.reader side)) s
-          (rw (put_same s reader now.reader) continues.own_reader)
-          (rw (put_other s reader now.reader, continues.others) (t.own_reader (other s)));
-      clean = continues.clean;
-    }
+    between_next = grind (arith, side_case, put_same, put_other)
 
     pub reads_less : {cmp : Cmp} {made : Slots} → (both one two s).status ≡ Head
         → NextOkPost (key s) cmp (both one two s) (both one2 two2 s) (now.reader s) reader now.store made
         → reads_ahead (with_side s reader now.reader) one2 two2 < reads_ahead now.reader one two
-    reads_less head came =
-        measure_less (key s) _ s one two one2 two2 now.reader reader now.store _ head continues.others came
+    reads_less head came = grind (arith, measure_less)
 
 -- writing out buffered output does not change what was pushed
 pub wrote_and_sent : (was mid is : Output) (pushed : List ℕ) → mid.write_failed ≡ false → PushEffect was mid pushed
@@ -701,43 +607,28 @@ pub later_status : (key : Key) (cmp : Cmp) (number : ℕ) (last next : List ℕ)
     → r ≡ cmp (key last) (key next)
     → (cond (is_gt r) (Disorder (number + 1)) Head ≡ status_at key cmp number last next)
     × (is_eq r ≡ same_key_at key cmp number last next)
-later_status key cmp number last next r some is =
-    let t : nat_lt 0 number ≡ true = grind (arith, nat_tests) in
-    (λ i. cond (sym t i && is_gt (is i)) (Disorder (number + 1)) Head, λ i. sym t i && is_eq (is i))
+later_status key cmp number last next r some is = grind arith
 
 -- the stored span belongs to the current line, for all contents of other slots
 pub cursor_valid_kept : (key : Key) (cursor : Sorted) (before after : Slots)
     → line after cursor.current_slot ≡ line before cursor.current_slot → IsValidCursor key cursor before
     → IsValidCursor key cursor after
-cursor_valid_kept key cursor before after same cursor_valid =
-    record { head = λ status_is. rw same (cursor_valid.head status_is); broken = cursor_valid.broken }
+cursor_valid_kept key cursor before after same cursor_valid = grind arith
 
 -- the slots after the first four may change
 pub valid_cursors_kept : (key : Side → Key) (one two : Sorted) (before after : Slots)
     → AreValidCursors key one two before → length before.lines ≤ length after.lines
     → ((slot : ℕ) → slot < 4 → line after slot ≡ line before slot) → AreValidCursors key one two after
-valid_cursors_kept key one two before after p least same = record {
-  first = p.first;
-  second = p.second;
-  slots = omega (arith, p.slots, least);
-  cursor_valid1 = cursor_valid_kept (key First) one before after
-      (same one.current_slot (omega (arith, own_slots First one p.first))) p.cursor_valid1;
-  cursor_valid2 = cursor_valid_kept (key Second) two before after
-      (same two.current_slot (omega (arith, own_slots Second two p.second))) p.cursor_valid2;
-}
+valid_cursors_kept key one two before after p least same = grind (arith, cursor_valid_kept, own_slots)
 
 -- copying a line changes one slot, or adds one
 pub kept_line : (before after : Slots) (from to slot : ℕ) → slot < to → CopyToGroupPost before after from to
     → line after slot ≡ line before slot
-kept_line before after from to slot low e =
-    let grown : line e.made slot ≡ line before slot =
-    ⊎_elim (λ h. rw h refl) (λ h. rw h (line_added before slot)) e.grown.grown in
-    rw e.copied (line_other e.made to slot (line e.made from) (λ is. absurd (omega (arith, is, low))) ∙ grown)
+kept_line before after from to slot low e = grind (arith, line_added, line_other)
 
 pub kept_least : (before after : Slots) (from to : ℕ) → CopyToGroupPost before after from to
     → length before.lines ≤ length after.lines
-kept_least before after from to e = rw (e.copied, length-set)
-    (⊎_elim (λ h. rw h (omega arith)) (λ h. rw h (omega (arith, length_push before.lines []))) e.grown.grown)
+kept_least before after from to e = search rules
 
 -- ---- the start
 
@@ -781,15 +672,14 @@ module _ {tool : MergeTool} {old : MergeState} (w : IsOpenMerge tool old) where
         (elim [ First ↦ omega arith | Second ↦ omega arith ]) began.fits began.stored
 
     half_invariant : MergeInvariant tool (both began.bound NoBound) no_lines old.out old.out
-    half_invariant = bound_changes First began.bound (merge_invariant_starts tool old.out) began.may_follow began.under
+    half_invariant = search (rules, bound_changes, began, merge_invariant_starts)
 
     -- at most one line of it was read
     first_line_only : length began.now_ls + 0 ≤ 1
-    first_line_only = ⊎_elim (λ e. omega (arith, began.side_invariant.number, ap (λ (c : Sorted). c.number) e.cursor))
-        (λ e. omega (arith, began.side_invariant.number, ap (λ (c : Sorted). c.number) e.cursor)) s.came
+    first_line_only = grind (arith, began)
 
     mid_four : 4 ≤ length s.mid.lines
-    mid_four = (has_lines_total s.mid.lines (λ side. max_length (both began.now_ls [] side)) 0 half_store.lines).four
+    mid_four = grind (arith, has_lines_total, began, half_store, four)
 
   pub start_ok : (new : MergeInputs) (cursor : Side → Sorted) → HasSlots First (cursor First)
       → StartOkPost key cmp cursor unstarted new
