@@ -22,6 +22,7 @@ use Rattle.std.proofs.lemmas.List.Sorted.{IsPermutation-refl, IsPermutation-tran
 use Rattle.std.proofs.lemmas.List.Sorted.{IsPermutation-append_right, IsPermutation-append_comm}
 use Rattle.std.specs.List.Sorted.{IsPermutation}
 use Rattle.ptlines.proofs.TextLaws.{lines-unlines, lines_are}
+use Rattle.std.proofs.Common.{rules}
 
 -- ---- lines with some of the keys
 
@@ -210,8 +211,7 @@ module _ (cmp : Cmp) (o : IsKeyOrder cmp) (key : Key) where
   -- a sublist of a sorted list is sorted
   in_order_kept : (p : List ℕ → Bool) (xs : Lines) → first_disorder cmp key xs ≡ None
       → first_disorder cmp key (filter p xs) ≡ None
-  in_order_kept p xs e = first_disorder_is cmp key (filter p xs)
-      ∙ kept_after p None None 0 0 xs (λ k h. h) (sym (first_disorder_is cmp key xs) ∙ e)
+  in_order_kept p xs e = grind (arith, first_disorder_is, kept_after)
 
 module _ (tool : MergeTool) (o : IsKeyOrder tool.cmp) where
   open tool use {cmp, key}
@@ -224,14 +224,12 @@ module _ (tool : MergeTool) (o : IsKeyOrder tool.cmp) where
   -- sublists of sorted lists are sorted
   pub kept_in_order : (p : Side → List ℕ → Bool) (ls : Side → Lines) → disorder tool ls ≡ None
       → disorder tool (λ side. filter (p side) (ls side)) ≡ None
-  kept_in_order p ls e = let none = λ (side : Side). in_order_kept cmp o (key side) (p side) (ls side)
-      (none_disordered ls e side) in λ i. earlier_disorder cmp (none First i) (none Second i)
+  kept_in_order p ls e = grind (arith, in_order_kept, none_disordered)
 
   -- the output for sorted lists is that of all their keys
   pub merged_in_order : (ls : Side → Lines) → disorder tool ls ≡ None
       → merged_entries tool ls ≡ entries_by_key tool all_keys ls
-  merged_in_order ls e = λ i. entries_by_key tool (is_up_to cmp (e i))
-      (λ side. ordered_whole cmp o (key side) (ls side) (none_disordered ls e side) i)
+  merged_in_order ls e = grind (arith, ordered_whole, none_disordered)
 
   -- sorted lists whose keys pass a test, and lists whose keys, which are at least those, do not
   module _ (p : List ℕ → Bool) (down : IsDownwardClosed cmp p) (a b : Side → Lines) (in_order : disorder tool a ≡ None)
@@ -251,13 +249,11 @@ module _ (tool : MergeTool) (o : IsKeyOrder tool.cmp) where
     -- the same keys are wanted
     same_wanted : (k : List ℕ)
         → is_up_to cmp (disorder tool (λ side. a side ++ b side)) k ≡ is_up_to cmp (disorder tool b) k
-    same_wanted k = by_limits cmp _ _ k ∙ (λ i. is_up_to cmp (earlier_disorder cmp ((both_go_on First).1 i)
-        ((both_go_on Second).1 i)) k) ∙ sym (by_limits cmp _ _ k)
+    same_wanted k = grind (arith, by_limits, both_go_on)
 
     -- all keys of the first lists are wanted
     low_wanted : (k : List ℕ) → p k ≡ true → is_up_to cmp (disorder tool b) k ≡ true
-    low_wanted k h = let from = λ (side : Side). from_below cmp o (key side) k (b side) (at_most_high side k h) in
-        up_to_from cmp o k _ _ (from First) (from Second)
+    low_wanted k h = search (rules, from_below, at_most_high, up_to_from)
 
     -- The entries of the appended lists are those of the first lists, followed by those of the second.
     entries_together : merged_entries tool (λ side. a side ++ b side) ≡ merged_entries tool a ++ merged_entries tool b

@@ -3,25 +3,25 @@
 -- If an operand could not be opened, nothing but messages is required. Otherwise what the engine of such a tool has done
 -- at the positions of its operands is what processing the inputs has to do.
 use Rattle.ptrun.proofs
-use proofs.Common.{AreReadToEnd, ended_operands, IsDone, Disorder, cases_eq, cases_Bool, ◌≡◌, ◌⊎◌, ⊎_elim, inl, inr, ℕ}
-use proofs.Common.{zero, suc, ◌+◌, ◌<◌, ◌≤◌, ◌^◌, ◌||◌, Bool, true, false, cond, List, [], ◌∷◌, ◌++◌, Option, Some}
-use proofs.Common.{None, Result, Ok, Err, length, take, drop, set, refl, sym, ◌∙◌, ap, subst, arith, take-append-drop}
-use proofs.Common.{slice_get, list_any, get_or-set_other, list_any-append, false≢true, eqb_tells, Reader, Output, Slots}
-use proofs.Common.{SinkState, Received, FlowFault, Read, Memory, Completion, AllWritten, InputBytes, ReceivedInputs, at}
-use proofs.Common.{is_unopened, AreInputsConsistent, is_in, reader_at, is_reader_unopened, HaveReceived}
-use proofs.Common.{IsNewOrUnopened, HasReadFailed, IsTooLong, unopened_messages, unopened_message, name_of, position}
-use proofs.Common.{positions, JointTool, bytes_of, received_in, has_unopened, disorder_text, disorder_status}
-use proofs.Common.{joint_spec, JointPre, HasIndexBelow, result_message, result_status, RunInputsEnd, RunInputsPost}
-use proofs.Common.{JointPost, run_state, result_of_end, update_at}
+use proofs.Common.{AreReadToEnd, ended_operands, IsDone, Disorder, cases_eq, ◌≡◌, ◌⊎◌, ⊎_elim, inl, inr, ℕ, zero, suc}
+use proofs.Common.{◌+◌, ◌<◌, ◌≤◌, ◌^◌, ◌||◌, Bool, true, false, cond, List, [], ◌∷◌, ◌++◌, Option, Some, None, Result}
+use proofs.Common.{Ok, Err, length, take, drop, set, refl, sym, ◌∙◌, ap, subst, arith, take-append-drop, slice_get}
+use proofs.Common.{list_any, list_any-append, false≢true, eqb_tells, Reader, Output, Slots, SinkState, Received}
+use proofs.Common.{FlowFault, Read, Memory, Completion, AllWritten, InputBytes, ReceivedInputs, at, is_unopened}
+use proofs.Common.{AreInputsConsistent, is_in, reader_at, is_reader_unopened, HaveReceived, IsNewOrUnopened}
+use proofs.Common.{HasReadFailed, IsTooLong, unopened_messages, unopened_message, name_of, position, positions}
+use proofs.Common.{JointTool, bytes_of, received_in, has_unopened, disorder_text, disorder_status, joint_spec}
+use proofs.Common.{JointPre, HasIndexBelow, result_message, result_status, RunInputsEnd, RunInputsPost, JointPost}
+use proofs.Common.{run_state, result_of_end, update_at}
 use Rattle.ptlines.specs.Calls.{CallEnd, Complete, OutOfOrder, ReadFault, WriteFault, MemoryFault, CallPost}
-use Rattle.ptlines.specs.Calls.{CallOutcome, AllPushed, AreAllConsistent, NoReadFailed, IsCallUnfinished}
-use Rattle.ptlines.specs.Calls.{inputs_at}
+use Rattle.ptlines.specs.Calls.{CallOutcome, AllPushed, AreAllConsistent, NoReadFailed, IsCallUnfinished, inputs_at}
 use Rattle.ptrun.specs.Engines.{in_run}
-use proofs.OneInput.{at_set, opened_set, lagged_output, none_received, received_of, receives_none, never_long, not_long}
-use proofs.OneInput.{consistent_bytes, unopened_agrees, unopened_received}
+use proofs.OneInput.{at_set, opened_set, lagged_output, none_received, received_of, receives_none, never_long}
+use proofs.OneInput.{not_long, consistent_bytes, unopened_agrees, unopened_received}
 use proofs.MessageWrites.{said_nothing}
 use proofs.OperandInputs.{some_same, any_same, by_position, neither, each_listed, none_passes, put_here, put_other}
 use proofs.OperandInputs.{fresh_all}
+use Rattle.std.proofs.Common.{rules}
 
 -- ---- an operand could not be opened
 
@@ -92,54 +92,37 @@ module _ (word : List ℕ) {t : JointTool} (names : List (List ℕ)) {positions 
 
   at_position : (q : ℕ)
       → at received q ≡ cond (is_reader_unopened old q) None (Some (cond (is_in positions q) (k.given q) none_received))
-  at_position q = at_received (λ q. cond (is_in positions q) (k.given q) none_received) 0 old q q (omega arith)
+  at_position q = grind (arith, at_received, k)
 
   at_listed : (q : ℕ) → is_in positions q ≡ true → at received q ≡ Some (k.given q)
-  at_listed q named =
-      at_position q ∙ (λ i. cond (open_at q named i) None (Some (cond (named i) (k.given q) none_received)))
+  at_listed q named = grind (arith, at_position, open_at, k)
 
   at_other : (q : ℕ) → is_in positions q ≡ false → at received q ≡ received_of (reader_at old q)
-  at_other q other =
-      at_position q ∙ ap (λ b. cond (is_reader_unopened old q) None (Some (cond b (k.given q) none_received)))
-      other
+  at_other q other = grind (arith, at_position, k)
 
   given_listed : (q : ℕ) → is_in positions q ≡ true → received_in received q ≡ k.given q
   given_listed q named = rw (at_listed q named) refl
 
   came : HaveReceived old new received
-  came q = ⊎_elim
-      (λ named. rw (at_listed q named) (open_at q named, k.came q named))
-      (λ other. rw (k.untouched q other, at_other q other) (receives_none (reader_at old q) (fresh q)))
-      (cases_Bool (is_in positions q))
+  came q = grind (arith, at_listed, open_at, k, at_other, receives_none, fresh)
 
   complete : (w : InputBytes) → AreInputsConsistent received w → has_unopened positions w ≡ false
-  complete w agrees =
-      sym (any_same (is_reader_unopened old) (is_unopened w) positions (unopened_agrees old new received w came agrees))
-      ∙ start.opened
+  complete w agrees = grind (arith, any_same, unopened_agrees, came)
 
   agree : (w : InputBytes) → AreInputsConsistent received w → AreAllConsistent (inputs_at positions) k.given (bytes_of w)
-  agree w agrees q named = let input =
-      consistent_bytes (at received q) (at w q) (k.given q) (at_listed q named) (agrees q) in rw input.are input.agree
+  agree w agrees q named = grind (arith, consistent_bytes, k, at_listed)
 
   -- ---- the decided output
 
   decided_is : (r : ReceivedInputs) (f : ℕ → Received) → ((q : ℕ) → is_unopened r q ≡ is_unopened received q)
       → ((q : ℕ) → is_in positions q ≡ true → received_in r q ≡ f q)
       → (joint_spec word t names positions).decided r ≡ (t.engine positions).decided f
-  decided_is r f opened same = ap (λ b. cond b [] ((t.engine positions).decided (received_in r)))
-      (any_same (is_unopened r) (is_unopened received) positions opened
-      ∙ sym (any_same (is_reader_unopened old) (is_unopened received) positions
-      (λ q. unopened_received (reader_at old q) (reader_at new q) (at received q) (came q))) ∙ start.opened)
-      ∙ post.same (received_in r) f same
+  decided_is r f opened same = grind (arith, any_same, unopened_received, came)
 
   -- less was received from one input, and the others are unchanged
   put_is : (p : ℕ) (g e : Received) → at received p ≡ Some g → (q : ℕ) → is_in positions q ≡ true
       → received_in (set received p (Some e)) q ≡ update_at p e k.given q
-  put_is p g e there =
-      by_position (λ q. is_in positions q ≡ true → received_in (set received p (Some e)) q ≡ update_at p e k.given q) p
-      (λ named. rw (at_set received p g e there) (sym (put_here p e k.given)))
-      (λ q other named. rw (get_or-set_other received p q (Some e) None (λ same. other (sym same)))
-      (given_listed q named ∙ sym (put_other p q e k.given other)))
+  put_is p g e there = search (rules, by_position, k, at_set, put_here, given_listed, put_other)
 
   -- ---- how it ended
 
@@ -152,22 +135,14 @@ module _ (word : List ℕ) {t : JointTool} (names : List (List ℕ)) {positions 
       (run_state new is store) k.given k.pushed end
 
   failed_is_in : (q : ℕ) → HasReadFailed old new q → is_in positions q ≡ true
-  failed_is_in q failed =
-      ⊎_elim (λ named. named)
-      (λ other. absurd
-      (false≢true (sym failed.1 ∙ sym (ap (λ r. r.failed) (k.untouched q other)) ∙ failed.2)))
-      (cases_Bool (is_in positions q))
+  failed_is_in q failed = grind (arith, k)
 
   none_failed : NoReadFailed (inputs_at positions) (run_state old was before) (run_state new is store) → (q : ℕ) → HasReadFailed old new q → ⊥
-  none_failed none q failed = false≢true (sym failed.1 ∙ sym (none q (failed_is_in q failed)) ∙ failed.2)
+  none_failed none q failed = grind (arith, failed_is_in)
 
   none_long : ((q : ℕ) → is_in positions q ≡ true → (reader_at new q).pulled < 2 ^ 63) → (q : ℕ)
       → IsTooLong (at received q) → ⊥
-  none_long short q long =
-      ⊎_elim (λ named. not_long (reader_at old q) (reader_at new q) (at received q) (fresh q) (came q)
-      (λ _. short q named) long)
-      (λ other. never_long (reader_at old q) (rw (at_other q other) at long))
-      (cases_Bool (is_in positions q))
+  none_long short q long = grind (arith, not_long, fresh, came, never_long, at_other)
 
   record Ending (r : Result Completion FlowFault) : Type 0 where
     operands_done : ℕ
@@ -232,24 +207,8 @@ module _ (word : List ℕ) {t : JointTool} (names : List (List ℕ)) {positions 
             (cases_eq q p);
         ended = none_ended;
       }
-  ending WriteFault e =
-      record {
-        operands_done = 0;
-        within = omega arith;
-        ends = e.write_failed;
-        position = tt;
-        names_failed_read = λ q failed clean. absurd (false≢true (sym clean ∙ e.write_failed));
-        ended = none_ended;
-      }
-  ending MemoryFault e =
-      record {
-        operands_done = 0;
-        within = omega arith;
-        ends = (e.denied, e.clean);
-        position = tt;
-        names_failed_read = λ q failed clean. absurd (none_failed e.unfailed q failed);
-        ended = none_ended;
-      }
+  ending WriteFault e = grind (arith, none_ended)
+  ending MemoryFault e = grind (arith, none_failed, none_ended)
 
   -- memory ran out, so something was left
   left_by : (end : CallEnd ℕ)

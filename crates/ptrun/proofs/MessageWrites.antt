@@ -1,10 +1,12 @@
 -- Texts written to a sink one after another: together they are one text, of which a failure leaves a prefix.
 use Rattle.ptrun.proofs
 use proofs.Common.{◌≡◌, ℕ, ◌+◌, ◌<◌, ◌≤◌, Bool, true, false, List, [], ◌∷◌, ◌++◌, length, take, drop, refl, sym, ◌∙◌}
-use proofs.Common.{ap, arith, append_assoc, length-append, take-append-drop, flat_map, Bor, get_or, take_more, take_all}
+use proofs.Common.{ap, arith, append_assoc, length-append, take-append-drop, flat_map, Bor, get_or, take_more}
 use proofs.Common.{get_or-map, length-map, append-nil, flat_map-append, false≢true, append_known, SinkState}
 use proofs.Common.{WriteOutErr, WriteOutOk, unflushed_after, append_known-append, append_known-nil}
 use proofs.Common.{unflushed_after-append, SayPost, HasSaid, texts, line_of}
+use Rattle.std.proofs.Common.{rules}
+use Rattle.std.proofs.lemmas.Grind.{common_steps}
 
 -- the pieces before this one and a prefix of it are a prefix of the text
 pub say_post_part : {old mid new : SinkState} {text piece : List ℕ} (done more : List ℕ)
@@ -27,29 +29,10 @@ say_post_part {old} {piece = piece} done more split took p = record {
 -- all of it was taken
 pub say_post_all : {old new : SinkState} {text : List ℕ} → old.failed ≡ false → WriteOutOk old new text
     → SayPost old new text true
-say_post_all {text = text} clean took = record {
-  front = text;
-  rest = [];
-  split = sym (append-nil text);
-  accepted = ap (λ s. s.accepted) took;
-  unflushed = ap (λ s. s.unflushed) took;
-  flushes = ap (λ s. s.flushes) took;
-  whole = λ _. (refl, ap (λ s. s.failed) took ∙ clean);
-  broken = λ no. absurd (false≢true (sym no));
-}
+say_post_all {text = text} clean took = search rules
 
 pub said_nothing : (s : SinkState) → HasSaid s s []
-said_nothing s =
-    record {
-      front = [];
-      rest = [];
-      split = refl;
-      accepted = sym (append_known-nil s.accepted);
-      unflushed = refl;
-      flushes = refl;
-      whole = λ _. refl;
-      stays = λ _. refl;
-    }
+said_nothing s = grind (arith, append_known-nil)
 
 pub said_trans : {a b c : SinkState} {xs ys : List ℕ} → HasSaid a b xs → HasSaid b c ys → HasSaid a c (xs ++ ys)
 said_trans {a} {b} {c} {xs} {ys} p q = by_failed b.failed refl
@@ -99,8 +82,7 @@ joined_more parts i within =
 
 pub joined_all : (parts : List (Bor (List ℕ))) (i : ℕ) → length parts ≤ i
     → joined parts i ≡ flat_map (λ p. p) (texts parts)
-joined_all parts i all = ap (λ l. flat_map (λ p. p) l)
-    (take_all i (texts parts) (omega (arith, all, length-map parts (λ (p : Bor (List ℕ)). p.now))))
+joined_all parts i all = grind (arith, common_steps)
 
 pub line_split : (parts : List (Bor (List ℕ))) (i : ℕ) → i < length parts
     → (more : List ℕ) × (line_of (texts parts) ≡ (joined parts i ++ part_at parts i) ++ more)
@@ -117,11 +99,4 @@ line_split parts i within =
 
 pub took_trans : (a b c : SinkState) (xs ys : List ℕ) → WriteOutOk a b xs → WriteOutOk b c ys
     → WriteOutOk a c (xs ++ ys)
-took_trans a b c xs ys p q =
-    rw (q, p)
-    (λ i. record {
-      accepted = append_known-append a.accepted xs ys i;
-      failed = a.failed;
-      unflushed = unflushed_after-append a.unflushed xs ys i;
-      flushes = a.flushes;
-    })
+took_trans a b c xs ys p q = grind (arith, append_known-append, unflushed_after-append)

@@ -2,21 +2,21 @@
 -- the sink. What is received in two calls is the concatenation of what each receives, and at most one block of the
 -- output is buffered.
 use Rattle.ptrun.proofs
-use proofs.Common.{append_cancel_left, cases_Bool, ⊎_elim, ◌≡◌, ℕ, ◌<◌, ◌^◌, Bool, true, false, cond, List, [], ◌∷◌}
-use proofs.Common.{◌++◌, Option, Some, None, length, map, refl, sym, ◌∙◌, ap, arith, append_assoc, length-append}
-use proofs.Common.{is_none, slice_get, prepend_known, append-nil, nil_from_length, false≢true, Reader, IsDone}
-use proofs.Common.{prepend_known-append, Received, IsConsistent, HasReceived, InputBytes, ReceivedInputs, at}
-use proofs.Common.{is_unopened, IsConsistentAt, AreInputsConsistent, reader_at, no_reader, HasReceivedAt, HaveReceived}
-use proofs.Common.{IsNew, IsNewOrUnopened, IsTooLong, Completion, AllWritten, Unopened, zero, suc, ◌+◌, ◌≤◌, set, take}
-use proofs.Common.{drop, subst, length-drop, take-append-drop, append_known, get_or-set_other, take-append_seam}
-use proofs.Common.{IsPrefix, empty_input, LaggedInput, BufferLag, BoundedLag, Output, IsKnownPrefix, PushEffect}
-use proofs.Common.{append_known-append, ToolSpec, decided_in_order, CommandSpec, IsPushedUpToBlock, IsWrittenUpToBlock}
-use proofs.Common.{LagOfLast, LagOfAny, BoundedLagAs, HasBoundedLag}
+use proofs.Common.{◌≡◌, ℕ, ◌<◌, ◌^◌, Bool, true, false, cond, List, [], ◌∷◌, ◌++◌, Option, Some, None, length, map}
+use proofs.Common.{refl, sym, ◌∙◌, ap, arith, length-append, is_none, slice_get, append-nil, nil_from_length}
+use proofs.Common.{false≢true, Reader, IsDone, prepend_known-append, Received, IsConsistent, HasReceived, InputBytes}
+use proofs.Common.{ReceivedInputs, at, is_unopened, IsConsistentAt, AreInputsConsistent, reader_at, no_reader}
+use proofs.Common.{HasReceivedAt, HaveReceived, IsNew, IsNewOrUnopened, IsTooLong, Completion, AllWritten, Unopened}
+use proofs.Common.{zero, suc, ◌+◌, ◌≤◌, set, take, drop, subst, length-drop, take-append-drop, append_known}
+use proofs.Common.{take-append_seam, IsPrefix, empty_input, LaggedInput, BufferLag, BoundedLag, Output, IsKnownPrefix}
+use proofs.Common.{PushEffect, append_known-append, ToolSpec, decided_in_order, CommandSpec, IsPushedUpToBlock}
+use proofs.Common.{IsWrittenUpToBlock, LagOfLast, LagOfAny, BoundedLagAs, HasBoundedLag}
 use Rattle.std.proofs.Math.ListN.{get_or-map}
 use Rattle.ptlines.proofs.Refill.{remaining_of_empty}
-use Rattle.std.proofs.Common.{is_none}
+use Rattle.std.proofs.Common.{is_none, rules}
 use Rattle.ptlines.proofs.Lag.{known_length, bounded_lag_now}
 use proofs.OperandInputs.{IsEndedAt, least_bytes, at-least_bytes, bytes_at, by_position}
+use Rattle.std.proofs.lemmas.Grind.{common_steps}
 
 -- its end was reached and no call failed, so that it can be read again
 pub record IsAtEof (r : Reader) : Type 0 where
@@ -34,47 +34,26 @@ completion_with any = cond any Unopened AllWritten
 -- ---- one input
 
 pub receives_nothing : (r : Reader) → IsNew r → HasReceived r r none_received
-receives_nothing r new = record {
-  moved = ap (λ l. prepend_known l r.left) new.buffered;
-  count = omega (arith, ap length new.buffered);
-  eof = sym new.eof;
-  refused = refl;
-  still = λ eof. (refl, eof);
-  end = λ h. h;
-}
+receives_nothing r new = grind arith
 
 pub receives_trans : (a b c : Reader) (g h : Received) → HasReceived a b g → HasReceived b c h → b.buffered ≡ []
     → HasReceived a c (record { bytes = g.bytes ++ h.bytes; eof = h.eof })
-receives_trans a b c g h p q empty = record {
-  moved = p.moved ∙ ap (λ o. prepend_known g.bytes o) (sym (remaining_of_empty b empty) ∙ q.moved)
-      ∙ prepend_known-append g.bytes h.bytes c.left;
-  count = omega (arith, p.count, q.count, ap length empty, length-append g.bytes h.bytes);
-  eof = q.eof;
-  refused = q.refused ∙ p.refused;
-  still = λ eof. let (same, at_eof) = p.still eof in let (still_same, still_eof) = q.still at_eof in
-      (still_same ∙ same, still_eof);
-  end = λ h. q.end (p.end h);
-}
+receives_trans a b c g h p q empty = grind (arith, remaining_of_empty, prepend_known-append, length-append)
 
 -- after the end nothing more is received
 pub ended_gives_nothing : (b c : Reader) (h : Received) → HasReceived b c h → b.buffered ≡ [] → b.eof ≡ true
     → (h.bytes ≡ []) × (h.eof ≡ true)
-ended_gives_nothing b c h q empty eof =
-    let (same, at_eof) = q.still eof in
-    (nil_from_length h.bytes (omega (arith, q.count, same, ap length empty)), q.eof ∙ at_eof)
+ended_gives_nothing b c h q empty eof = grind (arith, common_steps)
 
 -- what was received from a reader before it is read
 abbrev pub received_of : Reader → Option Received
 received_of r = cond r.refused None (Some none_received)
 
 pub receives_none : (r : Reader) → IsNewOrUnopened r → HasReceivedAt r r (received_of r)
-receives_none r fresh =
-    ⊎_elim (λ is. subst (λ b. HasReceivedAt r r (cond b None (Some none_received))) (sym is) (is, refl))
-    (λ is. subst (λ b. HasReceivedAt r r (cond b None (Some none_received))) (sym is)
-    (is, receives_nothing r (fresh is))) (cases_Bool r.refused)
+receives_none r fresh = grind (arith, receives_nothing)
 
 pub never_long : (r : Reader) → IsTooLong (received_of r) → ⊥
-never_long r long = ⊎_elim (λ is. rw is at long) (λ is. omega (arith, rw is at long)) (cases_Bool r.refused)
+never_long r long = grind arith
 
 -- an opened reader has received something, possibly no bytes
 pub record OpenedInput (old now : Reader) (o : Option Received) : Type 0 where
@@ -84,8 +63,8 @@ pub record OpenedInput (old now : Reader) (o : Option Received) : Type 0 where
 
 pub opened_receives : (old now : Reader) (o : Option Received) → old.refused ≡ false → HasReceivedAt old now o
     → OpenedInput old now o
-opened_receives old now None opened (unopened, same) = absurd (false≢true (sym opened ∙ unopened))
-opened_receives old now (Some g) opened (_, received) = record { given = g; is = refl; received = received }
+opened_receives old now None opened (unopened, same) = cc
+opened_receives old now (Some g) opened (_, received) = grind arith
 
 pub still_unopened : (old now : Reader) (o : Option Received) → HasReceivedAt old now o → now.refused ≡ old.refused
 still_unopened old now None (unopened, same) = ap (λ r. r.refused) same
@@ -95,13 +74,12 @@ still_unopened old now (Some g) (opened, received) = received.refused
 pub not_long : (old now : Reader) (o : Option Received) → IsNewOrUnopened old → HasReceivedAt old now o
     → (old.refused ≡ false → now.pulled < 2 ^ 63) → IsTooLong o → ⊥
 not_long old now None fresh k short long = long
-not_long old now (Some g) fresh (opened, received) short long =
-    let new = fresh opened in omega (arith, received.count, short opened, ap length new.buffered, new.pulled, long)
+not_long old now (Some g) fresh (opened, received) short long = grind arith
 
 pub ended_at : (old now : Reader) (o : Option Received) → HasReceivedAt old now o → (old.refused ≡ false → IsAtEof now)
     → IsEndedAt o
 ended_at old now None k at_eof = tt
-ended_at old now (Some g) (opened, received) at_eof = received.eof ∙ (at_eof opened).done.eof
+ended_at old now (Some g) (opened, received) at_eof = grind arith
 
 -- the same files could not be opened
 pub unopened_at : (old now : Reader) (o : Option Received) (v : Option (List ℕ)) → HasReceivedAt old now o
@@ -113,8 +91,7 @@ unopened_at old now (Some g) (Some b) (opened, received) a = opened
 
 pub unopened_agrees : (old now : List Reader) (r : ReceivedInputs) (w : InputBytes) → HaveReceived old now r
     → AreInputsConsistent r w → (q : ℕ) → (reader_at old q).refused ≡ is_unopened w q
-unopened_agrees old now r w reading agrees q =
-    unopened_at (reader_at old q) (reader_at now q) (at r q) (at w q) (reading q) (agrees q)
+unopened_agrees old now r w reading agrees q = grind (arith, unopened_at)
 
 pub unopened_received : (old now : Reader) (o : Option Received) → HasReceivedAt old now o → old.refused ≡ is_none o
 unopened_received old now None (unopened, same) = unopened
@@ -136,20 +113,15 @@ pub consistent_bytes : (o : Option Received) (v : Option (List ℕ)) (g : Receiv
     → ConsistentBytes v g
 consistent_bytes None v g is a = cc
 consistent_bytes (Some h) None g is a = absurd a
-consistent_bytes (Some h) (Some b) g is a = let same : h ≡ g = cc in
-    record { bytes = b; are = refl; agree = rw same at a }
+consistent_bytes (Some h) (Some b) g is a = grind arith
 
 pub consistent_before : (g e : Received) (b : List ℕ) → (g.eof ≡ true → (e.bytes ≡ []) × (e.eof ≡ true))
     → IsConsistent (record { bytes = g.bytes ++ e.bytes; eof = e.eof }) b → IsConsistent g b
-consistent_before g e b still a = record {
-  rest = e.bytes ++ a.rest;
-  is = a.is ∙ append_assoc g.bytes e.bytes a.rest;
-  whole = λ eof. let (none, at_eof) = still eof in λ i. none i ++ a.whole at_eof i;
-}
+consistent_before g e b still a = grind (arith, common_steps)
 
 -- all its bytes were received
 pub consistent_whole : (g : Received) (b : List ℕ) → g.eof ≡ true → IsConsistent g b → b ≡ g.bytes
-consistent_whole g b eof a = a.is ∙ ap (λ l. g.bytes ++ l) (a.whole eof) ∙ append-nil g.bytes
+consistent_whole g b eof a = search rules
 
 -- ---- before the first operand, and after the last
 
@@ -159,11 +131,11 @@ received_at old q = get_or-map received_of old q no_reader
 -- nothing was read
 pub nothing_read : (old : List Reader) → ((q : ℕ) → IsNewOrUnopened (reader_at old q))
     → HaveReceived old old (map received_of old)
-nothing_read old fresh q = rw (received_at old q) (receives_none (reader_at old q) (fresh q))
+nothing_read old fresh q = grind (arith, received_at, receives_none)
 
 least_consistent_at : (o : Option Received) → IsConsistentAt o (bytes_at o)
 least_consistent_at None = tt
-least_consistent_at (Some g) = record { rest = []; is = sym (append-nil g.bytes); whole = λ _. refl }
+least_consistent_at (Some g) = search rules
 
 pub least_consistent : (r : ReceivedInputs) → AreInputsConsistent r (least_bytes r)
 least_consistent r q = rw (at-least_bytes r q) (least_consistent_at (at r q))
@@ -179,13 +151,7 @@ abbrev pub same_before : (g : Received) → LaggedInput g
 same_before g = record { earlier = g; last = []; split = sym (append-nil g.bytes); short = omega arith; eof = λ e. e }
 
 last_same : (xs ys : List Received) (x y : Received) → xs ++ x ∷ [] ≡ ys ++ y ∷ [] → (xs ≡ ys) × (x ≡ y)
-last_same xs ys x y is =
-    let count : length xs ≡ length ys =
-    omega (arith, ap length is, length-append xs (x ∷ []), length-append ys (y ∷ [])) in
-    let same : xs ≡ ys = sym (take-append_seam xs (x ∷ [])) ∙ (λ i. take (count i) (is i))
-    ∙ take-append_seam ys (y ∷ []) in
-    let last = append_cancel_left ys (x ∷ []) (y ∷ []) (ap (λ l. l ++ x ∷ []) (sym same) ∙ is) in
-    (same, cc)
+last_same xs ys x y is = grind (arith, common_steps, length-append)
 
 -- operands that are all done decide all their output
 pub all_earlier : (t : ToolSpec) (came : List Received) (P : List ℕ → Type 0) → P (decided_in_order t came)
@@ -216,10 +182,7 @@ at_set (o ∷ r) (suc p) g e is = at_set r p g e is
 -- the same inputs were opened
 pub opened_set : (r : ReceivedInputs) (p : ℕ) (g e : Received) → at r p ≡ Some g → (q : ℕ)
     → is_unopened (set r p (Some e)) q ≡ is_unopened r q
-opened_set r p g e is = by_position (λ q. is_unopened (set r p (Some e)) q ≡ is_unopened r q) p
-    (ap (λ o. is_none o) (at_set r p g e is) ∙ sym (ap (λ o. is_none o) is))
-    (λ q differs. ap (λ o. is_none o)
-    (get_or-set_other r p q (Some e) None (λ is_p. differs (sym is_p))))
+opened_set r p g e is = search (rules, by_position, at_set)
 
 -- if nothing is decided, then all that is decided was written
 pub nothing_decided : (positions : List ℕ) (decided : ReceivedInputs → List ℕ) (r : ReceivedInputs) (failed : Bool)

@@ -3,18 +3,19 @@ use Rattle.ptrun.proofs
 use proofs.Common.{◌≡◌, ℕ, ◌==◌, ◌<◌, true, false, List, [], ◌∷◌, Result, length, get_or, set, refl, sym, ◌∙◌, ap}
 use proofs.Common.{subst, arith, eqb-true, false≢true, get_or_default, get_or-set_same, get_or-set_other, no_reader}
 use proofs.Common.{Reader, Output, Slots, ToolSpec, PassPre, PassPost, FlowFault, is_in, only_input, pass_engine}
-use proofs.Common.{pass_end, reader_at, is_reader_unopened, IsNew, JointTool, one_input_tool, JointPre, JointPost}
-use proofs.Common.{operand_completion, or-false}
+use proofs.Common.{pass_end, reader_at, IsNew, JointTool, one_input_tool, JointPre, JointPost, operand_completion}
+use proofs.Common.{or-false}
 use Rattle.ptrun.specs.Engines.{end_at}
 use proofs.OperandInputs.{is_in-same, fresh_all, neither, same_here}
 use proofs.PlacedCalls.{Placement, placed_call}
+use Rattle.std.proofs.lemmas.Grind.{common_steps}
 
 -- ---- the only operand
 
 only_operand_of : (positions : List ℕ) (d : ℕ) → (length positions == 1) ≡ true
     → positions ≡ get_or positions 0 d ∷ []
 only_operand_of (p ∷ []) d one = refl
-only_operand_of positions d one = absurd (omega (arith, eqb-true (length positions) 1 one))
+only_operand_of positions d one = grind (arith, eqb-true)
 
 one_placed : (p : ℕ) → Placement only_input (λ u. p) (p ∷ [])
 one_placed p = record {
@@ -39,18 +40,13 @@ module _ {j : JointTool} {positions : List ℕ} {old : List Reader} {was : Outpu
     p = get_or positions 0 d
 
     opened : (reader_at old p).refused ≡ false
-    opened = (neither (is_reader_unopened old p) false (rw (only_operand_of positions d one) at ready.opened)).0
+    opened = grind (arith, neither, only_operand_of)
 
     new_here : IsNew (reader_at old p)
     new_here = fresh_all old ready.fresh p opened
 
     pub only_operand_ready : (e : Reader) → PassPre (get_or old p e) before
-    only_operand_ready e = rw (get_or_default old p e no_reader (only_operand_within d)) (record {
-      opened = opened;
-      readable = new_here.fault;
-      not_denied = ready.not_denied;
-      empty = ready.empty;
-    })
+    only_operand_ready e = grind (arith, common_steps, only_operand_within, opened, new_here)
 
     named : is_in positions p ≡ true
     named = rw (only_operand_of positions d one) (is_in-same [] p)

@@ -1,18 +1,20 @@
 -- The inputs and the positions of the operands of a command, one operand at a time. The facts follow by induction on
 -- the list of operands.
 use Rattle.ptrun.proofs
-use proofs.Common.{list_any_at, eqb-true, Any-from_list_any, or_left, or_right, or-false, cases_Bool, cases_eq, ◌≡◌}
-use proofs.Common.{◌≢◌, ⊎_elim, ℕ, zero, suc, ◌==◌, ◌||◌, Bool, true, false, cond, List, [], ◌∷◌, ◌++◌, Option, Some}
-use proofs.Common.{None, ◌+◌, length, take, map, max, refl, sym, ◌∙◌, ap, subst, arith, append_assoc, All, flat_map}
-use proofs.Common.{option_map, list_any, append-nil, flat_map-append, filter_map-append, list_any-append, false≢true}
-use proofs.Common.{nat_tests, eqb_tells, Received, empty_input, InputBytes, ReceivedInputs, at, is_in, input_of_operand}
-use proofs.Common.{inputs_of_operands, opened_values, opened_inputs, ToolSpec, maximum, up_to_unended}
-use proofs.Common.{unopened_messages, unopened_message, name_of, HasSaid, SinkState, update_at, ◌<◌, ◌≤◌, drop, get_or}
-use proofs.Common.{take-append-drop, take_more, get_or-map, length-map, take_all, Reader, reader_at, no_reader}
-use proofs.Common.{IsNewOrUnopened, position, positions, All-nil, All-cons, Bor, words_view, is_standard, file_names}
-use proofs.Common.{order_from, Input, Standard, File, DecidesAll}
+use proofs.Common.{list_any_at, eqb-true, Any-from_list_any, or_left, or_right, or-false, cases_Bool, ◌≡◌, ◌≢◌}
+use proofs.Common.{⊎_elim, ℕ, zero, suc, ◌==◌, ◌||◌, Bool, true, false, cond, List, [], ◌∷◌, ◌++◌, Option, Some, None}
+use proofs.Common.{◌+◌, length, take, map, max, refl, sym, ◌∙◌, ap, subst, arith, append_assoc, All, flat_map}
+use proofs.Common.{option_map, list_any, flat_map-append, filter_map-append, false≢true, nat_tests, eqb_tells}
+use proofs.Common.{Received, empty_input, InputBytes, ReceivedInputs, at, is_in, input_of_operand, inputs_of_operands}
+use proofs.Common.{opened_values, opened_inputs, ToolSpec, maximum, up_to_unended, unopened_messages}
+use proofs.Common.{unopened_message, name_of, HasSaid, SinkState, update_at, ◌<◌, ◌≤◌, drop, get_or, take-append-drop}
+use proofs.Common.{take_more, get_or-map, length-map, Reader, reader_at, no_reader, IsNewOrUnopened, position}
+use proofs.Common.{positions, All-nil, All-cons, Bor, words_view, is_standard, file_names, order_from, Input}
+use proofs.Common.{Standard, File, DecidesAll}
 use Rattle.std.proofs.Math.ListN.{get_or-map as get_or-map_any}
 use proofs.MessageWrites.{said_trans}
+use Rattle.std.proofs.Common.{rules}
+use Rattle.std.proofs.lemmas.Grind.{common_steps}
 
 -- ---- membership
 
@@ -28,7 +30,7 @@ neither false b is = (refl, is)
 
 -- a fact about `p` and about each other position holds at each position
 pub by_position : (P : ℕ → Type 0) (p : ℕ) → P p → ((q : ℕ) → p ≢ q → P q) → (q : ℕ) → P q
-by_position P p here others q = ⊎_elim (λ same. subst P same here) (others q) (cases_eq p q)
+by_position P p here others q = grind arith
 
 -- a fact about each position in a list holds at each position that is in it
 pub each_listed : (P : ℕ → Type 0) (ps : List ℕ) → All P ps → (q : ℕ) → is_in ps q ≡ true → P q
@@ -50,8 +52,7 @@ pub put_here : {X : Type 0} (p : ℕ) (x : X) (f : ℕ → X) → update_at p x 
 put_here p x f = ap (λ b. cond b x (f p)) (same_here p)
 
 pub put_other : {X : Type 0} (p q : ℕ) (x : X) (f : ℕ → X) → p ≢ q → update_at p x f q ≡ f q
-put_other p q x f differs =
-    ⊎_elim (λ same. absurd (differs (sym same.1))) (λ other. ap (λ b. cond b x (f q)) other.0) (eqb_tells q p)
+put_other p q x f differs = grind (arith, eqb_tells)
 
 -- ---- operands
 
@@ -59,8 +60,7 @@ module _ {X : Type 0} (rest : X) (xs : List (Option X)) where
   pub inputs_of_operands-append : (before ps qs : List ℕ)
       → inputs_of_operands rest xs before (ps ++ qs) ≡ inputs_of_operands rest xs before ps
       ++ inputs_of_operands rest xs (before ++ ps) qs
-  inputs_of_operands-append before [] qs =
-      ap (λ l. inputs_of_operands rest xs l qs) (sym (append-nil before))
+  inputs_of_operands-append before [] qs = search rules
   inputs_of_operands-append before (p ∷ ps) qs =
       ap (λ l. input_of_operand rest xs before p ∷ l)
       (inputs_of_operands-append (before ++ p ∷ []) ps qs
@@ -71,29 +71,22 @@ module _ {X : Type 0} (rest : X) (xs : List (Option X)) where
   pub opened_inputs_at : (done : List ℕ) (p : ℕ) (more : List ℕ)
       → opened_inputs rest xs (done ++ p ∷ more) ≡ opened_inputs rest xs done
       ++ opened_values (input_of_operand rest xs done p ∷ inputs_of_operands rest xs (done ++ p ∷ []) more)
-  opened_inputs_at done p more = ap opened_values (inputs_of_operands-append [] done (p ∷ more))
-      ∙ filter_map-append (λ (o : Option X). o) (inputs_of_operands rest xs [] done)
-      (input_of_operand rest xs done p ∷ inputs_of_operands rest xs (done ++ p ∷ []) more)
+  opened_inputs_at done p more = grind (arith, inputs_of_operands-append, filter_map-append)
 
   pub opened_inputs_some : (done : List ℕ) (p : ℕ) (more : List ℕ) (x : X) → input_of_operand rest xs done p ≡ Some x
       → opened_inputs rest xs (done ++ p ∷ more) ≡ opened_inputs rest xs done ++ x
       ∷ opened_values (inputs_of_operands rest xs (done ++ p ∷ []) more)
-  opened_inputs_some done p more x is = opened_inputs_at done p more
-      ∙ ap
-      (λ (o : Option X). opened_inputs rest xs done
-      ++ opened_values (o ∷ inputs_of_operands rest xs (done ++ p ∷ []) more)) is
+  opened_inputs_some done p more x is = grind (arith, opened_inputs_at)
 
   pub opened_inputs_none : (done : List ℕ) (p : ℕ) → input_of_operand rest xs done p ≡ None
       → opened_inputs rest xs (done ++ p ∷ []) ≡ opened_inputs rest xs done
-  opened_inputs_none done p is = opened_inputs_at done p []
-      ∙ ap (λ o. opened_inputs rest xs done ++ opened_values (o ∷ [])) is
-      ∙ append-nil (opened_inputs rest xs done)
+  opened_inputs_none done p is = search (rules, opened_inputs_at)
 
 -- ---- messages
 
 pub unopened_same : (tool : List ℕ) (names : List (List ℕ)) (f g : ℕ → Bool) (ps : List ℕ) → ((p : ℕ) → f p ≡ g p)
     → unopened_messages tool names f ps ≡ unopened_messages tool names g ps
-unopened_same tool names f g ps same = λ i. unopened_messages tool names (λ q. same q i) ps
+unopened_same tool names f g ps same = grind arith
 
 pub any_same : (f g : ℕ → Bool) (ps : List ℕ) → ((p : ℕ) → f p ≡ g p) → list_any f ps ≡ list_any g ps
 any_same f g ps same = λ i. list_any (λ q. same q i) ps
@@ -104,38 +97,28 @@ pub said_more : (word : List ℕ) (names : List (List ℕ)) (is_unopened_at : �
     → HasSaid messages_old messages_new (unopened_messages word names is_unopened_at done)
     → HasSaid messages_new messages_new' (cond (is_unopened_at p) (unopened_message word (name_of names p)) [])
     → HasSaid messages_old messages_new' (unopened_messages word names is_unopened_at (done ++ p ∷ []))
-said_more word names is_unopened_at done p k says =
-    rw (
-      flat_map-append (λ (q : ℕ). cond (is_unopened_at q) (unopened_message word (name_of names q)) []) done (p ∷ []),
-      append-nil (cond (is_unopened_at p) (unopened_message word (name_of names p)) []),
-    )
-    (said_trans k says)
+said_more word names is_unopened_at done p k says = search (rules, flat_map-append, said_trans)
 
 module _ (test : ℕ → Bool) (done : List ℕ) (p : ℕ) where
   pub any_now : test p ≡ true → list_any test (done ++ p ∷ []) ≡ true
-  any_now is = list_any-append test done (p ∷ [])
-      ∙ or_right (list_any test done) (test p || false) (or_left (test p) false is)
+  any_now is = grind (arith, common_steps, or_right, or_left)
 
   pub any_before : test p ≡ false → list_any test (done ++ p ∷ []) ≡ list_any test done
-  any_before is = list_any-append test done (p ∷ []) ∙ ap (λ b. list_any test done || (b || false)) is
-      ∙ or-false (list_any test done)
+  any_before is = grind (arith, common_steps, or-false)
 
 pub is_in-same : (done : List ℕ) (p : ℕ) → is_in (done ++ p ∷ []) p ≡ true
 is_in-same done p = any_now (λ q. q == p) done p (same_here p)
 
 pub is_in-other : (done : List ℕ) (p q : ℕ) → p ≢ q → is_in (done ++ p ∷ []) q ≡ is_in done q
-is_in-other done p q differs = any_before (λ x. x == q) done p (grind (arith, nat_tests, differs))
+is_in-other done p q differs = grind (arith, any_before)
 
 pub not_more : (done : List ℕ) (p q : ℕ) → is_in (done ++ p ∷ []) q ≡ false → (p ≢ q) × (is_in done q ≡ false)
-not_more done p q none =
-    let differs : p ≢ q = λ same. false≢true (sym none ∙ ap (is_in (done ++ p ∷ [])) (sym same) ∙ is_in-same done p) in
-    (differs, sym (is_in-other done p q differs) ∙ none)
+not_more done p q none = grind (arith, is_in-same, is_in-other)
 
 -- a fact about each position in a list, and about one more
 pub holds_more : (P : ℕ → Type 0) (done : List ℕ) (p : ℕ) → ((q : ℕ) → is_in done q ≡ true → P q) → P p → (q : ℕ)
     → is_in (done ++ p ∷ []) q ≡ true → P q
-holds_more P done p before here = by_position (λ q. is_in (done ++ p ∷ []) q ≡ true → P q) p (λ _. here)
-    (λ q differs named. before q (sym (is_in-other done p q differs) ∙ named))
+holds_more P done p before here = grind (arith, by_position, is_in-other)
 
 -- ---- the maximum
 
@@ -169,11 +152,7 @@ module _ (t : ToolSpec) (law : DecidesAll t) where
     one : (g : Received) → g.eof ≡ true
         → flat_map t.decided (up_to_unended (g ∷ opened_values came ++ later))
         ≡ (t.text g.bytes ++ flat_map t.text (opened_values texts)) ++ rest
-    one g is =
-        ap (λ b. t.decided g ++ flat_map t.decided (cond b (up_to_unended (opened_values came ++ later)) []))
-        is
-        ∙ (λ i. (ap (λ b. t.decided (record { bytes = g.bytes; eof = b })) is ∙ law g.bytes) i ++ further i)
-        ∙ sym (append_assoc (t.text g.bytes) (flat_map t.text (opened_values texts)) rest)
+    one g is = grind (arith, common_steps)
 
     decided_input : (o : Option Received) → IsEndedAt o → (seen : Bool)
         → flat_map t.decided (up_to_unended
@@ -214,7 +193,7 @@ position_in_range order n in_range i d within =
 
 -- the list of names is as long as the list of their texts
 pub names_counted : (names : List (Bor (List ℕ))) (n : ℕ) → n ≡ length (words_view names) + 1 → n ≡ length names + 1
-names_counted names n is = is ∙ ap (λ k. k + 1) (length-map names (λ (w : Bor (List ℕ)). w.now))
+names_counted names n is = grind (arith, common_steps)
 
 -- the position of the `i`-th operand has a reader, and the operands are those before it, it, and those after it
 pub record OperandStep (order : List Input) (i p n : ℕ) : Type 0 where
@@ -224,7 +203,7 @@ pub record OperandStep (order : List Input) (i p n : ℕ) : Type 0 where
 
 pub operand_low : {p n : ℕ} (order : List Input) (i : ℕ) (d : Input) → All (λ q. q < n) (positions order)
     → i < length order → p ≡ position (get_or order i d) → p < n
-operand_low {n = n} order i d in_range within is = rw is (position_in_range order n in_range i d within)
+operand_low {n = n} order i d in_range within is = grind (arith, position_in_range)
 
 pub operand_step : {p n : ℕ} (order : List Input) (i : ℕ) (d : Input) → All (λ q. q < n) (positions order)
     → i < length order → p ≡ position (get_or order i d) → OperandStep order i p n
@@ -240,7 +219,7 @@ operand_step {p} {n} order i d in_range within is = record {
         ∙ ap (λ n. take i (positions order) ++ n ∷ []) (get_or-map position order i d 0 within ∙ sym is)
 
 pub positions_end : (order : List Input) (i : ℕ) → length order ≤ i → take i (positions order) ≡ positions order
-positions_end order i all = take_all i (positions order) (omega (arith, all, length-map order position))
+positions_end order i all = grind (arith, common_steps)
 
 -- ---- the operands of arguments
 

@@ -1,14 +1,14 @@
 -- `paste`: each operand is a column, so the call of its engine over the columns is the run of the tool.
 use Rattle.ptrun.proofs
 use proofs.Common.{◌≡◌, ℕ, true, false, List, Result, Ok, Err, get_or, refl, arith, Reader, Output, Slots, FlowFault}
-use proofs.Common.{Read, Write, Memory, Completion, AllWritten, is_in, reader_at, is_reader_unopened, JointPre}
-use proofs.Common.{JointPost, All-from_get_or, Paste, IsReadable, PastePost, paste_end, paste_engine, paste_rows_tool}
-use proofs.Common.{inputs_at, result_of_end}
+use proofs.Common.{Read, Write, Memory, Completion, AllWritten, is_in, is_reader_unopened, JointPre, JointPost, Paste}
+use proofs.Common.{PastePost, paste_end, paste_engine, paste_rows_tool, inputs_at, result_of_end}
 use Rattle.ptflow.proofs.PasteLemmas.Named.{cell_in, decided_same}
 use Rattle.ptflow.specs.PasteCall as pass
 use Rattle.ptrun.specs.Engines.{end_at}
 use proofs.OperandInputs.{none_passes, fresh_all}
 use proofs.PlacedCalls.{Placement, placed_call}
+use Rattle.std.proofs.lemmas.Grind.{common_steps}
 
 abbrev pub rows_completion : Result (Unit {0}) FlowFault → Result Completion FlowFault
 rows_completion (Ok u) = Ok AllWritten
@@ -20,15 +20,7 @@ module _ (job : Paste) {positions : List ℕ} {old : List Reader} {was : Output}
   open_at = none_passes (is_reader_unopened old) positions ready.opened
 
   pub cells_ready : pass.PastePre positions old before
-  cells_ready = record {
-    within = ready.in_range;
-    readable = All-from_get_or (λ (p : ℕ). IsReadable (reader_at old p)) positions 0 (λ i low.
-        let p = get_or positions i 0 in
-        let open_here = open_at p (cell_in positions i low) in
-        record { opened = open_here; readable = (fresh_all old ready.fresh p open_here).fault });
-    not_denied = ready.not_denied;
-    empty = ready.empty;
-  }
+  cells_ready = grind (arith, common_steps, open_at, cell_in, fresh_all)
 
   in_place : Placement (inputs_at positions) (λ p. p) positions
   in_place = record {

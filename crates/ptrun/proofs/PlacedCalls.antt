@@ -1,8 +1,8 @@
 -- A call over named inputs, as a call over the inputs at the positions that these names have.
 use Rattle.ptrun.proofs
-use proofs.Common.{◌≡◌, ◌⊎◌, ⊎_elim, inl, inr, ℕ, ◌==◌, ◌<◌, ◌^◌, true, false, cond, List, Option, Some, None, length}
-use proofs.Common.{refl, sym, ◌∙◌, ap, subst, arith, option_map, false≢true, cases_lt, Reader, IsDone, Output, Slots}
-use proofs.Common.{Received, IsConsistent, HasReceived, IsPrefix, BoundedLag, is_in, inputs_at, reader_at, run_state}
+use proofs.Common.{◌≡◌, inl, inr, ℕ, ◌==◌, ◌<◌, true, false, List, Option, Some, None, length, refl, sym, subst}
+use proofs.Common.{arith, option_map, Reader, Output, Slots, Received, HasReceived, IsPrefix, BoundedLag, is_in}
+use proofs.Common.{inputs_at, reader_at, run_state}
 use Rattle.ptlines.specs.Calls.{InputNames, EngineSpec, call_state, CallEnd, Complete, OutOfOrder, ReadFault}
 use Rattle.ptlines.specs.Calls.{WriteFault, MemoryFault, CallPost, CallOutcome, AllPushed, AreAllConsistent}
 use Rattle.ptlines.specs.Calls.{IsCallUnfinished, with_input}
@@ -44,47 +44,27 @@ module _ {I : Type 0} {names : InputNames I} (engine : EngineSpec I) (position :
 
   agree : (texts : ℕ → List ℕ) → AreAllConsistent (inputs_at positions) given texts
       → AreAllConsistent names call.given (λ i. texts (position i))
-  agree texts a i read =
-      subst (λ g. IsConsistent g (texts (position i))) (by.placed_at call.given i) (a (position i) (by.listed i read))
+  agree texts a i read = grind arith
 
   all_pushed : (found : Option (I × ℕ))
       → AllPushed names engine (call_state (λ i. reader_at old (position i)) was before)
       (call_state (λ i. reader_at new (position i)) is store) call.given call.pushed found
       → AllPushed (inputs_at positions) (in_run (at_positions engine position)) (run_state old was before)
       (run_state new is store) given call.pushed (option_map (line_at position) found)
-  all_pushed found e = record {
-    out = λ texts a. e.out (λ i. texts (position i)) (agree texts a);
-    disorder = λ texts a. ap (option_map (line_at position))
-        (e.disorder (λ i. texts (position i)) (agree texts a));
-    ended = λ none. each by (λ q. IsDone (reader_at new q)) (e.ended (none_found position found none));
-    fault = each by (λ q. (reader_at new q).fault ≡ None) e.fault;
-    short = each by (λ q. (reader_at new q).pulled < 2 ^ 63) e.short;
-    unfailed = each by (λ q. (reader_at new q).failed ≡ (reader_at old q).failed) e.unfailed;
-    clean = e.clean;
-    not_denied = e.not_denied;
-    empty = e.empty;
-  }
+  all_pushed found e = grind (arith, agree, each, none_found)
 
   unfinished : IsCallUnfinished names engine (call_state (λ i. reader_at new (position i)) is store) call.given
       call.pushed
       → IsCallUnfinished (inputs_at positions) (in_run (at_positions engine position)) (run_state new is store) given
       call.pushed
   unfinished (inl (i, read, left)) = inl (position i, by.listed i read, left)
-  unfinished (inr (keeps, unwritten)) =
-      inr (keeps, λ texts a. unwritten (λ i. texts (position i)) (agree texts a))
+  unfinished (inr (keeps, unwritten)) = grind (arith, agree)
 
   -- without its first slots the call has read nothing, and all inputs are new
   unread : length store.lines < engine.first_slots
       → IsCallUnfinished (inputs_at positions) (in_run (at_positions engine position)) (run_state new is store) given
       call.pushed
-  unread few =
-      let (i, read, new_input) = unread_input few in
-      inl (
-        position i,
-        by.listed i read,
-        λ done. false≢true (sym new_input
-            ∙ ap (λ r. r.eof) (sym ((call.unread clean few).readers i read)) ∙ done.eof),
-      )
+  unread few = grind arith
 
   ends : (e : CallEnd I)
       → CallOutcome names engine (call_state (λ i. reader_at old (position i)) was before)
@@ -94,33 +74,15 @@ module _ {I : Type 0} {names : InputNames I} (engine : EngineSpec I) (position :
   ends Complete e = all_pushed None e
   ends (OutOfOrder i line) e =
       record { named = by.listed i e.named; pushed_all = all_pushed (Some (i, line)) e.pushed_all }
-  ends (ReadFault i) e = record {
-    named = by.listed i e.named;
-    unfailed = e.unfailed;
-    cause = e.cause;
-    others = each by (λ q. (q ≡ position i → ⊥) → (reader_at new q).failed ≡ (reader_at old q).failed)
-        (λ j read differs. e.others j read (λ same. differs (ap position same)));
-    clean = e.clean;
-    not_denied = e.not_denied;
-  }
-  ends WriteFault e = record {
-    write_failed = e.write_failed;
-    unfailed = each by (λ q. (reader_at new q).failed ≡ (reader_at old q).failed) e.unfailed;
-    not_denied = e.not_denied;
-  }
-  ends MemoryFault e = record {
-    denied = e.denied;
-    unfailed = each by (λ q. (reader_at new q).failed ≡ (reader_at old q).failed) e.unfailed;
-    clean = e.clean;
-    left = λ _. ⊎_elim unread (λ enough. unfinished (e.left enough)) (cases_lt (length store.lines) engine.first_slots);
-  }
+  ends (ReadFault i) e = grind (arith, each)
+  ends WriteFault e = grind (arith, each)
+  ends MemoryFault e = grind (arith, each, unread, unfinished)
 
   -- less was received from one input, and the others are unchanged
   decided_is : (i : I) → ◌≡◌ {A = (Unit {0} → Received) → List ℕ}
       (λ came. engine.decided (with_input names i (came tt) call.given))
       (λ came. engine.decided (λ j. with_input (inputs_at positions) (position i) (came tt) given (position j)))
-  decided_is i = λ k came. engine.decided
-      (λ j. cond (sym (by.same j i) k) (came tt) (sym (by.placed_at call.given j) k))
+  decided_is i = grind arith
 
   pub placed_call : CallPost (inputs_at positions) (in_run (at_positions engine position)) (run_state old was before)
       (run_state new is store) (end_at position end)

@@ -10,23 +10,21 @@ use proofs.Common.{AreReadToEnd, ended_operands, cases_Bool, ◌≡◌, ⊎_elim
 use proofs.Common.{Option, Some, None, Result, Ok, Err, length, map, refl, sym, ◌∙◌, ap, arith, append_assoc, subst}
 use proofs.Common.{length-append, All, append_known, prepend_known, IsAtEnd, append-nil, append_cancel_left}
 use proofs.Common.{nil_from_length, false≢true, Reader, Output, PushEffect, Slots, SinkState, append_known-nil}
-use proofs.Common.{push_trans, Received, IsConsistent, IsPrefix, FlowFault, Read, Write, Memory, Completion, InputBytes}
-use proofs.Common.{ReceivedInputs, at, IsConsistentAt, AreInputsConsistent, reader_at, is_reader_unopened, is_unopened}
-use proofs.Common.{HasReceivedAt, IsNewOrUnopened, HasReadFailed, IsTooLong, HasBytesAt, HasSaid, CommandSpec}
-use proofs.Common.{operand_messages, messages, Sinks, sinks, Outcome, HasCause, RunEnd, IsRun, IsRunInStore, IsExact}
+use proofs.Common.{push_trans, Received, IsConsistent, IsPrefix, FlowFault, Read, Write, Memory, Completion}
+use proofs.Common.{InputBytes, ReceivedInputs, at, IsConsistentAt, AreInputsConsistent, reader_at, is_reader_unopened}
+use proofs.Common.{is_unopened, HasReceivedAt, IsNewOrUnopened, HasReadFailed, IsTooLong, HasBytesAt, HasSaid}
+use proofs.Common.{CommandSpec, messages, Sinks, sinks, Outcome, HasCause, RunEnd, IsRun, IsRunInStore, IsExact}
 use proofs.Common.{IsExactUnlessFailed, EndRunPost, RunInputsEnd, RunInputsPost, FinishPost, result_message}
-use proofs.Common.{result_status, IsPushedUpToBlock, IsWrittenUpToBlock, message_only, ◌+◌, ◌<◌, ◌==◌, is_none, not}
-use proofs.Common.{nat_le, length-map, All-map, nat_tests, eqb_tells, Input, Standard, File, Fault, Command, Job}
-use proofs.Common.{RunCut, RunPaste, RunUniq, RunComm, RunJoin, RunTr, command_of_args, input_operands, fault_view}
-use proofs.Common.{command_view, CommandPost, usage_message, usage_status, position, positions, InputsPre}
-use proofs.Common.{two_input_tool, command_spec, tool_of_job, word_of_job, spec_of_tool, leb-true, ◌≤◌, spec_of_result}
-use proofs.Common.{tool_name, spec_of_args, spec_of_parsed, is_memory_fault, AreNewInputs}
+use proofs.Common.{result_status, IsPushedUpToBlock, IsWrittenUpToBlock, message_only, ◌+◌, ◌<◌, ◌==◌, is_none}
+use proofs.Common.{All-map, nat_tests, eqb_tells, Input, Standard, File, Fault, Command, Job, RunCut, RunPaste}
+use proofs.Common.{RunUniq, RunComm, RunJoin, RunTr, command_of_args, input_operands, fault_view, command_view}
+use proofs.Common.{CommandPost, usage_message, usage_status, position, positions, InputsPre, two_input_tool}
+use proofs.Common.{command_spec, tool_of_job, word_of_job, spec_of_tool, leb-true, ◌≤◌, spec_of_result, tool_name}
+use proofs.Common.{spec_of_args, spec_of_parsed, is_memory_fault, AreNewInputs}
 use Rattle.std.specs.Prelude.{if◌then◌else◌}
 use Rattle.ptlines.specs.Sinks.{flushes_after}
 use Rattle.ptlangs.specs.Results.{IsFault}
 use Rattle.ptopts.specs.declared.fault.UseFault.{UseFault}
-use Rattle.ptmerge.specs.Comm.{comm_tool}
-use Rattle.ptmerge.specs.Join.{join_tool}
 use Rattle.ptmerge.specs.MergeSpec.{MergeTool as TwoInputs}
 use Rattle.ptopts.specs.Theorems.{SpellsCommand, Spelled}
 use Rattle.ptopts.proofs.CommandGrammar.{meant_as_spelled}
@@ -37,6 +35,8 @@ use proofs.OneInput.{kept_up, earlier_map, nothing_decided, nothing_read, never_
 use proofs.OneInput.{unopened_received}
 use proofs.MessageWrites.{said_trans}
 use proofs.OperandInputs.{some_same, fresh_all, positions_within}
+use Rattle.std.proofs.Common.{rules}
+use Rattle.std.proofs.lemmas.Grind.{common_steps}
 
 -- ---- the bytes that reached the sink
 
@@ -84,10 +84,8 @@ reached_of was new pushed empty w = by_known was.accepted refl
 bytes_consistent_at : (old new : Reader) (o : Option Received) (v : Option (List ℕ)) → IsNewOrUnopened old
     → HasReceivedAt old new o → HasBytesAt old v → IsConsistentAt o v
 bytes_consistent_at old new None None fresh k bytes = tt
-bytes_consistent_at old new None (Some b) fresh (unopened, same) (opened, left, short) =
-    absurd (false≢true (sym opened ∙ unopened))
-bytes_consistent_at old new (Some g) None fresh (opened, received) unopened =
-    absurd (false≢true (sym opened ∙ unopened))
+bytes_consistent_at old new None (Some b) fresh (unopened, same) (opened, left, short) = cc
+bytes_consistent_at old new (Some g) None fresh (opened, received) unopened = cc
 bytes_consistent_at old new (Some g) (Some b) fresh (opened, received) (_, left, short) =
     by_left new.left (sym left ∙ received.moved)
     (received.end (λ eof. absurd (false≢true (sym (fresh opened).eof ∙ eof))))
@@ -101,8 +99,7 @@ not_too_long : (o : Option Received) (v : Option (List ℕ)) (old : Reader) → 
     → IsTooLong o → ⊥
 not_too_long None v old a bytes long = long
 not_too_long (Some g) None old a bytes long = a
-not_too_long (Some g) (Some b) old a (opened, left, short) long =
-    omega (arith, long, short, ap length a.is, length-append g.bytes a.rest)
+not_too_long (Some g) (Some b) old a (opened, left, short) long = grind (arith, length-append)
 
 -- ---- no call failed
 
@@ -209,8 +206,7 @@ fault_of (Err fault) = Some fault
 -- operands that were read to their end stay so if a write fails after that
 ended_after_all : (m : CommandSpec) (readers : List Reader) (n : ℕ) (r : Result Completion FlowFault)
     → AreReadToEnd readers (ended_operands m n (result_status r)) → AreReadToEnd readers (ended_operands m n 1)
-ended_after_all m readers n r ended = ⊎_elim (λ together. rw together (λ q named. absurd (false≢true named)))
-    (λ in_turn. rw in_turn (rw in_turn at ended)) (cases_Bool (is_none m.sequential))
+ended_after_all m readers n r ended = grind arith
 
 -- the end of the inputs, unless a write failed after that
 end_of : (m : CommandSpec) (r : ReceivedInputs) (old new : List Reader) (pushed : List ℕ) (denied : Bool) (n : ℕ)
@@ -261,20 +257,13 @@ module _ {m : CommandSpec} {old new : List Reader} {was is : Output}
   flushes_before = k.wrote.flushes ∙ ap (λ o. o.flushes) made
 
   flushed_once : o.out.flushes ≡ (if o.out.failed then out.flushes else flushes_after out.flushes)
-  flushed_once = ⊎_elim (λ failed. rw failed (last.flushes ∙ f.unfinished (sym last.failed ∙ failed) ∙ flushes_before))
-      (λ fine. rw fine (last.flushes ∙ f.flushes (sym last.failed ∙ fine) ∙ ap flushes_after flushes_before))
-      (cases_Bool o.out.failed)
+  flushed_once = grind (arith, f, flushes_before)
 
   begins : (w : InputBytes) → AreInputsConsistent k.received w → IsPrefix reached.front (m.out w)
-  begins w agrees = let b = k.is_prefix w agrees in record {
-    rest = reached.rest ++ b.rest;
-    is = b.is ∙ ap (λ l. l ++ b.rest) reached.split ∙ append_assoc reached.front reached.rest b.rest;
-  }
+  begins w agrees = grind (arith, common_steps, reached)
 
   all_front : is'.write_failed ≡ false → reached.front ≡ k.pushed
-  all_front clean =
-      sym (reached.split ∙ ap (λ l. reached.front ++ l) (reached.whole clean (f.emptied clean))
-      ∙ append-nil reached.front)
+  all_front clean = search (rules, reached, f)
 
   abbrev last_message : List ℕ
   last_message = result_message m.tool m.names final_result
@@ -282,29 +271,11 @@ module _ {m : CommandSpec} {old new : List Reader} {was is : Output}
   ends_as : (r : Result Completion FlowFault) → final_result ≡ r
       → RunInputsEnd m k.received old new k.pushed is'.write_failed store.denied k.operands_done r
       → RunEnd m k.received old new reached.front (k.message ++ last_message) o k.operands_done (fault_of r)
-  ends_as (Ok done) same (complete, says) = (
-    record {
-      all = complete.all;
-      out = λ w agrees. all_front complete.no_write_failed ∙ complete.out w agrees;
-      no_write_failed = last.failed ∙ complete.no_write_failed;
-      not_denied = last.denied ∙ complete.not_denied;
-      read = complete.read;
-    },
-    λ w agrees. let (message, status) = says w agrees in (
-      (λ i. (k.names w agrees ∙ ap (λ n. operand_messages m w n) complete.all) i
-          ++ (ap (result_message m.tool m.names) same ∙ message) i),
-      last.status_is ∙ ap result_status same ∙ status,
-    ),
-  )
-  ends_as (Err fault) same e = record {
-    within = k.within;
-    messages = λ w agrees i. k.names w agrees i ++ result_message m.tool m.names (same i);
-    cause = rw (last.failed, last.denied) e;
-    status_is = last.status_is ∙ ap result_status same;
-  }
+  ends_as (Ok done) same (complete, says) = grind (arith, all_front)
+  ends_as (Err fault) same e = grind arith
 
   not_memory : final_result ≡ Err Write → fault_of final_result ≡ Some Memory → ⊥
-  not_memory write memory = let same : Some Write ≡ Some Memory = sym (ap fault_of write) ∙ memory in cc
+  not_memory write memory = cc
 
   err_of : (r : Result Completion FlowFault) → fault_of r ≡ Some Memory → r ≡ Err Memory
   err_of (Ok done) same = cc
@@ -363,7 +334,7 @@ module _ {m : CommandSpec} {old new : List Reader} {was is : Output}
 pub spec_of_ok : {A : Type 0} (command : Result (code.Command A) UseFault) (words : List (List ℕ)) (c : code.Command A)
     → command ≡ Ok c → CommandPost command (command_of_args words)
     → spec_of_parsed command words ≡ command_spec (command_view c)
-spec_of_ok command words c is m = rw is (ap (spec_of_result (tool_name words)) (rw is at m))
+spec_of_ok command words c is m = grind arith
 
 spec_of_fault_in : (words : List (List ℕ)) (f : Option Fault) → IsFault f (command_of_args words)
     → cond (is_none f) (message_only (usage_message (tool_name words) None) 1) (spec_of_args words)
@@ -376,20 +347,18 @@ pub spec_of_fault : {A : Type 0} (command : Result (code.Command A) UseFault) (w
     → command ≡ Err fault → CommandPost command (command_of_args words)
     → spec_of_parsed command words ≡ message_only (usage_message (tool_name words) (fault_view fault))
     (usage_status (fault_view fault))
-spec_of_fault command words fault is m = rw is (spec_of_fault_in words (fault_view fault) (rw is at m))
+spec_of_fault command words fault is m = grind (arith, spec_of_fault_in)
 
 position_differs : (a b : Input) → (a ≡ b → ⊥) → (position a == position b) ≡ false
 position_differs Standard Standard differ = absurd (differ refl)
 position_differs Standard (File j) differ = grind (arith, nat_tests)
 position_differs (File i) Standard differ = grind (arith, nat_tests)
-position_differs (File i) (File j) differ =
-    ⊎_elim (λ k. absurd (differ (let same : i ≡ j = omega (arith, k.1) in ap (λ n. File n) same))) (λ k. k.0)
-    (eqb_tells (i + 1) (j + 1))
+position_differs (File i) (File j) differ = grind (arith, eqb_tells)
 
 -- a tool that merges two inputs accepts two different ones, since their positions differ
 two_positions : (t : TwoInputs) (order : List Input) → AreTwo order
     → (two_input_tool t).accepts (positions order) ≡ true
-two_positions t order two = rw (two.are) (ap not (position_differs two.first two.second two.differ))
+two_positions t order two = grind (arith, position_differs)
 
 -- the tool accepts its operands, and there are few if it reads them together
 record AcceptsOperands (m : CommandSpec) : Type 0 where
@@ -398,27 +367,12 @@ record AcceptsOperands (m : CommandSpec) : Type 0 where
 
 accepts_operands : (job : Job) (word : List ℕ) (names : List (List ℕ)) (order : List Input) → AreInputsOf job order
     → AcceptsOperands (spec_of_tool word (tool_of_job job) names (positions order))
-accepts_operands (RunCut u) word names order any = record { accepts_operands = refl; few = λ none. cc }
-accepts_operands (RunPaste u) word names order few =
-    ⊎_elim (λ (is : u.serial ≡ true). rw is (record { accepts_operands = refl; few = λ none. cc }))
-    (λ (is : u.serial ≡ false). rw is
-    (record {
-      accepts_operands = ap (λ n. nat_le n 512) (length-map order position) ∙ few;
-      few = λ _. omega (arith, leb-true (length order) 512 few, length-map order position);
-    })) (cases_Bool u.serial)
-accepts_operands (RunUniq u) word names order one = record {
-  accepts_operands = ap (λ n. n == 1) (length-map order position ∙ one);
-  few = λ _. omega (arith, one, length-map order position);
-}
-accepts_operands (RunComm u) word names order two = record {
-  accepts_operands = two_positions (comm_tool u) order two;
-  few = λ _. omega (arith, ap length two.are, length-map order position);
-}
-accepts_operands (RunJoin u) word names order two = record {
-  accepts_operands = two_positions (join_tool u) order two;
-  few = λ _. omega (arith, ap length two.are, length-map order position);
-}
-accepts_operands (RunTr u) word names order any = record { accepts_operands = refl; few = λ none. cc }
+accepts_operands (RunCut u) word names order any = grind arith
+accepts_operands (RunPaste u) word names order few = grind (arith, common_steps, leb-true)
+accepts_operands (RunUniq u) word names order one = grind (arith, common_steps)
+accepts_operands (RunComm u) word names order two = grind (arith, two_positions)
+accepts_operands (RunJoin u) word names order two = grind (arith, two_positions)
+accepts_operands (RunTr u) word names order any = grind arith
 
 inputs_pre_of_spelled : (words : List (List ℕ)) (c : Command) (readers : List Reader) → SpellsCommand words c
     → AreNewInputs (length c.names) readers → InputsPre (command_spec c) readers

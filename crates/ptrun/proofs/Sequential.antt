@@ -6,26 +6,27 @@ use proofs.Common.{IsDone, cases_lt, sequential_slots, take-append-add, cases_eq
 use proofs.Common.{inl, inr, ℕ, ◌<◌, ◌≤◌, Bool, true, false, cond, List, [], ◌∷◌, ◌++◌, Some, None, Result, Ok, Err}
 use proofs.Common.{◌+◌, length, take, map, set, max, refl, sym, ◌∙◌, ap, subst, arith, append_assoc, length-append}
 use proofs.Common.{length-set, flat_map, option_map, list_any, append-nil, take_all, map-append, get_or-set_same}
-use proofs.Common.{get_or-set_other, length-map, take-append_seam, take-length, flat_map-append, false≢true, Reader}
-use proofs.Common.{IsSound, HasReadCause, Output, PushEffect, Slots, total_bytes, SinkState, push_trans, push_nothing}
+use proofs.Common.{length-map, take-append_seam, take-length, flat_map-append, false≢true, Reader, IsSound}
+use proofs.Common.{HasReadCause, Output, PushEffect, Slots, total_bytes, SinkState, push_trans, push_nothing}
 use proofs.Common.{Received, empty_input, IsConsistent, IsPrefix, HasReceived, AllPushed, CallOutcome, PassPost}
 use proofs.Common.{ToolSpec, FlowFault, Read, Write, Memory, InputBytes, ReceivedInputs, at, is_unopened}
-use proofs.Common.{IsConsistentAt, AreInputsConsistent, is_in, input_of_operand, inputs_of_operands, opened_values}
-use proofs.Common.{opened_inputs, reader_at, no_reader, is_reader_unopened, HasReceivedAt, HaveReceived}
-use proofs.Common.{IsNewOrUnopened, HasReadFailed, IsTooLong, HasSaid, unopened_messages, unopened_message, name_of}
-use proofs.Common.{BoundedLag, IsPushedUpToBlock, decided_in_order, up_to_unended, sequential_output, sequential_bound}
-use proofs.Common.{sequential_decided, sequential_spec, Completion, AllWritten, Unopened, HasCause, fault_at}
-use proofs.Common.{result_message, result_status, HasIndexBelow, RunInputsPost, get_or, get_or_default, All, DecidesAll}
-use proofs.Common.{OperandPre, OperandPost, operand_completion, CallState, call_state, only_input, pass_engine}
-use proofs.Common.{pass_end}
+use proofs.Common.{AreInputsConsistent, is_in, input_of_operand, inputs_of_operands, opened_values, opened_inputs}
+use proofs.Common.{reader_at, no_reader, is_reader_unopened, HaveReceived, IsNewOrUnopened, HasReadFailed, IsTooLong}
+use proofs.Common.{HasSaid, unopened_messages, unopened_message, name_of, BoundedLag, IsPushedUpToBlock}
+use proofs.Common.{decided_in_order, up_to_unended, sequential_output, sequential_bound, sequential_decided}
+use proofs.Common.{sequential_spec, Completion, AllWritten, Unopened, HasCause, fault_at, result_message}
+use proofs.Common.{result_status, HasIndexBelow, RunInputsPost, get_or, get_or_default, All, DecidesAll, OperandPre}
+use proofs.Common.{OperandPost, operand_completion, CallState, call_state, only_input, pass_engine, pass_end}
 use proofs.OneInput.{all_earlier, last_earlier, sends_now, sends_after, IsAtEof, none_received, completion_with}
 use proofs.OneInput.{received_of, received_at, nothing_read, never_long, not_long, OpenedInput, opened_receives}
 use proofs.OneInput.{still_unopened, receives_trans, ended_gives_nothing, unopened_agrees, none_of, consistent_bytes}
 use proofs.OneInput.{consistent_before, least_consistent, ended_at, nth_here}
 use proofs.MessageWrites.{said_nothing}
-use proofs.OperandInputs.{some_same, holds_more, is_in-same, is_in-other, not_more, by_position, opened_inputs_some}
+use proofs.OperandInputs.{least_bytes, some_same, holds_more, is_in-same, is_in-other, not_more, by_position, opened_inputs_some}
 use proofs.OperandInputs.{opened_inputs_none, unopened_same, any_same, any_now, any_before, said_more, maximum-append}
-use proofs.OperandInputs.{IsEndedAt, least_bytes, decided_inputs, fresh_all}
+use proofs.OperandInputs.{IsEndedAt, decided_inputs, fresh_all}
+use Rattle.std.proofs.Common.{rules}
+use Rattle.std.proofs.lemmas.Grind.{common_steps}
 
 -- the state once these operands are done
 pub record OperandsDone (word : List ℕ) (t : ToolSpec) (names : List (List ℕ)) (old now : List Reader) (was is : Output)
@@ -59,7 +60,7 @@ pub done_as : {word : List ℕ} {t : ToolSpec} {names : List (List ℕ)} {old no
     → messages_new' ≡ messages_new → so_far' ≡ so_far → done' ≡ done
     → OperandsDone word t names old now was is messages_old messages_new before store done so_far
     → OperandsDone word t names old now' was is' messages_old messages_new' before store' done' so_far'
-done_as inputs kept out messages far positions k = rw (inputs, kept, out, messages, far, positions) k
+done_as inputs kept out messages far positions k = grind arith
 
 ok_of : (p : ℕ) {all : Completion} (passed : Result (Unit {0}) FlowFault) → operand_completion p passed ≡ Ok all
     → passed ≡ Ok tt
@@ -77,7 +78,7 @@ record PassFault (p : ℕ) (passed : Result (Unit {0}) FlowFault) (fault : FlowF
 err_of : {p : ℕ} {fault : FlowFault} (passed : Result (Unit {0}) FlowFault) → operand_completion p passed ≡ Err fault
     → PassFault p passed fault
 err_of (Ok u) same = cc
-err_of (Err (Read index)) same = record { passed_fault = Read index; failed = refl; is = cc }
+err_of (Err (Read index)) same = grind arith
 err_of (Err Write) same = record { passed_fault = Write; failed = refl; is = cc }
 err_of (Err Memory) same = record { passed_fault = Memory; failed = refl; is = cc }
 
@@ -110,7 +111,7 @@ module _ {word : List ℕ} {t : ToolSpec} {names : List (List ℕ)} {old : List 
       {so_far : Completion}
       (k : OperandsDone word t names old now was is messages_old messages_new before store done so_far) where
     was_unopened : (q : ℕ) → is_reader_unopened old q ≡ (reader_at now q).refused
-    was_unopened q = sym (still_unopened (reader_at old q) (reader_at now q) (at k.inputs_read q) (k.came q))
+    was_unopened q = grind (arith, still_unopened)
 
     not_failed_now : (q : ℕ) → is_reader_unopened old q ≡ false → (reader_at old q).failed ≡ false
         → (reader_at now q).failed ≡ false
@@ -119,7 +120,7 @@ module _ {word : List ℕ} {t : ToolSpec} {names : List (List ℕ)} {old : List 
         (λ unseen. ap (λ r. r.failed) (k.unread q unseen) ∙ not_failed_before) (cases_Bool (is_in done q))
 
     ended_now : (q : ℕ) → is_in done q ≡ true → IsEndedAt (at k.inputs_read q)
-    ended_now q seen = ended_at (reader_at old q) (reader_at now q) (at k.inputs_read q) (k.came q) (k.at_eof q seen)
+    ended_now q seen = grind (arith, ended_at)
 
     can_read_now : (q : ℕ) → is_reader_unopened old q ≡ false
         → ((reader_at now q).buffered ≡ []) × ((reader_at now q).fault ≡ None)
@@ -221,16 +222,7 @@ module _ {word : List ℕ} {t : ToolSpec} {names : List (List ℕ)} {old : List 
 
       -- an opened operand can be passed to the tool
       pub operand_ready : (get_or now p d).refused ≡ false → OperandPre (p ∷ []) now store
-      operand_ready opened = record {
-        only = refl;
-        within = omega (arith, within, k.same_length);
-        ready = record {
-          opened = rw here at opened;
-          readable = rw here at (ready_here opened);
-          not_denied = k.not_denied;
-          empty = k.empty;
-        };
-      }
+      operand_ready opened = grind (arith, here, ready_here)
 
       -- the next operand could not be opened
       pub done_unopened : {messages_new' : SinkState} → (get_or now p d).refused ≡ true
@@ -291,7 +283,7 @@ module _ {word : List ℕ} {t : ToolSpec} {names : List (List ℕ)} {old : List 
       came_here = e.call.came tt refl
 
       not_failed_before : (reader_at now p).failed ≡ false
-      not_failed_before = rw (here within d) at (sound.unfailed open_here (ready_here within d open_here))
+      not_failed_before = grind (arith, here, ready_here)
 
       old_open : is_reader_unopened old p ≡ false
       old_open = was_unopened p ∙ rw (here within d) at open_here
@@ -316,25 +308,23 @@ module _ {word : List ℕ} {t : ToolSpec} {names : List (List ℕ)} {old : List 
       reader_here = get_or-set_same now p new _ (omega (arith, within, k.same_length))
 
       reader_other : (q : ℕ) → p ≢ q → reader_at now' q ≡ reader_at now q
-      reader_other q differs = get_or-set_other now p q new no_reader (λ is_p. differs (sym is_p))
+      reader_other q differs = search rules
 
       read_here : at inputs_read' p ≡ Some (given_now y.given)
-      read_here = get_or-set_same k.inputs_read p (Some (given_now y.given)) None (omega (arith, within, k.long))
+      read_here = search rules
 
       read_other : (q : ℕ) → p ≢ q → at inputs_read' q ≡ at k.inputs_read q
-      read_other q differs = get_or-set_other k.inputs_read p q (Some (given_now y.given)) None
-          (λ is_p. differs (sym is_p))
+      read_other q differs = search rules
 
       receives_here : HasReceived (reader_at old p) new (given_now y.given)
       receives_here = receives_trans (reader_at old p) (reader_at now p) new y.given given_here y.received came_here buffered
 
       received' : HaveReceived old now' inputs_read'
-      received' = by_position (λ q. HasReceivedAt (reader_at old q) (reader_at now' q) (at inputs_read' q)) p
-          (rw (reader_here, read_here) (old_open, receives_here))
-          (λ q other. rw (reader_other q other, read_other q other) (k.came q))
+      received' = grind (arith, by_position, reader_here, read_here, old_open, receives_here, reader_other,
+          read_other)
 
       still : y.given.eof ≡ true → (given_here.bytes ≡ []) × (given_here.eof ≡ true)
-      still eof = ended_gives_nothing (reader_at now p) new given_here came_here buffered (sym y.received.eof ∙ eof)
+      still eof = grind (arith, ended_gives_nothing, came_here, buffered)
 
       -- its input was read to its end before and gives nothing now, or it was not read before
       turn : ((is_in done p ≡ true) × (given_here ≡ empty_input) × IsAtEof (reader_at now p))
@@ -351,27 +341,16 @@ module _ {word : List ℕ} {t : ToolSpec} {names : List (List ℕ)} {old : List 
           )) (cases_Bool (is_in done p))
 
       unseen : HasReadCause (reader_at now p) new → is_in done p ≡ false
-      unseen cause = ⊎_elim
-          (λ (seen, none, at_eof). absurd
-          (⊎_elim
-          (λ (failed, fault, before). false≢true (sym (came_here.eof ∙ before) ∙ ap (λ g. g.eof) none))
-          (λ (long, same). let (pulled, still_eof) = came_here.still at_eof.done.eof in
-          omega (arith, at_eof.short, pulled, long)) cause))
-          (λ (unseen, none). unseen) turn
+      unseen cause = grind (arith, came_here, still, turn)
 
       consistent_here : (b : List ℕ) → IsConsistent (given_now y.given) b
           → IsConsistent given_here (cond (is_in done p) [] b)
-      consistent_here b a = ⊎_elim
-          (λ (seen, none, at_eof). rw (none, seen) (record { rest = []; is = refl; whole = λ _. refl }))
-          (λ (unseen, none). rw unseen (rw none at a)) turn
+      consistent_here b a = grind (arith, unseen, turn)
 
       -- the bytes are consistent with what was received before
       back : (w : InputBytes) → AreInputsConsistent inputs_read' w → AreInputsConsistent k.inputs_read w
-      back w agrees =
-          let here = consistent_bytes (at inputs_read' p) (at w p) (given_now y.given) read_here (agrees p) in
-          by_position (λ q. IsConsistentAt (at k.inputs_read q) (at w q)) p
-          (rw (y.is, here.are) (consistent_before y.given given_here here.bytes still here.agree))
-          (λ q differs. rw (read_other q differs) at (agrees q))
+      back w agrees = grind (arith, here, consistent_bytes, read_here, by_position, consistent_before, still,
+          read_other)
 
       -- the bytes that are left for the operand, consistent with what this call received
       record OperandFinds (w : InputBytes) : Type 0 where
@@ -500,10 +479,7 @@ module _ {word : List ℕ} {t : ToolSpec} {names : List (List ℕ)} {old : List 
 
       -- an operand before it with the same input has read that to its end
       ended_still : (q : ℕ) → is_in done q ≡ true → (reader_at now' q).refused ≡ false → IsDone (reader_at now' q)
-      ended_still =
-          by_position (λ q. is_in done q ≡ true → (reader_at now' q).refused ≡ false → IsDone (reader_at now' q)) p
-          (λ seen opened. rw reader_here (e.stays_done (k.at_eof p seen old_open).done))
-          (λ q differs seen. rw (reader_other q differs) (λ opened. (k.at_eof q seen (was_unopened q ∙ opened)).done))
+      ended_still = grind (arith, by_position, reader_here, old_open, reader_other, was_unopened)
 
       memory_is : (fault : FlowFault) → fault_at p fault ≡ Memory → fault ≡ Memory
       memory_is (Read position) is = cc
@@ -525,27 +501,19 @@ module _ {word : List ℕ} {t : ToolSpec} {names : List (List ℕ)} {old : List 
 
       failing : (fault : FlowFault) → EndedAs (Err fault) → new.failed ≡ true
           → (new.eof ≡ false) × (fault_at p fault ≡ Read p)
-      failing (Read position) r failed =
-          ⊎_elim (λ (now_failed, empty, going). (going, refl))
-          (λ (long, same). absurd (false≢true (sym (same ∙ not_failed_before) ∙ failed))) r.cause
+      failing (Read position) r failed = grind (arith, not_failed_before)
       failing Write r failed = absurd (false≢true (sym (r.unfailed tt refl ∙ not_failed_before) ∙ failed))
       failing Memory r failed = absurd (false≢true (sym (r.unfailed tt refl ∙ not_failed_before) ∙ failed))
 
       ended_before : (q : ℕ) → is_in done q ≡ true → IsEndedAt (at inputs_read' q)
-      ended_before = by_position (λ q. is_in done q ≡ true → IsEndedAt (at inputs_read' q)) p
-          (λ seen. rw read_here (⊎_elim (λ (before, none, at_eof). ap (λ g. g.eof) none)
-          (λ (unseen, none). absurd (false≢true (sym unseen ∙ seen))) turn))
-          (λ q differs seen. rw (read_other q differs) (ended_now q seen))
+      ended_before = grind (arith, by_position, read_here, unseen, turn, read_other, ended_now)
 
       module _ (law : DecidesAll t) where
         -- the operands that are done decided all their output
         decided_all : (came : List Received)
             → flat_map t.decided (up_to_unended (opened_inputs empty_input inputs_read' done ++ came))
             ≡ k.pushed ++ flat_map t.decided (up_to_unended came)
-        decided_all came = decided_inputs t law inputs_read' [] done came ended_before
-            ∙ (λ i. sym (k.out (least_bytes inputs_read')
-            (back (least_bytes inputs_read') (least_consistent inputs_read'))) i
-            ++ flat_map t.decided (up_to_unended came))
+        decided_all came = grind (arith, decided_inputs, ended_before, back, least_consistent)
 
         -- the output of this operand that was decided two blocks earlier
         one_keeps : BoundedLag {I = Unit {0}} (λ came. t.decided (came tt)) (λ u. given_here) is is' e.call.pushed
@@ -555,11 +523,7 @@ module _ {word : List ℕ} {t : ToolSpec} {names : List (List ℕ)} {old : List 
         earlier = (one_keeps.processing.before tt).earlier
 
         input_given : input_of_operand empty_input inputs_read' done p ≡ Some (given_here)
-        input_given = ap (λ o. option_map (λ (g : Received). cond (is_in done p) empty_input g) o)
-            read_here
-            ∙ ⊎_elim (λ (seen, none, at_eof). (λ i. Some (cond (seen i) empty_input (given_now y.given)))
-            ∙ ap (λ g. Some g) (sym none))
-            (λ (unseen, none). λ i. Some (cond (unseen i) empty_input (given_now (none i)))) turn
+        input_given = grind (arith, read_here, unseen, turn)
 
         -- if its end was not reached, nothing after it is decided
         decided_open : (g : Received) (after : List Received) → (after ≡ []) ⊎ (g.eof ≡ false)
@@ -575,17 +539,11 @@ module _ {word : List ℕ} {t : ToolSpec} {names : List (List ℕ)} {old : List 
         -- a prefix of what this operand pushed, after all that was pushed before it
         begins_after : (bytes : List ℕ) {all : List ℕ} → all ≡ k.pushed ++ bytes → IsPrefix bytes e.call.pushed
             → IsPrefix all (k.pushed ++ e.call.pushed)
-        begins_after bytes is b =
-            record {
-              rest = b.rest;
-              is = (λ i. k.pushed ++ b.is i) ∙ sym (append_assoc k.pushed bytes b.rest)
-                  ∙ ap (λ l. l ++ b.rest) (sym is);
-            }
+        begins_after bytes is b = grind (arith, common_steps)
 
         decided_here : decided_in_order t (opened_inputs empty_input inputs_read' done ++ earlier ∷ [])
             ≡ k.pushed ++ t.decided earlier
-        decided_here = decided_all (earlier ∷ [])
-            ∙ ap (λ l. k.pushed ++ l) (decided_open earlier [] (inl refl))
+        decided_here = search (rules, decided_all, decided_open)
 
         stopped : (more : List ℕ) (fault : FlowFault) → result ≡ Err fault
             → RunInputsPost (sequential_spec word t names (done ++ p ∷ more)) old now' was is' messages_old messages_new
@@ -671,8 +629,7 @@ module _ {word : List ℕ} {t : ToolSpec} {names : List (List ℕ)} {old : List 
         (sound : IsSound (get_or now p d)) (call : OperandPost t p now after is is' store store' result) where
       pub done_operand : {all : Completion} → result ≡ Ok all
           → OperandsDone word t names old after was is' messages_old messages_new before store' (done ++ p ∷ []) so_far
-      done_operand ok = rw call.inputs
-          (passed_ok within d open_here sound call.pass (ok_of p call.pass_result (sym call.result_is ∙ ok)))
+      done_operand ok = grind (arith, passed_ok, ok_of)
 
       pub done_stopped : DecidesAll t → (more : List ℕ) {fault : FlowFault} → result ≡ Err fault
           → RunInputsPost (sequential_spec word t names (done ++ p ∷ more)) old after was is' messages_old messages_new

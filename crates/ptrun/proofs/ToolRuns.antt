@@ -5,12 +5,14 @@ use proofs.Common.{◌≡◌, ℕ, Bool, true, false, List, [], ◌∷◌, Resul
 use proofs.Common.{Slots, SinkState, ToolSpec, FlowFault, Completion, HasSaid, is_reader_unopened, unopened_messages}
 use proofs.Common.{sequential_spec, InputsPre, ReportUnopenedPost, RunInputsPost, OperandPre, OperandPost, RunOnPre}
 use proofs.Common.{RunOnPost, DecidesAll, OneByOne, Together, ToolInRun, reads_together, spec_of_tool, get_or, set}
-use proofs.Common.{get_or_default, no_reader, PassPost, only_operand, operand_completion, ◌∙◌, is_unopened, All, map}
-use proofs.Common.{take-length, append-nil, IsNewOrUnopened, total_bytes, IsRun, sinks, joint_spec}
+use proofs.Common.{PassPost, only_operand, operand_completion, ◌∙◌, is_unopened, All, map, take-length, append-nil}
+use proofs.Common.{IsNewOrUnopened, total_bytes, IsRun, sinks, joint_spec}
 use proofs.JointRuns.{none_unopened, joint_post}
 use proofs.OneInput.{received_of, nothing_read, unopened_agrees}
 use proofs.OperandInputs.{any_same, fresh_all, unopened_same}
 use proofs.RunEnds.{unread}
+use Rattle.std.proofs.Common.{arith}
+use Rattle.std.proofs.lemmas.Grind.{common_steps}
 
 -- the tool, if it reads one operand after another
 abbrev pub one_tool : ToolInRun → ToolSpec
@@ -54,8 +56,7 @@ module _ (word : List ℕ) (names : List (List ℕ)) (positions : List ℕ) wher
   pub together_says : {inputs : List Reader} {messages_old messages_new : SinkState} {any_unopened : Bool}
       → ReportUnopenedPost word names positions inputs messages_old messages_new any_unopened → any_unopened ≡ false
       → HasSaid messages_old messages_new []
-  together_says {inputs} k none =
-      rw (none_unopened word names (is_reader_unopened inputs) positions (sym k.is ∙ none)) at k.has_said
+  together_says {inputs} k none = grind (arith, none_unopened)
 
   -- a tool reads something unless it reads its operands together and one was not opened
   pub reads_if : (s : ToolInRun) (test : ℕ → Bool) → (reads_together s ≡ true → list_any test positions ≡ false)
@@ -70,17 +71,8 @@ module _ (word : List ℕ) (names : List (List ℕ)) (positions : List ℕ) wher
       → ReportUnopenedPost word names positions inputs messages_old messages_new any_unopened
       → any_unopened ≡ false → was.write_failed ≡ false → before.denied ≡ false → total_bytes before.lines ≡ 0
       → RunOnPre s positions inputs was before
-  together_pre (OneByOne t law) was before together given k none writable not_denied empty = absurd (false≢true together)
-  together_pre (Together t) was before together given k none writable not_denied empty = record {
-    accepts_operands = given.accepts_operands;
-    fresh = given.fresh;
-    in_range = given.in_range;
-    opened = sym k.is ∙ none;
-    sound = k.sound;
-    writable = writable;
-    not_denied = not_denied;
-    empty = empty;
-  }
+  together_pre (OneByOne t law) was before together given k none writable not_denied empty = cc
+  together_pre (Together t) was before together given k none writable not_denied empty = grind arith
 
   module _ {was : Output} {before : Slots} where
     module _ {old new : List Reader} {is : Output} {store : Slots} {result : Result Completion FlowFault} where
@@ -90,11 +82,9 @@ module _ (word : List ℕ) (names : List (List ℕ)) (positions : List ℕ) wher
           → any_unopened ≡ false → was.write_failed ≡ false → before.denied ≡ false → total_bytes before.lines ≡ 0
           → RunOnPost s positions old new was is before store result
           → RunInputsPost (spec_of_tool word s names positions) old new was is messages messages before store result
-      together_post (OneByOne t law) messages together given k none writable not_denied empty post =
-          absurd (false≢true together)
-      together_post (Together t) messages together given k none writable not_denied empty post =
-          joint_post word names messages
-          (together_pre (Together t) was before together given k none writable not_denied empty) post
+      together_post (OneByOne t law) messages together given k none writable not_denied empty post = cc
+      together_post (Together t) messages together given k none writable not_denied empty post = grind (arith,
+          joint_post, together_pre)
 
       pub sequential_post : (s : ToolInRun) {messages_old messages_new : SinkState} → reads_together s ≡ false
           → RunInputsPost (sequential_spec word (one_tool s) names positions) old new was is messages_old messages_new
@@ -125,10 +115,5 @@ pub operand_passed : {t : ToolSpec} {operands : List ℕ} {old : List Reader} {n
     → PassPost t (get_or old (only_operand operands) d) new was is before store passed
     → result ≡ operand_completion (only_operand operands) passed
     → OperandPost t (only_operand operands) old (set old (only_operand operands) new) was is before store result
-operand_passed {operands = operands} {old} {new} {passed = passed} ready d pass result_is = record {
-  reader = new;
-  inputs = refl;
-  pass_result = passed;
-  result_is = result_is;
-  pass = rw (get_or_default old (only_operand operands) d no_reader ready.within) at pass;
-}
+operand_passed {operands = operands} {old} {new} {passed = passed} ready d pass result_is = grind (arith,
+    common_steps)

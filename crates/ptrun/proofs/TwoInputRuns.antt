@@ -1,22 +1,23 @@
 -- Tools with two inputs. What the merge has done to its two readers is what the tool has to do with the list from which
 -- both were lent; no other reader changes.
 use Rattle.ptrun.proofs
-use proofs.Common.{subst, length-append, ◌≡◌, ◌≢◌, ℕ, ◌<◌, ◌||◌, ◌&&◌, ◌==◌, true, false, List, [], ◌∷◌, ⊎_elim, Result}
-use proofs.Common.{length, get_or, refl, sym, ◌∙◌, ap, arith, not, All-nil, All-cons, false≢true, nat_tests, eqb_tells}
-use proofs.Common.{Reader, Output, Slots, Received, update_at, First, Second, decided_output, is_in, reader_at}
-use proofs.Common.{is_reader_unopened, IsNew, two_input_tool, operand, JointPre, JointPost, merge_completion}
-use proofs.Common.{result_of_end, ◌-◌, ◌++◌, set, length-set, set-append_left, set-append_right, get_or_append_left}
-use proofs.Common.{get_or-append_right, get_or_default, get_or-set_same, get_or-set_other, no_reader}
+use proofs.Common.{subst, length-append, ◌≡◌, ◌≢◌, ℕ, ◌<◌, ◌||◌, ◌&&◌, ◌==◌, true, false, List, [], ◌∷◌, Result}
+use proofs.Common.{length, get_or, refl, sym, ◌∙◌, ap, arith, not, All-nil, All-cons, false≢true, nat_tests}
+use proofs.Common.{eqb_tells, Reader, Output, Slots, Received, update_at, First, Second, decided_output, is_in}
+use proofs.Common.{reader_at, IsNew, two_input_tool, operand, JointPre, JointPost, merge_completion, result_of_end}
+use proofs.Common.{◌-◌, ◌++◌, set, length-set, set-append_left, set-append_right}
 use Rattle.ptlines.specs.Calls.{CallPost, call_state}
 use Rattle.ptmerge.specs.declared.faults.MergeFault.{MergeFault}
 use Rattle.ptmerge.specs.declared.key_order.Side.{Side}
-use Rattle.ptmerge.specs.MergeCall.{MergePre, MergePost, merge_state, both_sides, is_same_side, merge_engine, merge_end}
+use Rattle.ptmerge.specs.MergeCall.{MergePre, MergePost, merge_state, both_sides, is_same_side, merge_engine}
+use Rattle.ptmerge.specs.MergeCall.{merge_end}
 use Rattle.ptmerge.specs.MergeSpec.{MergeTool}
 use Rattle.ptmerge.specs.Sides.{both, other}
 use Rattle.ptmerge.specs.declared.faults.MergeFault.TheVariants as faults
 use Rattle.ptrun.specs.Engines.{end_at}
 use proofs.OperandInputs.{same_here, is_in-same, none_passes, each_listed, put_here, put_other, fresh_all}
 use proofs.PlacedCalls.{Placement, placed_call}
+use Rattle.std.proofs.lemmas.Grind.{common_steps}
 
 -- ---- two operands
 
@@ -31,10 +32,7 @@ AcceptsTwo positions =
 
 pub two_of : (positions : List ℕ) (d : ℕ) → AcceptsTwo positions
     → TwoPositions positions (get_or positions 0 d) (get_or positions 1 d)
-two_of (p ∷ q ∷ []) d accepts_operands = record {
-  are = refl;
-  apart = λ same. grind (arith, nat_tests, accepts_operands, same);
-}
+two_of (p ∷ q ∷ []) d accepts_operands = grind arith
 two_of positions d accepts_operands = absurd (grind (arith, nat_tests, accepts_operands))
 
 module _ (t : MergeTool) {old : List Reader} {was : Output} {before : Slots} {p q : ℕ} (apart : p ≡ q → ⊥)
@@ -47,28 +45,20 @@ module _ (t : MergeTool) {old : List Reader} {was : Output} {before : Slots} {p 
   named Second = is_in-same (p ∷ []) q
 
   open_at : (side : Side) → (reader_at old (operand two side)).refused ≡ false
-  open_at side = none_passes (is_reader_unopened old) two ready.opened (operand two side) (named side)
+  open_at side = grind (arith, none_passes, named)
 
   new_at : (side : Side) → IsNew (reader_at old (operand two side))
   new_at side = fresh_all old ready.fresh (operand two side) (open_at side)
 
   pub within_at : (side : Side) → operand two side < length old
-  within_at side = each_listed (λ k. k < length old) two ready.in_range (operand two side) (named side)
+  within_at side = grind (arith, each_listed, named)
 
   -- both can be read
   pub ready_at : MergePre (reader_at old p) (reader_at old q) before
-  ready_at =
-      record {
-        opened1 = open_at First;
-        opened2 = open_at Second;
-        readable1 = (new_at First).fault;
-        readable2 = (new_at Second).fault;
-        allowed = ready.not_denied;
-        empty = ready.empty;
-      }
+  ready_at = grind (arith, open_at, new_at)
 
   not_same : (a b : ℕ) → (a ≡ b → ⊥) → (a == b) ≡ false
-  not_same a b differs = ⊎_elim (λ same. absurd (differs same.1)) (λ differ. differ.0) (eqb_tells a b)
+  not_same a b differs = grind (arith, eqb_tells)
 
   abbrev IsSide : ℕ → Type 0
   IsSide k = (side : Side) × (true ≡ true) × (operand two side ≡ k)
@@ -104,8 +94,7 @@ module _ (t : MergeTool) {old : List Reader} {was : Output} {before : Slots} {p 
   position_is Second = refl
 
   not_failed : (side : Side) → (both (reader_at old p) (reader_at old q) side).failed ≡ false
-  not_failed side = rw (by_side old side)
-      ((ready.sound (operand two side) (named side)).unfailed (open_at side) (new_at side).fault)
+  not_failed side = grind (arith, by_side, named, open_at, new_at)
 
   pub two_inputs_post : {new : List Reader} {is : Output} {store : Slots} {result : Result (Unit {0}) MergeFault}
       → ((k : ℕ) → (p ≡ k → ⊥) → (q ≡ k → ⊥) → reader_at new k ≡ reader_at old k)
@@ -145,15 +134,7 @@ module _ {inputs : List Reader} (front back : List Reader) {low high : ℕ} (spl
   none_left = omega arith
 
   pub were : (d e : Reader) → (get_or front low d ≡ reader_at inputs low) × (get_or back 0 e ≡ reader_at inputs high)
-  were d e = (
-    get_or_default front low d no_reader (omega (arith, size, below))
-        ∙ sym (ap (λ l. get_or l low no_reader) split
-        ∙ get_or_append_left front back no_reader low (omega (arith, size, below))),
-    get_or_default back 0 e no_reader (omega (arith, ap length split, length-append front back, size, within))
-        ∙ sym (ap (λ l. get_or l high no_reader) split
-        ∙ get_or-append_right front back high high no_reader size (omega arith)
-        ∙ ap (λ n. get_or back n no_reader) none_left),
-  )
+  were d e = grind (arith, common_steps, length-append, none_left)
 
   module _ (x y : Reader) where
     set_both : set (set inputs low x) high y ≡ set front low x ++ set back 0 y
@@ -165,18 +146,4 @@ module _ {inputs : List Reader} (front back : List Reader) {low high : ℕ} (spl
 
     pub split_readers : (d e : Reader)
         → SplitReaders inputs (set front low x ++ set back 0 y) low high (get_or front low d) (get_or back 0 e) x y
-    split_readers d e = record {
-      was_low = (were d e).0;
-      was_high = (were d e).1;
-      is_low =
-          rw (sym set_both) (get_or-set_other (set inputs low x) high low y no_reader
-          (λ same. omega (arith, same, below))
-          ∙ get_or-set_same inputs low x no_reader (omega (arith, below, within)));
-      is_high =
-          rw (sym set_both) (get_or-set_same (set inputs low x) high y no_reader
-          (omega (arith, within, length-set inputs low x)));
-      others =
-          λ k first second. rw (sym set_both)
-          (get_or-set_other (set inputs low x) high k y no_reader (λ same. second (sym same))
-          ∙ get_or-set_other inputs low k x no_reader (λ same. first (sym same)));
-    }
+    split_readers d e = grind (arith, common_steps, were, set_both)

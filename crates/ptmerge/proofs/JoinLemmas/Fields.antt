@@ -21,6 +21,7 @@ use Rattle.ptmerge.specs.declared.key_order.Span.{Span}
 use Rattle.std.proofs.lemmas.Simd.{length-chunk, mask_l-mod}
 use Rattle.std.specs.List.{slice_range}
 use Rattle.std.specs.Simd.Lanes.{chunk, mask_l, top, zip2}
+use Rattle.std.proofs.lemmas.Grind.{common_steps}
 
 -- ---- the end of a field
 
@@ -31,10 +32,7 @@ first_is_position test bytes None none =
     (λ k lt. false_from_ne_true _ (none k (omega arith) lt))
     (λ bad. absurd (omega (arith, bad))) in
     rw is (grind (arith, nat_tests))
-first_is_position test bytes (Some at) (range, found) =
-    let is : position_or_len test bytes ≡ at = position_or_len_is test bytes at 0 (omega (arith, range.high))
-    (λ k lt. false_from_ne_true _ (range.before k (omega arith) lt)) (λ _. found) in
-    rw is (grind (arith, nat_tests, range.high))
+first_is_position test bytes (Some at) (range, found) = grind (arith, position_or_len_is, false_from_ne_true)
 
 -- ---- the field with a number
 
@@ -109,23 +107,16 @@ ends_at separator bytes at end first some = let is = sym first ∙ some in recor
 
 pub ends_whole : (separator : Option ℕ) (bytes : List ℕ) (end : Option ℕ)
     → end ≡ position (is_separator separator) bytes → end ≡ None → IsFirstPieceEnd separator bytes (length bytes)
-ends_whole separator bytes end first is_none = let none = sym first ∙ is_none in record {
-  remainder = [];
-  is = cc (split_whole (is_separator separator) bytes none, take_all (length bytes) bytes (omega arith));
-  within = omega arith;
-}
+ends_whole separator bytes end first is_none = grind (arith, common_steps, split_whole)
 
 -- the first field begins at index 0
 front_span : (line bytes : List ℕ) (end : ℕ) → end ≤ length line → take end line ≡ bytes
     → IsKeySpan line bytes (record { start = 0; end = end })
-front_span line bytes end within is = let whole : end - 0 ≡ end =
-    omega arith in record { ordered = omega arith; within = within; bytes_are = cc }
+front_span line bytes end within is = grind arith
 
 pub first_piece_span : (c number end : ℕ) (line : List ℕ) → number ≤ 1 → IsFirstPieceEnd (Some c) line end
     → IsKeySpan line (nth_field number (remaining_fields (Some c) (Some line))) (record { start = 0; end = end })
-first_piece_span c number end line low e =
-    let first : number - 1 ≡ 0 = omega (arith, low) in
-    front_span line _ end e.within (rw (e.is, first) refl)
+first_piece_span c number end line low e = grind (arith, front_span)
 
 -- ---- an empty word is skipped
 
@@ -171,9 +162,7 @@ pub entry_plain : (job : Join) (k : List ℕ) (one two : Option (List ℕ)) → 
     → entry job k (remaining_fields job.separator one) (remaining_fields job.separator two) ≡ k
     ++ (with_prefix (output_separator job.separator) (other_fields job.field1 (remaining_fields job.separator one))
     ++ with_prefix (output_separator job.separator) (other_fields job.field2 (remaining_fields job.separator two)))
-entry_plain job k one two none = rw (none, join_is_prefixed) (ap (λ (l : List ℕ). k ++ l)
-    (flat_map-append (λ f. output_separator job.separator ∷ f)
-    (other_fields job.field1 (remaining_fields job.separator one)) _))
+entry_plain job k one two none = grind (arith, join_is_prefixed, flat_map-append)
 
 pub between_is : (separator : Option ℕ) → output_separator separator ≡ unwrap_or separator 32
 between_is separator = grind arith
@@ -195,9 +184,7 @@ pub entry_listed : (job : Join) (k : List ℕ) (one two : Option (List ℕ)) (it
     → 1 ≤ length items → {bytes : List ℕ} → bytes ≡ output_item job k one two (get_or items 0 d)
     → entry_with_list job (Some items) k one two ≡ bytes ++ with_prefix (output_separator job.separator)
     (map (output_item job k one two) (take (length items - 1) (drop 1 items)))
-entry_listed job k one two items d some {bytes} first = ap (join_with_byte _)
-    (first_then_rest _ items d some first)
-    ∙ join_is_prefixed _ bytes _
+entry_listed job k one two items d some {bytes} first = grind (arith, first_then_rest, join_is_prefixed)
 
 -- ---- words with single spaces are written unchanged
 
@@ -231,15 +218,12 @@ single_spaced_words false (b ∷ bytes) tidy =
 line_is : (b n : ℕ) (fs : Lines) (line key : List ℕ) → with_prefix b fs ≡ b ∷ line → n - 1 ≡ 0 → nth_field n fs ≡ key
     → line ≡ key ++ with_prefix b (other_fields n fs)
 line_is b n [] line key is first keyed = cc
-line_is b n (f ∷ fs) line key is first keyed = let same : f ≡ key = rw first at keyed in sym (ap (drop 1) is)
-    ∙ (rw (first, same) refl)
+line_is b n (f ∷ fs) line key is first keyed = cc
 
 -- the rest of a line after its first field
 after_key : (key rest line : List ℕ) → line ≡ key ++ rest
     → take (length line - length key) (drop (length key) line) ≡ rest
-after_key key rest line is =
-    rw (is, drop-append_seam key rest)
-    (take_all _ rest (omega (arith, length-append key rest)))
+after_key key rest line is = grind (arith, common_steps, length-append)
 
 module _ (job : Join) (key : List ℕ) (none : job.list ≡ None) where
   abbrev prefix : ℕ
@@ -328,8 +312,7 @@ pub after_piece : (separator : Option ℕ) (line field : List ℕ) (remainder : 
     → MatchOption remainder (end ≡ length line) (λ bytes. end + 1 + length bytes ≡ length line)
     → is_evenly_separated separator line ≡ true
     → with_prefix (output_separator separator) (remaining_fields separator remainder) ≡ drop end line
-after_piece separator line field None end p e even =
-    sym (nil_from_length _ (omega (arith, length-drop end line, e)))
+after_piece separator line field None end p e even = grind (arith, common_steps)
 after_piece separator line field (Some bytes) end p e even =
     let (byte, ends, test) = p.ends in
     let front = p.front ++ field in
@@ -362,8 +345,7 @@ pub around_is : (separator : Option ℕ) (number : ℕ) (line : List ℕ) (found
     → IsFieldFound separator number line found → is_evenly_separated separator line ≡ true
     → with_prefix (output_separator separator) (other_fields number (join_fields separator line))
     ≡ around (output_separator separator) line found
-around_is separator number line None none even = ap (with_prefix _)
-    (remove_past _ (number - 1) none) ∙ even_prefixed separator line even
+around_is separator number line None none even = grind (arith, remove_past, even_prefixed)
 around_is separator number line (Some span) f even = whole ∙ by span.start long
   where
     c : ℕ

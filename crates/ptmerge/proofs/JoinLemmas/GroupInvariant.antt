@@ -24,6 +24,8 @@ use proofs.MergeLemmas.Exits.{SideAfterNext, IsAtCurrentLine, MatchesStatus, nex
 use proofs.MergeLemmas.Exits.{read_facts_after_line, read_facts_at_line, input_split_of, both_begun, IsOpenMerge}
 use proofs.MergeLemmas.Exits.{ReadFactsOf}
 use proofs.MergeLemmas.LinesRead.{Continues, HasBegun, HoldsLines}
+use Rattle.std.proofs.Common.{rules}
+use Rattle.std.proofs.lemmas.Grind.{common_steps}
 
 -- ---- a fault within a group
 
@@ -87,9 +89,7 @@ module _ {tool : MergeTool} {old : MergeState} (w : IsOpenMerge tool old) {mid :
         (λ side. rest_not_less side (seen.r side) (seen.may_follow side))
 
     wanted : (x : List ℕ) → AtMost cmp x k → is_up_to cmp (disorder tool all) x ≡ true
-    wanted x h = written_is_wanted _ o (d First) (d Second) _ _ x
-        (seen.may_disorder First) (seen.may_disorder Second) (under_lower o (d First) x k h (m.under First))
-        (under_lower o (d Second) x k h (m.under Second))
+    wanted x h = grind (arith, written_is_wanted, seen, under_lower)
 
     abbrev is_wanted : List ℕ → Bool
     is_wanted = is_up_to cmp (disorder tool all)
@@ -189,60 +189,33 @@ pub size_of : (call : JoinCall) {store : Slots} {ls : Side → Lines} {g : Lines
     → (store.peak ≤ max call.old.store.peak (call.size all))
     × (length store.lines ≤ max (length call.old.store.lines) (call.slots all))
     × (max (length call.old.store.lines) 4 ≤ length store.lines) × (total_bytes store.lines ≤ call.size all)
-size_of call {store} {ls} {g} h all up more =
-    let bounds = h.bounds (all Second) more.more more.is in
-    omega (
-      arith,
-      bounds,
-      h.least,
-      h.four,
-      call.laws.size all,
-      call.laws.slots all,
-      up First,
-      up Second,
-      (has_lines_total store.lines (λ side. max_length (ls side)) (total_bytes g) h.lines).most,
-    )
+size_of call {store} {ls} {g} h all up more = grind (arith, has_lines_total)
 
 module _ (call : JoinCall) {store : Slots} {ls : Side → Lines} {g : Lines}
     (h : GroupStore call.most call.old.store store ls g) {now : Side → Reader} where
   -- a piece of a further line stays within the measure
   pub peak_line : (s : Side) (cursor : Sorted) → HasSlots s cursor → (piece : List ℕ)
       → Fits call.tool call.old.store now ls (with_side s piece (λ t. [])) (with_line store cursor.previous_slot piece)
-  peak_line s cursor slots piece all w =
-      let k : GroupStore call.most call.old.store (with_line store cursor.previous_slot piece) all g = group_store_line
-      s cursor slots piece h (λ side. omega (arith, (w side).longest))
-      (omega (arith, (w s).longest, ap length (put_same s piece (λ t. [])))) (extends (w Second)) refl in
-      let (peak, slots, least, _) = size_of call k all (λ side. omega arith)
-      (record { more = []; is = sym (append-nil (all Second)) }) in
-      (peak, slots, least)
+  peak_line s cursor slots piece all w = grind (arith, common_steps, group_store_line, put_same, extends, size_of)
 
   -- a store with no more bytes and no more slots stays within the measure
   pub fits_kept : (after : Slots) → after.peak ≤ max store.peak (total_bytes store.lines)
       → length after.lines ≡ length store.lines → {piece : Side → List ℕ}
       → Fits call.tool call.old.store now ls piece after
-  fits_kept after peak same all w =
-      omega (arith, peak, same, size_of call h all (λ side. omega (arith, (w side).longest)) (extends (w Second)))
+  fits_kept after peak same all w = grind (arith, common_steps, size_of, extends)
 
 pub store_between_groups : (call : JoinCall) {reader : Side → Reader} {cursor : Side → Sorted} {store : Slots}
     {ls : Side → Lines} → GroupStore call.most call.old.store store ls [] → AllSlots cursor
     → StoreInvariant call.tool call.old.store reader cursor store ls
-store_between_groups call {cursor = cursor} h slots =
-    record {
-      lines = h.lines;
-      denied = h.denied;
-      fits = λ after peak same. fits_kept call h after peak same;
-      line = λ s. peak_line call h s (cursor s) (slots s);
-    }
+store_between_groups call {cursor = cursor} h slots = search (rules, fits_kept, peak_line)
 
 -- the invariant of both inputs depends only on the first four slots
 pub same_cursors : (tool : MergeTool) {old now : Side → Reader} {cursor : Side → Sorted} {before after : Slots}
     {ls p : Side → Lines} {b : Side → Bound} → SidesInvariant tool old now cursor before ls p b
     → AllSlots cursor → ((i : ℕ) → i < 4 → line after i ≡ line before i)
     → SidesInvariant tool old now cursor after ls p b
-same_cursors tool {old} {now} {cursor} {before} {after} {ls} {p} {b} sides slots same side =
-    let low = low_slot side (cursor side) (slots side) in
-    side_invariant_kept (sides side) (same (cursor side).current_slot low.current)
-    (same (cursor side).previous_slot low.previous)
+same_cursors tool {old} {now} {cursor} {before} {after} {ls} {p} {b} sides slots same side = grind (arith, low_slot,
+    side_invariant_kept)
 
 -- ---- the output of a group
 
@@ -396,17 +369,7 @@ module _ {call : JoinCall} {now : MergeState} {cursor : Side → Sorted} {end : 
   pub group_kept : AllSlots cursor → {after : Slots} → ((i : ℕ) → i < 4 → line after i ≡ line now.store i)
       → {lines : Lines} → GroupStore call.most old.store after q.ls lines → {to : ℕ} → to ≡ 4 + length lines
       → GroupState call (record now { store = after }) cursor to k g lines
-  group_kept slots same keeps at = record {
-    ls = q.ls;
-    p = q.p;
-    d = q.d;
-    mid = q.mid;
-    sides = same_cursors tool q.sides slots same;
-    within = q.within;
-    keeps = keeps;
-    wrote = q.wrote;
-    at = at;
-  }
+  group_kept slots same keeps at = search (rules, same_cursors)
 
   -- the input `s` is at a further line of the group
   pub record IsAtGroupLine (s : Side) : Type 0 where
@@ -483,29 +446,13 @@ module _ {call : JoinCall} {now : MergeState} {cursor : Side → Sorted} {end : 
     -- the lines of the other input, and the previous line, keep their slots
     pub others_stay : (line after (cursor (other s)).current_slot ≡ line now.store (cursor (other s)).current_slot)
         × (line after (cursor (other s)).previous_slot ≡ line now.store (cursor (other s)).previous_slot)
-    others_stay =
-        let n = gone_to in
-        let (apart, apart_previous) = slots_apart s (cursor s) (cursor (other s)) (l.slots s) (l.slots (other s)) in (
-          rw n.stored (line_other now.store (cursor s).previous_slot (cursor (other s)).current_slot n.bytes apart),
-          rw n.stored (line_other now.store (cursor s).previous_slot (cursor (other s)).previous_slot n.bytes
-              apart_previous),
-        )
+    others_stay = grind (arith, gone_to, slots_apart, line_other)
 
     pub last_stays : line after next.previous_slot ≡ head_of now cursor s
-    last_stays =
-        let n = gone_to in
-        let at : next.previous_slot ≡ (cursor s).current_slot = ⊎_elim
-        (λ e. ap (λ (p : Sorted). p.previous_slot) e.cursor) (λ e. ap (λ (p : Sorted). p.previous_slot) e.cursor) comes
-        in
-        let (apart, _, _, _, _) = own_slots s (cursor s) (l.slots s) in
-        rw (at, n.stored) (line_other now.store (cursor s).previous_slot (cursor s).current_slot n.bytes
-        (λ e. apart (sym e)))
+    last_stays = grind (arith, gone_to, own_slots, line_other)
 
     says : next.same ≡ (is_head next.status && bytes_eq k (key s (line after next.current_slot)))
-    says =
-        next_same_key cmp o (key s) (cursor s) next (now.reader s) reader now.store after at_head.some
-        (omega (arith, q.keeps.four, (low_slot s (cursor s) (l.slots s)).previous)) comes
-        ∙ cc l.is
+    says = search (rules, next_same_key, at_head, low_slot)
 
     -- whether the next line has the key of the group, too
     pub continues_key : next.same ≡ true → (next.status ≡ Head) × (key s (line after next.current_slot) ≡ k)

@@ -4,8 +4,8 @@
 use Rattle.ptmerge.proofs
 use proofs.Common.{◌≡◌, ⊎_elim, inl, inr, ℕ, ◌+◌, ◌-◌, ◌≤◌, ◌<◌, suc, true, false, length-drop, List, [], ◌∷◌, ◌++◌}
 use proofs.Common.{length, map, drop, get_or, set, max, refl, sym, ap, ◌∙◌, arith, ◌*◌, cond, Option, append_assoc}
-use proofs.Common.{length-append, append-nil, length-set, drop_more, get_or-drop, drop-set-add, take_more, length_push}
-use proofs.Common.{drop-append-le, drop-set-lt, set_at, take_at, bytes_eq, sum_by_push, sum_by-append, sum_by-cons}
+use proofs.Common.{length-append, append-nil, length-set, drop_more, get_or-drop, drop-set-add, take_more}
+use proofs.Common.{length_push, drop-set-lt, set_at, take_at, bytes_eq, sum_by_push, sum_by-append, sum_by-cons}
 use proofs.Common.{Slots, line, total_bytes, with_line, with_denied, unlines, max_length, total_bytes_set, Join}
 use proofs.Common.{ClearGroupPost, EnsureSlotPost, CopyToGroupErrPost, group, CopyToGroupPost, entry, join_fields}
 use proofs.Common.{pair_entries, max_over_keys, max_group_bytes, max_group_lines, Lines, lines_with_key, Reader, Side}
@@ -15,6 +15,7 @@ use proofs.MergeLemmas.Orders.{EachKey, same_bytes}
 use proofs.MergeLemmas.Exits.{SideAfterNext}
 use proofs.MergeLemmas.Step.{own_slots, slot_low}
 use Rattle.std.proofs.Math.ListN.{get_or-append}
+use Rattle.std.proofs.lemmas.Grind.{common_steps}
 
 -- the lines of the group, from a slot on
 pub group_from : (store : Slots) (end slot : ℕ) → end ≤ length store.lines → slot < end
@@ -42,8 +43,7 @@ group_more store from end least within =
 -- the lines of one slot
 pub group_one : (store : Slots) (slot : ℕ) → slot < length store.lines
     → group store slot (slot + 1) ≡ line store slot ∷ []
-group_one store slot within =
-    group_more store slot slot (omega arith) within ∙ cc (group_end store slot slot (omega arith))
+group_one store slot within = grind (arith, group_more, group_end)
 
 -- ---- the output
 
@@ -58,15 +58,7 @@ pairs_text job end x k g asked = rw (asked, append-nil (map (pair_of job k x) g)
 -- ---- emptying the group
 
 pub clears_none : (s : Slots) → ClearGroupPost s s 4
-clears_none s =
-    record {
-      slots = refl;
-      others = λ i _. refl;
-      emptied = omega arith;
-      less = omega arith;
-      peak = omega arith;
-      denied = refl;
-    }
+clears_none s = grind arith
 
 pub clears_more : (a s t : Slots) (slot : ℕ) → 4 ≤ slot → slot < length a.lines → ClearGroupPost a s slot
     → t ≡ with_line s slot [] → ClearGroupPost a t (slot + 1)
@@ -124,23 +116,7 @@ ensured_slot before made slot g =
 
 pub failed_copy : (before made : Slots) (to : ℕ) → EnsureSlotPost before made to
     → CopyToGroupErrPost before (with_denied (with_line made to [])) to
-failed_copy before made to g =
-    let w = ensured_slot before made to g in
-    let size = length-set made.lines to [] in
-    record {
-      denied = refl;
-      most = omega (arith, size, w.slots);
-      slots = omega (arith, size, w.slots);
-      peak =
-          omega (
-            arith,
-            w.peak,
-            w.empty,
-            ap total_bytes w.lines,
-            sum_by-append length before.lines w.more,
-            total_bytes_set made.lines to [] g.within,
-          );
-    }
+failed_copy before made to g = grind (arith, common_steps, ensured_slot, total_bytes_set)
 
 -- ---- the largest group
 
@@ -172,10 +148,7 @@ module _ (m : Lines → ℕ) (laws : IsLineMeasure m) (key : Key) where
   measure_in : (k : List ℕ) (p g : Lines) (y : List ℕ) (w : Lines) → EachKey (λ x. x ≡ k) key (g ++ y ∷ []) → key y ≡ k
       → m (g ++ y ∷ [])
       ≤ max_over_keys m key (((p ++ g) ++ y ∷ []) ++ w) (((p ++ g) ++ y ∷ []) ++ w)
-  measure_in k p g y w own is =
-      let in_group : m (g ++ y ∷ []) ≤ m (lines_with_key key ((p ++ g) ++ y ∷ w) (key y)) = rw
-      (is, append_assoc p g (y ∷ w), ← append_assoc g (y ∷ []) w) (group_measure_max k p (g ++ y ∷ []) w own) in
-      rw (append_assoc (p ++ g) (y ∷ []) w) (omega (arith, in_group, greatest_has ((p ++ g) ++ y ∷ w) (p ++ g) y w))
+  measure_in k p g y w own is = grind (arith, common_steps, group_measure_max, greatest_has)
 
 -- the most bytes and the most lines of a group, by the lines of the second input
 pub record GroupBounds : Type 0 where
@@ -235,16 +208,7 @@ pub record GroupStore (most : GroupBounds) (before store : Slots) (ls : Side →
 
 pub group_store_starts : {most : GroupBounds} {before store : Slots} {ls : Side → Lines}
     → StoreOfLines before store (λ side. max_length (ls side)) → GroupStore most before store ls []
-group_store_starts {before = before} {store} {ls} k = record {
-  tail = drop 4 store.lines;
-  split = refl;
-  empty = drop_total store.lines (λ side. max_length (ls side)) 0 k.lines;
-  lines = k.lines;
-  bounds = λ all more e. omega (arith, k.peak, k.slots);
-  least = omega (arith, k.slots);
-  four = omega (arith, k.slots);
-  denied = k.denied;
-}
+group_store_starts {before = before} {store} {ls} k = grind (arith, drop_total)
 
 -- each input uses its own two slots
 abbrev pub AllSlots : (Side → Sorted) → Type 0
@@ -256,9 +220,7 @@ pub record AreLow (cursor : Sorted) : Type 0 where
   pub previous : cursor.previous_slot < 4
 
 pub low_slot : (s : Side) (cursor : Sorted) → HasSlots s cursor → AreLow cursor
-low_slot s cursor h =
-    let own = own_slots s cursor h in
-    record { current = omega (arith, own, slot_low s); previous = omega (arith, own, slot_low s) }
+low_slot s cursor h = grind (arith, own_slots, slot_low)
 
 -- the list `now` continues the list `was`
 pub record Extends (was now : Lines) : Type 0 where
@@ -328,65 +290,25 @@ module _ {most : GroupBounds} {before store : Slots} {ls : Side → Lines} {g : 
           → drop 4 (set made.lines to y) ≡ set (g ++ t) (length g) y
           → GroupStore most before (with_line made to y) ls (g ++ y ∷ [])
       by_tail [] none some is = absurd (omega (arith, some, length-append g []))
-      by_tail (z ∷ t) none some is =
-          let split : drop 4 (set made.lines to y) ≡ (g ++ y ∷ []) ++ t = is ∙ set_at g z t y (length g) refl
-          ∙ sym (append_assoc g (y ∷ []) t) in
-          let empty : total_bytes t ≡ 0 = omega (arith, none, sum_by-cons length z t) in
-          let sum : total_bytes (drop 4 (set made.lines to y)) ≡ total_bytes (g ++ y ∷ []) = omega
-          (arith, ap total_bytes split, sum_by-append length (g ++ y ∷ []) t, empty) in
-          let size = length-set made.lines to y in
-          let four : 4 ≤ length (set made.lines to y) = omega (arith, k.four, w.slots, size) in
-          let inside = same_lines store.lines (set made.lines to y) (λ side. max_length (ls side)) (total_bytes g)
-          (total_bytes (g ++ y ∷ [])) k.lines four first_same sum in
-          record {
-            tail = t;
-            split = split;
-            empty = empty;
-            lines = inside;
-            bounds = λ all more e.
-                let within : InGroup most (g ++ y ∷ []) all = rw e (largest more) in
-                let all_lines = has_lines_total (set made.lines to y) (λ side. max_length (ls side))
-                (total_bytes (g ++ y ∷ [])) inside in
-                omega (arith, within, at, k.bounds all more e, w.peak, w.slots, all_lines.most, size, length_push g y);
-            least = omega (arith, k.least, w.slots, size);
-            four = four;
-            denied = w.denied ∙ k.denied;
-          }
+      by_tail (z ∷ t) none some is = grind (arith, common_steps, set_at, same_lines, first_same, has_lines_total)
 
       kept : CopiedLine (with_line made to y) y
-      kept =
-          let split : drop 4 made.lines ≡ g ++ (k.tail ++ w.more) =
-          cc (w.lines, drop-append-le 4 store.lines w.more k.four, k.split, append_assoc g k.tail w.more) in
-          record {
-            store_holds = by_tail (k.tail ++ w.more)
-                (omega (arith, sum_by-append length k.tail w.more, k.empty, w.empty))
-                (omega (arith, within, at, ap length split, length-drop 4 made.lines))
-                (cc (drop-set-add 4 made.lines (length g) y));
-            same = first_same;
-          }
+      kept = grind (arith, common_steps, by_tail, first_same)
 
   pub group_store_copied : {after : Slots} {from to : ℕ} → to ≡ 4 + length g → from < 4
       → CopyToGroupPost store after from to → {y : List ℕ} → line store from ≡ y
       → ((l : Lines) → InGroup most (g ++ y ∷ []) (ls Second ++ l)) → CopiedLine after y
-  group_store_copied {after} {from} {to} at low e {y} is largest = let w = ensured_slot store e.made to e.grown in
-      rw (e.copied, made_same w from low, is) (kept w y at e.grown.within largest)
+  group_store_copied {after} {from} {to} at low e {y} is largest = grind (arith, ensured_slot, made_same, kept)
 
   -- the lines of the group are in its slots
   pub kept_line : (slot : ℕ) → 4 ≤ slot → slot < 4 + length g → line store slot ≡ get_or g (slot - 4) []
-  kept_line slot from low =
-      let back : 4 + (slot - 4) ≡ slot = omega arith in
-      cc (
-        back,
-        k.split,
-        get_or-drop 4 store.lines (slot - 4) [],
-        get_or-append g k.tail [] (slot - 4) (omega (arith, from, low)),
-      )
+  kept_line slot from low = grind (arith, common_steps)
 
   pub group_is : {end : ℕ} → end ≡ 4 + length g → group store 4 end ≡ g
   group_is at = rw k.split (take_at g k.tail _ (omega (arith, at)))
 
   pub end_within : {end : ℕ} → end ≡ 4 + length g → end ≤ length store.lines
-  end_within at = omega (arith, at, k.four, ap length k.split, length-append g k.tail, length-drop 4 store.lines)
+  end_within at = grind (arith, length-append)
 
   -- the group is emptied
   pub group_store_cleared : {after : Slots} {end : ℕ} → end ≡ 4 + length g → ClearGroupPost store after end

@@ -38,6 +38,7 @@ use Rattle.std.specs.List.{flat_map}
 use Rattle.ptmerge.specs.declared.tools.join.JoinPhase.{JoinPhase}
 use Rattle.ptmerge.specs.declared.faults.MergeFault.TheVariants as faults
 use Rattle.ptmerge.specs.declared.tools.join.JoinPhase.TheVariants as phases
+use Rattle.std.proofs.Common.{rules}
 
 -- ---- the output, by lines and by pairs
 
@@ -159,7 +160,7 @@ pub record IsOpenMerge (job : Join) (cmp : Cmp) (key : Side → Key) (old : Merg
 pub opened : (job : Join) (cmp : Cmp) (key : Side → Key) {first second : Reader} {out : Output} {store : Slots}
     → IsKeyOrder cmp → ((side : Side) (x : List ℕ) → key side x ≡ join_key job side x)
     → MergeRunPre job.terminator first second out store → IsOpenMerge job cmp key (merge_state first second out store)
-opened job cmp key o keys begins = record { w = open_merge o (λ ls. (omega arith, omega arith)) begins; keys = keys }
+opened job cmp key o keys begins = grind (arith, open_merge, begins)
 
 -- the call
 abbrev pub join_call_of : {job : Join} {cmp : Cmp} {key : Side → Key} {old : MergeState} → IsOpenMerge job cmp key old
@@ -579,8 +580,7 @@ module _ {job : Join} {cmp : Cmp} {key : Side → Key} {old : MergeState} {phase
     write_pairs_pre = record { status_is = advance_pre t.between First state.head.head; joins = joins }
 
     is_kept : state.kept ≡ state.g Second → (end == 4) ≡ false
-    is_kept same =
-        let more : 4 < end = omega (arith, state.q.at, ap length same, state.some) in grind (arith, nat_tests)
+    is_kept same = search (rules, state)
 
     is_alone : state.kept ≡ [] → (end == 4) ≡ true
     is_alone none = let four : end ≡ 4 = omega (arith, state.q.at, ap length none) in grind (arith, nat_tests)

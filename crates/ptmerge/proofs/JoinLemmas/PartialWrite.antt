@@ -8,6 +8,7 @@ use proofs.Common.{push_nothing}
 use Rattle.std.proofs.lemmas.Bool.{cases_Bool}
 use Rattle.ptlines.proofs.Push.{push_after_failure}
 use Rattle.std.specs.List.{flat_map}
+use Rattle.std.proofs.Common.{arith}
 
 pub wrote_then : {a b c : Output} {xs ys : List ℕ} → (a.write_failed ≡ false → b.write_failed ≡ false)
     → PushEffect a b xs → PushEffect b c ys → PushEffect a c (xs ++ ys)
@@ -44,16 +45,14 @@ partial_starts {was} is = record { done = []; split = is; wrote = push_nothing w
 -- the first call succeeded
 pub partial_first : {was is : Output} {all bytes left : List ℕ} → all ≡ bytes ++ left → PushEffect was is bytes
     → is.write_failed ≡ false → PartialWrite was is all left
-partial_first {bytes = bytes} split wrote clean =
-    record { done = bytes; split = split; wrote = wrote; clean = λ _. clean }
+partial_first {bytes = bytes} split wrote clean = grind arith
 
 -- a call failed, at the start or later
 module _ {E : Type 0} {r : Result (Unit {0}) E} (P : E → Type 0) (err_is : IsErrAnd r P)
     {was new : Output} {all bytes : List ℕ} (left : List ℕ) where
   pub first_fails : all ≡ bytes ++ left → PushEffect was new bytes → new.write_failed ≡ true
       → WriteBytesPost was new all r
-  first_fails split wrote fault =
-      push_is_write (push_fails P err_is fault (rw split (push_past_failure was new bytes left fault wrote)))
+  first_fails split wrote fault = grind (arith, push_is_write, push_fails, push_past_failure)
 
   pub partial_fails : {is : Output} {now : List ℕ} → now ≡ bytes ++ left → PartialWrite was is all now
       → PushEffect is new bytes → new.write_failed ≡ true → WriteBytesPost was new all r

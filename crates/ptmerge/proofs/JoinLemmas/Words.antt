@@ -2,23 +2,24 @@
 -- list: two masks that overlap make one; no blank is misplaced if a mask is zero; and the first run of set bits is the
 -- first word, after which the words of the rest of the line follow.
 use Rattle.ptmerge.proofs
-use proofs.Common.{◌≡◌, ◌≢◌, ℕ, zero, suc, ◌+◌, ◌-◌, ◌*◌, ◌^◌, ◌%◌, ◌<◌, ◌≤◌, Bool, true, false, cond, not, ◌&&◌, ◌||◌}
-use proofs.Common.{eqb, ◌==◌, List, [], ◌∷◌, ◌++◌, None, length, map, take, drop, replicate, filter, refl, sym, ◌∙◌, ap}
-use proofs.Common.{subst, arith, bit_and, bit_or, take_all, length-map, length-drop, take-append-drop, drop-drop}
-use proofs.Common.{nat_tests, Lines, is_blank, is_nonempty, join_fields, is_single_spaced, has_single_spaces}
-use proofs.Common.{slice_split, onto_first, with_prefix, IsFieldAt}
+use proofs.Common.{◌≡◌, ◌≢◌, ℕ, zero, suc, ◌+◌, ◌-◌, ◌*◌, ◌^◌, ◌%◌, ◌<◌, ◌≤◌, Bool, true, false, cond, not, ◌&&◌}
+use proofs.Common.{◌||◌, eqb, ◌==◌, List, [], ◌∷◌, ◌++◌, None, length, map, take, drop, replicate, filter, refl, sym}
+use proofs.Common.{◌∙◌, ap, subst, arith, bit_and, bit_or, take_all, length-map, length-drop, take-append-drop}
+use proofs.Common.{drop-drop, nat_tests, Lines, is_blank, is_nonempty, join_fields, is_single_spaced}
+use proofs.Common.{has_single_spaces, slice_split, onto_first, with_prefix, IsFieldAt}
 use proofs.JoinLemmas.Fields.{none_past, single_spaced_words, space_is}
 use Rattle.std.proofs.lemmas.Simd.{mask_l-lt, trailing_mask_l}
 use Rattle.std.proofs.lemmas.List.{drop-map, map-id, take-map}
 use Rattle.std.specs.Simd.Lanes.{chunk, mask_l}
 use Rattle.std.specs.List.{prefix_len}
 use Rattle.memchr.specs.Find.{is_byte}
-use Rattle.std.proofs.Common.{◌/◌}
+use Rattle.std.proofs.Common.{◌/◌, rules}
 use Rattle.std.proofs.Math.Nat.{div-div-eq-div-mul, mod-eq_of_lt, mul-lt-mul_of_pos_right, mul_assoc, mul_comm}
 use Rattle.std.proofs.Math.Nat.{one-le-pow, two-pow-succ}
 use Rattle.std.proofs.Math.Pow.{pow-add, pow-lt, pow_mono}
 use lib.Bits.{and_step, or_step, or_zero_l, or_zero_r, and_zero_l, or_shifted_r, and_mod, and_le_l, and_self, or_self}
 use lib.Count.{count_trailing_zeros}
+use Rattle.std.proofs.lemmas.Grind.{common_steps}
 
 -- ---- the lowest bits of two numbers
 
@@ -47,7 +48,7 @@ or_ends : (last n : ℕ) (bits : List Bool) → last ≤ n
 or_ends zero n bits le = let one : 2 ^ 0 * mask_l bits ≡ mask_l bits = omega arith in
     ap (bit_or _) one ∙ or_prefix n bits
 or_ends (suc last) zero bits le = absurd (omega (arith, le))
-or_ends (suc last) (suc n) [] le = let none : 2 ^ suc last * 0 ≡ 0 = omega arith in ap (bit_or 0) none ∙ or_zero_l 0
+or_ends (suc last) (suc n) [] le = grind (arith, or_zero_l)
 or_ends (suc last) (suc n) (b ∷ bits) le =
     let double : 2 ^ suc last ≡ 2 * 2 ^ last = omega (arith, two-pow-succ last) in
     let twice : 2 ^ suc last * mask_l (drop last bits) ≡ bit false + 2 * (2 ^ last * mask_l _) =
@@ -309,8 +310,7 @@ letter_is : (blank : Bool) (b : ℕ) (v : List ℕ) → is_blank b ≡ false →
 letter_is blank b v here spaced = grind (arith, here, spaced)
 
 in_word : (v : List ℕ) → InWord v (prefix_len not (after_ones (marks v))) (clear_ones (marks v))
-in_word [] =
-    record { high = omega arith; more = []; split = refl; words = refl; rest = refl; next = λ s. s; spaced = λ s. refl }
+in_word [] = grind arith
 in_word (b ∷ v) = by (in_word v) (is_blank b) refl
   where
     by : InWord v (prefix_len not (after_ones (marks v))) (clear_ones (marks v)) → (t : Bool) → is_blank b ≡ t
@@ -439,14 +439,7 @@ pub record WordsLeft (line : List ℕ) (passed words : ℕ) : Type 0 where
 
 pub words_start : (line : List ℕ) (any : ℕ) → length line < 64 → any ≡ mask_l (map is_blank line)
     → WordsLeft line 0 (1 * 2 ^ length line % 2 ^ 64 - 1 - any)
-words_start line any short is =
-    record {
-      at = 0;
-      within = omega arith;
-      mask = omega (arith, power_fits line short, is, word_mask line);
-      fields = refl;
-      spaced = λ s. (true, s);
-    }
+words_start line any short is = grind (arith, power_fits, word_mask)
 
 pub any_fits : (line : List ℕ) (any : ℕ) → length line < 64 → any ≡ mask_l (map is_blank line)
     → any ≤ 1 * 2 ^ length line % 2 ^ 64 - 1
@@ -460,17 +453,14 @@ module _ {line : List ℕ} {passed words : ℕ} (short : length line < 64) (left
   bits = from left.at (marks rest)
 
   bits_long : length bits ≡ length line
-  bits_long =
-      omega (arith, from_length left.at (marks rest), length-map rest is_word, length-drop left.at line, left.within)
+  bits_long = grind (arith, common_steps, from_length)
 
   pub words_small : words < 2 ^ 63
-  words_small = let wide : 2 ^ length bits ≤ 2 ^ 63 = pow_mono {j = 63} (omega (arith, bits_long, short)) in
-      omega (arith, left.mask, mask_l-lt bits, wide)
+  words_small = search (rules, bits_long, mask_l-lt)
 
   -- no words are left
   pub none_left : (number : ℕ) → words ≡ 0 → passed ≤ number - 1 → drop (number - 1) (join_fields None line) ≡ []
-  none_left number none le = none_past _ passed (number - 1)
-      (left.fields ∙ no_words rest (from_none left.at (marks rest) (sym left.mask ∙ none))) le
+  none_left number none le = grind (arith, none_past, no_words, from_none)
 
   module _ (some : words ≢ 0) where
     some_bits : 0 < mask_l bits
@@ -486,16 +476,11 @@ module _ {line : List ℕ} {passed words : ℕ} (short : length line < 64) (left
     after_is = cc (left.mask, or_less bits some_bits)
 
     start_is : count_trailing_zeros 64 words ≡ left.at + word_start rest
-    start_is =
-        cc (left.mask, lowest bits (omega (arith, bits_long, short)) some_bits, from_prefix_len left.at (marks rest))
+    start_is = grind (arith, lowest, bits_long, some_bits, from_prefix_len)
 
     end_is : count_trailing_zeros 64 after ≡ left.at + word_end rest
-    end_is = cc (
-      after_is,
-      lowest (after_run bits) (omega (arith, length-after_run bits, bits_long, short)) (some_after_run bits some_bits),
-      from_after left.at (marks rest),
-      from_prefix_len left.at _,
-    )
+    end_is = grind (arith, after_is, lowest, length-after_run, bits_long, some_after_run, some_bits, from_after,
+        from_prefix_len)
 
     -- the first of them is passed
     pub word_passed : WordsLeft line (passed + 1) (bit_and words after)
