@@ -1,11 +1,12 @@
 -- The command after parsing: without a fault of parsing and of the constraints, `command_of_args` reduces to
 -- `checked_command`, and a fault of the constraints is the first fault.
 use Rattle.ptopts.proofs
-use proofs.Common.{◌≡◌, ℕ, List, [], ◌∷◌, Option, Some, None, Ok, Err, refl, ap, sym, ◌∙◌, Tool, IsFault, ParsedOption}
-use proofs.Common.{tool_of_name, Fault, first_some, constraints_fault, values_fault, operands_fault, strings_fault, Job}
-use proofs.Common.{job, input_operands, output, checked_command, ok_unless, command, command_of_args, command_of_tool}
+use proofs.Common.{◌≡◌, ℕ, List, [], ◌∷◌, Option, Some, None, Ok, Err, ap, sym, ◌∙◌, Tool, IsFault, ParsedOption}
+use proofs.Common.{tool_of_name, Fault, first_some, constraints_fault, values_fault, operands_fault, strings_fault}
+use proofs.Common.{Job, job, input_operands, output, checked_command, ok_unless, command, command_of_args}
 use proofs.Common.{with_inputs, AreInputs, ArgsPost}
 use Rattle.ptopts.specs.declared.inputs.Inputs.{Inputs}
+use Rattle.std.proofs.Common.{arith}
 
 pub checked_command_ok : {A : Type 0} (tool : Tool) (os : List ParsedOption) (operands : List (List ℕ))
     (i : Inputs A) {told : Job}
@@ -21,7 +22,7 @@ checked_command_is : (tool : Tool) (os os' : List ParsedOption) (operands operan
     → ok_unless
     (first_some (read ∷ constraints_fault tool os' ∷ values_fault tool os' ∷ operands_fault tool os' operands'
     ∷ strings_fault tool os' operands' ∷ [])) (command tool os' operands') ≡ checked_command tool os operands
-checked_command_is tool os os' operands operands' read same same' fine none = rw (fine, ← same, ← same', none) refl
+checked_command_is tool os os' operands operands' read same same' fine none = cc
 
 constraint_fault_is : (tool : Tool) (os os' : List ParsedOption) (operands operands' : List (List ℕ))
     (read : Option Fault) (f : Fault)
@@ -29,18 +30,14 @@ constraint_fault_is : (tool : Tool) (os os' : List ParsedOption) (operands opera
     → ok_unless
     (first_some (read ∷ constraints_fault tool os' ∷ values_fault tool os' ∷ operands_fault tool os' operands'
     ∷ strings_fault tool os' operands' ∷ [])) (command tool os' operands') ≡ Err f
-constraint_fault_is tool os os' operands operands' read f same fine is = rw (fine, ← same, ← is) refl
+constraint_fault_is tool os os' operands operands' read f same fine is = cc
 
 module _ (name : List ℕ) (words : List (List ℕ)) (tool : Tool) (os : List ParsedOption) (operands : List (List ℕ)) where
   pub meaning_read : tool_of_name name ≡ Some tool → ArgsPost tool words os operands → constraints_fault tool os ≡ None
       → command_of_args (name ∷ words) ≡ checked_command tool os operands
-  meaning_read named r none =
-      ap (λ (t : Option Tool). command_of_tool t words) named
-      ∙ checked_command_is tool os _ operands _ _ r.options r.rest r.faultless none
+  meaning_read named r none = grind (arith, checked_command_is)
 
   pub meaning_refused : (found : Option Fault) → tool_of_name name ≡ Some tool → ArgsPost tool words os operands
       → found ≡ constraints_fault tool os → IsFault found (command_of_args (name ∷ words))
   meaning_refused None named r is = tt
-  meaning_refused (Some f) named r is =
-      ap (λ (t : Option Tool). command_of_tool t words) named
-      ∙ constraint_fault_is tool os _ operands _ _ f r.options r.faultless is
+  meaning_refused (Some f) named r is = grind (arith, constraint_fault_is)

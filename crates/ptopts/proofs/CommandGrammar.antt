@@ -1,14 +1,15 @@
 -- Words specify a command if and only if the grammar gives them options and operands that the tool allows: no fault of
 -- parsing means that no option is repeated, and the other four faults are the other four conditions.
 use Rattle.ptopts.proofs
-use proofs.Common.{◌≡◌, ℕ, List, [], ◌∷◌, ◌++◌, Bool, true, false, refl, ap, sym, subst, map, append_assoc, append-nil}
-use proofs.Common.{Option, Some, None, ◌&&◌, Ok, ⊎_elim, is_some, IsTrue, if◌then◌else◌, cases_Bool, Tool, ParsedOption}
-use proofs.Common.{Valid, Spells, ParsedArgs, parsed_args, options, tool_of_name, Fault, Twice, first_some, is_repeated}
+use proofs.Common.{◌≡◌, ℕ, List, [], ◌∷◌, ◌++◌, Bool, true, false, refl, ap, sym, subst, map, append_assoc}
+use proofs.Common.{append-nil, Option, Some, None, ◌&&◌, Ok, is_some, IsTrue, if◌then◌else◌, Tool, ParsedOption}
+use proofs.Common.{Valid, Spells, ParsedArgs, parsed_args, options, tool_of_name, Fault, first_some, is_repeated}
 use proofs.Common.{token_fault, parse_fault, constraints_fault, values_fault, operands_fault, strings_fault, Command}
 use proofs.Common.{command, ok_unless, first_fault, command_of_args, command_of_tool, AreAllowed, SpellsCommand}
 use proofs.Common.{Spelled, CommandsMatchGrammar}
 use proofs.SpelledIsParsed.{spelled}
 use proofs.ParsedIsSpelled.{options-map, option_or-none, spelled_unless_faulty}
+use Rattle.std.proofs.Common.{rules, arith}
 
 -- like `AreGivenOnce`, for options after others
 abbrev AreGivenOnceAfter : Tool → List ParsedOption → List ParsedOption → Type 0
@@ -23,18 +24,13 @@ blamed false spent fault none is = cc
 
 unspent : (tool : Tool) (first : List ParsedOption) (o : ParsedOption) → token_fault tool first (Valid o) ≡ None
     → is_some o.value ≡ true → is_repeated tool first o.letter ≡ false
-unspent tool first o none some = blamed (is_some o.value) (is_repeated tool first o.letter) (Twice o.letter) none some
+unspent tool first o none some = grind (arith, blamed, is_some)
 
 once_from : (tool : Tool) (first os : List ParsedOption) → parse_fault tool first (map Valid os) ≡ None
     → AreGivenOnceAfter tool first os
 once_from tool first [] none [] after o is some = cc
 once_from tool first [] none (b ∷ before) after o is some = cc
-once_from tool first (x ∷ os) none [] after o is some =
-    let (here, _) =
-    option_or-none (token_fault tool first (Valid x)) (parse_fault tool (first ++ x ∷ []) (map Valid os)) none in
-    let same : x ≡ o = cc in
-    rw append-nil
-    (unspent tool first o (subst (λ (y : ParsedOption). token_fault tool first (Valid y) ≡ None) same here) some)
+once_from tool first (x ∷ os) none [] after o is some = search (rules, option_or-none, unspent)
 once_from tool first (x ∷ os) none (b ∷ before) after o is some =
     let (_, later) =
     option_or-none (token_fault tool first (Valid x)) (parse_fault tool (first ++ x ∷ []) (map Valid os)) none in
@@ -46,9 +42,7 @@ once_from tool first (x ∷ os) none (b ∷ before) after o is some =
 
 fresh : (tool : Tool) (first : List ParsedOption) (o : ParsedOption)
     → (is_some o.value ≡ true → is_repeated tool first o.letter ≡ false) → token_fault tool first (Valid o) ≡ None
-fresh tool first o once =
-    ⊎_elim (λ some. let unspent : is_repeated tool first o.letter ≡ false = once some in rw (some, unspent) refl)
-    (λ none. rw none refl) (cases_Bool (is_some o.value))
+fresh tool first o once = grind (arith, unspent, is_some)
 
 once_to : (tool : Tool) (first os : List ParsedOption) → AreGivenOnceAfter tool first os
     → parse_fault tool first (map Valid os) ≡ None
@@ -64,13 +58,7 @@ once_to tool first (x ∷ os) once =
 -- none of the five faults is present
 none_of : {A : Type 0} (a b c d e : Option A) → first_some (a ∷ b ∷ c ∷ d ∷ e ∷ []) ≡ None
     → (a ≡ None) × (b ≡ None) × (c ≡ None) × (d ≡ None) × (e ≡ None)
-none_of a b c d e none =
-    let (first, later) = option_or-none a _ none in
-    let (second, later) = option_or-none b _ later in
-    let (third, later) = option_or-none c _ later in
-    let (fourth, later) = option_or-none d _ later in
-    let (fifth, _) = option_or-none e None later in
-    (first, second, third, fourth, fifth)
+none_of a b c d e none = grind (arith, option_or-none)
 
 unless_ok : {A E : Type 0} (e : Option E) (x y : A) → ok_unless e x ≡ Ok y → (e ≡ None) × (x ≡ y)
 unless_ok None x y is = (refl, cc)
@@ -79,10 +67,7 @@ unless_ok (Some e) x y is = cc
 meant_if_spelled : (tool : Tool) (words : List (List ℕ)) (os : List ParsedOption) (operands : List (List ℕ))
     → Spells tool words os operands → AreAllowed tool os operands
     → command_of_tool (Some tool) words ≡ Ok (command tool os operands)
-meant_if_spelled tool words os operands s a =
-    subst (λ (r : ParsedArgs). ok_unless (first_fault tool r) (command tool (options r) r.operands)
-    ≡ Ok (command tool os operands)) (sym (spelled tool s))
-    (rw (options-map os, once_to tool [] os a.once, a.together, a.values, a.inputs, a.strings) refl)
+meant_if_spelled tool words os operands s a = grind (arith, spelled, options-map, once_to)
 
 spelled_if_meant : (name : List ℕ) (words : List (List ℕ)) (tool : Tool) (c : Command) → tool_of_name name ≡ Some tool
     → command_of_tool (Some tool) words ≡ Ok c → SpellsCommand (name ∷ words) c
@@ -112,12 +97,11 @@ named_if_meant name words c None named is = cc
 named_if_meant name words c (Some tool) named is = spelled_if_meant name words tool c named is
 
 meant_from : (words : List (List ℕ)) (c : Command) → SpellsCommand words c → command_of_args words ≡ Ok c
-meant_from words c (Spelled name rest tool os operands named s a) =
-    rw named (meant_if_spelled tool rest os operands s a)
+meant_from words c (Spelled name rest tool os operands named s a) = grind (arith, meant_if_spelled)
 
 spelled_from : (words : List (List ℕ)) (c : Command) → command_of_args words ≡ Ok c → SpellsCommand words c
 spelled_from [] c is = cc
-spelled_from (name ∷ words) c is = named_if_meant name words c (tool_of_name name) refl is
+spelled_from (name ∷ words) c is = grind (arith, named_if_meant)
 
 pub meant_as_spelled : CommandsMatchGrammar
 meant_as_spelled words c = (meant_from words c, spelled_from words c)

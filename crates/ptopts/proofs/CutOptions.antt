@@ -4,10 +4,10 @@ use Rattle.ptopts.proofs
 use proofs.Common.{◌≡◌, ℕ, ◌==◌, List, [], ◌∷◌, Bool, true, false, ◌&&◌, refl, ⊎_elim, cases_Bool, Some, None, IsSome}
 use proofs.Common.{if◌then◌else◌, Cut, Fault, ParsedOption, constraints_fault, constraint_fault, has_option, value_of}
 use Rattle.ptopts.specs.declared.tool.Constraint.TheVariants.{Conflict}
-use Rattle.std.proofs.lemmas.List.Elements.{All-nil, All-cons}
 use Rattle.std.specs.Prelude.{All}
-use Rattle.ptopts.specs.Faults.{Together, value_fault, is_cut_list}
+use Rattle.ptopts.specs.Faults.{value_fault, is_cut_list}
 use proofs.ParsedIsSpelled.{option_or-none}
+use Rattle.std.proofs.Common.{arith}
 
 valueless : (letter : ℕ) (os : List ParsedOption) → has_option letter os ≡ false → value_of letter os ≡ None
 valueless letter [] none = refl
@@ -21,13 +21,11 @@ not_both true false fault none is = refl
 not_both false other fault none is = cc
 
 given : (letter : ℕ) (os : List ParsedOption) → IsSome (value_of letter os) → has_option letter os ≡ true
-given letter os some = ⊎_elim (λ is. is) (λ is. let no = rw (valueless letter os is) at some in search)
-    (cases_Bool (has_option letter os))
+given letter os some = grind (arith, valueless)
 
 other_is_absent : (a b : ℕ) (os : List ParsedOption) → constraint_fault os (Conflict a b) ≡ None
     → IsSome (value_of a os) → value_of b os ≡ None
-other_is_absent a b os none some =
-    valueless b os (not_both (has_option a os) (has_option b os) (Together a b) none (given a os some))
+other_is_absent a b os none some = grind (arith, valueless, not_both, given)
 
 -- the list of this option has no fault
 abbrev pub HasNoFault : List ParsedOption → ℕ → Type 0
@@ -38,27 +36,17 @@ has_no_fault letter os none = rw none refl
 
 pub all_three : (os : List ParsedOption) (b c f : ℕ) → HasNoFault os b → HasNoFault os c → HasNoFault os f
     → All (HasNoFault os) (b ∷ c ∷ f ∷ [])
-all_three os b c f at_b at_c at_f =
-    All-cons (HasNoFault os) b (c ∷ f ∷ []) at_b
-    (All-cons (HasNoFault os) c (f ∷ []) at_c (All-cons (HasNoFault os) f [] at_f (All-nil (HasNoFault os))))
+all_three os b c f at_b at_c at_f = grind arith
 
 all_apart : (os : List ParsedOption) → constraints_fault Cut os ≡ None
     → (constraint_fault os (Conflict 98 99) ≡ None) × (constraint_fault os (Conflict 98 102) ≡ None)
     × (constraint_fault os (Conflict 99 102) ≡ None)
-all_apart os none =
-    let (first, others) = option_or-none (constraint_fault os (Conflict 98 99)) _ none in
-    let (second, last) = option_or-none (constraint_fault os (Conflict 98 102)) _ others in
-    let (third, _) = option_or-none (constraint_fault os (Conflict 99 102)) _ last in
-    (first, second, third)
+all_apart os none = grind (arith, option_or-none)
 
 module _ (os : List ParsedOption) (none : constraints_fault Cut os ≡ None) where
   pub no_fault_beside_b : IsSome (value_of 98 os) → HasNoFault os 98 → All (HasNoFault os) (98 ∷ 99 ∷ 102 ∷ [])
-  no_fault_beside_b some at_b =
-      let (first, second, _) = all_apart os none in
-      all_three os 98 99 102 at_b (has_no_fault 99 os (other_is_absent 98 99 os first some))
-      (has_no_fault 102 os (other_is_absent 98 102 os second some))
+  no_fault_beside_b some at_b = grind (arith, all_apart, all_three, has_no_fault, other_is_absent)
 
   pub no_fault_beside_c : IsSome (value_of 99 os) → HasNoFault os 98 → HasNoFault os 99
       → All (HasNoFault os) (98 ∷ 99 ∷ 102 ∷ [])
-  no_fault_beside_c some at_b at_c =
-      all_three os 98 99 102 at_b at_c (has_no_fault 102 os (other_is_absent 99 102 os (all_apart os none).2 some))
+  no_fault_beside_c some at_b at_c = grind (arith, all_three, has_no_fault, other_is_absent, all_apart)

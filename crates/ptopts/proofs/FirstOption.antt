@@ -1,5 +1,6 @@
 -- The first of three optional values, on the code and on the definition: `Option::or` is associative.
-use Rattle.ptopts.proofs.Common.{◌≡◌, Option, Some, None, refl, ap, sym, ◌∙◌, option_map, unwrap_or, option_or}
+use Rattle.ptopts.proofs.Common.{◌≡◌, Option, Some, None, refl, option_map, unwrap_or, option_or}
+use Rattle.std.proofs.Common.{arith}
 
 option_map-or : {A B : Type 0} (f : A → B) (x y : Option A)
     → option_map f (option_or x y) ≡ option_or (option_map f x) (option_map f y)
@@ -20,21 +21,5 @@ pub first_chosen : {R V S : Type 0} (view : R → S) (set : V → S) (b c f : Op
     → option_map view b ≡ option_map set vb → option_map view c ≡ option_map set vc
     → option_map view f ≡ option_map set vf → option_or (option_or b c) f ≡ Some r
     → view r ≡ unwrap_or (option_map set (option_or vb (option_or vc (option_or vf None)))) default
-first_chosen view set b c f vb vc vf default r eb ec ef is =
-    let seen : option_map view (option_or (option_or b c) f)
-    ≡ option_map set (option_or vb (option_or vc (option_or vf None))) =
-    rw (
-      option_or-assoc b c f,
-      ← option_or-nil f,
-      option_map-or view b (option_or c (option_or f None)),
-      option_map-or view c
-          (option_or f None),
-      option_map-or view f None,
-      eb,
-      ec,
-      ef,
-      option_map-or set vb (option_or vc (option_or vf None)),
-      option_map-or set vc (option_or vf None),
-      option_map-or set vf None,
-    ) refl in
-    ap (λ o. unwrap_or o default) (ap (option_map view) (sym is) ∙ seen)
+first_chosen view set b c f vb vc vf default r eb ec ef is = grind (arith, option_or-assoc, option_or-nil,
+    option_map-or)

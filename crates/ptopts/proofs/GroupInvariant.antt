@@ -1,12 +1,13 @@
 -- The loop over the letters of one word. The options so far and the tokens of the remaining letters are those of the
 -- whole word, and the first fault of later tokens is the same after either.
 use Rattle.ptopts.proofs
-use proofs.Common.{◌≡◌, ℕ, List, [], ◌∷◌, ◌++◌, true, false, refl, sym, ◌∙◌, append_assoc, Option, Some, None, drop}
-use proofs.Common.{append-nil, length, length-drop, ◌<◌, ◌+◌, slice_index, nat_eq, add-one, drop-cons, ⊎_elim, arith}
-use proofs.Common.{OnSome, cases_Bool, cases_eq, eq-eqb, ne_eqb, map-append, Tool, is_empty, is_flag, takes_value}
-use proofs.Common.{ParsedOption, flag, Token, Valid, UnknownLetter, value_token, tokens_in, tokens_of, takes_next}
+use proofs.Common.{◌≡◌, ℕ, List, [], ◌∷◌, ◌++◌, true, false, refl, Option, Some, None, drop, length, ◌<◌, ◌+◌}
+use proofs.Common.{slice_index, nat_eq, add-one, drop-cons, arith, OnSome, eq-eqb, ne_eqb, Tool, is_empty, is_flag}
+use proofs.Common.{takes_value, ParsedOption, flag, Token, Valid, value_token, tokens_in, tokens_of, takes_next}
 use proofs.Common.{Fault, token_fault, parse_fault, options_of_tokens, option_view, options_view, GroupPost}
 use Rattle.ptopts.specs.declared.parsing.ParsedOption as given
+use Rattle.std.proofs.Common.{rules}
+use Rattle.std.proofs.lemmas.Grind.{common_steps}
 
 -- the options so far and the tokens of the remaining letters are those of the word
 pub record GroupRead (tool : Tool) (word : List ℕ) (next : Option (List ℕ)) (before os : List ParsedOption)
@@ -32,18 +33,11 @@ is_empty-positive (x ∷ xs) h = refl
 
 is_empty-drop : (word : List ℕ) (index : ℕ) → index < length word
     → nat_eq (index + 1) (length word) ≡ is_empty (drop (index + 1) word)
-is_empty-drop word index within =
-    ⊎_elim (λ e. eq-eqb (index + 1) (length word) e
-    ∙ sym (is_empty-zero (drop (index + 1) word) (simp length-drop (omega arith))))
-    (λ n. ne_eqb (index + 1) (length word) n
-    ∙ sym (is_empty-positive (drop (index + 1) word) (simp length-drop (omega arith))))
-    (cases_eq (index + 1) (length word))
+is_empty-drop word index within = grind (arith, common_steps, eq-eqb, is_empty-zero, ne_eqb, is_empty-positive)
 
 valued_if_given : (tool : Tool) (word : List ℕ) (letter : ℕ) (rest : List ℕ) (next : Option (List ℕ)) (o : ParsedOption)
     → value_token tool word letter rest next ≡ Valid o → takes_value tool letter ≡ true
-valued_if_given tool word letter rest next o given =
-    ⊎_elim (λ t. t) (λ t. let bad : UnknownLetter word ≡ Valid o = rw t at given in cc)
-    (cases_Bool (takes_value tool letter))
+valued_if_given tool word letter rest next o given = grind arith
 
 module _ (tool : Tool) (word : List ℕ) (next : Option (List ℕ)) (before : List ParsedOption) where
   pub ahead_first : GroupRead tool word next before before (drop 1 word)
@@ -52,50 +46,32 @@ module _ (tool : Tool) (word : List ℕ) (next : Option (List ℕ)) (before : Li
   pub ahead_flag : (os : List ParsedOption) (letter : ℕ) (rest : List ℕ) → is_flag tool letter ≡ true
       → GroupRead tool word next before os (letter ∷ rest)
       → GroupRead tool word next before (os ++ flag letter ∷ []) rest
-  ahead_flag os letter rest is a = record {
-    gathered =
-        a.gathered
-        ∙ (rw is refl
-        ∙ sym (append_assoc os (flag letter ∷ []) (options_of_tokens (tokens_in tool word next rest))));
-    takes = a.takes ∙ rw is refl;
-    faults = λ tokens. a.faults tokens ∙ rw is refl;
-  }
+  ahead_flag os letter rest is a = grind (arith, common_steps)
 
   pub ahead_end : (os : List ParsedOption) → GroupRead tool word next before os []
       → GroupPost tool word next before os false
-  ahead_end os a = record {
-    options = sym (a.gathered ∙ append-nil os);
-    takes = sym a.takes;
-    faultless = a.faults;
-  }
+  ahead_end os a = search rules
 
   pub ahead_value : (os : List ParsedOption) (letter : ℕ) (rest : List ℕ) (o : ParsedOption)
       → is_flag tool letter ≡ false → value_token tool word letter rest next ≡ Valid o
       → token_fault tool os (Valid o) ≡ None → takes_value tool letter ≡ true
       → GroupRead tool word next before os (letter ∷ rest)
       → GroupPost tool word next before (os ++ o ∷ []) (is_empty rest)
-  ahead_value os letter rest o none given fine value_letters a = record {
-    options = sym (a.gathered ∙ rw (none, given) refl);
-    takes = sym (a.takes ∙ rw (none, value_letters) refl);
-    faultless = λ tokens. a.faults tokens ∙ rw (none, given, fine) refl;
-  }
+  ahead_value os letter rest o none given fine value_letters a = grind arith
 
   pub ahead_fault : (os : List ParsedOption) (letter : ℕ) (rest : List ℕ) (found : Option Fault)
       → is_flag tool letter ≡ false → found ≡ token_fault tool os (value_token tool word letter rest next)
       → GroupRead tool word next before os (letter ∷ rest)
       → OnSome found ((tokens : List Token) → parse_fault tool before (tokens_of tool word next ++ tokens) ≡ found)
   ahead_fault os letter rest None none is a = tt
-  ahead_fault os letter rest (Some f) none is a = λ tokens. a.faults tokens ∙ rw (none, ← is) refl
+  ahead_fault os letter rest (Some f) none is a = grind arith
 
   -- the three steps at an index of the word, for the options of the code
   pub flag_read : (items new : List given.ParsedOption) (index : ℕ) (o : given.ParsedOption) → index < length word
       → is_flag tool (slice_index word index) ≡ true → option_view o ≡ flag (slice_index word index)
       → new ≡ items ++ o ∷ [] → GroupRead tool word next before (options_view items) (drop index word)
       → GroupRead tool word next before (options_view new) (drop (index + 1) word)
-  flag_read items new index o within is seen pushed a =
-      rw (pushed, map-append option_view items (o ∷ []), seen)
-      (ahead_flag (options_view items) (slice_index word index) (drop (index + 1) word) is
-      (rw (letter_first word index within) at a))
+  flag_read items new index o within is seen pushed a = grind (arith, common_steps, ahead_flag, letter_first)
 
   pub value_read : (items new : List given.ParsedOption) (index : ℕ) (o : given.ParsedOption) → index < length word
       → is_flag tool (slice_index word index) ≡ false
@@ -104,12 +80,8 @@ module _ (tool : Tool) (word : List ℕ) (next : Option (List ℕ)) (before : Li
       (value_token tool word (slice_index word index) (drop (index + 1) word) next) ≡ None
       → new ≡ items ++ o ∷ [] → GroupRead tool word next before (options_view items) (drop index word)
       → GroupPost tool word next before (options_view new) (nat_eq (index + 1) (length word))
-  value_read items new index o within none given fine pushed a =
-      let rest : List ℕ = drop (index + 1) word in
-      rw (pushed, map-append option_view items (o ∷ []), is_empty-drop word index within)
-      (ahead_value (options_view items) (slice_index word index) rest (option_view o) none given (rw given at fine)
-      (valued_if_given tool word (slice_index word index) rest next (option_view o) given)
-      (rw (letter_first word index within) at a))
+  value_read items new index o within none given fine pushed a = grind (arith, common_steps, is_empty-drop,
+      ahead_value, valued_if_given, letter_first)
 
   pub fault_read : (items : List given.ParsedOption) (index : ℕ) (found : Option Fault) → index < length word
       → is_flag tool (slice_index word index) ≡ false
@@ -117,6 +89,4 @@ module _ (tool : Tool) (word : List ℕ) (next : Option (List ℕ)) (before : Li
       (value_token tool word (slice_index word index) (drop (index + 1) word) next)
       → GroupRead tool word next before (options_view items) (drop index word)
       → OnSome found ((tokens : List Token) → parse_fault tool before (tokens_of tool word next ++ tokens) ≡ found)
-  fault_read items index found within none is a =
-      ahead_fault (options_view items) (slice_index word index) (drop (index + 1) word) found none is
-      (rw (letter_first word index within) at a)
+  fault_read items index found within none is a = grind (arith, ahead_fault, letter_first)

@@ -1,7 +1,7 @@
 -- The number of inputs of a tool whose operands have no fault. Each operand is one input.
 use Rattle.ptopts.proofs
 use proofs.Common.{◌≡◌, ℕ, suc, ◌+◌, ◌&&◌, Bool, true, false, cond, List, [], ◌∷◌, Option, Some, None, length, take}
-use proofs.Common.{refl, ◌∙◌, ap, arith, nat_le, list_all, Paste, Input, ParsedOption, Fault, Operands, StandardTwice}
+use proofs.Common.{refl, ◌∙◌, arith, nat_le, list_all, Paste, Input, ParsedOption, Fault, Operands, StandardTwice}
 use proofs.Common.{is_within, is_standard, operands_fault, or_stdin, order_from}
 use Rattle.std.specs.Prelude.{not}
 use Rattle.std.proofs.lemmas.Bool.Decides.{nat_tests}
@@ -35,8 +35,7 @@ few_of false few none = cc
 -- `paste` has at most 512 inputs
 pub few_inputs : (os : List ParsedOption) (operands : List (List ℕ)) → operands_fault Paste os operands ≡ None
     → nat_le (length (order_from 0 operands)) 512 ≡ true
-few_inputs os operands none = ap (λ (n : ℕ). nat_le n 512) (order_length 0 operands)
-    ∙ few_of (nat_le 1 (length operands)) (nat_le (length operands) 512) none
+few_inputs os operands none = grind (arith, order_length, few_of)
 
 -- two inputs that differ
 pub record AreTwo (order : List Input) : Type 0 where
@@ -48,9 +47,9 @@ pub record AreTwo (order : List Input) : Type 0 where
 two_of : (a b : Bool) → (a && (b && true)) ≡ false
     → AreTwo (cond a (Standard ∷ cond b (Standard ∷ []) (File 0 ∷ [])) (File 0 ∷ cond b (Standard ∷ []) (File 1 ∷ [])))
 two_of true true once = cc
-two_of true false once = record { first = Standard; second = File 0; are = refl; differ = λ same. cc }
-two_of false true once = record { first = File 0; second = Standard; are = refl; differ = λ same. cc }
-two_of false false once = record { first = File 0; second = File 1; are = refl; differ = λ same. cc }
+two_of true false once = grind arith
+two_of false true once = grind arith
+two_of false false once = grind arith
 
 -- `comm` and `join` have two inputs, at most one of which is standard input
 pub two_inputs : (operands : List (List ℕ)) → cond (not (is_within 2 2 (length operands) && true)) (Some Operands)

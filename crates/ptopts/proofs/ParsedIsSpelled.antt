@@ -3,14 +3,14 @@
 use Rattle.ptopts.proofs
 use proofs.Common.{◌≡◌, ℕ, ◌==◌, List, [], ◌∷◌, ◌++◌, Bool, true, false, refl, ap, sym, ◌∙◌, subst, map, append_assoc}
 use proofs.Common.{Option, Some, None, ◌&&◌, ⊎_elim, codes, slice_get, is_some, filter_map, list_all, option_or}
-use proofs.Common.{and_from, eqb-true, cases_Bool, not_from_false, Tool, is_empty, is_flag, takes_value, is_option_arg}
-use proofs.Common.{is_end_of_options, ParsedOption, flag, with_value, AreFlags, Spells, OperandsAlone, EndOfOptions}
-use proofs.Common.{Flags, ValueAttached, ValueNext, Token, Valid, MissingValue, UnknownLetter, value_token, tokens_in}
-use proofs.Common.{takes_next, ParsedArgs, parsed_args_from, option_of_token, options, Twice, NeedsValue, is_repeated}
-use proofs.Common.{token_fault, parse_fault, ParseMatchesGrammar, GrammarIsUnambiguous, FaultlessIsSpelled}
+use proofs.Common.{and_from, eqb-true, cases_Bool, not_from_false, Tool, is_empty, is_flag, takes_value}
+use proofs.Common.{is_option_arg, is_end_of_options, ParsedOption, flag, with_value, AreFlags, Spells, OperandsAlone}
+use proofs.Common.{EndOfOptions, Flags, ValueAttached, ValueNext, Token, Valid, MissingValue, UnknownLetter}
+use proofs.Common.{value_token, tokens_in, takes_next, parsed_args_from, option_of_token, options, token_fault}
+use proofs.Common.{parse_fault, ParseMatchesGrammar, GrammarIsUnambiguous, FaultlessIsSpelled}
 use Rattle.std.proofs.lemmas.Slice.Eq.{bytes_eq-Decides}
-use proofs.SpelledIsParsed.{spelled, args_of, tokens_in-flags, tokens_in-all_flags, takes_next-flags}
-use proofs.SpelledIsParsed.{takes_next-all_flags}
+use proofs.SpelledIsParsed.{spelled, tokens_in-flags, tokens_in-all_flags, takes_next-flags, takes_next-all_flags}
+use Rattle.std.proofs.Common.{rules, arith}
 
 -- each token is an option
 abbrev all_given : List Token → Bool
@@ -125,22 +125,9 @@ valued_spelled : (tool : Tool) (fs : List ℕ) (l : ℕ) (rest : List ℕ) (ws :
     → GroupIsSpelled tool (45 ∷ fs ++ l ∷ rest) ws
     (map Valid (map flag fs) ++ value_token tool (45 ∷ fs ++ l ∷ rest) l rest (slice_get ws 0) ∷ [])
     (takes_value tool l && is_empty rest)
-valued_spelled tool fs l (b ∷ bs) ws a n more =
-    ⊎_elim (λ t. rw t (attached_spelled tool fs l b bs ws a t (more false)))
-    (λ t. rw t
-    (λ given. absurd (not_all_given (map flag fs) (UnknownLetter (45 ∷ fs ++ l ∷ b ∷ bs))
-    (parsed_args_from tool false ws).tokens refl given)))
-    (cases_Bool (takes_value tool l))
-valued_spelled tool fs l [] [] a n more =
-    ⊎_elim (λ t. rw t (λ given. absurd (not_all_given (map flag fs) (MissingValue l) [] refl given)))
-    (λ t. rw t (λ given. absurd (not_all_given (map flag fs) (UnknownLetter (45 ∷ fs ++ l ∷ [])) [] refl given)))
-    (cases_Bool (takes_value tool l))
-valued_spelled tool fs l [] (value ∷ ws) a n more =
-    ⊎_elim (λ t. rw t (next_spelled tool fs l value ws a t (more true)))
-    (λ t. rw t
-    (λ given. absurd (not_all_given (map flag fs) (UnknownLetter (45 ∷ fs ++ l ∷ []))
-    (parsed_args_from tool false (value ∷ ws)).tokens refl given)))
-    (cases_Bool (takes_value tool l))
+valued_spelled tool fs l (b ∷ bs) ws a n more = grind (arith, attached_spelled, not_all_given)
+valued_spelled tool fs l [] [] a n more = grind (arith, not_all_given)
+valued_spelled tool fs l [] (value ∷ ws) a n more = grind (arith, next_spelled, not_all_given)
 
 group_spelled : (tool : Tool) {letters : List ℕ} (ws : List (List ℕ)) → is_empty letters ≡ false → Split tool letters
     → ((taken : Bool) → IsSpelled tool ws taken)
@@ -152,17 +139,8 @@ group_spelled tool ws some (AllFlags (f ∷ fs) a) more =
     (sym (tokens_in-all_flags tool (45 ∷ f ∷ fs) (slice_get ws 0) (f ∷ fs) a))
     (subst (λ (t : Bool). GroupIsSpelled tool (45 ∷ f ∷ fs) ws (map Valid (map flag (f ∷ fs))) t)
     (sym (takes_next-all_flags tool (f ∷ fs) a)) (flags_spelled tool f fs ws a (more false)))
-group_spelled tool ws some (OneMore fs l rest a n) more =
-    let word : List ℕ = 45 ∷ fs ++ l ∷ rest in
-    let tokens : tokens_in tool word (slice_get ws 0) (fs ++ l ∷ rest) ≡ map Valid (map flag fs)
-    ++ value_token tool word l rest (slice_get ws 0) ∷ [] =
-    tokens_in-flags tool word (slice_get ws 0) fs (l ∷ rest) a ∙ rw n refl in
-    let taken : takes_next tool (fs ++ l ∷ rest) ≡ (takes_value tool l && is_empty rest) =
-    takes_next-flags tool fs (l ∷ rest) a ∙ rw n refl in
-    subst (λ (es : List Token). GroupIsSpelled tool word ws es (takes_next tool (fs ++ l ∷ rest))) (sym tokens)
-    (subst (λ (t : Bool). GroupIsSpelled tool word ws
-    (map Valid (map flag fs) ++ value_token tool word l rest (slice_get ws 0) ∷ []) t) (sym taken)
-    (valued_spelled tool fs l rest ws a n more))
+group_spelled tool ws some (OneMore fs l rest a n) more = grind (arith, tokens_in-flags, takes_next-flags,
+    valued_spelled)
 
 -- a word that is not `--` and not a word of options is an operand
 operand_spelled : (tool : Tool) (word : List ℕ) (ws : List (List ℕ)) → is_end_of_options word ≡ false
@@ -205,21 +183,10 @@ built tool (word ∷ ws) false =
     (cases_Bool (is_end_of_options word))
 
 pub read_as_spelled : ParseMatchesGrammar
-read_as_spelled tool words os operands = (
-  λ s. spelled tool s,
-  λ is.
-      let s : Spells tool words (options (parsed_args_from tool false words))
-      (parsed_args_from tool false words).operands =
-      built tool words false (ap (λ (r : ParsedArgs). all_given r.tokens) is ∙ all_given-map os) in
-      let t : Spells tool words (options (args_of os operands)) operands =
-      subst (λ (r : ParsedArgs). Spells tool words (options r) r.operands) is s in
-      subst (λ (xs : List ParsedOption). Spells tool words xs operands) (options-map os) t,
-)
+read_as_spelled tool words os operands = grind (arith, spelled, built, all_given-map, options-map)
 
 pub spelled_one_way : GrammarIsUnambiguous
-spelled_one_way tool words os os' operands operands' s s' =
-    let same : args_of os operands ≡ args_of os' operands' = sym (spelled tool s) ∙ spelled tool s' in
-    (sym (options-map os) ∙ (ap options same ∙ options-map os'), ap (λ (r : ParsedArgs). r.operands) same)
+spelled_one_way tool words os os' operands operands' s s' = grind (arith, spelled, options-map)
 
 pub option_or-none : {A : Type 0} (o p : Option A) → option_or o p ≡ None → (o ≡ None) × (p ≡ None)
 option_or-none None p none = (refl, none)
@@ -227,8 +194,7 @@ option_or-none (Some x) p none = cc
 
 wanting_is_faulty : (tool : Tool) (before : List ParsedOption) (letter : ℕ)
     → token_fault tool before (MissingValue letter) ≡ None → ⊥
-wanting_is_faulty tool before letter none = ⊎_elim (λ t. let bad : Some (Twice letter) ≡ None = rw t at none in cc)
-    (λ t. let bad : Some (NeedsValue letter) ≡ None = rw t at none in cc) (cases_Bool (is_repeated tool before letter))
+wanting_is_faulty tool before letter none = grind arith
 
 -- if no fault is found, each token is an option
 all_given_unless_faulty : (tool : Tool) (before : List ParsedOption) (tokens : List Token)
@@ -238,12 +204,9 @@ all_given_unless_faulty tool before (Valid o ∷ tokens) none =
     let (_, later) = option_or-none (token_fault tool before (Valid o)) (parse_fault tool (before ++ o ∷ []) tokens)
     none in
     all_given_unless_faulty tool (before ++ o ∷ []) tokens later
-all_given_unless_faulty tool before (MissingValue letter ∷ tokens) none =
-    let (here, _) = option_or-none (token_fault tool before (MissingValue letter)) (parse_fault tool before tokens)
-    none in
-    absurd (wanting_is_faulty tool before letter here)
+all_given_unless_faulty tool before (MissingValue letter ∷ tokens) none = grind (arith, option_or-none,
+    wanting_is_faulty)
 all_given_unless_faulty tool before (UnknownLetter word ∷ tokens) none = cc
 
 pub spelled_unless_faulty : FaultlessIsSpelled
-spelled_unless_faulty tool words none =
-    built tool words false (all_given_unless_faulty tool [] (parsed_args_from tool false words).tokens none)
+spelled_unless_faulty tool words none = search (rules, built, all_given_unless_faulty)

@@ -2,14 +2,15 @@
 -- and no option is both with and without a value, so each case of the grammar is the only case of the parse that
 -- applies.
 use Rattle.ptopts.proofs
-use proofs.Common.{◌≡◌, ℕ, ◌==◌, List, [], ◌∷◌, ◌++◌, Bool, true, false, refl, ap, sym, ◌∙◌, subst, map, append_assoc}
-use proofs.Common.{not, Option, Some, ⊎_elim, IsTrue, slice_get, nat_lt, list_all, and_parts, eqb-true, or_cases}
-use proofs.Common.{not-true, ne_eqb, cases_Bool, ltb-true, Tool, syntax, has_letter, is_flag, takes_value, ParsedOption}
-use proofs.Common.{flag, with_value, AreFlags, Spells, OperandsAlone, EndOfOptions, Flags, ValueAttached, ValueNext}
-use proofs.Common.{Token, Valid, tokens_in, takes_next, ParsedArgs, parsed_args_from, prepend_tokens}
-use proofs.Common.{starts_with_operand}
+use proofs.Common.{◌≡◌, ℕ, ◌==◌, List, [], ◌∷◌, ◌++◌, Bool, true, false, refl, ap, ◌∙◌, subst, map, Option, Some}
+use proofs.Common.{⊎_elim, IsTrue, slice_get, list_all, and_parts, eqb-true, or_cases, not-true, ne_eqb, ltb-true}
+use proofs.Common.{Tool, syntax, has_letter, is_flag, takes_value, ParsedOption, flag, with_value, AreFlags, Spells}
+use proofs.Common.{OperandsAlone, EndOfOptions, Flags, ValueAttached, ValueNext, Token, Valid, tokens_in, takes_next}
+use proofs.Common.{ParsedArgs, parsed_args_from, prepend_tokens, starts_with_operand}
 use Rattle.std.specs.Prelude.{◌<◌}
 use proofs.EachTool.{syntax_is}
+use Rattle.std.proofs.Common.{arith}
+use Rattle.std.proofs.lemmas.Grind.{common_steps}
 
 -- a test that holds for each letter of a list holds for a letter of the list
 pub all_of : (p : ℕ → Bool) (cs : List ℕ) (l : ℕ) → list_all p cs ≡ true → has_letter l cs ≡ true → p l ≡ true
@@ -21,12 +22,10 @@ all_of p (c ∷ cs) l a h =
 
 -- no option with a value is a flag
 pub no_flag : (tool : Tool) (l : ℕ) → takes_value tool l ≡ true → is_flag tool l ≡ false
-no_flag tool l h =
-    not-true (is_flag tool l) (all_of (λ x. not (is_flag tool x)) (syntax tool).value_letters l
-    (syntax_is tool).disjoint h)
+no_flag tool l h = grind (arith, not-true, all_of, syntax_is)
 
 not_dash : (l : ℕ) (cs : List ℕ) → has_letter l cs ≡ true → has_letter 45 cs ≡ false → (l ≡ 45) → ⊥
-not_dash l cs h n e = let bad : has_letter 45 cs ≡ true = subst (λ x. has_letter x cs ≡ true) e h in cc
+not_dash l cs h n e = cc
 
 -- the tokens of letters that start with flags
 pub tokens_in-flags : (tool : Tool) (word : List ℕ) (next : Option (List ℕ)) (fs rest : List ℕ) → AreFlags tool fs
@@ -69,12 +68,8 @@ valued_group : (tool : Tool) (fs : List ℕ) (l : ℕ) (rest : List ℕ) (ws : L
     → parsed_args_from tool false ((45 ∷ fs ++ l ∷ rest) ∷ ws)
     ≡ prepend_tokens (tokens_in tool (45 ∷ fs ++ l ∷ rest) (slice_get ws 0) (fs ++ l ∷ rest))
     (parsed_args_from tool (takes_next tool (fs ++ l ∷ rest)) ws)
-valued_group tool [] l rest ws a t =
-    group_is_read tool l rest ws (not_dash l (syntax tool).value_letters t (syntax_is tool).dash_takes_no_value)
-valued_group tool (f ∷ fs) l rest ws a t =
-    let (first, _) = and_parts (is_flag tool f) (list_all (is_flag tool) fs) a in
-    group_is_read tool f (fs ++ l ∷ rest) ws
-    (not_dash f (syntax tool).flags first (syntax_is tool).dash_is_no_flag)
+valued_group tool [] l rest ws a t = grind (arith, group_is_read, not_dash, syntax_is)
+valued_group tool (f ∷ fs) l rest ws a t = grind (arith, group_is_read, not_dash, syntax_is)
 
 -- the parse of a word of options, from its tokens and whether it takes the next word
 group_gives : (tool : Tool) (ws : List (List ℕ)) (es es' : List Token) (t t' : Bool) → es ≡ es' → t ≡ t'
@@ -83,7 +78,7 @@ group_gives tool ws es es' t t' e f = cc
 
 pub map-Valid-append : (xs ys : List ParsedOption) → map Valid (xs ++ ys) ≡ map Valid xs ++ map Valid ys
 map-Valid-append [] ys = refl
-map-Valid-append (x ∷ xs) ys = ap (λ (es : List Token). Valid x ∷ es) (map-Valid-append xs ys)
+map-Valid-append (x ∷ xs) ys = grind (arith, common_steps)
 
 -- the parse that has these options and operands
 abbrev pub args_of : List ParsedOption → List (List ℕ) → ParsedArgs
@@ -91,17 +86,12 @@ args_of options operands = record { tokens = map Valid options; operands = opera
 
 join_flags : (fs : List ℕ) (options : List ParsedOption) (operands : List (List ℕ))
     → prepend_tokens (map Valid (map flag fs)) (args_of options operands) ≡ args_of (map flag fs ++ options) operands
-join_flags fs options operands =
-    ap (λ (es : List Token). let r : ParsedArgs = record { tokens = es; operands = operands } in r)
-    (sym (map-Valid-append (map flag fs) options))
+join_flags fs options operands = grind (arith, map-Valid-append)
 
 join_group : (fs : List ℕ) (o : ParsedOption) (options : List ParsedOption) (operands : List (List ℕ))
     → prepend_tokens (map Valid (map flag fs) ++ Valid o ∷ []) (args_of options operands)
     ≡ args_of (map flag fs ++ o ∷ options) operands
-join_group fs o options operands =
-    ap (λ (es : List Token). let r : ParsedArgs = record { tokens = es; operands = operands } in r)
-    (append_assoc (map Valid (map flag fs)) (Valid o ∷ []) (map Valid options)
-    ∙ sym (map-Valid-append (map flag fs) (o ∷ options)))
+join_group fs o options operands = grind (arith, common_steps, map-Valid-append)
 
 value_here : (tool : Tool) (word : List ℕ) (next : Option (List ℕ)) (l b : ℕ) (bs : List ℕ) → takes_value tool l ≡ true
     → tokens_in tool word next (l ∷ b ∷ bs) ≡ Valid (with_value l (b ∷ bs)) ∷ []
@@ -121,9 +111,8 @@ ends_here : (tool : Tool) (ws : List (List ℕ)) → IsTrue (starts_with_operand
     → parsed_args_from tool false ws ≡ args_of [] ws
 ends_here tool [] first = refl
 ends_here tool ([] ∷ ws) first = refl
-ends_here tool ((b ∷ []) ∷ ws) first = ⊎_elim (λ e. rw e refl) (λ e. rw e refl) (cases_Bool (b == 45))
-ends_here tool ((b ∷ c ∷ bs) ∷ ws) first =
-    ⊎_elim (λ e. let bad : false ≡ true = rw e at first in cc) (λ e. rw e refl) (cases_Bool (b == 45))
+ends_here tool ((b ∷ []) ∷ ws) first = grind arith
+ends_here tool ((b ∷ c ∷ bs) ∷ ws) first = grind arith
 
 pub spelled : (tool : Tool) {ws : List (List ℕ)} {options : List ParsedOption} {operands : List (List ℕ)}
     → Spells tool ws options operands → parsed_args_from tool false ws ≡ args_of options operands
@@ -156,5 +145,4 @@ spelled tool (ValueNext fs l value words options operands a t s) =
 
 -- options with a value are ASCII
 pub valued_is_ascii : (tool : Tool) (l : ℕ) → takes_value tool l ≡ true → l < 128
-valued_is_ascii tool l h =
-    ltb-true l 128 (all_of (λ x. nat_lt x 128) (syntax tool).value_letters l (syntax_is tool).ascii h)
+valued_is_ascii tool l h = grind (arith, ltb-true, all_of, syntax_is)
