@@ -33,11 +33,11 @@ bound_is_one_part (b ∷ bs) h =
     (AllPass-from_list_all is_ascii_digit (b ∷ bs) h k d below))
 
 bounds_rejected : (n m : List ℕ) → is_bound m ≡ false → interval_of_bounds n m ≡ None
-bounds_rejected n m h = grind arith
+bounds_rejected = grind arith
 
 rejected : (n m : List ℕ) → (parts : List (List ℕ)) → 0 < length parts → join_with_byte 45 parts ≡ m
     → is_bound m ≡ false → interval_of_parts (n ∷ parts) ≡ None
-rejected n m parts some union_of_touching h = grind arith
+rejected = grind arith
 
 -- the part after the first dash is the upper bound; if it is not a bound, the element is rejected
 parts_after_dash : (n m : List ℕ) → interval_of_parts (n ∷ slice_split is_dash m) ≡ interval_of_bounds n m
@@ -48,14 +48,12 @@ parts_after_dash n m = elim (cases_Bool _) [
 ]
 
 twice : {X : Type 0} (b : Bool) (x y : X) → cond b x y ≡ cond ((b && b) && true) x y
-twice true x y = refl
-twice false x y = refl
+twice = grind arith
 
 -- an element without a dash is both of its bounds
 pub parts_without_dash : (bs : List ℕ) → position is_dash bs ≡ None → is_empty bs ≡ false
     → interval_of_parts (slice_split is_dash bs) ≡ interval_of_bounds bs bs
-parts_without_dash [] h some = cc
-parts_without_dash (b ∷ bs) h some = search (rules, split_whole, twice)
+parts_without_dash = grind (arith, split_whole, twice)
 
 pub parts_around_dash : (bs : List ℕ) (i : ℕ) → position is_dash bs ≡ Some i
     → interval_of_parts (slice_split is_dash bs)
@@ -71,11 +69,10 @@ Proper s r checked_interval = checked_interval ≡ Ok r → (Some s ≡ Some r) 
 
 checked_proper : (interval_of_parts : Option Interval) (r : Interval) → checked_interval interval_of_parts ≡ Ok r
     → (interval_of_parts ≡ Some r) × IsValidInterval r
-checked_proper interval_of_parts r h = grind arith
+checked_proper = grind arith
 
 element_proper : (bs : List ℕ) (r : Interval) → element_interval bs ≡ Ok r → IsValidInterval r
-element_proper [] r h = cc
-element_proper (b ∷ bs) r h = search (rules, checked_proper)
+element_proper = search (rules, checked_proper)
 
 pub each_proper : (all : List (List ℕ)) (rs : List Interval) → traverse element_interval all ≡ Ok rs
     → All IsValidInterval rs
@@ -114,7 +111,7 @@ selection_is_kept bs listed sorted kept e p same =
 -- ---- from the grammar to `cut_list`
 
 checked_ok : (r : Interval) → IsValidInterval r → checked_interval (Some r) ≡ Ok r
-checked_ok r proper = grind arith
+checked_ok = grind arith
 
 parts_of_element : (bs : List ℕ) (r : Interval) → SpellsInterval bs r
     → (is_empty bs ≡ false) × (interval_of_parts (slice_split is_dash bs) ≡ Some r)
@@ -137,7 +134,7 @@ parts_of_element bs r (From (b ∷ n) h) = (
 )
 
 accepts_element : (bs : List ℕ) (r : Interval) → SpellsInterval bs r → IsValidInterval r → element_interval bs ≡ Ok r
-accepts_element bs r e proper = grind (arith, parts_of_element, checked_ok)
+accepts_element = grind (arith, parts_of_element, checked_ok)
 
 unbroken : (bs : List ℕ) (r : Interval) → SpellsInterval bs r → Unbroken bs
 unbroken bs r (One n h) = unbroken_number n h
@@ -173,12 +170,11 @@ spelled_ends (b ∷ n) (c ∷ m) r e =
 
 three_parts : (n m bs : List ℕ) (rest : List (List ℕ)) → IsSplit is_dash bs rest
     → interval_of_parts (n ∷ m ∷ rest) ≡ None
-three_parts n m bs rest h = grind arith
+three_parts = grind arith
 
 spelled_cut : (n : List ℕ) (s : ℕ) (bs : List ℕ) (rest : List (List ℕ)) (r : Interval) → s ≡ 45
     → IsSplit is_dash bs rest → interval_of_parts (n ∷ rest) ≡ Some r → SpellsInterval (n ++ s ∷ bs) r
-spelled_cut n s bs rest r at (Whole xs) e = grind (arith, spelled_ends)
-spelled_cut n s bs rest r at (Cut m d xs others cut split) e = grind (arith, three_parts)
+spelled_cut = grind (arith, common_steps, Whole, spelled_ends, Cut, three_parts)
 
 spelled : (bs : List ℕ) (parts : List (List ℕ)) (r : Interval) → IsSplit is_dash bs parts
     → interval_of_parts parts ≡ Some r → SpellsInterval bs r
@@ -233,18 +229,17 @@ InOrder-lower low high (r ∷ rest) h ordered = grind arith
 -- two intervals that overlap or are adjacent select the numbers of their union
 union_of_touching : (a b c d n : ℕ) → a ≤ c → c - 1 ≤ b → c ≤ d
     → ((leb a n && leb n b) || (leb c n && leb n d)) ≡ (leb a n && leb n (max b d))
-union_of_touching a b c d n h1 h2 h3 = grind arith
+union_of_touching = grind arith
 
 or_first : (p q m x : Bool) → (p || q) ≡ m → (p || (q || x)) ≡ (m || x)
-or_first p q m x e = grind arith
+or_first = grind arith
 
 pub absorbs : {sorted : List Interval} (kept : List Interval) (r s t : Interval) (rest : List Interval)
     → t.first ≡ r.first
     → t.last ≡ max r.last s.last → s.first - 1 ≤ r.last → Merges sorted kept r (s ∷ rest) → Merges sorted kept t rest
-absorbs kept r s t rest e e' touch m = grind (arith, common_steps, or_first, union_of_touching, AreSeparated-longer,
-    InOrder-lower)
+absorbs = grind (arith, common_steps, or_first, union_of_touching, AreSeparated-longer, InOrder-lower)
 
 pub starts_next : {sorted : List Interval} (kept : List Interval) (r s : Interval) {rest : List Interval}
     → r.last < s.first - 1
     → Merges sorted kept r (s ∷ rest) → Merges sorted (kept ++ r ∷ []) s rest
-starts_next kept r s gap m = grind (arith, common_steps, AreSeparated-more)
+starts_next = grind (arith, common_steps, AreSeparated-more)

@@ -10,7 +10,7 @@ use Rattle.std.proofs.lemmas.Bool.{cond_both}
 use proofs.ListElements.{reads_first}
 
 pub delims_of_some : (bs : List ℕ) → 0 < length bs → delims bs ≡ delim_list bs
-delims_of_some bs h = grind arith
+delims_of_some = grind arith
 
 -- ---- from the grammar to `delim_list`
 
@@ -23,13 +23,11 @@ element_is_read e rest d Backslash = refl
 element_is_read e rest d Nothing = refl
 
 is_some : (bs : List ℕ) (ds : List (Option ℕ)) → delim_list bs ≡ Ok ds → delims bs ≡ Ok ds
-is_some [] ds h = cc
-is_some (b ∷ bs) ds h = h
+is_some = grind arith
 
 accepts : (bs : List ℕ) (ds : List (Option ℕ)) → IsDelimList bs ds → delim_list bs ≡ Ok ds
 accepts bs ds (Last e d is) = ap delim_list (sym (append-nil e)) ∙ element_is_read e [] d is
-accepts bs ds (More e rest d others is list) =
-    cc (element_is_read e rest d is, is_some rest others (accepts rest others list))
+accepts bs ds (More e rest d others is list) = grind (arith, element_is_read, is_some, accepts rest others list)
 
 -- ---- from `delim_list` to the grammar
 
@@ -37,7 +35,7 @@ abbrev Spells : ℕ → Option ℕ → Result (Option ℕ) DelimFault → Type 0
 Spells c d r = r ≡ Ok d → IsDelim (backslash ∷ c ∷ []) d
 
 spelled_by : (c b : ℕ) (d e : Option ℕ) → eqb c b ≡ true → IsDelim (backslash ∷ b ∷ []) e → Spells c d (Ok e)
-spelled_by c b d e h h2 = grind arith
+spelled_by = grind arith
 
 escape_is_spelled : (c : ℕ) (d : Option ℕ) → Spells c d (escape c)
 escape_is_spelled c d =
@@ -86,14 +84,14 @@ IsOfText (Ok x) = Unit {0}
 IsOfText (Err e) = delim_list_fault e ≡ Some e
 
 fault_of_either : {A : Type 0} (b : Bool) (r s : Result A DelimFault) → IsOfText r → IsOfText s → IsOfText (cond b r s)
-fault_of_either b r s of_r of_s = grind arith
+fault_of_either = grind arith
 
 after_first : (d : Option ℕ) (r : Result (List (Option ℕ)) DelimFault) → IsOfText r → IsOfText (cons_ok d r)
-after_first d r of_text = grind arith
+after_first = grind arith
 
 after_escape : (e : Result (Option ℕ) DelimFault) (r : Result (List (Option ℕ)) DelimFault) → IsOfText e → IsOfText r
     → IsOfText (and_then e (λ d. cons_ok d r))
-after_escape e r of_e of_r = grind arith
+after_escape = grind arith
 
 escape_fault : (b : ℕ) → IsOfText (escape b)
 escape_fault b = grind arith
@@ -101,9 +99,16 @@ escape_fault b = grind arith
 delims_fault : (bs : List ℕ) → IsOfText (delims bs)
 delims_fault [] = tt
 delims_fault (b ∷ []) = grind (arith, fault_of_either)
-delims_fault (b ∷ c ∷ more) =
-    fault_of_either _ _ _ (after_escape _ _ (escape_fault c) (delims_fault more))
-    (after_first _ _ (delims_fault (c ∷ more)))
+delims_fault (b ∷ c ∷ more) = grind (
+  arith,
+  fault_of_either,
+  after_escape,
+  escape_fault,
+  after_first,
+  delims_fault
+      more,
+  delims_fault (c ∷ more),
+)
 
 delim_fault : (bs : List ℕ) → IsOfText (delim_list bs)
 delim_fault [] = refl
@@ -111,9 +116,9 @@ delim_fault (b ∷ bs) = delims_fault (b ∷ bs)
 
 module _ (text left : List ℕ) (so_far : result_err (delim_list text) ≡ result_err (delim_list left)) where
   pub left_fault : (e : DelimFault) → delim_list left ≡ Err e → result_err (delim_list text) ≡ delim_list_fault e
-  left_fault e bad = grind (arith, delim_fault)
+  left_fault = grind (arith, delim_fault)
 
   pub left_without_fault : (d : Option ℕ) (remaining : List ℕ) → 0 < length remaining
       → delim_list left ≡ cons_ok d (delims remaining)
       → result_err (delim_list text) ≡ result_err (delim_list remaining)
-  left_without_fault d remaining some is = grind arith
+  left_without_fault = grind arith

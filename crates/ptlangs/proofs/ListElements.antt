@@ -2,10 +2,10 @@
 -- separators gives the elements of the grammar back. A number that is too large stays so with further digits.
 use Rattle.ptlangs.proofs
 use proofs.Common.{◌≡◌, Bool, Err, List, None, Ok, Result, Some, [], ap, arith, cond, drop, false, get_or, length}
-use proofs.Common.{refl, subst, sym, take, true, ℕ, ◌++◌, ◌+◌, ◌-◌, ◌∙◌, ◌∷◌, ltb-false, ltb-true, append_assoc}
-use proofs.Common.{length-drop, take_all, slice_split_at, slice_split_none, is_ascii_digit, All, position}
-use proofs.Common.{slice_split, and_then, traverse, elements, is_number, is_list_separator, cons_ok, eqb, ◌*◌, ◌<◌}
-use proofs.Common.{◌≤◌, All-cons, digit_value, digits_value_after, max_u64, is_empty, value}
+use proofs.Common.{refl, subst, take, true, ℕ, ◌++◌, ◌+◌, ◌-◌, ◌∙◌, ◌∷◌, ltb-false, ltb-true, length-drop, take_all}
+use proofs.Common.{slice_split_at, slice_split_none, is_ascii_digit, All, position, slice_split, and_then, traverse}
+use proofs.Common.{elements, is_number, is_list_separator, cons_ok, eqb, ◌*◌, ◌<◌, ◌≤◌, All-cons, digit_value}
+use proofs.Common.{digits_value_after, max_u64, is_empty, value}
 use Rattle.std.proofs.lemmas.List.Splits.{slice_split_first}
 use Rattle.std.proofs.lemmas.List.Sums.{fails_before_first}
 use Rattle.std.specs.List.{onto_first}
@@ -17,10 +17,10 @@ use Rattle.std.proofs.lemmas.Grind.{common_steps}
 -- ---- splitting at the first separator
 
 none_since : (b : Bool) (i : ℕ) → cond b (Some i) None ≡ None → b ≡ false
-none_since b i h = grind arith
+none_since = grind arith
 
 pub some_since : {X : Type 0} (b : Bool) {x : X} (y : X) → cond b (Some x) None ≡ Some y → (b ≡ true) × (x ≡ y)
-some_since b y h = grind arith
+some_since = grind arith
 
 pub split_whole : {X : Type 0} (p : X → Bool) (xs : List X) → position p xs ≡ None → slice_split p xs ≡ xs ∷ []
 split_whole p xs h =
@@ -53,12 +53,11 @@ append_ok-nil r = grind arith
 
 pub append_ok-cons_ok : {A E : Type 0} (xs : List A) (y : A) (r : Result (List A) E)
     → append_ok xs (cons_ok y r) ≡ append_ok (xs ++ y ∷ []) r
-append_ok-cons_ok xs y (Ok ys) = ap Ok (sym (append_assoc xs _ ys))
-append_ok-cons_ok xs y (Err e) = refl
+append_ok-cons_ok = grind (arith, common_steps)
 
 pub cons_ok-append_ok : {A E : Type 0} (x : A) (xs : List A) (r : Result (List A) E)
     → cons_ok x (append_ok xs r) ≡ append_ok (x ∷ xs) r
-cons_ok-append_ok x xs r = grind arith
+cons_ok-append_ok = grind arith
 
 -- one more element is read
 pub each_more : {A B E : Type 0} (read : A → Result B E) (x : A) (y : B) {all rest : List A} (xs : List B)
@@ -72,8 +71,7 @@ each_more read x y xs e at ok = grind (arith, e, ok, append_ok-cons_ok)
 -- the digits of a number all fail a test that every digit fails
 pub digits_fail : (p : ℕ → Bool) → ((b : ℕ) → is_ascii_digit b ≡ true → p b ≡ false) → (n : List ℕ) → is_number n ≡ true
     → All (λ b. p b ≡ false) n
-digits_fail p fails [] h = cc
-digits_fail p fails (b ∷ bs) h = grind (arith, common_steps)
+digits_fail = grind (arith, common_steps)
 
 -- a text without a separator
 abbrev pub Unbroken : List ℕ → Type 0
@@ -117,7 +115,7 @@ pub record ReadsFirst {A E : Type 0} (first : Result A E) (others : Result (List
 
 pub reads_first : {A E : Type 0} (first : Result A E) (others : Result (List A) E) (all : List A)
     → and_then first (λ y. cons_ok y others) ≡ Ok all → ReadsFirst first others all
-reads_first first others all h = grind arith
+reads_first = grind arith
 
 module _ {A E : Type 0} (read : List ℕ → Result A E) (Spells : List ℕ → A → Type 0) where
   -- the function accepts exactly the elements of the grammar, and these contain no separator
@@ -150,7 +148,7 @@ module _ {A E : Type 0} (read : List ℕ → Result A E) (Spells : List ℕ → 
 
     pub matches_grammar : (bs : List ℕ) (xs : List A) → (IsListOf Spells bs xs → traverse read (elements bs) ≡ Ok xs)
         × (traverse read (elements bs) ≡ Ok xs → IsListOf Spells bs xs)
-    matches_grammar bs xs = search (rules, from_grammar, reads_parts, splits)
+    matches_grammar = search (rules, from_grammar, reads_parts, splits)
 
 -- ---- reading decimal digits from left to right
 
@@ -160,15 +158,15 @@ after-ge n [] = omega arith
 after-ge n (d ∷ ds) = omega (arith, after-ge (n * 10 + digit_value d) ds)
 
 pub too_large : (bs : List ℕ) → max_u64 < value bs → None ≡ number bs
-too_large bs h = grind arith
+too_large = grind arith
 
 -- if the number is too large at digit `i`, it is too large
 pub too_large_at : (bs : List ℕ) (i n : ℕ) → i < length bs → value bs ≡ digits_value_after 10 n (drop i bs)
     → max_u64 < n * 10 + digit_value (get_or bs i 0) → None ≡ number bs
-too_large_at bs i n below e h = grind (arith, common_steps, too_large, after-ge)
+too_large_at = grind (arith, common_steps, too_large, after-ge)
 
 pub is_empty_by_length : {X : Type 0} (xs : List X) → is_empty xs ≡ eqb (length xs) 0
 is_empty_by_length xs = grind arith
 
 pub digit_is : (b : ℕ) → 48 ≤ b → b ≤ 57 → digit_value b ≡ b - 48
-digit_is b low high = grind arith
+digit_is = grind arith

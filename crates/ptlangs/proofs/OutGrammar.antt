@@ -17,7 +17,7 @@ use Rattle.ptlangs.specs.declared.outlist.OutField.TheVariants.{Join, Field}
 
 field_accepted : (file : File) (n : List ℕ) → is_number n ≡ true → 1 ≤ value n → value n ≤ max_u64
     → field_of file n ≡ Ok (Field file (value n))
-field_accepted file n h positive fits = grind arith
+field_accepted = grind arith
 
 accepts_element : (e : List ℕ) (f : OutField) → SpellsField e f → IsValidField f → element_field e ≡ Ok f
 accepts_element e f JoinField proper = refl
@@ -26,12 +26,10 @@ accepts_element e f (SecondFileField n h) proper = grind (arith, field_accepted)
 
 after_file_number : (name : ℕ) (n : List ℕ) → is_list_separator name ≡ false → is_number n ≡ true
     → Unbroken (name ∷ 46 ∷ n)
-after_file_number name n plain h = grind (arith, unbroken_cons, unbroken_number)
+after_file_number = grind (arith, unbroken_cons, unbroken_number)
 
 unbroken : (e : List ℕ) (f : OutField) → SpellsField e f → Unbroken e
-unbroken e f JoinField = unbroken_cons 48 [] refl unbroken_nil
-unbroken e f (FirstFileField n h) = after_file_number 49 n refl h
-unbroken e f (SecondFileField n h) = after_file_number 50 n refl h
+unbroken = grind (arith, unbroken_cons, unbroken_nil, after_file_number)
 
 -- ---- from `out_list` to the grammar
 
@@ -42,7 +40,7 @@ Spelled e f r = r ≡ Ok f → IsFieldElement e f
 spelled_field : (file : File) (name : ℕ) (n : List ℕ) (f : OutField)
     → (is_number n ≡ true → SpellsField (name ∷ 46 ∷ n) (Field file (value n)))
     → Spelled (name ∷ 46 ∷ n) f (field_of file n)
-spelled_field file name n f says = grind arith
+spelled_field = grind arith
 
 reads_element : (e : List ℕ) (f : OutField) → Spelled e f (element_field e)
 reads_element [] f = λ h. cc

@@ -53,13 +53,13 @@ pub ranges_next : (rs : List (ℕ × ℕ)) (i left count : ℕ) (d : ℕ × ℕ)
     → count ≡ length (range_bytes (get_or rs i d)) → count ≤ left
     → slice_get (flat_map range_bytes (drop (i + 1) rs)) (left - count)
     ≡ slice_get (flat_map range_bytes (drop i rs)) left
-ranges_next rs i left count d h e past = grind (arith, slice_get-right, drop_more)
+ranges_next = grind (arith, slice_get-right, drop_more)
 
 pub class_bytes-some : (class : CharClass) → 0 < length (class_bytes class)
-class_bytes-some class = grind arith
+class_bytes-some = grind arith
 
 pub class_bytes-short : (class : CharClass) → length (class_bytes class) ≤ 256
-class_bytes-short class = grind arith
+class_bytes-short = grind arith
 
 -- an index within a list that is no longer than a number of 128 bits can be counted up
 pub room : (bytes : List ℕ) (i : ℕ) (found : Option ℕ) → found ≡ slice_get bytes i → length bytes < 2 ^ 128
@@ -75,6 +75,6 @@ repeat_there n b i h =
     ∙ ap Some (get_or-replicate n i b 0 h))
 
 pub repeat_past : (n b i : ℕ) → n ≤ i → None ≡ slice_get (replicate n b) i
-repeat_past n b i h = grind (arith, common_steps, slice_get_past)
+repeat_past = grind (arith, common_steps, slice_get_past)
 
 pub ruleset member_steps = (length-replicate, length-span, class_bytes-short, repeat_there, repeat_past)

@@ -3,9 +3,9 @@
 use Rattle.ptlangs.proofs
 use proofs.Common.{◌≡◌, Bool, Err, List, None, Ok, Option, Result, Some, [], ap, arith, cond, drop, eqb, false}
 use proofs.Common.{length, map, refl, suc, sym, true, zero, ℕ, ◌&&◌, ◌++◌, ◌+◌, ◌||◌, ◌∙◌, ◌∷◌, ◌≤◌, ◌<◌, ◌-◌}
-use proofs.Common.{append-nil, length-map, length-replicate, map-append, slice_get, cons_ok, array, class_offsets}
-use proofs.Common.{sequence, is_fill, segment, result_map_both, CharClass, SetFaultKind, SetElement, Segment, SetRole}
-use proofs.Common.{eq-eqb, ne_eqb, drop_all, replicate, span, segments_of, string_segments}
+use proofs.Common.{append-nil, length-map, length-replicate, map-append, slice_get, array, class_offsets, sequence}
+use proofs.Common.{is_fill, segment, result_map_both, CharClass, SetFaultKind, SetElement, Segment, SetRole, eq-eqb}
+use proofs.Common.{ne_eqb, drop_all, replicate, span, segments_of, string_segments}
 use Rattle.ptlangs.specs.TrPlan.{are_paired, members, has_other_case_at}
 use Rattle.std.proofs.lemmas.List.{drop-map, drop-replicate}
 use Rattle.std.specs.Result.{IsErrAnd}
@@ -26,14 +26,14 @@ pub record ItemsRead {A : Type 0} (all rest : List (Result A SetFaultKind)) (P :
 sequence-done : {A : Type 0} (done : List A) (rest : List (Result A SetFaultKind))
     → sequence (map Ok done ++ rest) ≡ onto done (sequence rest)
 sequence-done [] rest = sym (append_ok-nil _)
-sequence-done (x ∷ done) rest = ap (cons_ok x) (sequence-done done rest) ∙ cons_ok-append_ok x done _
+sequence-done (x ∷ done) rest = grind (arith, cons_ok-append_ok, sequence-done done rest)
 
 module _ {A : Type 0} {all rest : List (Result A SetFaultKind)} {P : List A → Type 0} (r : ItemsRead all rest P) where
   -- more items were read
   pub items_more : {after : List (Result A SetFaultKind)} (Q : List A → Type 0) (more : List A)
       → rest ≡ map Ok more ++ after → (P r.done → Q (r.done ++ more))
       → ItemsRead all after Q
-  items_more {after} Q more s h = grind (arith, common_steps)
+  items_more = grind (arith, common_steps)
 
   sequence-read : sequence all ≡ onto r.done (sequence rest)
   sequence-read = grind (arith, sequence-done)
@@ -48,27 +48,14 @@ module _ {A : Type 0} {all rest : List (Result A SetFaultKind)} {P : List A → 
   pub items_at : {after : List (Result A SetFaultKind)} {x : A} {xs : List A}
       → rest ≡ Ok x ∷ after → sequence all ≡ Ok xs
       → (more : List A) × (xs ≡ r.done ++ x ∷ more)
-  items_at {after} {x} {xs} s c = by_rest (sequence after) (cc (sequence-read))
-    where
-      by_rest : (t : Result (List A) SetFaultKind) → onto r.done (cons_ok x t) ≡ Ok xs
-          → (more : List A) × (xs ≡ r.done ++ x ∷ more)
-      by_rest (Ok more) e = (more, cc)
-      by_rest (Err k) e = absurd (cc)
+  items_at = grind (arith, sequence-read, onto)
 
 -- ---- the bytes of segments
 
 pub sequence-members : (n : ℕ) (rs : List (Result Segment SetFaultKind))
     → sequence (member_results n rs) ≡ result_map_both (marked_array n) (λ (k : SetFaultKind). k) (sequence rs)
 sequence-members n [] = refl
-sequence-members n (Ok x ∷ rs) =
-    sequence-done (marked_members n x) _ ∙ ap (onto _) (sequence-members n rs)
-    ∙ by_rest _
-  where
-    by_rest : (t : Result (List Segment) SetFaultKind)
-        → onto (marked_members n x) (result_map_both (marked_array n) (λ (k : SetFaultKind). k) t)
-        ≡ result_map_both (marked_array n) (λ (k : SetFaultKind). k) (cons_ok x t)
-    by_rest (Ok ps) = refl
-    by_rest (Err k) = refl
+sequence-members n (Ok x ∷ rs) = grind (arith, sequence-done, onto, sequence-members n rs)
 sequence-members n (Err k ∷ rs) = refl
 
 -- if no segment has a fault, all bytes are read
@@ -89,8 +76,7 @@ member_bytes-plain [] = refl
 member_bytes-plain (b ∷ bytes) = ap (λ bs. b ∷ bs) (member_bytes-plain bytes)
 
 member_bytes-members : (class : Option CharClass) (bytes : List ℕ) → member_bytes (members_from class bytes) ≡ bytes
-member_bytes-members class [] = refl
-member_bytes-members class (b ∷ bytes) = ap (λ bs. b ∷ bs) (member_bytes-plain bytes)
+member_bytes-members = grind (arith, member_bytes-plain)
 
 pub member_bytes-array : (n : ℕ) (ps : List Segment) → member_bytes (marked_array n ps) ≡ array n ps
 member_bytes-array n [] = refl
@@ -104,9 +90,7 @@ length-marked n x = grind (arith, length-map, member_bytes-members)
 pub drop-found : {X : Type 0} (xs : List X) (i : ℕ) (x : X) → Some x ≡ slice_get xs i → drop i xs ≡ x ∷ drop (i + 1) xs
 drop-found [] i x e = absurd (cc)
 drop-found (y ∷ xs) zero x e = cc
-drop-found (y ∷ xs) (suc i) x e =
-    let next : suc i + 1 ≡ suc _ = omega arith in
-    drop-found xs i x e ∙ ap (λ k. x ∷ drop k (y ∷ xs)) (sym next)
+drop-found (y ∷ xs) (suc i) x e = grind (arith, drop-found xs i x e)
 
 -- ---- the bytes after a segment that was passed
 
@@ -125,11 +109,7 @@ copies-passed zero i b ms h = grind arith
 copies-passed (suc n) i b ms h =
     let copies = plain_members (replicate (suc n) b) in
     let all : length copies ≤ i + (suc n - i) =
-    omega (
-      arith,
-      length-map {B = Member} (replicate (suc n) b) (λ (c : ℕ). record { byte = c; class = None }),
-      length-replicate (suc n) b,
-    ) in
+    grind (arith, common_steps) in
     rw (h (omega arith), drop_all _ copies all, append-nil _)
     (drop-map _ i _ ∙ ap plain_members (drop-replicate i _ b))
 
@@ -138,51 +118,35 @@ copies-passed (suc n) i b ms h =
 -- a string that is not empty has the fault of its bytes
 pub string-fault : (role : SetRole) (text : List ℕ) (n : ℕ) (k : SetFaultKind) → false ≡ eqb (length text) 0
     → sequence (member_results n (segments_of role text)) ≡ Err k → string_segments role text ≡ Err k
-string-fault role [] n k some e = absurd (cc)
-string-fault role (b ∷ text) n k some e =
-    by_segments _ (sym (sequence-members n (segments_of role (b ∷ text))) ∙ e)
-  where
-    by_segments : (r : Result (List Segment) SetFaultKind)
-        → result_map_both (marked_array n) (λ (j : SetFaultKind). j) r ≡ Err k → r ≡ Err k
-    by_segments (Ok ps) e = absurd (cc)
-    by_segments (Err j) e = cc
+string-fault = grind (arith, sequence-members)
 
 -- or the segments that give these bytes
 pub string-read : (role : SetRole) (text : List ℕ) (n : ℕ) (ms : List Member) → false ≡ eqb (length text) 0
     → sequence (member_results n (segments_of role text)) ≡ Ok ms
     → (ps : List Segment) × (string_segments role text ≡ Ok ps) × (marked_array n ps ≡ ms)
-string-read role [] n ms some e = absurd (cc)
-string-read role (b ∷ text) n ms some e =
-    by_segments _ (sym (sequence-members n (segments_of role (b ∷ text))) ∙ e)
-  where
-    by_segments : (r : Result (List Segment) SetFaultKind)
-        → result_map_both (marked_array n) (λ (j : SetFaultKind). j) r ≡ Ok ms
-        → (ps : List Segment) × (r ≡ Ok ps) × (marked_array n ps ≡ ms)
-    by_segments (Ok ps) e = (ps, refl, cc)
-    by_segments (Err j) e = absurd (cc)
+string-read = grind (arith, sequence-members)
 
 -- a string without a fault gives its array
 pub string-ok : (role : SetRole) (text : List ℕ) (n : ℕ) (ps : List Segment) → string_segments role text ≡ Ok ps
     → member_results n (segments_of role text) ≡ map Ok (marked_array n ps)
-string-ok role [] n ps e = absurd (cc)
-string-ok role (b ∷ text) n ps e = grind (arith, members-ok)
+string-ok = grind (arith, members-ok)
 
 -- ---- a fault that is passed on
 
 pub on_fault : {T E : Type 0} (P : Result T E → Type 0) (r : Result T E) (k : E) → IsErrAnd r (λ e. e ≡ k) → P (Err k)
     → P r
-on_fault P r k e h = grind arith
+on_fault = grind arith
 
 -- ---- at most one segment is a fill
 
 no_second_fill : (role : SetRole) (p : SetElement) (b : ℕ) → segment role true p ≡ Ok (Fill b) → ⊥
-no_second_fill role p b e = grind arith
+no_second_fill = grind arith
 
 -- one more segment adds the length of a fill only if no fill came before it
 pub fill_step : (n : ℕ) (role : SetRole) (p : SetElement) (d : Segment) (has_fill : Bool)
     → segment role has_fill p ≡ Ok d
     → length (members n d) + cond (has_fill || is_fill (Ok d)) 0 n ≤ length (members 0 d) + cond has_fill 0 n
-fill_step n role p d has_fill e = grind (arith, no_second_fill, length-replicate)
+fill_step = grind (arith, no_second_fill, length-replicate)
 
 -- ---- the classes that start in two arrays
 
@@ -208,13 +172,11 @@ offsets-plain at (b ∷ bytes) ms = offsets-plain _ bytes ms ∙ ap (λ k. offse
 
 offsets-members : (at : ℕ) (bytes : List ℕ) (ms : List Member)
     → offsets at (members_from None bytes ++ ms) ≡ offsets (at + length bytes) ms
-offsets-members at [] ms = offsets-plain at [] ms
-offsets-members at (b ∷ bytes) ms = offsets-plain at (b ∷ bytes) ms
+offsets-members = grind (arith, offsets-plain)
 
 offsets-class : (at : ℕ) (class : CharClass) (bytes : List ℕ) (ms : List Member) → 0 < length bytes
     → offsets at (members_from (Some class) bytes ++ ms) ≡ (at, class) ∷ offsets (at + length bytes) ms
-offsets-class at class [] ms some = absurd (omega arith)
-offsets-class at class (b ∷ bytes) ms some = grind (arith, offsets-plain)
+offsets-class = grind (arith, offsets-plain)
 
 class_offsets-are : (n : ℕ) (ps : List Segment) (at : ℕ) → class_offsets n at ps ≡ offsets at (marked_array n ps)
 class_offsets-are n [] at = refl
@@ -223,14 +185,14 @@ class_offsets-are n (Range a b ∷ ps) at = class_offsets-are n ps _
 class_offsets-are n (Class class ∷ ps) at =
     ap (λ os. (at, class) ∷ os) (class_offsets-are n ps _)
     ∙ sym (offsets-class at class _ _ (class_bytes-some class))
-class_offsets-are n (Repeat b count ∷ ps) at =
-    cc (
-      class_offsets-are n ps (at + count),
-      length-replicate count b,
-      offsets-members at (replicate count b) (marked_array n ps),
-    )
-class_offsets-are n (Fill b ∷ ps) at =
-    cc (class_offsets-are n ps (at + n), length-replicate n b, offsets-members at (replicate n b) (marked_array n ps))
+class_offsets-are n (Repeat b count ∷ ps) at = grind (
+  arith,
+  common_steps,
+  offsets-members,
+  class_offsets-are n ps (at
+      + count),
+)
+class_offsets-are n (Fill b ∷ ps) at = grind (arith, common_steps, offsets-members, class_offsets-are n ps (at + n))
 
 -- no class starts before an array
 none_before : (ms : List Member) (at k : ℕ) (class : CharClass) → k < at
@@ -286,13 +248,13 @@ paired_from from (t ∷ to) i = by_class t.class (paired_from from to _) ∙ sym
         → are_paired (offsets 0 from) (offset_of i o ++ offsets (suc i) to)
         ≡ (classes_match (class_here from i) o && all_paired (drop (suc i) from) to)
     by_class None later = cc
-    by_class (Some c) later = (λ j. stands_here from 0 i i c (omega arith) j && later j)
+    by_class (Some c) later = grind (arith, stands_here)
 
 -- the classes are paired as the definition states it
 pub paired-arrays : (n : ℕ) (firsts seconds : List Segment)
     → are_paired (class_offsets 0 0 firsts) (class_offsets n 0 seconds)
     ≡ all_paired (marked_array 0 firsts) (marked_array n seconds)
-paired-arrays n firsts seconds = grind (arith, class_offsets-are, paired_from)
+paired-arrays = grind (arith, class_offsets-are, paired_from)
 
 pub paired-plain : (n : ℕ) (bytes : List ℕ) (seconds : List Segment)
     → are_paired [] (class_offsets n 0 seconds) ≡ all_paired (plain_members bytes) (marked_array n seconds)

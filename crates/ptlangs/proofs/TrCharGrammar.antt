@@ -1,11 +1,11 @@
 -- Octal and decimal numbers, and the characters of a string at an index. The character at an index depends only on the
 -- bytes from there on, which gives the agreement with the grammar, character by character.
 use Rattle.ptlangs.proofs
-use proofs.Common.{◌≡◌, ◌≤◌, ◌<◌, ◌+◌, ◌-◌, ◌*◌, ℕ, zero, suc, Bool, true, false, cond, List, [], ◌∷◌, length, take}
-use proofs.Common.{drop, get_or, arith, refl, sym, ap, ◌∙◌, rules, Option, Some, None, prefix_len, slice_get}
-use proofs.Common.{digit_value, digits_value, length-prefix_len, octal, chars, after_backslash, SetChar, Plain}
-use proofs.Common.{Escaped, Invalid, inl, inr, ◌++◌, cases_Bool, cases_eq, ne_eqb, drop_at, length-append, AChar}
-use proofs.Common.{NoChar, SpellsChar, SpellsChars, value, Result, Ok, Err, SetFaultKind}
+use proofs.Common.{◌≡◌, ◌≤◌, ◌<◌, ◌+◌, ◌-◌, ◌*◌, ℕ, zero, suc, true, false, cond, List, [], ◌∷◌, length, take, drop}
+use proofs.Common.{get_or, arith, refl, sym, ap, ◌∙◌, rules, Option, Some, None, prefix_len, slice_get, digit_value}
+use proofs.Common.{digits_value, length-prefix_len, octal, chars, after_backslash, SetChar, Plain, Escaped, Invalid}
+use proofs.Common.{inl, inr, ◌++◌, cases_Bool, cases_eq, ne_eqb, drop_at, length-append, AChar, NoChar, SpellsChar}
+use proofs.Common.{SpellsChars, value, Result, Ok, Err, SetFaultKind}
 use Rattle.ptlangs.specs.TrChars.{ALargeOctal, ALoneBackslash, APlainByte, AnEscape, AnOctal, is_octal_digit}
 use Rattle.ptlangs.specs.TrChars.{octal_run, IsOctalRun, OneDigit, ThreeDigits, TwoDigits, CharsMatchGrammar, byte_of}
 use Rattle.ptlangs.specs.TrChars.{char_at}
@@ -30,7 +30,7 @@ byte_of_octal (Some v) = Ok v
 -- a number is above the limit if its first digits are
 pub too_large : (base limit : ℕ) (ds : List ℕ) (i : ℕ) → 1 ≤ base → limit < digits_value base (take i ds)
     → nat_le (digits_value base ds) limit ≡ false
-too_large base limit ds i one h = search (rules, digits_value-take-le)
+too_large = search (rules, digits_value-take-le)
 
 -- the value after one more digit
 pub number_step : (base : ℕ) (ds : List ℕ) (i value digit : ℕ) → i < length ds → base ≤ 10
@@ -54,7 +54,7 @@ pub take-octal_run : (bs : List ℕ) → take (length (octal_run bs)) bs ≡ oct
 take-octal_run bs =
     let n = prefix_len is_octal_digit (take 3 bs) in
     let e = length-prefix_len is_octal_digit (take 3 bs) in
-    let short : n ≤ 3 = omega (arith, prefix_len-le-length is_octal_digit (take 3 bs), length-take 3 bs) in
+    let short : n ≤ 3 = grind arith in
     ap (λ m. take m bs) e ∙ sym (take-take n 3 bs short)
 
 octal_value : (b : ℕ) → is_octal_digit b ≡ true → digit_value b < 8
@@ -67,44 +67,34 @@ octal_digits bs k d h =
     let within : k < n = omega (arith, length-take (length (octal_run bs)) bs) in
     octal_value (get_or (take (length (octal_run bs)) bs) k d)
     (rw take-octal_run (rw (get_or-take n _ k d within)
-    (prefix_len_passes is_octal_digit (take 3 bs) k d within)))
+    (grind (arith, prefix_len_passes))))
 
 -- a backslash before an octal digit
 pub after_backslash-octal : (bs : List ℕ) (c : ℕ) → Some c ≡ slice_get bs 0 → is_octal_digit c ≡ true
     → after_backslash bs ≡ (octal (digits_value 8 (octal_run bs)), length (octal_run bs))
-after_backslash-octal bs c e t = grind arith
+after_backslash-octal = grind arith
 
 pub octal_char : (bs : List ℕ) (c count : ℕ) (o : Option ℕ) → Some c ≡ slice_get bs 0 → is_octal_digit c ≡ true
     → count ≡ length (octal_run bs)
     → o ≡ cond (nat_le (digits_value 8 (take count bs)) 255) (Some (digits_value 8 (take count bs))) None
     → byte_of_octal o ≡ byte_of (after_backslash bs).0
-octal_char bs c count o e t n v =
-    cc (rw same at v, choose (nat_le (digits_value 8 (octal_run bs)) 255), after_backslash-octal bs c e t)
-  where
-    same : take count bs ≡ octal_run bs
-    same = ap (λ m. take m bs) n ∙ take-octal_run bs
-
-    choose : (fits : Bool)
-        → byte_of_octal (cond fits (Some (digits_value 8 (octal_run bs))) None)
-        ≡ byte_of (cond fits (Escaped (digits_value 8 (octal_run bs))) (Invalid Octal))
-    choose true = refl
-    choose false = refl
+octal_char = grind (arith, after_backslash-octal, take-octal_run)
 
 pub chars-cons : (b : ℕ) (bs : List ℕ) → chars (b ∷ bs) ≡ (char_at b bs).0 ∷ chars (drop (char_at b bs).1 bs)
 chars-cons b bs = grind arith
 
 pub chars_plain : (bs : List ℕ) (i b : ℕ) → i < length bs → get_or bs i 0 ≡ b → (b ≡ 92 → ⊥)
     → chars (drop i bs) ≡ Plain b ∷ chars (drop (i + 1) bs)
-chars_plain bs i b h e n = grind (arith, common_steps, chars-cons)
+chars_plain = grind (arith, common_steps, chars-cons)
 
 pub chars_escape : (bs : List ℕ) (i : ℕ) → i < length bs → get_or bs i 0 ≡ 92
     → chars (drop i bs) ≡ (after_backslash (drop (i + 1) bs)).0
     ∷ chars (drop (i + 1 + (after_backslash (drop (i + 1) bs)).1) bs)
-chars_escape bs i h e = grind (arith, common_steps, chars-cons)
+chars_escape = grind (arith, common_steps, chars-cons)
 
 pub char_from-plain : (bs : List ℕ) (i b : ℕ) → get_or bs i 0 ≡ b → (b ≡ 92 → ⊥) → char_from bs i ≡ Plain b
 unfolding char_from
-char_from-plain bs i b e n = grind (arith, ne_eqb)
+char_from-plain = grind (arith, ne_eqb)
 
 pub char_from-escape : (bs : List ℕ) (i : ℕ) → get_or bs i 0 ≡ 92
     → char_from bs i ≡ (after_backslash (drop (i + 1) bs)).0
@@ -131,11 +121,7 @@ escape_is digits rest run is =
     rw (chars-cons 92 _, run_is digits rest run, is, drop_at digits rest _ refl) refl
 
 char_is : (bs : List ℕ) (u : SetChar) (rest : List ℕ) → SpellsChar bs u rest → chars bs ≡ u ∷ chars rest
-char_is bs u rest (APlainByte b more n) = rw (chars-cons b more, ne_eqb b 92 n) refl
-char_is bs u rest (AnOctal digits more run small) = grind (arith, escape_is, le-leb)
-char_is bs u rest (ALargeOctal digits more run large) = grind (arith, escape_is, lt-leb)
-char_is bs u rest (AnEscape b more n) = rw (chars-cons 92 _, n) refl
-char_is bs u rest ALoneBackslash = refl
+char_is = grind (arith, chars-cons, ne_eqb, escape_is, le-leb, lt-leb)
 
 chars_are : (bs : List ℕ) (us : List SetChar) → SpellsChars bs us → chars bs ≡ us
 chars_are bs us NoChar = refl
@@ -173,7 +159,7 @@ record FirstChar (bs : List ℕ) : Type 0 where
 
 octal_first_char : (bs : List ℕ) → OctalPrefix bs → FirstChar (92 ∷ bs)
 octal_first_char bs r =
-    let shorter : length r.rest < length (92 ∷ bs) = omega (arith, ap length r.is, length-append r.digits r.rest) in
+    let shorter : length r.rest < length (92 ∷ bs) = grind (arith, length-append) in
     elim (cases_Bool (nat_le (digits_value 8 r.digits) 255)) [
       | inl small ↦ record {
         next_char = Escaped (digits_value 8 r.digits);
@@ -216,4 +202,4 @@ spelled (suc n) (b ∷ bs) h =
     (AChar _ f.rest f.next_char _ f.spelled (spelled n f.rest (omega arith)))
 
 pub chars_are_spelled : CharsMatchGrammar
-chars_are_spelled bs us = grind (arith, chars_are, spelled)
+chars_are_spelled = grind (arith, chars_are, spelled)

@@ -2,11 +2,11 @@
 -- is the byte of the second array, extended by its last byte, at the index that was pushed last for it.
 use Rattle.std.proofs.lemmas.Map.Views.{any-filter_same}
 use Rattle.ptlangs.proofs
-use proofs.Common.{eqb-true, ◌≡◌, ◌≢◌, inl, inr, ◌<◌, ◌≤◌, ◌+◌, ◌-◌, ℕ, zero, suc, Bool, true, false, cond, eqb, List}
-use proofs.Common.{[], ◌∷◌, ◌++◌, length, take, map, replicate, arith, refl, sym, ap, ◌∙◌, Option, Some, None, flat_map}
-use proofs.Common.{set, cases_eq, eq-eqb, ne_eqb, append_assoc, append-nil, length-replicate, get_or-replicate}
-use proofs.Common.{length-append, not, ◌&&◌, last_or, slice_get, option_and_then, unwrap_or, complement_of, image_by}
-use Rattle.std.proofs.Common.{◌⊎◌, min}
+use proofs.Common.{eqb-true, ◌≡◌, ◌≢◌, inl, inr, ◌<◌, ◌≤◌, ◌+◌, ◌-◌, ℕ, zero, suc, Bool, true, false, cond, List, []}
+use proofs.Common.{◌∷◌, ◌++◌, length, take, map, replicate, arith, refl, sym, ap, ◌∙◌, Option, Some, None, flat_map}
+use proofs.Common.{set, cases_eq, eq-eqb, ne_eqb, append_assoc, length-replicate, get_or-replicate, length-append}
+use proofs.Common.{not, ◌&&◌, last_or, slice_get, option_and_then, unwrap_or, complement_of, image_by}
+use Rattle.std.proofs.Common.{◌⊎◌, min, rules}
 use Rattle.std.specs.List.{range_with_len}
 use Rattle.std.specs.Option.{option_to_list}
 use Rattle.std.proofs.Math.ListN.{get_or}
@@ -17,11 +17,11 @@ use Rattle.ptlangs.specs.TrClasses.{all_bytes}
 use Rattle.ptlangs.specs.TrParsing.{contents_of}
 use Rattle.ptlangs.specs.declared.tr.contents.Contents.{Contents}
 use Rattle.ptlangs.specs.TrPlan.{padded_to, has_byte, last_position, next_index_or}
-use Rattle.std.proofs.lemmas.List.FromFn.{get_or-map-range_with_len, length-map-range_with_len, map-range_with_len_more}
-use Rattle.std.proofs.lemmas.List.{get_or-set_other, get_or-set_same, get_or_default, length-set, map-id, same_lists}
+use Rattle.std.proofs.lemmas.List.FromFn.{get_or-map-range_with_len, length-map-range_with_len}
+use Rattle.std.proofs.lemmas.List.FromFn.{map-range_with_len_more}
+use Rattle.std.proofs.lemmas.List.{get_or_default, length-set, map-id, same_lists}
 use Rattle.std.proofs.lemmas.Grind.{common_steps}
 use proofs.TrByteRanges.{slice_get-left, slice_get-right, slice_get-none, repeat_there}
-use Rattle.std.proofs.Common.{rules}
 
 -- the entries of a table of all bytes
 pub length-table : {X : Type 0} (f : ℕ → X) → length (map f all_bytes) ≡ 256
@@ -57,10 +57,8 @@ set-table {X} f g i v h e others =
     (λ k under. by_cases k under (cases_eq k i))
   where
     by_cases : (k : ℕ) → k < 256 → ((k ≡ i) ⊎ (k ≡ i → ⊥)) → get_or (set (map f all_bytes) i v) k v ≡ g k
-    by_cases k under (inl same) =
-        let room : i < length _ = omega (arith, length-table f) in
-        rw (same, get_or-set_same _ i v v room) (sym e)
-    by_cases k under (inr other) = rw (get_or-set_other, get_or-table) (sym (others k other))
+    by_cases k under (inl same) = search (rules, length-table)
+    by_cases k under (inr other) = search (rules, get_or-table)
 
 -- ---- appending a byte
 
@@ -70,7 +68,7 @@ has_byte-same b (x ∷ bytes) more = or_right _ _ (has_byte-same b bytes more)
 
 has_byte-copies : (b k n : ℕ) → k ≢ b → has_byte k (replicate n b) ≡ false
 has_byte-copies b k zero other = refl
-has_byte-copies b k (suc n) other = rw (ne_eqb b k (λ e. other (sym e))) (has_byte-copies b k n other)
+has_byte-copies b k (suc n) other = grind (arith, ne_eqb, has_byte-copies b k n other)
 
 has_byte-other : (b k : ℕ) (bytes : List ℕ) (n : ℕ) → k ≢ b → has_byte k (bytes ++ replicate n b) ≡ has_byte k bytes
 has_byte-other b k [] n other = has_byte-copies b k n other
@@ -146,7 +144,7 @@ complement-around bytes b low h =
     )
 
 has_byte-filter : (p : ℕ → Bool) (b : ℕ) (xs : List ℕ) → has_byte b (filter p xs) ≡ (p b && has_byte b xs)
-has_byte-filter p b xs = grind (arith, any-filter_same, eqb-true)
+has_byte-filter = grind (arith, any-filter_same, eqb-true)
 
 has_byte-range : (n b : ℕ) → b < n → has_byte b (range_with_len 0 n) ≡ true
 has_byte-range zero b low = absurd (omega arith)
@@ -167,7 +165,7 @@ has_byte-all b low = has_byte-range 256 b low
 
 -- the complement contains the bytes that the array does not contain
 pub has_byte-complement : (bytes : List ℕ) (b : ℕ) → b < 256 → has_byte b (complement_of bytes) ≡ not (has_byte b bytes)
-has_byte-complement bytes b low = grind (arith, has_byte-filter, has_byte-all)
+has_byte-complement = grind (arith, has_byte-filter, has_byte-all)
 
 length-filter-map : (f : ℕ → Bool) (xs : List ℕ) → count_by not (map f xs) ≡ length (filter (λ b. not (f b)) xs)
 length-filter-map f [] = refl
@@ -225,9 +223,7 @@ padded_to-get n i (b ∷ bytes) h = by_last _ refl
   where
     beyond : (z : ℕ) → last_or None (b ∷ bytes) ≡ Some z → ((i < length (b ∷ bytes)) ⊎ (length (b ∷ bytes) ≤ i))
         → slice_get ((b ∷ bytes) ++ (replicate n z ++ [])) i ≡ slice_get (b ∷ bytes) (min i (length (b ∷ bytes) - 1))
-    beyond z l (inl within) =
-        let index : min i _ ≡ i = omega arith in
-        slice_get-left (b ∷ bytes) _ i within ∙ ap (slice_get (b ∷ bytes)) (sym index)
+    beyond z l (inl within) = grind (arith, slice_get-left)
     beyond z l (inr past) =
         let index : length bytes ≡ min i _ = omega arith in
         slice_get-right (b ∷ bytes) _ i _ (omega arith)
@@ -243,8 +239,7 @@ padded_to-get n i (b ∷ bytes) h = by_last _ refl
 
 last_position-same : (b : ℕ) (bytes : List ℕ) → last_position b (bytes ++ b ∷ []) ≡ Some (length bytes)
 last_position-same b [] = rw (eq-eqb b b refl) refl
-last_position-same b (x ∷ bytes) = ap (λ o. next_index_or o (eqb x b)) (last_position-same b bytes)
-    ∙ ap Some (omega arith)
+last_position-same b (x ∷ bytes) = grind (arith, last_position-same b bytes)
 
 last_position-other : (b k : ℕ) (bytes : List ℕ) → k ≢ b → last_position k (bytes ++ b ∷ []) ≡ last_position k bytes
 last_position-other b k [] n = grind (arith, ne_eqb)
@@ -255,9 +250,7 @@ last_or-take : (o : Option ℕ) (b : ℕ) (bytes : List ℕ) (n : ℕ)
     → last_or o (take (suc n) (b ∷ bytes)) ≡ slice_get (b ∷ bytes) (min n (length bytes))
 last_or-take o b bytes zero = grind arith
 last_or-take o b [] (suc n) = grind arith
-last_or-take o b (c ∷ bytes) (suc n) =
-    let next : min (suc n) (length (c ∷ bytes)) ≡ suc _ = omega arith in
-    rw next (last_or-take (Some b) c bytes n)
+last_or-take o b (c ∷ bytes) (suc n) = grind (arith, last_or-take (Some b) c bytes n)
 
 -- the image that a byte gets when it is pushed
 image-same : (from to : List ℕ) (b : ℕ)
@@ -282,11 +275,7 @@ image-other from to b k n = rw (last_position-other b k from n) (by_last _ refl)
         → unwrap_or (option_and_then (slice_get (padded_to (length (from ++ b ∷ [])) to)) o) k
         ≡ unwrap_or (option_and_then (slice_get (padded_to (length from) to)) o) k
     by_last None e = refl
-    by_last (Some i) e =
-        let below = last_position-lt k i from e in
-        let longer : i < length _ = omega (arith, length-append from (b ∷ [])) in
-        ap (λ o. unwrap_or o k) (padded_to-get _ i to longer
-        ∙ sym (padded_to-get _ i to below))
+    by_last (Some i) e = grind (arith, last_position-lt, length-append, padded_to-get)
 
 pub images-push : (from to : List ℕ) (b : ℕ) (last : Option ℕ) → b < 256
     → last ≡ last_or None (take (suc (length from)) to)

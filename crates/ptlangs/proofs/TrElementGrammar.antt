@@ -4,9 +4,9 @@
 use Rattle.ptlangs.proofs
 use proofs.Common.{◌≡◌, ◌<◌, ◌-◌, ℕ, zero, suc, Bool, true, false, List, [], ◌∷◌, ◌++◌, length, drop, map, arith}
 use proofs.Common.{refl, sym, ap, subst, ◌∙◌, Option, Some, None, Result, Ok, Err, list_all, option_and_then}
-use proofs.Common.{is_ascii_digit, is_ascii_lowercase, ltb-false, ne_eqb, length-append, append_assoc, drop_all}
-use proofs.Common.{SetFaultKind, SetChar, Plain, Escaped, Invalid, SetElement, StartsElement, after_plain, plain_run}
-use proofs.Common.{after_run, set_elements, ◌||◌, ◌≤◌, and_parts, ltb-true, drop_more, result_map_both, StartsInvalid}
+use proofs.Common.{is_ascii_digit, is_ascii_lowercase, ltb-false, ne_eqb, length-append, drop_all, SetFaultKind}
+use proofs.Common.{SetChar, Plain, Escaped, Invalid, SetElement, StartsElement, after_plain, plain_run, after_run}
+use proofs.Common.{set_elements, ◌||◌, ◌≤◌, and_parts, ltb-true, drop_more, result_map_both, StartsInvalid}
 use proofs.Common.{FirstFault, LaterFault, NoElement, NoSegment, sequence, is_fill, segment, segments, chars}
 use proofs.Common.{CharClass, Segment, SetRole}
 use Rattle.std.proofs.lemmas.Bool.{le-ltb, cond_both}
@@ -28,13 +28,11 @@ use Rattle.std.proofs.lemmas.Grind.{common_steps}
 -- ---- from the computed elements to the grammar
 
 pub after_plain_is : (c : ℕ) (us rest : List SetChar) → after_plain c us ≡ Some rest → us ≡ Plain c ∷ rest
-after_plain_is c us rest e = grind arith
+after_plain_is = grind arith
 
 pub run_split : (test : ℕ → Bool) (us : List SetChar) → us ≡ map Plain (plain_run test us) ++ after_run test us
 run_split test [] = refl
-run_split test (Plain b ∷ us) =
-    cond_both (test b) _ _ (λ (run : List ℕ). Plain b ∷ us ≡ map Plain run ++ drop (length run) (Plain b ∷ us))
-    (λ t. ap (λ more. Plain b ∷ more) (run_split test us)) (λ t. refl)
+run_split test (Plain b ∷ us) = grind (arith, run_split test us)
 run_split test (Escaped b ∷ us) = refl
 run_split test (Invalid k ∷ us) = refl
 
@@ -43,12 +41,12 @@ run_split test (Invalid k ∷ us) = refl
 after_plain_cases : (Q : List SetChar → Option (List SetChar) → Type 0) (c : ℕ) (us : List SetChar)
     → ((vs : List SetChar) → Q vs None) → ((rest : List SetChar) → Q (Plain c ∷ rest) (Some rest))
     → Q us (after_plain c us)
-after_plain_cases Q c us none some = grind arith
+after_plain_cases = grind arith
 
 after_two_cases : (Q : List SetChar → Option (List SetChar) → Type 0) (c d : ℕ) (us : List SetChar)
     → ((vs : List SetChar) → Q vs None) → ((rest : List SetChar) → Q (Plain c ∷ Plain d ∷ rest) (Some rest))
     → Q us (after_two c d us)
-after_two_cases Q c d us none some = grind arith
+after_two_cases = grind arith
 
 -- the characters start with the bracketed form that is found
 abbrev StartsFound : List SetChar → Option (SetElement × List SetChar) → Type 0
@@ -90,9 +88,7 @@ equivalence_found u v us m =
     _ (λ rest. AnEquivalence u v rest m)
 
 equivalence_starts : (us : List SetChar) → StartsFound (Plain 91 ∷ us) (equivalence_at us)
-equivalence_starts us =
-    after_plain_cases (λ xs o. StartsFound (Plain 91 ∷ xs) (option_and_then equivalence_after_equals o)) 61 us
-    _ by_unit
+equivalence_starts us = grind (arith, after_plain_cases, by_unit)
   where
     by_unit : (more : List SetChar) → StartsFound (Plain 91 ∷ Plain 61 ∷ more) (equivalence_after_equals more)
     by_unit [] = tt
@@ -102,7 +98,7 @@ equivalence_starts us =
 
 starts_either : (us : List SetChar) (o q : Option (SetElement × List SetChar)) → StartsFound us o → StartsFound us q
     → StartsFound us (option_or o q)
-starts_either us o q here there = grind arith
+starts_either = grind arith
 
 bracketed_starts : (us : List SetChar) → StartsFound us (bracketed_at us)
 bracketed_starts us = grind (arith, after_plain_cases, starts_either, repeat_starts, class_starts, equivalence_starts)
@@ -110,7 +106,7 @@ bracketed_starts us = grind (arith, after_plain_cases, starts_either, repeat_sta
 -- ---- from the grammar to the computed elements
 
 pub byte_of-DenotesByte : (u : SetChar) (v : ℕ) → DenotesByte u v → byte_of u ≡ Ok v
-byte_of-DenotesByte u v h = grind arith
+byte_of-DenotesByte = grind arith
 
 pub plain_run-map : (test : ℕ → Bool) (bs : List ℕ) (c : ℕ) (rest : List SetChar) → list_all test bs ≡ true
     → test c ≡ false → plain_run test (map Plain bs ++ Plain c ∷ rest) ≡ bs
@@ -121,12 +117,16 @@ plain_run-map test (b ∷ bs) c rest t n =
 
 pub after_run-map : (test : ℕ → Bool) (bs : List ℕ) (c : ℕ) (rest : List SetChar) → list_all test bs ≡ true
     → test c ≡ false → after_run test (map Plain bs ++ Plain c ∷ rest) ≡ Plain c ∷ rest
-after_run-map test bs c rest t n = grind (arith, common_steps, plain_run-map)
+after_run-map = grind (arith, common_steps, plain_run-map)
 
 pub bracketed_at-StartsBracketed : (us : List SetChar) (p : SetElement) (rest : List SetChar)
     → StartsBracketed us p rest → bracketed_at us ≡ Some (p, rest)
-bracketed_at-StartsBracketed us p rest (ARepeat u v digits more m t) = grind (arith, byte_of-DenotesByte,
-    after_run-map, plain_run-map)
+bracketed_at-StartsBracketed us p rest (ARepeat u v digits more m t) = grind (
+  arith,
+  byte_of-DenotesByte,
+  after_run-map,
+  plain_run-map,
+)
 bracketed_at-StartsBracketed us p rest (AClass c name more t) = search (rules, ne_eqb, after_run-map, plain_run-map)
 bracketed_at-StartsBracketed us p rest (AnEquivalence u v more m) = grind (arith, byte_of-DenotesByte)
 
@@ -134,11 +134,7 @@ pub bracketed_at-none : (us : List SetChar) → bracketed_at us ≡ None → ¬ 
 bracketed_at-none us e (p, rest, f) = cc (bracketed_at-StartsBracketed us p rest f)
 
 pub bracketed_at-unless : (us : List SetChar) → ¬ HasBracketed us → bracketed_at us ≡ None
-bracketed_at-unless us n = by_form _ refl
-  where
-    by_form : (o : Option (SetElement × List SetChar)) → bracketed_at us ≡ o → o ≡ None
-    by_form None e = refl
-    by_form (Some (p, rest)) e = absurd (n (p, rest, subst (StartsFound us) e (bracketed_starts us)))
+bracketed_at-unless = grind (arith, bracketed_starts)
 
 -- ---- the first element
 
@@ -170,12 +166,7 @@ byte_starts u a us n m = by_dash _ refl
     by_dash (Some []) d =
         Alone u a us n
         (λ (v, more, is). let unlike = sym d ∙ ap (after_plain 45) is in cc) m
-    by_dash (Some (v ∷ more)) d =
-        let all = after_plain_is 45 us _ d in
-        let closed =
-        subst (λ (xs : List SetChar). ¬ HasBracketed (u ∷ xs)) all n in
-        subst (λ (xs : List SetChar). StartsAs (u ∷ xs) (range_to a (byte_of v) more)) (sym all)
-        (range_end_starts u v a more closed m)
+    by_dash (Some (v ∷ more)) d = grind (arith, after_plain_is, range_end_starts)
 
 char_starts : (u : SetChar) (us : List SetChar) → ¬ HasBracketed (u ∷ us)
     → StartsAs (u ∷ us) (char_or_range (byte_of u) us)
@@ -194,14 +185,18 @@ starts_as u us e = subst (StartsAs _) e (by_form _ refl)
 
 first_set_element-found : (us : List SetChar) (p : SetElement) (rest : List SetChar) → bracketed_at us ≡ Some (p, rest)
     → first_set_element us ≡ Ok (p, rest)
-first_set_element-found us p rest e = grind arith
+first_set_element-found = grind arith
 
 pub first_set_element-StartsElement : (us : List SetChar) (p : SetElement) (rest : List SetChar)
     → StartsElement us p rest → first_set_element us ≡ Ok (p, rest)
 first_set_element-StartsElement us p rest (InBrackets xs q more f) =
     first_set_element-found xs q more (bracketed_at-StartsBracketed xs q more f)
-first_set_element-StartsElement us p rest (ARange u v a b more n m w h) = grind (arith, bracketed_at-unless,
-    byte_of-DenotesByte, le-ltb)
+first_set_element-StartsElement us p rest (ARange u v a b more n m w h) = grind (
+  arith,
+  bracketed_at-unless,
+  byte_of-DenotesByte,
+  le-ltb,
+)
 first_set_element-StartsElement us p rest (Alone u a more n d m) =
     rw (bracketed_at-unless _ n, byte_of-DenotesByte u a m) (by_dash _ refl)
   where
@@ -220,12 +215,12 @@ pub StartsBracketed-front : (us : List SetChar) (p : SetElement) (rest : List Se
     → IsProperSuffix us rest
 StartsBracketed-front us p rest (ARepeat u v digits more m t) = (
   Plain 91 ∷ u ∷ Plain 42 ∷ map Plain digits ++ Plain 93 ∷ [],
-  ap (λ xs. Plain 91 ∷ u ∷ Plain 42 ∷ xs) (sym (append_assoc _ _ more)),
+  grind (arith, common_steps),
   omega arith,
 )
 StartsBracketed-front us p rest (AClass c name more t) = (
   Plain 91 ∷ Plain 58 ∷ map Plain (c ∷ name) ++ Plain 58 ∷ Plain 93 ∷ [],
-  ap (λ xs. Plain 91 ∷ Plain 58 ∷ xs) (sym (append_assoc (map Plain (c ∷ name)) _ more)),
+  grind (arith, common_steps),
   omega arith,
 )
 StartsBracketed-front us p rest (AnEquivalence u v more m) =
@@ -253,11 +248,11 @@ pub set_elements-first : (us : List SetChar) (p : SetElement) (rest : List SetCh
 set_elements-first [] p rest e = absurd (cc)
 set_elements-first (u ∷ us) p rest e =
     let (front, all, some) = StartsElement-front _ p rest (starts_as u us e) in
-    rw (e, elements_after_is us _, drop_prefix u us rest front all some) refl
+    grind (arith, elements_after_is, drop_prefix)
 
 pub set_elements-fault : (us : List SetChar) (k : SetFaultKind) → 0 < length us → first_set_element us ≡ Err k
     → set_elements us ≡ Err k ∷ []
-set_elements-fault us k h e = grind arith
+set_elements-fault = grind arith
 
 by_result : {A P : Type 0} (r : Result A SetFaultKind) → ((x : A) → r ≡ Ok x → P) → ((k : SetFaultKind) → r ≡ Err k → P)
     → P
@@ -270,18 +265,19 @@ by_first : {P : Type 0} (u : SetChar) (us : List SetChar)
     → set_elements (u ∷ us) ≡ Ok p ∷ set_elements rest → P)
     → ((k : SetFaultKind) → StartsInvalid (u ∷ us) k → set_elements (u ∷ us) ≡ Err k ∷ [] → P) → P
 by_first u us element fault = by_result _
-    (λ (p, rest) e. element p rest (starts_as u us e) (set_elements-first (u ∷ us) p rest e))
+    (λ (p, rest) e. search (rules, starts_as, set_elements-first))
     (λ k e. fault k (starts_as u us e) (set_elements-fault (u ∷ us) k (omega arith) e))
 
 -- the computed elements are those of the grammar
 pub set_elements-AreElements : (us : List SetChar) (ps : List SetElement) → AreElements us ps
     → set_elements us ≡ map Ok ps
 set_elements-AreElements us [] e = ap set_elements e
-set_elements-AreElements us (p ∷ ps) (rest, begins, more) =
-    cc (
-      set_elements-first us p rest (first_set_element-StartsElement us p rest begins),
-      set_elements-AreElements rest ps more,
-    )
+set_elements-AreElements us (p ∷ ps) (rest, begins, more) = grind (
+  arith,
+  set_elements-first,
+  first_set_element-StartsElement,
+  set_elements-AreElements rest ps more,
+)
 
 pub AreElements-set_elements : (ps : List SetElement) (us : List SetChar) → set_elements us ≡ map Ok ps
     → AreElements us ps
@@ -292,22 +288,22 @@ AreElements-set_elements (p ∷ ps) (u ∷ us) e = by_first u us
     (λ q rest b is.
     let all = sym is ∙ e in
     let same : q ≡ p = cc in
-    (rest, subst (λ (x : SetElement). StartsElement (u ∷ us) x rest) same b, AreElements-set_elements ps rest (cc)))
-    (λ k b is. let all = sym is ∙ e in absurd (cc))
+    (rest, grind arith, AreElements-set_elements ps rest (cc)))
+    (grind arith)
 
 -- ---- the bracketed forms and the first element, as the code finds them
 
 -- a class whose name is not empty
 pub class_with_name-named : (name : List ℕ) (us : List SetChar) → 0 < length name
     → class_with_name name us ≡ with_rest (Class (class_named name)) (after_two 58 93 us)
-class_with_name-named name us h = grind arith
+class_with_name-named = grind arith
 
 pub class_at-found : (us : List SetChar) {inside : List SetChar} (after : List SetChar) {rest : List SetChar}
     (name : List ℕ) (found : Option CharClass)
     → Some inside ≡ after_plain 58 us → name ≡ plain_run is_ascii_lowercase inside
     → after ≡ after_run is_ascii_lowercase inside → 0 < length name → Some rest ≡ after_two 58 93 after
     → found ≡ class_named name → Some (Class found, rest) ≡ class_at us
-class_at-found us after name found e n a h r f = search (rules, class_with_name-named)
+class_at-found = search (rules, class_with_name-named)
 
 pub chars-some : (bs : List ℕ) (i : ℕ) → i < length bs → 0 < length (chars (drop i bs))
 chars-some bs i h = rw (drop_more bs i 0 h) (omega arith)
@@ -316,7 +312,7 @@ pub first_set_element-range : (us next more : List SetChar) (u : SetChar) (a : �
     {r : Result (SetElement × List SetChar) SetFaultKind}
     → us ≡ u ∷ next → None ≡ bracketed_at us → Ok a ≡ byte_of u → Some more ≡ after_plain 45 next → 0 < length more
     → r ≡ single_or_range a [] (Some more) → r ≡ first_set_element us
-first_set_element-range us next more u a e f b d h g = grind arith
+first_set_element-range = grind arith
 
 -- ---- the segments of the elements, one after another
 
@@ -330,7 +326,7 @@ pub segments-fault : (role : SetRole) (has_fill : Bool) (bs : List ℕ) (i end :
     → length bs ≤ end → Err k ≡ first_set_element (chars (drop i bs))
     → segments role has_fill (set_elements (chars (drop i bs)))
     ≡ Err k ∷ segments role has_fill (set_elements (chars (drop end bs)))
-segments-fault role has_fill bs i end k h n e = grind (arith, set_elements-fault, chars-some, drop_all)
+segments-fault = grind (arith, set_elements-fault, chars-some, drop_all)
 
 -- ---- the fault of a string is that of its first faulty element
 
@@ -347,14 +343,17 @@ first_set_element-faulty us k (ADescendingRange u v a b rest n m w h) =
 
 rest_fails : (x : Segment) (r : Result (List Segment) SetFaultKind) (k : SetFaultKind)
     → result_map_both (λ (xs : List Segment). x ∷ xs) (λ (e : SetFaultKind). e) r ≡ Err k → r ≡ Err k
-rest_fails x r k e = grind arith
+rest_fails = grind arith
 
 module _ (role : SetRole) where
   fault_is : (has_fill : Bool) (us : List SetChar) {k : SetFaultKind} → FirstFault role has_fill us k
       → sequence (segments role has_fill (set_elements us)) ≡ Err k
   fault_is has_fill us (NoElement f vs j b) = grind (arith, first_set_element-faulty, set_elements-fault)
-  fault_is has_fill us (NoSegment f vs rest p j b e) = grind (arith, set_elements-first,
-      first_set_element-StartsElement)
+  fault_is has_fill us (NoSegment f vs rest p j b e) = grind (
+    arith,
+    set_elements-first,
+    first_set_element-StartsElement,
+  )
   fault_is has_fill us (LaterFault f vs rest p x j b e later) =
       cc (
         set_elements-first vs p rest (first_set_element-StartsElement vs p rest b),
@@ -367,7 +366,7 @@ module _ (role : SetRole) where
   is_fault [] has_fill us k all e = cc
   is_fault (y ∷ ys) has_fill [] k all e = cc
   is_fault (Err j ∷ ys) has_fill (u ∷ us) k all e = by_first u us
-      (λ p rest b is. let never = sym all ∙ is in cc)
+      (grind arith)
       (λ i b is.
       let both = sym all ∙ is in
       let same : i ≡ k = cc in
@@ -383,7 +382,7 @@ module _ (role : SetRole) where
       (λ j got.
       let fails = rw got at e in
       let last : j ≡ k = cc in NoSegment has_fill _ rest q k begins (got ∙ ap Err last)))
-      (λ i b is. let never = sym all ∙ is in cc)
+      (grind arith)
 
 pub faults_are_first : FirstFaultIsReported
-faults_are_first role b text k = grind (arith, fault_is, is_fault)
+faults_are_first = grind (arith, fault_is, is_fault)

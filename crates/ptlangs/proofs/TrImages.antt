@@ -1,10 +1,10 @@
 -- The pairs of two arrays, byte by byte: what one more byte of the first array adds, and what is left of the second one
 -- at its end.
 use Rattle.ptlangs.proofs
-use proofs.Common.{◌≡◌, ◌<◌, ℕ, zero, suc, Bool, true, false, List, [], ◌∷◌, ◌++◌, Option, Some, None, Result, Ok, Err}
-use proofs.Common.{length, map, take, drop, arith, refl, sym, ap, ◌∙◌, unwrap_or, set, last_or, append_assoc}
-use proofs.Common.{length-append, map-append, SetFaultKind, CharClass, sequence, image_by, not, ClassPlace, Segment}
-use proofs.Common.{cond, first_array}
+use proofs.Common.{◌≡◌, ◌<◌, ℕ, zero, suc, Bool, true, false, List, [], ◌∷◌, ◌++◌, Option, Some, None, Result, Ok}
+use proofs.Common.{Err, length, map, take, drop, arith, refl, sym, ap, ◌∙◌, unwrap_or, set, last_or, length-append}
+use proofs.Common.{map-append, SetFaultKind, CharClass, sequence, image_by, not, ClassPlace, Segment, cond}
+use proofs.Common.{first_array}
 use Rattle.std.specs.Prelude.{is_some}
 use Rattle.ptlangs.specs.TrClasses.{all_bytes}
 use Rattle.ptlangs.specs.declared.tr.images.Images.{Images}
@@ -15,6 +15,7 @@ use Rattle.ptlangs.specs.TrParsing.{plain_members}
 use Rattle.std.specs.Result.{IsErrAnd}
 use proofs.TrByteWalk.{member_bytes-array, member_bytes-plain}
 use proofs.TrContents.{images-push}
+use Rattle.std.proofs.lemmas.Grind.{common_steps}
 
 -- the results are the bytes of the second array from an index on
 abbrev AllOk : List Member → List (Result Member SetFaultKind)
@@ -27,7 +28,7 @@ sequence-ok (m ∷ ms) = rw (sequence-ok ms) refl
 -- the second array has no fault
 pub never_fault : {X : Type 0} (ms : List Member) (rs : List (Result Member SetFaultKind)) {k : SetFaultKind}
     → rs ≡ AllOk ms → sequence rs ≡ Err k → X
-never_fault ms rs is e = grind (arith, sequence-ok)
+never_fault = grind (arith, sequence-ok)
 
 -- one byte of the second array is taken
 pub record TakesNext (n : ℕ) (to : List Member) (t : Member) (after : List (Result Member SetFaultKind)) : Type 0 where
@@ -59,8 +60,7 @@ pub ended : (n : ℕ) (to : List Member) → AllOk (drop n to) ≡ [] → HasEnd
 ended zero [] e = grind arith
 ended zero (x ∷ to) e = absurd (cc)
 ended (suc n) [] e = grind arith
-ended (suc n) (x ∷ to) e = let rest = ended n to e in
-    record { now = rest.now; next = rest.next; taken = ap (λ ms. x ∷ ms) rest.taken }
+ended (suc n) (x ∷ to) e = grind (arith, ended n to e)
 
 member_bytes-take : (n : ℕ) (ms : List Member) → member_bytes (take n ms) ≡ take n (member_bytes ms)
 member_bytes-take zero ms = refl
@@ -82,19 +82,7 @@ module _ (before to : List Member) (old : Images) (from : Member) (h : HasPaired
       ≡ all_paired more (drop (suc (length before)) to))
       → HasPaired (before ++ from ∷ []) to
       (record { table = set old.table from.byte (unwrap_or last from.byte); second = second; last = last })
-  paired second last left is decides = record {
-    left = rw count left;
-    last = rw count is;
-    table =
-        rw (h.table, bytes) (images-push _ (member_bytes to) from.byte last fits
-        (is ∙ ap (last_or None) (member_bytes-take (suc _) to)
-        ∙ ap (λ n. last_or None (take (suc n) (member_bytes to))) (sym (length-bytes before))));
-    decides = λ more. rw (count, append_assoc before _ more) (h.decides _ ∙ decides more);
-  }
-    where
-      length-bytes : (ms : List Member) → length (member_bytes ms) ≡ length ms
-      length-bytes [] = refl
-      length-bytes (m ∷ ms) = ap (λ n. suc n) (length-bytes ms)
+  paired = grind (arith, common_steps, count, bytes, images-push, member_bytes-take)
 
   -- a byte of the second array is left
   pub push-next : (second : Bytes) (t : Member) → bytes_left old.second ≡ Ok t ∷ bytes_left second
@@ -105,18 +93,18 @@ module _ (before to : List Member) (old : Images) (from : Member) (h : HasPaired
         second = second;
         last = Some t.byte;
       })
-  push-next second t s fine = grind (arith, next_taken, paired)
+  push-next = grind (arith, next_taken, paired)
 
   -- none is left: the last one stays
   pub push-last : (second : Bytes) → bytes_left old.second ≡ [] → bytes_left second ≡ []
       → HasPaired (before ++ from ∷ []) to
       (record { table = set old.table from.byte (unwrap_or old.last from.byte); second = second; last = old.last })
-  push-last second s end = grind (arith, ended, paired)
+  push-last = grind (arith, ended, paired)
 
   -- a class without its other case
   pub push-unpaired : (after : List (Result Member SetFaultKind)) (t : Member) → bytes_left old.second ≡ Ok t ∷ after
       → classes_match from.class t.class ≡ false → (more : List Member) → all_paired (before ++ from ∷ more) to ≡ false
-  push-unpaired after t s wrong more = grind (arith, next_taken)
+  push-unpaired = grind (arith, next_taken)
 
 -- the images and the table after a step, as the code writes them
 pub written : (before to : List Member) (m : Images) (i u byte : ℕ) (table : List ℕ) (second : Bytes) (last : Option ℕ)
@@ -145,7 +133,7 @@ split_ok [] t after e = absurd (cc)
 split_ok (x ∷ rest) t after e = grind arith
 
 unmatched : (class : Option CharClass) → classes_match None class ≡ not (is_some class)
-unmatched class = grind arith
+unmatched = grind arith
 
 -- no class starts in bytes that are passed as copies of one
 plain-passed : (bytes : List ℕ) (rest : List Member) (after : List (Result Member SetFaultKind))
@@ -160,7 +148,7 @@ plain-passed (b ∷ bytes) rest after e =
 module _ {from to : List Member} {old : Images} (p : IsPassing from to old) where
   pub passing-next : (second : Bytes) (t : Member) → bytes_left old.second ≡ Ok t ∷ bytes_left second
       → is_some t.class ≡ false → IsPassing from to (record { table = old.table; second = second; last = old.last })
-  passing-next second t s plain = grind (arith, split_ok, unmatched)
+  passing-next = grind (arith, split_ok, unmatched)
 
   pub passing-copies : (second : Bytes) (bytes : List ℕ)
       → bytes_left old.second ≡ AllOk (plain_members bytes) ++ bytes_left second
@@ -169,7 +157,7 @@ module _ {from to : List Member} {old : Images} (p : IsPassing from to old) wher
 
   pub passing-unpaired : (after : List (Result Member SetFaultKind)) (t : Member) → bytes_left old.second ≡ Ok t ∷ after
       → is_some t.class ≡ true → all_paired from to ≡ false
-  passing-unpaired after t s class = grind (arith, split_ok, unmatched)
+  passing-unpaired = grind (arith, split_ok, unmatched)
 
   pub passing-end : bytes_left old.second ≡ [] → all_paired from to ≡ true
   passing-end s = p.decides ∙ by_rest p.rest (sym p.left ∙ s)
@@ -185,17 +173,16 @@ answer_of paired images = cond paired (Ok images) (Err ClassPlace)
 
 pub unpaired_answer : (paired : Bool) (images : List ℕ) (r : Result (List ℕ) SetFaultKind) (k : SetFaultKind)
     → IsErrAnd r (λ e. e ≡ k) → k ≡ ClassPlace → paired ≡ false → r ≡ answer_of paired images
-unpaired_answer paired images r k is kind wrong = grind arith
+unpaired_answer = grind arith
 
 pub answer_ok : (paired : Bool) {images table : List ℕ} → Ok table ≡ answer_of paired images
     → (paired ≡ true) × (table ≡ images)
-answer_ok paired e = grind arith
+answer_ok = grind arith
 
 pub answer_fault : (paired : Bool) (images : List ℕ) (k : SetFaultKind) → Err k ≡ answer_of paired images
     → (paired ≡ false) × (k ≡ ClassPlace)
-answer_fault paired images k e = grind arith
+answer_fault = grind arith
 
 pub first-bytes : (complement : Bool) (ps : List Segment)
     → member_bytes (first_members complement ps) ≡ first_array complement ps
-first-bytes true ps = member_bytes-plain _
-first-bytes false ps = member_bytes-array 0 ps
+first-bytes = grind (arith, member_bytes-plain, member_bytes-array)

@@ -1,10 +1,10 @@
 -- Plain bytes in the characters of a string: a byte other than a backslash is a character by itself, so the code may
 -- look at the bytes where the definition looks at characters.
 use Rattle.ptlangs.proofs
-use proofs.Common.{◌≡◌, ◌≢◌, ◌≤◌, ◌<◌, ◌+◌, ◌-◌, inl, inr, ℕ, suc, Bool, true, false, List, [], ◌∷◌, length, take}
-use proofs.Common.{drop, get_or, arith, refl, Some, None, prefix_len, list_all, cases_eq, eq-eqb, ne_eqb, drop_all}
-use proofs.Common.{take_rest, length-prefix_len, AllPass-from_list_all, SetChar, Plain, Escaped, Invalid, chars}
-use proofs.Common.{after_backslash, after_plain, plain_run, after_run}
+use proofs.Common.{◌≡◌, ◌≢◌, ◌≤◌, ◌<◌, ◌+◌, ◌-◌, ℕ, suc, Bool, true, false, List, [], ◌∷◌, length, take, drop, get_or}
+use proofs.Common.{arith, refl, Some, None, prefix_len, list_all, eq-eqb, ne_eqb, drop_all, take_rest}
+use proofs.Common.{length-prefix_len, AllPass-from_list_all, SetChar, Plain, Escaped, Invalid, chars, after_backslash}
+use proofs.Common.{after_plain, plain_run, after_run}
 use Rattle.std.proofs.lemmas.Bool.{and_from, cond_both}
 use Rattle.std.specs.List.{slice_range, take_while, AllPass}
 use Rattle.std.proofs.lemmas.List.Sums.{take_while-cons}
@@ -21,21 +21,20 @@ pub IsEscape-after_backslash : (bs : List ℕ) → IsEscape (after_backslash bs)
 IsEscape-after_backslash bs = grind arith
 
 pub after_plain-escape : (c : ℕ) (u : SetChar) (us : List SetChar) → IsEscape u → after_plain c (u ∷ us) ≡ None
-after_plain-escape c u us e = grind arith
+after_plain-escape = grind arith
 
 pub plain_run-escape : (test : ℕ → Bool) (u : SetChar) (us : List SetChar) → IsEscape u → plain_run test (u ∷ us) ≡ []
-plain_run-escape test u us e = grind arith
+plain_run-escape = grind arith
 
 -- ---- one plain byte
 
 pub after_plain-here : (bs : List ℕ) (i c : ℕ) → i < length bs → get_or bs i 0 ≡ c → c ≢ 92
     → Some (chars (drop (i + 1) bs)) ≡ after_plain c (chars (drop i bs))
-after_plain-here bs i c h e n = grind (arith, chars_plain, eq-eqb)
+after_plain-here = grind (arith, chars_plain, eq-eqb)
 
 pub after_plain-other : (bs : List ℕ) (i c : ℕ) → i < length bs → get_or bs i 0 ≢ c
     → None ≡ after_plain c (chars (drop i bs))
-after_plain-other bs i c h n = grind (arith, chars_escape, after_plain-escape, IsEscape-after_backslash, chars_plain,
-    ne_eqb)
+after_plain-other = grind (arith, chars_escape, after_plain-escape, IsEscape-after_backslash, chars_plain, ne_eqb)
 
 pub after_plain-end : (bs : List ℕ) (i c : ℕ) → length bs ≤ i → None ≡ after_plain c (chars (drop i bs))
 after_plain-end bs i c h = rw (drop_all i bs h) refl
@@ -50,11 +49,15 @@ chars-plain b bs n = rw (chars-cons b bs, ne_eqb b 92 n) refl
 pub plain_run-chars : (test : ℕ → Bool) → test 92 ≡ false → (bs : List ℕ)
     → plain_run test (chars bs) ≡ take_while test bs
 plain_run-chars test n [] = refl
-plain_run-chars test n (b ∷ bs) = elim (cases_eq b 92) [
-  | inl e ↦ rw (take_while-cons test b bs, e, n, chars-cons 92 bs)
-      (plain_run-escape test _ _ (IsEscape-after_backslash bs))
-  | inr m ↦ rw (take_while-cons test b bs, chars-plain b bs m, plain_run-chars test n bs) refl
-]
+plain_run-chars test n (b ∷ bs) = grind (
+  arith,
+  take_while-cons,
+  chars-cons,
+  plain_run-escape,
+  IsEscape-after_backslash,
+  chars-plain,
+  plain_run-chars test n bs,
+)
 
 pub drop-prefix_len : (test : ℕ → Bool) → test 92 ≡ false → (bs : List ℕ)
     → drop (prefix_len test bs) (chars bs) ≡ chars (drop (prefix_len test bs) bs)
@@ -78,19 +81,16 @@ prefix_len-from_run test bs i count e = simp (e, take_rest, length-prefix_len)
 -- the bytes from `i` to the end of the run
 pub run_range : (test : ℕ → Bool) → test 92 ≡ false → (bs : List ℕ) (i count : ℕ) → IsRunLength test bs i count
     → slice_range bs i (i + count) ≡ plain_run test (chars (drop i bs))
-run_range test n bs i count e = grind (arith, prefix_len-from_run, plain_run-chars)
+run_range = grind (arith, prefix_len-from_run, plain_run-chars)
 
 pub run_rest : (test : ℕ → Bool) → test 92 ≡ false → (bs : List ℕ) (i count : ℕ) → IsRunLength test bs i count
     → chars (drop (i + count) bs) ≡ after_run test (chars (drop i bs))
-run_rest test n bs i count e = grind (arith, common_steps, prefix_len-from_run, plain_run-chars, length-prefix_len,
-    drop-prefix_len)
+run_rest = grind (arith, common_steps, prefix_len-from_run, plain_run-chars, length-prefix_len, drop-prefix_len)
 
 -- each byte of a run passes the test
 pub list_all-plain_run : (test : ℕ → Bool) (us : List SetChar) → list_all test (plain_run test us) ≡ true
 list_all-plain_run test [] = refl
-list_all-plain_run test (Plain b ∷ us) =
-    cond_both (test b) _ _ (λ (bs : List ℕ). list_all test bs ≡ true) (λ e. and_from _ _ e (list_all-plain_run test us))
-    (λ e. refl)
+list_all-plain_run test (Plain b ∷ us) = grind (arith, and_from, list_all-plain_run test us)
 list_all-plain_run test (Escaped b ∷ us) = refl
 list_all-plain_run test (Invalid k ∷ us) = refl
 

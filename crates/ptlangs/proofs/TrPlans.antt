@@ -27,7 +27,7 @@ use Rattle.std.proofs.Common.{rules}
 -- a result that comes from segments, and these segments
 pub mapped_ok : (r : Result (List Segment) SetFaultKind) {f : List Segment → Contents} (y : Contents)
     → Ok y ≡ result_map_both f (λ (k : SetFaultKind). k) r → (ps : List Segment) × (r ≡ Ok ps) × (y ≡ f ps)
-mapped_ok r y e = grind arith
+mapped_ok = grind arith
 
 pub mapped_at : (r : Result (List Segment) SetFaultKind) (f : List Segment → Contents) (y : Contents)
     (ps : List Segment)
@@ -57,7 +57,7 @@ second_read form complement firsts text role fill first unfilled at was e f =
     let (ps, read, is) = mapped_ok _ unfilled was in
     let whole = ap (λ q. string_segments q text) (sym at) ∙ read in
     let has_fill : fill ≡ fill_count (length (first_array complement firsts)) ps =
-    omega (arith, ap (λ (q : Contents). q.length) f, ap (λ (q : Contents). q.length) is) in
+    cc in
     record { ps = ps; read = read; plan = λ valid is. rw (whole, ← has_fill, is) refl }
 
 -- the classes of a second string that translates are valid if they are paired
@@ -70,14 +70,14 @@ valid-paired form false firsts ps n other = search (rules, paired-arrays)
 -- a result of which only the fault was changed
 pub in_string-ok : {A : Type 0} (string : SetString) (r : Result A SetFaultKind) (x : A) → Ok x ≡ in_string string r
     → Ok x ≡ r
-in_string-ok string r x e = grind arith
+in_string-ok = grind arith
 
 -- the plan of two strings, the first of which has no fault
 pub plan_two : (form : Form) (complement : Bool) (s1 s2 : List ℕ) (firsts : List Segment)
     → string_segments First s1 ≡ Ok firsts
     → in_string string.Second (result_map_both tables (λ (k : SetFaultKind). k) (second_plan form complement firsts s2))
     ≡ result_map_both tables (λ (f : SetFault). f) (plan form complement s1 (Some s2))
-plan_two form complement s1 s2 firsts s = grind arith
+plan_two = grind arith
 
 -- ---- the three tables of a plan
 
@@ -99,11 +99,11 @@ planned form like complement firsts text r same valid is = cc (r.plan true valid
 -- ---- the form in the last arm of a match
 
 pub is_squeeze : (form : Form) → takes_second form ≡ false → (form ≡ Delete → ⊥) → form ≡ Squeeze
-is_squeeze form e n = grind arith
+is_squeeze = grind arith
 
 pub is_translate : (form : Form) → takes_second form ≡ true → (form ≡ DeleteSqueeze → ⊥) → (form ≡ TranslateSqueeze → ⊥)
     → form ≡ Translate
-is_translate form e n m = grind arith
+is_translate = grind arith
 
 -- ---- characters and elements never have the fault `Memory`
 
@@ -117,7 +117,7 @@ AreNotMemory [] = Unit {0}
 AreNotMemory (u ∷ us) = IsNotMemory u × AreNotMemory us
 
 spelled_not_memory : (bs rest : List ℕ) (u : SetChar) → SpellsChar bs u rest → IsNotMemory u
-spelled_not_memory bs rest u s = grind arith
+spelled_not_memory = grind arith
 
 all_not_memory : (bs : List ℕ) (us : List SetChar) → SpellsChars bs us → AreNotMemory us
 all_not_memory bs us NoChar = tt
@@ -130,12 +130,12 @@ not_memory_after (u ∷ us) rest fine = let (_, others) = fine in not_memory_aft
 
 element_not_memory : (us : List SetChar) (p : SetElement) (rest : List SetChar) → StartsElement us p rest
     → AreNotMemory us → AreNotMemory rest
-element_not_memory us p rest begins fine = grind (arith, StartsElement-front, not_memory_after)
+element_not_memory = grind (arith, StartsElement-front, not_memory_after)
 
 -- ---- neither have segments
 
 element_fault : (us : List SetChar) (k : SetFaultKind) → StartsInvalid us k → AreNotMemory us → k ≢ Memory
-element_fault us k h fine = grind arith
+element_fault = grind arith
 
 -- the fault of the result, if there is one, is not `Memory`
 abbrev FaultIsNotMemory : {A : Type 0} → Result A SetFaultKind → Type 0
@@ -165,17 +165,21 @@ second_not_memory : (form : Form) (complement : Bool) (firsts : List Segment) (r
     → FaultIsNotMemory r
     → FaultIsNotMemory
     (and_then r (λ seconds. plan_with form complement firsts (first_array complement firsts) seconds))
-second_not_memory form complement firsts r speaks = grind arith
+second_not_memory = grind arith
 
 of_string : {A : Type 0} (string : SetString) (r : Result A SetFaultKind) (fault : SetFault) → FaultIsNotMemory r
     → in_string string r ≡ Err fault → fault.kind ≢ Memory
-of_string string r fault speaks e = grind arith
+of_string = grind arith
 
 rest_not_memory : (form : Form) (complement : Bool) (firsts : List Segment) (s2 : Option (List ℕ)) (fault : SetFault)
     → plan_from form complement firsts s2 ≡ Err fault → fault.kind ≢ Memory
 rest_not_memory form complement firsts None fault e = cc
-rest_not_memory form complement firsts (Some text) fault e = grind (arith, of_string, second_not_memory,
-    string_not_memory)
+rest_not_memory form complement firsts (Some text) fault e = grind (
+  arith,
+  of_string,
+  second_not_memory,
+  string_not_memory,
+)
 
 plan_not_memory : (string : SetString) (form : Form) (complement : Bool) (s2 : Option (List ℕ))
     (r : Result (List Segment) SetFaultKind) (fault : SetFault)

@@ -44,12 +44,11 @@ module _ (b by : ℕ) where
   joined s is = (grind arith, grind arith)
 
   front_from : (ss : List Stretch) → AreFrom (b + 1) ss → AreFrom b (prepend_shift b by ss)
-  front_from [] from = ((omega arith, omega arith), tt)
-  front_from (s ∷ ss) from = grind (arith, weaker)
+  front_from = grind (arith, weaker)
 
   alone : (last : ℕ) (more : List Stretch) → b ≤ last → AreFrom (b + 1) more
       → moved (record { first = b; last = last; by = by } ∷ more) b ≡ by
-  alone last more low rest = grind (arith, common_steps, none_below)
+  alone = grind (arith, common_steps, none_below)
 
   -- the first stretch adds its shift to the byte, and no other stretch adds to it
   at_front : (ss : List Stretch) → AreFrom (b + 1) ss → moved (prepend_shift b by ss) b ≡ by
@@ -64,7 +63,7 @@ module _ (b by : ℕ) where
 
   -- prepending does not change the sum for the bytes above
   past_front : (ss : List Stretch) (x : ℕ) → b < x → moved (prepend_shift b by ss) x ≡ moved ss x
-  past_front ss x high = grind arith
+  past_front = grind arith
 
   -- prepending does not make the list shorter
   front_longer : (ss : List Stretch) → length ss ≤ length (prepend_shift b by ss)
@@ -74,22 +73,13 @@ module _ (b by : ℕ) where
 
 are_from : (b : ℕ) (images : List ℕ) → AreFrom b (stretches_from b images)
 are_from b [] = tt
-are_from b (image ∷ images) =
-    let rest = stretches_from _ images in
-    cond_both _ _ _ (AreFrom b) (λ is. weaker b rest (are_from (b + 1) images))
-    (λ is. front_from b _ rest (are_from (b + 1) images))
+are_from b (image ∷ images) = grind (arith, weaker, front_from, are_from (b + 1) images)
 
 moves_by : (b k : ℕ) (images : List ℕ) → k < length images
     → moved (stretches_from b images) (b + k) ≡ shift_of (b + k) (get_or images k 0)
 moves_by b k [] low = absurd (omega arith)
 moves_by b zero (image ∷ images) low = grind (arith, none_below, are_from, eqb-true, at_front)
-moves_by b (suc k) (image ∷ images) low =
-    let same : b + suc k ≡ (b + 1) + k = omega arith in
-    let rest = stretches_from _ images in
-    let later =
-    cond_both (shift_of b image == 0) _ _ (λ (ss : List Stretch). moved ss ((b + 1) + k) ≡ moved rest ((b + 1) + k))
-    (λ is. refl) (λ is. past_front b _ rest _ (omega arith)) in
-    rw same (later ∙ moves_by (b + 1) k images (omega arith))
+moves_by b (suc k) (image ∷ images) low = grind (arith, past_front, moves_by (b + 1) k images (omega arith))
 
 back : (b image : ℕ) → b < 256 → image < 256 → (b + shift_of b image) % 256 ≡ image
 back b image low small = omega (arith, low)
@@ -97,27 +87,21 @@ back b image low small = omega (arith, low)
 -- the stretches give the image of each byte
 pub moves_all : (images : List ℕ) → length images ≡ 256 → ((b : ℕ) → b < 256 → get_or images b 0 < 256) → (b : ℕ)
     → b < 256 → image_of_shifts (stretches_from 0 images) b ≡ get_or images b 0
-moves_all images long small b low = grind (arith, common_steps, moves_by, back)
+moves_all = grind (arith, common_steps, moves_by, back)
 
 -- the stretches from `n` on, from those from `n + 1` on
 from_one : (n m : ℕ) (images : List ℕ) → n < length images → m ≡ n + 1
     → stretches_from n (drop n images)
     ≡ cond (shift_of n (get_or images n 0) == 0) (stretches_from m (drop m images))
     (prepend_shift n (shift_of n (get_or images n 0)) (stretches_from m (drop m images)))
-from_one n m images low is = grind (arith, common_steps)
+from_one = grind (arith, common_steps)
 
 -- the bytes from `n` on have no more stretches than all bytes
 no_more : (b n : ℕ) (images : List ℕ)
     → length (stretches_from (b + n) (drop n images)) ≤ length (stretches_from b images)
 no_more b zero images = grind arith
 no_more b (suc n) [] = omega arith
-no_more b (suc n) (image ∷ images) =
-    let same : b + suc n ≡ (b + 1) + n = omega arith in
-    let rest = stretches_from _ images in
-    let fewer : length rest ≤ length (stretches_from b (image ∷ images)) =
-    cond_both (shift_of b image == 0) _ _ (λ (ss : List Stretch). length rest ≤ length ss) (λ is. omega arith)
-    (λ is. front_longer b _ rest) in
-    omega (arith, no_more (b + 1) n images, ap (λ (m : ℕ). length (stretches_from m (drop n images))) same)
+no_more b (suc n) (image ∷ images) = grind (arith, front_longer, no_more (b + 1) n images)
 
 -- A byte that is not its own image is prepended to the stretches after it; a byte that is its own image leaves them
 -- unchanged.
@@ -125,7 +109,7 @@ pub moved_one : (n : ℕ) (images : List ℕ) → 0 < n → n ≤ length images
     → (shift_of (n - 1) (get_or images (n - 1) 0) ≡ 0 → ⊥)
     → stretches_from (n - 1) (drop (n - 1) images)
     ≡ prepend_shift (n - 1) (shift_of (n - 1) (get_or images (n - 1) 0)) (stretches_from n (drop n images))
-moved_one n images low within moves = grind (arith, common_steps, from_one, ne_eqb)
+moved_one = grind (arith, common_steps, from_one, ne_eqb)
 
 pub no_more_behind : (n : ℕ) (images : List ℕ)
     → length (stretches_from n (drop n images)) ≤ length (stretches_from 0 images)

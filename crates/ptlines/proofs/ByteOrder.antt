@@ -3,7 +3,7 @@
 use Rattle.ptlines.proofs.Common.{◌≡◌, ℕ, zero, suc, ◌+◌, ◌*◌, ◌<◌, ◌≤◌, List, [], ◌∷◌, ◌++◌, length, take, drop, min}
 use Rattle.ptlines.proofs.Common.{refl, sym, ◌∙◌, ap, arith, get_or, Fits, take-add, nat_tests, take-take, chunk-fits}
 use Rattle.ptlines.proofs.Common.{length-chunk, Each1}
-use Rattle.std.proofs.lemmas.Cmp.{ranked, by_ranked, nat_list_cmp_total, tied_itself}
+use Rattle.std.proofs.lemmas.Cmp.{nat_list_cmp_total, tied_itself}
 use Rattle.std.specs.Int.{w8, w32, w64, from_be_bytes}
 use Rattle.std.specs.Ordering.{nat_cmp, ordering_then}
 use Rattle.std.specs.declared.cmp.Ordering.{Ordering}
@@ -23,10 +23,10 @@ number_lt p q (x ∷ xs) (y ∷ ys) long (first, fit) less =
 number_lt p q _ _ long fit less = absurd (omega arith)
 
 nat_cmp_less : (x y : ℕ) → x < y → nat_cmp x y ≡ Less
-nat_cmp_less x y less = grind (arith, nat_tests)
+nat_cmp_less = grind (arith, nat_tests)
 
 nat_cmp_greater : (x y : ℕ) → y < x → nat_cmp x y ≡ Greater
-nat_cmp_greater x y less = grind (arith, nat_tests)
+nat_cmp_greater = grind (arith, nat_tests)
 
 nat_cmp_equal : (x : ℕ) → nat_cmp x x ≡ Equal
 nat_cmp_equal x = grind (arith, nat_tests)
@@ -35,22 +35,18 @@ nat_cmp_equal x = grind (arith, nat_tests)
 digits_cmp : (p : ℕ) (xs ys : List ℕ) → length xs ≡ length ys → Each1 (Fits w8) xs → Each1 (Fits w8) ys
     → nat_cmp (number p xs) (number p ys) ≡ byte_cmp xs ys
 digits_cmp p [] [] long fx fy = nat_cmp_equal p
-digits_cmp p (x ∷ xs) (y ∷ ys) long (x_fits, xs_fit) (y_fits, ys_fit) =
-    let m = number (p * 256 + x) xs in
-    let n = number (p * 256 + y) ys in
-    let both : (o : Ordering) → nat_cmp x y ≡ o → byte_cmp (x ∷ xs) (y ∷ ys) ≡ ordering_then o (byte_cmp xs ys) =
-    λ o is. cc in
-    by_ranked _ _ _ (nat_cmp x y) (ranked x y (nat_cmp x y) refl)
-    (grind (arith, nat_cmp_less, number_lt))
-    (λ is same. ap (λ z. nat_cmp m (number (p * 256 + z) ys)) (sym same)
-    ∙ digits_cmp (p * 256 + x) xs ys (omega arith) xs_fit ys_fit ∙ sym (both Equal is))
-    (grind (arith, nat_cmp_greater, number_lt))
+digits_cmp p (x ∷ xs) (y ∷ ys) long (x_fits, xs_fit) (y_fits, ys_fit) = grind (
+  arith,
+  nat_cmp_less,
+  number_lt,
+  nat_cmp_greater,
+  digits_cmp (p * 256 + x) xs ys (omega arith) xs_fit ys_fit,
+)
 digits_cmp p _ _ long fx fy = absurd (omega arith)
 
 -- a word is the number of its bytes
 pub word_1 : (xs : List ℕ) → length xs ≡ 1 → get_or xs 0 0 ≡ number 0 xs
-word_1 (a ∷ []) l = omega arith
-word_1 _ l = absurd (omega arith)
+word_1 = grind (arith, common_steps)
 
 -- the byte at an index, as a word
 pub byte_at : (at : ℕ) (xs : List ℕ) → get_or xs at 0 ≡ get_or (take 1 (drop at xs)) 0 0
@@ -60,27 +56,26 @@ byte_at (suc at) [] = refl
 byte_at (suc at) (x ∷ xs) = byte_at at xs
 
 pub word_4 : (xs : List ℕ) → length xs ≡ 4 → from_be_bytes w32 xs ≡ number 0 xs
-word_4 (a ∷ b ∷ c ∷ d ∷ []) l = omega arith
-word_4 _ l = absurd (omega arith)
+word_4 = grind (arith, common_steps)
 
 pub word_8 : (xs : List ℕ) → length xs ≡ 8 → from_be_bytes w64 xs ≡ number 0 xs
-word_8 (a ∷ b ∷ c ∷ d ∷ e ∷ f ∷ g ∷ h ∷ []) l = omega arith
-word_8 _ l = absurd (omega arith)
+word_8 = grind (arith, common_steps)
 
 -- ---- byte order, chunk by chunk
 
 then_assoc : (a b c : Ordering) → ordering_then a (ordering_then b c) ≡ ordering_then (ordering_then a b) c
-then_assoc Less b c = refl
-then_assoc Equal b c = refl
-then_assoc Greater b c = refl
+then_assoc = grind arith
 
 -- the first k bytes decide, or if they are equal the bytes after them
 byte_cmp_split : (k : ℕ) (a b : List ℕ) → k ≤ length a → k ≤ length b
     → byte_cmp a b ≡ ordering_then (byte_cmp (take k a) (take k b)) (byte_cmp (drop k a) (drop k b))
 byte_cmp_split zero a b la lb = refl
-byte_cmp_split (suc k) (x ∷ a) (y ∷ b) la lb =
-    ap (ordering_then (nat_cmp x y)) (byte_cmp_split k a b (omega arith) (omega arith))
-    ∙ then_assoc (nat_cmp x y) (byte_cmp (take k a) (take k b)) (byte_cmp (drop k a) (drop k b))
+byte_cmp_split (suc k) (x ∷ a) (y ∷ b) la lb = grind (
+  arith,
+  then_assoc,
+  byte_cmp_split k a b (omega arith) (omega
+      arith),
+)
 byte_cmp_split _ _ _ la lb = absurd (omega arith)
 
 equal_numbers : (x y : ℕ) → nat_cmp x y ≡ Equal → x ≡ y
@@ -95,9 +90,7 @@ byte_cmp_after_prefix at a b la lb same =
     (ap (byte_cmp (take at a)) (sym same) ∙ tied_itself nat_list_cmp_total (take at a))
 
 first_decides : (r o k : Ordering) → o ≡ r → (r ≡ Equal → ⊥) → r ≡ ordering_then o k
-first_decides Less o k is other = cc
-first_decides Equal o k is other = absurd (other refl)
-first_decides Greater o k is other = cc
+first_decides = grind arith
 
 -- Two words of `n` bytes, read at the same index of two slices.
 module _ {n : ℕ} {read : List ℕ → ℕ} (is_number : (xs : List ℕ) → length xs ≡ n → read xs ≡ number 0 xs)
@@ -144,11 +137,9 @@ cmp_by_length n [] [] least same = refl
 cmp_by_length n [] (y ∷ b) least same = grind (arith, nat_cmp_less)
 cmp_by_length n (x ∷ a) [] least same = grind (arith, nat_cmp_greater)
 cmp_by_length zero (x ∷ a) (y ∷ b) least same = absurd (omega arith)
-cmp_by_length (suc n) (x ∷ a) (y ∷ b) least same =
-    next (length a) (length b)
-    ∙ cmp_by_length n a b (omega arith) (ap (drop 1) same)
-    ∙ ap (λ o. ordering_then o (byte_cmp a b))
-    (sym (ap (nat_cmp x) (sym (ap (λ l. get_or l 0 0) same)) ∙ nat_cmp_equal x))
-  where
-    next : (m n : ℕ) → nat_cmp (suc m) (suc n) ≡ nat_cmp m n
-    next m n = grind (arith, nat_tests)
+cmp_by_length (suc n) (x ∷ a) (y ∷ b) least same = grind (
+  arith,
+  nat_cmp_equal,
+  cmp_by_length n a b (omega arith) (ap
+      (drop 1) same),
+)

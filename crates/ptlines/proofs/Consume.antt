@@ -20,8 +20,11 @@ range_drop b s e n fits =
 pub advance_take : (old new : Reader) (n : ℕ) → n ≤ length old.buffered → new.buffered ≡ drop n old.buffered
     → new.left ≡ old.left → new.pulled ≡ old.pulled → new.refused ≡ old.refused → new.terminator ≡ old.terminator
     → new.eof ≡ old.eof → ReaderAdvance old new (take n old.buffered)
-advance_take old new n fits buffered left pulled refused terminator eof = grind (arith, common_steps,
-    prepend_known-append)
+advance_take old new n fits buffered left pulled refused terminator eof = grind (
+  arith,
+  common_steps,
+  prepend_known-append,
+)
 
 -- a reader with fewer buffered bytes is sound too
 pub sound_shorter : {r : Reader} (buffered : List ℕ) → IsSound r → length buffered ≤ length r.buffered

@@ -1,10 +1,10 @@
 -- The number of trailing zeros of a match mask is the index of the first match, and a mask of zero means that there is
 -- none. Masks of adjacent chunks are combined by shifting and adding.
-use Rattle.ptlines.proofs.Common.{◌≡◌, ℕ, suc, ◌+◌, ◌*◌, ◌^◌, ◌%◌, ◌<◌, ◌≤◌, Bool, true, false, cond, not, List, []}
-use Rattle.ptlines.proofs.Common.{◌∷◌, ◌++◌, Option, None, Some, length, take, drop, map, refl, sym, ◌∙◌, ap, subst}
-use Rattle.ptlines.proofs.Common.{arith, bit_or, take-add, drop-drop, length-map, none_from_empty_mask}
-use Rattle.ptlines.proofs.Common.{trailing_mask_l, run_in_chunk_fails, run_in_chunk_stops, length-chunk, mask_l-lt}
-use Rattle.ptlines.proofs.Common.{false≢true, prefix_len, mask_l, chunk, Nowhere, NoneBefore, Passes, IsFirst}
+use Rattle.ptlines.proofs.Common.{◌≡◌, ℕ, ◌+◌, ◌*◌, ◌^◌, ◌%◌, ◌<◌, ◌≤◌, Bool, true, false, not, List, [], ◌∷◌, ◌++◌}
+use Rattle.ptlines.proofs.Common.{Option, Some, length, take, drop, map, refl, sym, ◌∙◌, ap, subst, arith, bit_or}
+use Rattle.ptlines.proofs.Common.{take-add, drop-drop, length-map, none_from_empty_mask, trailing_mask_l}
+use Rattle.ptlines.proofs.Common.{run_in_chunk_fails, run_in_chunk_stops, length-chunk, mask_l-lt, false≢true}
+use Rattle.ptlines.proofs.Common.{prefix_len, mask_l, chunk, Nowhere, NoneBefore, Passes, IsFirst}
 use Rattle.std.proofs.Math.Nat.{pow-succ', mul_assoc}
 use Rattle.std.proofs.lemmas.Grind.{or_before_shift, common_steps}
 use lib.Count.{count_trailing_zeros}
@@ -19,12 +19,7 @@ none_if_zero_mask_at test hay i n room none k low high passes =
 prefix_len_lt : (test : ℕ → Bool) (xs : List ℕ) → 0 < mask_l (map test xs)
     → prefix_len (λ x. not (test x)) xs < length xs
 prefix_len_lt test [] some = absurd (omega arith)
-prefix_len_lt test (x ∷ xs) some =
-    by_test (test x) (mask_l (map test xs)) (prefix_len (λ y. not (test y)) xs) (length xs) some (prefix_len_lt test xs)
-  where
-    by_test : (b : Bool) (m n l : ℕ) → 0 < cond b 1 0 + 2 * m → (0 < m → n < l) → cond (not b) (1 + n) 0 < suc l
-    by_test true m n l some more = omega arith
-    by_test false m n l some more = omega (arith, more (omega arith))
+prefix_len_lt test (x ∷ xs) some = grind (arith, prefix_len_lt test xs)
 
 -- the lowest set bit is the first match
 pub first_at_lowest_bit_of_chunk : (test : ℕ → Bool) (hay : List ℕ) (i n : ℕ) → n ≤ 64 → i + n ≤ length hay
@@ -51,24 +46,23 @@ first_at_lowest_bit_of_chunk test hay i n few room some =
 
 pub none_if_zero_mask : (test : ℕ → Bool) (hay : List ℕ) (i n m : ℕ) → i + n ≤ length hay
     → m ≡ mask_l (map test (chunk i n hay)) → m ≡ 0 → Nowhere (Passes test hay) i (i + n)
-none_if_zero_mask test hay i n m room is none = grind (arith, none_if_zero_mask_at)
+none_if_zero_mask = grind (arith, none_if_zero_mask_at)
 
 pub first_at_lowest_bit : (test : ℕ → Bool) (hay : List ℕ) (i n m : ℕ) → n ≤ 64 → i + n ≤ length hay
     → m ≡ mask_l (map test (chunk i n hay)) → (m ≡ 0 → ⊥)
     → IsFirst (Passes test hay) i (i + n) (Some (i + count_trailing_zeros 64 m))
-first_at_lowest_bit test hay i n m few room is some = grind (arith, first_at_lowest_bit_of_chunk)
+first_at_lowest_bit = grind (arith, first_at_lowest_bit_of_chunk)
 
 -- ---- a search that continues after indices without a match
 
 module _ (P : ℕ → Type 0) where
   pub nowhere_trans : (i j k : ℕ) → Nowhere P i j → Nowhere P j k → Nowhere P i k
-  nowhere_trans i j k none more m low high = grind arith
+  nowhere_trans = grind arith
 
   -- nothing matches before `later`, so a search that begins at `j` finds the first match from `i` on
   pub first_after : (i j k later : ℕ) (r : Option ℕ) → i ≤ j → j ≤ later → Nowhere P i later → IsFirst P j k r
       → IsFirst P i k r
-  first_after i j k later None order near none first = grind (arith, nowhere_trans)
-  first_after i j k later (Some m) order near none (first, found) = grind (arith, nowhere_trans)
+  first_after = grind (arith, nowhere_trans)
 
 -- ---- masks of adjacent chunks
 
@@ -90,10 +84,10 @@ chunk_append {X} i m n xs = take-add m n (drop i xs)
 mask_16_append : (test : ℕ → Bool) (hay : List ℕ) (i n : ℕ) → i + 16 ≤ length hay
     → mask_l (map test (chunk i (16 + n) hay))
     ≡ mask_l (map test (chunk i 16 hay)) + 65536 * mask_l (map test (chunk (i + 16) n hay))
-mask_16_append test hay i n room = grind (arith, common_steps, length-chunk, chunk_append, mask_append)
+mask_16_append = grind (arith, common_steps, length-chunk, chunk_append, mask_append)
 
 mask_16_lt : (test : ℕ → Bool) (hay : List ℕ) (i : ℕ) → i + 16 ≤ length hay → mask_l (map test (chunk i 16 hay)) < 65536
-mask_16_lt test hay i room = search (rules, length-chunk, mask_l-lt)
+mask_16_lt = search (rules, length-chunk, mask_l-lt)
 
 -- three masks of 16 bytes make one of 48
 pub mask_48 : (test : ℕ → Bool) (hay : List ℕ) (i a b c : ℕ) → i + 48 ≤ length hay
@@ -129,7 +123,7 @@ module _ (test : ℕ → Bool) (hay : List ℕ) where
 
   pub first_of_mask_64 : (m : ℕ) → 64 ≤ length hay → m ≡ mask_l (map test (chunk 0 64 hay)) → (m ≡ 0 → ⊥)
       → IsFirst (Passes test hay) 0 64 (Some (count_trailing_zeros 64 m))
-  first_of_mask_64 m room is some = grind (arith, first_from_start)
+  first_of_mask_64 = grind (arith, first_from_start)
 
   pub first_of_mask_16 : (m : ℕ) → 64 ≤ length hay → m ≡ mask_l (map test (chunk 0 16 hay)) → (m ≡ 0 → ⊥)
       → IsFirst (Passes test hay) 0 64 (Some (count_trailing_zeros 64 m))

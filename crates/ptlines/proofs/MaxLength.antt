@@ -1,5 +1,5 @@
 -- Facts about the length of the longest line: it is the maximum over parts, and no prefix of a line is longer.
-use Rattle.ptlines.proofs.Common.{◌≡◌, ℕ, ◌+◌, ◌≤◌, List, [], ◌∷◌, ◌++◌, length, max, refl, arith, onto_first}
+use Rattle.ptlines.proofs.Common.{◌≡◌, ℕ, ◌+◌, ◌≤◌, List, [], ◌∷◌, ◌++◌, length, max, arith, onto_first}
 use Rattle.ptlines.proofs.TextLaws.{byte_ne}
 use Rattle.ptlines.specs.Text.{lines, IsLine, max_length}
 
@@ -13,20 +13,16 @@ first_length (line ∷ ls) = length line
 
 first_onto : (b : ℕ) (ls : List (List ℕ)) → first_length (onto_first b ls) ≡ first_length ls + 1
 unfolding first_length
-first_onto b [] = refl
-first_onto b (line ∷ ls) = omega arith
+first_onto = grind arith
 
 first_le_max_length : (ls : List (List ℕ)) → first_length ls ≤ max_length ls
 unfolding first_length
-first_le_max_length [] = omega arith
-first_le_max_length (line ∷ ls) = omega arith
+first_le_max_length = grind arith
 
 first_piece : (end : ℕ) (piece rest : List ℕ) → IsLine end piece
     → length piece ≤ first_length (lines end (piece ++ rest))
 first_piece end [] rest free = omega arith
-first_piece end (b ∷ piece) rest (differs, free) =
-    rw (byte_ne end b differs)
-    (omega (arith, first_onto b (lines end (piece ++ rest)), first_piece end piece rest free))
+first_piece end (b ∷ piece) rest (differs, free) = grind (arith, byte_ne, first_onto, first_piece end piece rest free)
 
 -- a prefix of a line is no longer than the longest line
 pub piece_le_max_length : (end : ℕ) (piece rest : List ℕ) → IsLine end piece

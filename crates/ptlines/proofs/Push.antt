@@ -10,13 +10,13 @@ use Rattle.std.proofs.Common.{rules}
 use Rattle.std.proofs.lemmas.Grind.{common_steps}
 
 pub known_prefix_refl : (known : Option (List ℕ)) → IsKnownPrefix known known
-known_prefix_refl known = grind (arith, append_known-nil)
+known_prefix_refl = grind (arith, append_known-nil)
 
 pub known_prefix_by : (known : Option (List ℕ)) (bytes : List ℕ) → IsKnownPrefix known (append_known known bytes)
-known_prefix_by known bytes = grind arith
+known_prefix_by = grind arith
 
 pub known_prefix_trans : {a b c : Option (List ℕ)} → IsKnownPrefix a b → IsKnownPrefix b c → IsKnownPrefix a c
-known_prefix_trans {a} first second = grind (arith, append_known-append)
+known_prefix_trans = grind (arith, append_known-append)
 
 known_prefix_append : {a b : Option (List ℕ)} (bytes : List ℕ) → IsKnownPrefix a b
     → IsKnownPrefix a (append_known b bytes)
@@ -29,7 +29,7 @@ push_nothing o = grind (arith, known_prefix_refl, known_prefix_by, append_known-
 -- after a failed write nothing more is written
 pub push_past_failure : (a b : Output) (xs ys : List ℕ) → b.write_failed ≡ true → PushEffect a b xs
     → PushEffect a b (xs ++ ys)
-push_past_failure a b xs ys fault wrote = grind (arith, append_known-append, known_prefix_append)
+push_past_failure = grind (arith, append_known-append, known_prefix_append)
 
 pub push_after_failure : (o : Output) (bytes : List ℕ) → o.write_failed ≡ true → PushEffect o o bytes
 push_after_failure o bytes fault = push_past_failure o o [] bytes fault (push_nothing o)
@@ -37,17 +37,17 @@ push_after_failure o bytes fault = push_past_failure o o [] bytes fault (push_no
 -- two pushes in sequence
 pub push_trans : (a b c : Output) (xs ys : List ℕ) → b.write_failed ≡ false → PushEffect a b xs → PushEffect b c ys
     → PushEffect a c (xs ++ ys)
-push_trans a b c xs ys clean first second = grind (arith, append_known-append, known_prefix_trans)
+push_trans = grind (arith, append_known-append, known_prefix_trans)
 
 -- the block was written to the sink
 pub push_written_out : (old new : Output) → old.write_failed ≡ false → new ≡ with_written_out old
     → PushEffect old new []
-push_written_out old new clean is = grind (arith, known_prefix_by, known_prefix_refl)
+push_written_out = grind (arith, known_prefix_by, known_prefix_refl)
 
 -- the bytes were written directly to the sink, with an empty block
 pub push_direct : (old new : Output) (bytes : List ℕ) → old.write_failed ≡ false → old.buffered ≡ []
     → new ≡ with_direct_write old bytes → PushEffect old new bytes
-push_direct old new bytes clean empty is = grind (arith, append_known-nil, known_prefix_by, known_prefix_refl)
+push_direct = grind (arith, append_known-nil, known_prefix_by, known_prefix_refl)
 
 -- a write failed while the block, and then some of the bytes, were written
 pub push_broken : (old new : Output) (written_out bytes more : List ℕ) → old.write_failed ≡ false
@@ -72,12 +72,11 @@ push_large old new bytes (Err e) clean empty ok err = grind (arith, common_steps
 
 -- the sink was flushed; except for the count of flushes that is a push of nothing
 push_flush_ok : (old : Output) → old.write_failed ≡ false → PushEffect old (record old { unflushed = false }) []
-push_flush_ok old clean = grind (arith, known_prefix_refl, known_prefix_by, append_known-nil)
+push_flush_ok = grind (arith, known_prefix_refl, known_prefix_by, append_known-nil)
 
 pub push_flush : (old new : Output) (r : Result (Unit {0}) WriteFault) → old.write_failed ≡ false → old.buffered ≡ []
     → OnOk r (new ≡ record old { unflushed = false }) → OnErr r (OutputErr old new []) → PushEffect old new []
-push_flush old new (Ok u) clean empty ok err = search (rules, push_flush_ok)
-push_flush old new (Err e) clean empty ok err = grind (arith, common_steps, push_broken)
+push_flush = search (rules, push_flush_ok, push_broken)
 
 -- a push after others, with its result
 pub push_post_trans : {E : Type 0} (a b c : Output) (xs ys : List ℕ) (r : Result (Unit {0}) E) → b.write_failed ≡ false

@@ -1,11 +1,10 @@
 -- A line is read piece by piece: the pieces put together are the line, and what was consumed in several calls is the
 -- concatenation of what each consumed. A line whose terminator is among the next 64 bytes is copied at once.
-use Rattle.ptlines.proofs.Common.{◌≡◌, ℕ, ◌+◌, ◌-◌, ◌^◌, ◌<◌, ◌≤◌, None, Some, get_or, take, Bool, List, [], ◌∷◌}
-use Rattle.ptlines.proofs.Common.{◌++◌, length, refl, sym, ◌∙◌, ap, subst, arith, append_assoc, length-append}
-use Rattle.ptlines.proofs.Common.{nat_tests, append-nil, set-set, get_or-take, Slots, line, with_line, false, not}
-use Rattle.ptlines.proofs.Common.{◌==◌, inl, inr, Ok, IsLine, Reader, ReaderAdvance, AdvanceOk, IsDone, budget}
-use Rattle.ptlines.proofs.Common.{PiecePartial, PieceLine, FillLine, FillPost, IsAppended, IsFirst, IsFirstByte}
-use Rattle.ptlines.proofs.Common.{Passes, is_byte, slice_range}
+use Rattle.ptlines.proofs.Common.{◌≡◌, ℕ, ◌+◌, ◌-◌, ◌^◌, ◌<◌, ◌≤◌, None, Some, take, Bool, List, [], ◌∷◌, ◌++◌}
+use Rattle.ptlines.proofs.Common.{length, sym, ◌∙◌, ap, subst, arith, append_assoc, length-append, nat_tests, set-set}
+use Rattle.ptlines.proofs.Common.{Slots, line, with_line, false, not, ◌==◌, Ok, IsLine, Reader, ReaderAdvance}
+use Rattle.ptlines.proofs.Common.{AdvanceOk, IsDone, budget, PiecePartial, PieceLine, FillLine, FillPost, IsAppended}
+use Rattle.ptlines.proofs.Common.{IsFirst, IsFirstByte, Passes, is_byte, slice_range}
 use Rattle.ptlines.proofs.KnownBytes.{prepend_known-append}
 use Rattle.ptlines.proofs.SlotTotals.{total_bytes_set}
 use Rattle.ptlines.proofs.LineSearch.{IsLine-append, line_before_terminator, take_with_terminator, advance_ok_take}
@@ -15,7 +14,7 @@ use Rattle.std.proofs.lemmas.Grind.{common_steps}
 
 pub advance_trans : (a b c : Reader) (xs ys : List ℕ) → ReaderAdvance a b xs → ReaderAdvance b c ys
     → ReaderAdvance a c (xs ++ ys)
-advance_trans a b c xs ys first second = grind (arith, prepend_known-append, length-append)
+advance_trans = grind (arith, prepend_known-append, length-append)
 
 pub advance_ok_trans : (a b c : Reader) (xs ys : List ℕ) → AdvanceOk a b xs → AdvanceOk b c ys
     → AdvanceOk a c (xs ++ ys)
@@ -24,10 +23,10 @@ advance_ok_trans a b c xs ys first second = search (rules, advance_trans)
 -- a piece that was moved after a refill that consumed nothing
 module _ (old now new : Reader) (before after : Slots) (slot : ℕ) (first : AdvanceOk old now []) where
   pub partial_after_refill : PiecePartial now new before after slot → PiecePartial old new before after slot
-  partial_after_refill partial = grind (arith, advance_ok_trans)
+  partial_after_refill = grind (arith, advance_ok_trans)
 
   pub line_after_refill : PieceLine now new before after slot → PieceLine old new before after slot
-  line_after_refill last = grind (arith, advance_ok_trans)
+  line_after_refill = grind (arith, advance_ok_trans)
 
 -- setting a slot twice, the second time to a longer line, is the same as setting it once to that line
 pub with_line_twice : (store : Slots) (slot : ℕ) (xs ys : List ℕ) → slot < length store.lines → length xs ≤ length ys
@@ -38,11 +37,11 @@ with_line_twice store slot xs ys within longer =
 
 pub line_of_with_line : (store : Slots) (slot : ℕ) (xs : List ℕ) → slot < length store.lines
     → line (with_line store slot xs) slot ≡ xs
-line_of_with_line store slot xs within = search rules
+line_of_with_line = search rules
 
 pub appended_twice : (s t u : Slots) (slot : ℕ) (xs ys : List ℕ) → slot < length s.lines → t ≡ with_line s slot xs
     → IsAppended t u slot ys → u ≡ with_line s slot (xs ++ ys)
-appended_twice s t u slot xs ys within is appended = grind (arith, line_of_with_line, with_line_twice, length-append)
+appended_twice = grind (arith, line_of_with_line, with_line_twice, length-append)
 
 -- The bytes consumed since `old` are a prefix of one line, and the slot holds them.
 pub record LineSoFar (old now : Reader) (before so_far : Slots) (slot : ℕ) : Type 0 where
@@ -63,22 +62,20 @@ line_so_far_partial old now new before so_far after slot within begun partial = 
 
 budget_decreases : (old new : Reader) (bytes : List ℕ) → AdvanceOk old new bytes → 0 < length bytes
     → old.pulled < 2 ^ 63 → budget new < budget old
-budget_decreases old new bytes advance_ok some short = grind arith
+budget_decreases = grind arith
 
 pub fill_line : (old now new : Reader) (before so_far after : Slots) (slot : ℕ) → slot < length before.lines
     → old.pulled < 2 ^ 63 → LineSoFar old now before so_far slot → PieceLine now new so_far after slot
     → FillLine old new before after slot
-fill_line old now new before so_far after slot within short begun last = record {
-  less = budget_decreases _ _ _ all
-      (omega (arith, length-append (begun.piece ++ last.piece) (old.terminator ∷ []))) short;
-  line = begun.piece ++ last.piece;
-  terminator = old.terminator ∷ [];
-  advance_ok = all;
-  whole = IsLine-append old.terminator begun.piece last.piece begun.whole
-      (subst (λ end. IsLine end last.piece) same last.whole);
-  ends = inl refl;
-  stored = appended_twice before so_far after slot begun.piece last.piece within begun.stored last.appended;
-}
+fill_line old now new before so_far after slot within short begun last = grind (
+  arith,
+  budget_decreases,
+  all,
+  length-append,
+  IsLine-append,
+  same,
+  appended_twice,
+)
   where
     same : now.terminator ≡ old.terminator
     same = begun.advance_ok.reads.terminator
@@ -91,36 +88,24 @@ fill_line old now new before so_far after slot within short begun last = record 
         (advance_ok_trans _ _ _ _ _ begun.advance_ok last.advance_ok)
 
 not_empty : (n : ℕ) → 0 < n → (n == 0) ≡ false
-not_empty n some = grind (arith, nat_tests)
+not_empty = grind (arith, nat_tests)
 
 pub fill_eof : (old now new : Reader) (before so_far after : Slots) (slot : ℕ) (empty : Bool)
     → slot < length before.lines → old.pulled < 2 ^ 63 → LineSoFar old now before so_far slot → AdvanceOk now new []
     → IsDone new → after ≡ so_far → empty ≡ (length (line after slot) == 0)
     → FillPost old new before after slot (Ok (not empty))
-fill_eof old now new before so_far after slot empty within short begun advance_ok done same is =
-    let whole : AdvanceOk old new begun.piece =
-    subst (λ b. AdvanceOk old new b) (append-nil begun.piece)
-    (advance_ok_trans _ _ _ _ _ begun.advance_ok advance_ok) in
-    let buffered : line after slot ≡ begun.piece = ap (λ s. line s slot) (same ∙ begun.stored)
-    ∙ line_of_with_line before slot begun.piece within in
-    let test : empty ≡ (length begun.piece == 0) = is ∙ ap (λ l. length l == 0) buffered in
-    by_piece begun.piece whole begun.whole (same ∙ begun.stored) test
+fill_eof old now new before so_far after slot empty within short begun advance_ok done same is = grind (
+  arith,
+  advance_ok_trans,
+  line_of_with_line,
+  by_piece,
+)
   where
     by_piece : (piece : List ℕ) → AdvanceOk old new piece → IsLine old.terminator piece
         → after ≡ with_line before slot piece → empty ≡ (length piece == 0)
         → FillPost old new before after slot (Ok (not empty))
-    by_piece [] g w s t = subst (λ b. FillPost old new before after slot (Ok (not b))) (sym t) (g, done, s)
-    by_piece (x ∷ piece) g w s t = let some : 0 < length (x ∷ piece) = omega arith in
-        subst (λ b. FillPost old new before after slot (Ok (not b)))
-        (sym (t ∙ not_empty (length (x ∷ piece)) some)) (record {
-          line = x ∷ piece;
-          terminator = [];
-          advance_ok = subst (λ b. AdvanceOk old new b) (sym (append-nil (x ∷ piece))) g;
-          whole = w;
-          ends = inr (refl, some, done);
-          stored = s;
-          less = budget_decreases _ _ _ g some short;
-        })
+    by_piece [] g w s t = grind arith
+    by_piece (x ∷ piece) g w s t = search (rules, not_empty, budget_decreases)
 
 -- The terminator is among the first n bytes of `front`, which begins with the buffered bytes; the line before it was
 -- copied to the slot at once.
@@ -129,26 +114,22 @@ module _ (n : ℕ) (old new : Reader) (block front : List ℕ) (start end size :
   first_in_block : start + size < end → end - start ≤ length old.buffered → take (end - start) front ≡ old.buffered
       → IsFirst (Passes (is_byte old.terminator) front) 0 n (Some size)
       → IsFirstByte (is_byte old.terminator) old.buffered (Some size)
-  first_in_block high fits buffered (none, found) = (
-    record {
-      low = omega arith;
-      high = omega (arith, high, fits);
-      before = λ k from to passes. none.before k from to (sym (there k (omega (arith, to, high))) ∙ passes);
-    },
-    there size (omega (arith, high)) ∙ found,
-  )
-    where
-      there : (k : ℕ) → k < end - start
-          → is_byte old.terminator (get_or old.buffered k 0) ≡ is_byte old.terminator (get_or front k 0)
-      there k near =
-          ap (is_byte old.terminator) (ap (λ l. get_or l k 0) (sym buffered)
-          ∙ get_or-take (end - start) front k 0 near)
+  first_in_block = grind (arith, common_steps)
 
   pub fill_short_line : old.fault ≡ None → old.pulled < 2 ^ 63 → start + size < end → end ≤ length block
       → slice_range block start end ≡ old.buffered → take (end - start) front ≡ old.buffered
       → IsFirst (Passes (is_byte old.terminator) front) 0 n (Some size)
       → new ≡ record old { buffered = slice_range block (start + size + 1) end }
       → after ≡ with_line before slot (take size front) → FillLine old new before after slot
-  fill_short_line clean short high fits buffered is_front first step stored = grind (arith, common_steps,
-      length_range, first_in_block, rest_of_range, take_with_terminator, advance_ok_take, line_before_terminator,
-      budget_decreases, length-append)
+  fill_short_line = grind (
+    arith,
+    common_steps,
+    length_range,
+    first_in_block,
+    rest_of_range,
+    take_with_terminator,
+    advance_ok_take,
+    line_before_terminator,
+    budget_decreases,
+    length-append,
+  )

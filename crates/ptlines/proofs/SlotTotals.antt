@@ -15,7 +15,7 @@ use Rattle.std.proofs.lemmas.Grind.{common_steps}
 -- the total after one line is set
 pub total_bytes_set : (lines : List (List ℕ)) (slot : ℕ) (bytes : List ℕ) → slot < length lines
     → total_bytes (set lines slot bytes) + length (get_or lines slot []) ≡ total_bytes lines + length bytes
-total_bytes_set lines slot bytes within = grind (arith, common_steps)
+total_bytes_set = grind (arith, common_steps)
 
 -- the total with one more line fits 128 bits
 pub total_fits : (lines : List (List ℕ)) (more : ℕ) → LengthsAreBounded lines → length lines < 2 ^ 63 → more < 2 ^ 64
@@ -31,25 +31,21 @@ HasBoundedBuffer peak slot = slot.buffer_size ≤ 2 * peak + 128
 module _ {X : Type 0} where
   -- at an index within the list the default value does not matter
   pub get_or_any_default : (xs : List X) (at : ℕ) (d e : X) → at < length xs → get_or xs at d ≡ get_or xs at e
-  get_or_any_default [] at d e within = absurd (omega arith)
-  get_or_any_default (x ∷ xs) zero d e within = refl
-  get_or_any_default (x ∷ xs) (suc at) d e within = grind (arith, common_steps)
+  get_or_any_default = grind (arith, common_steps)
 
   -- setting an element after a split of the list, and before it
   pub set_after_split : (xs : List X) (at : ℕ) (w : X) → at < length xs
       → take at xs ++ set (drop at xs) 0 w ≡ set xs at w
   set_after_split [] at w within = absurd (omega arith)
   set_after_split (x ∷ xs) zero w within = refl
-  set_after_split (x ∷ xs) (suc at) w within =
-      ap (λ l. x ∷ l) (set_after_split xs at w (omega (arith, within)))
+  set_after_split (x ∷ xs) (suc at) w within = cc (set_after_split xs at w (omega (arith, within)))
 
   pub set_before_split : (xs : List X) (at cut : ℕ) (w : X) → at < cut
       → set (take cut xs) at w ++ drop cut xs ≡ set xs at w
   set_before_split xs at zero w near = grind arith
   set_before_split [] at (suc cut) w near = refl
   set_before_split (x ∷ xs) zero (suc cut) w near = grind (arith, common_steps)
-  set_before_split (x ∷ xs) (suc at) (suc cut) w near =
-      ap (λ l. x ∷ l) (set_before_split xs at cut w (omega (arith, near)))
+  set_before_split (x ∷ xs) (suc at) (suc cut) w near = cc (set_before_split xs at cut w (omega (arith, near)))
 
   All-swap : (P : X → Type 0) (xs : List X) (a b : ℕ) → a < length xs → b < length xs
       → ((k : ℕ) (d : X) → k < length xs → P (get_or xs k d)) → (k : ℕ) (d : X) → k < length (swap xs a b)
@@ -107,12 +103,12 @@ module _ (slots after : List SlotBuffer) (slot : ℕ) (had new : SlotBuffer) (d 
 
   lengths_after_set : length new.line ≤ 2 ^ 63 → LengthsAreBounded (slot_lines slots)
       → LengthsAreBounded (slot_lines after)
-  lengths_after_set few short = search (rules, lines_are)
+  lengths_after_set = search (rules, lines_are)
 
   -- the new line is a part of the new total, so a buffer that grows to twice its length stays below the bound
   buffers_after_set : new.buffer_size ≤ max had.buffer_size (2 * length new.line + 64) → (peak : ℕ)
       → total_bytes (slot_lines after) ≤ peak → AreBuffersBounded peak slots → AreBuffersBounded peak after
-  buffers_after_set room peak less fit = grind (arith, common_steps, lines_are, total_bytes_set, low)
+  buffers_after_set = grind (arith, common_steps, lines_are, total_bytes_set, low)
 
 -- A slot that was `had` is set to another one: the old line was part of the total, and the new total follows.
 module _ (slots : List SlotBuffer) (slot : ℕ) {byte_count before : ℕ} (had : SlotBuffer) (within : slot < length slots)
@@ -145,26 +141,27 @@ module _ (slots : List SlotBuffer) (slot : ℕ) {byte_count before : ℕ} (had :
         total = total;
         below_peak = less;
         lines = search (rules, lengths_after_set);
-        buffers = buffers_after_set slots after slot had new had within refl was room peak (omega (arith, total,
-            less))
+        buffers = buffers_after_set slots after slot had new had within refl was room peak (omega (
+          arith,
+          total,
+          less,
+        ))
             (grind arith);
       }
 
 -- one slot, at two default values
 pub same_slot : (slots : List SlotBuffer) (slot : ℕ) {a b : SlotBuffer} → slot < length slots → a ≡ get_or slots slot a
     → b ≡ get_or slots slot b → a ≡ b
-same_slot slots slot {a} {b} within a_is b_is = grind (arith, get_or_any_default)
+same_slot = grind (arith, get_or_any_default)
 
 empty_bounded : LengthsAreBounded ([] ∷ [])
-empty_bounded zero d within = omega arith
-empty_bounded (suc k) d within = grind arith
+empty_bounded = grind arith
 
 abbrev pub empty_slot : SlotBuffer
 empty_slot = record { line = []; buffer_size = 128 }
 
 empty_fits : (peak : ℕ) → AreBuffersBounded peak (empty_slot ∷ [])
-empty_fits peak zero d within = omega arith
-empty_fits peak (suc k) d within = grind arith
+empty_fits = grind arith
 
 -- the model of a store
 abbrev pub store_of : List SlotBuffer → ℕ → Bool → Slots
@@ -174,16 +171,16 @@ module _ (slots : List SlotBuffer) {peak : ℕ} {denied : Bool} {now : Slots} (s
     (is : store_of slots peak denied ≡ now) where
   -- a slot number below the number of slots is an index of the list
   pub slot_in_range : slot < length now.lines → slot < length slots
-  slot_in_range within = grind (arith, common_steps)
+  slot_in_range = grind (arith, common_steps)
 
   -- the line of a slot is that of the element of the list
   pub line_before : {had : SlotBuffer} → slot < length slots → had ≡ get_or slots slot had → had.line ≡ line now slot
-  line_before {had} within there = grind (arith, common_steps)
+  line_before = grind (arith, common_steps)
 
   -- memory could not be allocated, so the slot is as before
   pub denied_line : {had new : SlotBuffer} → had ≡ get_or slots slot had → new ≡ had
       → store_of (set slots slot new) peak true ≡ with_denied now
-  denied_line {had} there same = grind (arith, common_steps)
+  denied_line = grind (arith, common_steps)
 
   -- the model of the store after a slot was set
   pub store_after_set : (new : SlotBuffer) {bytes : List ℕ} {byte_count peak_now : ℕ} → new.line ≡ bytes
@@ -196,8 +193,7 @@ module _ (slots : List SlotBuffer) {peak : ℕ} {denied : Bool} {now : Slots} (s
 -- the invariant after an empty slot was added
 pub counted_after_add : (slots : List SlotBuffer) {after : List SlotBuffer} {byte_count peak : ℕ}
     → after ≡ slots ++ empty_slot ∷ [] → AreCounted byte_count peak slots → AreCounted byte_count peak after
-counted_after_add slots {after} {byte_count} {peak} is counted = grind (arith, common_steps, empty_bounded,
-    empty_fits)
+counted_after_add = grind (arith, common_steps, empty_bounded, empty_fits)
 
 -- the slots after the line of one was appended to that of another
 module _ (slots after : List SlotBuffer) (from to : ℕ) (had source new d e : SlotBuffer) (more : List ℕ)
@@ -223,9 +219,6 @@ module _ (slots front back : List SlotBuffer) (from to : ℕ) (d e new : SlotBuf
 
   front_slot : get_or front from e ≡ get_or slots from e
   front_slot = grind (arith, common_steps)
-
-  pub back_same : new ≡ get_or back 0 d → front ++ set back 0 new ≡ slots
-  back_same new_is = grind (arith, common_steps, back_set, back_slot)
 
   pub append_to_back : more ≡ (get_or front from e).line → new.line ≡ (get_or back 0 d).line ++ more
       → slot_lines (front ++ set back 0 new)
@@ -254,9 +247,6 @@ module _ (slots front back : List SlotBuffer) (from to : ℕ) (d e new : SlotBuf
 
   source_slot : get_or back 0 e ≡ get_or slots from e
   source_slot = grind (arith, common_steps)
-
-  pub front_same : new ≡ get_or front to d → set front to new ++ back ≡ slots
-  front_same new_is = grind (arith, common_steps, front_set, target_slot)
 
   pub append_to_front : more ≡ (get_or back 0 e).line → new.line ≡ (get_or front to d).line ++ more
       → slot_lines (set front to new ++ back)
@@ -290,5 +280,4 @@ pub copy_total : (lines cleared after : List (List ℕ)) (from to byte_count siz
     → byte_count ≡ total_bytes cleared → v ≡ get_or after from v → size ≡ length v
     → (byte_count + size ≡ total_bytes after) × (byte_count ≡ total_bytes (set lines to []))
     × (byte_count + size ≡ total_bytes (set lines to (get_or lines from [])))
-copy_total lines cleared after from to byte_count size v differ from_in to_in cleared_is after_is counts there long =
-    search (rules, get_or_any_default, total_bytes_set)
+copy_total = search (rules, get_or_any_default, total_bytes_set)

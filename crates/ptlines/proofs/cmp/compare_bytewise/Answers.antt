@@ -1,6 +1,6 @@
 -- The loop stops at the first byte that differs, which decides. If none does, the shorter slice is a prefix of the
 -- longer, so the lengths decide.
-use Rattle.std.proofs.Common.{◌∙◌, subst, ◌≡◌, take, arith}
+use Rattle.std.proofs.Common.{◌∙◌, arith}
 use Rattle.ptlines.proofs.ByteOrder.{word_1, byte_at, words_differ, cmp_by_length}
 use Rattle.ptlines.proofs.cmp.compare_bytewise.Goals as goal
 
@@ -13,10 +13,4 @@ returns-then-a-at c =
     c.type_inv.a c.type_inv.b c.loop-at.invariant (byte_at at a) (byte_at at b) c.if-a-at.true
 
 pub returns : goal.returns
-returns c =
-    let least = c.min-least.result in
-    let a = c.args.a.now in
-    let b = c.args.b.now in
-    let end : c.loop-at.at ≡ least = omega (arith, c.loop-at-test.false, c.loop-at.auto.at-end) in
-    c.cmp-2.ensures ∙ cmp_by_length least a b c.min-least.ensures
-    (subst (λ n. take n a ≡ take n b) end c.loop-at.invariant)
+returns c = grind (arith, cmp_by_length)

@@ -3,10 +3,10 @@
 use Rattle.memchr.specs.Find.{is_byte}
 use Rattle.ptlines.proofs.MatchMasks.{first_of_mask_16, mask_64, none_if_zero_mask, first_of_mask_64}
 use Rattle.ptlines.proofs.find.match_mask_64.Goals as goal
+use Rattle.std.proofs.Common.{rules}
 
 pub returns-then-near-ne0-clause-first : goal.returns-then-near-ne0-clause-first
-returns-then-near-ne0-clause-first c some =
-    first_of_mask_16 (is_byte c.args.byte) c.args.front.bytes.now _ c.args.front.long c.match_mask-near.ensures some
+returns-then-near-ne0-clause-first c some = search (rules, first_of_mask_16)
 
 pub returns-clause-none : goal.returns-clause-none
 returns-clause-none c none =
@@ -15,7 +15,4 @@ returns-clause-none c none =
     none_if_zero_mask (is_byte c.args.byte) c.args.front.bytes.now 0 64 _ c.args.front.long all none
 
 pub returns-clause-first : goal.returns-clause-first
-returns-clause-first c some =
-    let all = mask_64 (is_byte c.args.byte) c.args.front.bytes.now _ _ c.args.front.long c.match_mask-near.ensures
-    c.if-near-ne0.false c.match_mask_after_16.ensures in
-    first_of_mask_64 (is_byte c.args.byte) c.args.front.bytes.now _ c.args.front.long all some
+returns-clause-first c some = search (rules, mask_64, first_of_mask_64)

@@ -1,17 +1,11 @@
 -- Three calls of `push` add the three slices in order. After the first that fails nothing more is written.
-use Rattle.ptlines.proofs.Common.{◌++◌, append_assoc, sym, subst, rules, PushEffect}
+use Rattle.ptlines.proofs.Common.{rules}
 use Rattle.ptlines.proofs.Push.{push_post_trans, push_trans, push_past_failure}
 use Rattle.ptlines.proofs.out.Out.push_line_slow.Goals as goal
+use Rattle.std.proofs.Common.{arith}
 
 pub returns-in_err-push : goal.returns-in_err-push
-returns-in_err-push g c = record {
-  wrote = subst (λ t. PushEffect c.args.self.now c.push.new.self t)
-      (sym (append_assoc c.args.prefix.now c.args.line.now c.args.terminator.now))
-      (push_past_failure _ _ _ (c.args.line.now ++ c.args.terminator.now) c.in_err-push.ensures.pushed.fault
-      c.push.ensures.pushed.wrote);
-  clean = search rules;
-  fault = search rules;
-}
+returns-in_err-push g c = grind (arith, push_past_failure)
 
 pub returns-in_err-push-2 : goal.returns-in_err-push-2
 returns-in_err-push-2 g c =

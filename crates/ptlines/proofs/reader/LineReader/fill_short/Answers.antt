@@ -1,7 +1,7 @@
 -- The terminator that was found among the 64 bytes lies before the end of the buffered bytes, so it is the first one of
 -- them. The line before it is copied at once.
 use Rattle.ptlines.proofs.Common.{◌≡◌, ◌+◌, ◌-◌, Some, subst, ◌<◌, ◌≤◌, ◌^◌, length, take, drop, ◌∙◌, ap, arith}
-use Rattle.ptlines.proofs.Common.{take-take, slice_range, IsFirst, Passes, is_byte, IsSound}
+use Rattle.ptlines.proofs.Common.{take-take, slice_range, IsFirst, Passes, is_byte}
 use Rattle.ptlines.proofs.ReadLine.{fill_short_line}
 use Rattle.ptlines.proofs.Consume.{length_range, sound_shorter}
 use Rattle.ptlines.proofs.reader.LineReader.fill_short.Goals as goal
@@ -27,16 +27,4 @@ returns-clause-line g c given =
     c.set_short_line.ensures
 
 pub returns-clause-sound : goal.returns-clause-sound
-returns-clause-sound g c =
-    let r = c.self.inside in
-    let fits : r.end ≤ length r.block = omega (arith, c.self.invariant.within, c.self.told) in
-    let high : r.start + c.in-Some.size < r.end = omega (arith, c.if-at-self.false) in
-    let less = length_range r.block (r.start + c.in-Some.size + 1) r.end (omega (arith, high)) fits in
-    sound_shorter _ c.self.invariant.sound
-    (omega (arith, less, length_range r.block r.start r.end c.self.invariant.order fits))
-
-pub returns-in_default-clause-sound : goal.returns-in_default-clause-sound
-returns-in_default-clause-sound g c = subst IsSound c.self.view_is c.self.invariant.sound
-
-pub returns-then-at-self-clause-sound : goal.returns-then-at-self-clause-sound
-returns-then-at-self-clause-sound g c = subst IsSound c.self.view_is c.self.invariant.sound
+returns-clause-sound g c = grind (arith, length_range, sound_shorter)

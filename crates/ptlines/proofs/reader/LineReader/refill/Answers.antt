@@ -1,13 +1,11 @@
 -- Each exit is one of the results of a read: the end of input, the limit of 2^63 bytes, bytes, or a failed read.
-use Rattle.std.proofs.Common.{◌<◌, ◌≤◌, ◌∙◌, sym, arith}
+use Rattle.std.proofs.Common.{◌≤◌, arith}
 use Rattle.ptlines.proofs.Refill.{refill_more, refill_long, refill_end, refill_failed, filled_sound}
 use Rattle.ptlines.proofs.reader.LineReader.refill.Goals as goal
+use Rattle.std.proofs.lemmas.Grind.{common_steps}
 
 pub returns-then-count-eq0-clause-refills : goal.returns-then-count-eq0-clause-refills
-returns-then-count-eq0-clause-refills g c =
-    refill_end _ c.read_block.new.block c.in-Ok.count _ c.self.view_is
-    c.requires c.in-Ok.ensures.refused
-    c.in-Ok.ensures.pulled c.if-count-eq0.true
+returns-then-count-eq0-clause-refills g c = grind (arith, refill_end)
 
 pub returns-then-self-clause-refills : goal.returns-then-self-clause-refills
 returns-then-self-clause-refills g c =
@@ -24,44 +22,17 @@ returns-else-self-clause-refills g c =
     c.in-Ok.ensures.pulled small (omega arith) (omega arith)
 
 pub returns-in-Err-clause-refills : goal.returns-in-Err-clause-refills
-returns-in-Err-clause-refills g c =
-    refill_failed _ c.read_block.new.block 0 _ c.self.view_is
-    c.requires c.in-Err.ensures.refused c.read_block.new.block
-    c.in-Err.ensures.pulled
+returns-in-Err-clause-refills g c = grind (arith, refill_failed)
 
 -- the invariant holds after the block was filled
 pub invariant_of-self-then-self : goal.invariant_of-self-then-self
-invariant_of-self-then-self g c =
-    let small : c.in-Ok.count ≤ 8192 = c.in-Ok.ensures.few in
-    let some : 0 < c.in-Ok.count = omega (arith, c.if-count-eq0.false) in
-    let sound = filled_sound _ c.read_block.new.block c.in-Ok.count _ c.self.view_is
-    c.requires c.in-Ok.ensures.refused _ c.in-Ok.ensures.pulled small some
-    (grind arith) (grind arith) in
-    record {
-      order = omega arith;
-      within = small;
-      eof = c.self.invariant.eof ∙ sym (c.in-Ok.ensures.pulled.more some);
-      sound = sound;
-    }
+invariant_of-self-then-self g c = grind (arith, common_steps, filled_sound)
 
 pub returns-then-self-clause-sound : goal.returns-then-self-clause-sound
 returns-then-self-clause-sound g c = (invariant_of-self-then-self g c).sound
 
 pub invariant_of-self-else-self : goal.invariant_of-self-else-self
-invariant_of-self-else-self g c =
-    let small : c.in-Ok.count ≤ 8192 = c.in-Ok.ensures.few in
-    let some : 0 < c.in-Ok.count = omega (arith, c.if-count-eq0.false) in
-    let sound = filled_sound _ c.read_block.new.block c.in-Ok.count _ c.self.view_is
-    c.requires c.in-Ok.ensures.refused _ c.in-Ok.ensures.pulled small some
-    (λ _. c.if-self.false)
-    (λ there clean. c.in-Ok.ensures.pulled.failed
-    ∙ c.self.invariant.sound.unfailed (sym c.in-Ok.ensures.refused ∙ there) clean) in
-    record {
-      order = omega arith;
-      within = small;
-      eof = c.self.invariant.eof ∙ sym (c.in-Ok.ensures.pulled.more some);
-      sound = sound;
-    }
+invariant_of-self-else-self g c = grind (arith, common_steps, filled_sound)
 
 pub returns-else-self-clause-sound : goal.returns-else-self-clause-sound
 returns-else-self-clause-sound g c = (invariant_of-self-else-self g c).sound

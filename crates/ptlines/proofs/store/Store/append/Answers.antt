@@ -5,6 +5,7 @@ use Rattle.ptlines.specs.Slots.{slot_lines}
 use Rattle.ptlines.proofs.SlotTotals.{counted_after_set, total_fits, slot_in_range, line_before, denied_line}
 use Rattle.ptlines.proofs.SlotTotals.{store_after_set, line_of}
 use Rattle.ptlines.proofs.store.Store.append.Goals as goal
+use Rattle.std.proofs.lemmas.Grind.{common_steps}
 
 pub overflow_add-self : goal.overflow_add-self
 overflow_add-self g c =
@@ -27,16 +28,10 @@ invariant_of-self g c =
     (omega (arith, c.max-self-inside.ensures)) (omega (arith, c.max-self-inside.ensures))
 
 pub invariant_of-self-in-Err : goal.invariant_of-self-in-Err
-invariant_of-self-in-Err g c =
-    let s = c.self.inside in
-    let low = slot_in_range s.slots.items c.args.slot c.self.view_is c.requires in
-    counted_after_set s.slots.items c.args.slot c.index_mut.result.now low c.index_mut.ensures.value c.self.invariant
-    c.append.new.self c.append.ensures.short c.append.ensures.buffer
-    (omega (arith, ap (λ t. length (line_of t)) c.in-Err.ensures.err)) c.self.invariant.below_peak (omega arith)
+invariant_of-self-in-Err g c = grind (arith, common_steps, slot_in_range, counted_after_set)
 
 pub index_mut-requires : goal.index_mut-requires
-index_mut-requires g c =
-    omega (arith, slot_in_range c.self.inside.slots.items c.args.slot c.self.view_is c.requires, c.self.inside.slots.ok)
+index_mut-requires g c = grind (arith, common_steps, slot_in_range)
 
 pub returns-in-Ok-clause-ok : goal.returns-in-Ok-clause-ok
 returns-in-Ok-clause-ok g c =
@@ -48,5 +43,4 @@ returns-in-Ok-clause-ok g c =
     (invariant_of-self g c).total c.max-self-inside.ensures
 
 pub returns-in-Err-clause-err : goal.returns-in-Err-clause-err
-returns-in-Err-clause-err g c =
-    denied_line c.self.inside.slots.items c.args.slot c.self.view_is c.index_mut.ensures.value c.in-Err.ensures.err
+returns-in-Err-clause-err g c = grind (arith, common_steps, denied_line)

@@ -3,6 +3,7 @@ use Rattle.ptlines.proofs.Common.{length, ap, arith}
 use Rattle.ptlines.proofs.SlotTotals.{line_le_total, counted_after_set, store_after_set, slot_in_range, same_slot}
 use Rattle.ptlines.proofs.SlotTotals.{line_of}
 use Rattle.ptlines.proofs.store.Store.clear.Goals as goal
+use Rattle.std.proofs.lemmas.Grind.{common_steps}
 
 pub overflow_sub-self : goal.overflow_sub-self
 overflow_sub-self g c =
@@ -32,9 +33,7 @@ returns g c =
     counted.total (omega (arith, counted.below_peak))
 
 pub index-requires : goal.index-requires
-index-requires g c =
-    omega (arith, slot_in_range c.self.inside.slots.items c.args.slot c.self.view_is c.requires, c.self.inside.slots.ok)
+index-requires g c = grind (arith, common_steps, slot_in_range)
 
 pub index_mut-requires : goal.index_mut-requires
-index_mut-requires g c =
-    omega (arith, slot_in_range c.self.inside.slots.items c.args.slot c.self.view_is c.requires, c.self.inside.slots.ok)
+index_mut-requires g c = grind (arith, common_steps, slot_in_range)

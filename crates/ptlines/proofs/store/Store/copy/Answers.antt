@@ -1,19 +1,19 @@
 -- The target is emptied and the line of the source appended, so one slot is set and the total grows by that line. If
 -- memory could not be allocated, the slots are as after emptying.
-use Rattle.ptlines.proofs.Common.{◌≡◌, ◌≢◌, ◌<◌, ◌≤◌, ◌+◌, ◌^◌, ℕ, List, Bool, true, [], get_or, length, set, max, sym}
-use Rattle.ptlines.proofs.Common.{◌∙◌, ap, subst, arith, length-set, length-map, with_items_is, Slots}
-use Rattle.ptlines.proofs.Common.{LengthsAreBounded, total_bytes}
+use Rattle.ptlines.proofs.Common.{◌≡◌, ◌≢◌, ◌<◌, ◌≤◌, ◌+◌, ◌^◌, ℕ, List, Bool, [], get_or, length, set, max, sym, ◌∙◌}
+use Rattle.ptlines.proofs.Common.{ap, subst, arith, length-set, length-map, with_items_is, Slots, LengthsAreBounded}
+use Rattle.ptlines.proofs.Common.{total_bytes}
 use Rattle.std.specs.Vec.{with_items}
 use Rattle.std.proofs.lemmas.List.{get_or-map}
-use Rattle.ptlines.specs.Slots.{SlotBuffer, slot_lines, with_line, AreBuffersBounded, AreCounted}
+use Rattle.ptlines.specs.Slots.{SlotBuffer, slot_lines, with_line, AreBuffersBounded}
 use Rattle.ptlines.proofs.SlotTotals.{total_fits, copy_lines, copy_total, line_of, store_of}
 use Rattle.ptlines.proofs.store.Store.copy.Goals as goal
+use Rattle.std.proofs.lemmas.Grind.{common_steps}
 
 -- emptying a slot keeps the number of slots
 slots_after_clear : (slots : List SlotBuffer) (now : Slots) (to : ℕ) {peak : ℕ} {denied : Bool}
     → store_of slots peak denied ≡ with_line now to [] → length slots ≡ length now.lines
-slots_after_clear slots now to is =
-    omega (arith, length-map slots line_of, ap (λ t. length t.lines) is, length-set now.lines to [])
+slots_after_clear slots now to is = grind (arith, common_steps)
 
 -- the total after the copy
 copied : (lines cleared : List (List ℕ)) (after : List SlotBuffer) (from to byte_count size : ℕ) (v : SlotBuffer)
@@ -65,13 +65,6 @@ invariant_of-self g c =
           (c.append_slot.ensures.buffers peak below (subst (AreBuffersBounded peak) (sym lent) fit));
     }
 
-pub invariant_of-self-in-Err : goal.invariant_of-self-in-Err
-invariant_of-self-in-Err g c =
-    let s = c.self.inside in
-    let whole = with_items_is s.slots c.append_slot.new.slots (c.append_slot.auto.slots ∙ c.deref_mut.ensures.len) in
-    let same = whole ∙ c.in-Err.ensures.err ∙ c.deref_mut.ensures.value in
-    subst (AreCounted s.byte_count s.peak) (sym same) c.self.invariant
-
 pub returns-in-Ok-clause-ok : goal.returns-in-Ok-clause-ok
 returns-in-Ok-clause-ok g c =
     let s = c.self.inside in
@@ -93,36 +86,8 @@ returns-in-Ok-clause-ok g c =
     let denied = ap (λ t. t.denied) emptied in
     λ i. record { lines = (ap slot_lines whole ∙ lines) i; peak = peak i; denied = denied i }
 
-pub returns-in-Err-clause-err : goal.returns-in-Err-clause-err
-returns-in-Err-clause-err g c =
-    let s = c.self.inside in
-    let emptied = c.self.view_is ∙ c.clear.ensures in
-    let whole = with_items_is s.slots c.append_slot.new.slots (c.append_slot.auto.slots ∙ c.deref_mut.ensures.len) in
-    let lines = ap slot_lines (whole ∙ c.in-Err.ensures.err ∙ c.deref_mut.ensures.value)
-    ∙ ap (λ t. t.lines) emptied in
-    λ i. record { lines = lines i; peak = (emptied i).peak; denied = true }
-
 pub append_slot-requires : goal.append_slot-requires
-append_slot-requires g c =
-    let long : length c.deref_mut.result.now ≡ length c.args.self.now.lines =
-    omega (
-      arith,
-      slots_after_clear c.self.inside.slots.items c.args.self.now c.args.to
-          (c.self.view_is ∙ c.clear.ensures),
-      ap length c.deref_mut.ensures.value,
-    ) in
-    record {
-      from_in = omega (arith, long, c.requires.from_in);
-      to_in = omega (arith, long, c.requires.to_in);
-      differ = c.requires.differ;
-    }
+append_slot-requires g c = grind (arith, common_steps, slots_after_clear)
 
 pub index-requires : goal.index-requires
-index-requires g c =
-    omega (
-      arith,
-      slots_after_clear c.self.inside.slots.items c.args.self.now c.args.to
-          (c.self.view_is ∙ c.clear.ensures),
-      c.requires.from_in,
-      c.self.inside.slots.ok,
-    )
+index-requires g c = grind (arith, common_steps, slots_after_clear)

@@ -6,6 +6,7 @@ use Rattle.ptlines.specs.Slots.{SlotBuffer, slot_lines, AreCounted}
 use Rattle.ptlines.proofs.SlotTotals.{line_le_total, counted_after_set, total_fits, store_after_set, slot_in_range}
 use Rattle.ptlines.proofs.SlotTotals.{same_slot, line_of}
 use Rattle.ptlines.proofs.store.Store.set_short_line.Goals as goal
+use Rattle.std.proofs.lemmas.Grind.{common_steps}
 
 -- the total after the slot was set
 put_counted : (slots : List SlotBuffer) (slot : ℕ) {byte_count before : ℕ} (had : SlotBuffer) → slot < length slots
@@ -72,9 +73,7 @@ returns-else-self g c =
     (omega (arith, c.self.invariant.below_peak, c.if-self.false))
 
 pub index-requires : goal.index-requires
-index-requires g c =
-    omega (arith, slot_in_range c.self.inside.slots.items c.args.slot c.self.view_is c.requires, c.self.inside.slots.ok)
+index-requires g c = grind (arith, common_steps, slot_in_range)
 
 pub index_mut-requires : goal.index_mut-requires
-index_mut-requires g c =
-    omega (arith, slot_in_range c.self.inside.slots.items c.args.slot c.self.view_is c.requires, c.self.inside.slots.ok)
+index_mut-requires g c = grind (arith, common_steps, slot_in_range)

@@ -1,8 +1,8 @@
 -- Exchanging two slots permutes the lines, so the total is the same.
-use Rattle.ptlines.proofs.Common.{◌∙◌, ap, arith, Slots, swap}
-use Rattle.ptlines.specs.Slots.{slot_lines}
+use Rattle.ptlines.proofs.Common.{arith, swap}
 use Rattle.ptlines.proofs.SlotTotals.{counted_after_swap, slot_lines-swap, slot_in_range}
 use Rattle.ptlines.proofs.store.Store.swap.Goals as goal
+use Rattle.std.proofs.lemmas.Grind.{common_steps}
 
 pub invariant_of-self : goal.invariant_of-self
 invariant_of-self g c =
@@ -12,26 +12,10 @@ invariant_of-self g c =
     (slot_in_range s.slots.items c.args.b c.self.view_is c.requires.b_in) c.self.invariant)
 
 pub returns : goal.returns
-returns g c =
-    let s = c.self.inside in
-    let lines = ap slot_lines c.swap.ensures.items ∙ slot_lines-swap s.slots.items c.args.a c.args.b
-    (slot_in_range s.slots.items c.args.a c.self.view_is c.requires.a_in)
-    (slot_in_range s.slots.items c.args.b c.self.view_is c.requires.b_in) in
-    (λ i. record { lines = lines i; peak = s.peak; denied = s.denied })
-    ∙ ap (λ (t : Slots). record t { lines = swap t.lines c.args.a c.args.b }) c.self.view_is
+returns g c = grind (arith, common_steps, slot_lines-swap, slot_in_range)
 
 pub swap-requires-clause-i_in_bounds : goal.swap-requires-clause-i_in_bounds
-swap-requires-clause-i_in_bounds g c =
-    omega (
-      arith,
-      slot_in_range c.self.inside.slots.items c.args.a c.self.view_is c.requires.a_in,
-      c.self.inside.slots.ok,
-    )
+swap-requires-clause-i_in_bounds g c = grind (arith, common_steps, slot_in_range)
 
 pub swap-requires-clause-j_in_bounds : goal.swap-requires-clause-j_in_bounds
-swap-requires-clause-j_in_bounds g c =
-    omega (
-      arith,
-      slot_in_range c.self.inside.slots.items c.args.b c.self.view_is c.requires.b_in,
-      c.self.inside.slots.ok,
-    )
+swap-requires-clause-j_in_bounds g c = grind (arith, common_steps, slot_in_range)
