@@ -104,12 +104,7 @@ fn output_name<'a, A: Allocator, S: Source, R: Source>(
 fn is_any_unopened<S: Source, R: Source>(inputs: &[LineReader<S, R>]) -> bool
     ensures { result ≡ list_any (λ r. r.refused) inputs.now }
 {
-    for input in inputs {
-        if input.is_refused() {
-            return true;
-        }
-    }
-    false
+    inputs.iter().any(|input| input.is_refused())
 }
 
 // Returns whether the words mean a command that writes to standard output.
@@ -129,19 +124,12 @@ fn replace_output<O: Drop, W, E>(report: Report<O, E>, out: W) -> Report<W, E>
     ensures out { result.out ≡ out }
     ensures messages { result.messages ≡ report.messages }
 {
-    let Report {
-        status,
-        peak,
-        denied,
-        out: _,
-        messages,
-    } = report;
     Report {
-        status,
-        peak,
-        denied,
+        status: report.status,
+        peak: report.peak,
+        denied: report.denied,
         out,
-        messages,
+        messages: report.messages,
     }
 }
 
