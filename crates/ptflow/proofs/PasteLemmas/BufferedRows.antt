@@ -27,7 +27,7 @@ buffered_line : (b r : Reader) (at : ℕ) (store : Slots) (slot : ℕ) → b.fau
 buffered_line b r at store slot clean short first step =
     let (found, here) = first in
     let advance_ok = rw (take_with_terminator b.terminator b.buffered at first) at
-    (advance_ok_take b r (at + 1) clean (omega (arith, found.high)) step) in
+    (advance_ok_take b r (at + 1) clean (omega arith) step) in
     let new_short : r.pulled < 2 ^ 63 = advance_ok.short short in
     record {
       line = take at b.buffered;
@@ -36,14 +36,7 @@ buffered_line b r at store slot clean short first step =
       whole = line_before_terminator b.terminator b.buffered at first;
       ends = inl refl;
       stored = refl;
-      less = omega (
-        arith,
-        advance_ok.reads.count,
-        new_short,
-        short,
-        length-append (take at b.buffered)
-            (b.terminator ∷ []),
-      );
+      less = omega (arith, length-append (take at b.buffered) (b.terminator ∷ []));
     }
 
 sound_after_consume : {b r : Reader} → IsSound b → IsConsumed b r → IsSound r
@@ -70,7 +63,7 @@ field_copied {b = b} {r = r} true clean ends sound p = record {
   is = p.is;
   consumed = record { size = p.at + 1; is = p.consumed };
 }
-field_copied {b = b} {r = r} {before = before} false clean ends sound p = search (rules, advance_ok_take, clean)
+field_copied {b = b} {r = r} {before = before} false clean ends sound p = search (rules, advance_ok_take)
 
 pub consumed_none : {old : List Reader} → AreConsumed old old
 consumed_none = record { count = refl; buffered = λ p. record { size = 0; is = refl } }
@@ -90,7 +83,7 @@ consumed_trans p q = grind (arith, both_consumed)
 pub still_readable : {row : RowShape} {old new : List Reader} → AreConsumed old new → BufferedRowsPre row old
     → BufferedRowsPre row new
 still_readable c ready = record {
-  within = λ k d low. omega (arith, ready.within k d low, c.count);
+  within = λ k d low. omega (arith, ready.within k d low);
   unfailed = λ p some. ap (λ (r : Reader). r.fault) (c.buffered p).is ∙ ready.unfailed p some;
   same_end = λ p some. ap (λ (r : Reader). r.terminator) (c.buffered p).is ∙ ready.same_end p some;
 }
@@ -102,25 +95,25 @@ still_pulled c p = ap (λ (r : Reader). r.pulled) (c.buffered p).is
 -- The bytes before the copy do not change.
 pub prefix_is_kept : (at end : ℕ) (now old written : List ℕ) → at ≤ end → at ≤ length old
     → take end now ≡ take at old ++ written → take at now ≡ take at old
-prefix_is_kept at end now old written low fits is = cc (
-  is,
-  take-take at end now low,
-  take-append-le at (take at old) written (omega (arith, length-take-le at old fits)),
-  take-take at at old (omega arith),
-)
+prefix_is_kept at end now old written low fits is =
+    cc (
+      take-take at end now low,
+      take-append-le at (take at old) written (omega (arith, length-take-le at old fits)),
+      take-take at at old (omega arith),
+    )
 
 -- A vector was stored at `at`.
 vector_stored : (at k n : ℕ) (was lanes : List ℕ) → length lanes ≡ n → n ≤ k → at + k ≡ length was
     → take (at + n) (put_mid at k was (put_chunk 0 (mid_of at k was) lanes)) ≡ take at was ++ lanes
 vector_stored at k n was lanes long room all =
     let mid = mid_of at k was in
-    let size : length mid ≡ k = length-take-le k (drop at was) (omega (arith, length-drop at was, all)) in
+    let size : length mid ≡ k = length-take-le k (drop at was) (omega (arith, length-drop at was)) in
     cc (
-      length-take-le at was (omega (arith, all)),
+      length-take-le at was (omega arith),
       take-append-add (take at was) (put_chunk 0 mid lanes ++ drop k (drop at was)) n,
       take-append-le n (put_chunk 0 mid lanes) (drop k (drop at was))
-          (omega (arith, length-put_chunk 0 mid lanes, size)),
-      take_more_put_chunk 0 mid lanes n (omega (arith, long)) (omega (arith, size)),
+          (omega (arith, length-put_chunk 0 mid lanes)),
+      take_more_put_chunk 0 mid lanes n (omega arith) (omega arith),
     )
 
 -- A vector was stored at `at`, and the line that it begins with was consumed.
@@ -133,12 +126,12 @@ pub vector_line : (at k n : ℕ) (was : List ℕ) {end count : ℕ} {old new : R
 vector_line at k n was {count = count} {bytes = bytes} same long room all first consumed = record {
   at = count;
   found = rw (sym same) (
-    record { low = omega arith; high = omega (arith, first.0.high, long); before = first.0.before },
+    record { low = omega arith; high = omega arith; before = first.0.before },
     first.1,
   );
   consumed = consumed;
-  is = rw (sym same) (copied_prefix at count n was _ bytes (omega (arith, all)) (omega (arith, first.0.high))
-      (vector_stored at k n was (chunk 0 n bytes) (length-chunk 0 n bytes (omega (arith, long))) room all));
+  is = rw (sym same) (copied_prefix at count n was _ bytes (omega arith) (omega arith)
+      (vector_stored at k n was (chunk 0 n bytes) (length-chunk 0 n bytes (omega arith)) room all));
 }
 
 -- ---- the columns of a row
@@ -199,15 +192,12 @@ module _ {row : RowShape} where
             let text = cells_text row begun.count s.fields in
             let end = after_cell row now.count in
             cc (
-              s.is,
-              f.is,
-              after,
               cells_text-push row begun.count s.fields f.field s.width,
               append_assoc (begun.text ++ text) f.field end,
               append_assoc begun.text text (f.field ++ end),
             );
         consumed = consumed_more s.consumed within is_read f.consumed;
-        width = omega (arith, s.width, length-append s.fields (f.field ∷ []));
+        width = omega (arith, length-append s.fields (f.field ∷ []));
         filled = filled_more;
       }
 

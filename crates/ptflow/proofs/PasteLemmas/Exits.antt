@@ -42,7 +42,7 @@ paste_without_slots {job} {cells} {old} {set} {was} {first} {store} s adds same 
     begins_earlier job cells (λ q. received_with [] (reader_at set q)) []
     (rows (columns cells (λ q. known_lines job.terminator (received_with [] (reader_at set q))))) refl p some
     (earlier_buffered job.terminator (1 * uses_of cells p) (reader_at set p) ((s.are_set p).sound some).buffered
-    (omega (arith, some))))))
+    (omega arith)))))
 
 module _ {job : Paste} {cells : List ℕ} {old set now : List Reader} {was is : Output} {first store : Slots}
     (s : PasteInvariant job cells old set now was is first store) where
@@ -96,13 +96,12 @@ module _ {job : Paste} {cells : List ℕ} {old set now : List Reader} {was is : 
           is' pushed k.wrote;
       peak = λ texts agree. omega (
         arith,
-        peak,
         (k.bound (with_received job cells given texts agree) (all_agree job cells given texts agree)).peak,
         same_size job cells given texts agree,
       );
-      slots = λ texts agree. omega (arith, size, bound_now.adds.most);
-      least = omega (arith, size, bound_now.adds.least);
-      room = omega (arith, size, bound_now.adds.all bound_now.denied);
+      slots = λ texts agree. omega (arith, bound_now.adds.most);
+      least = omega (arith, bound_now.adds.least);
+      room = omega (arith, bound_now.adds.all bound_now.denied);
     }
 
     exit : (result : Result (Unit {0}) FlowFault)
@@ -138,7 +137,7 @@ module _ {job : Paste} {cells : List ℕ} {old set now : List Reader} {was is : 
       all_taken p = taken_more refl (g.lines_taken p) (b p)
 
       abbrev read_on : ReadMore cells now new
-      read_on = read_lines all_taken (λ p none. rw none (omega (arith, none, uses_before cells n p)))
+      read_on = read_lines all_taken (λ p none. rw none (omega (arith, uses_before cells n p)))
 
       paste_write : {is' : Output} → PushEffect is is' (rows_text job more) → is'.write_failed ≡ true
           → {after : Slots} → ((top : ℕ → ℕ) → ((p : ℕ) → max_length (s.ls p ++ ls p) ≤ top p)
@@ -158,7 +157,7 @@ module _ {job : Paste} {cells : List ℕ} {old set now : List Reader} {was is : 
             ));
             begins = λ texts a. rw (rows_text-append job.terminator job.delimiters s.taken_rows more) at
                 (begins_by job (first_rows_trans s.first_rows g)
-                (read_lines b (λ p none. omega (arith, none, uses_before cells n p))) texts
+                (read_lines b (λ p none. omega (arith, uses_before cells n p))) texts
                 (λ p. rw (append_assoc (so_far p).bytes (g.lines_taken p).bytes (b p).bytes) (a p)));
             lags = λ p some. lags_by job s.first_rows read_on p some (cut p some);
           } in
@@ -180,14 +179,8 @@ module _ {job : Paste} {cells : List ℕ} {old set now : List Reader} {was is : 
       (received_with ((so_far p).bytes ++ t.bytes) q)
   earlier_of_taken p {q} {n} {ls} some t few = earlier_lines job.terminator q ((so_far p).bytes ++ t.bytes)
       (t.buffered (now_buffered s p some)) ((length s.taken_rows + 1) * uses_of cells p) (s.ls p ++ ls)
-      (lines_trans (so_far p).came t.reads t.came) (omega (arith, some, more_count p)) (omega (
-        arith,
-        few,
-        more_count p,
-        length-append (s.ls p) ls,
-        taken_at_most (so_far p),
-        taken_at_most t,
-      ))
+      (lines_trans (so_far p).came t.reads t.came) (omega (arith, more_count p))
+      (omega (arith, more_count p, length-append (s.ls p) ls, taken_at_most (so_far p), taken_at_most t))
 
   -- A write of rows from the buffers failed, after the first columns of the next row were copied.
   module _ {mid new : List Reader} {copied : List ℕ} (p : RowsTaken (job_shape job cells) now mid copied) (n : ℕ)
@@ -199,7 +192,7 @@ module _ {job : Paste} {cells : List ℕ} {old set now : List Reader} {was is : 
     taken_write_failed =
         paste_write new n p.first_rows b (rows_wrote s p wrote) fault (rows_kept s p) (λ q some.
         earlier_before (so_far q).came (all_taken new n p.first_rows b q).reads (still_pulled consumed q)
-        (now_buffered s q some) (omega (arith, some, more_count q, taken_at_most (so_far q))))
+        (now_buffered s q some) (omega (arith, more_count q, taken_at_most (so_far q))))
 
   -- A write of the rows of one input failed.
   pub paste_shared_write_failed : {new : List Reader} {is' : Output}
@@ -243,7 +236,7 @@ module _ {job : Paste} {cells : List ℕ} {old set now : List Reader} {was is : 
     none = f.none refl
 
     done_by : (p : ℕ) → 0 < uses_of cells p → IsDone (reader_at new p)
-    done_by p some = ⊎_elim (λ same. absurd (omega (arith, same, some, ap length (none p)))) (λ (done, few). done)
+    done_by p some = ⊎_elim (λ same. absurd (omega (arith, ap length (none p)))) (λ (done, few). done)
         (lines_taken_by p).enough
 
     nothing_by : (p : ℕ) → (lines_taken_by p).bytes ≡ []
@@ -255,7 +248,7 @@ module _ {job : Paste} {cells : List ℕ} {old set now : List Reader} {was is : 
         let more = grid_none cells (λ p. lines job.terminator (later job s.first_rows read_by texts a p))
         (λ p some i. let done = done_by p some in
         lines job.terminator (nothing_by p i ++ (done.buffered i ++ (a p).whole done.eof i))) in
-        cc (rows_by job s.first_rows read_by texts a, more, append-nil s.taken_rows)
+        cc (rows_by job s.first_rows read_by texts a, append-nil s.taken_rows)
 
     pub paste_done : {is' : Output} {cleared : Slots} → ClearSlotsPost cells after cleared → PushEffect is is' []
         → is'.write_failed ≡ false → PastePost job cells old new was is' first cleared (Ok tt)
@@ -337,8 +330,8 @@ module _ {job : Paste} {cells : List ℕ} {old set now : List Reader} {was is : 
       extra = λ p. (lines_taken_to p).bytes ++ (last p).part;
       reads = λ p. advance_trans (reader_at now p) (reader_at b.mid p) (reader_at new p) (lines_taken_to p).bytes
           (last p).part (lines_taken_to p).reads (last p).reads;
-      left = λ p none. b.others p (λ same. absurd (omega (arith, none, here_used, ap (uses_of cells) same)))
-          ∙ (lines_taken_to p).none (omega (arith, none, uses_before cells b.column p));
+      left = λ p none. b.others p (λ same. absurd (omega (arith, here_used, ap (uses_of cells) same)))
+          ∙ (lines_taken_to p).none (omega (arith, uses_before cells b.column p));
     }
 
     -- The complete lines that a reader gave, and their bytes.
@@ -370,7 +363,7 @@ module _ {job : Paste} {cells : List ℕ} {old set now : List Reader} {was is : 
 
     failed_to : (reader_at new here).failed ≡ (reader_at b.mid here).failed
         → (p : ℕ) → (reader_at new p).failed ≡ (reader_at set p).failed
-    failed_to same p = grind (arith, same, (last p).whose, failed_mid p)
+    failed_to same p = grind (arith, (last p).whose, failed_mid p)
 
     -- If that reader is not at the end of its input, it is the one that limits the rows.
     module _ (going : IsDone (reader_at b.mid here) → ⊥) where
@@ -411,11 +404,11 @@ module _ {job : Paste} {cells : List ℕ} {old set now : List Reader} {was is : 
         → (reader_at new here).failed ≡ (reader_at b.mid here).failed → (reader_at b.mid here).eof ≡ false
         → PastePost job cells old new was is' first after (Err Write)
     paste_send_failed wrote fault stored same going =
-        let k = exit_to (λ done. cc (done.eof)) wrote bound_to (inl stored) in
+        let k = exit_to (λ done. cc) wrote bound_to (inl stored) in
         exit k (Err Write) (record {
           write_failed = fault;
           unfailed = λ p named. failed_to same p;
-          not_denied = cc (stored, (bound_now k).denied);
+          not_denied = cc ((bound_now k).denied);
         }) tt
 
     -- A growth of a slot failed. That reader has bytes left.
@@ -426,7 +419,7 @@ module _ {job : Paste} {cells : List ℕ} {old set now : List Reader} {was is : 
     paste_memory_failed wrote clean stored same left =
         exit (exit_to (λ done.
         let (none, empty, eof) = eof_gives_nothing (reader_at b.mid here) (reader_at new here) piece done piece_reads in
-        absurd (omega (arith, left, ap length empty))) wrote bound_with_piece
+        absurd (omega (arith, ap length empty))) wrote bound_with_piece
         (inr stored)) (Err Memory) (record {
           denied = cc stored;
           unfailed = λ p named. failed_to same p;
@@ -434,11 +427,7 @@ module _ {job : Paste} {cells : List ℕ} {old set now : List Reader} {was is : 
           left = λ enough. inl (
             here,
             used_is_in cells here here_used,
-            λ done. absurd (omega (
-              arith,
-              left,
-              ap length done.buffered,
-            )),
+            λ done. absurd (omega (arith, ap length done.buffered)),
           );
         }) tt
 
@@ -454,20 +443,17 @@ module _ {job : Paste} {cells : List ℕ} {old set now : List Reader} {was is : 
           cause = ⊎_elim inl (λ (long, same). inr (long, same ∙ failed_mid here)) cause;
           others = λ q named differ. cc (b.others q differ, failed_mid q);
           clean = clean;
-          not_denied = cc (stored, (bound_now k).denied);
+          not_denied = cc ((bound_now k).denied);
         }) (λ p named failed. ⊎_elim decided_here
-        (λ (long, same). cc (failed, failed_to same p, never_failed s.starts p named)) cause)
+        (λ (long, same). cc (failed_to same p, never_failed s.starts p named)) cause)
       where
         may_have_more : IsDone (reader_at b.mid here) → ⊥
         may_have_more done = ⊎_elim
-            (λ (failed, empty, going). cc (
-              going,
-              (stays_at_eof (reader_at b.mid here) (reader_at new here) piece done
-                  piece_reads).eof,
-            ))
+            (λ (failed, empty, going). cc
+            ((stays_at_eof (reader_at b.mid here) (reader_at new here) piece done piece_reads).eof))
             (λ (long, same).
             let (pulled, eof) = piece_reads.still done.eof in
-            absurd (omega (arith, long, pulled, (lines_taken_to here).short (now_short s here here_used))))
+            absurd (omega (arith, (lines_taken_to here).short (now_short s here here_used))))
             cause
 
         -- Nothing is buffered, so all that was given decided the rows that were pushed.

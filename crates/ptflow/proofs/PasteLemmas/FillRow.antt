@@ -25,14 +25,14 @@ use Rattle.std.proofs.lemmas.Grind.{common_steps}
 pub cells_total : (cells : List ℕ) (top : ℕ → ℕ) (ls : List (List ℕ)) → ((c : ℕ) → c < length cells
     → length (get_or ls c []) ≤ top (get_or cells c 0))
     → total_bytes (drop (length cells) ls) ≡ 0 → total_bytes ls ≤ sum_by top cells
-cells_total [] top ls short others = omega (arith, others)
+cells_total [] top ls short others = omega arith
 cells_total (x ∷ cells) top [] short others = omega arith
 cells_total (x ∷ cells) top (l ∷ ls) short others = omega (
   arith,
   sum_by-cons length l ls,
   sum_by-cons top x cells,
   short 0 (omega arith),
-  cells_total cells top ls (λ c low. short (suc c) (omega (arith, low))) others,
+  cells_total cells top ls (λ c low. short (suc c) (omega arith)) others,
 )
 
 pub sum_of_zeros : (cells : List ℕ) → sum_by (λ (p : ℕ). 0) cells ≡ 0
@@ -45,14 +45,13 @@ pub slots_bound_start : {cells : List ℕ} {top : ℕ → ℕ} {before store : S
 slots_bound_start {cells} {store = store} adds denied empty peak = record {
   denied = denied;
   adds = adds;
-  short = λ c low. omega (arith, empty, get_or-le-sum_by length store.lines c [] (omega (arith, low, adds.all denied)));
+  short = λ c low. omega (arith, get_or-le-sum_by length store.lines c [] (omega (arith, adds.all denied)));
   others = let n = length cells in omega (
     arith,
-    empty,
     ap total_bytes (take-append-drop n store.lines),
     sum_by-append length (take n store.lines) (drop n store.lines),
   );
-  peak = omega (arith, peak);
+  peak = omega arith;
 }
 
 -- The slot of one column gets another line.
@@ -62,13 +61,13 @@ pub slots_bound_line : {cells : List ℕ} {top : ℕ → ℕ} {before store : Sl
 slots_bound_line {cells} {top} {before} {store} k column bytes within fits = record {
   denied = k.denied;
   adds = record {
-    least = omega (arith, size, k.adds.least);
-    most = omega (arith, size, k.adds.most);
+    least = omega (arith, size);
+    most = omega (arith, size);
     all = λ allowed. size ∙ k.adds.all k.denied;
   };
   short = short;
   others = others;
-  peak = omega (arith, k.peak, cells_total cells top lines short others);
+  peak = omega (arith, cells_total cells top lines short others);
 }
   where
     lines : List (List ℕ)
@@ -80,9 +79,7 @@ slots_bound_line {cells} {top} {before} {store} k column bytes within fits = rec
     short : (c : ℕ) → c < length cells → length (get_or lines c []) ≤ top (get_or cells c 0)
     short c low = grind (
       arith,
-      fits,
       k.short c low,
-      within,
       k.adds.all k.denied,
       get_or-set_same store.lines column bytes [],
       get_or-set_other store.lines column c bytes [],
@@ -115,8 +112,8 @@ module _ {cells : List ℕ} {fields : List (List ℕ)} {before store : Slots} (s
       kept = λ first top k high. slots_bound_line ((slots_kept_more (field ∷ [])).kept first top k high) n field low
           (omega (
             arith,
-            high n (omega (arith, width, length-append fields (field ∷ []))),
-            ap length (get_or_push fields field [] n (omega (arith, width))),
+            high n (omega (arith, length-append fields (field ∷ []))),
+            ap length (get_or_push fields field [] n (omega arith)),
           ));
     }
 
@@ -152,8 +149,13 @@ pub set_terminator_more : (end : ℕ) (cells : List ℕ) (i : ℕ) (old now : Li
     → get_or cells i 0 < length now → SetTerminatorsPost end (take i cells) old now
     → r ≡ record (reader_at now (get_or cells i 0)) { terminator = end } → IsSound r
     → SetTerminatorsPost end (take (i + 1) cells) old (set now (get_or cells i 0) r)
-set_terminator_more end cells i old now r low within a told sound = grind (arith, common_steps, each_reader,
-    uses_here, uses_other)
+set_terminator_more end cells i old now r low within a told sound = grind (
+  arith,
+  common_steps,
+  each_reader,
+  uses_here,
+  uses_other,
+)
 
 or-true : (t : Bool) → (t || true) ≡ true
 or-true true = refl
@@ -178,7 +180,7 @@ module _ (input : ℕ) (ls : List (List ℕ)) (input_lines : ℕ → List (List 
 
   -- Adding no line changes nothing.
   lines_at_none : ls ≡ [] → lines_at input ls input_lines q ≡ input_lines q
-  lines_at_none none = grind (arith, nat_tests, append-nil (input_lines q), none)
+  lines_at_none none = grind (arith, nat_tests, append-nil (input_lines q))
 
 -- The line of a column.
 abbrev cell_of : List ℕ → (ℕ → List (List ℕ)) → ℕ → List ℕ
@@ -208,11 +210,11 @@ module _ {cells : List ℕ} {n : ℕ} {old now : List Reader} {fields : List (Li
   earlier_cell c less = ⊎_elim
       (λ all. ⊎_elim
       (λ same.
-      let front : take (c + 1) (take n cells) ≡ take (c + 1) cells = take-take (c + 1) n cells (omega (arith, less)) in
-      let under : j < length (input_lines p) = omega (
+      let front : take (c + 1) (take n cells) ≡ take (c + 1) cells = take-take (c + 1) n cells (omega arith) in
+      let under : j < length (input_lines p) =
+      omega (
         arith,
-        all,
-        uses_here cells c p (omega (arith, less, low)) refl,
+        uses_here cells c p (omega arith) refl,
         uses_before (take n cells) (c + 1) p,
         ap (λ (l : List ℕ). uses_of l p) front,
       ) in
@@ -235,18 +237,13 @@ module _ {cells : List ℕ} {n : ℕ} {old now : List Reader} {fields : List (Li
       (lines_at input ls input_lines)
   cells_taken_more = record {
     lines_taken = lines_taken_next;
-    width = omega (arith, t.width, length-append fields (field ∷ []));
+    width = omega (arith, length-append fields (field ∷ []));
     fields_taken = λ c less. ⊎_elim
-        (λ same. cc (
-          same,
-          there,
-          get_or_push fields field [] n (omega (arith, t.width)),
-          lines_at_here input ls input_lines input refl,
-        ))
+        (λ same. cc (get_or_push fields field [] n (omega arith), lines_at_here input ls input_lines input refl))
         (λ differ. cc (
-          get_or_append_left fields (field ∷ []) [] c (omega (arith, less, differ, t.width)),
-          t.fields_taken c (omega (arith, less, differ)),
-          earlier_cell c (omega (arith, less, differ)),
+          get_or_append_left fields (field ∷ []) [] c (omega arith),
+          t.fields_taken c (omega arith),
+          earlier_cell c (omega arith),
         ))
         (cases_eq c n);
     count = length-set now input r ∙ t.count;
@@ -290,7 +287,7 @@ module _ {cells : List ℕ} {n : ℕ} {old now : List Reader} {fields : List (Li
         let all : length (f.input_lines p) ≡ uses_of (take n cells) p =
         ⊎_elim (λ same. same) (λ (done, few). absurd (omega (arith, ap length (none_at_eof lines_taken done))))
         (f.consumed.lines_taken p).enough in
-        let less : sum_by budget (set now p r) < sum_by budget old = omega (arith, f.least, e.less, all_budgets) in
+        let less : sum_by budget (set now p r) < sum_by budget old = omega (arith, all_budgets) in
         record {
           input_lines = lines_at p (e.line ∷ []) f.input_lines;
           consumed = cells_taken_more f.consumed low within lines_taken
@@ -300,14 +297,12 @@ module _ {cells : List ℕ} {n : ℕ} {old now : List Reader} {fields : List (Li
             omega arith,
             omega (
               arith,
-              all,
-              ap length (lines_at_here p (e.line ∷ []) f.input_lines p
-                  refl),
+              ap length (lines_at_here p (e.line ∷ []) f.input_lines p refl),
               length-append (f.input_lines p) (e.line ∷ []),
             ),
           );
           none = λ h. cc;
-          least = omega (arith, less);
+          least = omega arith;
           less = λ h. less;
         }
 
@@ -323,10 +318,10 @@ module _ {cells : List ℕ} {n : ℕ} {old now : List Reader} {fields : List (Li
           ));
       some = λ h.
           let (c, below, one) = f.some h in
-          (c, omega (arith, below), ap length (lines_at_none p [] f.input_lines (get_or cells c 0) refl) ∙ one);
+          (c, omega arith, ap length (lines_at_none p [] f.input_lines (get_or cells c 0) refl) ∙ one);
       none = λ h q. lines_at_none p [] f.input_lines q refl ∙ f.none h q;
-      least = omega (arith, f.least, advance_ok.reads.count, all_budgets);
-      less = λ h. omega (arith, f.less h, advance_ok.reads.count, all_budgets);
+      least = omega (arith, all_budgets);
+      less = λ h. omega (arith, f.less h, all_budgets);
     }
 
     -- The column is filled, and its slot has the field.
@@ -382,13 +377,12 @@ module _ {row : RowShape} where
         rw stored (record {
           fields = a.fields ++ field ∷ [];
           filled = filled;
-          within = omega (arith, a.within);
+          within = omega arith;
           is = a.is ∙ ap (cells_text row 0)
-              (sym (take-append-le now.count a.fields (field ∷ []) (omega (arith, width, a.within))));
+              (sym (take-append-le now.count a.fields (field ∷ []) (omega arith)));
           held = λ c over under. grind (
             arith,
             a.held c,
-            width,
             cases_eq c n,
             get_or-set_same store.lines n field [] room,
             get_or-set_other store.lines n c field [],
@@ -425,15 +419,13 @@ module _ {row : RowShape} where
         fields = all;
         filled = p.filled from a.fields a.filled;
         within = omega arith;
-        is = (let here : now.count ≡ 0 + length a.fields = omega (arith, width) in cc (
-          p.is,
-          a.is,
-          here,
-          take_all now.count a.fields (omega (arith, width)),
-          cells_text-append row 0 a.fields p.fields,
-          take_all next.count all (omega (arith, width, p.width, length-append a.fields p.fields)),
-        ));
-        held = λ c over under. absurd (omega (arith, over, under));
+        is = (let here : now.count ≡ 0 + length a.fields =
+            omega arith in cc (
+              take_all now.count a.fields (omega arith),
+              cells_text-append row 0 a.fields p.fields,
+              take_all next.count all (omega (arith, length-append a.fields p.fields)),
+            ));
+        held = λ c over under. absurd (omega arith);
         slots = slots_kept_more a.slots p.fields;
       }
 
@@ -453,16 +445,16 @@ module _ {row : RowShape} where
       let width = a.filled.consumed.width in
       let front = take k a.fields in
       let slots = take n store.lines in
-      let long : length front ≡ k = length-take-le k a.fields (omega (arith, width, a.within)) in
+      let long : length front ≡ k = length-take-le k a.fields (omega arith) in
       let size = length-take-le n store.lines room in
       let same : drop k slots ≡ drop k a.fields = ext_get_or [] (drop k slots) (drop k a.fields)
-      (omega (arith, length-drop k slots, length-drop k a.fields, size, width))
+      (omega (arith, length-drop k slots, length-drop k a.fields))
       (λ i low. get_or-drop k slots i []
-      ∙ get_or-take n store.lines (k + i) [] (omega (arith, low, length-drop k slots, size))
-      ∙ a.held (k + i) (omega arith) (omega (arith, low, length-drop k slots, size))
+      ∙ get_or-take n store.lines (k + i) [] (omega (arith, length-drop k slots))
+      ∙ a.held (k + i) (omega arith) (omega (arith, length-drop k slots))
       ∙ sym (get_or-drop k a.fields i [])) in
-      let here : k ≡ 0 + length front = omega (arith, long) in
-      cc (a.is, here, same, cells_text-append row 0 front (drop k a.fields), take-append-drop k a.fields)
+      let here : k ≡ 0 + length front = omega arith in
+      cc (cells_text-append row 0 front (drop k a.fields), take-append-drop k a.fields)
 
 -- ---- the readers, after a line was read
 
@@ -475,5 +467,9 @@ pub readable_after : {row : RowShape} (now : List Reader) {input : ℕ} {b : Rea
     → BufferedRowsPre row now → input < length now → 0 < uses_of row.cells input → b ≡ reader_at now input
     → (before after : Slots) (slot : ℕ) (has : Bool) → FillPost b r before after slot (Ok has)
     → BufferedRowsPre row (set now input r)
-readable_after {row} now {input} {b} r ready low used is_read before after slot has e = search (rules, same_end,
-    after_fill, each_reader)
+readable_after {row} now {input} {b} r ready low used is_read before after slot has e = search (
+  rules,
+  same_end,
+  after_fill,
+  each_reader,
+)

@@ -26,7 +26,7 @@ module _ {k j : ℕ} (low : j < k) where
   chosen_apart n [] = refl
   chosen_apart n (x ∷ xs) =
       let next : k + n + 1 ≡ k + (n + 1) = omega arith in
-      cc (add-mod_left k n, next, chosen_apart (n + 1) xs)
+      cc (add-mod_left k n, chosen_apart (n + 1) xs)
 
   is_kth_here : (n : ℕ) → n ≡ j → is_kth k j n ≡ true
   is_kth_here n same = let less : n % k ≡ j = mod-eq_of_lt (omega arith) ∙ same in eq-eqb (n % k) j less
@@ -36,7 +36,7 @@ module _ {k j : ℕ} (low : j < k) where
 
   -- After the j-th of the first k.
   chosen_after : (n b : ℕ) (xs : Column) → n + b ≡ k → j < n → select_from (is_kth k j) n xs ≡ every_kth k j (drop b xs)
-  chosen_after n zero xs all past = let same : n ≡ k + 0 = omega arith in cc (same, chosen_apart 0 xs)
+  chosen_after n zero xs all past = let same : n ≡ k + 0 = omega arith in cc (chosen_apart 0 xs)
   chosen_after n (suc b) [] all past = refl
   chosen_after n (suc b) (x ∷ xs) all past = rw (is_kth_not n (omega arith) (omega arith)) (chosen_after (n + 1) b xs
       (omega arith) (omega arith))
@@ -68,7 +68,7 @@ module _ {k j : ℕ} (low : j < k) where
       let more : suc r * k ≡ k + r * k = omega arith in
       omega (
         arith,
-        every_kth_short r (drop k ls) (omega (arith, few, more, length-drop k ls)),
+        every_kth_short r (drop k ls) (omega (arith, length-drop k ls)),
         ap length (every_kth_rest ls),
         length-drop 1 (every_kth k j ls),
       )
@@ -98,8 +98,8 @@ rows_step cols some = by_height (row_count cols) refl some
         → map (row_at cols) (range_with_len 0 (row_count cols)) ≡ row_at cols 0 ∷ rows (map (drop 1) cols)
     by_height zero is some = absurd (omega arith)
     by_height (suc h) is some =
-        let less : h ≡ row_count (map (drop 1) cols) = omega (arith, row_count_from 0 cols, is) in
-        cc (is, rows_later cols 0 h, less)
+        let less : h ≡ row_count (map (drop 1) cols) = omega (arith, row_count_from 0 cols) in
+        cc (rows_later cols 0 h)
 
 row_count_least : (a : ℕ) (cols : List Column) → a ≤ fold max a (map length cols)
 row_count_least a [] = omega arith
@@ -115,7 +115,7 @@ row_count_none : (cols : List Column) → ((c : ℕ) → c < length cols → get
 row_count_none [] none = refl
 row_count_none (col ∷ cols) none =
     let empty : max 0 (length col) ≡ 0 = omega (arith, ap length (none 0 (omega arith))) in
-    cc (empty, row_count_none cols (λ c low. none (suc c) (omega arith)))
+    cc (row_count_none cols (λ c low. none (suc c) (omega arith)))
 
 pub rows_none : (cols : List Column) → ((c : ℕ) → c < length cols → get_or cols c [] ≡ []) → rows cols ≡ []
 rows_none cols none = ap (λ (n : ℕ). map (row_at cols) (range_with_len 0 n)) (row_count_none cols none)
@@ -131,12 +131,12 @@ length-for_each_cell f cells = grind (arith, common_steps, length-enumerate_from
 
 get_or-for_each_cell : {Y : Type 0} (f : ℕ → ℕ → Y) (cells : List ℕ) (c : ℕ) (d : Y) → c < length cells
     → get_or (for_each_cell f cells) c d ≡ f c (get_or cells c 0)
-get_or-for_each_cell {Y} f cells c d low = let same : 0 + c ≡ c = omega arith in cc (
-  get_or-map (λ (cell : ℕ × ℕ). f cell.0 cell.1) (enumerate_from 0 cells) c (0, 0) d
-      (omega (arith, length-enumerate_from 0 cells)),
-  get_or-enumerate_from 0 cells c (0, 0) low,
-  same,
-)
+get_or-for_each_cell {Y} f cells c d low = let same : 0 + c ≡ c =
+    omega arith in cc (
+      get_or-map (λ (cell : ℕ × ℕ). f cell.0 cell.1) (enumerate_from 0 cells) c (0, 0) d
+          (omega (arith, length-enumerate_from 0 cells)),
+      get_or-enumerate_from 0 cells c (0, 0) low,
+    )
 
 -- A list that has this value for each column is equal to that.
 pub for_each_cell_unique : {Y : Type 0} (f : ℕ → ℕ → Y) (cells : List ℕ) (ys : List Y) (d : Y)
@@ -144,7 +144,7 @@ pub for_each_cell_unique : {Y : Type 0} (f : ℕ → ℕ → Y) (cells : List �
     → ys ≡ for_each_cell f cells
 for_each_cell_unique f cells ys d long same =
     ext_get_or d ys (for_each_cell f cells) (long ∙ sym (length-for_each_cell f cells))
-    (λ c low. let within : c < length cells = omega (arith, low, long) in same c within
+    (λ c low. let within : c < length cells = omega arith in same c within
     ∙ sym (get_or-for_each_cell f cells c d within))
 
 pub for_each_cell_same : {Y : Type 0} (f g : ℕ → ℕ → Y) (cells : List ℕ) → ((c : ℕ) → c < length cells
@@ -168,7 +168,7 @@ last_use [] p some = absurd (omega arith)
 last_use (x ∷ cells) p some = ⊎_elim
     (λ more.
     let (c, low, is, count) = last_use cells p more in
-    (suc c, omega (arith, low), is, omega (arith, count, uses_first x cells p, uses_first x (take c cells) p)))
+    (suc c, omega arith, is, omega (arith, uses_first x cells p, uses_first x (take c cells) p)))
     (λ none. let (same, one) = only_first x cells p some none in (0, omega arith, same, one))
     (cases_lt 0 (uses_of cells p))
 
@@ -233,12 +233,11 @@ module _ (cells : List ℕ) where
     grid_step c low some =
         let input = get_or cells c 0 in
         let high = every_kth_some (uses_before_lt c low) (input_lines input ++ more input)
-        (omega (arith, some, length-append (input_lines input) (more input))) in
+        (omega (arith, length-append (input_lines input) (more input))) in
         rows_step (columns cells ins) (omega (
           arith,
           row_count_bound 0 (columns cells ins) c,
           ap length (column_at ins c low),
-          high,
         ))
         ∙ (λ i. (map-map (λ (col : Column). slice_index_or col 0 []) (λ (cell : ℕ × ℕ). column_of ins cell.0 cell.1)
         (enumerate_from 0 cells)
@@ -252,7 +251,7 @@ module _ (cells : List ℕ) where
 
   pub grid_none : (ins : ℕ → Column) → ((p : ℕ) → 0 < uses_of cells p → ins p ≡ []) → rows (columns cells ins) ≡ []
   grid_none ins none = rows_none (columns cells ins) (λ c low.
-      let within : c < length cells = omega (arith, low, length-columns ins) in
+      let within : c < length cells = omega (arith, length-columns ins) in
       let q = get_or cells c 0 in
       column_at ins c within ∙ ap (every_kth (uses_of cells q) (uses_of (take c cells) q))
       (none q (omega (arith, uses_before_lt c within))))

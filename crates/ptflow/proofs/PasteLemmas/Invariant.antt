@@ -188,7 +188,7 @@ module _ {job : Paste} {cells : List ℕ} {old set now : List Reader} {was is : 
   -- The readers are still readable.
   pub now_readable : BufferedRowsPre (job_shape job cells) now
   now_readable = let r = set_readable s.starts in record {
-    within = λ c d low. omega (arith, r.within c d low, s.first_rows.count);
+    within = λ c d low. omega (arith, r.within c d low);
     unfailed = λ p some. (s.first_rows.lines_taken p).fault ∙ r.unfailed p some;
     same_end = λ p some. (s.first_rows.lines_taken p).reads.terminator ∙ r.same_end p some;
   }

@@ -46,7 +46,7 @@ module _ (cells : List ℕ) where
         let p = get_or cells c 0 in
         (λ i. rows (columns cells (λ q. split q i)))
         ∙ grid_step cells (first ins) (λ q. rest ins q ++ more q) first_taken c low
-        (omega (arith, length-take (uses_of cells p) (ins p), some, uses_before_lt cells c low))
+        (omega (arith, length-take (uses_of cells p) (ins p), uses_before_lt cells c low))
 
   -- ---- several rows
 
@@ -74,7 +74,7 @@ module _ (cells : List ℕ) where
         (λ i. rows (columns cells (λ p. sym (append-nil (ins p)) i)))
         ∙ first_row ins (λ p. []) (λ p few. refl) c low has
         ∙ (λ i. top ∷ rows (columns cells (λ p. append-nil (rest ins p) i))) in
-        cc (first_row ins more (more_is_empty n ins more reach) c low has, rows_after, alone)
+        cc (first_row ins more (more_is_empty n ins more reach) c low has)
 
     -- No input continues.
     append_last : ((c : ℕ) → c < length cells → length (ins (get_or cells c 0)) ≤ uses_of (take c cells)

@@ -30,12 +30,19 @@ none_received {end} {b} {c} {bytes} {ls} done reads k =
 pub lines_trans : {end : ℕ} {b c : Reader} {bs cs : List ℕ} {xs ys : List (List ℕ)} → AreReceivedLines end b bs xs
     → ReaderAdvance b c cs → AreReceivedLines end c cs ys
     → AreReceivedLines end c (bs ++ cs) (xs ++ ys)
-lines_trans {end} {b} {c} {bs} {cs} {xs} {ys} p reads q = search (rules, unlines-append, AreLines-append,
-    lines_of_unlines, eof_gives_nothing, none_received, stays_at_eof)
+lines_trans {end} {b} {c} {bs} {cs} {xs} {ys} p reads q = search (
+  rules,
+  unlines-append,
+  AreLines-append,
+  lines_of_unlines,
+  eof_gives_nothing,
+  none_received,
+  stays_at_eof,
+)
 
 -- At most the requested number of lines is taken.
 pub taken_at_most : {end : ℕ} {b c : Reader} {n : ℕ} {ys : List (List ℕ)} → LinesTaken end b c n ys → length ys ≤ n
-taken_at_most t = ⊎_elim (λ same. omega (arith, same)) (λ (done, few). few) t.enough
+taken_at_most t = ⊎_elim (λ same. omega arith) (λ (done, few). few) t.enough
 
 -- Nothing is taken from a reader at the end of its input.
 pub none_at_eof : {end : ℕ} {b c : Reader} {n : ℕ} {ys : List (List ℕ)} → LinesTaken end b c n ys → IsDone b → ys ≡ []
@@ -53,14 +60,14 @@ taken_more {end} {a} {b} {c} {k} {m} {n} {xs} {ys} all p q = record {
   fault = q.fault ∙ p.fault;
   short = λ h. q.short (p.short h);
   buffered = λ h. q.buffered (p.buffered h);
-  none = λ h. q.none (omega (arith, h)) ∙ p.none (omega (arith, h));
+  none = λ h. q.none (omega arith) ∙ p.none (omega arith);
   came = lines_trans p.came q.reads q.came;
   enough = ⊎_elim
-      (λ same. ⊎_elim (λ every. inl (omega (arith, same, every, length-append xs ys)))
-      (λ (done, few). inr (done, omega (arith, same, few, length-append xs ys))) q.enough)
+      (λ same. ⊎_elim (λ every. inl (omega (arith, length-append xs ys)))
+      (λ (done, few). inr (done, omega (arith, length-append xs ys))) q.enough)
       (λ (done, few). inr (
         stays_at_eof b c q.bytes done q.reads,
-        omega (arith, few, ap length (none_at_eof q done), length-append xs ys),
+        omega (arith, ap length (none_at_eof q done), length-append xs ys),
       ))
       p.enough;
 }
@@ -93,7 +100,6 @@ module _ (row : RowShape) where
       let next : c + 1 + length xs ≡ c + suc (length xs) = omega arith in
       let cell = x ++ after_cell row c in
       cc (
-        next,
         cells_text-append (c + 1) xs ys,
         append_assoc cell (cells_text row (c + 1) xs) (cells_text row (c + suc (length xs)) ys),
       )
@@ -106,12 +112,12 @@ module _ (row : RowShape) where
   -- The columns from c to the last one.
   pub row_text : (c : ℕ) (xs : List (List ℕ)) → c + length xs ≡ length row.cells → 0 < length xs
       → cells_text row c xs ≡ join_with_cycle row.delims c xs ++ row.terminator ∷ []
-  row_text c [] all some = absurd (omega (arith, some))
+  row_text c [] all some = absurd (omega arith)
   row_text c (x ∷ []) all some = search (rules, eq-eqb)
   row_text c (x ∷ y ∷ more) all some =
       rw (
-        ne_eqb (c + 1) (length row.cells) (λ same. absurd (omega (arith, all, same))),
-        row_text (c + 1) (y ∷ more) (omega (arith, all)) (omega arith),
+        ne_eqb (c + 1) (length row.cells) (λ same. absurd (omega arith)),
+        row_text (c + 1) (y ∷ more) (omega arith) (omega arith),
       ) (simp append_assoc)
 
   -- The text of a filled row.
@@ -166,7 +172,7 @@ module _ {row : RowShape} where
     ls = λ input. p.ls input ++ q.ls input;
     taken_rows = p.taken_rows ++ q.taken_rows;
     first_rows = first_rows_trans p.first_rows q.first_rows;
-    least = omega (arith, p.least, q.least);
+    least = omega arith;
     is = (λ i. p.is i ++ q.is i) ∙ sym (rows_text-append row.terminator row.delims p.taken_rows q.taken_rows);
   }
 
@@ -201,7 +207,7 @@ module _ (row : RowShape) {old new : List Reader} {fields : List (List ℕ)}
         on = λ more may.
             grid_step row.cells r.input_lines more (record {
               all = λ p. ⊎_elim inl (λ (done, few). inr (may p done, few)) (lines_taken_by_row r.consumed p).enough;
-            }) c low (omega (arith, first))
+            }) c low (omega arith)
             ∙ (λ i. sym row_is i ∷ rows (columns row.cells more));
         count = r.consumed.count;
       }

@@ -44,7 +44,7 @@ ends_with end (b ∷ bs) some last =
     let n = length bs in
     let there : length (b ∷ bs) - 1 ≡ n = omega arith in (
       take n (b ∷ bs),
-      cc (take_all (n + 1) (b ∷ bs) (omega arith), take_more (b ∷ bs) n 0 (omega arith), there, last (omega arith)),
+      cc (take_all (n + 1) (b ∷ bs) (omega arith), take_more (b ∷ bs) n 0 (omega arith), last (omega arith)),
     )
 
 -- Bytes that end with a terminator and have count * n terminators are `count` complete rows.
@@ -92,18 +92,16 @@ module _ {row : RowShape} {cycle : Cycle} (t : IsSharedCycle row cycle) where
   row_replaced k c [] are_lines all = refl
   row_replaced k c (line ∷ ls) (free, are_lines) all =
       let rest = unlines row.terminator ls in
-      let low : c < n = omega (arith, all) in
-      let less : c < cycle.len = omega (arith, low, t.len) in
+      let low : c < n = omega arith in
+      let less : c < cycle.len = omega arith in
       let index : (k * n + c) % cycle.len ≡ c % cycle.len =
       ap (λ (size : ℕ). (k * n + c) % size) t.len ∙ mod-mul-add k n c low ∙ sym (mod-eq_of_lt less) in
       let byte = ap (λ m. get_or cycle.unrolled m 0 ∷ []) index ∙ t.bytes c low in
       let number : k * n + c + 1 ≡ k * n + (c + 1) = omega arith in
-      let more = ap (λ m. all_replaced m rest) number ∙ row_replaced k (c + 1) ls are_lines (omega (arith, all)) in
+      let more = ap (λ m. all_replaced m rest) number ∙ row_replaced k (c + 1) ls are_lines (omega arith) in
       cc (
         append_assoc line (row.terminator ∷ []) rest,
         replaced_line row.terminator (cycle_byte cycle) (k * n + c) line rest free,
-        byte,
-        more,
         append_assoc line (after_cell row c) (cells_text row (c + 1) ls),
       )
 
@@ -112,26 +110,24 @@ module _ {row : RowShape} {cycle : Cycle} (t : IsSharedCycle row cycle) where
       → all_replaced (k * n) (unlines row.terminator ls)
       ≡ unlines row.terminator (map (join_with_cycle row.delims 0) (rows_in n more ls))
   rows_replaced k zero [] are_lines long = refl
-  rows_replaced k zero (line ∷ ls) are_lines long = absurd (omega (arith, long))
+  rows_replaced k zero (line ∷ ls) are_lines long = absurd (omega arith)
   rows_replaced k (suc more) ls are_lines long =
       let end = row.terminator in
       let size : suc more * n ≡ n + more * n = omega arith in
       let first = take n ls in
       let rest = drop n ls in
       let (whole_first, whole_rest) = are_parts end n ls are_lines in
-      let first_long : length first ≡ n = length-take-le n ls (omega (arith, long, size)) in
+      let first_long : length first ≡ n = length-take-le n ls (omega arith) in
       let start : k * n ≡ k * n + 0 = omega arith in
       let next : k * n + count_by (is_byte end) (unlines end first) ≡ (k + 1) * n =
-      omega (arith, ends_of_lines end first whole_first, first_long) in
-      let more_long : length rest ≡ more * n = omega (arith, length-drop n ls, long, size) in
+      omega (arith, ends_of_lines end first whole_first) in
+      let more_long : length rest ≡ more * n = omega (arith, length-drop n ls) in
       cc (
         take-append-drop n ls,
         unlines-append end first rest,
         replaced-append end (cycle_byte cycle) (k * n) (unlines end first) (unlines end rest),
-        start,
-        next,
-        row_replaced k 0 first whole_first (omega (arith, first_long)),
-        row_text row 0 first (omega (arith, first_long)) (omega (arith, first_long, t.some)),
+        row_replaced k 0 first whole_first (omega arith),
+        row_text row 0 first (omega arith) (omega arith),
         rows_replaced (k + 1) more rest whole_rest more_long,
       )
 
@@ -150,11 +146,7 @@ module _ (cells : List ℕ) (input : ℕ) (same : (c : ℕ) → c < length cells
   uses_before_column zero low = refl
   uses_before_column (suc c) low =
       let next : suc c ≡ c + 1 = omega arith in
-      cc (
-        next,
-        uses_here cells c input (omega (arith, low)) (same c (omega (arith, low))),
-        uses_before_column c (omega (arith, low)),
-      )
+      cc (uses_here cells c input (omega arith) (same c (omega arith)), uses_before_column c (omega arith))
 
   uses_all : uses_of cells input ≡ length cells
   uses_all = grind (arith, common_steps, uses_before_column)
@@ -162,7 +154,7 @@ module _ (cells : List ℕ) (input : ℕ) (same : (c : ℕ) → c < length cells
   uses_none : (q : ℕ) → q ≢ input → uses_of cells q ≡ 0
   uses_none q differ = ⊎_elim
       (λ some. let (c, low, uses, before) = last_use cells q some in absurd (differ (sym uses ∙ same c low)))
-      (λ none. omega (arith, none))
+      (λ none. omega arith)
       (cases_lt 0 (uses_of cells q))
 
   -- The first n lines are the first row.
@@ -175,11 +167,11 @@ module _ (cells : List ℕ) (input : ℕ) (same : (c : ℕ) → c < length cells
             (λ here. rw here (rw (update_here input ls (λ q. []) input refl, uses_all) long))
             (λ there. rw (update_there input ls (λ q. []) q there, uses_none q there) refl)
             (cases_eq q input));
-      }) 0 some (omega (arith, ap length (update_here input ls (λ q. []) (get_or cells 0 0) (same 0 some)), long, some))
+      }) 0 some (omega (arith, ap length (update_here input ls (λ q. []) (get_or cells 0 0) (same 0 some))))
       ∙ ap (λ (r : List (List ℕ)). r ∷ rows (columns cells more))
       (sym (for_each_cell_unique (top_of cells (lines_of_input input ls)) cells ls [] long
       (λ c low. rw (same c low)
-      (rw (update_here input ls (λ q. []) input refl, uses_before_column c (omega (arith, low))) refl))))
+      (rw (update_here input ls (λ q. []) input refl, uses_before_column c (omega arith)) refl))))
 
   -- The first k * n lines are the first k rows.
   rows_on : (some : 0 < length cells) (k : ℕ) (ls : Column) (more : ℕ → Column) → length ls ≡ k * length cells
@@ -189,7 +181,7 @@ module _ (cells : List ℕ) (input : ℕ) (same : (c : ℕ) → c < length cells
     where
       none : (q : ℕ) → lines_of_input input [] q ≡ []
       none q = grind (arith, nat_tests)
-  rows_on some zero (line ∷ ls) more long = absurd (omega (arith, long))
+  rows_on some zero (line ∷ ls) more long = absurd (omega arith)
   rows_on some (suc k) ls more long =
       let n = length cells in
       let size : suc k * n ≡ n + k * n = omega arith in
@@ -201,9 +193,9 @@ module _ (cells : List ℕ) (input : ℕ) (same : (c : ℕ) → c < length cells
       ) in
       (λ i. rows (columns cells (λ q. split q i)))
       ∙ row_on some (take n ls) (λ q. lines_of_input input (drop n ls) q ++ more q)
-      (length-take-le n ls (omega (arith, long, size)))
+      (length-take-le n ls (omega arith))
       ∙ ap (λ (r : List (List (List ℕ))). take n ls ∷ r)
-      (rows_on some k (drop n ls) more (omega (arith, length-drop n ls, long, size)))
+      (rows_on some k (drop n ls) more (omega (arith, length-drop n ls)))
 
 -- ---- the complete rows in the buffer
 
@@ -222,7 +214,7 @@ module _ {row : RowShape} {cycle : Cycle} (t : IsSharedCycle row cycle) {old : L
   low = ready.within 0 0 t.some
 
   clean : b.fault ≡ None
-  clean = cc (is_read, ready.unfailed input (omega (arith, uses_before_lt row.cells 0 t.some)))
+  clean = cc (ready.unfailed input (omega (arith, uses_before_lt row.cells 0 t.some)))
 
   same : (c : ℕ) → c < length row.cells → get_or row.cells c 0 ≡ input
   same c low = All-get_or (λ (q : ℕ). q ≡ input) row.cells c 0 low t.same
@@ -234,10 +226,9 @@ module _ {row : RowShape} {cycle : Cycle} (t : IsSharedCycle row cycle) {old : L
     failed = refl;
     fault = refl;
     short = λ h. h;
-    buffered = λ h. omega (arith, h, length-drop count b.buffered);
+    buffered = λ h. omega (arith, length-drop count b.buffered);
     none = λ none. absurd (omega (
       arith,
-      some,
       length-take-le count b.buffered within,
       ap length rs.is,
       ap (λ (l : List (List ℕ)). length (unlines end l)) (nil_from_length rs.ls (rs.long ∙ none)),
@@ -268,8 +259,6 @@ module _ {row : RowShape} {cycle : Cycle} (t : IsSharedCycle row cycle) {old : L
     };
     least = omega (
       arith,
-      some,
-      within,
       sound.long clean,
       length-drop count b.buffered,
       ap budget is_read,

@@ -13,7 +13,7 @@ loop-column-preserved g c =
         inv.empty k,
         cases_eq k n,
         get_or-set_other lines n k [] [],
-        get_or-set_same lines n [] [] (omega (arith, c.loop-column-test.true, c.requires, inv.same)),
+        get_or-set_same lines n [] [] (omega arith),
       );
       kept = λ first top before. slots_bound_line (inv.kept first top before) n [] c.loop-column-test.true
           (omega arith);

@@ -25,7 +25,7 @@ cells-init g c = record {
 
 pub offset_bounds-readers-input : goal.offset_bounds-readers-input
 offset_bounds-readers-input g c =
-    let low = c.requires.readable.within c.cells.column 0 c.cells-test.true in search (scaled_Fits, low)
+    let low = c.requires.readable.within c.cells.column 0 c.cells-test.true in search scaled_Fits
 
 pub fill_cell-requires-clause-readable : goal.fill_cell-requires-clause-readable
 fill_cell-requires-clause-readable g c =
@@ -82,7 +82,7 @@ module _ (g : given.Over) (c : In_ok-has_line g) where
   amid from first a =
       let (fills, sound) = c.in_ok-has_line.ensures.fills in
       amid_next (c.cells.invariant.amid from first a) c.cells-test.true low is_read c.fill_cell.new.reader
-      c.fill_cell.new.store (omega (arith, c.cells-test.true, c.cells.invariant.slots))
+      c.fill_cell.new.store (omega arith)
       (cc (is_read, c.cells.invariant.readable.unfailed input used)) sound c.in_ok-has_line.has_line fills
 
   ready : BufferedRowsPre (shape_of c.args.row) filled.readers
@@ -109,7 +109,7 @@ cells-preserved-in-Some g c =
     record {
       amid = λ from start a. amid_resumed (amid g at.In_ok-has_line from start a) first resumed p;
       readable = still_readable p.consumed (ready g at.In_ok-has_line);
-      slots = omega (arith, c.cells.invariant.slots, c.fill_cell.ensures.slots);
+      slots = omega arith;
       within = (omega arith, c.copy_columns-begun.ensures.within.0);
       wrote = sent g at.After-fill_cell;
       clean = c.in_ok-has_line.ensures.write_failed;
@@ -121,14 +121,14 @@ cells-preserved g c =
     record {
       amid = λ from start a. rw c.in-None.ensures.none (amid g at.In_ok-has_line from start a);
       readable = ready g at.In_ok-has_line;
-      slots = omega (arith, c.cells.invariant.slots, c.fill_cell.ensures.slots);
-      within = (omega (arith, c.cells.invariant.within), omega (arith, c.cells-test.true));
+      slots = omega arith;
+      within = (omega arith, omega arith);
       wrote = sent g at.After-fill_cell;
       clean = c.in_ok-has_line.ensures.write_failed;
     }
 
 pub returns-clause-fills : goal.returns-clause-fills
 returns-clause-fills g c = λ from first a.
-    let all : c.cells.column ≡ length c.args.row.cells.now = omega (arith, c.cells-test.false, c.cells.invariant.within)
+    let all : c.cells.column ≡ length c.args.row.cells.now = omega arith
     in
     rw all at (c.cells.invariant.amid from first a)

@@ -80,7 +80,6 @@ fill_row-requires-clause-readable g c =
 pub fill_row-requires-clause-within : goal.fill_row-requires-clause-within
 fill_row-requires-clause-within g c = omega (
   arith,
-  c.copy_rows-copied.ensures.within,
   ap (λ (b : BegunText). b.count) (c.move_to_front-begun.ensures c.copy_rows-copied.new.readers),
 )
 
@@ -222,7 +221,6 @@ rows-smaller g c =
       (amid g here c.in_ok-filled.filled c.in_ok-filled.ensures.fills).filled.less
           (sym (not-not _) ∙ ap not c.if-not-filled.false),
       (rows g here).rows.least,
-      c.write_shared_rows.ensures.rows.rows.least,
     )
 
 pub rows-preserved : goal.rows-preserved

@@ -16,12 +16,9 @@ loop-input-preserved g c =
     let cells = c.args.cells.now in
     let i = c.loop-input.input-index in
     let now = c.loop-input.readers in
-    let within : get_or cells i 0 < length now = omega (
-      arith,
-      All-get_or (λ (p : ℕ). p < length c.args.readers.now)
-          cells i 0 c.loop-input-test.true c.requires,
-      c.loop-input.auto.readers,
-    ) in
+    let within : get_or cells i 0 < length now =
+    omega (arith, All-get_or (λ (p : ℕ). p < length c.args.readers.now) cells i 0 c.loop-input-test.true c.requires)
+    in
     set_terminator_more (terminator c.args.zero) cells i c.args.readers.now now c.set_ending.new.self
     c.loop-input-test.true within c.loop-input.invariant
     (c.set_ending.ensures.set ∙ (λ j. record (at_index now (get_or cells i 0) c.index-readers-input.result within j)
@@ -31,13 +28,13 @@ pub bounds-readers-input : goal.bounds-readers-input
 bounds-readers-input g c =
     let low = All-get_or (λ (p : ℕ). p < length c.args.readers.now) c.args.cells.now c.loop-input.input-index 0
     c.loop-input-test.true c.requires in
-    omega (arith, low, c.loop-input.auto.readers)
+    omega arith
 
 pub offset_bounds-readers-input : goal.offset_bounds-readers-input
 offset_bounds-readers-input g c =
     let low = All-get_or (λ (p : ℕ). p < length c.args.readers.now) c.args.cells.now c.loop-input.input-index 0
     c.loop-input-test.true c.requires in
-    search (scaled_Fits, low)
+    search scaled_Fits
 
 pub returns : goal.returns
 returns g c =

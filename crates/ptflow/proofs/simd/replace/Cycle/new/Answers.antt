@@ -11,8 +11,8 @@ invariant_of-result c =
         few = c.requires.1;
         at = λ number low.
             let less = mod-lt number c.requires.0 in
-            at number (omega (arith, low))
-            ∙ sym (at (number % len) (omega (arith, less, c.requires.1)) ∙ ap
+            at number (omega arith)
+            ∙ sym (at (number % len) (omega arith) ∙ ap
             (λ k. slice_index_or c.args.bytes.now k 0) (mod-eq_of_lt less));
       };
     }
@@ -20,5 +20,5 @@ invariant_of-result c =
 pub returns-clause-bytes : goal.returns-clause-bytes
 returns-clause-bytes c = λ number.
     let less = mod-lt number c.requires.0 in
-    ap (λ x. x ∷ []) (c.loop-number.invariant.at (number % length c.args.bytes.now) (omega (arith, less, c.requires.1))
+    ap (λ x. x ∷ []) (c.loop-number.invariant.at (number % length c.args.bytes.now) (omega arith)
     ∙ ap (λ k. slice_index_or c.args.bytes.now k 0) (mod-eq_of_lt less))

@@ -10,7 +10,7 @@ pub returns-then-self-eq1-clause-replaced : goal.returns-then-self-eq1-clause-re
 returns-then-self-eq1-clause-replaced c =
     let cycle = c.args.self.now in
     let first : (n : ℕ) → slice_index_or cycle.unrolled (n % cycle.len) 0 ≡ slice_index_or cycle.unrolled 0 0 =
-    λ n. let zero : n % cycle.len ≡ 0 = omega (arith, mod-lt n cycle.is_unrolled.some, c.if-self-eq1.true) in
+    λ n. let zero : n % cycle.len ≡ 0 = omega (arith, mod-lt n cycle.is_unrolled.some) in
     ap (λ k. slice_index_or cycle.unrolled k 0) zero in
     c.map_bytes.ensures ∙ sym (replaced_by_map cycle.terminator _ _ first c.args.index c.args.from.now)
 
@@ -19,12 +19,10 @@ loop-at-preserved c =
     let loop = c.loop-at in
     let cycle = c.args.self.now in
     let from = c.args.from.now in
-    let room : loop.at < length from = omega (arith, c.loop-at-test.true) in
+    let room : loop.at < length from = omega arith in
     let low : loop.index < cycle.len = omega (
       arith,
-      mod-lt (c.args.index + count_by (is_byte cycle.terminator)
-          (take loop.at from)) cycle.is_unrolled.some,
-      loop.invariant.next,
+      mod-lt (c.args.index + count_by (is_byte cycle.terminator) (take loop.at from)) cycle.is_unrolled.some,
     ) in
     elim c.if-from-at.branch [
       | then-from-at w ↦

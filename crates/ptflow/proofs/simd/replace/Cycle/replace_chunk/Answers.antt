@@ -20,15 +20,8 @@ loop-after-preserved c =
     let number = c.args.index + c.loop-after.after in
     let counted : count_ones c.match_mask-mask.result ≡ count_by p v = ap count_ones c.match_mask-mask.ensures
     ∙ ones-mask_l p v in
-    let low : number < c.args.self.now.len + 63 = omega (
-      arith,
-      c.loop-after-test.true,
-      counted,
-      count_by-le-length p v,
-      length-chunk c.args.at 64 c.args.from.now c.requires.room,
-      c.requires.index,
-      table.few,
-    ) in
+    let low : number < c.args.self.now.len + 63 =
+    omega (arith, count_by-le-length p v, length-chunk c.args.at 64 c.args.from.now c.requires.room) in
     replace_next c.loop-after.invariant c.match_mask-mask.ensures c.loop-after-test.true
     c.loop-after.auto.mask-fits.fits (table.at number low) refl refl
 

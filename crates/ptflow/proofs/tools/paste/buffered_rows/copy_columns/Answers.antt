@@ -23,7 +23,7 @@ cells-init g c = record {
 
 pub offset_bounds-readers-input : goal.offset_bounds-readers-input
 offset_bounds-readers-input g c = let low = c.requires.readable.within c.cells.column 0 c.cells-test.true in
-    search (scaled_Fits, low)
+    search scaled_Fits
 
 pub cells-preserved : goal.cells-preserved
 cells-preserved g c =
@@ -39,10 +39,10 @@ cells-preserved g c =
           c.in-Some.ensures.was_sound c.in-Some.field.is_line
           (take c.in-Some.field.end c.copy_cell.new.into) c.in-Some.ensures.cell
           c.copy_option-end.ensures.copied (after_other _ n c.cells.index c.if-column-cells.false inv.at);
-      within = omega (arith, c.cells-test.true);
-      grows = omega (arith, inv.grows, c.in-Some.ensures.size_bound, c.copy_option-end.ensures.size_bound);
-      size_bound = omega (arith, c.in-Some.ensures.size_bound, c.copy_option-end.ensures.size_bound);
-      at = cc (c.next_index-index.ensures, inv.at, mod-add-mod n (length c.args.row.delims.now) 1);
+      within = omega arith;
+      grows = omega (arith, c.in-Some.ensures.size_bound);
+      size_bound = omega (arith, c.in-Some.ensures.size_bound);
+      at = cc (mod-add-mod n (length c.args.row.delims.now) 1);
       buffer_size = c.copy_option-end.array_long;
     }
 
@@ -66,7 +66,7 @@ returns-clause-cells g c =
           let end = w.in-Some.field.end in
           let into = w.copy_cell.new.into in
           let stored = take_more_set into end c.args.row.terminator
-          (omega (arith, w.copy_cell.array_long, w.in-Some.ensures.size_bound)) in
+          (omega arith) in
           rw (w.readers-is, w.into-is, w.column-is, w.end-is, w.any_line-is)
           (columns_more inv.copied w.cells-test.true ready
           (omega (arith, uses_before_lt cells n w.cells-test.true)) w.copy_cell.new.reader
@@ -79,10 +79,10 @@ pub returns-clause-within : goal.returns-clause-within
 returns-clause-within g c =
     let inv = c.cells.invariant in
     elim c.cells-test.branch [
-      | else-cells-test w ↦ (omega (arith, w.column-is, inv.within), omega (arith, w.end-is, inv.grows))
-      | then-cells-test+in_default w ↦ (omega (arith, w.column-is, inv.within), omega (arith, w.end-is, inv.grows))
+      | else-cells-test w ↦ (omega arith, omega arith)
+      | then-cells-test+in_default w ↦ (omega arith, omega arith)
       | then-cells-test+in-Some+then-column-cells w ↦ (
-        omega (arith, w.column-is, w.cells-test.true),
-        omega (arith, w.end-is, inv.grows, w.in-Some.ensures.size_bound),
+        omega arith,
+        omega (arith, w.in-Some.ensures.size_bound),
       )
     ]

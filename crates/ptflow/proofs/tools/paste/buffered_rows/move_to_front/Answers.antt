@@ -8,12 +8,10 @@ moved : (at to : ℕ) (bytes : List ℕ) → at ≤ to → to ≤ length bytes
     → take (to - at) (paste bytes 0 (drop at bytes) (to - at)) ≡ drop at (take to bytes)
 moved at to bytes further fits =
     let start : to - at ≡ 0 + (to - at) = omega arith in
-    let split : at + (to - at) ≡ to = omega (arith, further) in
+    let split : at + (to - at) ≡ to = omega arith in
     cc (
-      start,
       take-paste bytes 0 (drop at bytes) (to - at) (omega arith) (omega (arith, length-drop at bytes)),
       drop-take at (to - at) bytes,
-      split,
     )
 
 pub returns : goal.returns
@@ -22,4 +20,4 @@ returns c = λ readers.
     ap (λ (text : List ℕ). record (begun_in readers rows.begun c.args.into.now) { text = text })
     (ap (take (rows.begun.end - rows.end)) c.copy_within.ensures.after
     ∙ moved rows.end rows.begun.end c.args.into.now rows.order
-    (omega (arith, rows.begun.size_bound, c.told-into)))
+    (omega arith))

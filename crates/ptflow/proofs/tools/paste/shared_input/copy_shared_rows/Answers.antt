@@ -16,9 +16,9 @@ returns-clause-rows g c =
     rw (← c.buffered-bytes.ensures.buffered)
     (whole_rows_counted cycle.terminator cycle.len
     ((0 + count_by (is_byte cycle.terminator) bytes) / cycle.len) (take at bytes)
-    (λ some. get_or-take at bytes (length (take at bytes) - 1) 0 (omega (arith, some, long))
-    ∙ ap (λ n. get_or bytes (n - 1) 0) long ∙ c.rows_end.ensures.ends (omega (arith, some, long)))
-    (omega (arith, c.rows_end.ensures.counted, c.replace-extra.ensures.next, cycle.is_unrolled.some)))
+    (λ some. get_or-take at bytes (length (take at bytes) - 1) 0 (omega arith)
+    ∙ ap (λ n. get_or bytes (n - 1) 0) long ∙ c.rows_end.ensures.ends (omega arith))
+    (omega arith))
 
 pub returns-clause-copied : goal.returns-clause-copied
 returns-clause-copied g c =
@@ -29,5 +29,5 @@ returns-clause-copied g c =
     let long : length made.new.to ≡ length bytes =
     ap length made.ensures.replaced ∙ length-replaced cycle.terminator _ 0 bytes in
     rw (← c.buffered-bytes.ensures.buffered)
-    (take-append-le at made.new.to _ (omega (arith, c.rows_end.ensures.within, long))
+    (take-append-le at made.new.to _ (omega arith)
     ∙ ap (take at) made.ensures.replaced ∙ take-replaced cycle.terminator _ at 0 bytes c.rows_end.ensures.within)

@@ -19,5 +19,5 @@ returns-clause-rows g c =
     let copied = c.copy_shared_rows-count.ensures in
     copied_rows shared c.requires.readable
     (at_index c.args.readers.now input c.index-readers-row.result (c.requires.readable.within 0 0 shared.some))
-    copied.sound (omega (arith, c.if-count-eq0.false)) copied.within (rw (shared.terminator, shared.len) at copied.rows)
+    copied.sound (omega arith) copied.within (rw (shared.terminator, shared.len) at copied.rows)
     c.consume.ensures.consumed copied.copied c.push.ensures.pushed.wrote

@@ -15,7 +15,7 @@ pieces-preserved c =
     let inv = c.pieces.invariant in
     let count = c.in-Some.count in
     let all : count - 0 ≡ count = omega arith in
-    let some : 0 < length delims = omega (arith, inv.low) in
+    let some : 0 < length delims = omega arith in
     let line = take (c.pieces.at + count) c.copy_short.new.into in
     let (is, later) = next_piece c.args.self.now.terminator delims some c.pieces.index
     c.pieces.rest.now (take c.pieces.at c.pieces.into) c.in-Some.ensures c.next_index-index.ensures
@@ -25,14 +25,8 @@ pieces-preserved c =
     rw take_rest (record {
       is = is;
       later = later;
-      low = omega (arith, c.next_index-index.ensures, mod-lt (c.pieces.index + 1) some);
-      size_bound = omega (
-        arith,
-        length-drop (count + 1) c.pieces.rest.now,
-        c.in-Some.ensures.0.high,
-        inv.size_bound,
-        c.copy_option-at.ensures.size_bound,
-      );
+      low = omega (arith, mod-lt (c.pieces.index + 1) some);
+      size_bound = omega (arith, length-drop (count + 1) c.pieces.rest.now, c.in-Some.ensures.0.high);
       buffer_size = c.copy_option-at.array_long;
     })
 
