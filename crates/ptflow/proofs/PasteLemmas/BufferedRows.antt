@@ -5,17 +5,17 @@ use proofs.Common.{◌≡◌, inl, ℕ, ◌+◌, ◌<◌, ◌≤◌, ◌^◌, �
 use proofs.Common.{option_to_list, slice_index_or, None, Some, Ok, length, take, drop, set, get_or, refl, sym, ◌∙◌}
 use proofs.Common.{ap, arith, append_assoc, length-append, length-drop, take-take, take-append-le, length-take-le}
 use proofs.Common.{drop_at, IsFirstByte, is_byte, Reader, IsSound, Slots, with_line, FillLine, FillPost}
-use proofs.Common.{line_before_terminator, take_with_terminator, advance_ok_take, reader_at, uses_of, CellsFilled}
-use proofs.Common.{after_cell, cells_text, RowShape, BegunText, BufferedRowsPre, IsConsumed, AreConsumed}
-use proofs.Common.{IsFieldCopied, CopyColumnsPost, CopyRowsPost, RowsTaken, put_chunk, chunk, length-chunk}
-use proofs.Common.{length-put_chunk, take_more_put_chunk}
+use proofs.Common.{line_before_terminator, take_with_terminator, advance_ok_take, reader_at, CellsFilled, after_cell}
+use proofs.Common.{cells_text, RowShape, BegunText, BufferedRowsPre, IsConsumed, AreConsumed, IsFieldCopied}
+use proofs.Common.{CopyColumnsPost, CopyRowsPost, RowsTaken, put_chunk, chunk, length-chunk, length-put_chunk}
+use proofs.Common.{take_more_put_chunk}
 use Rattle.memchr.specs.Find.{IsFirst, Passes}
 use Rattle.ptlines.proofs.CopyFacts.{copied_prefix}
 use Rattle.std.proofs.Math.Seq.{take-append-add}
 use borrow.Rule.Slice.PartMut.{mid_of, put_mid}
 use Rattle.ptflow.specs.Private.Paste.BufferedRows.{LineCopied}
 use proofs.PasteLemmas.RowsTaken.{cells_text-push, rows_taken_trans, row_taken}
-use proofs.PasteLemmas.FillRow.{each_reader, fill_starts, fill_next}
+use proofs.PasteLemmas.FillRow.{IsNextReader, next_reader, each_reader, fill_starts, fill_next}
 use Rattle.std.proofs.Common.{rules}
 use Rattle.std.proofs.lemmas.Grind.{common_steps}
 
@@ -148,21 +148,17 @@ module _ {row : RowShape} where
   pub columns_start : {begun : BegunText} → CopyColumnsPost row begun begun
   columns_start {begun} = search (rules, consumed_none)
 
-  module _ {begun now : BegunText} (s : CopyColumnsPost row begun now) (low : now.count < length row.cells)
-      (ready : BufferedRowsPre row now.readers) (used : 0 < uses_of row.cells (get_or row.cells now.count 0))
-      {b : Reader} (r : Reader) (is_read : b ≡ reader_at now.readers (get_or row.cells now.count 0))
-      (sound : IsSound b) (has : Bool) (copied : List ℕ) where
+  module _ {begun now : BegunText} (s : CopyColumnsPost row begun now) (ready : BufferedRowsPre row begun.readers)
+      (low : now.count < length row.cells) (unread r : Reader)
+      (sound : IsSound (get_or now.readers (get_or row.cells now.count 0) unread)) (has : Bool) (copied : List ℕ) where
     abbrev input : ℕ
     input = get_or row.cells now.count 0
 
-    within : input < length now.readers
-    within = ready.within now.count 0 low
+    abbrev b : Reader
+    b = get_or now.readers input unread
 
-    clean : b.fault ≡ None
-    clean = ap (λ (x : Reader). x.fault) is_read ∙ ready.unfailed input used
-
-    ends : b.terminator ≡ row.terminator
-    ends = ap (λ (x : Reader). x.terminator) is_read ∙ ready.same_end input used
+    x : IsNextReader row now.readers now.count b
+    x = next_reader (still_readable s.consumed ready) low unread
 
     -- The row after one more column.
     abbrev pub with_column : List ℕ → BegunText
@@ -179,7 +175,7 @@ module _ {row : RowShape} where
           → CellsFilled row.cells (now.count + 1) from (set now.readers input r)
           (front ++ (s.fields ++ f.field ∷ [])) (now.any_line || has)
       filled_more from front given =
-          let (field, stored, filled) = fill_next (s.filled from front given) low within is_read clean
+          let (field, stored, filled) = fill_next (s.filled from front given) x.low x.within x.is_read x.clean
           (sound_after_consume sound f.consumed) no_slots (with_line no_slots 0 f.field) 0 has f.fills in
           let same : field ≡ f.field = sym (ap (λ (x : Slots). get_or x.lines 0 []) stored) in
           rw (same, append_assoc front s.fields (f.field ∷ [])) at filled
@@ -196,7 +192,7 @@ module _ {row : RowShape} where
               append_assoc (begun.text ++ text) f.field end,
               append_assoc begun.text text (f.field ++ end),
             );
-        consumed = consumed_more s.consumed within is_read f.consumed;
+        consumed = consumed_more s.consumed x.within x.is_read f.consumed;
         width = omega (arith, length-append s.fields (f.field ∷ []));
         filled = filled_more;
       }
@@ -204,7 +200,7 @@ module _ {row : RowShape} where
     -- One more column was copied, and the byte after it.
     pub columns_more : {next byte : List ℕ} → IsFieldCopied row.terminator b r now.text copied has
         → next ≡ copied ++ byte → byte ≡ after_cell row now.count → CopyColumnsPost row begun (with_column next)
-    columns_more field stored after = grind (arith, one_more, field_copied, clean, ends)
+    columns_more field stored after = let here = x in grind (arith, one_more, field_copied, here.clean, here.ends)
 
   -- The first columns of a row were copied after whole rows.
   pub rows_and_begun : {old now new : List Reader} {n at to : ℕ} {any_line : Bool} (into next : List ℕ)

@@ -1,6 +1,7 @@
 -- The exits of `paste`: success, or a failed read, write or growth, between rows or within one. In each case the rows
 -- so far were pushed, and the readers have given the lines of these rows and perhaps some bytes more.
 use Rattle.ptflow.proofs
+use proofs.Common.{cond, ◌==◌, eq-eqb, ne_eqb, nat_tests}
 use proofs.Common.{◌≡◌, ◌≢◌, ◌⊎◌, ⊎_elim, inl, inr, ℕ, ◌+◌, ◌*◌, ◌<◌, ◌≤◌, true, false, List, [], ◌∷◌, ◌++◌, Result, Ok}
 use proofs.Common.{Err, length, take, get_or, max, refl, sym, ◌∙◌, ap, arith, append_assoc, length-append, cases_eq}
 use proofs.Common.{append-nil, lines, IsLine, max_length, max_line_length, Received, IsPrefix, IsConsistent}
@@ -51,15 +52,23 @@ module _ {job : Paste} {cells : List ℕ} {old set now : List Reader} {was is : 
       (length s.taken_rows * uses_of cells p) (s.ls p)
   so_far = s.first_rows.lines_taken
 
+  -- A fact of all texts that are consistent with what was received.
+  abbrev ForTexts : {new : List Reader} → ReadMore cells now new → ((ℕ → List ℕ) → Type 0) → Type 0
+  ForTexts r P = (texts : ℕ → List ℕ) → ((p : ℕ) → IsConsistent (given_by job s.first_rows r p) (texts p)) → P texts
+
+  abbrev BoundBy : Slots → (ℕ → List ℕ) → Type 0
+  BoundBy stored texts = SlotsBound cells (λ p. max_line_length job.terminator (texts p)) first stored
+
+  abbrev Ends : List Reader → Output → Slots → Result (Unit {0}) FlowFault → Type 0
+  Ends new is' after result = PastePost job cells old new was is' first after result
+
   -- The readers were read further, and `pushed` was pushed after the rows so far. Perhaps the store could not grow.
   record IsExit {new : List Reader} (r : ReadMore cells now new) (is' : Output) (pushed : List ℕ)
       (after stored : Slots) : Type 0 where
     wrote : PushEffect is is' pushed
     same : (after ≡ stored) ⊎ (after ≡ with_denied stored)
-    bound : (texts : ℕ → List ℕ) → ((p : ℕ) → IsConsistent (given_by job s.first_rows r p) (texts p))
-        → SlotsBound cells (λ p. max_line_length job.terminator (texts p)) first stored
-    begins : (texts : ℕ → List ℕ) → ((p : ℕ) → IsConsistent (given_by job s.first_rows r p) (texts p))
-        → IsPrefix (rows_text job s.taken_rows ++ pushed) (paste job cells texts)
+    bound : ForTexts r (BoundBy stored)
+    begins : ForTexts r (λ texts. IsPrefix (rows_text job s.taken_rows ++ pushed) (paste job cells texts))
     lags : (p : ℕ) → 0 < uses_of cells p → LagsBy job s.first_rows r p
 
   module _ {new : List Reader} {r : ReadMore cells now new} {is' : Output} {pushed : List ℕ} {after stored : Slots}
@@ -73,7 +82,7 @@ module _ {job : Paste} {cells : List ℕ} {old set now : List Reader} {was is : 
     abbrev end : CallState ℕ
     end = call_state (reader_at new) is' after
 
-    bound_now : SlotsBound cells (λ p. max_line_length job.terminator (given p).bytes) first stored
+    bound_now : BoundBy stored (λ p. (given p).bytes)
     bound_now = k.bound (λ p. (given p).bytes) (λ p. consistent_itself (given p))
 
     same_size_and_peak : (length after.lines ≡ length stored.lines) × (after.peak ≡ stored.peak)
@@ -109,14 +118,13 @@ module _ {job : Paste} {cells : List ℕ} {old set now : List Reader} {was is : 
         (paste_end result)
         → DecidedIfReadFailed (inputs_at cells) (paste_engine job cells) begin end
         (λ p. (so_far p).bytes ++ r.extra p) (rows_text job s.taken_rows ++ pushed) (paste_end result)
-        → PastePost job cells old new was is' first after result
+        → Ends new is' after result
     exit result ends decided =
         since_set s.starts (call_ends _ _ _ _ _ progress (paste_end result) ends decided)
 
   -- Nothing was pushed since.
-  begins_without_more : {new : List Reader} (r : ReadMore cells now new) (texts : ℕ → List ℕ)
-      → ((p : ℕ) → IsConsistent (given_by job s.first_rows r p) (texts p))
-      → IsPrefix (rows_text job s.taken_rows ++ []) (paste job cells texts)
+  begins_without_more : {new : List Reader} (r : ReadMore cells now new)
+      → ForTexts r (λ texts. IsPrefix (rows_text job s.taken_rows ++ []) (paste job cells texts))
   begins_without_more r texts a = rw (append-nil (rows_text job s.taken_rows)) (begins_by job s.first_rows r texts a)
 
   -- No line that was taken is longer than the longest line of its input.
@@ -143,7 +151,7 @@ module _ {job : Paste} {cells : List ℕ} {old set now : List Reader} {was is : 
           → {after : Slots} → ((top : ℕ → ℕ) → ((p : ℕ) → max_length (s.ls p ++ ls p) ≤ top p)
           → SlotsBound cells top first after)
           → ((p : ℕ) → 0 < uses_of cells p → EarlierBy job s.first_rows read_on p)
-          → PastePost job cells old new was is' first after (Err Write)
+          → Ends new is' after (Err Write)
       paste_write wrote fault {after} kept cut =
           let k : IsExit read_on _ _ after after = record {
             wrote = wrote;
@@ -188,7 +196,7 @@ module _ {job : Paste} {cells : List ℕ} {old set now : List Reader} {was is : 
       (b : (q : ℕ) → LinesTaken job.terminator (reader_at mid q) (reader_at new q) (uses_of (take n cells) q) (taken q))
       (consumed : AreConsumed now new) {is' : Output} (wrote : PushEffect is is' copied)
       (fault : is'.write_failed ≡ true) where
-    taken_write_failed : PastePost job cells old new was is' first store (Err Write)
+    taken_write_failed : Ends new is' store (Err Write)
     taken_write_failed =
         paste_write new n p.first_rows b (rows_wrote s p wrote) fault (rows_kept s p) (λ q some.
         earlier_before (so_far q).came (all_taken new n p.first_rows b q).reads (still_pulled consumed q)
@@ -197,14 +205,14 @@ module _ {job : Paste} {cells : List ℕ} {old set now : List Reader} {was is : 
   -- A write of the rows of one input failed.
   pub paste_shared_write_failed : {new : List Reader} {is' : Output}
       → RowsWritten (job_shape job cells) now new is is' → is'.write_failed ≡ true
-      → PastePost job cells old new was is' first store (Err Write)
+      → Ends new is' store (Err Write)
   paste_shared_write_failed p fault =
       taken_write_failed p.rows 0 (λ q. nothing_taken refl) p.consumed p.wrote fault
 
   -- A write of rows of several inputs failed.
   pub paste_rows_write_failed : {copied : List ℕ} {begun : BegunText} {is' : Output}
       → CopyRowsPost (job_shape job cells) now copied begun → PushEffect is is' copied → is'.write_failed ≡ true
-      → PastePost job cells old begun.readers was is' first store (Err Write)
+      → Ends begun.readers is' store (Err Write)
   paste_rows_write_failed {begun = begun} p wrote fault =
       taken_write_failed p.rows begun.count (lines_taken_by_cells (job_shape job cells)
       (λ q some. (p.rows.first_rows.lines_taken q).reads.terminator ∙ (now_readable s).same_end q some)
@@ -215,7 +223,7 @@ module _ {job : Paste} {cells : List ℕ} {old set now : List Reader} {was is : 
       (slots : SlotsKept cells fields store after) (f : CellsFilled cells (length cells) now new fields true)
       {is' : Output}
       → PushEffect is is' (rows_text job (fields ∷ [])) → is'.write_failed ≡ true
-      → PastePost job cells old new was is' first after (Err Write)
+      → Ends new is' after (Err Write)
   paste_row_write_failed {new} slots f wrote fault =
       let g = row_gives s slots f in
       let b = λ (q : ℕ). nothing_taken {end = job.terminator} {r = reader_at new q} {n = 0} refl in
@@ -242,8 +250,7 @@ module _ {job : Paste} {cells : List ℕ} {old set now : List Reader} {was is : 
     nothing_by : (p : ℕ) → (lines_taken_by p).bytes ≡ []
     nothing_by p = none_received (rw (none p) at (lines_taken_by p).came)
 
-    text_is : (texts : ℕ → List ℕ) → ((p : ℕ) → IsConsistent (given_by job s.first_rows read_by p) (texts p))
-        → rows_text job s.taken_rows ≡ paste job cells texts
+    text_is : ForTexts read_by (λ texts. rows_text job s.taken_rows ≡ paste job cells texts)
     text_is texts a =
         let more = grid_none cells (λ p. lines job.terminator (later job s.first_rows read_by texts a p))
         (λ p some i. let done = done_by p some in
@@ -251,7 +258,7 @@ module _ {job : Paste} {cells : List ℕ} {old set now : List Reader} {was is : 
         cc (rows_by job s.first_rows read_by texts a, append-nil s.taken_rows)
 
     pub paste_done : {is' : Output} {cleared : Slots} → ClearSlotsPost cells after cleared → PushEffect is is' []
-        → is'.write_failed ≡ false → PastePost job cells old new was is' first cleared (Ok tt)
+        → is'.write_failed ≡ false → Ends new is' cleared (Ok tt)
     paste_done {cleared = cleared} e wrote clean =
         let k : IsExit read_by _ [] cleared cleared = record {
           wrote = wrote;
@@ -303,33 +310,20 @@ module _ {job : Paste} {cells : List ℕ} {old set now : List Reader} {was is : 
     failed_mid p = (lines_taken_to p).failed ∙ (so_far p).failed
 
     -- The part of a line that a reader gave. Only the reader of that column gave one.
-    record PartialLine (p : ℕ) : Type 0 where
-      part : List ℕ
-      reads : ReaderAdvance (reader_at b.mid p) (reader_at new p) part
-      is_line : IsLine job.terminator part
-      whose : ((p ≡ here) × (part ≡ piece)) ⊎ ((p ≢ here) × (part ≡ []) × (reader_at new p ≡ reader_at b.mid p))
+    abbrev part : ℕ → List ℕ
+    part p = cond (p == here) piece []
 
-    last : (p : ℕ) → PartialLine p
-    last p = ⊎_elim
-        (λ same. record {
-          part = piece;
-          reads = rw same piece_reads;
-          is_line = rw ((lines_taken_to here).reads.terminator ∙ (now_readable s).same_end here here_used) at free;
-          whose = inl (same, refl);
-        })
-        (λ differ. record {
-          part = [];
-          reads = rw (b.others p differ) (reads_nothing (reader_at b.mid p));
-          is_line = tt;
-          whose = inr (differ, refl, b.others p differ);
-        })
-        (cases_eq p here)
+    part_reads : (p : ℕ) → ReaderAdvance (reader_at b.mid p) (reader_at new p) (part p)
+    part_reads p = grind (arith, nat_tests, b.others, reads_nothing)
+
+    part_is_line : (p : ℕ) → IsLine job.terminator (part p)
+    part_is_line p = grind (arith, nat_tests, lines_taken_to, now_readable, here_used)
 
     abbrev read_to : ReadMore cells now new
     read_to = record {
-      extra = λ p. (lines_taken_to p).bytes ++ (last p).part;
+      extra = λ p. (lines_taken_to p).bytes ++ part p;
       reads = λ p. advance_trans (reader_at now p) (reader_at b.mid p) (reader_at new p) (lines_taken_to p).bytes
-          (last p).part (lines_taken_to p).reads (last p).reads;
+          (part p) (lines_taken_to p).reads (part_reads p);
       left = λ p none. b.others p (λ same. absurd (omega (arith, here_used, ap (uses_of cells) same)))
           ∙ (lines_taken_to p).none (omega (arith, uses_before cells b.column p));
     }
@@ -341,35 +335,34 @@ module _ {job : Paste} {cells : List ℕ} {old set now : List Reader} {was is : 
     lines_to : (p : ℕ) → AreReceivedLines job.terminator (reader_at b.mid p) (given_to p) (s.ls p ++ b.input_lines p)
     lines_to p = lines_trans (so_far p).came (lines_taken_to p).reads (lines_taken_to p).came
 
-    given_is : (p : ℕ) → (so_far p).bytes ++ read_to.extra p ≡ given_to p ++ (last p).part
-    given_is p = sym (append_assoc (so_far p).bytes (lines_taken_to p).bytes (last p).part)
+    given_is : (p : ℕ) → (so_far p).bytes ++ read_to.extra p ≡ given_to p ++ part p
+    given_is p = sym (append_assoc (so_far p).bytes (lines_taken_to p).bytes (part p))
 
     module _ (texts : ℕ → List ℕ) (a : (p : ℕ) → IsConsistent (given_by job s.first_rows read_to p) (texts p)) where
-      long_to : (p : ℕ) → max (max_length (s.ls p ++ b.input_lines p)) (length (last p).part)
+      long_to : (p : ℕ) → max (max_length (s.ls p ++ b.input_lines p)) (length (part p))
           ≤ max_line_length job.terminator (texts p)
       long_to p = piece_longest job.terminator (reader_at b.mid p) (given_to p) (s.ls p ++ b.input_lines p) (lines_to p)
-          (reader_at new p) (last p).part (last p).reads (last p).is_line (texts p) (rw (given_is p) at (a p))
+          (reader_at new p) (part p) (part_reads p) (part_is_line p) (texts p) (rw (given_is p) at (a p))
 
       piece_fits : length piece ≤ max_line_length job.terminator (texts here)
-      piece_fits = grind (arith, (last here).whose, long_to here)
+      piece_fits = grind (arith, nat_tests, long_to here)
 
-      bound_to : SlotsBound cells (λ p. max_line_length job.terminator (texts p)) first b.buffered
+      bound_to : BoundBy b.buffered texts
       bound_to = row_kept s b.slots b.consumed (λ p. max_line_length job.terminator (texts p))
           (λ p. omega (arith, long_to p))
 
-      bound_with_piece : SlotsBound cells (λ p. max_line_length job.terminator (texts p)) first
-          (with_line b.buffered b.column piece)
+      bound_with_piece : BoundBy (with_line b.buffered b.column piece) texts
       bound_with_piece = slots_bound_line bound_to b.column piece b.within piece_fits
 
     failed_to : (reader_at new here).failed ≡ (reader_at b.mid here).failed
         → (p : ℕ) → (reader_at new p).failed ≡ (reader_at set p).failed
-    failed_to same p = grind (arith, (last p).whose, failed_mid p)
+    failed_to same p = grind (arith, nat_tests, b.others p, failed_mid p)
 
     -- If that reader is not at the end of its input, it is the one that limits the rows.
     module _ (going : IsDone (reader_at b.mid here) → ⊥) where
       abbrev earlier_here : EarlierBy job s.first_rows read_to here
-      earlier_here = earlier_partial (reader_at new here) (lines_to here) going (last here).part (given_is here)
-          (last here).is_line (b.few (now_buffered s here here_used)) (omega (
+      earlier_here = earlier_partial (reader_at new here) (lines_to here) going (part here) (given_is here)
+          (part_is_line here) (b.few (now_buffered s here here_used)) (omega (
             arith,
             more_count here,
             length-append (s.ls here) (b.input_lines here),
@@ -381,15 +374,13 @@ module _ {job : Paste} {cells : List ℕ} {old set now : List Reader} {was is : 
       -- Another reader, without the last line that it gave.
       lag_to : (p : ℕ) → 0 < uses_of cells p → LagsBy job s.first_rows read_to p
       lag_to p some = lags_by job s.first_rows read_to p some (⊎_elim
-          (λ (is, whole). rw is earlier_here)
-          (λ (other, none, kept).
-          rw (none, append-nil (lines_taken_to p).bytes, kept)
+          (λ same. rw same earlier_here)
+          (λ differ. rw (ne_eqb p here differ, append-nil (lines_taken_to p).bytes, b.others p differ)
           (earlier_of_taken p some (lines_taken_to p) (uses_before cells b.column p)))
-          (last p).whose)
+          (cases_eq p here))
 
       exit_to : {is' : Output} → PushEffect is is' [] → {stored : Slots}
-          → ((texts : ℕ → List ℕ) → ((p : ℕ) → IsConsistent (given_by job s.first_rows read_to p) (texts p))
-          → SlotsBound cells (λ p. max_line_length job.terminator (texts p)) first stored)
+          → ForTexts read_to (BoundBy stored)
           → (after ≡ stored) ⊎ (after ≡ with_denied stored) → IsExit read_to is' [] after stored
       exit_to wrote bound same = record {
         wrote = wrote;
@@ -402,7 +393,7 @@ module _ {job : Paste} {cells : List ℕ} {old set now : List Reader} {was is : 
     -- The buffered output could not be written.
     paste_send_failed : {is' : Output} → PushEffect is is' [] → is'.write_failed ≡ true → after ≡ b.buffered
         → (reader_at new here).failed ≡ (reader_at b.mid here).failed → (reader_at b.mid here).eof ≡ false
-        → PastePost job cells old new was is' first after (Err Write)
+        → Ends new is' after (Err Write)
     paste_send_failed wrote fault stored same going =
         let k = exit_to (λ done. cc) wrote bound_to (inl stored) in
         exit k (Err Write) (record {
@@ -415,7 +406,7 @@ module _ {job : Paste} {cells : List ℕ} {old set now : List Reader} {was is : 
     paste_memory_failed : {is' : Output} → PushEffect is is' [] → is'.write_failed ≡ false
         → after ≡ with_denied (with_line b.buffered b.column piece)
         → (reader_at new here).failed ≡ (reader_at b.mid here).failed → 0 < length (reader_at new here).buffered
-        → PastePost job cells old new was is' first after (Err Memory)
+        → Ends new is' after (Err Memory)
     paste_memory_failed wrote clean stored same left =
         exit (exit_to (λ done.
         let (none, empty, eof) = eof_gives_nothing (reader_at b.mid here) (reader_at new here) piece done piece_reads in
@@ -434,7 +425,7 @@ module _ {job : Paste} {cells : List ℕ} {old set now : List Reader} {was is : 
     -- The read failed.
     paste_read_failed : {is' : Output} → PushEffect is is' [] → is'.write_failed ≡ false
         → after ≡ with_line b.buffered b.column piece → HasReadCause (reader_at b.mid here) (reader_at new here)
-        → PastePost job cells old new was is' first after (Err (Read here))
+        → Ends new is' after (Err (Read here))
     paste_read_failed wrote clean stored cause =
         let k = exit_to may_have_more wrote bound_with_piece (inl stored) in
         exit k (Err (Read here)) (record {
@@ -470,7 +461,7 @@ module _ {job : Paste} {cells : List ℕ} {old set now : List Reader} {was is : 
   pub paste_fill_failed : (new : List Reader) {after : Slots} (into : List ℕ) {is' : Output} (e : FlowFault)
       → RowFilled (job_shape job cells) now store new after into (Err e) → PushEffect is is' []
       → (fault : is'.write_failed ≡ is_write_fault {X = Unit {0}} (Err e))
-      → PastePost job cells old new was is' first after (Err e)
+      → Ends new is' after (Err e)
   paste_fill_failed new into (Read input) (f, named) wrote clean =
       let k = f.failure in
       rw named (paste_read_failed f k.piece k.faults.reads k.faults.whole wrote clean k.stored k.cause)

@@ -15,7 +15,7 @@ use proofs.Common.{take_all, take-append-le, length-take-le, line, RowShape, Beg
 use proofs.Common.{slots_text, CopyColumnsPost, BufferedRowsPre, RowAmid, RowFilled, FillCellPost, FillReadErr}
 use proofs.Common.{FlowFault, Read, Write, Memory}
 use Rattle.std.specs.Prelude.{slice_index_or}
-use proofs.PasteLemmas.Grid.{uses_here, uses_other, uses_before}
+use proofs.PasteLemmas.Grid.{uses_here, uses_other, uses_before, uses_before_lt}
 use proofs.PasteLemmas.RowsTaken.{nothing_taken, taken_more, taken_line, taken_eof, taken_at_most, none_at_eof}
 use proofs.PasteLemmas.RowsTaken.{cells_text-append, cells_text-push}
 use Rattle.std.proofs.lemmas.List.{get_or-take}
@@ -143,6 +143,29 @@ each_reader P readers {input} {r} low here other q = grind (arith, at_same, at_o
 pub at_index : (readers : List Reader) (input : ℕ) (r : Reader) → input < length readers
     → get_or readers input r ≡ reader_at readers input
 at_index readers input r low = get_or_default readers input r no_reader low
+
+-- The next column of a row has a readable reader, which is `b`.
+pub record IsNextReader (row : RowShape) (now : List Reader) (n : ℕ) (b : Reader) : Type 0 where
+  pub low : n < length row.cells
+  pub within : get_or row.cells n 0 < length now
+  pub is_read : b ≡ reader_at now (get_or row.cells n 0)
+  pub clean : b.fault ≡ None
+  pub ends : b.terminator ≡ row.terminator
+
+pub next_reader : {row : RowShape} {now : List Reader} {n : ℕ} → BufferedRowsPre row now → n < length row.cells
+    → (unread : Reader) → IsNextReader row now n (get_or now (get_or row.cells n 0) unread)
+next_reader {row} {now} {n} ready low unread =
+    let input = get_or row.cells n 0 in
+    let within = ready.within n 0 low in
+    let is : get_or now input unread ≡ reader_at now input = at_index now input unread within in
+    let used : 0 < uses_of row.cells input = omega (arith, uses_before_lt row.cells n low) in
+    record {
+      low = low;
+      within = within;
+      is_read = is;
+      clean = rw is (ready.unfailed input used);
+      ends = rw is (ready.same_end input used);
+    }
 
 -- The terminator of one more reader is set.
 pub set_terminator_more : (end : ℕ) (cells : List ℕ) (i : ℕ) (old now : List Reader) (r : Reader) → i < length cells
@@ -364,15 +387,14 @@ module _ {row : RowShape} where
   amid_starts {begun = begun} {fields = fields} f is = grind (arith, common_steps, slots_kept_start)
 
   module _ {n : ℕ} {from : List Reader} {first store : Slots} {now : BegunText} (a : RowAmid row n from first now store)
-      (low : n < length row.cells) (within : get_or row.cells n 0 < length now.readers) {b : Reader}
-      (is_read : b ≡ reader_at now.readers (get_or row.cells n 0)) where
+      {b : Reader} (x : IsNextReader row now.readers n b) where
     -- The field of the next column is in its slot.
-    pub amid_next : (r : Reader) (after : Slots) → n < length store.lines → b.fault ≡ None → IsSound r → (has : Bool)
+    pub amid_next : (r : Reader) (after : Slots) → n < length store.lines → IsSound r → (has : Bool)
         → FillPost b r store after n (Ok has)
         → RowAmid row (n + 1) from first
         (record now { readers = set now.readers (get_or row.cells n 0) r; any_line = now.any_line || has }) after
-    amid_next r after room clean sound has e =
-        let (field, stored, filled) = fill_next a.filled low within is_read clean sound store after n has e in
+    amid_next r after room sound has e =
+        let (field, stored, filled) = fill_next a.filled x.low x.within x.is_read x.clean sound store after n has e in
         let width = a.filled.consumed.width in
         rw stored (record {
           fields = a.fields ++ field ∷ [];
@@ -389,7 +411,7 @@ module _ {row : RowShape} where
             get_or_push a.fields field [] n,
             get_or_append_left a.fields (field ∷ []) [] c,
           );
-          slots = slots_kept_line a.slots field width low;
+          slots = slots_kept_line a.slots field width x.low;
         })
 
     -- The step for the next column failed.
@@ -397,7 +419,7 @@ module _ {row : RowShape} where
         → FillCellPost (get_or row.cells n 0) n b r store after (Err e)
         → RowFilled row from first (set now.readers (get_or row.cells n 0) r) after into (Err e)
     amid_failed r after into (Read input) (p, sound, named) = (
-      fill_failed a.filled low within {CellFailed = FillReadErr} after r a.slots is_read p (λ few. sound.buffered),
+      fill_failed a.filled x.low x.within {CellFailed = FillReadErr} after r a.slots x.is_read p (λ few. sound.buffered),
       named,
     )
     amid_failed r after into Write (same, kept, going) = search rules
@@ -463,13 +485,7 @@ after_fill : (b r : Reader) (before after : Slots) (slot : ℕ) (has : Bool) →
 after_fill b r before after slot true e = (e.advance_ok.fault, e.advance_ok.reads.terminator)
 after_fill b r before after slot false (advance_ok, done, kept) = grind arith
 
-pub readable_after : {row : RowShape} (now : List Reader) {input : ℕ} {b : Reader} (r : Reader)
-    → BufferedRowsPre row now → input < length now → 0 < uses_of row.cells input → b ≡ reader_at now input
-    → (before after : Slots) (slot : ℕ) (has : Bool) → FillPost b r before after slot (Ok has)
-    → BufferedRowsPre row (set now input r)
-readable_after {row} now {input} {b} r ready low used is_read before after slot has e = search (
-  rules,
-  same_end,
-  after_fill,
-  each_reader,
-)
+pub readable_after : {row : RowShape} {now : List Reader} {n : ℕ} {b : Reader} → IsNextReader row now n b → (r : Reader)
+    → BufferedRowsPre row now → (before after : Slots) (slot : ℕ) (has : Bool)
+    → FillPost b r before after slot (Ok has) → BufferedRowsPre row (set now (get_or row.cells n 0) r)
+readable_after x r ready before after slot has e = search (rules, same_end, after_fill, each_reader)

@@ -205,14 +205,7 @@ every_kth_more : (k j r : ℕ) (xs more : Column) → r < length (every_kth k j 
     → slice_index_or (every_kth k j xs) r [] ≡ slice_index_or (every_kth k j (xs ++ more)) r []
 every_kth_more k j r xs more low = grind (arith, common_steps, select_append)
 
--- ---- the text of rows
-
-first_rows_prefix : (job : Paste) (m : ℕ) (rs : List (List (List ℕ))) {first : List (List (List ℕ))} → first ≡ take m rs
-    → IsPrefix (rows_text job first) (rows_text job rs)
-first_rows_prefix job m rs {first} is = record {
-  rest = rows_text job (drop m rs);
-  is = cc (take-append-drop m rs, rows_text-append job.terminator job.delimiters (take m rs) (drop m rs));
-}
+-- ---- the lag
 
 -- Without the last bytes of this input alone, no more output is determined than was pushed.
 abbrev pub LagsAt : Paste → List ℕ → (ℕ → Received) → List ℕ → ℕ → Type 0
@@ -318,12 +311,19 @@ module _ (job : Paste) (cells : List ℕ) (came : ℕ → Received) where
           length-append taken_rows more,
           length-map-range_with_len (row_at (grid came)) 0 (row_count (grid came)),
         ) in
-        first_rows_prefix job m taken_rows (known
+        let is : known_rows (grid earlier) ends ≡ take m taken_rows = known
         ∙ same_rows (row_at (grid earlier)) (row_at (grid came)) 0 m
         (λ r low. row_same r (⊎_elim (λ is. is) (λ not. absurd (omega (arith, past r not)))
         (cases_Bool (is_row_known (grid earlier) ends r))))
         ∙ sym (take-map-range_with_len (row_at (grid came)) 0 (row_count (grid came)) m high)
-        ∙ ap (take m) all ∙ take-append-le m taken_rows more few)
+        ∙ ap (take m) all ∙ take-append-le m taken_rows more few in
+        record {
+          rest = rows_text job (drop m taken_rows);
+          is = cc (
+            take-append-drop m taken_rows,
+            rows_text-append job.terminator job.delimiters (take m taken_rows) (drop m taken_rows),
+          );
+        }
 
     pub lags_here : LagsAt job cells came (rows_text job taken_rows) here
     lags_here = record {

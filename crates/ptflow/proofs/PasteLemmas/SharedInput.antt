@@ -2,18 +2,18 @@
 -- of these lines are replaced by the cycle (the delimiters of the row, and a last entry that keeps the terminator),
 -- they become the row. So bytes with count * n terminators, the last at the end, become `count` rows.
 use Rattle.ptflow.proofs
-use proofs.Common.{◌≡◌, ◌≢◌, ℕ, zero, suc, ◌+◌, ◌-◌, ◌*◌, ◌%◌, ◌<◌, ◌≤◌, cond, List, [], ◌∷◌, ◌++◌, None, length, map}
-use proofs.Common.{take, drop, set, get_or, refl, sym, ◌∙◌, ap, arith, append_assoc, length-drop, take-append-drop}
-use proofs.Common.{⊎_elim, inl, count_by, cases_eq, cases_lt, mod-mul-add, take_more, take_all, nil_from_length}
-use proofs.Common.{length-take-le, length-set, All-get_or, sum_by-append, sum_by-set, is_byte, unlines, lines, AreLines}
-use proofs.Common.{EndsWithByte, Output, PushEffect, push_nothing, Reader, IsSound, budget, advance_ok_take, byte_eq}
-use proofs.Common.{unlines-append, lines_are, the_lines, no_reader, reader_at, update_at, join_with_cycle, uses_of}
-use proofs.Common.{columns, rows, IsSharedCycle, IsWholeRows, LinesTaken, with_replacements, cycle_byte, after_cell}
-use proofs.Common.{cells_text, mod-eq_of_lt, RowShape, BufferedRowsPre, RowsTaken, RowsWritten, nat_tests}
+use proofs.Common.{◌≡◌, ◌≢◌, ℕ, zero, suc, ◌+◌, ◌-◌, ◌*◌, ◌%◌, ◌<◌, ◌≤◌, cond, List, [], ◌∷◌, ◌++◌, length, map, take}
+use proofs.Common.{drop, set, get_or, refl, sym, ◌∙◌, ap, arith, append_assoc, length-drop, take-append-drop, ⊎_elim}
+use proofs.Common.{inl, count_by, cases_eq, cases_lt, mod-mul-add, take_more, take_all, nil_from_length}
+use proofs.Common.{length-take-le, length-set, All-get_or, sum_by-append, sum_by-set, is_byte, unlines, lines}
+use proofs.Common.{AreLines, EndsWithByte, Output, PushEffect, push_nothing, Reader, IsSound, budget, advance_ok_take}
+use proofs.Common.{byte_eq, unlines-append, lines_are, the_lines, no_reader, reader_at, update_at, join_with_cycle}
+use proofs.Common.{uses_of, columns, rows, IsSharedCycle, IsWholeRows, LinesTaken, with_replacements, cycle_byte}
+use proofs.Common.{after_cell, cells_text, mod-eq_of_lt, RowShape, RowsTaken, RowsWritten, nat_tests}
 use proofs.Vectors.FindNth.{none_counted}
-use proofs.PasteLemmas.Grid.{Column, for_each_cell_unique, top_of, grid_step, uses_here, uses_before_lt, last_use}
-use proofs.PasteLemmas.Grid.{update_here, update_there}
-use proofs.PasteLemmas.FillRow.{each_reader}
+use proofs.PasteLemmas.Grid.{Column, for_each_cell_unique, top_of, grid_step, uses_here, last_use, update_here}
+use proofs.PasteLemmas.Grid.{update_there}
+use proofs.PasteLemmas.FillRow.{each_reader, IsNextReader}
 use proofs.PasteLemmas.RowsTaken.{nothing_taken, rows_taken_none, row_text}
 use proofs.PasteLemmas.BufferedRows.{consumed_none, consumed_more}
 use proofs.PasteLemmas.Replaced.{counted, replaced-append, replaced_line}
@@ -200,8 +200,7 @@ module _ (cells : List ℕ) (input : ℕ) (same : (c : ℕ) → c < length cells
 -- ---- the complete rows in the buffer
 
 module _ {row : RowShape} {cycle : Cycle} (t : IsSharedCycle row cycle) {old : List Reader}
-    (ready : BufferedRowsPre row old) {b r : Reader} (is_read : b ≡ reader_at old (get_or row.cells 0 0))
-    (sound : IsSound b) {count : ℕ} (some : 0 < count) (within : count ≤ length b.buffered)
+    {b r : Reader} (x : IsNextReader row old 0 b) (sound : IsSound b) {count : ℕ} (some : 0 < count) (within : count ≤ length b.buffered)
     (rs : IsWholeRows row.terminator (length row.cells) (take count b.buffered))
     (step : r ≡ record b { buffered = drop count b.buffered }) where
   abbrev end : ℕ
@@ -210,19 +209,13 @@ module _ {row : RowShape} {cycle : Cycle} (t : IsSharedCycle row cycle) {old : L
   abbrev input : ℕ
   input = get_or row.cells 0 0
 
-  low : input < length old
-  low = ready.within 0 0 t.some
-
-  clean : b.fault ≡ None
-  clean = cc (ready.unfailed input (omega (arith, uses_before_lt row.cells 0 t.some)))
-
   same : (c : ℕ) → c < length row.cells → get_or row.cells c 0 ≡ input
   same c low = All-get_or (λ (q : ℕ). q ≡ input) row.cells c 0 low t.same
 
   lines_taken_here : LinesTaken end b r (rs.count * length row.cells) rs.ls
   lines_taken_here = rw step (record {
     bytes = take count b.buffered;
-    reads = (advance_ok_take b _ count clean within refl).reads;
+    reads = (advance_ok_take b _ count x.clean within refl).reads;
     failed = refl;
     fault = refl;
     short = λ h. h;
@@ -245,12 +238,12 @@ module _ {row : RowShape} {cycle : Cycle} (t : IsSharedCycle row cycle) {old : L
     first_rows = record {
       lines_taken = each_reader (λ q x. LinesTaken end (reader_at old q) x
           (length (rows_in (length row.cells) rs.count rs.ls) * uses_of row.cells q) (lines_of_input input rs.ls q)) old
-          low
+          x.within
           (rw (
             update_here input rs.ls (λ q. []) input refl,
             length-rows (length row.cells) rs.count rs.ls,
             uses_all row.cells input same,
-            ← is_read,
+            ← x.is_read,
           ) lines_taken_here)
           (λ q differ. rw (update_there input rs.ls (λ q. []) q differ, uses_none row.cells input same q differ)
           (nothing_taken (omega arith)));
@@ -259,11 +252,11 @@ module _ {row : RowShape} {cycle : Cycle} (t : IsSharedCycle row cycle) {old : L
     };
     least = omega (
       arith,
-      sound.long clean,
+      sound.long x.clean,
       length-drop count b.buffered,
-      ap budget is_read,
+      ap budget x.is_read,
       ap budget step,
-      sum_by-set budget old input r no_reader low,
+      sum_by-set budget old input r no_reader x.within,
     );
     is =
         let start : 0 ≡ 0 * length row.cells = omega arith in
@@ -278,7 +271,7 @@ module _ {row : RowShape} {cycle : Cycle} (t : IsSharedCycle row cycle) {old : L
   copied_rows {written} copied wrote = record {
     written = written;
     rows = rw (copied, t.terminator) rows_of_input;
-    consumed = consumed_more consumed_none low is_read (record { size = count; is = step });
+    consumed = consumed_more consumed_none x.within x.is_read (record { size = count; is = step });
     wrote = wrote;
   }
 
