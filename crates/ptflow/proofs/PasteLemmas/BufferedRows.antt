@@ -2,8 +2,8 @@
 -- would return, so a column is filled by it in the same way.
 use Rattle.ptflow.proofs
 use proofs.Common.{◌≡◌, inl, ℕ, ◌+◌, ◌<◌, ◌≤◌, ◌^◌, ◌||◌, Bool, true, false, List, [], ◌∷◌, ◌++◌, ◌%◌, eq-eqb, ne_eqb}
-use proofs.Common.{option_to_list, slice_index_or, None, Some, Ok, length, take, drop, set, get_or, refl, sym, ◌∙◌}
-use proofs.Common.{ap, arith, append_assoc, length-append, length-drop, take-take, take-append-le, length-take-le}
+use proofs.Common.{option_to_list, slice_index_or, None, Some, Ok, length, take, drop, set, get_or, refl, sym, ap}
+use proofs.Common.{arith, append_assoc, length-append, length-drop, take-take, take-append-le, length-take-le}
 use proofs.Common.{drop_at, IsFirstByte, is_byte, Reader, IsSound, Slots, with_line, FillLine, FillPost}
 use proofs.Common.{line_before_terminator, take_with_terminator, advance_ok_take, reader_at, CellsFilled, after_cell}
 use proofs.Common.{cells_text, RowShape, BegunText, BufferedRowsPre, IsConsumed, AreConsumed, IsFieldCopied}
@@ -28,7 +28,6 @@ buffered_line b r at store slot clean short first step =
     let (found, here) = first in
     let advance_ok = rw (take_with_terminator b.terminator b.buffered at first) at
     (advance_ok_take b r (at + 1) clean (omega arith) step) in
-    let new_short : r.pulled < 2 ^ 63 = advance_ok.short short in
     record {
       line = take at b.buffered;
       terminator = b.terminator ∷ [];
@@ -83,14 +82,14 @@ consumed_trans p q = grind (arith, both_consumed)
 pub still_readable : {row : RowShape} {old new : List Reader} → AreConsumed old new → BufferedRowsPre row old
     → BufferedRowsPre row new
 still_readable c ready = record {
-  within = λ k d low. omega (arith, ready.within k d low);
-  unfailed = λ p some. ap (λ (r : Reader). r.fault) (c.buffered p).is ∙ ready.unfailed p some;
-  same_end = λ p some. ap (λ (r : Reader). r.terminator) (c.buffered p).is ∙ ready.same_end p some;
+  within = λ k d low. omega arith;
+  unfailed = λ p some. cc ((c.buffered p).is, ready.unfailed p some);
+  same_end = λ p some. cc ((c.buffered p).is, ready.same_end p some);
 }
 
 pub still_pulled : {old new : List Reader} → AreConsumed old new → (p : ℕ)
     → (reader_at new p).pulled ≡ (reader_at old p).pulled
-still_pulled c p = ap (λ (r : Reader). r.pulled) (c.buffered p).is
+still_pulled c p = ap (λ r. r.pulled) (c.buffered p).is
 
 -- The bytes before the copy do not change.
 pub prefix_is_kept : (at end : ℕ) (now old written : List ℕ) → at ≤ end → at ≤ length old
@@ -107,7 +106,7 @@ vector_stored : (at k n : ℕ) (was lanes : List ℕ) → length lanes ≡ n →
     → take (at + n) (put_mid at k was (put_chunk 0 (mid_of at k was) lanes)) ≡ take at was ++ lanes
 vector_stored at k n was lanes long room all =
     let mid = mid_of at k was in
-    let size : length mid ≡ k = length-take-le k (drop at was) (omega (arith, length-drop at was)) in
+    let size = length-take-le k (drop at was) (omega (arith, length-drop at was)) in
     cc (
       length-take-le at was (omega arith),
       take-append-add (take at was) (put_chunk 0 mid lanes ++ drop k (drop at was)) n,
@@ -177,7 +176,7 @@ module _ {row : RowShape} where
       filled_more from front given =
           let (field, stored, filled) = fill_next (s.filled from front given) x.low x.within x.is_read x.clean
           (sound_after_consume sound f.consumed) no_slots (with_line no_slots 0 f.field) 0 has f.fills in
-          let same : field ≡ f.field = sym (ap (λ (x : Slots). get_or x.lines 0 []) stored) in
+          let same : field ≡ f.field = sym (ap (λ x. get_or x.lines 0 []) stored) in
           rw (same, append_assoc front s.fields (f.field ∷ [])) at filled
 
       one_more : {next : List ℕ} → next ≡ copied ++ after_cell row now.count
@@ -215,7 +214,7 @@ module _ {row : RowShape} where
     rows = rw (prefix_is_kept at to next into (cells_text row 0 p.fields) further fits p.is) rows;
     fields = p.fields;
     filled = p.filled now [] fill_starts;
-    is = ap (drop at) p.is ∙ drop_at (take at into) (cells_text row 0 p.fields) at (length-take-le at into fits);
+    is = cc (drop_at (take at into) (cells_text row 0 p.fields) at (length-take-le at into fits));
     consumed = consumed_trans consumed p.consumed;
   }
 

@@ -187,8 +187,8 @@ module _ {job : Paste} {cells : List ℕ} {old set now : List Reader} {was is : 
       (received_with ((so_far p).bytes ++ t.bytes) q)
   earlier_of_taken p {q} {n} {ls} some t few = earlier_lines job.terminator q ((so_far p).bytes ++ t.bytes)
       (t.buffered (now_buffered s p some)) ((length s.taken_rows + 1) * uses_of cells p) (s.ls p ++ ls)
-      (lines_trans (so_far p).came t.reads t.came) (omega (arith, more_count p))
-      (omega (arith, more_count p, length-append (s.ls p) ls, taken_at_most (so_far p), taken_at_most t))
+      (lines_trans (so_far p).came t.reads t.came) (omega arith)
+      (omega (arith, length-append (s.ls p) ls, taken_at_most (so_far p)))
 
   -- A write of rows from the buffers failed, after the first columns of the next row were copied.
   module _ {mid new : List Reader} {copied : List ℕ} (p : RowsTaken (job_shape job cells) now mid copied) (n : ℕ)
@@ -200,7 +200,7 @@ module _ {job : Paste} {cells : List ℕ} {old set now : List Reader} {was is : 
     taken_write_failed =
         paste_write new n p.first_rows b (rows_wrote s p wrote) fault (rows_kept s p) (λ q some.
         earlier_before (so_far q).came (all_taken new n p.first_rows b q).reads (still_pulled consumed q)
-        (now_buffered s q some) (omega (arith, more_count q, taken_at_most (so_far q))))
+        (now_buffered s q some) (omega (arith, taken_at_most (so_far q))))
 
   -- A write of the rows of one input failed.
   pub paste_shared_write_failed : {new : List Reader} {is' : Output}
@@ -455,7 +455,7 @@ module _ {job : Paste} {cells : List ℕ} {old set now : List Reader} {was is : 
             let bytes = (so_far here).bytes ++ read_to.extra here in
             rw (append-nil (rows_text job s.taken_rows)) (begins_by_earlier job s.first_rows read_to here here_used
             (earlier_here may_have_more)
-            (sym (append-nil bytes) ∙ ap (λ (x : List ℕ). bytes ++ x) (sym empty)) going)
+            (cc (append-nil bytes)) going)
 
   -- A row could not be filled, for each fault.
   pub paste_fill_failed : (new : List Reader) {after : Slots} (into : List ℕ) {is' : Output} (e : FlowFault)
@@ -467,7 +467,7 @@ module _ {job : Paste} {cells : List ℕ} {old set now : List Reader} {was is : 
       rw named (paste_read_failed f k.piece k.faults.reads k.faults.whole wrote clean k.stored k.cause)
   paste_fill_failed new into Write f wrote fault =
       let (same, kept, going) = f.failure in
-      paste_send_failed f [] (rw same (reads_nothing _)) tt wrote fault kept (ap (λ (r : Reader). r.failed) same) going
+      paste_send_failed f [] (rw same (reads_nothing _)) tt wrote fault kept (ap (λ r. r.failed) same) going
   paste_fill_failed new into Memory f wrote clean =
       let k = f.failure in
       paste_memory_failed f k.piece k.faults.reads k.faults.whole wrote clean k.stored k.failed k.left

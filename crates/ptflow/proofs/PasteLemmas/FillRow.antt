@@ -37,7 +37,7 @@ cells_total (x ∷ cells) top (l ∷ ls) short others = omega (
 
 pub sum_of_zeros : (cells : List ℕ) → sum_by (λ (p : ℕ). 0) cells ≡ 0
 sum_of_zeros [] = refl
-sum_of_zeros (x ∷ cells) = omega (arith, sum_by-cons (λ (p : ℕ). 0) x cells, sum_of_zeros cells)
+sum_of_zeros (x ∷ cells) = omega (arith, sum_of_zeros cells)
 
 pub slots_bound_start : {cells : List ℕ} {top : ℕ → ℕ} {before store : Slots} → AddedSlots before store (length cells)
     → store.denied ≡ false → total_bytes store.lines ≡ 0
@@ -45,7 +45,7 @@ pub slots_bound_start : {cells : List ℕ} {top : ℕ → ℕ} {before store : S
 slots_bound_start {cells} {store = store} adds denied empty peak = record {
   denied = denied;
   adds = adds;
-  short = λ c low. omega (arith, get_or-le-sum_by length store.lines c [] (omega (arith, adds.all denied)));
+  short = λ c low. omega (arith, get_or-le-sum_by length store.lines c [] (omega arith));
   others = let n = length cells in omega (
     arith,
     ap total_bytes (take-append-drop n store.lines),
@@ -157,7 +157,7 @@ pub next_reader : {row : RowShape} {now : List Reader} {n : ℕ} → BufferedRow
 next_reader {row} {now} {n} ready low unread =
     let input = get_or row.cells n 0 in
     let within = ready.within n 0 low in
-    let is : get_or now input unread ≡ reader_at now input = at_index now input unread within in
+    let is = at_index now input unread within in
     let used : 0 < uses_of row.cells input = omega (arith, uses_before_lt row.cells n low) in
     record {
       low = low;
@@ -297,7 +297,7 @@ module _ {cells : List ℕ} {n : ℕ} {old now : List Reader} {fields : List (Li
     p = get_or cells n 0
 
     same_end : b.terminator ≡ (reader_at old p).terminator
-    same_end = ap (λ (x : Reader). x.terminator) is_read ∙ (f.consumed.lines_taken p).reads.terminator
+    same_end = cc ((f.consumed.lines_taken p).reads.terminator)
 
     all_budgets : sum_by budget (set now p r) + budget b ≡ sum_by budget now + budget r
     all_budgets = omega (arith, ap budget is_read, sum_by-set budget now p r no_reader within)
@@ -341,7 +341,7 @@ module _ {cells : List ℕ} {n : ℕ} {old now : List Reader} {fields : List (Li
           ));
       some = λ h.
           let (c, below, one) = f.some h in
-          (c, omega arith, ap length (lines_at_none p [] f.input_lines (get_or cells c 0) refl) ∙ one);
+          (c, omega arith, cc (lines_at_none p [] f.input_lines (get_or cells c 0) refl));
       none = λ h q. lines_at_none p [] f.input_lines q refl ∙ f.none h q;
       least = omega (arith, all_budgets);
       less = λ h. omega (arith, f.less h, all_budgets);
@@ -400,8 +400,7 @@ module _ {row : RowShape} where
           fields = a.fields ++ field ∷ [];
           filled = filled;
           within = omega arith;
-          is = a.is ∙ ap (cells_text row 0)
-              (sym (take-append-le now.count a.fields (field ∷ []) (omega arith)));
+          is = cc (take-append-le now.count a.fields (field ∷ []) (omega arith));
           held = λ c over under. grind (
             arith,
             a.held c,
@@ -435,7 +434,6 @@ module _ {row : RowShape} where
       → RowAmid row now.count from first now store → CopyColumnsPost row now next
       → RowAmid row next.count from first next store
   amid_columns {from} {now = now} {next = next} a p =
-      let width = a.filled.consumed.width in
       let all = a.fields ++ p.fields in
       record {
         fields = all;
@@ -464,12 +462,11 @@ module _ {row : RowShape} where
   amid_text {store = store} {now} a room =
       let n = length row.cells in
       let k = now.count in
-      let width = a.filled.consumed.width in
       let front = take k a.fields in
       let slots = take n store.lines in
-      let long : length front ≡ k = length-take-le k a.fields (omega arith) in
+      let long = length-take-le k a.fields (omega arith) in
       let size = length-take-le n store.lines room in
-      let same : drop k slots ≡ drop k a.fields = ext_get_or [] (drop k slots) (drop k a.fields)
+      let same = ext_get_or [] (drop k slots) (drop k a.fields)
       (omega (arith, length-drop k slots, length-drop k a.fields))
       (λ i low. get_or-drop k slots i []
       ∙ get_or-take n store.lines (k + i) [] (omega (arith, length-drop k slots))

@@ -36,7 +36,7 @@ whole_lines_after : {end : ℕ} {now : Reader} {given : List ℕ} {ls : Column} 
     → known_lines end (record { bytes = given ++ rest; eof = eof }) ≡ ls ++ known_lines end
     (record { bytes = rest; eof = eof })
 whole_lines_after {end} {now} {given} {ls} k rest true may =
-    lines_on end now given ls k rest (λ done. ap (λ (g : Received). g.bytes) (may done))
+    lines_on end now given ls k rest (λ done. ap (λ g. g.bytes) (may done))
 whole_lines_after {end} {now} {given} {ls} k rest false may = grind (arith, ended_more)
 
 -- The rows of all that is received, if `rest` is received after some rows.
@@ -188,7 +188,7 @@ module _ {job : Paste} {cells : List ℕ} {old set now : List Reader} {was is : 
   -- The readers are still readable.
   pub now_readable : BufferedRowsPre (job_shape job cells) now
   now_readable = let r = set_readable s.starts in record {
-    within = λ c d low. omega (arith, r.within c d low);
+    within = λ c d low. omega arith;
     unfailed = λ p some. (s.first_rows.lines_taken p).fault ∙ r.unfailed p some;
     same_end = λ p some. (s.first_rows.lines_taken p).reads.terminator ∙ r.same_end p some;
   }
@@ -202,7 +202,7 @@ module _ {job : Paste} {cells : List ℕ} {old set now : List Reader} {was is : 
 
   -- Each column has a slot.
   pub invariant_slots : length cells ≤ length store.lines
-  invariant_slots = let k = s.kept (λ p. max_length (s.ls p)) (λ p. omega arith) in omega (arith, k.adds.all k.denied)
+  invariant_slots = let k = s.kept (λ p. max_length (s.ls p)) (λ p. omega arith) in omega arith
 
   -- Buffered output was written out.
   pub invariant_sent : {written_out : Output} → PushEffect is written_out [] → written_out.write_failed ≡ false

@@ -75,7 +75,7 @@ module _ (end : ℕ) (reader : Reader) (given : List ℕ) (buffered : length rea
     earlier_line suffix one is (are, line) = let n = length l - 8191 in record {
       front = unlines end xs ++ take n l;
       last = drop n l ++ (suffix ++ reader.buffered);
-      split = ap (λ (b : List ℕ). b ++ reader.buffered) (is ∙ ap (λ (b : List ℕ). unlines end xs ++ (b ++ suffix))
+      split = ap (λ b. b ++ reader.buffered) (is ∙ ap (λ b. unlines end xs ++ (b ++ suffix))
           (sym (take-append-drop n l))) ∙ simp append_assoc;
       short = omega (
         arith,
@@ -94,12 +94,11 @@ module _ (end : ℕ) (reader : Reader) (given : List ℕ) (buffered : length rea
         let (exists, unique) = the_lines end given in
         let (all, whole) = exists in
         let are = are_split end xs l (subst (AreLines end) last all) in
-        let put : unlines end (lines end given) ≡ unlines end xs ++ (l ++ end ∷ []) = ap (unlines end) last
-        ∙ unlines_push end xs l in
+        let put : unlines end (lines end given) ≡ unlines end xs ++ (l ++ end ∷ []) = cc (unlines_push end xs l) in
         ⊎_elim
         (λ same. earlier_line (end ∷ []) (omega arith) (sym same ∙ put) are)
         (λ (some, other, is). earlier_line [] (omega arith) (rw (append-nil l) (append_cancel_right given
-        (unlines end xs ++ l) (end ∷ []) (sym is ∙ put ∙ sym (append_assoc (unlines end xs) l (end ∷ []))))) are)
+        (unlines end xs ++ l) (end ∷ []) (cc (append_assoc (unlines end xs) l (end ∷ []))))) are)
         whole)
         k.so_far
 
@@ -174,7 +173,7 @@ filter_first f down a (suc h) = ⊎_elim
       omega arith,
       (λ n high none. ⊎_elim (λ same. cc (ap f same))
           (λ differ. omega (arith, past n (omega arith) none)) (cases_eq n a)),
-      rw is (ap (λ (l : List ℕ). a ∷ l) later),
+      rw is (ap (λ l. a ∷ l) later),
     ))
     (λ is. (0, omega arith, (λ n high none. omega arith), rw is (none_known f down (a + 1) h (down a is))))
     (cases_Bool (f a))
@@ -244,20 +243,17 @@ module _ (job : Paste) (cells : List ℕ) (came : ℕ → Received) where
     unknown r c low is few =
         is_row_unknown (grid earlier) ends r c (omega (arith, length-columns cells (known_of earlier)))
         (omega (arith, length-map cells (λ q. (earlier q).eof)))
-        (get_or-map (λ p. (earlier p).eof) cells c 0 true low ∙ ap (λ (g : Received). g.eof)
-        (update_here here front came (get_or cells c 0) is))
+        (cc (get_or-map (λ p. (earlier p).eof) cells c 0 true low, update_here here front came (get_or cells c 0) is))
         (omega (arith, ap length (column_at cells (known_of earlier) c low)))
 
     -- The last column of the input has no line in the next row.
     next_unknown : is_row_known (grid earlier) ends (length taken_rows) ≡ false
     next_unknown =
         let (c, low, is, count) = last_use cells here named in
-        let more : (length taken_rows + 1) * uses_of cells here ≡ length taken_rows * uses_of cells here
-        + uses_of cells here = omega arith in
         unknown (length taken_rows) c low is (every_kth_short (uses_before_lt cells c low) (length taken_rows)
         (known_of earlier (get_or cells c 0)) (omega (
           arith,
-          ap (λ (g : Received). length (known_lines job.terminator g))
+          ap (λ g. length (known_lines job.terminator g))
               (update_here here front came (get_or cells c 0) is),
           ap (uses_of (take c cells)) is,
           ap (λ (q : ℕ). length taken_rows * uses_of cells q) is,
@@ -304,19 +300,21 @@ module _ (job : Paste) (cells : List ℕ) (came : ℕ → Received) where
     pub begins_earlier : IsPrefix (paste_decided job cells earlier) (rows_text job taken_rows)
     begins_earlier =
         let (m, within, past, known) = known_first (grid earlier) ends in
-        let few : m ≤ length taken_rows = past (length taken_rows) next_unknown in
+        let few = past (length taken_rows) next_unknown in
         let high : m ≤ row_count (grid came) = omega (
           arith,
           ap length all,
           length-append taken_rows more,
           length-map-range_with_len (row_at (grid came)) 0 (row_count (grid came)),
         ) in
-        let is : known_rows (grid earlier) ends ≡ take m taken_rows = known
-        ∙ same_rows (row_at (grid earlier)) (row_at (grid came)) 0 m
-        (λ r low. row_same r (⊎_elim (λ is. is) (λ not. absurd (omega (arith, past r not)))
-        (cases_Bool (is_row_known (grid earlier) ends r))))
-        ∙ sym (take-map-range_with_len (row_at (grid came)) 0 (row_count (grid came)) m high)
-        ∙ ap (take m) all ∙ take-append-le m taken_rows more few in
+        let is : known_rows (grid earlier) ends ≡ take m taken_rows =
+        cc (
+          same_rows (row_at (grid earlier)) (row_at (grid came)) 0 m
+              (λ r low. row_same r (⊎_elim (λ is. is) (λ not. absurd (omega (arith, past r not)))
+              (cases_Bool (is_row_known (grid earlier) ends r)))),
+          take-map-range_with_len (row_at (grid came)) 0 (row_count (grid came)) m high,
+          take-append-le m taken_rows more few,
+        ) in
         record {
           rest = rows_text job (drop m taken_rows);
           is = cc (

@@ -3,7 +3,7 @@
 use Rattle.ptflow.proofs
 use proofs.Common.{◌≡◌, ◌≢◌, ℕ, zero, suc, ◌+◌, ◌-◌, ◌%◌, ◌^◌, ◌==◌, ◌<◌, ◌≤◌, Bool, cond, List, [], ◌∷◌, ◌++◌}
 use proofs.Common.{length, map, take, drop, get_or, slice_set, refl, sym, ◌∙◌, ap, arith, append_assoc, bit_and}
-use proofs.Common.{count_by, count_ones, mask_l, chunk, mod-lt, mod-add-mod, mod-eq_of_lt, take-add, take_at}
+use proofs.Common.{count_by, count_ones, mask_l, chunk, mod-add-mod, mod-eq_of_lt, take-add, take_at}
 use proofs.Common.{take-append-drop, take-set-lt, eq-eqb, set-append_right, drop_more, take_more_set, take-set}
 use proofs.Common.{length-set, sum_by-append, is_byte, byte_eq, byte_ne, IsLine, IsNth, length-take-le, length-chunk}
 use proofs.Common.{length-put_chunk, take_more_put_chunk, put_chunk, ones-mask_l, with_replacements, cycle_byte}
@@ -96,7 +96,6 @@ module _ (end : ℕ) where
         ) in
         grind (arith, counted b (take k bytes))
     replaced_next (suc m) number (b ∷ bytes) (suc k) (low, test, before) =
-        let shifted : number + suc m ≡ number + 1 + m = omega arith in
         let one = λ (e : count_by (is_byte end) (take k bytes) ≡ m). replaced_next m (number + 1) bytes k (
           omega arith,
           test,
@@ -134,7 +133,7 @@ module _ {end : ℕ} {byte : ℕ → ℕ} where
       → ReplaceInvariant end byte first at from was 0 marked (put_chunk at was (chunk at 64 from))
   replace_starts {at = at} {from = from} {was} room same is =
       let ends = chunk at 64 from in
-      let long : length ends ≡ 64 = length-chunk at 64 from room in
+      let long = length-chunk at 64 from room in
       record {
         room = room;
         same = same;
@@ -150,7 +149,7 @@ module _ {end : ℕ} {byte : ℕ → ℕ} where
     ends = chunk at 64 from
 
     ends_counted : count_ones mask ≡ count_by (is_byte end) ends
-    ends_counted = ap count_ones is ∙ ones-mask_l (is_byte end) ends
+    ends_counted = cc (ones-mask_l (is_byte end) ends)
 
     module _ (some : n < count_ones mask) where
       abbrev bit : ℕ
@@ -217,8 +216,8 @@ module _ {cycle : Cycle} {first index at : ℕ} {from to to' : List ℕ} (long :
       let here = take size (drop at from) in
       let split = take-add at size from in
       let so_far = first + ends_in cycle front in
-      let index_is : index % cycle.len ≡ so_far % cycle.len =
-      mod-eq_of_lt (omega (arith, mod-lt so_far cycle.is_unrolled.some)) ∙ r.next in
+      let index_is =
+      mod-eq_of_lt (omega arith) ∙ r.next in
       let count : first + ends_in cycle (take (at + size) from) ≡ so_far + ends_in cycle here = omega (
         arith,
         ap (ends_in cycle) split,
@@ -243,7 +242,7 @@ module _ {cycle : Cycle} {first index at : ℕ} {from to to' : List ℕ} (long :
         let x = get_or from at 0 in
         let test = eq-eqb x cycle.terminator is_end in
         let one = one_byte at from room in
-        replaced_more 1 (omega (arith, room)) (cc (counted cycle.terminator x [] test))
+        replaced_more 1 (omega (arith, room)) (cc)
         (cc (take_more_set (slice_set to at x) at v (omega (arith, room, length-set to at x)), take-set to at x))
 
     pub replaced_other : get_or from at 0 ≢ cycle.terminator → to' ≡ slice_set to at (get_or from at 0)

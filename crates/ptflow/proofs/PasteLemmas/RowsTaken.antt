@@ -3,15 +3,15 @@
 -- each with the byte after it, are the joined fields and the terminator.
 use Rattle.ptflow.proofs
 use proofs.Common.{◌≡◌, ◌⊎◌, ⊎_elim, inl, inr, ℕ, ◌+◌, ◌≤◌, List, [], ◌∷◌, ◌++◌, None, length, refl, sym, ◌∙◌, ap}
-use proofs.Common.{arith, length-append, lines, AreLines, Reader, ReaderAdvance, AdvanceOk, IsDone, IsSound, Slots}
-use proofs.Common.{FillLine, advance_trans, unlines-append, lines_of_unlines, AreReceivedLines, LinesTaken, suc, ◌*◌}
-use proofs.Common.{◌<◌, true, take, subst, append_assoc, eq-eqb, ne_eqb, take_all, reader_at, map, unlines}
-use proofs.Common.{join_with_cycle, uses_of, columns, rows, CellsTaken, CellsFilled, RowShape, after_cell, cells_text}
-use proofs.Common.{AreFirstRows, RowsTaken}
+use proofs.Common.{arith, length-append, AreLines, Reader, ReaderAdvance, AdvanceOk, IsDone, IsSound, Slots, FillLine}
+use proofs.Common.{advance_trans, unlines-append, lines_of_unlines, AreReceivedLines, LinesTaken, suc, ◌*◌, ◌<◌, true}
+use proofs.Common.{take, subst, append_assoc, eq-eqb, ne_eqb, take_all, reader_at, map, unlines, join_with_cycle}
+use proofs.Common.{uses_of, columns, rows, CellsTaken, CellsFilled, RowShape, after_cell, cells_text, AreFirstRows}
+use proofs.Common.{RowsTaken}
 use proofs.Passes.LinesRead.{lines_none, lines_are_given, lines_more}
 use proofs.Passes.Readers.{eof_gives_nothing, stays_at_eof}
 use Rattle.std.specs.Prelude.{slice_index_or}
-use proofs.PasteLemmas.Grid.{Column, for_each_cell, for_each_cell_unique, uses_before, grid_step, rows_text-append}
+use proofs.PasteLemmas.Grid.{Column, for_each_cell_unique, uses_before, grid_step, rows_text-append}
 use Rattle.std.proofs.Common.{rules}
 use Rattle.std.proofs.lemmas.Grind.{common_steps}
 
@@ -24,7 +24,7 @@ none_received : {end : ℕ} {b c : Reader} {bytes : List ℕ} {ls : List (List �
     → AreReceivedLines end c bytes ls → ls ≡ []
 none_received {end} {b} {c} {bytes} {ls} done reads k =
     let (none, empty, eof) = eof_gives_nothing b c bytes done reads in
-    sym (lines_are_given end c bytes ls k) ∙ ap (lines end) none
+    cc (lines_are_given end c bytes ls k)
 
 -- Lines were received, and then more.
 pub lines_trans : {end : ℕ} {b c : Reader} {bs cs : List ℕ} {xs ys : List (List ℕ)} → AreReceivedLines end b bs xs
@@ -197,7 +197,7 @@ module _ (row : RowShape) {old new : List Reader} {fields : List (List ℕ)}
   filled_row_is_first r =
       let (c, low, first) = r.some refl in
       let field = λ (c p : ℕ). slice_index_or (r.input_lines p) (uses_of (take c row.cells) p) [] in
-      let row_is : fields ≡ for_each_cell field row.cells =
+      let row_is =
       for_each_cell_unique field row.cells fields [] r.consumed.width r.consumed.fields_taken in
       record {
         lines_taken = λ p.

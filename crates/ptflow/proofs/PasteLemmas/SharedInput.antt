@@ -60,7 +60,7 @@ whole_rows_counted end n count bytes last counted =
       ls = lines end bytes;
       is = sym is;
       are_lines = lines_are end bytes;
-      long = sym (ends_of_lines end (lines end bytes) (lines_are end bytes)) ∙ ap (count_by (is_byte end)) is ∙ counted;
+      long = cc (ends_of_lines end (lines end bytes) (lines_are end bytes), counted);
     }
 
 -- ---- the text of rows
@@ -95,7 +95,7 @@ module _ {row : RowShape} {cycle : Cycle} (t : IsSharedCycle row cycle) where
       let low : c < n = omega arith in
       let less : c < cycle.len = omega arith in
       let index : (k * n + c) % cycle.len ≡ c % cycle.len =
-      ap (λ (size : ℕ). (k * n + c) % size) t.len ∙ mod-mul-add k n c low ∙ sym (mod-eq_of_lt less) in
+      cc (mod-mul-add k n c low, mod-eq_of_lt less) in
       let byte = ap (λ m. get_or cycle.unrolled m 0 ∷ []) index ∙ t.bytes c low in
       let number : k * n + c + 1 ≡ k * n + (c + 1) = omega arith in
       let more = ap (λ m. all_replaced m rest) number ∙ row_replaced k (c + 1) ls are_lines (omega arith) in
@@ -113,11 +113,10 @@ module _ {row : RowShape} {cycle : Cycle} (t : IsSharedCycle row cycle) where
   rows_replaced k zero (line ∷ ls) are_lines long = absurd (omega arith)
   rows_replaced k (suc more) ls are_lines long =
       let end = row.terminator in
-      let size : suc more * n ≡ n + more * n = omega arith in
       let first = take n ls in
       let rest = drop n ls in
       let (whole_first, whole_rest) = are_parts end n ls are_lines in
-      let first_long : length first ≡ n = length-take-le n ls (omega arith) in
+      let first_long = length-take-le n ls (omega arith) in
       let start : k * n ≡ k * n + 0 = omega arith in
       let next : k * n + count_by (is_byte end) (unlines end first) ≡ (k + 1) * n =
       omega (arith, ends_of_lines end first whole_first) in
@@ -161,17 +160,24 @@ module _ (cells : List ℕ) (input : ℕ) (same : (c : ℕ) → c < length cells
   row_on : (some : 0 < length cells) (ls : Column) (more : ℕ → Column) → length ls ≡ length cells
       → rows (columns cells (λ q. lines_of_input input ls q ++ more q)) ≡ ls ∷ rows (columns cells more)
   row_on some ls more long =
-      grid_step cells (lines_of_input input ls) more
-      (record {
-        all = λ q. inl (⊎_elim
-            (λ here. rw here (rw (update_here input ls (λ q. []) input refl, uses_all) long))
-            (λ there. rw (update_there input ls (λ q. []) q there, uses_none q there) refl)
-            (cases_eq q input));
-      }) 0 some (omega (arith, ap length (update_here input ls (λ q. []) (get_or cells 0 0) (same 0 some))))
-      ∙ ap (λ (r : List (List ℕ)). r ∷ rows (columns cells more))
-      (sym (for_each_cell_unique (top_of cells (lines_of_input input ls)) cells ls [] long
-      (λ c low. rw (same c low)
-      (rw (update_here input ls (λ q. []) input refl, uses_before_column c (omega arith)) refl))))
+      cc (
+        grid_step cells (lines_of_input input ls) more
+            (record {
+              all = λ q. inl (⊎_elim (λ here. rw here (rw (
+                update_here input ls (λ q. []) input refl,
+                uses_all,
+              ) long)) (λ there. rw (update_there input ls (λ q. []) q there, uses_none q there) refl)
+                  (cases_eq q input));
+            }) 0 some (omega (
+              arith,
+              ap length (update_here input ls (λ q. []) (get_or cells 0 0) (same 0 some)),
+            )),
+        for_each_cell_unique (top_of cells (lines_of_input input ls)) cells ls [] long
+            (λ c low. rw (same c low) (rw (
+              update_here input ls (λ q. []) input refl,
+              uses_before_column c (omega arith),
+            ) refl)),
+      )
 
   -- The first k * n lines are the first k rows.
   rows_on : (some : 0 < length cells) (k : ℕ) (ls : Column) (more : ℕ → Column) → length ls ≡ k * length cells
@@ -184,7 +190,6 @@ module _ (cells : List ℕ) (input : ℕ) (same : (c : ℕ) → c < length cells
   rows_on some zero (line ∷ ls) more long = absurd (omega arith)
   rows_on some (suc k) ls more long =
       let n = length cells in
-      let size : suc k * n ≡ n + k * n = omega arith in
       let split : (q : ℕ) → lines_of_input input ls q ++ more q
       ≡ lines_of_input input (take n ls) q ++ (lines_of_input input (drop n ls) q ++ more q) = λ q. cc (
         take-append-drop n ls,
@@ -224,7 +229,7 @@ module _ {row : RowShape} {cycle : Cycle} (t : IsSharedCycle row cycle) {old : L
       arith,
       length-take-le count b.buffered within,
       ap length rs.is,
-      ap (λ (l : List (List ℕ)). length (unlines end l)) (nil_from_length rs.ls (rs.long ∙ none)),
+      ap (λ l. length (unlines end l)) (nil_from_length rs.ls (rs.long ∙ none)),
     ));
     came = record { so_far = inl (rs.is, rs.are_lines) };
     enough = inl rs.long;
@@ -252,7 +257,6 @@ module _ {row : RowShape} {cycle : Cycle} (t : IsSharedCycle row cycle) {old : L
     };
     least = omega (
       arith,
-      sound.long x.clean,
       length-drop count b.buffered,
       ap budget x.is_read,
       ap budget step,

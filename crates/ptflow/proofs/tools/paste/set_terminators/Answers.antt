@@ -1,7 +1,7 @@
 -- Each step sets the terminator of one more reader. Setting it twice, for a reader that several columns use, has no
 -- further effect.
 use Rattle.ptflow.proofs
-use proofs.Common.{◌≡◌, ◌<◌, ℕ, List, subst, Bool, true, false, cond, length, get_or, refl, ◌∙◌, arith, take_all}
+use proofs.Common.{◌≡◌, ◌<◌, ℕ, subst, Bool, true, false, cond, length, get_or, refl, ◌∙◌, arith, take_all}
 use proofs.Common.{All-get_or, terminator, SetTerminatorsPost}
 use borrow.Author.Rules.{scaled_Fits}
 use proofs.PasteLemmas.FillRow.{at_index, set_terminator_more}
@@ -38,5 +38,5 @@ offset_bounds-readers-input g c =
 
 pub returns : goal.returns
 returns g c =
-    subst (λ (l : List ℕ). SetTerminatorsPost (terminator c.args.zero) l c.args.readers.now c.loop-input.readers)
+    subst (λ l. SetTerminatorsPost (terminator c.args.zero) l c.args.readers.now c.loop-input.readers)
     (take_all c.loop-input.input-index c.args.cells.now c.loop-input-test.false) c.loop-input.invariant

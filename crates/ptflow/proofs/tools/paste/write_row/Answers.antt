@@ -1,6 +1,6 @@
 -- Each step writes the field of one more column. A failed write leaves a prefix of the row.
 use Rattle.ptflow.proofs
-use proofs.Common.{◌≡◌, ℕ, ◌+◌, ◌<◌, ◌≤◌, List, [], ◌∷◌, ◌++◌, length, take, drop, get_or, sym, ◌∙◌, ap, subst, arith}
+use proofs.Common.{◌≡◌, ℕ, ◌+◌, ◌<◌, ◌≤◌, List, [], ◌∷◌, ◌++◌, length, take, drop, get_or, sym, ap, subst, arith}
 use proofs.Common.{length-take-le, length-drop, take_more, take-append-drop, take-take, drop_all, append-nil}
 use proofs.Common.{append_assoc, drop-append-le, err_from_is_err_and, PushEffect, push_past_failure, push_trans}
 use proofs.Common.{RowShape, after_cell, cells_text, shape_of}
@@ -23,7 +23,7 @@ module _ (row : RowShape) (first : ℕ) (lines : List (List ℕ)) where
       → text_to (k + 1) ≡ text_to k ++ (get_or lines k [] ++ after_cell row k)
   text_more k over low =
       let front = take k lines in
-      let long : length front ≡ k = length-take-le k lines (omega arith) in
+      let long = length-take-le k lines (omega arith) in
       cc (
         take_more lines k [] low,
         drop-append-le first front (get_or lines k [] ∷ []) (omega arith),
@@ -37,7 +37,7 @@ module _ (row : RowShape) (first : ℕ) (lines : List (List ℕ)) where
   text_rest k all over under fits =
       let front = take k lines in
       let more = drop k (take all lines) in
-      let long : length front ≡ k = length-take-le k lines (omega arith) in (
+      let long = length-take-le k lines (omega arith) in (
         cells_text row (first + length (drop first front)) more,
         cc (
           take-append-drop k (take all lines),
@@ -61,7 +61,7 @@ loop-column-init g c =
     let none = text_start (shape_of c.args.row) c.args.begun.count c.args.store.now.lines in
     record {
       wrote = subst (PushEffect c.args.out.now c.push.new.self)
-          (sym (ap (λ (l : List ℕ). front ++ l) none ∙ append-nil front)) c.push.ensures.pushed.wrote;
+          (sym (cc (append-nil front))) c.push.ensures.pushed.wrote;
       clean = c.in_ok-push.ensures.pushed.clean;
       within = c.requires.within;
     }
@@ -97,7 +97,7 @@ returns-in_err-write_slot g c =
     let lines = c.args.store.now.lines in
     let first = c.args.begun.count in
     let next = c.loop-column.column + 1 in
-    let (rest, all) = text_rest row first lines next (length row.cells) (omega (arith, over g here)) (omega arith)
+    let (rest, all) = text_rest row first lines next (length row.cells) (omega arith) (omega arith)
     c.requires.slots in
     let split : text g here (length row.cells) ≡ text g here next ++ rest =
     cc (append_assoc (take c.args.begun.end c.args.into.now) (text_to row first lines next) rest) in

@@ -1,7 +1,7 @@
 -- Each step copies the field of one more column and the byte after it. It ends at a field that cannot be copied, and
 -- then nothing was consumed.
 use Rattle.ptflow.proofs
-use proofs.Common.{◌≡◌, length, take, set, get_or, refl, ◌∙◌, ap, arith, set-get_or, mod-add-mod}
+use proofs.Common.{◌≡◌, length, take, set, get_or, refl, arith, set-get_or, mod-add-mod}
 use Rattle.std.proofs.lemmas.List.{take_more_set}
 use borrow.Author.Rules.{scaled_Fits}
 use proofs.PasteLemmas.BufferedRows.{columns_start, columns_more, after_last, after_other}
@@ -49,8 +49,8 @@ returns-clause-cells g c =
       | else-cells-test w ↦ rw (w.readers-is, w.into-is, w.column-is, w.end-is, w.any_line-is) inv.copied
       | then-cells-test+in_default w ↦
           let none = w.in_default.ensures in
-          let same : set readers input w.copy_cell.new.reader ≡ readers = ap (set readers input) none.none
-          ∙ set-get_or readers input w.index-readers-input.result in
+          let same : set readers input w.copy_cell.new.reader ≡ readers =
+          cc (set-get_or readers input w.index-readers-input.result) in
           rw (w.readers-is, w.into-is, w.column-is, w.end-is, w.any_line-is)
           (rw (same, none.prefix_kept) inv.copied)
       | then-cells-test+in-Some+then-column-cells w ↦

@@ -1,5 +1,5 @@
-use Rattle.ptflow.proofs.Common.{◌≡◌, ◌+◌, ◌-◌, ◌≤◌, ℕ, List, length, take, drop, ◌∙◌, ap, arith, length-drop}
-use Rattle.ptflow.proofs.Common.{drop-take, begun_in}
+use Rattle.ptflow.proofs.Common.{◌≡◌, ◌+◌, ◌-◌, ◌≤◌, ℕ, List, length, take, drop, ap, arith, length-drop, drop-take}
+use Rattle.ptflow.proofs.Common.{begun_in}
 use lib.Seq.{paste}
 use Rattle.std.proofs.lemmas.List.Edits.{take-paste}
 use Rattle.ptflow.proofs.tools.paste.buffered_rows.move_to_front.Goals as goal
@@ -17,7 +17,5 @@ moved at to bytes further fits =
 pub returns : goal.returns
 returns c = λ readers.
     let rows = c.args.copied in
-    ap (λ (text : List ℕ). record (begun_in readers rows.begun c.args.into.now) { text = text })
-    (ap (take (rows.begun.end - rows.end)) c.copy_within.ensures.after
-    ∙ moved rows.end rows.begun.end c.args.into.now rows.order
-    (omega arith))
+    ap (λ text. record (begun_in readers rows.begun c.args.into.now) { text = text })
+    (cc (moved rows.end rows.begun.end c.args.into.now rows.order (omega arith)))

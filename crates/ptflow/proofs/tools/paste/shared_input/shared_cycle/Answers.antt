@@ -19,20 +19,20 @@ returns c =
       same = All-from_get_or (λ p. p ≡ get_or row.cells 0 0) row.cells 0
           (λ k low. c.loop-input.invariant.same k (omega arith));
       terminator = c.new.ensures.terminator;
-      len = c.new.ensures.len ∙ long;
+      len = cc;
       bytes = λ k low.
           let bytes = c.in_ok-bytes.bytes.items in
-          let size : length bytes + 1 ≡ n = omega arith in
           c.new.ensures.bytes k
           ∙ (λ i. get_or (items i) (k % long i) 0 ∷ [])
           ∙ ap (λ m. get_or (bytes ++ row.terminator ∷ []) m 0 ∷ []) (mod-eq_of_lt low)
           ∙ ⊎_elim
           (λ between.
-          ap (λ x. x ∷ []) (get_or_append_left bytes (row.terminator ∷ []) 0 k (omega arith))
-          ∙ sym (list.at k (omega arith))
-          ∙ after_other row k (k % length row.delims) (λ last. absurd (omega arith)) refl)
+          cc (
+            get_or_append_left bytes (row.terminator ∷ []) 0 k (omega arith),
+            list.at k (omega arith),
+            after_other row k (k % length row.delims) (λ last. absurd (omega arith)) refl,
+          ))
           (λ last.
-          ap (λ x. x ∷ []) (get_or_push bytes row.terminator 0 k (omega arith))
-          ∙ after_last row k (omega arith))
+          cc (get_or_push bytes row.terminator 0 k (omega arith), after_last row k (omega arith)))
           (cases_lt (k + 1) n);
     }

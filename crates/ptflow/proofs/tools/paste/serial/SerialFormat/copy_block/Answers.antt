@@ -1,7 +1,7 @@
 -- The terminator that was held back comes first. Then a block is its bytes up to the last one, and the last one.
 use Rattle.ptflow.proofs
-use proofs.Common.{◌≡◌, ◌+◌, ◌-◌, ◌<◌, ◌++◌, ℕ, Bool, true, false, cond, List, [], ◌∷◌, length, take, get_or, refl, sym}
-use proofs.Common.{◌∙◌, ap, arith, append_assoc, take_more, take_all, take_more_set, from_bool, mod-lt, count_by}
+use proofs.Common.{◌≡◌, ◌+◌, ◌-◌, ◌<◌, ◌++◌, ℕ, Bool, true, false, cond, List, [], ◌∷◌, length, take, get_or, refl}
+use proofs.Common.{sym, ◌∙◌, arith, append_assoc, take_more, take_all, take_more_set, from_bool, mod-lt, count_by}
 use proofs.Common.{is_byte, serial_rest, row_rest, Option, ◌==◌, not, set, eqb-true, take-set}
 use Rattle.std.proofs.lemmas.List.{length-take}
 use proofs.PasteLemmas.SerialRest.{copied_on, row_byte}
@@ -34,12 +34,15 @@ module _ (c : After-copy_cells-end) (more : List ℕ) where
       let first = c.copy_cells-at.ensures.copied in
       let second = c.copy_cells-end.ensures.copied in
       let some : 0 < length delims = omega arith in
-      ap (row_rest end delims c.args.cell.index) (held_is c.args.cell.complete end (block ++ more) c.from-size.ensures
-      ∙ ap (◌++◌ held) (ap (λ (l : List ℕ). l ++ more) (sym (parts block c.requires.some.0))
-      ∙ append_assoc bytes (last ∷ []) more))
-      ∙ copied_on end delims c.args.cell.index held bytes (last ∷ more) (omega arith) first.is first.later second.is
-      second.later (rw (sym second.later) at (mod-lt (c.copy_cells-at.result.1 + count_by (is_byte end) bytes) some))
-      (rw (sym first.later) at (mod-lt (c.args.cell.index + count_by (is_byte end) held) some))
+      cc (
+        held_is c.args.cell.complete end (block ++ more) c.from-size.ensures,
+        parts block c.requires.some.0,
+        append_assoc bytes (last ∷ []) more,
+        copied_on end delims c.args.cell.index held bytes (last ∷ more) (omega arith) first.is first.later second.is
+            second.later (rw (sym second.later) at
+            (mod-lt (c.copy_cells-at.result.1 + count_by (is_byte end) bytes) some))
+            (rw (sym first.later) at (mod-lt (c.args.cell.index + count_by (is_byte end) held) some)),
+      )
 
 -- The last byte is put after the copy, and counted unless it is a terminator.
 last_copied : (end : ℕ) (delims : List (Option ℕ)) (number last : ℕ) (more into : List ℕ) {at size : ℕ}
@@ -49,7 +52,6 @@ last_copied : (end : ℕ) (delims : List (Option ℕ)) (number last : ℕ) (more
 last_copied end delims number last more into {at} {size} low true is none =
     let same : at + size ≡ at = omega arith in cc (take-set into at last, eqb-true last end is)
 last_copied end delims number last more into {at} {size} low false is one =
-    let next : at + size ≡ at + 1 = omega arith in
     cc (
       take_more_set into at last low,
       row_byte end delims number last more is,

@@ -1,5 +1,5 @@
 use Rattle.ptflow.proofs
-use proofs.Common.{◌≡◌, ◌+◌, ◌-◌, ◌%◌, ◌≤◌, ◌++◌, ℕ, List, length, take, drop, sym, ◌∙◌, ap, arith, with_replacements}
+use proofs.Common.{◌≡◌, ◌+◌, ◌-◌, ◌%◌, ◌≤◌, ◌++◌, ℕ, List, length, take, drop, ◌∙◌, ap, arith, with_replacements}
 use proofs.Common.{length-take-le, take_at, take-append-add, count_by, is_byte}
 use borrow.Rule.Slice.PartMut.{put_mid}
 use proofs.PasteLemmas.Replaced.{length-replaced}
@@ -9,9 +9,10 @@ put_taken : (at : ℕ) (was xs : List ℕ) {n : ℕ} → length xs ≡ n → at 
     → take (at + n) (put_mid at (at + n - at) was xs) ≡ take at was ++ xs
 put_taken at was xs {n} long room =
     let front = length-take-le at was (omega arith) in
-    ap (λ k. take (k + n) (put_mid at (at + n - at) was xs)) (sym front)
-    ∙ take-append-add (take at was) (xs ++ drop (at + n - at) (drop at was)) n
-    ∙ ap (◌++◌ (take at was)) (take_at xs (drop (at + n - at) (drop at was)) n long)
+    cc (
+      take-append-add (take at was) (xs ++ drop (at + n - at) (drop at was)) n,
+      take_at xs (drop (at + n - at) (drop at was)) n long,
+    )
 
 pub returns-clause-copied : goal.returns-clause-copied
 returns-clause-copied c =
