@@ -174,7 +174,7 @@ module _ {row : RowShape} where
           → CellsFilled row.cells (now.count + 1) from (set now.readers input r)
           (front ++ (s.fields ++ f.field ∷ [])) (now.any_line || has)
       filled_more from front given =
-          let (field, stored, filled) = fill_next (s.filled from front given) x.low x.within x.is_read x.clean
+          let (field, stored, filled) = fill_next (s.filled from front given) x
           (sound_after_consume sound f.consumed) no_slots (with_line no_slots 0 f.field) 0 has f.fills in
           let same : field ≡ f.field = sym (ap (λ x. get_or x.lines 0 []) stored) in
           rw (same, append_assoc front s.fields (f.field ∷ [])) at filled

@@ -91,18 +91,16 @@ module _ {job : Paste} {cells : List ℕ} {old set now : List Reader} {was is : 
     progress : CallProgress (inputs_at cells) (paste_engine job cells) begin end
         (λ p. (so_far p).bytes ++ r.extra p) (rows_text job s.taken_rows ++ pushed)
     progress = let (size, peak) = same_size_and_peak in record {
-      reads = λ p named. advance_trans (reader_at set p) (reader_at now p) (reader_at new p) (so_far p).bytes
-          (r.extra p) (so_far p).reads (r.reads p);
+      reads = λ p named. advance_trans _ _ _ _ _ (so_far p).reads (r.reads p);
       untouched = λ p other. let none = not_in cells p other in
           r.left p none ∙ (so_far p).none (rw none (omega arith));
       never_failed = never_failed s.starts;
       writable = s.starts.writable;
-      wrote = push_trans was is is' (rows_text job s.taken_rows) pushed s.clean s.wrote k.wrote;
+      wrote = push_trans _ _ _ _ _ s.clean s.wrote k.wrote;
       is_prefix = λ texts agree. rw (same_paste job cells given texts agree) at (k.begins
           (with_received job cells given texts agree) (all_agree job cells given texts agree));
       bounded_lag = λ p named. bounded_lag_after (λ g. paste_decided job cells (update_at p (g tt) given))
-          (λ u. given p) was is (rows_text job s.taken_rows) (k.lags p (is_in_used cells p named)) s.wrote s.clean
-          is' pushed k.wrote;
+          (λ u. given p) _ _ _ (k.lags p (is_in_used cells p named)) s.wrote s.clean _ _ k.wrote;
       peak = λ texts agree. omega (
         arith,
         (k.bound (with_received job cells given texts agree) (all_agree job cells given texts agree)).peak,
@@ -131,9 +129,7 @@ module _ {job : Paste} {cells : List ℕ} {old set now : List Reader} {was is : 
   longest : {new : Reader} {n : ℕ} {ls : Column} (p : ℕ) (t : LinesTaken job.terminator (reader_at now p) new n ls)
       {text : List ℕ} → IsConsistent (received_with ((so_far p).bytes ++ t.bytes) new) text
       → max_length (s.ls p ++ ls) ≤ max_line_length job.terminator text
-  longest {new} {ls = ls} p t {text} a = received_longest job.terminator new ((so_far p).bytes ++ t.bytes)
-      (s.ls p ++ ls)
-      (lines_trans (so_far p).came t.reads t.came) text a
+  longest p t a = received_longest _ _ _ _ (lines_trans (so_far p).came t.reads t.came) _ a
 
   -- Rows were taken, and the first columns of a row after them. A write of these rows failed.
   module _ {mid : List Reader} (new : List Reader) {ls taken : ℕ → Column} {more : List (List (List ℕ))} (n : ℕ)
@@ -185,8 +181,7 @@ module _ {job : Paste} {cells : List ℕ} {old set now : List Reader} {was is : 
       → (t : LinesTaken job.terminator (reader_at now p) q n ls) → n ≤ uses_of cells p
       → EarlierPart job.terminator ((length s.taken_rows + 1) * uses_of cells p)
       (received_with ((so_far p).bytes ++ t.bytes) q)
-  earlier_of_taken p {q} {n} {ls} some t few = earlier_lines job.terminator q ((so_far p).bytes ++ t.bytes)
-      (t.buffered (now_buffered s p some)) ((length s.taken_rows + 1) * uses_of cells p) (s.ls p ++ ls)
+  earlier_of_taken p {ls = ls} some t few = earlier_lines _ _ _ (t.buffered (now_buffered s p some)) _ _
       (lines_trans (so_far p).came t.reads t.came) (omega arith)
       (omega (arith, length-append (s.ls p) ls, taken_at_most (so_far p)))
 
@@ -322,8 +317,7 @@ module _ {job : Paste} {cells : List ℕ} {old set now : List Reader} {was is : 
     abbrev read_to : ReadMore cells now new
     read_to = record {
       extra = λ p. (lines_taken_to p).bytes ++ part p;
-      reads = λ p. advance_trans (reader_at now p) (reader_at b.mid p) (reader_at new p) (lines_taken_to p).bytes
-          (part p) (lines_taken_to p).reads (part_reads p);
+      reads = λ p. advance_trans _ _ _ _ _ (lines_taken_to p).reads (part_reads p);
       left = λ p none. b.others p (λ same. absurd (omega (arith, here_used, ap (uses_of cells) same)))
           ∙ (lines_taken_to p).none (omega (arith, uses_before cells b.column p));
     }
@@ -341,8 +335,8 @@ module _ {job : Paste} {cells : List ℕ} {old set now : List Reader} {was is : 
     module _ (texts : ℕ → List ℕ) (a : (p : ℕ) → IsConsistent (given_by job s.first_rows read_to p) (texts p)) where
       long_to : (p : ℕ) → max (max_length (s.ls p ++ b.input_lines p)) (length (part p))
           ≤ max_line_length job.terminator (texts p)
-      long_to p = piece_longest job.terminator (reader_at b.mid p) (given_to p) (s.ls p ++ b.input_lines p) (lines_to p)
-          (reader_at new p) (part p) (part_reads p) (part_is_line p) (texts p) (rw (given_is p) at (a p))
+      long_to p = piece_longest _ _ _ _ (lines_to p) _ _ (part_reads p) (part_is_line p) _
+          (rw (given_is p) at (a p))
 
       piece_fits : length piece ≤ max_line_length job.terminator (texts here)
       piece_fits = grind (arith, nat_tests, long_to here)
@@ -361,7 +355,7 @@ module _ {job : Paste} {cells : List ℕ} {old set now : List Reader} {was is : 
     -- If that reader is not at the end of its input, it is the one that limits the rows.
     module _ (going : IsDone (reader_at b.mid here) → ⊥) where
       abbrev earlier_here : EarlierBy job s.first_rows read_to here
-      earlier_here = earlier_partial (reader_at new here) (lines_to here) going (part here) (given_is here)
+      earlier_here = earlier_partial (reader_at new here) (lines_to here) going _ (given_is here)
           (part_is_line here) (b.few (now_buffered s here here_used)) (omega (
             arith,
             more_count here,
@@ -409,7 +403,7 @@ module _ {job : Paste} {cells : List ℕ} {old set now : List Reader} {was is : 
         → Ends new is' after (Err Memory)
     paste_memory_failed wrote clean stored same left =
         exit (exit_to (λ done.
-        let (none, empty, eof) = eof_gives_nothing (reader_at b.mid here) (reader_at new here) piece done piece_reads in
+        let (none, empty, eof) = eof_gives_nothing _ _ _ done piece_reads in
         absurd (omega (arith, ap length empty))) wrote bound_with_piece
         (inr stored)) (Err Memory) (record {
           denied = cc stored;
@@ -441,7 +435,7 @@ module _ {job : Paste} {cells : List ℕ} {old set now : List Reader} {was is : 
         may_have_more : IsDone (reader_at b.mid here) → ⊥
         may_have_more done = ⊎_elim
             (λ (failed, empty, going). cc
-            ((stays_at_eof (reader_at b.mid here) (reader_at new here) piece done piece_reads).eof))
+            ((stays_at_eof _ _ _ done piece_reads).eof))
             (λ (long, same).
             let (pulled, eof) = piece_reads.still done.eof in
             absurd (omega (arith, (lines_taken_to here).short (now_short s here here_used))))

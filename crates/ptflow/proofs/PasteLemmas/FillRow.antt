@@ -288,33 +288,31 @@ fill_starts = record {
   less = λ any_line. cc;
 }
 
-module _ {cells : List ℕ} {n : ℕ} {old now : List Reader} {fields : List (List ℕ)} {any_line : Bool}
-    (f : CellsFilled cells n old now fields any_line)
-    (low : n < length cells) (within : get_or cells n 0 < length now) where
-  module _ {b : Reader} (is_read : b ≡ reader_at now (get_or cells n 0)) (clean : b.fault ≡ None) {r : Reader}
-      (sound : IsSound r) where
-    abbrev p : ℕ
-    p = get_or cells n 0
+module _ {row : RowShape} {n : ℕ} {old now : List Reader} {fields : List (List ℕ)} {any_line : Bool}
+    (f : CellsFilled row.cells n old now fields any_line) {b : Reader} (x : IsNextReader row now n b) where
+  abbrev p : ℕ
+  p = get_or row.cells n 0
 
+  module _ {r : Reader} (sound : IsSound r) where
     same_end : b.terminator ≡ (reader_at old p).terminator
     same_end = cc ((f.consumed.lines_taken p).reads.terminator)
 
     all_budgets : sum_by budget (set now p r) + budget b ≡ sum_by budget now + budget r
-    all_budgets = omega (arith, ap budget is_read, sum_by-set budget now p r no_reader within)
+    all_budgets = omega (arith, ap budget x.is_read, sum_by-set budget now p r no_reader x.within)
 
     -- The column gets a line.
     fill_line : {before after : Slots} {slot : ℕ} (e : FillLine b r before after slot)
-        → CellsFilled cells (n + 1) old (set now p r) (fields ++ e.line ∷ []) true
+        → CellsFilled row.cells (n + 1) old (set now p r) (fields ++ e.line ∷ []) true
     fill_line e =
-        let lines_taken = rw is_read at (taken_line e same_end clean sound) in
-        let all : length (f.input_lines p) ≡ uses_of (take n cells) p =
+        let lines_taken = rw x.is_read at (taken_line e same_end x.clean sound) in
+        let all : length (f.input_lines p) ≡ uses_of (take n row.cells) p =
         ⊎_elim (λ same. same) (λ (done, few). absurd (omega (arith, ap length (none_at_eof lines_taken done))))
         (f.consumed.lines_taken p).enough in
         let less : sum_by budget (set now p r) < sum_by budget old = omega (arith, all_budgets) in
         record {
           input_lines = lines_at p (e.line ∷ []) f.input_lines;
-          consumed = cells_taken_more f.consumed low within lines_taken
-              (sym (get_or_at (f.input_lines p) e.line [] [] (uses_of (take n cells) p) all));
+          consumed = cells_taken_more f.consumed x.low x.within lines_taken
+              (sym (get_or_at (f.input_lines p) e.line [] [] (uses_of (take n row.cells) p) all));
           some = λ h. (
             n,
             omega arith,
@@ -330,18 +328,18 @@ module _ {cells : List ℕ} {n : ℕ} {old now : List Reader} {fields : List (Li
         }
 
     -- The reader is at the end of its input.
-    fill_eof : AdvanceOk b r [] → IsDone r → CellsFilled cells (n + 1) old (set now p r) (fields ++ [] ∷ []) any_line
+    fill_eof : AdvanceOk b r [] → IsDone r → CellsFilled row.cells (n + 1) old (set now p r) (fields ++ [] ∷ []) any_line
     fill_eof advance_ok done = record {
       input_lines = lines_at p [] f.input_lines;
-      consumed = cells_taken_more f.consumed low within (rw is_read at
-          (taken_eof {end = (reader_at old p).terminator} {b = b} advance_ok done clean sound))
+      consumed = cells_taken_more f.consumed x.low x.within (rw x.is_read at
+          (taken_eof {end = (reader_at old p).terminator} {b = b} advance_ok done x.clean sound))
           (cc (
             append-nil (f.input_lines p),
-            get_or_past (f.input_lines p) (uses_of (take n cells) p) [] (taken_at_most (f.consumed.lines_taken p)),
+            get_or_past (f.input_lines p) (uses_of (take n row.cells) p) [] (taken_at_most (f.consumed.lines_taken p)),
           ));
       some = λ h.
           let (c, below, one) = f.some h in
-          (c, omega arith, cc (lines_at_none p [] f.input_lines (get_or cells c 0) refl));
+          (c, omega arith, cc (lines_at_none p [] f.input_lines (get_or row.cells c 0) refl));
       none = λ h q. lines_at_none p [] f.input_lines q refl ∙ f.none h q;
       least = omega (arith, all_budgets);
       less = λ h. omega (arith, f.less h, all_budgets);
@@ -349,30 +347,29 @@ module _ {cells : List ℕ} {n : ℕ} {old now : List Reader} {fields : List (Li
 
     -- The column is filled, and its slot has the field.
     pub fill_next : (before after : Slots) (slot : ℕ) (has : Bool) → FillPost b r before after slot (Ok has)
-        → (field : List ℕ) × (after ≡ with_line before slot field) × CellsFilled cells (n + 1) old (set now p r)
+        → (field : List ℕ) × (after ≡ with_line before slot field) × CellsFilled row.cells (n + 1) old (set now p r)
         (fields ++ field ∷ []) (any_line || has)
     fill_next before after slot true e = (e.line, e.stored, rw or-true (fill_line e))
     fill_next before after slot false (advance_ok, done, kept) = grind (arith, or-false, fill_eof)
 
   -- The step for this column failed.
   abbrev pub fill_failed : {CellFailed : Reader → Reader → Slots → Slots → ℕ → Type 0} {before store : Slots}
-      (after : Slots) {b : Reader} (r : Reader) → SlotsKept cells fields before store
-      → b ≡ reader_at now (get_or cells n 0) → CellFailed b r store after n
+      (after : Slots) (r : Reader) → SlotsKept row.cells fields before store → CellFailed b r store after n
       → (length b.buffered ≤ 8192 → length r.buffered ≤ 8192)
-      → RowFailed CellFailed cells old (set now (get_or cells n 0) r) before after
-  fill_failed {CellFailed} {store = store} after {b} r slots is_read failure few = record {
+      → RowFailed CellFailed row.cells old (set now p r) before after
+  fill_failed {CellFailed} {store = store} after r slots failure few = record {
     column = n;
-    within = low;
+    within = x.low;
     fields = fields;
     input_lines = f.input_lines;
     mid = now;
     buffered = store;
     consumed = f.consumed;
     slots = slots;
-    failure = rw (at_same now (get_or cells n 0) r within) (rw is_read at failure);
-    others = λ q differ. at_other now (get_or cells n 0) q r differ;
-    few = λ buffered. rw (at_same now (get_or cells n 0) r within)
-        (few (rw is_read ((f.consumed.lines_taken (get_or cells n 0)).buffered buffered)));
+    failure = rw (at_same now p r x.within) (rw x.is_read at failure);
+    others = λ q differ. at_other now p q r differ;
+    few = λ buffered. rw (at_same now p r x.within)
+        (few (rw x.is_read ((f.consumed.lines_taken p).buffered buffered)));
   }
 
 -- The row after the field in the slot of column n, and the byte after it, were copied.
@@ -394,7 +391,7 @@ module _ {row : RowShape} where
         → RowAmid row (n + 1) from first
         (record now { readers = set now.readers (get_or row.cells n 0) r; any_line = now.any_line || has }) after
     amid_next r after room sound has e =
-        let (field, stored, filled) = fill_next a.filled x.low x.within x.is_read x.clean sound store after n has e in
+        let (field, stored, filled) = fill_next a.filled x sound store after n has e in
         let width = a.filled.consumed.width in
         rw stored (record {
           fields = a.fields ++ field ∷ [];
@@ -418,7 +415,7 @@ module _ {row : RowShape} where
         → FillCellPost (get_or row.cells n 0) n b r store after (Err e)
         → RowFilled row from first (set now.readers (get_or row.cells n 0) r) after into (Err e)
     amid_failed r after into (Read input) (p, sound, named) = (
-      fill_failed a.filled x.low x.within {CellFailed = FillReadErr} after r a.slots x.is_read p (λ few. sound.buffered),
+      fill_failed a.filled x {CellFailed = FillReadErr} after r a.slots p (λ few. sound.buffered),
       named,
     )
     amid_failed r after into Write (same, kept, going) = search rules

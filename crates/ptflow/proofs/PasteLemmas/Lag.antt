@@ -151,7 +151,7 @@ earlier_before {end} {now = now} {new = new} {given = given} {more = more} {ls =
       few = omega (
         arith,
         (let count : length ls ≡ length (complete_lines end given ++ rest) =
-            cc (lines_are_given end now given ls came, append-nil given) in count),
+            cc (lines_are_given _ _ _ _ came, append-nil given) in count),
         length-append (complete_lines end given) rest,
       );
     }

@@ -20,19 +20,21 @@ module _ (end : ℕ) where
 
   module _ (text_of : ℕ → List ℕ) where
     pub replaced-append : (number : ℕ) (xs ys : List ℕ) → with_replacements end text_of number (xs ++ ys)
-        ≡ with_replacements end text_of number xs ++ with_replacements end text_of (number + count_by (is_byte end) xs) ys
+        ≡ with_replacements end text_of number xs
+        ++ with_replacements end text_of (number + count_by (is_byte end) xs) ys
     replaced-append number [] ys = grind arith
     replaced-append number (b ∷ xs) ys =
         grind (arith, append_assoc, counted b xs, replaced-append (number + 1) xs ys, replaced-append number xs ys)
 
     -- A line contains no terminator, so its bytes stay.
     pub replaced_line : (number : ℕ) (line rest : List ℕ) → IsLine end line
-        → with_replacements end text_of number (line ++ end ∷ rest) ≡ line ++ (text_of number ++ with_replacements end text_of
-        (number + 1) rest)
+        → with_replacements end text_of number (line ++ end ∷ rest)
+        ≡ line ++ (text_of number ++ with_replacements end text_of (number + 1) rest)
     replaced_line number [] rest free = rw (byte_eq end) refl
     replaced_line number (b ∷ line) rest (other, free) = cc (byte_ne end b other, replaced_line number line rest free)
 
-    pub replaced_none : (number : ℕ) (line : List ℕ) → IsLine end line → with_replacements end text_of number line ≡ line
+    pub replaced_none : (number : ℕ) (line : List ℕ) → IsLine end line
+        → with_replacements end text_of number line ≡ line
     replaced_none number [] free = refl
     replaced_none number (b ∷ line) (other, free) = cc (byte_ne end b other, replaced_none number line free)
 

@@ -23,8 +23,8 @@ AreLines-append end (x ∷ xs) ys (line, more) q = (line, AreLines-append end xs
 none_received : {end : ℕ} {b c : Reader} {bytes : List ℕ} {ls : List (List ℕ)} → IsDone b → ReaderAdvance b c bytes
     → AreReceivedLines end c bytes ls → ls ≡ []
 none_received {end} {b} {c} {bytes} {ls} done reads k =
-    let (none, empty, eof) = eof_gives_nothing b c bytes done reads in
-    cc (lines_are_given end c bytes ls k)
+    let (none, empty, eof) = eof_gives_nothing _ _ _ done reads in
+    cc (lines_are_given _ _ _ _ k)
 
 -- Lines were received, and then more.
 pub lines_trans : {end : ℕ} {b c : Reader} {bs cs : List ℕ} {xs ys : List (List ℕ)} → AreReceivedLines end b bs xs
@@ -55,7 +55,7 @@ abbrev pub taken_more : {end : ℕ} {a b c : Reader} {k m n : ℕ} {xs ys : List
     → LinesTaken end a b m xs → LinesTaken end b c n ys → LinesTaken end a c k (xs ++ ys)
 taken_more {end} {a} {b} {c} {k} {m} {n} {xs} {ys} all p q = record {
   bytes = p.bytes ++ q.bytes;
-  reads = advance_trans a b c p.bytes q.bytes p.reads q.reads;
+  reads = advance_trans _ _ _ _ _ p.reads q.reads;
   failed = q.failed ∙ p.failed;
   fault = q.fault ∙ p.fault;
   short = λ h. q.short (p.short h);
@@ -66,7 +66,7 @@ taken_more {end} {a} {b} {c} {k} {m} {n} {xs} {ys} all p q = record {
       (λ same. ⊎_elim (λ every. inl (omega (arith, length-append xs ys)))
       (λ (done, few). inr (done, omega (arith, length-append xs ys))) q.enough)
       (λ (done, few). inr (
-        stays_at_eof b c q.bytes done q.reads,
+        stays_at_eof _ _ _ done q.reads,
         omega (arith, ap length (none_at_eof q done), length-append xs ys),
       ))
       p.enough;
@@ -147,7 +147,7 @@ module _ {row : RowShape} where
         ∙ p.on (λ input. ls input ++ more input) (λ input done i.
         let t = q.lines_taken input in
         none_at_eof t done i
-        ++ may input (stays_at_eof (reader_at b input) (reader_at c input) t.bytes done t.reads) i)
+        ++ may input (stays_at_eof _ _ _ done t.reads) i)
         ∙ ap (λ (l : List (List (List ℕ))). xs ++ l) (q.on more may)
         ∙ sym (append_assoc xs ys (rows (columns row.cells more)));
     count = q.count ∙ p.count;

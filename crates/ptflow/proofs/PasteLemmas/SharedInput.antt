@@ -2,14 +2,14 @@
 -- of these lines are replaced by the cycle (the delimiters of the row, and a last entry that keeps the terminator),
 -- they become the row. So bytes with count * n terminators, the last at the end, become `count` rows.
 use Rattle.ptflow.proofs
-use proofs.Common.{◌≡◌, ◌≢◌, ℕ, zero, suc, ◌+◌, ◌-◌, ◌*◌, ◌%◌, ◌<◌, ◌≤◌, cond, List, [], ◌∷◌, ◌++◌, length, map, take}
-use proofs.Common.{drop, set, get_or, refl, sym, ◌∙◌, ap, arith, append_assoc, length-drop, take-append-drop, ⊎_elim}
-use proofs.Common.{inl, count_by, cases_eq, cases_lt, mod-mul-add, take_more, take_all, nil_from_length}
-use proofs.Common.{length-take-le, length-set, All-get_or, sum_by-append, sum_by-set, is_byte, unlines, lines}
-use proofs.Common.{AreLines, EndsWithByte, Output, PushEffect, push_nothing, Reader, IsSound, budget, advance_ok_take}
-use proofs.Common.{byte_eq, unlines-append, lines_are, the_lines, no_reader, reader_at, update_at, join_with_cycle}
-use proofs.Common.{uses_of, columns, rows, IsSharedCycle, IsWholeRows, LinesTaken, with_replacements, cycle_byte}
-use proofs.Common.{after_cell, cells_text, mod-eq_of_lt, RowShape, RowsTaken, RowsWritten, nat_tests}
+use proofs.Common.{◌≡◌, ◌≢◌, ℕ, zero, suc, ◌+◌, ◌-◌, ◌*◌, ◌%◌, ◌<◌, ◌≤◌, List, [], ◌∷◌, ◌++◌, length, map, take, drop}
+use proofs.Common.{set, get_or, refl, sym, ◌∙◌, ap, arith, append_assoc, length-drop, take-append-drop, ⊎_elim, inl}
+use proofs.Common.{count_by, cases_eq, cases_lt, mod-mul-add, take_more, take_all, nil_from_length, length-take-le}
+use proofs.Common.{length-set, sum_by-append, sum_by-set, is_byte, unlines, lines, AreLines, EndsWithByte, Output}
+use proofs.Common.{PushEffect, push_nothing, Reader, IsSound, budget, advance_ok_take, byte_eq, unlines-append}
+use proofs.Common.{lines_are, the_lines, no_reader, reader_at, update_at, join_with_cycle, uses_of, columns, rows}
+use proofs.Common.{IsSharedCycle, IsWholeRows, LinesTaken, with_replacements, cycle_byte, after_cell, cells_text}
+use proofs.Common.{mod-eq_of_lt, RowShape, RowsTaken, RowsWritten, nat_tests}
 use proofs.Vectors.FindNth.{none_counted}
 use proofs.PasteLemmas.Grid.{Column, for_each_cell_unique, top_of, grid_step, uses_here, last_use, update_here}
 use proofs.PasteLemmas.Grid.{update_there}
@@ -26,16 +26,7 @@ use Rattle.std.proofs.lemmas.Grind.{common_steps}
 -- A text of complete lines has one terminator for each line.
 ends_of_lines : (end : ℕ) (ls : List (List ℕ)) → AreLines end ls → count_by (is_byte end) (unlines end ls) ≡ length ls
 ends_of_lines end [] are_lines = refl
-ends_of_lines end (line ∷ ls) (free, are_lines) =
-    let test = λ (x : ℕ). cond {A = ℕ} (is_byte end x) 1 0 in
-    grind (
-      arith,
-      sum_by-append test (line ++ end ∷ []) (unlines end ls),
-      sum_by-append test line (end ∷ []),
-      counted end end [] (byte_eq end),
-      none_counted end [] line free,
-      ends_of_lines end ls are_lines,
-    )
+ends_of_lines end (line ∷ ls) (free, are_lines) = grind (arith, sum_by-append, counted, byte_eq, none_counted, ends_of_lines end ls are_lines)
 
 ends_with : (end : ℕ) (bytes : List ℕ) → bytes ≢ [] → (0 < length bytes → get_or bytes (length bytes - 1) 0 ≡ end)
     → EndsWithByte end bytes
@@ -205,7 +196,8 @@ module _ (cells : List ℕ) (input : ℕ) (same : (c : ℕ) → c < length cells
 -- ---- the complete rows in the buffer
 
 module _ {row : RowShape} {cycle : Cycle} (t : IsSharedCycle row cycle) {old : List Reader}
-    {b r : Reader} (x : IsNextReader row old 0 b) (sound : IsSound b) {count : ℕ} (some : 0 < count) (within : count ≤ length b.buffered)
+    {b r : Reader} (x : IsNextReader row old 0 b) (sound : IsSound b) {count : ℕ} (some : 0 < count)
+    (within : count ≤ length b.buffered)
     (rs : IsWholeRows row.terminator (length row.cells) (take count b.buffered))
     (step : r ≡ record b { buffered = drop count b.buffered }) where
   abbrev end : ℕ
@@ -215,7 +207,7 @@ module _ {row : RowShape} {cycle : Cycle} (t : IsSharedCycle row cycle) {old : L
   input = get_or row.cells 0 0
 
   same : (c : ℕ) → c < length row.cells → get_or row.cells c 0 ≡ input
-  same c low = All-get_or (λ (q : ℕ). q ≡ input) row.cells c 0 low t.same
+  same c low = t.same c 0 low
 
   lines_taken_here : LinesTaken end b r (rs.count * length row.cells) rs.ls
   lines_taken_here = rw step (record {

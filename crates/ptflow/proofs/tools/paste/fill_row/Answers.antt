@@ -39,8 +39,7 @@ returns-in_err-has_line-clause-fills g c =
 
 -- Nothing was pushed.
 sent : (g : given.Over) (c : After-fill_cell g) → PushEffect c.args.out.now c.fill_cell.new.out []
-sent g c = push_trans c.args.out.now c.cells.out c.fill_cell.new.out [] [] c.cells.invariant.clean
-    c.cells.invariant.wrote c.fill_cell.ensures.wrote
+sent g c = push_trans _ _ _ _ _ c.cells.invariant.clean c.cells.invariant.wrote c.fill_cell.ensures.wrote
 
 pub returns-in_err-has_line-clause-wrote : goal.returns-in_err-has_line-clause-wrote
 returns-in_err-has_line-clause-wrote g c = sent g (goal.at.returns-in_err-has_line-clause-wrote g c).After-fill_cell

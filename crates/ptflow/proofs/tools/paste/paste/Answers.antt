@@ -209,7 +209,8 @@ returns-in_err-write_row g c =
     let (fault, same, is) = err_from_is_err_and c.from_residual-in_err-write_row.result
     c.from_residual-in_err-write_row.ensures.1 in
     rw (same, is) (row_failed g here c.in_ok-filled.filled row.fills
-    (sym (not-not _) ∙ ap not c.if-not-filled.false) row.wrote row.write_failed c.write_row.ensures.wrote c.in_err-write_row.ensures.fault)
+    (sym (not-not _) ∙ ap not c.if-not-filled.false) row.wrote row.write_failed c.write_row.ensures.wrote
+    c.in_err-write_row.ensures.fault)
 
 pub rows-smaller : goal.rows-smaller
 rows-smaller g c =
@@ -227,5 +228,6 @@ rows-preserved g c =
     let row = c.in_ok-filled.ensures in
     record {
       invariant_holds = row_more g here c.in_ok-filled.filled row.fills
-          (sym (not-not _) ∙ ap not c.if-not-filled.false) row.wrote row.write_failed c.write_row.ensures.wrote c.in_ok-write_row.ensures.clean;
+          (sym (not-not _) ∙ ap not c.if-not-filled.false) row.wrote row.write_failed c.write_row.ensures.wrote
+          c.in_ok-write_row.ensures.clean;
     }

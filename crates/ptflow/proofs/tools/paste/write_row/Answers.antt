@@ -1,6 +1,6 @@
 -- Each step writes the field of one more column. A failed write leaves a prefix of the row.
 use Rattle.ptflow.proofs
-use proofs.Common.{◌≡◌, ℕ, ◌+◌, ◌<◌, ◌≤◌, List, [], ◌∷◌, ◌++◌, length, take, drop, get_or, sym, ap, subst, arith}
+use proofs.Common.{◌≡◌, ℕ, ◌+◌, ◌<◌, ◌≤◌, List, [], ◌∷◌, ◌++◌, length, take, drop, get_or, sym, subst, arith}
 use proofs.Common.{length-take-le, length-drop, take_more, take-append-drop, take-take, drop_all, append-nil}
 use proofs.Common.{append_assoc, drop-append-le, err_from_is_err_and, PushEffect, push_past_failure, push_trans}
 use proofs.Common.{RowShape, after_cell, cells_text, shape_of}
@@ -17,7 +17,7 @@ module _ (row : RowShape) (first : ℕ) (lines : List (List ℕ)) where
   text_to k = cells_text row first (drop first (take k lines))
 
   text_start : text_to first ≡ []
-  text_start = ap (cells_text row first) (drop_all first (take first lines) (omega (arith, length-take first lines)))
+  text_start = grind (arith, drop_all, length-take)
 
   text_more : (k : ℕ) → first ≤ k → k < length lines
       → text_to (k + 1) ≡ text_to k ++ (get_or lines k [] ++ after_cell row k)
@@ -85,7 +85,7 @@ module _ (g : given.Over) (c : After-write_slot g) where
         text_more row c.args.begun.count lines k over (omega arith),
         append_assoc (take c.args.begun.end c.args.into.now) (text_to row c.args.begun.count lines k) piece,
       ) in
-      rw more (push_trans c.args.out.now c.loop-column.out c.write_slot.new.out (text k) piece
+      rw more (push_trans _ _ _ _ _
       c.loop-column.invariant.clean c.loop-column.invariant.wrote c.write_slot.ensures.wrote)
 
 pub returns-in_err-write_slot : goal.returns-in_err-write_slot

@@ -1,8 +1,8 @@
 -- The buffer up to `rows_end` has a multiple of the row's number of terminators and ends with one, so it is complete
 -- rows; and the copy up to there depends only on these bytes.
 use Rattle.ptflow.proofs
-use proofs.Common.{◌≡◌, ◌+◌, ◌/◌, ◌-◌, length, take, ap, ◌∙◌, arith, get_or-take, take-append-le, length-take-le, count_by}
-use proofs.Common.{is_byte}
+use proofs.Common.{◌≡◌, ◌+◌, ◌/◌, ◌-◌, length, take, ap, ◌∙◌, arith, get_or-take, take-append-le, length-take-le}
+use proofs.Common.{count_by, is_byte}
 use proofs.PasteLemmas.SharedInput.{whole_rows_counted}
 use proofs.PasteLemmas.Replaced.{length-replaced, take-replaced}
 use Rattle.ptflow.proofs.tools.paste.shared_input.copy_shared_rows.Goals as goal

@@ -16,5 +16,6 @@ pub returns-clause-rows : goal.returns-clause-rows
 returns-clause-rows g c =
     let shared = rw c.in-Some.is at c.requires.is_cycle in
     let copied = c.copy_shared_rows-count.ensures in
-    copied_rows shared (next_reader c.requires.readable shared.some c.index-readers-row.result) copied.sound (omega arith) copied.within (rw (shared.terminator, shared.len) at copied.rows)
-    c.consume.ensures.consumed copied.copied c.push.ensures.pushed.wrote
+    copied_rows shared (next_reader c.requires.readable shared.some c.index-readers-row.result) copied.sound
+    (omega arith) copied.within (rw (shared.terminator, shared.len) at copied.rows) c.consume.ensures.consumed
+    copied.copied c.push.ensures.pushed.wrote

@@ -15,8 +15,7 @@ held_is false end rest is = rw is refl
 
 parts : (block : List ℕ) → 0 < length block
     → take (length block - 1) block ++ get_or block (length block - 1) 0 ∷ [] ≡ block
-parts block some = sym (take_more block (length block - 1) 0 (omega arith))
-    ∙ take_all (length block - 1 + 1) block (omega arith)
+parts block some = grind (arith, take_more, take_all)
 
 module _ (c : After-copy_cells-end) (more : List ℕ) where
   abbrev last : ℕ
