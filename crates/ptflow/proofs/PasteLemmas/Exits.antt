@@ -86,7 +86,7 @@ module _ {job : Paste} {cells : List ℕ} {old set now : List Reader} {was is : 
     bound_now = k.bound (λ p. (given p).bytes) (λ p. consistent_itself (given p))
 
     same_size_and_peak : (length after.lines ≡ length stored.lines) × (after.peak ≡ stored.peak)
-    same_size_and_peak = ⊎_elim (λ is. rw is (refl, refl)) (λ is. rw is (refl, refl)) k.same
+    same_size_and_peak = grind (arith, k.same)
 
     progress : CallProgress (inputs_at cells) (paste_engine job cells) begin end
         (λ p. (so_far p).bytes ++ r.extra p) (rows_text job s.taken_rows ++ pushed)
@@ -239,8 +239,7 @@ module _ {job : Paste} {cells : List ℕ} {old set now : List Reader} {was is : 
     none = f.none refl
 
     done_by : (p : ℕ) → 0 < uses_of cells p → IsDone (reader_at new p)
-    done_by p some = ⊎_elim (λ same. absurd (omega (arith, ap length (none p)))) (λ (done, few). done)
-        (lines_taken_by p).enough
+    done_by p some = grind (arith, none p, (lines_taken_by p).enough)
 
     nothing_by : (p : ℕ) → (lines_taken_by p).bytes ≡ []
     nothing_by p = none_received (rw (none p) at (lines_taken_by p).came)

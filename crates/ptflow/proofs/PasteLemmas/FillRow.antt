@@ -261,14 +261,15 @@ module _ {cells : List ℕ} {n : ℕ} {old now : List Reader} {fields : List (Li
   cells_taken_more = record {
     lines_taken = lines_taken_next;
     width = omega (arith, length-append fields (field ∷ []));
-    fields_taken = λ c less. ⊎_elim
-        (λ same. cc (get_or_push fields field [] n (omega arith), lines_at_here input ls input_lines input refl))
-        (λ differ. cc (
-          get_or_append_left fields (field ∷ []) [] c (omega arith),
-          t.fields_taken c (omega arith),
-          earlier_cell c (omega arith),
-        ))
-        (cases_eq c n);
+    fields_taken = λ c less. grind (
+      arith,
+      cases_eq c n,
+      get_or_push fields field [] n,
+      t.fields_taken c,
+      lines_at_here input ls input_lines input refl,
+      get_or_append_left fields (field ∷ []) [] c,
+      earlier_cell c,
+    );
     count = length-set now input r ∙ t.count;
   }
 
@@ -306,8 +307,7 @@ module _ {row : RowShape} {n : ℕ} {old now : List Reader} {fields : List (List
     fill_line e =
         let lines_taken = rw x.is_read at (taken_line e same_end x.clean sound) in
         let all : length (f.input_lines p) ≡ uses_of (take n row.cells) p =
-        ⊎_elim (λ same. same) (λ (done, few). absurd (omega (arith, ap length (none_at_eof lines_taken done))))
-        (f.consumed.lines_taken p).enough in
+        grind (arith, none_at_eof lines_taken, (f.consumed.lines_taken p).enough) in
         let less : sum_by budget (set now p r) < sum_by budget old = omega (arith, all_budgets) in
         record {
           input_lines = lines_at p (e.line ∷ []) f.input_lines;

@@ -42,7 +42,7 @@ lines_trans {end} {b} {c} {bs} {cs} {xs} {ys} p reads q = search (
 
 -- At most the requested number of lines is taken.
 pub taken_at_most : {end : ℕ} {b c : Reader} {n : ℕ} {ys : List (List ℕ)} → LinesTaken end b c n ys → length ys ≤ n
-taken_at_most t = ⊎_elim (λ same. omega arith) (λ (done, few). few) t.enough
+taken_at_most t = grind (arith, t.enough)
 
 -- Nothing is taken from a reader at the end of its input.
 pub none_at_eof : {end : ℕ} {b c : Reader} {n : ℕ} {ys : List (List ℕ)} → LinesTaken end b c n ys → IsDone b → ys ≡ []
@@ -62,14 +62,7 @@ taken_more {end} {a} {b} {c} {k} {m} {n} {xs} {ys} all p q = record {
   buffered = λ h. q.buffered (p.buffered h);
   none = λ h. q.none (omega arith) ∙ p.none (omega arith);
   came = lines_trans p.came q.reads q.came;
-  enough = ⊎_elim
-      (λ same. ⊎_elim (λ every. inl (omega (arith, length-append xs ys)))
-      (λ (done, few). inr (done, omega (arith, length-append xs ys))) q.enough)
-      (λ (done, few). inr (
-        stays_at_eof _ _ _ done q.reads,
-        omega (arith, ap length (none_at_eof q done), length-append xs ys),
-      ))
-      p.enough;
+  enough = grind (arith, p.enough, q.enough, none_at_eof, stays_at_eof, length-append);
 }
 
 -- One line was requested: a line was taken, or none.
