@@ -41,10 +41,7 @@ earlier_partial {end} new {given} {ls} k going piece {bytes} is free buffered fe
   split = refl;
   short = omega arith;
   few = let lines_are : complete_lines end (given ++ piece) ≡ ls =
-      ⊎_elim
-      (λ (whole, are). ap (λ (b : List ℕ). complete_lines end (b ++ piece)) whole
-      ∙ complete_lines_of_unlines end ls piece are free)
-      (λ (whole, done). absurd (going done)) k.so_far in
+      grind (arith, k.so_far, going, complete_lines_of_unlines end ls piece) in
       omega (arith, ap length (ap (complete_lines end) is ∙ lines_are));
 }
 

@@ -2,8 +2,8 @@
 -- then more, the concatenation is taken. One filled row is such a row, since each column takes one line. Its fields,
 -- each with the byte after it, are the joined fields and the terminator.
 use Rattle.ptflow.proofs
-use proofs.Common.{◌≡◌, ◌⊎◌, ⊎_elim, inl, inr, ℕ, ◌+◌, ◌≤◌, List, [], ◌∷◌, ◌++◌, None, length, refl, sym, ◌∙◌, ap}
-use proofs.Common.{arith, length-append, AreLines, Reader, ReaderAdvance, AdvanceOk, IsDone, IsSound, Slots, FillLine}
+use proofs.Common.{◌≡◌, ◌⊎◌, inl, ℕ, ◌+◌, ◌≤◌, List, [], ◌∷◌, ◌++◌, None, length, refl, sym, ◌∙◌, ap, arith}
+use proofs.Common.{length-append, AreLines, Reader, ReaderAdvance, AdvanceOk, IsDone, IsSound, Slots, FillLine}
 use proofs.Common.{advance_trans, unlines-append, lines_of_unlines, AreReceivedLines, LinesTaken, suc, ◌*◌, ◌<◌, true}
 use proofs.Common.{take, subst, append_assoc, eq-eqb, ne_eqb, take_all, reader_at, map, unlines, join_with_cycle}
 use proofs.Common.{uses_of, columns, rows, CellsTaken, CellsFilled, RowShape, after_cell, cells_text, AreFirstRows}
@@ -199,7 +199,7 @@ module _ (row : RowShape) {old new : List Reader} {fields : List (List ℕ)}
             (sym one) (lines_taken_by_row r.consumed p);
         on = λ more may.
             grid_step row.cells r.input_lines more (record {
-              all = λ p. ⊎_elim inl (λ (done, few). inr (may p done, few)) (lines_taken_by_row r.consumed p).enough;
+              all = λ p. grind (arith, may p, (lines_taken_by_row r.consumed p).enough);
             }) c low (omega arith)
             ∙ (λ i. sym row_is i ∷ rows (columns row.cells more));
         count = r.consumed.count;

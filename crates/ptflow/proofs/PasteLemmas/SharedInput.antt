@@ -3,13 +3,13 @@
 -- they become the row. So bytes with count * n terminators, the last at the end, become `count` rows.
 use Rattle.ptflow.proofs
 use proofs.Common.{◌≡◌, ◌≢◌, ℕ, zero, suc, ◌+◌, ◌-◌, ◌*◌, ◌%◌, ◌<◌, ◌≤◌, List, [], ◌∷◌, ◌++◌, length, map, take, drop}
-use proofs.Common.{set, get_or, refl, sym, ◌∙◌, ap, arith, append_assoc, length-drop, take-append-drop, ⊎_elim, inl}
-use proofs.Common.{count_by, cases_eq, cases_lt, mod-mul-add, take_more, take_all, nil_from_length, length-take-le}
-use proofs.Common.{length-set, sum_by-append, sum_by-set, is_byte, unlines, lines, AreLines, EndsWithByte, Output}
-use proofs.Common.{PushEffect, push_nothing, Reader, IsSound, budget, advance_ok_take, byte_eq, unlines-append}
-use proofs.Common.{lines_are, the_lines, no_reader, reader_at, update_at, join_with_cycle, uses_of, columns, rows}
-use proofs.Common.{IsSharedCycle, IsWholeRows, LinesTaken, with_replacements, cycle_byte, after_cell, cells_text}
-use proofs.Common.{mod-eq_of_lt, RowShape, RowsTaken, RowsWritten, nat_tests}
+use proofs.Common.{set, get_or, refl, sym, ◌∙◌, ap, arith, append_assoc, length-drop, take-append-drop, inl, count_by}
+use proofs.Common.{cases_eq, mod-mul-add, take_more, take_all, nil_from_length, length-take-le, length-set}
+use proofs.Common.{sum_by-append, sum_by-set, is_byte, unlines, lines, AreLines, EndsWithByte, Output, PushEffect}
+use proofs.Common.{push_nothing, Reader, IsSound, budget, advance_ok_take, byte_eq, unlines-append, lines_are}
+use proofs.Common.{the_lines, no_reader, reader_at, update_at, join_with_cycle, uses_of, columns, rows, IsSharedCycle}
+use proofs.Common.{IsWholeRows, LinesTaken, with_replacements, cycle_byte, after_cell, cells_text, mod-eq_of_lt}
+use proofs.Common.{RowShape, RowsTaken, RowsWritten, nat_tests}
 use proofs.Vectors.FindNth.{none_counted}
 use proofs.PasteLemmas.Grid.{Column, for_each_cell_unique, top_of, grid_step, uses_here, last_use, update_here}
 use proofs.PasteLemmas.Grid.{update_there}
@@ -45,7 +45,7 @@ pub whole_rows_counted : (end n count : ℕ) (bytes : List ℕ)
 whole_rows_counted end n count bytes last counted =
     let ((are_lines, text), only) = the_lines end bytes in
     let is : unlines end (lines end bytes) ≡ bytes =
-    ⊎_elim (λ same. same) (λ (some, not_ended, missing). absurd (not_ended (ends_with end bytes some last))) text in
+    grind (arith, text, ends_with end bytes) in
     record {
       count = count;
       ls = lines end bytes;
@@ -142,10 +142,7 @@ module _ (cells : List ℕ) (input : ℕ) (same : (c : ℕ) → c < length cells
   uses_all = grind (arith, common_steps, uses_before_column)
 
   uses_none : (q : ℕ) → q ≢ input → uses_of cells q ≡ 0
-  uses_none q differ = ⊎_elim
-      (λ some. let (c, low, uses, before) = last_use cells q some in absurd (differ (sym uses ∙ same c low)))
-      (λ none. omega arith)
-      (cases_lt 0 (uses_of cells q))
+  uses_none q differ = grind (arith, last_use cells q, same)
 
   -- The first n lines are the first row.
   row_on : (some : 0 < length cells) (ls : Column) (more : ℕ → Column) → length ls ≡ length cells
@@ -154,11 +151,7 @@ module _ (cells : List ℕ) (input : ℕ) (same : (c : ℕ) → c < length cells
       cc (
         grid_step cells (lines_of_input input ls) more
             (record {
-              all = λ q. inl (⊎_elim (λ here. rw here (rw (
-                update_here input ls (λ q. []) input refl,
-                uses_all,
-              ) long)) (λ there. rw (update_there input ls (λ q. []) q there, uses_none q there) refl)
-                  (cases_eq q input));
+              all = λ q. inl (grind (arith, nat_tests, cases_eq q input, uses_all, uses_none q));
             }) 0 some (omega (
               arith,
               ap length (update_here input ls (λ q. []) (get_or cells 0 0) (same 0 some)),
