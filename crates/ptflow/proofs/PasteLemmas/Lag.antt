@@ -3,7 +3,7 @@
 use Rattle.ptflow.proofs
 use proofs.Common.{◌≡◌, ⊎_elim, ℕ, zero, suc, ◌+◌, ◌-◌, ◌*◌, ◌<◌, ◌≤◌, Bool, true, false, List, [], ◌∷◌, ◌++◌, length}
 use proofs.Common.{take, drop, get_or, map, refl, sym, ◌∙◌, ap, subst, arith, append_assoc, take-append-drop}
-use proofs.Common.{length-append, length-drop, filter, range_with_len, enumerate_from, cases_eq, cases_lt, cases_Bool}
+use proofs.Common.{length-append, length-drop, filter, range_with_len, enumerate_from, cases_eq, cases_Bool}
 use proofs.Common.{nat_tests, append-nil, append_cancel_right, take-append-le, length-take-le, take_all, take_more}
 use proofs.Common.{get_or-map, length-map, take-map-range_with_len, length-map-range_with_len, map-map, unlines}
 use proofs.Common.{lines, complete_lines, IsLine, AreLines, Received, IsPrefix, known_lines, ProcessLag, Reader}
@@ -264,8 +264,7 @@ module _ (job : Paste) (cells : List ℕ) (came : ℕ → Received) where
         let (more, is_known) = whole_lines_prefix job.terminator (came here).eof cut.front cut.last in
         let is_front = update_here here front came p is in
         let there : r < length (every_kth k j (known_of earlier p)) =
-        ⊎_elim (λ there. there) (λ past. cc (unknown r c low is past))
-        (cases_lt r (length (every_kth k j (known_of earlier p)))) in
+        grind (arith, unknown r c low is) in
         let whole : known_lines job.terminator (came here) ≡ complete_lines job.terminator cut.front ++ more =
         (λ i. known_lines job.terminator (record { bytes = cut.split i; eof = (came here).eof })) ∙ is_known in
         cc (every_kth_more k j r (complete_lines job.terminator cut.front) more
@@ -307,8 +306,7 @@ module _ (job : Paste) (cells : List ℕ) (came : ℕ → Received) where
         let is : known_rows (grid earlier) ends ≡ take m taken_rows =
         cc (
           same_rows (row_at (grid earlier)) (row_at (grid came)) 0 m
-              (λ r low. row_same r (⊎_elim (λ is. is) (λ not. absurd (omega (arith, past r not)))
-              (cases_Bool (is_row_known (grid earlier) ends r)))),
+              (λ r low. row_same r (grind (arith, past r, cases_Bool (is_row_known (grid earlier) ends r)))),
           take-map-range_with_len (row_at (grid came)) 0 (row_count (grid came)) m high,
           take-append-le m taken_rows more few,
         ) in
