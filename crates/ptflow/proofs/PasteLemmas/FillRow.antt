@@ -328,7 +328,8 @@ module _ {row : RowShape} {n : ℕ} {old now : List Reader} {fields : List (List
         }
 
     -- The reader is at the end of its input.
-    fill_eof : AdvanceOk b r [] → IsDone r → CellsFilled row.cells (n + 1) old (set now p r) (fields ++ [] ∷ []) any_line
+    fill_eof : AdvanceOk b r [] → IsDone r
+        → CellsFilled row.cells (n + 1) old (set now p r) (fields ++ [] ∷ []) any_line
     fill_eof advance_ok done = record {
       input_lines = lines_at p [] f.input_lines;
       consumed = cells_taken_more f.consumed x.low x.within (rw x.is_read at

@@ -26,7 +26,8 @@ use Rattle.std.proofs.lemmas.Grind.{common_steps}
 -- A text of complete lines has one terminator for each line.
 ends_of_lines : (end : ℕ) (ls : List (List ℕ)) → AreLines end ls → count_by (is_byte end) (unlines end ls) ≡ length ls
 ends_of_lines end [] are_lines = refl
-ends_of_lines end (line ∷ ls) (free, are_lines) = grind (arith, sum_by-append, counted, byte_eq, none_counted, ends_of_lines end ls are_lines)
+ends_of_lines end (line ∷ ls) (free, are_lines) =
+    grind (arith, sum_by-append, counted, byte_eq, none_counted, ends_of_lines end ls are_lines)
 
 ends_with : (end : ℕ) (bytes : List ℕ) → bytes ≢ [] → (0 < length bytes → get_or bytes (length bytes - 1) 0 ≡ end)
     → EndsWithByte end bytes

@@ -7,7 +7,8 @@ loop-column-preserved g c =
     let inv = c.loop-column.invariant in
     rw c.clear.ensures (record {
       empty = λ k under. grind (arith, inv.empty k, get_or-set_other, get_or-set_same);
-      kept = λ first top before. slots_bound_line (inv.kept first top before) c.loop-column.column [] c.loop-column-test.true
+      kept = λ first top before. slots_bound_line (inv.kept first top before) c.loop-column.column []
+          c.loop-column-test.true
           (omega arith);
       same = length-set c.loop-column.store.lines c.loop-column.column [] ∙ inv.same;
     })
