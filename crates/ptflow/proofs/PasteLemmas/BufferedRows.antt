@@ -2,20 +2,20 @@
 -- would return, so a column is filled by it in the same way.
 use Rattle.ptflow.proofs
 use proofs.Common.{◌≡◌, inl, ℕ, ◌+◌, ◌<◌, ◌≤◌, ◌^◌, ◌||◌, Bool, true, false, List, [], ◌∷◌, ◌++◌, ◌%◌, eq-eqb, ne_eqb}
-use proofs.Common.{option_to_list, slice_index_or, None, Some, Ok, length, take, drop, set, get_or, refl, sym, ◌∙◌}
-use proofs.Common.{ap, arith, append_assoc, length-append, length-drop, take-take, take-append-le, length-take-le}
+use proofs.Common.{option_to_list, slice_index_or, None, Some, Ok, length, take, drop, set, get_or, refl, sym, ap}
+use proofs.Common.{arith, append_assoc, length-append, length-drop, take-take, take-append-le, length-take-le}
 use proofs.Common.{drop_at, IsFirstByte, is_byte, Reader, IsSound, Slots, with_line, FillLine, FillPost}
-use proofs.Common.{line_before_terminator, take_with_terminator, advance_ok_take, reader_at, uses_of, CellsFilled}
-use proofs.Common.{after_cell, cells_text, RowShape, BegunText, BufferedRowsPre, IsConsumed, AreConsumed}
-use proofs.Common.{IsFieldCopied, CopyColumnsPost, CopyRowsPost, RowsTaken, put_chunk, chunk, length-chunk}
-use proofs.Common.{length-put_chunk, take_more_put_chunk}
+use proofs.Common.{line_before_terminator, take_with_terminator, advance_ok_take, reader_at, CellsFilled, after_cell}
+use proofs.Common.{cells_text, RowShape, BegunText, BufferedRowsPre, IsConsumed, AreConsumed, IsFieldCopied}
+use proofs.Common.{CopyColumnsPost, CopyRowsPost, RowsTaken, put_chunk, chunk, length-chunk, length-put_chunk}
+use proofs.Common.{take_more_put_chunk}
 use Rattle.memchr.specs.Find.{IsFirst, Passes}
 use Rattle.ptlines.proofs.CopyFacts.{copied_prefix}
 use Rattle.std.proofs.Math.Seq.{take-append-add}
 use borrow.Rule.Slice.PartMut.{mid_of, put_mid}
 use Rattle.ptflow.specs.Private.Paste.BufferedRows.{LineCopied}
 use proofs.PasteLemmas.RowsTaken.{cells_text-push, rows_taken_trans, row_taken}
-use proofs.PasteLemmas.FillRow.{each_reader, fill_starts, fill_next}
+use proofs.PasteLemmas.FillRow.{IsNextReader, next_reader, each_reader, fill_starts, fill_next}
 use Rattle.std.proofs.Common.{rules}
 use Rattle.std.proofs.lemmas.Grind.{common_steps}
 
@@ -27,8 +27,7 @@ buffered_line : (b r : Reader) (at : ℕ) (store : Slots) (slot : ℕ) → b.fau
 buffered_line b r at store slot clean short first step =
     let (found, here) = first in
     let advance_ok = rw (take_with_terminator b.terminator b.buffered at first) at
-    (advance_ok_take b r (at + 1) clean (omega (arith, found.high)) step) in
-    let new_short : r.pulled < 2 ^ 63 = advance_ok.short short in
+    (advance_ok_take b r (at + 1) clean (omega arith) step) in
     record {
       line = take at b.buffered;
       terminator = b.terminator ∷ [];
@@ -36,14 +35,7 @@ buffered_line b r at store slot clean short first step =
       whole = line_before_terminator b.terminator b.buffered at first;
       ends = inl refl;
       stored = refl;
-      less = omega (
-        arith,
-        advance_ok.reads.count,
-        new_short,
-        short,
-        length-append (take at b.buffered)
-            (b.terminator ∷ []),
-      );
+      less = omega (arith, length-append (take at b.buffered) (b.terminator ∷ []));
     }
 
 sound_after_consume : {b r : Reader} → IsSound b → IsConsumed b r → IsSound r
@@ -70,7 +62,7 @@ field_copied {b = b} {r = r} true clean ends sound p = record {
   is = p.is;
   consumed = record { size = p.at + 1; is = p.consumed };
 }
-field_copied {b = b} {r = r} {before = before} false clean ends sound p = search (rules, advance_ok_take, clean)
+field_copied {b = b} {r = r} {before = before} false clean ends sound p = search (rules, advance_ok_take)
 
 pub consumed_none : {old : List Reader} → AreConsumed old old
 consumed_none = record { count = refl; buffered = λ p. record { size = 0; is = refl } }
@@ -90,37 +82,37 @@ consumed_trans p q = grind (arith, both_consumed)
 pub still_readable : {row : RowShape} {old new : List Reader} → AreConsumed old new → BufferedRowsPre row old
     → BufferedRowsPre row new
 still_readable c ready = record {
-  within = λ k d low. omega (arith, ready.within k d low, c.count);
-  unfailed = λ p some. ap (λ (r : Reader). r.fault) (c.buffered p).is ∙ ready.unfailed p some;
-  same_end = λ p some. ap (λ (r : Reader). r.terminator) (c.buffered p).is ∙ ready.same_end p some;
+  within = λ k d low. omega arith;
+  unfailed = λ p some. cc ((c.buffered p).is, ready.unfailed p some);
+  same_end = λ p some. cc ((c.buffered p).is, ready.same_end p some);
 }
 
 pub still_pulled : {old new : List Reader} → AreConsumed old new → (p : ℕ)
     → (reader_at new p).pulled ≡ (reader_at old p).pulled
-still_pulled c p = ap (λ (r : Reader). r.pulled) (c.buffered p).is
+still_pulled c p = ap (λ r. r.pulled) (c.buffered p).is
 
 -- The bytes before the copy do not change.
 pub prefix_is_kept : (at end : ℕ) (now old written : List ℕ) → at ≤ end → at ≤ length old
     → take end now ≡ take at old ++ written → take at now ≡ take at old
-prefix_is_kept at end now old written low fits is = cc (
-  is,
-  take-take at end now low,
-  take-append-le at (take at old) written (omega (arith, length-take-le at old fits)),
-  take-take at at old (omega arith),
-)
+prefix_is_kept at end now old written low fits is =
+    cc (
+      take-take at end now low,
+      take-append-le at (take at old) written (omega (arith, length-take-le at old fits)),
+      take-take at at old (omega arith),
+    )
 
 -- A vector was stored at `at`.
 vector_stored : (at k n : ℕ) (was lanes : List ℕ) → length lanes ≡ n → n ≤ k → at + k ≡ length was
     → take (at + n) (put_mid at k was (put_chunk 0 (mid_of at k was) lanes)) ≡ take at was ++ lanes
 vector_stored at k n was lanes long room all =
     let mid = mid_of at k was in
-    let size : length mid ≡ k = length-take-le k (drop at was) (omega (arith, length-drop at was, all)) in
+    let size = length-take-le k (drop at was) (omega (arith, length-drop at was)) in
     cc (
-      length-take-le at was (omega (arith, all)),
+      length-take-le at was (omega arith),
       take-append-add (take at was) (put_chunk 0 mid lanes ++ drop k (drop at was)) n,
       take-append-le n (put_chunk 0 mid lanes) (drop k (drop at was))
-          (omega (arith, length-put_chunk 0 mid lanes, size)),
-      take_more_put_chunk 0 mid lanes n (omega (arith, long)) (omega (arith, size)),
+          (omega (arith, length-put_chunk 0 mid lanes)),
+      take_more_put_chunk 0 mid lanes n (omega arith) (omega arith),
     )
 
 -- A vector was stored at `at`, and the line that it begins with was consumed.
@@ -133,12 +125,12 @@ pub vector_line : (at k n : ℕ) (was : List ℕ) {end count : ℕ} {old new : R
 vector_line at k n was {count = count} {bytes = bytes} same long room all first consumed = record {
   at = count;
   found = rw (sym same) (
-    record { low = omega arith; high = omega (arith, first.0.high, long); before = first.0.before },
+    record { low = omega arith; high = omega arith; before = first.0.before },
     first.1,
   );
   consumed = consumed;
-  is = rw (sym same) (copied_prefix at count n was _ bytes (omega (arith, all)) (omega (arith, first.0.high))
-      (vector_stored at k n was (chunk 0 n bytes) (length-chunk 0 n bytes (omega (arith, long))) room all));
+  is = rw (sym same) (copied_prefix at count n was _ bytes (omega arith) (omega arith)
+      (vector_stored at k n was (chunk 0 n bytes) (length-chunk 0 n bytes (omega arith)) room all));
 }
 
 -- ---- the columns of a row
@@ -155,21 +147,17 @@ module _ {row : RowShape} where
   pub columns_start : {begun : BegunText} → CopyColumnsPost row begun begun
   columns_start {begun} = search (rules, consumed_none)
 
-  module _ {begun now : BegunText} (s : CopyColumnsPost row begun now) (low : now.count < length row.cells)
-      (ready : BufferedRowsPre row now.readers) (used : 0 < uses_of row.cells (get_or row.cells now.count 0))
-      {b : Reader} (r : Reader) (is_read : b ≡ reader_at now.readers (get_or row.cells now.count 0))
-      (sound : IsSound b) (has : Bool) (copied : List ℕ) where
+  module _ {begun now : BegunText} (s : CopyColumnsPost row begun now) (ready : BufferedRowsPre row begun.readers)
+      (low : now.count < length row.cells) (unread r : Reader)
+      (sound : IsSound (get_or now.readers (get_or row.cells now.count 0) unread)) (has : Bool) (copied : List ℕ) where
     abbrev input : ℕ
     input = get_or row.cells now.count 0
 
-    within : input < length now.readers
-    within = ready.within now.count 0 low
+    abbrev b : Reader
+    b = get_or now.readers input unread
 
-    clean : b.fault ≡ None
-    clean = ap (λ (x : Reader). x.fault) is_read ∙ ready.unfailed input used
-
-    ends : b.terminator ≡ row.terminator
-    ends = ap (λ (x : Reader). x.terminator) is_read ∙ ready.same_end input used
+    x : IsNextReader row now.readers now.count b
+    x = next_reader (still_readable s.consumed ready) low unread
 
     -- The row after one more column.
     abbrev pub with_column : List ℕ → BegunText
@@ -186,9 +174,9 @@ module _ {row : RowShape} where
           → CellsFilled row.cells (now.count + 1) from (set now.readers input r)
           (front ++ (s.fields ++ f.field ∷ [])) (now.any_line || has)
       filled_more from front given =
-          let (field, stored, filled) = fill_next (s.filled from front given) low within is_read clean
+          let (field, stored, filled) = fill_next (s.filled from front given) x
           (sound_after_consume sound f.consumed) no_slots (with_line no_slots 0 f.field) 0 has f.fills in
-          let same : field ≡ f.field = sym (ap (λ (x : Slots). get_or x.lines 0 []) stored) in
+          let same : field ≡ f.field = sym (ap (λ x. get_or x.lines 0 []) stored) in
           rw (same, append_assoc front s.fields (f.field ∷ [])) at filled
 
       one_more : {next : List ℕ} → next ≡ copied ++ after_cell row now.count
@@ -199,22 +187,19 @@ module _ {row : RowShape} where
             let text = cells_text row begun.count s.fields in
             let end = after_cell row now.count in
             cc (
-              s.is,
-              f.is,
-              after,
               cells_text-push row begun.count s.fields f.field s.width,
               append_assoc (begun.text ++ text) f.field end,
               append_assoc begun.text text (f.field ++ end),
             );
-        consumed = consumed_more s.consumed within is_read f.consumed;
-        width = omega (arith, s.width, length-append s.fields (f.field ∷ []));
+        consumed = consumed_more s.consumed x.within x.is_read f.consumed;
+        width = omega (arith, length-append s.fields (f.field ∷ []));
         filled = filled_more;
       }
 
     -- One more column was copied, and the byte after it.
     pub columns_more : {next byte : List ℕ} → IsFieldCopied row.terminator b r now.text copied has
         → next ≡ copied ++ byte → byte ≡ after_cell row now.count → CopyColumnsPost row begun (with_column next)
-    columns_more field stored after = grind (arith, one_more, field_copied, clean, ends)
+    columns_more field stored after = let here = x in grind (arith, one_more, field_copied, here.clean, here.ends)
 
   -- The first columns of a row were copied after whole rows.
   pub rows_and_begun : {old now new : List Reader} {n at to : ℕ} {any_line : Bool} (into next : List ℕ)
@@ -229,7 +214,7 @@ module _ {row : RowShape} where
     rows = rw (prefix_is_kept at to next into (cells_text row 0 p.fields) further fits p.is) rows;
     fields = p.fields;
     filled = p.filled now [] fill_starts;
-    is = ap (drop at) p.is ∙ drop_at (take at into) (cells_text row 0 p.fields) at (length-take-le at into fits);
+    is = cc (drop_at (take at into) (cells_text row 0 p.fields) at (length-take-le at into fits));
     consumed = consumed_trans consumed p.consumed;
   }
 

@@ -1,6 +1,7 @@
 -- The exits of `paste`: success, or a failed read, write or growth, between rows or within one. In each case the rows
 -- so far were pushed, and the readers have given the lines of these rows and perhaps some bytes more.
 use Rattle.ptflow.proofs
+use proofs.Common.{cond, ◌==◌, eq-eqb, ne_eqb, nat_tests}
 use proofs.Common.{◌≡◌, ◌≢◌, ◌⊎◌, ⊎_elim, inl, inr, ℕ, ◌+◌, ◌*◌, ◌<◌, ◌≤◌, true, false, List, [], ◌∷◌, ◌++◌, Result, Ok}
 use proofs.Common.{Err, length, take, get_or, max, refl, sym, ◌∙◌, ap, arith, append_assoc, length-append, cases_eq}
 use proofs.Common.{append-nil, lines, IsLine, max_length, max_line_length, Received, IsPrefix, IsConsistent}
@@ -42,7 +43,7 @@ paste_without_slots {job} {cells} {old} {set} {was} {first} {store} s adds same 
     begins_earlier job cells (λ q. received_with [] (reader_at set q)) []
     (rows (columns cells (λ q. known_lines job.terminator (received_with [] (reader_at set q))))) refl p some
     (earlier_buffered job.terminator (1 * uses_of cells p) (reader_at set p) ((s.are_set p).sound some).buffered
-    (omega (arith, some))))))
+    (omega arith)))))
 
 module _ {job : Paste} {cells : List ℕ} {old set now : List Reader} {was is : Output} {first store : Slots}
     (s : PasteInvariant job cells old set now was is first store) where
@@ -51,15 +52,23 @@ module _ {job : Paste} {cells : List ℕ} {old set now : List Reader} {was is : 
       (length s.taken_rows * uses_of cells p) (s.ls p)
   so_far = s.first_rows.lines_taken
 
+  -- A fact of all texts that are consistent with what was received.
+  abbrev ForTexts : {new : List Reader} → ReadMore cells now new → ((ℕ → List ℕ) → Type 0) → Type 0
+  ForTexts r P = (texts : ℕ → List ℕ) → ((p : ℕ) → IsConsistent (given_by job s.first_rows r p) (texts p)) → P texts
+
+  abbrev BoundBy : Slots → (ℕ → List ℕ) → Type 0
+  BoundBy stored texts = SlotsBound cells (λ p. max_line_length job.terminator (texts p)) first stored
+
+  abbrev Ends : List Reader → Output → Slots → Result (Unit {0}) FlowFault → Type 0
+  Ends new is' after result = PastePost job cells old new was is' first after result
+
   -- The readers were read further, and `pushed` was pushed after the rows so far. Perhaps the store could not grow.
   record IsExit {new : List Reader} (r : ReadMore cells now new) (is' : Output) (pushed : List ℕ)
       (after stored : Slots) : Type 0 where
     wrote : PushEffect is is' pushed
     same : (after ≡ stored) ⊎ (after ≡ with_denied stored)
-    bound : (texts : ℕ → List ℕ) → ((p : ℕ) → IsConsistent (given_by job s.first_rows r p) (texts p))
-        → SlotsBound cells (λ p. max_line_length job.terminator (texts p)) first stored
-    begins : (texts : ℕ → List ℕ) → ((p : ℕ) → IsConsistent (given_by job s.first_rows r p) (texts p))
-        → IsPrefix (rows_text job s.taken_rows ++ pushed) (paste job cells texts)
+    bound : ForTexts r (BoundBy stored)
+    begins : ForTexts r (λ texts. IsPrefix (rows_text job s.taken_rows ++ pushed) (paste job cells texts))
     lags : (p : ℕ) → 0 < uses_of cells p → LagsBy job s.first_rows r p
 
   module _ {new : List Reader} {r : ReadMore cells now new} {is' : Output} {pushed : List ℕ} {after stored : Slots}
@@ -73,36 +82,33 @@ module _ {job : Paste} {cells : List ℕ} {old set now : List Reader} {was is : 
     abbrev end : CallState ℕ
     end = call_state (reader_at new) is' after
 
-    bound_now : SlotsBound cells (λ p. max_line_length job.terminator (given p).bytes) first stored
+    bound_now : BoundBy stored (λ p. (given p).bytes)
     bound_now = k.bound (λ p. (given p).bytes) (λ p. consistent_itself (given p))
 
     same_size_and_peak : (length after.lines ≡ length stored.lines) × (after.peak ≡ stored.peak)
-    same_size_and_peak = ⊎_elim (λ is. rw is (refl, refl)) (λ is. rw is (refl, refl)) k.same
+    same_size_and_peak = grind (arith, k.same)
 
     progress : CallProgress (inputs_at cells) (paste_engine job cells) begin end
         (λ p. (so_far p).bytes ++ r.extra p) (rows_text job s.taken_rows ++ pushed)
     progress = let (size, peak) = same_size_and_peak in record {
-      reads = λ p named. advance_trans (reader_at set p) (reader_at now p) (reader_at new p) (so_far p).bytes
-          (r.extra p) (so_far p).reads (r.reads p);
+      reads = λ p named. advance_trans _ _ _ _ _ (so_far p).reads (r.reads p);
       untouched = λ p other. let none = not_in cells p other in
           r.left p none ∙ (so_far p).none (rw none (omega arith));
       never_failed = never_failed s.starts;
       writable = s.starts.writable;
-      wrote = push_trans was is is' (rows_text job s.taken_rows) pushed s.clean s.wrote k.wrote;
+      wrote = push_trans _ _ _ _ _ s.clean s.wrote k.wrote;
       is_prefix = λ texts agree. rw (same_paste job cells given texts agree) at (k.begins
           (with_received job cells given texts agree) (all_agree job cells given texts agree));
       bounded_lag = λ p named. bounded_lag_after (λ g. paste_decided job cells (update_at p (g tt) given))
-          (λ u. given p) was is (rows_text job s.taken_rows) (k.lags p (is_in_used cells p named)) s.wrote s.clean
-          is' pushed k.wrote;
+          (λ u. given p) _ _ _ (k.lags p (is_in_used cells p named)) s.wrote s.clean _ _ k.wrote;
       peak = λ texts agree. omega (
         arith,
-        peak,
         (k.bound (with_received job cells given texts agree) (all_agree job cells given texts agree)).peak,
         same_size job cells given texts agree,
       );
-      slots = λ texts agree. omega (arith, size, bound_now.adds.most);
-      least = omega (arith, size, bound_now.adds.least);
-      room = omega (arith, size, bound_now.adds.all bound_now.denied);
+      slots = λ texts agree. omega (arith, bound_now.adds.most);
+      least = omega (arith, bound_now.adds.least);
+      room = omega (arith, bound_now.adds.all bound_now.denied);
     }
 
     exit : (result : Result (Unit {0}) FlowFault)
@@ -110,23 +116,20 @@ module _ {job : Paste} {cells : List ℕ} {old set now : List Reader} {was is : 
         (paste_end result)
         → DecidedIfReadFailed (inputs_at cells) (paste_engine job cells) begin end
         (λ p. (so_far p).bytes ++ r.extra p) (rows_text job s.taken_rows ++ pushed) (paste_end result)
-        → PastePost job cells old new was is' first after result
+        → Ends new is' after result
     exit result ends decided =
         since_set s.starts (call_ends _ _ _ _ _ progress (paste_end result) ends decided)
 
   -- Nothing was pushed since.
-  begins_without_more : {new : List Reader} (r : ReadMore cells now new) (texts : ℕ → List ℕ)
-      → ((p : ℕ) → IsConsistent (given_by job s.first_rows r p) (texts p))
-      → IsPrefix (rows_text job s.taken_rows ++ []) (paste job cells texts)
+  begins_without_more : {new : List Reader} (r : ReadMore cells now new)
+      → ForTexts r (λ texts. IsPrefix (rows_text job s.taken_rows ++ []) (paste job cells texts))
   begins_without_more r texts a = rw (append-nil (rows_text job s.taken_rows)) (begins_by job s.first_rows r texts a)
 
   -- No line that was taken is longer than the longest line of its input.
   longest : {new : Reader} {n : ℕ} {ls : Column} (p : ℕ) (t : LinesTaken job.terminator (reader_at now p) new n ls)
       {text : List ℕ} → IsConsistent (received_with ((so_far p).bytes ++ t.bytes) new) text
       → max_length (s.ls p ++ ls) ≤ max_line_length job.terminator text
-  longest {new} {ls = ls} p t {text} a = received_longest job.terminator new ((so_far p).bytes ++ t.bytes)
-      (s.ls p ++ ls)
-      (lines_trans (so_far p).came t.reads t.came) text a
+  longest p t a = received_longest _ _ _ _ (lines_trans (so_far p).came t.reads t.came) _ a
 
   -- Rows were taken, and the first columns of a row after them. A write of these rows failed.
   module _ {mid : List Reader} (new : List Reader) {ls taken : ℕ → Column} {more : List (List (List ℕ))} (n : ℕ)
@@ -138,13 +141,13 @@ module _ {job : Paste} {cells : List ℕ} {old set now : List Reader} {was is : 
       all_taken p = taken_more refl (g.lines_taken p) (b p)
 
       abbrev read_on : ReadMore cells now new
-      read_on = read_lines all_taken (λ p none. rw none (omega (arith, none, uses_before cells n p)))
+      read_on = read_lines all_taken (λ p none. rw none (omega (arith, uses_before cells n p)))
 
       paste_write : {is' : Output} → PushEffect is is' (rows_text job more) → is'.write_failed ≡ true
           → {after : Slots} → ((top : ℕ → ℕ) → ((p : ℕ) → max_length (s.ls p ++ ls p) ≤ top p)
           → SlotsBound cells top first after)
           → ((p : ℕ) → 0 < uses_of cells p → EarlierBy job s.first_rows read_on p)
-          → PastePost job cells old new was is' first after (Err Write)
+          → Ends new is' after (Err Write)
       paste_write wrote fault {after} kept cut =
           let k : IsExit read_on _ _ after after = record {
             wrote = wrote;
@@ -158,7 +161,7 @@ module _ {job : Paste} {cells : List ℕ} {old set now : List Reader} {was is : 
             ));
             begins = λ texts a. rw (rows_text-append job.terminator job.delimiters s.taken_rows more) at
                 (begins_by job (first_rows_trans s.first_rows g)
-                (read_lines b (λ p none. omega (arith, none, uses_before cells n p))) texts
+                (read_lines b (λ p none. omega (arith, uses_before cells n p))) texts
                 (λ p. rw (append_assoc (so_far p).bytes (g.lines_taken p).bytes (b p).bytes) (a p)));
             lags = λ p some. lags_by job s.first_rows read_on p some (cut p some);
           } in
@@ -178,16 +181,9 @@ module _ {job : Paste} {cells : List ℕ} {old set now : List Reader} {was is : 
       → (t : LinesTaken job.terminator (reader_at now p) q n ls) → n ≤ uses_of cells p
       → EarlierPart job.terminator ((length s.taken_rows + 1) * uses_of cells p)
       (received_with ((so_far p).bytes ++ t.bytes) q)
-  earlier_of_taken p {q} {n} {ls} some t few = earlier_lines job.terminator q ((so_far p).bytes ++ t.bytes)
-      (t.buffered (now_buffered s p some)) ((length s.taken_rows + 1) * uses_of cells p) (s.ls p ++ ls)
-      (lines_trans (so_far p).came t.reads t.came) (omega (arith, some, more_count p)) (omega (
-        arith,
-        few,
-        more_count p,
-        length-append (s.ls p) ls,
-        taken_at_most (so_far p),
-        taken_at_most t,
-      ))
+  earlier_of_taken p {ls = ls} some t few = earlier_lines _ _ _ (t.buffered (now_buffered s p some)) _ _
+      (lines_trans (so_far p).came t.reads t.came) (omega arith)
+      (omega (arith, length-append (s.ls p) ls, taken_at_most (so_far p)))
 
   -- A write of rows from the buffers failed, after the first columns of the next row were copied.
   module _ {mid new : List Reader} {copied : List ℕ} (p : RowsTaken (job_shape job cells) now mid copied) (n : ℕ)
@@ -195,23 +191,23 @@ module _ {job : Paste} {cells : List ℕ} {old set now : List Reader} {was is : 
       (b : (q : ℕ) → LinesTaken job.terminator (reader_at mid q) (reader_at new q) (uses_of (take n cells) q) (taken q))
       (consumed : AreConsumed now new) {is' : Output} (wrote : PushEffect is is' copied)
       (fault : is'.write_failed ≡ true) where
-    taken_write_failed : PastePost job cells old new was is' first store (Err Write)
+    taken_write_failed : Ends new is' store (Err Write)
     taken_write_failed =
         paste_write new n p.first_rows b (rows_wrote s p wrote) fault (rows_kept s p) (λ q some.
         earlier_before (so_far q).came (all_taken new n p.first_rows b q).reads (still_pulled consumed q)
-        (now_buffered s q some) (omega (arith, some, more_count q, taken_at_most (so_far q))))
+        (now_buffered s q some) (omega (arith, taken_at_most (so_far q))))
 
   -- A write of the rows of one input failed.
   pub paste_shared_write_failed : {new : List Reader} {is' : Output}
       → RowsWritten (job_shape job cells) now new is is' → is'.write_failed ≡ true
-      → PastePost job cells old new was is' first store (Err Write)
+      → Ends new is' store (Err Write)
   paste_shared_write_failed p fault =
       taken_write_failed p.rows 0 (λ q. nothing_taken refl) p.consumed p.wrote fault
 
   -- A write of rows of several inputs failed.
   pub paste_rows_write_failed : {copied : List ℕ} {begun : BegunText} {is' : Output}
       → CopyRowsPost (job_shape job cells) now copied begun → PushEffect is is' copied → is'.write_failed ≡ true
-      → PastePost job cells old begun.readers was is' first store (Err Write)
+      → Ends begun.readers is' store (Err Write)
   paste_rows_write_failed {begun = begun} p wrote fault =
       taken_write_failed p.rows begun.count (lines_taken_by_cells (job_shape job cells)
       (λ q some. (p.rows.first_rows.lines_taken q).reads.terminator ∙ (now_readable s).same_end q some)
@@ -222,7 +218,7 @@ module _ {job : Paste} {cells : List ℕ} {old set now : List Reader} {was is : 
       (slots : SlotsKept cells fields store after) (f : CellsFilled cells (length cells) now new fields true)
       {is' : Output}
       → PushEffect is is' (rows_text job (fields ∷ [])) → is'.write_failed ≡ true
-      → PastePost job cells old new was is' first after (Err Write)
+      → Ends new is' after (Err Write)
   paste_row_write_failed {new} slots f wrote fault =
       let g = row_gives s slots f in
       let b = λ (q : ℕ). nothing_taken {end = job.terminator} {r = reader_at new q} {n = 0} refl in
@@ -243,22 +239,20 @@ module _ {job : Paste} {cells : List ℕ} {old set now : List Reader} {was is : 
     none = f.none refl
 
     done_by : (p : ℕ) → 0 < uses_of cells p → IsDone (reader_at new p)
-    done_by p some = ⊎_elim (λ same. absurd (omega (arith, same, some, ap length (none p)))) (λ (done, few). done)
-        (lines_taken_by p).enough
+    done_by p some = grind (arith, none p, (lines_taken_by p).enough)
 
     nothing_by : (p : ℕ) → (lines_taken_by p).bytes ≡ []
     nothing_by p = none_received (rw (none p) at (lines_taken_by p).came)
 
-    text_is : (texts : ℕ → List ℕ) → ((p : ℕ) → IsConsistent (given_by job s.first_rows read_by p) (texts p))
-        → rows_text job s.taken_rows ≡ paste job cells texts
+    text_is : ForTexts read_by (λ texts. rows_text job s.taken_rows ≡ paste job cells texts)
     text_is texts a =
         let more = grid_none cells (λ p. lines job.terminator (later job s.first_rows read_by texts a p))
         (λ p some i. let done = done_by p some in
         lines job.terminator (nothing_by p i ++ (done.buffered i ++ (a p).whole done.eof i))) in
-        cc (rows_by job s.first_rows read_by texts a, more, append-nil s.taken_rows)
+        cc (rows_by job s.first_rows read_by texts a, append-nil s.taken_rows)
 
     pub paste_done : {is' : Output} {cleared : Slots} → ClearSlotsPost cells after cleared → PushEffect is is' []
-        → is'.write_failed ≡ false → PastePost job cells old new was is' first cleared (Ok tt)
+        → is'.write_failed ≡ false → Ends new is' cleared (Ok tt)
     paste_done {cleared = cleared} e wrote clean =
         let k : IsExit read_by _ [] cleared cleared = record {
           wrote = wrote;
@@ -310,35 +304,21 @@ module _ {job : Paste} {cells : List ℕ} {old set now : List Reader} {was is : 
     failed_mid p = (lines_taken_to p).failed ∙ (so_far p).failed
 
     -- The part of a line that a reader gave. Only the reader of that column gave one.
-    record PartialLine (p : ℕ) : Type 0 where
-      part : List ℕ
-      reads : ReaderAdvance (reader_at b.mid p) (reader_at new p) part
-      is_line : IsLine job.terminator part
-      whose : ((p ≡ here) × (part ≡ piece)) ⊎ ((p ≢ here) × (part ≡ []) × (reader_at new p ≡ reader_at b.mid p))
+    abbrev part : ℕ → List ℕ
+    part p = cond (p == here) piece []
 
-    last : (p : ℕ) → PartialLine p
-    last p = ⊎_elim
-        (λ same. record {
-          part = piece;
-          reads = rw same piece_reads;
-          is_line = rw ((lines_taken_to here).reads.terminator ∙ (now_readable s).same_end here here_used) at free;
-          whose = inl (same, refl);
-        })
-        (λ differ. record {
-          part = [];
-          reads = rw (b.others p differ) (reads_nothing (reader_at b.mid p));
-          is_line = tt;
-          whose = inr (differ, refl, b.others p differ);
-        })
-        (cases_eq p here)
+    part_reads : (p : ℕ) → ReaderAdvance (reader_at b.mid p) (reader_at new p) (part p)
+    part_reads p = grind (arith, nat_tests, b.others, reads_nothing)
+
+    part_is_line : (p : ℕ) → IsLine job.terminator (part p)
+    part_is_line p = grind (arith, nat_tests, lines_taken_to, now_readable, here_used)
 
     abbrev read_to : ReadMore cells now new
     read_to = record {
-      extra = λ p. (lines_taken_to p).bytes ++ (last p).part;
-      reads = λ p. advance_trans (reader_at now p) (reader_at b.mid p) (reader_at new p) (lines_taken_to p).bytes
-          (last p).part (lines_taken_to p).reads (last p).reads;
-      left = λ p none. b.others p (λ same. absurd (omega (arith, none, here_used, ap (uses_of cells) same)))
-          ∙ (lines_taken_to p).none (omega (arith, none, uses_before cells b.column p));
+      extra = λ p. (lines_taken_to p).bytes ++ part p;
+      reads = λ p. advance_trans _ _ _ _ _ (lines_taken_to p).reads (part_reads p);
+      left = λ p none. b.others p (λ same. absurd (omega (arith, here_used, ap (uses_of cells) same)))
+          ∙ (lines_taken_to p).none (omega (arith, uses_before cells b.column p));
     }
 
     -- The complete lines that a reader gave, and their bytes.
@@ -348,35 +328,34 @@ module _ {job : Paste} {cells : List ℕ} {old set now : List Reader} {was is : 
     lines_to : (p : ℕ) → AreReceivedLines job.terminator (reader_at b.mid p) (given_to p) (s.ls p ++ b.input_lines p)
     lines_to p = lines_trans (so_far p).came (lines_taken_to p).reads (lines_taken_to p).came
 
-    given_is : (p : ℕ) → (so_far p).bytes ++ read_to.extra p ≡ given_to p ++ (last p).part
-    given_is p = sym (append_assoc (so_far p).bytes (lines_taken_to p).bytes (last p).part)
+    given_is : (p : ℕ) → (so_far p).bytes ++ read_to.extra p ≡ given_to p ++ part p
+    given_is p = sym (append_assoc (so_far p).bytes (lines_taken_to p).bytes (part p))
 
     module _ (texts : ℕ → List ℕ) (a : (p : ℕ) → IsConsistent (given_by job s.first_rows read_to p) (texts p)) where
-      long_to : (p : ℕ) → max (max_length (s.ls p ++ b.input_lines p)) (length (last p).part)
+      long_to : (p : ℕ) → max (max_length (s.ls p ++ b.input_lines p)) (length (part p))
           ≤ max_line_length job.terminator (texts p)
-      long_to p = piece_longest job.terminator (reader_at b.mid p) (given_to p) (s.ls p ++ b.input_lines p) (lines_to p)
-          (reader_at new p) (last p).part (last p).reads (last p).is_line (texts p) (rw (given_is p) at (a p))
+      long_to p = piece_longest _ _ _ _ (lines_to p) _ _ (part_reads p) (part_is_line p) _
+          (rw (given_is p) at (a p))
 
       piece_fits : length piece ≤ max_line_length job.terminator (texts here)
-      piece_fits = grind (arith, (last here).whose, long_to here)
+      piece_fits = grind (arith, nat_tests, long_to here)
 
-      bound_to : SlotsBound cells (λ p. max_line_length job.terminator (texts p)) first b.buffered
+      bound_to : BoundBy b.buffered texts
       bound_to = row_kept s b.slots b.consumed (λ p. max_line_length job.terminator (texts p))
           (λ p. omega (arith, long_to p))
 
-      bound_with_piece : SlotsBound cells (λ p. max_line_length job.terminator (texts p)) first
-          (with_line b.buffered b.column piece)
+      bound_with_piece : BoundBy (with_line b.buffered b.column piece) texts
       bound_with_piece = slots_bound_line bound_to b.column piece b.within piece_fits
 
     failed_to : (reader_at new here).failed ≡ (reader_at b.mid here).failed
         → (p : ℕ) → (reader_at new p).failed ≡ (reader_at set p).failed
-    failed_to same p = grind (arith, same, (last p).whose, failed_mid p)
+    failed_to same p = grind (arith, nat_tests, b.others p, failed_mid p)
 
     -- If that reader is not at the end of its input, it is the one that limits the rows.
     module _ (going : IsDone (reader_at b.mid here) → ⊥) where
       abbrev earlier_here : EarlierBy job s.first_rows read_to here
-      earlier_here = earlier_partial (reader_at new here) (lines_to here) going (last here).part (given_is here)
-          (last here).is_line (b.few (now_buffered s here here_used)) (omega (
+      earlier_here = earlier_partial (reader_at new here) (lines_to here) going _ (given_is here)
+          (part_is_line here) (b.few (now_buffered s here here_used)) (omega (
             arith,
             more_count here,
             length-append (s.ls here) (b.input_lines here),
@@ -388,15 +367,13 @@ module _ {job : Paste} {cells : List ℕ} {old set now : List Reader} {was is : 
       -- Another reader, without the last line that it gave.
       lag_to : (p : ℕ) → 0 < uses_of cells p → LagsBy job s.first_rows read_to p
       lag_to p some = lags_by job s.first_rows read_to p some (⊎_elim
-          (λ (is, whole). rw is earlier_here)
-          (λ (other, none, kept).
-          rw (none, append-nil (lines_taken_to p).bytes, kept)
+          (λ same. rw same earlier_here)
+          (λ differ. rw (ne_eqb p here differ, append-nil (lines_taken_to p).bytes, b.others p differ)
           (earlier_of_taken p some (lines_taken_to p) (uses_before cells b.column p)))
-          (last p).whose)
+          (cases_eq p here))
 
       exit_to : {is' : Output} → PushEffect is is' [] → {stored : Slots}
-          → ((texts : ℕ → List ℕ) → ((p : ℕ) → IsConsistent (given_by job s.first_rows read_to p) (texts p))
-          → SlotsBound cells (λ p. max_line_length job.terminator (texts p)) first stored)
+          → ForTexts read_to (BoundBy stored)
           → (after ≡ stored) ⊎ (after ≡ with_denied stored) → IsExit read_to is' [] after stored
       exit_to wrote bound same = record {
         wrote = wrote;
@@ -409,24 +386,24 @@ module _ {job : Paste} {cells : List ℕ} {old set now : List Reader} {was is : 
     -- The buffered output could not be written.
     paste_send_failed : {is' : Output} → PushEffect is is' [] → is'.write_failed ≡ true → after ≡ b.buffered
         → (reader_at new here).failed ≡ (reader_at b.mid here).failed → (reader_at b.mid here).eof ≡ false
-        → PastePost job cells old new was is' first after (Err Write)
+        → Ends new is' after (Err Write)
     paste_send_failed wrote fault stored same going =
-        let k = exit_to (λ done. cc (done.eof)) wrote bound_to (inl stored) in
+        let k = exit_to (λ done. cc) wrote bound_to (inl stored) in
         exit k (Err Write) (record {
           write_failed = fault;
           unfailed = λ p named. failed_to same p;
-          not_denied = cc (stored, (bound_now k).denied);
+          not_denied = cc ((bound_now k).denied);
         }) tt
 
     -- A growth of a slot failed. That reader has bytes left.
     paste_memory_failed : {is' : Output} → PushEffect is is' [] → is'.write_failed ≡ false
         → after ≡ with_denied (with_line b.buffered b.column piece)
         → (reader_at new here).failed ≡ (reader_at b.mid here).failed → 0 < length (reader_at new here).buffered
-        → PastePost job cells old new was is' first after (Err Memory)
+        → Ends new is' after (Err Memory)
     paste_memory_failed wrote clean stored same left =
         exit (exit_to (λ done.
-        let (none, empty, eof) = eof_gives_nothing (reader_at b.mid here) (reader_at new here) piece done piece_reads in
-        absurd (omega (arith, left, ap length empty))) wrote bound_with_piece
+        let (none, empty, eof) = eof_gives_nothing _ _ _ done piece_reads in
+        absurd (omega (arith, ap length empty))) wrote bound_with_piece
         (inr stored)) (Err Memory) (record {
           denied = cc stored;
           unfailed = λ p named. failed_to same p;
@@ -434,18 +411,14 @@ module _ {job : Paste} {cells : List ℕ} {old set now : List Reader} {was is : 
           left = λ enough. inl (
             here,
             used_is_in cells here here_used,
-            λ done. absurd (omega (
-              arith,
-              left,
-              ap length done.buffered,
-            )),
+            λ done. absurd (omega (arith, ap length done.buffered)),
           );
         }) tt
 
     -- The read failed.
     paste_read_failed : {is' : Output} → PushEffect is is' [] → is'.write_failed ≡ false
         → after ≡ with_line b.buffered b.column piece → HasReadCause (reader_at b.mid here) (reader_at new here)
-        → PastePost job cells old new was is' first after (Err (Read here))
+        → Ends new is' after (Err (Read here))
     paste_read_failed wrote clean stored cause =
         let k = exit_to may_have_more wrote bound_with_piece (inl stored) in
         exit k (Err (Read here)) (record {
@@ -454,20 +427,17 @@ module _ {job : Paste} {cells : List ℕ} {old set now : List Reader} {was is : 
           cause = ⊎_elim inl (λ (long, same). inr (long, same ∙ failed_mid here)) cause;
           others = λ q named differ. cc (b.others q differ, failed_mid q);
           clean = clean;
-          not_denied = cc (stored, (bound_now k).denied);
+          not_denied = cc ((bound_now k).denied);
         }) (λ p named failed. ⊎_elim decided_here
-        (λ (long, same). cc (failed, failed_to same p, never_failed s.starts p named)) cause)
+        (λ (long, same). cc (failed_to same p, never_failed s.starts p named)) cause)
       where
         may_have_more : IsDone (reader_at b.mid here) → ⊥
         may_have_more done = ⊎_elim
-            (λ (failed, empty, going). cc (
-              going,
-              (stays_at_eof (reader_at b.mid here) (reader_at new here) piece done
-                  piece_reads).eof,
-            ))
+            (λ (failed, empty, going). cc
+            ((stays_at_eof _ _ _ done piece_reads).eof))
             (λ (long, same).
             let (pulled, eof) = piece_reads.still done.eof in
-            absurd (omega (arith, long, pulled, (lines_taken_to here).short (now_short s here here_used))))
+            absurd (omega (arith, (lines_taken_to here).short (now_short s here here_used))))
             cause
 
         -- Nothing is buffered, so all that was given decided the rows that were pushed.
@@ -478,19 +448,19 @@ module _ {job : Paste} {cells : List ℕ} {old set now : List Reader} {was is : 
             let bytes = (so_far here).bytes ++ read_to.extra here in
             rw (append-nil (rows_text job s.taken_rows)) (begins_by_earlier job s.first_rows read_to here here_used
             (earlier_here may_have_more)
-            (sym (append-nil bytes) ∙ ap (λ (x : List ℕ). bytes ++ x) (sym empty)) going)
+            (cc (append-nil bytes)) going)
 
   -- A row could not be filled, for each fault.
   pub paste_fill_failed : (new : List Reader) {after : Slots} (into : List ℕ) {is' : Output} (e : FlowFault)
       → RowFilled (job_shape job cells) now store new after into (Err e) → PushEffect is is' []
       → (fault : is'.write_failed ≡ is_write_fault {X = Unit {0}} (Err e))
-      → PastePost job cells old new was is' first after (Err e)
+      → Ends new is' after (Err e)
   paste_fill_failed new into (Read input) (f, named) wrote clean =
       let k = f.failure in
       rw named (paste_read_failed f k.piece k.faults.reads k.faults.whole wrote clean k.stored k.cause)
   paste_fill_failed new into Write f wrote fault =
       let (same, kept, going) = f.failure in
-      paste_send_failed f [] (rw same (reads_nothing _)) tt wrote fault kept (ap (λ (r : Reader). r.failed) same) going
+      paste_send_failed f [] (rw same (reads_nothing _)) tt wrote fault kept (ap (λ r. r.failed) same) going
   paste_fill_failed new into Memory f wrote clean =
       let k = f.failure in
       paste_memory_failed f k.piece k.faults.reads k.faults.whole wrote clean k.stored k.failed k.left

@@ -15,7 +15,7 @@ use proofs.Common.{take_all, take-append-le, length-take-le, line, RowShape, Beg
 use proofs.Common.{slots_text, CopyColumnsPost, BufferedRowsPre, RowAmid, RowFilled, FillCellPost, FillReadErr}
 use proofs.Common.{FlowFault, Read, Write, Memory}
 use Rattle.std.specs.Prelude.{slice_index_or}
-use proofs.PasteLemmas.Grid.{uses_here, uses_other, uses_before}
+use proofs.PasteLemmas.Grid.{uses_here, uses_other, uses_before, uses_before_lt}
 use proofs.PasteLemmas.RowsTaken.{nothing_taken, taken_more, taken_line, taken_eof, taken_at_most, none_at_eof}
 use proofs.PasteLemmas.RowsTaken.{cells_text-append, cells_text-push}
 use Rattle.std.proofs.lemmas.List.{get_or-take}
@@ -25,19 +25,19 @@ use Rattle.std.proofs.lemmas.Grind.{common_steps}
 pub cells_total : (cells : List ℕ) (top : ℕ → ℕ) (ls : List (List ℕ)) → ((c : ℕ) → c < length cells
     → length (get_or ls c []) ≤ top (get_or cells c 0))
     → total_bytes (drop (length cells) ls) ≡ 0 → total_bytes ls ≤ sum_by top cells
-cells_total [] top ls short others = omega (arith, others)
+cells_total [] top ls short others = omega arith
 cells_total (x ∷ cells) top [] short others = omega arith
 cells_total (x ∷ cells) top (l ∷ ls) short others = omega (
   arith,
   sum_by-cons length l ls,
   sum_by-cons top x cells,
   short 0 (omega arith),
-  cells_total cells top ls (λ c low. short (suc c) (omega (arith, low))) others,
+  cells_total cells top ls (λ c low. short (suc c) (omega arith)) others,
 )
 
 pub sum_of_zeros : (cells : List ℕ) → sum_by (λ (p : ℕ). 0) cells ≡ 0
 sum_of_zeros [] = refl
-sum_of_zeros (x ∷ cells) = omega (arith, sum_by-cons (λ (p : ℕ). 0) x cells, sum_of_zeros cells)
+sum_of_zeros (x ∷ cells) = omega (arith, sum_of_zeros cells)
 
 pub slots_bound_start : {cells : List ℕ} {top : ℕ → ℕ} {before store : Slots} → AddedSlots before store (length cells)
     → store.denied ≡ false → total_bytes store.lines ≡ 0
@@ -45,14 +45,13 @@ pub slots_bound_start : {cells : List ℕ} {top : ℕ → ℕ} {before store : S
 slots_bound_start {cells} {store = store} adds denied empty peak = record {
   denied = denied;
   adds = adds;
-  short = λ c low. omega (arith, empty, get_or-le-sum_by length store.lines c [] (omega (arith, low, adds.all denied)));
+  short = λ c low. omega (arith, get_or-le-sum_by length store.lines c [] (omega arith));
   others = let n = length cells in omega (
     arith,
-    empty,
     ap total_bytes (take-append-drop n store.lines),
     sum_by-append length (take n store.lines) (drop n store.lines),
   );
-  peak = omega (arith, peak);
+  peak = omega arith;
 }
 
 -- The slot of one column gets another line.
@@ -62,13 +61,13 @@ pub slots_bound_line : {cells : List ℕ} {top : ℕ → ℕ} {before store : Sl
 slots_bound_line {cells} {top} {before} {store} k column bytes within fits = record {
   denied = k.denied;
   adds = record {
-    least = omega (arith, size, k.adds.least);
-    most = omega (arith, size, k.adds.most);
+    least = omega (arith, size);
+    most = omega (arith, size);
     all = λ allowed. size ∙ k.adds.all k.denied;
   };
   short = short;
   others = others;
-  peak = omega (arith, k.peak, cells_total cells top lines short others);
+  peak = omega (arith, cells_total cells top lines short others);
 }
   where
     lines : List (List ℕ)
@@ -80,9 +79,7 @@ slots_bound_line {cells} {top} {before} {store} k column bytes within fits = rec
     short : (c : ℕ) → c < length cells → length (get_or lines c []) ≤ top (get_or cells c 0)
     short c low = grind (
       arith,
-      fits,
       k.short c low,
-      within,
       k.adds.all k.denied,
       get_or-set_same store.lines column bytes [],
       get_or-set_other store.lines column c bytes [],
@@ -115,8 +112,8 @@ module _ {cells : List ℕ} {fields : List (List ℕ)} {before store : Slots} (s
       kept = λ first top k high. slots_bound_line ((slots_kept_more (field ∷ [])).kept first top k high) n field low
           (omega (
             arith,
-            high n (omega (arith, width, length-append fields (field ∷ []))),
-            ap length (get_or_push fields field [] n (omega (arith, width))),
+            high n (omega (arith, length-append fields (field ∷ []))),
+            ap length (get_or_push fields field [] n (omega arith)),
           ));
     }
 
@@ -147,13 +144,41 @@ pub at_index : (readers : List Reader) (input : ℕ) (r : Reader) → input < le
     → get_or readers input r ≡ reader_at readers input
 at_index readers input r low = get_or_default readers input r no_reader low
 
+-- The next column of a row has a readable reader, which is `b`.
+pub record IsNextReader (row : RowShape) (now : List Reader) (n : ℕ) (b : Reader) : Type 0 where
+  pub low : n < length row.cells
+  pub within : get_or row.cells n 0 < length now
+  pub is_read : b ≡ reader_at now (get_or row.cells n 0)
+  pub clean : b.fault ≡ None
+  pub ends : b.terminator ≡ row.terminator
+
+pub next_reader : {row : RowShape} {now : List Reader} {n : ℕ} → BufferedRowsPre row now → n < length row.cells
+    → (unread : Reader) → IsNextReader row now n (get_or now (get_or row.cells n 0) unread)
+next_reader {row} {now} {n} ready low unread =
+    let input = get_or row.cells n 0 in
+    let within = ready.within n 0 low in
+    let is = at_index now input unread within in
+    let used : 0 < uses_of row.cells input = omega (arith, uses_before_lt row.cells n low) in
+    record {
+      low = low;
+      within = within;
+      is_read = is;
+      clean = rw is (ready.unfailed input used);
+      ends = rw is (ready.same_end input used);
+    }
+
 -- The terminator of one more reader is set.
 pub set_terminator_more : (end : ℕ) (cells : List ℕ) (i : ℕ) (old now : List Reader) (r : Reader) → i < length cells
     → get_or cells i 0 < length now → SetTerminatorsPost end (take i cells) old now
     → r ≡ record (reader_at now (get_or cells i 0)) { terminator = end } → IsSound r
     → SetTerminatorsPost end (take (i + 1) cells) old (set now (get_or cells i 0) r)
-set_terminator_more end cells i old now r low within a told sound = grind (arith, common_steps, each_reader,
-    uses_here, uses_other)
+set_terminator_more end cells i old now r low within a told sound = grind (
+  arith,
+  common_steps,
+  each_reader,
+  uses_here,
+  uses_other,
+)
 
 or-true : (t : Bool) → (t || true) ≡ true
 or-true true = refl
@@ -178,7 +203,7 @@ module _ (input : ℕ) (ls : List (List ℕ)) (input_lines : ℕ → List (List 
 
   -- Adding no line changes nothing.
   lines_at_none : ls ≡ [] → lines_at input ls input_lines q ≡ input_lines q
-  lines_at_none none = grind (arith, nat_tests, append-nil (input_lines q), none)
+  lines_at_none none = grind (arith, nat_tests, append-nil (input_lines q))
 
 -- The line of a column.
 abbrev cell_of : List ℕ → (ℕ → List (List ℕ)) → ℕ → List ℕ
@@ -208,11 +233,11 @@ module _ {cells : List ℕ} {n : ℕ} {old now : List Reader} {fields : List (Li
   earlier_cell c less = ⊎_elim
       (λ all. ⊎_elim
       (λ same.
-      let front : take (c + 1) (take n cells) ≡ take (c + 1) cells = take-take (c + 1) n cells (omega (arith, less)) in
-      let under : j < length (input_lines p) = omega (
+      let front : take (c + 1) (take n cells) ≡ take (c + 1) cells = take-take (c + 1) n cells (omega arith) in
+      let under : j < length (input_lines p) =
+      omega (
         arith,
-        all,
-        uses_here cells c p (omega (arith, less, low)) refl,
+        uses_here cells c p (omega arith) refl,
         uses_before (take n cells) (c + 1) p,
         ap (λ (l : List ℕ). uses_of l p) front,
       ) in
@@ -235,20 +260,16 @@ module _ {cells : List ℕ} {n : ℕ} {old now : List Reader} {fields : List (Li
       (lines_at input ls input_lines)
   cells_taken_more = record {
     lines_taken = lines_taken_next;
-    width = omega (arith, t.width, length-append fields (field ∷ []));
-    fields_taken = λ c less. ⊎_elim
-        (λ same. cc (
-          same,
-          there,
-          get_or_push fields field [] n (omega (arith, t.width)),
-          lines_at_here input ls input_lines input refl,
-        ))
-        (λ differ. cc (
-          get_or_append_left fields (field ∷ []) [] c (omega (arith, less, differ, t.width)),
-          t.fields_taken c (omega (arith, less, differ)),
-          earlier_cell c (omega (arith, less, differ)),
-        ))
-        (cases_eq c n);
+    width = omega (arith, length-append fields (field ∷ []));
+    fields_taken = λ c less. grind (
+      arith,
+      cases_eq c n,
+      get_or_push fields field [] n,
+      t.fields_taken c,
+      lines_at_here input ls input_lines input refl,
+      get_or_append_left fields (field ∷ []) [] c,
+      earlier_cell c,
+    );
     count = length-set now input r ∙ t.count;
   }
 
@@ -268,93 +289,88 @@ fill_starts = record {
   less = λ any_line. cc;
 }
 
-module _ {cells : List ℕ} {n : ℕ} {old now : List Reader} {fields : List (List ℕ)} {any_line : Bool}
-    (f : CellsFilled cells n old now fields any_line)
-    (low : n < length cells) (within : get_or cells n 0 < length now) where
-  module _ {b : Reader} (is_read : b ≡ reader_at now (get_or cells n 0)) (clean : b.fault ≡ None) {r : Reader}
-      (sound : IsSound r) where
-    abbrev p : ℕ
-    p = get_or cells n 0
+module _ {row : RowShape} {n : ℕ} {old now : List Reader} {fields : List (List ℕ)} {any_line : Bool}
+    (f : CellsFilled row.cells n old now fields any_line) {b : Reader} (x : IsNextReader row now n b) where
+  abbrev p : ℕ
+  p = get_or row.cells n 0
 
+  module _ {r : Reader} (sound : IsSound r) where
     same_end : b.terminator ≡ (reader_at old p).terminator
-    same_end = ap (λ (x : Reader). x.terminator) is_read ∙ (f.consumed.lines_taken p).reads.terminator
+    same_end = cc ((f.consumed.lines_taken p).reads.terminator)
 
     all_budgets : sum_by budget (set now p r) + budget b ≡ sum_by budget now + budget r
-    all_budgets = omega (arith, ap budget is_read, sum_by-set budget now p r no_reader within)
+    all_budgets = omega (arith, ap budget x.is_read, sum_by-set budget now p r no_reader x.within)
 
     -- The column gets a line.
     fill_line : {before after : Slots} {slot : ℕ} (e : FillLine b r before after slot)
-        → CellsFilled cells (n + 1) old (set now p r) (fields ++ e.line ∷ []) true
+        → CellsFilled row.cells (n + 1) old (set now p r) (fields ++ e.line ∷ []) true
     fill_line e =
-        let lines_taken = rw is_read at (taken_line e same_end clean sound) in
-        let all : length (f.input_lines p) ≡ uses_of (take n cells) p =
-        ⊎_elim (λ same. same) (λ (done, few). absurd (omega (arith, ap length (none_at_eof lines_taken done))))
-        (f.consumed.lines_taken p).enough in
-        let less : sum_by budget (set now p r) < sum_by budget old = omega (arith, f.least, e.less, all_budgets) in
+        let lines_taken = rw x.is_read at (taken_line e same_end x.clean sound) in
+        let all : length (f.input_lines p) ≡ uses_of (take n row.cells) p =
+        grind (arith, none_at_eof lines_taken, (f.consumed.lines_taken p).enough) in
+        let less : sum_by budget (set now p r) < sum_by budget old = omega (arith, all_budgets) in
         record {
           input_lines = lines_at p (e.line ∷ []) f.input_lines;
-          consumed = cells_taken_more f.consumed low within lines_taken
-              (sym (get_or_at (f.input_lines p) e.line [] [] (uses_of (take n cells) p) all));
+          consumed = cells_taken_more f.consumed x.low x.within lines_taken
+              (sym (get_or_at (f.input_lines p) e.line [] [] (uses_of (take n row.cells) p) all));
           some = λ h. (
             n,
             omega arith,
             omega (
               arith,
-              all,
-              ap length (lines_at_here p (e.line ∷ []) f.input_lines p
-                  refl),
+              ap length (lines_at_here p (e.line ∷ []) f.input_lines p refl),
               length-append (f.input_lines p) (e.line ∷ []),
             ),
           );
           none = λ h. cc;
-          least = omega (arith, less);
+          least = omega arith;
           less = λ h. less;
         }
 
     -- The reader is at the end of its input.
-    fill_eof : AdvanceOk b r [] → IsDone r → CellsFilled cells (n + 1) old (set now p r) (fields ++ [] ∷ []) any_line
+    fill_eof : AdvanceOk b r [] → IsDone r
+        → CellsFilled row.cells (n + 1) old (set now p r) (fields ++ [] ∷ []) any_line
     fill_eof advance_ok done = record {
       input_lines = lines_at p [] f.input_lines;
-      consumed = cells_taken_more f.consumed low within (rw is_read at
-          (taken_eof {end = (reader_at old p).terminator} {b = b} advance_ok done clean sound))
+      consumed = cells_taken_more f.consumed x.low x.within (rw x.is_read at
+          (taken_eof {end = (reader_at old p).terminator} {b = b} advance_ok done x.clean sound))
           (cc (
             append-nil (f.input_lines p),
-            get_or_past (f.input_lines p) (uses_of (take n cells) p) [] (taken_at_most (f.consumed.lines_taken p)),
+            get_or_past (f.input_lines p) (uses_of (take n row.cells) p) [] (taken_at_most (f.consumed.lines_taken p)),
           ));
       some = λ h.
           let (c, below, one) = f.some h in
-          (c, omega (arith, below), ap length (lines_at_none p [] f.input_lines (get_or cells c 0) refl) ∙ one);
+          (c, omega arith, cc (lines_at_none p [] f.input_lines (get_or row.cells c 0) refl));
       none = λ h q. lines_at_none p [] f.input_lines q refl ∙ f.none h q;
-      least = omega (arith, f.least, advance_ok.reads.count, all_budgets);
-      less = λ h. omega (arith, f.less h, advance_ok.reads.count, all_budgets);
+      least = omega (arith, all_budgets);
+      less = λ h. omega (arith, f.less h, all_budgets);
     }
 
     -- The column is filled, and its slot has the field.
     pub fill_next : (before after : Slots) (slot : ℕ) (has : Bool) → FillPost b r before after slot (Ok has)
-        → (field : List ℕ) × (after ≡ with_line before slot field) × CellsFilled cells (n + 1) old (set now p r)
+        → (field : List ℕ) × (after ≡ with_line before slot field) × CellsFilled row.cells (n + 1) old (set now p r)
         (fields ++ field ∷ []) (any_line || has)
     fill_next before after slot true e = (e.line, e.stored, rw or-true (fill_line e))
     fill_next before after slot false (advance_ok, done, kept) = grind (arith, or-false, fill_eof)
 
   -- The step for this column failed.
   abbrev pub fill_failed : {CellFailed : Reader → Reader → Slots → Slots → ℕ → Type 0} {before store : Slots}
-      (after : Slots) {b : Reader} (r : Reader) → SlotsKept cells fields before store
-      → b ≡ reader_at now (get_or cells n 0) → CellFailed b r store after n
+      (after : Slots) (r : Reader) → SlotsKept row.cells fields before store → CellFailed b r store after n
       → (length b.buffered ≤ 8192 → length r.buffered ≤ 8192)
-      → RowFailed CellFailed cells old (set now (get_or cells n 0) r) before after
-  fill_failed {CellFailed} {store = store} after {b} r slots is_read failure few = record {
+      → RowFailed CellFailed row.cells old (set now p r) before after
+  fill_failed {CellFailed} {store = store} after r slots failure few = record {
     column = n;
-    within = low;
+    within = x.low;
     fields = fields;
     input_lines = f.input_lines;
     mid = now;
     buffered = store;
     consumed = f.consumed;
     slots = slots;
-    failure = rw (at_same now (get_or cells n 0) r within) (rw is_read at failure);
-    others = λ q differ. at_other now (get_or cells n 0) q r differ;
-    few = λ buffered. rw (at_same now (get_or cells n 0) r within)
-        (few (rw is_read ((f.consumed.lines_taken (get_or cells n 0)).buffered buffered)));
+    failure = rw (at_same now p r x.within) (rw x.is_read at failure);
+    others = λ q differ. at_other now p q r differ;
+    few = λ buffered. rw (at_same now p r x.within)
+        (few (rw x.is_read ((f.consumed.lines_taken p).buffered buffered)));
   }
 
 -- The row after the field in the slot of column n, and the byte after it, were copied.
@@ -369,33 +385,30 @@ module _ {row : RowShape} where
   amid_starts {begun = begun} {fields = fields} f is = grind (arith, common_steps, slots_kept_start)
 
   module _ {n : ℕ} {from : List Reader} {first store : Slots} {now : BegunText} (a : RowAmid row n from first now store)
-      (low : n < length row.cells) (within : get_or row.cells n 0 < length now.readers) {b : Reader}
-      (is_read : b ≡ reader_at now.readers (get_or row.cells n 0)) where
+      {b : Reader} (x : IsNextReader row now.readers n b) where
     -- The field of the next column is in its slot.
-    pub amid_next : (r : Reader) (after : Slots) → n < length store.lines → b.fault ≡ None → IsSound r → (has : Bool)
+    pub amid_next : (r : Reader) (after : Slots) → n < length store.lines → IsSound r → (has : Bool)
         → FillPost b r store after n (Ok has)
         → RowAmid row (n + 1) from first
         (record now { readers = set now.readers (get_or row.cells n 0) r; any_line = now.any_line || has }) after
-    amid_next r after room clean sound has e =
-        let (field, stored, filled) = fill_next a.filled low within is_read clean sound store after n has e in
+    amid_next r after room sound has e =
+        let (field, stored, filled) = fill_next a.filled x sound store after n has e in
         let width = a.filled.consumed.width in
         rw stored (record {
           fields = a.fields ++ field ∷ [];
           filled = filled;
-          within = omega (arith, a.within);
-          is = a.is ∙ ap (cells_text row 0)
-              (sym (take-append-le now.count a.fields (field ∷ []) (omega (arith, width, a.within))));
+          within = omega arith;
+          is = cc (take-append-le now.count a.fields (field ∷ []) (omega arith));
           held = λ c over under. grind (
             arith,
             a.held c,
-            width,
             cases_eq c n,
             get_or-set_same store.lines n field [] room,
             get_or-set_other store.lines n c field [],
             get_or_push a.fields field [] n,
             get_or_append_left a.fields (field ∷ []) [] c,
           );
-          slots = slots_kept_line a.slots field width low;
+          slots = slots_kept_line a.slots field width x.low;
         })
 
     -- The step for the next column failed.
@@ -403,7 +416,7 @@ module _ {row : RowShape} where
         → FillCellPost (get_or row.cells n 0) n b r store after (Err e)
         → RowFilled row from first (set now.readers (get_or row.cells n 0) r) after into (Err e)
     amid_failed r after into (Read input) (p, sound, named) = (
-      fill_failed a.filled low within {CellFailed = FillReadErr} after r a.slots is_read p (λ few. sound.buffered),
+      fill_failed a.filled x {CellFailed = FillReadErr} after r a.slots p (λ few. sound.buffered),
       named,
     )
     amid_failed r after into Write (same, kept, going) = search rules
@@ -419,21 +432,18 @@ module _ {row : RowShape} where
       → RowAmid row now.count from first now store → CopyColumnsPost row now next
       → RowAmid row next.count from first next store
   amid_columns {from} {now = now} {next = next} a p =
-      let width = a.filled.consumed.width in
       let all = a.fields ++ p.fields in
       record {
         fields = all;
         filled = p.filled from a.fields a.filled;
         within = omega arith;
-        is = (let here : now.count ≡ 0 + length a.fields = omega (arith, width) in cc (
-          p.is,
-          a.is,
-          here,
-          take_all now.count a.fields (omega (arith, width)),
-          cells_text-append row 0 a.fields p.fields,
-          take_all next.count all (omega (arith, width, p.width, length-append a.fields p.fields)),
-        ));
-        held = λ c over under. absurd (omega (arith, over, under));
+        is = (let here : now.count ≡ 0 + length a.fields =
+            omega arith in cc (
+              take_all now.count a.fields (omega arith),
+              cells_text-append row 0 a.fields p.fields,
+              take_all next.count all (omega (arith, length-append a.fields p.fields)),
+            ));
+        held = λ c over under. absurd (omega arith);
         slots = slots_kept_more a.slots p.fields;
       }
 
@@ -450,19 +460,18 @@ module _ {row : RowShape} where
   amid_text {store = store} {now} a room =
       let n = length row.cells in
       let k = now.count in
-      let width = a.filled.consumed.width in
       let front = take k a.fields in
       let slots = take n store.lines in
-      let long : length front ≡ k = length-take-le k a.fields (omega (arith, width, a.within)) in
+      let long = length-take-le k a.fields (omega arith) in
       let size = length-take-le n store.lines room in
-      let same : drop k slots ≡ drop k a.fields = ext_get_or [] (drop k slots) (drop k a.fields)
-      (omega (arith, length-drop k slots, length-drop k a.fields, size, width))
+      let same = ext_get_or [] (drop k slots) (drop k a.fields)
+      (omega (arith, length-drop k slots, length-drop k a.fields))
       (λ i low. get_or-drop k slots i []
-      ∙ get_or-take n store.lines (k + i) [] (omega (arith, low, length-drop k slots, size))
-      ∙ a.held (k + i) (omega arith) (omega (arith, low, length-drop k slots, size))
+      ∙ get_or-take n store.lines (k + i) [] (omega (arith, length-drop k slots))
+      ∙ a.held (k + i) (omega arith) (omega (arith, length-drop k slots))
       ∙ sym (get_or-drop k a.fields i [])) in
-      let here : k ≡ 0 + length front = omega (arith, long) in
-      cc (a.is, here, same, cells_text-append row 0 front (drop k a.fields), take-append-drop k a.fields)
+      let here : k ≡ 0 + length front = omega arith in
+      cc (cells_text-append row 0 front (drop k a.fields), take-append-drop k a.fields)
 
 -- ---- the readers, after a line was read
 
@@ -471,9 +480,7 @@ after_fill : (b r : Reader) (before after : Slots) (slot : ℕ) (has : Bool) →
 after_fill b r before after slot true e = (e.advance_ok.fault, e.advance_ok.reads.terminator)
 after_fill b r before after slot false (advance_ok, done, kept) = grind arith
 
-pub readable_after : {row : RowShape} (now : List Reader) {input : ℕ} {b : Reader} (r : Reader)
-    → BufferedRowsPre row now → input < length now → 0 < uses_of row.cells input → b ≡ reader_at now input
-    → (before after : Slots) (slot : ℕ) (has : Bool) → FillPost b r before after slot (Ok has)
-    → BufferedRowsPre row (set now input r)
-readable_after {row} now {input} {b} r ready low used is_read before after slot has e = search (rules, same_end,
-    after_fill, each_reader)
+pub readable_after : {row : RowShape} {now : List Reader} {n : ℕ} {b : Reader} → IsNextReader row now n b → (r : Reader)
+    → BufferedRowsPre row now → (before after : Slots) (slot : ℕ) (has : Bool)
+    → FillPost b r before after slot (Ok has) → BufferedRowsPre row (set now (get_or row.cells n 0) r)
+readable_after x r ready before after slot has e = search (rules, same_end, after_fill, each_reader)

@@ -26,17 +26,17 @@ module _ {k j : ℕ} (low : j < k) where
   chosen_apart n [] = refl
   chosen_apart n (x ∷ xs) =
       let next : k + n + 1 ≡ k + (n + 1) = omega arith in
-      cc (add-mod_left k n, next, chosen_apart (n + 1) xs)
+      cc (add-mod_left k n, chosen_apart (n + 1) xs)
 
   is_kth_here : (n : ℕ) → n ≡ j → is_kth k j n ≡ true
-  is_kth_here n same = let less : n % k ≡ j = mod-eq_of_lt (omega arith) ∙ same in eq-eqb (n % k) j less
+  is_kth_here n same = let less = mod-eq_of_lt (omega arith) ∙ same in eq-eqb (n % k) j less
 
   is_kth_not : (n : ℕ) → n < k → n ≢ j → is_kth k j n ≡ false
-  is_kth_not n less other = let same : n % k ≡ n = mod-eq_of_lt less in rw same (grind (arith, nat_tests))
+  is_kth_not n less other = let same = mod-eq_of_lt less in rw same (grind (arith, nat_tests))
 
   -- After the j-th of the first k.
   chosen_after : (n b : ℕ) (xs : Column) → n + b ≡ k → j < n → select_from (is_kth k j) n xs ≡ every_kth k j (drop b xs)
-  chosen_after n zero xs all past = let same : n ≡ k + 0 = omega arith in cc (same, chosen_apart 0 xs)
+  chosen_after n zero xs all past = let same : n ≡ k + 0 = omega arith in cc (chosen_apart 0 xs)
   chosen_after n (suc b) [] all past = refl
   chosen_after n (suc b) (x ∷ xs) all past = rw (is_kth_not n (omega arith) (omega arith)) (chosen_after (n + 1) b xs
       (omega arith) (omega arith))
@@ -65,10 +65,9 @@ module _ {k j : ℕ} (low : j < k) where
   pub every_kth_short : (r : ℕ) (ls : Column) → length ls ≤ j + r * k → length (every_kth k j ls) ≤ r
   every_kth_short zero ls few = grind (arith, chosen_before 0 j k ls (omega arith) (omega arith))
   every_kth_short (suc r) ls few =
-      let more : suc r * k ≡ k + r * k = omega arith in
       omega (
         arith,
-        every_kth_short r (drop k ls) (omega (arith, few, more, length-drop k ls)),
+        every_kth_short r (drop k ls) (omega (arith, length-drop k ls)),
         ap length (every_kth_rest ls),
         length-drop 1 (every_kth k j ls),
       )
@@ -98,8 +97,8 @@ rows_step cols some = by_height (row_count cols) refl some
         → map (row_at cols) (range_with_len 0 (row_count cols)) ≡ row_at cols 0 ∷ rows (map (drop 1) cols)
     by_height zero is some = absurd (omega arith)
     by_height (suc h) is some =
-        let less : h ≡ row_count (map (drop 1) cols) = omega (arith, row_count_from 0 cols, is) in
-        cc (is, rows_later cols 0 h, less)
+        let less : h ≡ row_count (map (drop 1) cols) = omega (arith, row_count_from 0 cols) in
+        cc (rows_later cols 0 h)
 
 row_count_least : (a : ℕ) (cols : List Column) → a ≤ fold max a (map length cols)
 row_count_least a [] = omega arith
@@ -115,7 +114,7 @@ row_count_none : (cols : List Column) → ((c : ℕ) → c < length cols → get
 row_count_none [] none = refl
 row_count_none (col ∷ cols) none =
     let empty : max 0 (length col) ≡ 0 = omega (arith, ap length (none 0 (omega arith))) in
-    cc (empty, row_count_none cols (λ c low. none (suc c) (omega arith)))
+    cc (row_count_none cols (λ c low. none (suc c) (omega arith)))
 
 pub rows_none : (cols : List Column) → ((c : ℕ) → c < length cols → get_or cols c [] ≡ []) → rows cols ≡ []
 rows_none cols none = ap (λ (n : ℕ). map (row_at cols) (range_with_len 0 n)) (row_count_none cols none)
@@ -131,20 +130,20 @@ length-for_each_cell f cells = grind (arith, common_steps, length-enumerate_from
 
 get_or-for_each_cell : {Y : Type 0} (f : ℕ → ℕ → Y) (cells : List ℕ) (c : ℕ) (d : Y) → c < length cells
     → get_or (for_each_cell f cells) c d ≡ f c (get_or cells c 0)
-get_or-for_each_cell {Y} f cells c d low = let same : 0 + c ≡ c = omega arith in cc (
-  get_or-map (λ (cell : ℕ × ℕ). f cell.0 cell.1) (enumerate_from 0 cells) c (0, 0) d
-      (omega (arith, length-enumerate_from 0 cells)),
-  get_or-enumerate_from 0 cells c (0, 0) low,
-  same,
-)
+get_or-for_each_cell {Y} f cells c d low = let same : 0 + c ≡ c =
+    omega arith in cc (
+      get_or-map (λ cell. f cell.0 cell.1) (enumerate_from 0 cells) c (0, 0) d
+          (omega (arith, length-enumerate_from 0 cells)),
+      get_or-enumerate_from 0 cells c (0, 0) low,
+    )
 
 -- A list that has this value for each column is equal to that.
 pub for_each_cell_unique : {Y : Type 0} (f : ℕ → ℕ → Y) (cells : List ℕ) (ys : List Y) (d : Y)
     → length ys ≡ length cells → ((c : ℕ) → c < length cells → get_or ys c d ≡ f c (get_or cells c 0))
     → ys ≡ for_each_cell f cells
 for_each_cell_unique f cells ys d long same =
-    ext_get_or d ys (for_each_cell f cells) (long ∙ sym (length-for_each_cell f cells))
-    (λ c low. let within : c < length cells = omega (arith, low, long) in same c within
+    ext_get_or d ys (for_each_cell f cells) (cc (length-for_each_cell f cells))
+    (λ c low. let within : c < length cells = omega arith in same c within
     ∙ sym (get_or-for_each_cell f cells c d within))
 
 pub for_each_cell_same : {Y : Type 0} (f g : ℕ → ℕ → Y) (cells : List ℕ) → ((c : ℕ) → c < length cells
@@ -168,7 +167,7 @@ last_use [] p some = absurd (omega arith)
 last_use (x ∷ cells) p some = ⊎_elim
     (λ more.
     let (c, low, is, count) = last_use cells p more in
-    (suc c, omega (arith, low), is, omega (arith, count, uses_first x cells p, uses_first x (take c cells) p)))
+    (suc c, omega arith, is, omega (arith, uses_first x cells p, uses_first x (take c cells) p)))
     (λ none. let (same, one) = only_first x cells p some none in (0, omega arith, same, one))
     (cases_lt 0 (uses_of cells p))
 
@@ -233,29 +232,26 @@ module _ (cells : List ℕ) where
     grid_step c low some =
         let input = get_or cells c 0 in
         let high = every_kth_some (uses_before_lt c low) (input_lines input ++ more input)
-        (omega (arith, some, length-append (input_lines input) (more input))) in
+        (omega (arith, length-append (input_lines input) (more input))) in
         rows_step (columns cells ins) (omega (
           arith,
           row_count_bound 0 (columns cells ins) c,
           ap length (column_at ins c low),
-          high,
         ))
-        ∙ (λ i. (map-map (λ (col : Column). slice_index_or col 0 []) (λ (cell : ℕ × ℕ). column_of ins cell.0 cell.1)
+        ∙ (λ i. (map-map (λ col. slice_index_or col 0 []) (λ cell. column_of ins cell.0 cell.1)
         (enumerate_from 0 cells)
         ∙ for_each_cell_same (λ c p. slice_index_or (column_of ins c p) 0 []) (top_of input_lines) cells
         (λ d within. let q = get_or cells d 0 in every_kth_first (uses_before_lt d within) (ins q)
         ∙ input_lines_at q (uses_of (take d cells) q) (uses_before_lt d within))) i
-        ∷ rows ((map-map (drop 1) (λ (cell : ℕ × ℕ). column_of ins cell.0 cell.1) (enumerate_from 0 cells)
+        ∷ rows ((map-map (drop 1) (λ cell. column_of ins cell.0 cell.1) (enumerate_from 0 cells)
         ∙ for_each_cell_same (λ c p. drop 1 (column_of ins c p)) (column_of more) cells
-        (λ d within. let q = get_or cells d 0 in every_kth_rest (uses_before_lt d within) (ins q)
-        ∙ ap (every_kth (uses_of cells q) (uses_of (take d cells) q)) (rest_is q))) i))
+        (λ d within. let q = get_or cells d 0 in cc (every_kth_rest (uses_before_lt d within) (ins q), rest_is q))) i))
 
   pub grid_none : (ins : ℕ → Column) → ((p : ℕ) → 0 < uses_of cells p → ins p ≡ []) → rows (columns cells ins) ≡ []
   grid_none ins none = rows_none (columns cells ins) (λ c low.
-      let within : c < length cells = omega (arith, low, length-columns ins) in
+      let within : c < length cells = omega (arith, length-columns ins) in
       let q = get_or cells c 0 in
-      column_at ins c within ∙ ap (every_kth (uses_of cells q) (uses_of (take c cells) q))
-      (none q (omega (arith, uses_before_lt c within))))
+      cc (column_at ins c within, none q (omega (arith, uses_before_lt c within))))
 
 -- ---- the text of rows
 
@@ -278,7 +274,7 @@ is_row_unknown (col ∷ cols) (e ∷ eof) r (suc c) low within going few =
 -- ---- a function that is changed at one index
 
 pub update_here : {X : Type 0} (input : ℕ) (x : X) (f : ℕ → X) (q : ℕ) → q ≡ input → update_at input x f q ≡ x
-update_here input x f q same = ap (λ (t : Bool). cond t x (f q)) (eq-eqb q input same)
+update_here input x f q same = ap (λ t. cond t x (f q)) (eq-eqb q input same)
 
 pub update_there : {X : Type 0} (input : ℕ) (x : X) (f : ℕ → X) (q : ℕ) → q ≢ input → update_at input x f q ≡ f q
-update_there input x f q differ = ap (λ (t : Bool). cond t x (f q)) (ne_eqb q input differ)
+update_there input x f q differ = ap (λ t. cond t x (f q)) (ne_eqb q input differ)

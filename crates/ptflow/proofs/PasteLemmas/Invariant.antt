@@ -3,13 +3,13 @@
 -- readers were read further.
 use Rattle.ptflow.proofs
 use proofs.Common.{◌≡◌, ℕ, ◌+◌, ◌*◌, ◌<◌, ◌≤◌, ◌^◌, Bool, true, false, List, [], ◌∷◌, ◌++◌, length, ◌∙◌, ap, subst}
-use proofs.Common.{arith, append_assoc, All, append-nil, All-get_or, lines, max_length, Received, IsPrefix}
-use proofs.Common.{IsConsistent, known_lines, Output, PushEffect, Reader, ReaderAdvance, IsDone, Slots, total_bytes}
-use proofs.Common.{received_with, push_nothing, push_trans, Paste, AddedSlots, reader_at, IsReadable, PastePre}
-use proofs.Common.{uses_of, columns, rows, rows_text, paste, paste_decided, SetTerminatorsPost, SlotsBound, SlotsKept}
-use proofs.Common.{CellsTaken, CellsFilled, AreReceivedLines, AreFirstRows, RowsTaken, RowsWritten, cells_text}
-use proofs.Common.{job_shape, BufferedRowsPre, CallState, CallEnd, CallPost, call_state, inputs_at, is_in}
-use proofs.Common.{paste_engine, LinesTaken}
+use proofs.Common.{arith, append_assoc, All, append-nil, lines, max_length, Received, IsPrefix, IsConsistent}
+use proofs.Common.{known_lines, Output, PushEffect, Reader, ReaderAdvance, IsDone, Slots, total_bytes, received_with}
+use proofs.Common.{push_nothing, push_trans, Paste, AddedSlots, reader_at, IsReadable, PastePre, uses_of, columns}
+use proofs.Common.{rows, rows_text, paste, paste_decided, SetTerminatorsPost, SlotsBound, SlotsKept, CellsTaken}
+use proofs.Common.{CellsFilled, AreReceivedLines, AreFirstRows, RowsTaken, RowsWritten, cells_text, job_shape}
+use proofs.Common.{BufferedRowsPre, CallState, CallEnd, CallPost, call_state, inputs_at, is_in, paste_engine}
+use proofs.Common.{LinesTaken}
 use proofs.PasteLemmas.FillRow.{slots_bound_start, slots_kept_by_lines}
 use proofs.PasteLemmas.RowsTaken.{no_rows, first_rows_trans, filled_row_is_first, filled_row_text}
 use proofs.PasteLemmas.Grid.{Column, last_use, rows_text-append}
@@ -26,7 +26,7 @@ use Rattle.std.proofs.lemmas.Grind.{common_steps}
 all_used : (P : ℕ → Type 0) (cells : List ℕ) → All P cells → (p : ℕ) → 0 < uses_of cells p → P p
 all_used P cells all p some =
     let (c, low, is, count) = last_use cells p some in
-    subst P is (All-get_or P cells c 0 low all)
+    subst P is (all c 0 low)
 
 -- ---- the complete lines that were received
 
@@ -36,7 +36,7 @@ whole_lines_after : {end : ℕ} {now : Reader} {given : List ℕ} {ls : Column} 
     → known_lines end (record { bytes = given ++ rest; eof = eof }) ≡ ls ++ known_lines end
     (record { bytes = rest; eof = eof })
 whole_lines_after {end} {now} {given} {ls} k rest true may =
-    lines_on end now given ls k rest (λ done. ap (λ (g : Received). g.bytes) (may done))
+    lines_on end now given ls k rest (λ done. ap (λ g. g.bytes) (may done))
 whole_lines_after {end} {now} {given} {ls} k rest false may = grind (arith, ended_more)
 
 -- The rows of all that is received, if `rest` is received after some rows.
@@ -87,8 +87,7 @@ module _ (job : Paste) {cells : List ℕ} {set now new : List Reader} {ls : ℕ 
         let is : (p : ℕ) → texts p ≡ (g.lines_taken p).bytes ++ later p = λ p. simp append_assoc at (a p).is in
         (λ i. rows (columns cells (λ p. lines job.terminator (is p i))))
         ∙ rows_after job g (λ p. record { bytes = later p; eof = true }) (λ p done i. record {
-          bytes = may_follow (reader_at now p) (reader_at new p) (r.extra p)
-              ((reader_at new p).buffered ++ (a p).rest) (r.reads p)
+          bytes = may_follow _ _ _ ((reader_at new p).buffered ++ (a p).rest) (r.reads p)
               (λ done i. done.buffered i ++ (a p).whole done.eof i) done i;
           eof = true;
         })
@@ -108,7 +107,7 @@ module _ (job : Paste) {cells : List ℕ} {set now new : List Reader} {ls : ℕ 
         eof = (reader_at new p).eof;
       }))))
       ∙ rows_after job g rest_by (λ p done.
-      let (none, empty, eof) = eof_gives_nothing (reader_at now p) (reader_at new p) (r.extra p) done (r.reads p) in
+      let (none, empty, eof) = eof_gives_nothing _ _ _ done (r.reads p) in
       λ i. record { bytes = none i ++ empty i; eof = eof i })
 
   abbrev later_rows : List (List (List ℕ))
@@ -188,7 +187,7 @@ module _ {job : Paste} {cells : List ℕ} {old set now : List Reader} {was is : 
   -- The readers are still readable.
   pub now_readable : BufferedRowsPre (job_shape job cells) now
   now_readable = let r = set_readable s.starts in record {
-    within = λ c d low. omega (arith, r.within c d low, s.first_rows.count);
+    within = λ c d low. omega arith;
     unfailed = λ p some. (s.first_rows.lines_taken p).fault ∙ r.unfailed p some;
     same_end = λ p some. (s.first_rows.lines_taken p).reads.terminator ∙ r.same_end p some;
   }
@@ -202,7 +201,7 @@ module _ {job : Paste} {cells : List ℕ} {old set now : List Reader} {was is : 
 
   -- Each column has a slot.
   pub invariant_slots : length cells ≤ length store.lines
-  invariant_slots = let k = s.kept (λ p. max_length (s.ls p)) (λ p. omega arith) in omega (arith, k.adds.all k.denied)
+  invariant_slots = let k = s.kept (λ p. max_length (s.ls p)) (λ p. omega arith) in omega arith
 
   -- Buffered output was written out.
   pub invariant_sent : {written_out : Output} → PushEffect is written_out [] → written_out.write_failed ≡ false
@@ -212,8 +211,7 @@ module _ {job : Paste} {cells : List ℕ} {old set now : List Reader} {was is : 
     ls = s.ls;
     taken_rows = s.taken_rows;
     first_rows = s.first_rows;
-    wrote = rw (append-nil (rows_text job s.taken_rows)) at (push_trans was is written_out (rows_text job s.taken_rows)
-        [] s.clean s.wrote wrote);
+    wrote = rw (append-nil (rows_text job s.taken_rows)) at (push_trans _ _ _ _ _ s.clean s.wrote wrote);
     clean = clean;
     kept = s.kept;
   }
@@ -230,7 +228,7 @@ module _ {job : Paste} {cells : List ℕ} {old set now : List Reader} {was is : 
     taken_rows = s.taken_rows ++ more;
     first_rows = first_rows_trans s.first_rows g;
     wrote = rw (rows_text-append job.terminator job.delimiters s.taken_rows more)
-        (push_trans was is is' (rows_text job s.taken_rows) (rows_text job more) s.clean s.wrote wrote);
+        (push_trans _ _ _ _ _ s.clean s.wrote wrote);
     clean = clean;
     kept = kept;
   }

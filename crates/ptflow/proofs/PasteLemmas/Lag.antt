@@ -3,7 +3,7 @@
 use Rattle.ptflow.proofs
 use proofs.Common.{◌≡◌, ⊎_elim, ℕ, zero, suc, ◌+◌, ◌-◌, ◌*◌, ◌<◌, ◌≤◌, Bool, true, false, List, [], ◌∷◌, ◌++◌, length}
 use proofs.Common.{take, drop, get_or, map, refl, sym, ◌∙◌, ap, subst, arith, append_assoc, take-append-drop}
-use proofs.Common.{length-append, length-drop, filter, range_with_len, enumerate_from, cases_eq, cases_lt, cases_Bool}
+use proofs.Common.{length-append, length-drop, filter, range_with_len, enumerate_from, cases_eq, cases_Bool}
 use proofs.Common.{nat_tests, append-nil, append_cancel_right, take-append-le, length-take-le, take_all, take_more}
 use proofs.Common.{get_or-map, length-map, take-map-range_with_len, length-map-range_with_len, map-map, unlines}
 use proofs.Common.{lines, complete_lines, IsLine, AreLines, Received, IsPrefix, known_lines, ProcessLag, Reader}
@@ -39,13 +39,10 @@ earlier_partial {end} new {given} {ls} k going piece {bytes} is free buffered fe
   front = bytes;
   last = new.buffered;
   split = refl;
-  short = omega (arith, buffered);
+  short = omega arith;
   few = let lines_are : complete_lines end (given ++ piece) ≡ ls =
-      ⊎_elim
-      (λ (whole, are). ap (λ (b : List ℕ). complete_lines end (b ++ piece)) whole
-      ∙ complete_lines_of_unlines end ls piece are free)
-      (λ (whole, done). absurd (going done)) k.so_far in
-      omega (arith, few, ap length (ap (complete_lines end) is ∙ lines_are));
+      grind (arith, k.so_far, going, complete_lines_of_unlines end ls piece) in
+      omega (arith, ap length (ap (complete_lines end) is ∙ lines_are));
 }
 
 -- If nothing was given, only the buffer is left.
@@ -55,8 +52,8 @@ earlier_buffered end most reader buffered some = record {
   front = [];
   last = reader.buffered;
   split = refl;
-  short = omega (arith, buffered);
-  few = omega (arith, some);
+  short = omega arith;
+  few = omega arith;
 }
 
 are_split : (end : ℕ) (xs : Column) (l : List ℕ) → AreLines end (xs ++ l ∷ []) → AreLines end xs × IsLine end l
@@ -75,12 +72,10 @@ module _ (end : ℕ) (reader : Reader) (given : List ℕ) (buffered : length rea
     earlier_line suffix one is (are, line) = let n = length l - 8191 in record {
       front = unlines end xs ++ take n l;
       last = drop n l ++ (suffix ++ reader.buffered);
-      split = ap (λ (b : List ℕ). b ++ reader.buffered) (is ∙ ap (λ (b : List ℕ). unlines end xs ++ (b ++ suffix))
+      split = ap (λ b. b ++ reader.buffered) (is ∙ ap (λ b. unlines end xs ++ (b ++ suffix))
           (sym (take-append-drop n l))) ∙ simp append_assoc;
       short = omega (
         arith,
-        one,
-        buffered,
         length-append (drop n l) (suffix ++ reader.buffered),
         length-append suffix reader.buffered,
         length-drop n l,
@@ -96,12 +91,11 @@ module _ (end : ℕ) (reader : Reader) (given : List ℕ) (buffered : length rea
         let (exists, unique) = the_lines end given in
         let (all, whole) = exists in
         let are = are_split end xs l (subst (AreLines end) last all) in
-        let put : unlines end (lines end given) ≡ unlines end xs ++ (l ++ end ∷ []) = ap (unlines end) last
-        ∙ unlines_push end xs l in
+        let put : unlines end (lines end given) ≡ unlines end xs ++ (l ++ end ∷ []) = cc (unlines_push end xs l) in
         ⊎_elim
         (λ same. earlier_line (end ∷ []) (omega arith) (sym same ∙ put) are)
         (λ (some, other, is). earlier_line [] (omega arith) (rw (append-nil l) (append_cancel_right given
-        (unlines end xs ++ l) (end ∷ []) (sym is ∙ put ∙ sym (append_assoc (unlines end xs) l (end ∷ []))))) are)
+        (unlines end xs ++ l) (end ∷ []) (cc (append_assoc (unlines end xs) l (end ∷ []))))) are)
         whole)
         k.so_far
 
@@ -111,12 +105,8 @@ module _ (end : ℕ) (reader : Reader) (given : List ℕ) (buffered : length rea
   earlier_lines most [] k some few = rw (none_received k) (earlier_buffered end most reader buffered some)
   earlier_lines most (l ∷ ls) k some few =
       let n = length ls in
-      earlier_last most (take n (l ∷ ls)) (get_or (l ∷ ls) n []) (omega (
-        arith,
-        few,
-        length-take-le n (l ∷ ls)
-            (omega arith),
-      ))
+      earlier_last most (take n (l ∷ ls)) (get_or (l ∷ ls) n [])
+      (omega (arith, length-take-le n (l ∷ ls) (omega arith)))
       (subst (AreReceivedLines end reader given) (sym (take_all (n + 1) (l ∷ ls) (omega arith))
       ∙ take_more (l ∷ ls) n [] (omega arith)) k)
 
@@ -142,11 +132,7 @@ whole_lines_prefix end false front last =
     let split = line_split end front in
     let ls = complete_lines end front in (
       complete_lines end (split.piece ++ last),
-      cc (
-        split.is,
-        append_assoc (unlines end ls) split.piece last,
-        ended_more end ls (split.piece ++ last) split.whole,
-      ),
+      cc (append_assoc (unlines end ls) split.piece last, ended_more end ls (split.piece ++ last) split.whole),
     )
 
 -- Without the last bytes that were given, if these came from the buffer.
@@ -158,12 +144,11 @@ earlier_before {end} {now = now} {new = new} {given = given} {more = more} {ls =
       front = given;
       last = more ++ new.buffered;
       split = append_assoc given more new.buffered;
-      short = omega (arith, reads.count, still, buffered, length-append more new.buffered);
+      short = omega (arith, length-append more new.buffered);
       few = omega (
         arith,
-        few,
         (let count : length ls ≡ length (complete_lines end given ++ rest) =
-            cc (lines_are_given end now given ls came, append-nil given, is) in count),
+            cc (lines_are_given _ _ _ _ came, append-nil given) in count),
         length-append (complete_lines end given) rest,
       );
     }
@@ -178,16 +163,16 @@ none_known f down a (suc h) none = rw none (none_known f down (a + 1) h (down a 
 filter_first : (f : ℕ → Bool) → ((r : ℕ) → f r ≡ false → f (r + 1) ≡ false) → (a h : ℕ)
     → (m : ℕ) × (m ≤ h) × ((n : ℕ) → a ≤ n → f n ≡ false → a + m ≤ n)
     × (filter f (range_with_len a h) ≡ range_with_len a m)
-filter_first f down a zero = (0, omega arith, (λ n high none. omega (arith, high)), refl)
+filter_first f down a zero = (0, omega arith, (λ n high none. omega arith), refl)
 filter_first f down a (suc h) = ⊎_elim
     (λ is. let (m, few, past, later) = filter_first f down (a + 1) h in (
       suc m,
-      omega (arith, few),
-      (λ n high none. ⊎_elim (λ same. cc (none, ap f same, is))
-          (λ differ. omega (arith, past n (omega (arith, high, differ)) none)) (cases_eq n a)),
-      rw is (ap (λ (l : List ℕ). a ∷ l) later),
+      omega arith,
+      (λ n high none. ⊎_elim (λ same. cc (ap f same))
+          (λ differ. omega (arith, past n (omega arith) none)) (cases_eq n a)),
+      rw is (ap (λ l. a ∷ l) later),
     ))
-    (λ is. (0, omega arith, (λ n high none. omega (arith, high)), rw is (none_known f down (a + 1) h (down a is))))
+    (λ is. (0, omega arith, (λ n high none. omega arith), rw is (none_known f down (a + 1) h (down a is))))
     (cases_Bool (f a))
 
 known_down : (cols : List Column) (eof : List Bool) (r : ℕ) → is_row_known cols eof r ≡ false
@@ -209,21 +194,14 @@ same_rows : (f g : ℕ → List (List ℕ)) (a m : ℕ) → ((r : ℕ) → r < a
     → map f (range_with_len a m) ≡ map g (range_with_len a m)
 same_rows f g a zero same = refl
 same_rows f g a (suc m) same = λ i. same a (omega arith) i ∷ same_rows f g (a + 1) m
-    (λ r low. same r (omega (arith, low))) i
+    (λ r low. same r (omega arith)) i
 
 -- A column keeps its lines if more follow.
 every_kth_more : (k j r : ℕ) (xs more : Column) → r < length (every_kth k j xs)
     → slice_index_or (every_kth k j xs) r [] ≡ slice_index_or (every_kth k j (xs ++ more)) r []
 every_kth_more k j r xs more low = grind (arith, common_steps, select_append)
 
--- ---- the text of rows
-
-first_rows_prefix : (job : Paste) (m : ℕ) (rs : List (List (List ℕ))) {first : List (List (List ℕ))} → first ≡ take m rs
-    → IsPrefix (rows_text job first) (rows_text job rs)
-first_rows_prefix job m rs {first} is = record {
-  rest = rows_text job (drop m rs);
-  is = cc (is, take-append-drop m rs, rows_text-append job.terminator job.delimiters (take m rs) (drop m rs));
-}
+-- ---- the lag
 
 -- Without the last bytes of this input alone, no more output is determined than was pushed.
 abbrev pub LagsAt : Paste → List ℕ → (ℕ → Received) → List ℕ → ℕ → Type 0
@@ -260,28 +238,22 @@ module _ (job : Paste) (cells : List ℕ) (came : ℕ → Received) where
         → length (column_of cells (known_of earlier) c (get_or cells c 0)) ≤ r
         → is_row_known (grid earlier) ends r ≡ false
     unknown r c low is few =
-        is_row_unknown (grid earlier) ends r c (omega (arith, low, length-columns cells (known_of earlier)))
-        (omega (arith, low, length-map cells (λ q. (earlier q).eof)))
-        (get_or-map (λ p. (earlier p).eof) cells c 0 true low ∙ ap (λ (g : Received). g.eof)
-        (update_here here front came (get_or cells c 0) is))
-        (omega (arith, few, ap length (column_at cells (known_of earlier) c low)))
+        is_row_unknown (grid earlier) ends r c (omega (arith, length-columns cells (known_of earlier)))
+        (omega (arith, length-map cells (λ q. (earlier q).eof)))
+        (cc (get_or-map (λ p. (earlier p).eof) cells c 0 true low, update_here here front came (get_or cells c 0) is))
+        (omega (arith, ap length (column_at cells (known_of earlier) c low)))
 
     -- The last column of the input has no line in the next row.
     next_unknown : is_row_known (grid earlier) ends (length taken_rows) ≡ false
     next_unknown =
         let (c, low, is, count) = last_use cells here named in
-        let more : (length taken_rows + 1) * uses_of cells here ≡ length taken_rows * uses_of cells here
-        + uses_of cells here = omega arith in
         unknown (length taken_rows) c low is (every_kth_short (uses_before_lt cells c low) (length taken_rows)
         (known_of earlier (get_or cells c 0)) (omega (
           arith,
-          cut.few,
-          ap (λ (g : Received). length (known_lines job.terminator g)) (update_here here front came (get_or cells c 0)
-              is),
-          count,
+          ap (λ g. length (known_lines job.terminator g))
+              (update_here here front came (get_or cells c 0) is),
           ap (uses_of (take c cells)) is,
           ap (λ (q : ℕ). length taken_rows * uses_of cells q) is,
-          more,
         )))
 
     cell_same : (r : ℕ) → is_row_known (grid earlier) ends r ≡ true → (c : ℕ) → c < length cells
@@ -292,20 +264,11 @@ module _ (job : Paste) (cells : List ℕ) (came : ℕ → Received) where
         let (more, is_known) = whole_lines_prefix job.terminator (came here).eof cut.front cut.last in
         let is_front = update_here here front came p is in
         let there : r < length (every_kth k j (known_of earlier p)) =
-        ⊎_elim (λ there. there) (λ past. cc (unknown r c low is past, known))
-        (cases_lt r (length (every_kth k j (known_of earlier p)))) in
+        grind (arith, unknown r c low is) in
         let whole : known_lines job.terminator (came here) ≡ complete_lines job.terminator cut.front ++ more =
         (λ i. known_lines job.terminator (record { bytes = cut.split i; eof = (came here).eof })) ∙ is_known in
-        cc (
-          is_front,
-          every_kth_more k j r (complete_lines job.terminator cut.front) more (omega (
-            arith,
-            there,
-            ap (λ (g : Received). length (every_kth k j (known_lines job.terminator g))) is_front,
-          )),
-          whole,
-          is,
-        ))
+        cc (every_kth_more k j r (complete_lines job.terminator cut.front) more
+        (omega (arith, ap (λ (g : Received). length (every_kth k j (known_lines job.terminator g))) is_front))))
         (λ other. cc (update_there here front came p other))
         (cases_eq p here)
       where
@@ -333,20 +296,27 @@ module _ (job : Paste) (cells : List ℕ) (came : ℕ → Received) where
     pub begins_earlier : IsPrefix (paste_decided job cells earlier) (rows_text job taken_rows)
     begins_earlier =
         let (m, within, past, known) = known_first (grid earlier) ends in
-        let few : m ≤ length taken_rows = past (length taken_rows) next_unknown in
+        let few = past (length taken_rows) next_unknown in
         let high : m ≤ row_count (grid came) = omega (
           arith,
-          few,
           ap length all,
           length-append taken_rows more,
           length-map-range_with_len (row_at (grid came)) 0 (row_count (grid came)),
         ) in
-        first_rows_prefix job m taken_rows (known
-        ∙ same_rows (row_at (grid earlier)) (row_at (grid came)) 0 m
-        (λ r low. row_same r (⊎_elim (λ is. is) (λ not. absurd (omega (arith, low, past r not)))
-        (cases_Bool (is_row_known (grid earlier) ends r))))
-        ∙ sym (take-map-range_with_len (row_at (grid came)) 0 (row_count (grid came)) m high)
-        ∙ ap (take m) all ∙ take-append-le m taken_rows more few)
+        let is : known_rows (grid earlier) ends ≡ take m taken_rows =
+        cc (
+          same_rows (row_at (grid earlier)) (row_at (grid came)) 0 m
+              (λ r low. row_same r (grind (arith, past r, cases_Bool (is_row_known (grid earlier) ends r)))),
+          take-map-range_with_len (row_at (grid came)) 0 (row_count (grid came)) m high,
+          take-append-le m taken_rows more few,
+        ) in
+        record {
+          rest = rows_text job (drop m taken_rows);
+          is = cc (
+            take-append-drop m taken_rows,
+            rows_text-append job.terminator job.delimiters (take m taken_rows) (drop m taken_rows),
+          );
+        }
 
     pub lags_here : LagsAt job cells came (rows_text job taken_rows) here
     lags_here = record {

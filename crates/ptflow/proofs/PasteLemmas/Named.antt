@@ -1,11 +1,10 @@
 -- The inputs that columns name. Only their texts, and what was received from them, decide the output.
 use Rattle.ptflow.proofs
-use proofs.Common.{◌≡◌, ℕ, ◌<◌, ◌==◌, true, false, cond, List, [], ◌∷◌, length, get_or, map, refl, sym, ◌∙◌, ap}
-use proofs.Common.{subst, arith, append-nil, eq-eqb, nat_tests, list_any_at, sum_by-cons, Received, IsConsistent}
+use proofs.Common.{◌≡◌, ℕ, ◌<◌, ◌==◌, true, false, cond, List, [], ◌∷◌, length, get_or, map, refl, sym, ap, subst}
+use proofs.Common.{arith, append-nil, eq-eqb, nat_tests, list_any_at, sum_by-cons, Received, IsConsistent}
 use proofs.Common.{max_line_length, Paste, AreAllConsistent, inputs_at, is_in, uses_of, paste, paste_size}
 use proofs.Common.{paste_decided}
 use Rattle.std.proofs.lemmas.List.Sums.{sum-map}
-use Rattle.std.specs.Prelude.{sum}
 use proofs.PasteLemmas.Grid.{columns_same, last_use}
 
 module _ (cells : List ℕ) where
@@ -56,8 +55,9 @@ module _ (job : Paste) (cells : List ℕ) where
     same_paste = grind (arith, columns_same, same_texts, used_is_in)
 
     pub same_size : paste_size job cells with_received ≡ paste_size job cells texts
-    same_size = sym (sum-map (λ p. max_line_length job.terminator (with_received p)) cells)
-        ∙ ap sum (map_same (λ p. max_line_length job.terminator (with_received p))
-        (λ p. max_line_length job.terminator (texts p)) cells
-        (λ p named. ap (max_line_length job.terminator) (same_texts p named)))
-        ∙ sum-map (λ p. max_line_length job.terminator (texts p)) cells
+    same_size = cc (
+      sum-map (λ p. max_line_length job.terminator (with_received p)) cells,
+      map_same (λ p. max_line_length job.terminator (with_received p)) (λ p. max_line_length job.terminator (texts p))
+          cells (λ p named. ap (max_line_length job.terminator) (same_texts p named)),
+      sum-map (λ p. max_line_length job.terminator (texts p)) cells,
+    )

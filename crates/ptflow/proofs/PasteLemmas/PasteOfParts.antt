@@ -41,12 +41,11 @@ module _ (cells : List ℕ) where
         (columns cells (λ p. rest ins p ++ more p))
     first_row c low some =
         let split : (q : ℕ) → ins q ++ more q ≡ first ins q ++ (rest ins q ++ more q) = λ q.
-        ap (λ (l : Column). l ++ more q) (sym (take-append-drop (uses_of cells q) (ins q)))
-        ∙ append_assoc (first ins q) (rest ins q) (more q) in
+        cc (take-append-drop (uses_of cells q) (ins q), append_assoc (first ins q) (rest ins q) (more q)) in
         let p = get_or cells c 0 in
         (λ i. rows (columns cells (λ q. split q i)))
         ∙ grid_step cells (first ins) (λ q. rest ins q ++ more q) first_taken c low
-        (omega (arith, length-take (uses_of cells p) (ins p), some, uses_before_lt cells c low))
+        (omega (arith, length-take (uses_of cells p) (ins p), uses_before_lt cells c low))
 
   -- ---- several rows
 
@@ -74,7 +73,7 @@ module _ (cells : List ℕ) where
         (λ i. rows (columns cells (λ p. sym (append-nil (ins p)) i)))
         ∙ first_row ins (λ p. []) (λ p few. refl) c low has
         ∙ (λ i. top ∷ rows (columns cells (λ p. append-nil (rest ins p) i))) in
-        cc (first_row ins more (more_is_empty n ins more reach) c low has, rows_after, alone)
+        cc (first_row ins more (more_is_empty n ins more reach) c low has)
 
     -- No input continues.
     append_last : ((c : ℕ) → c < length cells → length (ins (get_or cells c 0)) ≤ uses_of (take c cells)
@@ -86,7 +85,7 @@ module _ (cells : List ℕ) where
         (omega (arith, short c low, uses_before_lt cells c low))) in
         cc (
           columns_same cells (λ p. ins p ++ more p) ins
-              (λ p some. ap (λ (l : Column). ins p ++ l) (over p some) ∙ append-nil (ins p)),
+              (λ p some. cc (over p some, append-nil (ins p))),
           append-nil (rows (columns cells ins)),
           grid_none cells more over,
         )
@@ -96,7 +95,7 @@ module _ (cells : List ℕ) where
       let none : (p : ℕ) → 0 < uses_of cells p → ins p ≡ [] = λ p some.
       nil_from_length (ins p) (grind (arith, reach p some)) in
       cc (
-        columns_same cells (λ p. ins p ++ more p) more (λ p some. ap (λ (l : Column). l ++ more p) (none p some)),
+        columns_same cells (λ p. ins p ++ more p) more (λ p some. ap (λ l. l ++ more p) (none p some)),
         grid_none cells ins none,
       )
   rows-append (suc n) ins more reach = ⊎_elim

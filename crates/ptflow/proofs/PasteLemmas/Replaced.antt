@@ -3,7 +3,7 @@
 use Rattle.ptflow.proofs
 use proofs.Common.{◌≡◌, ◌≢◌, ℕ, zero, suc, ◌+◌, ◌-◌, ◌%◌, ◌^◌, ◌==◌, ◌<◌, ◌≤◌, Bool, cond, List, [], ◌∷◌, ◌++◌}
 use proofs.Common.{length, map, take, drop, get_or, slice_set, refl, sym, ◌∙◌, ap, arith, append_assoc, bit_and}
-use proofs.Common.{count_by, count_ones, mask_l, chunk, mod-lt, mod-add-mod, mod-eq_of_lt, take-add, take_at}
+use proofs.Common.{count_by, count_ones, mask_l, chunk, mod-add-mod, mod-eq_of_lt, take-add, take_at}
 use proofs.Common.{take-append-drop, take-set-lt, eq-eqb, set-append_right, drop_more, take_more_set, take-set}
 use proofs.Common.{length-set, sum_by-append, is_byte, byte_eq, byte_ne, IsLine, IsNth, length-take-le, length-chunk}
 use proofs.Common.{length-put_chunk, take_more_put_chunk, put_chunk, ones-mask_l, with_replacements, cycle_byte}
@@ -20,19 +20,21 @@ module _ (end : ℕ) where
 
   module _ (text_of : ℕ → List ℕ) where
     pub replaced-append : (number : ℕ) (xs ys : List ℕ) → with_replacements end text_of number (xs ++ ys)
-        ≡ with_replacements end text_of number xs ++ with_replacements end text_of (number + count_by (is_byte end) xs) ys
+        ≡ with_replacements end text_of number xs
+        ++ with_replacements end text_of (number + count_by (is_byte end) xs) ys
     replaced-append number [] ys = grind arith
     replaced-append number (b ∷ xs) ys =
         grind (arith, append_assoc, counted b xs, replaced-append (number + 1) xs ys, replaced-append number xs ys)
 
     -- A line contains no terminator, so its bytes stay.
     pub replaced_line : (number : ℕ) (line rest : List ℕ) → IsLine end line
-        → with_replacements end text_of number (line ++ end ∷ rest) ≡ line ++ (text_of number ++ with_replacements end text_of
-        (number + 1) rest)
+        → with_replacements end text_of number (line ++ end ∷ rest)
+        ≡ line ++ (text_of number ++ with_replacements end text_of (number + 1) rest)
     replaced_line number [] rest free = rw (byte_eq end) refl
     replaced_line number (b ∷ line) rest (other, free) = cc (byte_ne end b other, replaced_line number line rest free)
 
-    pub replaced_none : (number : ℕ) (line : List ℕ) → IsLine end line → with_replacements end text_of number line ≡ line
+    pub replaced_none : (number : ℕ) (line : List ℕ) → IsLine end line
+        → with_replacements end text_of number line ≡ line
     replaced_none number [] free = refl
     replaced_none number (b ∷ line) (other, free) = cc (byte_ne end b other, replaced_none number line free)
 
@@ -85,32 +87,28 @@ module _ (end : ℕ) where
     -- One more terminator is replaced.
     replaced_next : (n number : ℕ) (bytes : List ℕ) (k : ℕ) → IsNth (is_byte end) 0 n bytes k
         → slice_set (first_replaced n number bytes) k (byte (number + n)) ≡ first_replaced (suc n) number bytes
-    replaced_next n number [] k (low, test, before) = absurd (omega (arith, low))
+    replaced_next n number [] k (low, test, before) = absurd (omega arith)
     replaced_next zero number (b ∷ bytes) zero (low, test, before) = grind arith
-    replaced_next (suc m) number (b ∷ bytes) zero (low, test, before) = absurd (omega (arith, before))
+    replaced_next (suc m) number (b ∷ bytes) zero (low, test, before) = absurd (omega arith)
     replaced_next zero number (b ∷ bytes) (suc k) (low, test, before) =
         let more = λ (e : count_by (is_byte end) (take k bytes) ≡ zero). replaced_next zero number bytes k (
-          omega
-              (arith, low),
+          omega arith,
           test,
           e,
         ) in
-        grind (arith, counted b (take k bytes), more)
+        grind (arith, counted b (take k bytes))
     replaced_next (suc m) number (b ∷ bytes) (suc k) (low, test, before) =
-        let shifted : number + suc m ≡ number + 1 + m = omega arith in
         let one = λ (e : count_by (is_byte end) (take k bytes) ≡ m). replaced_next m (number + 1) bytes k (
-          omega
-              (arith, low),
+          omega arith,
           test,
           e,
         ) in
         let more = λ (e : count_by (is_byte end) (take k bytes) ≡ suc m). replaced_next (suc m) number bytes k (
-          omega
-              (arith, low),
+          omega arith,
           test,
           e,
         ) in
-        grind (arith, counted b (take k bytes), one, more)
+        grind (arith, counted b (take k bytes))
 
     all_replaced : (number : ℕ) (bytes : List ℕ) (n : ℕ) → n ≡ count_by (is_byte end) bytes
         → first_replaced n number bytes ≡ all number bytes
@@ -137,7 +135,7 @@ module _ {end : ℕ} {byte : ℕ → ℕ} where
       → ReplaceInvariant end byte first at from was 0 marked (put_chunk at was (chunk at 64 from))
   replace_starts {at = at} {from = from} {was} room same is =
       let ends = chunk at 64 from in
-      let long : length ends ≡ 64 = length-chunk at 64 from room in
+      let long = length-chunk at 64 from room in
       record {
         room = room;
         same = same;
@@ -153,7 +151,7 @@ module _ {end : ℕ} {byte : ℕ → ℕ} where
     ends = chunk at 64 from
 
     ends_counted : count_ones mask ≡ count_by (is_byte end) ends
-    ends_counted = ap count_ones is ∙ ones-mask_l (is_byte end) ends
+    ends_counted = cc (ones-mask_l (is_byte end) ends)
 
     module _ (some : n < count_ones mask) where
       abbrev bit : ℕ
@@ -164,22 +162,20 @@ module _ {end : ℕ} {byte : ℕ → ℕ} where
           (omega (arith, ends_counted)) r.bits
 
       low : bit < 64
-      low = let (within, _, _) = nth in omega (arith, within, length-chunk at 64 from r.room)
+      low = let (within, _, _) = nth in omega (arith, length-chunk at 64 from r.room)
 
       pub end_within : at + bit < length to
-      end_within = omega (arith, low, r.room, r.long)
+      end_within = omega (arith, low)
 
       -- One byte of the chunk is set. The bytes before it do not change.
       set_in_chunk : (v : ℕ) → take (at + 64) (slice_set to (at + bit) v)
           ≡ take at was ++ slice_set (first_replaced end byte n first ends) bit v
       set_in_chunk v =
           let there : at + bit - at ≡ bit = omega arith in
-          let front = length-take-le at was (omega (arith, r.room, r.same)) in
+          let front = length-take-le at was (omega arith) in
           cc (
             take-set-lt (at + 64) to (at + bit) v (omega (arith, low)),
-            r.is,
             set-append_right (take at was) (first_replaced end byte n first ends) at (at + bit) v front (omega arith),
-            there,
           )
 
       pub replace_next : {rest put : ℕ} {to' : List ℕ} → marked < 2 ^ 64 → put ≡ byte (first + n)
@@ -191,7 +187,7 @@ module _ {end : ℕ} {byte : ℕ → ℕ} where
             room = r.room;
             same = r.same;
             bits = cc (cleared n (map (is_byte end) ends) small r.bits);
-            long = cc (length-set to (at + bit) put, r.long);
+            long = cc (length-set to (at + bit) put);
             is = cc (set_in_chunk put, replaced_next end byte n first ends bit nth);
           }
 
@@ -222,8 +218,8 @@ module _ {cycle : Cycle} {first index at : ℕ} {from to to' : List ℕ} (long :
       let here = take size (drop at from) in
       let split = take-add at size from in
       let so_far = first + ends_in cycle front in
-      let index_is : index % cycle.len ≡ so_far % cycle.len =
-      mod-eq_of_lt (omega (arith, r.next, mod-lt so_far cycle.is_unrolled.some)) ∙ r.next in
+      let index_is =
+      mod-eq_of_lt (omega arith) ∙ r.next in
       let count : first + ends_in cycle (take (at + size) from) ≡ so_far + ends_in cycle here = omega (
         arith,
         ap (ends_in cycle) split,
@@ -232,13 +228,11 @@ module _ {cycle : Cycle} {first index at : ℕ} {from to to' : List ℕ} (long :
       record {
         within = room;
         same = long;
-        next = cc (is, r.next, mod-add-mod so_far cycle.len (ends_in cycle here), count);
+        next = cc (mod-add-mod so_far cycle.len (ends_in cycle here));
         is = cc (
-          more,
-          r.is,
-          replaced_mod cycle.terminator (λ k. get_or cycle.unrolled k 0 ∷ []) cycle.len index so_far index_is here,
+          replaced_mod cycle.terminator (λ k. get_or cycle.unrolled k 0 ∷ []) cycle.len index so_far index_is
+              here,
           replaced-append cycle.terminator (cycle_byte cycle) first front here,
-          split,
         );
       }
 
@@ -250,15 +244,8 @@ module _ {cycle : Cycle} {first index at : ℕ} {from to to' : List ℕ} (long :
         let x = get_or from at 0 in
         let test = eq-eqb x cycle.terminator is_end in
         let one = one_byte at from room in
-        replaced_more 1 (omega (arith, room)) (cc (later, one, counted cycle.terminator x [] test))
-        (cc (
-          set,
-          take_more_set (slice_set to at x) at v (omega (arith, room, r.same, length-set to at x)),
-          take-set to at x,
-          is,
-          one,
-          test,
-        ))
+        replaced_more 1 (omega (arith, room)) (cc)
+        (cc (take_more_set (slice_set to at x) at v (omega (arith, room, length-set to at x)), take-set to at x))
 
     pub replaced_other : get_or from at 0 ≢ cycle.terminator → to' ≡ slice_set to at (get_or from at 0)
         → index < cycle.len → IsReplacedTo cycle first index (at + 1) from to'
@@ -268,5 +255,5 @@ module _ {cycle : Cycle} {first index at : ℕ} {from to to' : List ℕ} (long :
         let one = one_byte at from room in
         let number : index + ends_in cycle (take 1 (drop at from)) ≡ index =
         omega (arith, ap (ends_in cycle) one, counted cycle.terminator x [] test) in
-        replaced_more 1 (omega (arith, room)) (cc (number, mod-eq_of_lt less))
-        (cc (set, take_more_set to at x (omega (arith, room, r.same)), one, test))
+        replaced_more 1 (omega (arith, room)) (cc (mod-eq_of_lt less))
+        (cc (take_more_set to at x (omega (arith, room))))

@@ -2,16 +2,16 @@
 -- then more, the concatenation is taken. One filled row is such a row, since each column takes one line. Its fields,
 -- each with the byte after it, are the joined fields and the terminator.
 use Rattle.ptflow.proofs
-use proofs.Common.{◌≡◌, ◌⊎◌, ⊎_elim, inl, inr, ℕ, ◌+◌, ◌≤◌, List, [], ◌∷◌, ◌++◌, None, length, refl, sym, ◌∙◌, ap}
-use proofs.Common.{arith, length-append, lines, AreLines, Reader, ReaderAdvance, AdvanceOk, IsDone, IsSound, Slots}
-use proofs.Common.{FillLine, advance_trans, unlines-append, lines_of_unlines, AreReceivedLines, LinesTaken, suc, ◌*◌}
-use proofs.Common.{◌<◌, true, take, subst, append_assoc, eq-eqb, ne_eqb, take_all, reader_at, map, unlines}
-use proofs.Common.{join_with_cycle, uses_of, columns, rows, CellsTaken, CellsFilled, RowShape, after_cell, cells_text}
-use proofs.Common.{AreFirstRows, RowsTaken}
+use proofs.Common.{◌≡◌, ◌⊎◌, inl, ℕ, ◌+◌, ◌≤◌, List, [], ◌∷◌, ◌++◌, None, length, refl, sym, ◌∙◌, ap, arith}
+use proofs.Common.{length-append, AreLines, Reader, ReaderAdvance, AdvanceOk, IsDone, IsSound, Slots, FillLine}
+use proofs.Common.{advance_trans, unlines-append, lines_of_unlines, AreReceivedLines, LinesTaken, suc, ◌*◌, ◌<◌, true}
+use proofs.Common.{take, subst, append_assoc, eq-eqb, ne_eqb, take_all, reader_at, map, unlines, join_with_cycle}
+use proofs.Common.{uses_of, columns, rows, CellsTaken, CellsFilled, RowShape, after_cell, cells_text, AreFirstRows}
+use proofs.Common.{RowsTaken}
 use proofs.Passes.LinesRead.{lines_none, lines_are_given, lines_more}
 use proofs.Passes.Readers.{eof_gives_nothing, stays_at_eof}
 use Rattle.std.specs.Prelude.{slice_index_or}
-use proofs.PasteLemmas.Grid.{Column, for_each_cell, for_each_cell_unique, uses_before, grid_step, rows_text-append}
+use proofs.PasteLemmas.Grid.{Column, for_each_cell_unique, uses_before, grid_step, rows_text-append}
 use Rattle.std.proofs.Common.{rules}
 use Rattle.std.proofs.lemmas.Grind.{common_steps}
 
@@ -23,19 +23,26 @@ AreLines-append end (x ∷ xs) ys (line, more) q = (line, AreLines-append end xs
 none_received : {end : ℕ} {b c : Reader} {bytes : List ℕ} {ls : List (List ℕ)} → IsDone b → ReaderAdvance b c bytes
     → AreReceivedLines end c bytes ls → ls ≡ []
 none_received {end} {b} {c} {bytes} {ls} done reads k =
-    let (none, empty, eof) = eof_gives_nothing b c bytes done reads in
-    sym (lines_are_given end c bytes ls k) ∙ ap (lines end) none
+    let (none, empty, eof) = eof_gives_nothing _ _ _ done reads in
+    cc (lines_are_given _ _ _ _ k)
 
 -- Lines were received, and then more.
 pub lines_trans : {end : ℕ} {b c : Reader} {bs cs : List ℕ} {xs ys : List (List ℕ)} → AreReceivedLines end b bs xs
     → ReaderAdvance b c cs → AreReceivedLines end c cs ys
     → AreReceivedLines end c (bs ++ cs) (xs ++ ys)
-lines_trans {end} {b} {c} {bs} {cs} {xs} {ys} p reads q = search (rules, unlines-append, AreLines-append,
-    lines_of_unlines, eof_gives_nothing, none_received, stays_at_eof)
+lines_trans {end} {b} {c} {bs} {cs} {xs} {ys} p reads q = search (
+  rules,
+  unlines-append,
+  AreLines-append,
+  lines_of_unlines,
+  eof_gives_nothing,
+  none_received,
+  stays_at_eof,
+)
 
 -- At most the requested number of lines is taken.
 pub taken_at_most : {end : ℕ} {b c : Reader} {n : ℕ} {ys : List (List ℕ)} → LinesTaken end b c n ys → length ys ≤ n
-taken_at_most t = ⊎_elim (λ same. omega (arith, same)) (λ (done, few). few) t.enough
+taken_at_most t = grind (arith, t.enough)
 
 -- Nothing is taken from a reader at the end of its input.
 pub none_at_eof : {end : ℕ} {b c : Reader} {n : ℕ} {ys : List (List ℕ)} → LinesTaken end b c n ys → IsDone b → ys ≡ []
@@ -48,21 +55,14 @@ abbrev pub taken_more : {end : ℕ} {a b c : Reader} {k m n : ℕ} {xs ys : List
     → LinesTaken end a b m xs → LinesTaken end b c n ys → LinesTaken end a c k (xs ++ ys)
 taken_more {end} {a} {b} {c} {k} {m} {n} {xs} {ys} all p q = record {
   bytes = p.bytes ++ q.bytes;
-  reads = advance_trans a b c p.bytes q.bytes p.reads q.reads;
+  reads = advance_trans _ _ _ _ _ p.reads q.reads;
   failed = q.failed ∙ p.failed;
   fault = q.fault ∙ p.fault;
   short = λ h. q.short (p.short h);
   buffered = λ h. q.buffered (p.buffered h);
-  none = λ h. q.none (omega (arith, h)) ∙ p.none (omega (arith, h));
+  none = λ h. q.none (omega arith) ∙ p.none (omega arith);
   came = lines_trans p.came q.reads q.came;
-  enough = ⊎_elim
-      (λ same. ⊎_elim (λ every. inl (omega (arith, same, every, length-append xs ys)))
-      (λ (done, few). inr (done, omega (arith, same, few, length-append xs ys))) q.enough)
-      (λ (done, few). inr (
-        stays_at_eof b c q.bytes done q.reads,
-        omega (arith, few, ap length (none_at_eof q done), length-append xs ys),
-      ))
-      p.enough;
+  enough = grind (arith, p.enough, q.enough, none_at_eof, stays_at_eof, length-append);
 }
 
 -- One line was requested: a line was taken, or none.
@@ -93,7 +93,6 @@ module _ (row : RowShape) where
       let next : c + 1 + length xs ≡ c + suc (length xs) = omega arith in
       let cell = x ++ after_cell row c in
       cc (
-        next,
         cells_text-append (c + 1) xs ys,
         append_assoc cell (cells_text row (c + 1) xs) (cells_text row (c + suc (length xs)) ys),
       )
@@ -106,12 +105,12 @@ module _ (row : RowShape) where
   -- The columns from c to the last one.
   pub row_text : (c : ℕ) (xs : List (List ℕ)) → c + length xs ≡ length row.cells → 0 < length xs
       → cells_text row c xs ≡ join_with_cycle row.delims c xs ++ row.terminator ∷ []
-  row_text c [] all some = absurd (omega (arith, some))
+  row_text c [] all some = absurd (omega arith)
   row_text c (x ∷ []) all some = search (rules, eq-eqb)
   row_text c (x ∷ y ∷ more) all some =
       rw (
-        ne_eqb (c + 1) (length row.cells) (λ same. absurd (omega (arith, all, same))),
-        row_text (c + 1) (y ∷ more) (omega (arith, all)) (omega arith),
+        ne_eqb (c + 1) (length row.cells) (λ same. absurd (omega arith)),
+        row_text (c + 1) (y ∷ more) (omega arith) (omega arith),
       ) (simp append_assoc)
 
   -- The text of a filled row.
@@ -141,7 +140,7 @@ module _ {row : RowShape} where
         ∙ p.on (λ input. ls input ++ more input) (λ input done i.
         let t = q.lines_taken input in
         none_at_eof t done i
-        ++ may input (stays_at_eof (reader_at b input) (reader_at c input) t.bytes done t.reads) i)
+        ++ may input (stays_at_eof _ _ _ done t.reads) i)
         ∙ ap (λ (l : List (List (List ℕ))). xs ++ l) (q.on more may)
         ∙ sym (append_assoc xs ys (rows (columns row.cells more)));
     count = q.count ∙ p.count;
@@ -166,7 +165,7 @@ module _ {row : RowShape} where
     ls = λ input. p.ls input ++ q.ls input;
     taken_rows = p.taken_rows ++ q.taken_rows;
     first_rows = first_rows_trans p.first_rows q.first_rows;
-    least = omega (arith, p.least, q.least);
+    least = omega arith;
     is = (λ i. p.is i ++ q.is i) ∙ sym (rows_text-append row.terminator row.delims p.taken_rows q.taken_rows);
   }
 
@@ -191,7 +190,7 @@ module _ (row : RowShape) {old new : List Reader} {fields : List (List ℕ)}
   filled_row_is_first r =
       let (c, low, first) = r.some refl in
       let field = λ (c p : ℕ). slice_index_or (r.input_lines p) (uses_of (take c row.cells) p) [] in
-      let row_is : fields ≡ for_each_cell field row.cells =
+      let row_is =
       for_each_cell_unique field row.cells fields [] r.consumed.width r.consumed.fields_taken in
       record {
         lines_taken = λ p.
@@ -200,8 +199,8 @@ module _ (row : RowShape) {old new : List Reader} {fields : List (List ℕ)}
             (sym one) (lines_taken_by_row r.consumed p);
         on = λ more may.
             grid_step row.cells r.input_lines more (record {
-              all = λ p. ⊎_elim inl (λ (done, few). inr (may p done, few)) (lines_taken_by_row r.consumed p).enough;
-            }) c low (omega (arith, first))
+              all = λ p. grind (arith, may p, (lines_taken_by_row r.consumed p).enough);
+            }) c low (omega arith)
             ∙ (λ i. sym row_is i ∷ rows (columns row.cells more));
         count = r.consumed.count;
       }

@@ -28,7 +28,7 @@ module _ (end : ℕ) (delims : List (Option ℕ)) where
   -- A terminator, if more bytes follow.
   row_next : (number b : ℕ) (bytes : List ℕ) → (b == end) ≡ true → 0 < length bytes
       → row_rest end delims number (b ∷ bytes) ≡ delimiter delims number ++ row_rest end delims (number + 1) bytes
-  row_next number b [] is some = absurd (omega (arith, some))
+  row_next number b [] is some = absurd (omega arith)
   row_next number b (x ∷ bytes) is some = rw is (by_test (x == end) (lines end bytes))
     where
       by_test : (t : Bool) (ls : List (List ℕ)) → (let next = cond t ([] ∷ ls) (onto_first x ls) in
@@ -48,14 +48,12 @@ module _ (end : ℕ) (delims : List (Option ℕ)) where
         append_assoc,
         counted end b bytes is,
         row_rest_on (number + 1) bytes more some,
-        is,
-        row_next number b (bytes ++ more) is (omega (arith, some, length-append bytes more)),
+        row_next number b (bytes ++ more) is (omega (arith, length-append bytes more)),
       ))
       (λ is. grind (
         arith,
         counted end b bytes is,
         row_rest_on number bytes more some,
-        is,
         row_byte number b (bytes ++ more) is,
       ))
       (cases_Bool (b == end))
@@ -81,15 +79,14 @@ module _ (end : ℕ) (delims : List (Option ℕ)) where
       → after ≡ before ++ with_replacements end (delimiter delims) first bytes
       → second ≡ (first + count_by (is_byte end) bytes) % length delims → second < length delims → first < length delims
       → row_rest end delims index (held ++ (bytes ++ more)) ≡ after ++ row_rest end delims second more
-  copied_on index held bytes more {first} {second} {before} some one at two after low less = cc (
-    row_rest_on index held (bytes ++ more) (omega (arith, some, length-append bytes more)),
-    row_rest_mod _ first (sym at ∙ sym (mod-eq_of_lt less)) (bytes ++ more),
-    row_rest_on first bytes more some,
-    row_rest_mod _ second (sym after ∙ sym (mod-eq_of_lt low)) more,
-    append_assoc before (with_replacements end (delimiter delims) first bytes) (row_rest end delims second more),
-    one,
-    two,
-  )
+  copied_on index held bytes more {first} {second} {before} some one at two after low less =
+      cc (
+        row_rest_on index held (bytes ++ more) (omega (arith, length-append bytes more)),
+        row_rest_mod _ first (sym at ∙ sym (mod-eq_of_lt less)) (bytes ++ more),
+        row_rest_on first bytes more some,
+        row_rest_mod _ second (sym after ∙ sym (mod-eq_of_lt low)) more,
+        append_assoc before (with_replacements end (delimiter delims) first bytes) (row_rest end delims second more),
+      )
 
   -- A line and its delimiter were copied.
   pub next_piece : 0 < length delims → (index : ℕ) {next at : ℕ} (rest before : List ℕ) {line text all : List ℕ}
@@ -149,10 +146,10 @@ serial_is_decided job given pushed index held on =
     let all : lines end given ≡ ls ++ lines end p.piece = ap (lines end) p.is
     ∙ lines_of_unlines end ls p.piece p.whole in
     let pushed_is : join (lines end given) ≡ pushed = append_cancel_right (join (lines end given)) pushed (end ∷ [])
-    (cc (append-nil given, on, row_end held)) in
+    (cc (append-nil given, row_end held)) in
     let b = joined_begins end job.delimiters 0 ls (lines end p.piece) in record {
       rest = b.rest;
-      is = cc (pushed_is, all, b.is, append-nil (join ls));
+      is = cc (append-nil (join ls));
     }
   where
     row_end : (t : Bool)

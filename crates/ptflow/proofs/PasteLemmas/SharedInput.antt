@@ -2,18 +2,18 @@
 -- of these lines are replaced by the cycle (the delimiters of the row, and a last entry that keeps the terminator),
 -- they become the row. So bytes with count * n terminators, the last at the end, become `count` rows.
 use Rattle.ptflow.proofs
-use proofs.Common.{◌≡◌, ◌≢◌, ℕ, zero, suc, ◌+◌, ◌-◌, ◌*◌, ◌%◌, ◌<◌, ◌≤◌, cond, List, [], ◌∷◌, ◌++◌, None, length, map}
-use proofs.Common.{take, drop, set, get_or, refl, sym, ◌∙◌, ap, arith, append_assoc, length-drop, take-append-drop}
-use proofs.Common.{⊎_elim, inl, count_by, cases_eq, cases_lt, mod-mul-add, take_more, take_all, nil_from_length}
-use proofs.Common.{length-take-le, length-set, All-get_or, sum_by-append, sum_by-set, is_byte, unlines, lines, AreLines}
-use proofs.Common.{EndsWithByte, Output, PushEffect, push_nothing, Reader, IsSound, budget, advance_ok_take, byte_eq}
-use proofs.Common.{unlines-append, lines_are, the_lines, no_reader, reader_at, update_at, join_with_cycle, uses_of}
-use proofs.Common.{columns, rows, IsSharedCycle, IsWholeRows, LinesTaken, with_replacements, cycle_byte, after_cell}
-use proofs.Common.{cells_text, mod-eq_of_lt, RowShape, BufferedRowsPre, RowsTaken, RowsWritten, nat_tests}
+use proofs.Common.{◌≡◌, ◌≢◌, ℕ, zero, suc, ◌+◌, ◌-◌, ◌*◌, ◌%◌, ◌<◌, ◌≤◌, List, [], ◌∷◌, ◌++◌, length, map, take, drop}
+use proofs.Common.{set, get_or, refl, sym, ◌∙◌, ap, arith, append_assoc, length-drop, take-append-drop, inl, count_by}
+use proofs.Common.{cases_eq, mod-mul-add, take_more, take_all, nil_from_length, length-take-le, length-set}
+use proofs.Common.{sum_by-append, sum_by-set, is_byte, unlines, lines, AreLines, EndsWithByte, Output, PushEffect}
+use proofs.Common.{push_nothing, Reader, IsSound, budget, advance_ok_take, byte_eq, unlines-append, lines_are}
+use proofs.Common.{the_lines, no_reader, reader_at, update_at, join_with_cycle, uses_of, columns, rows, IsSharedCycle}
+use proofs.Common.{IsWholeRows, LinesTaken, with_replacements, cycle_byte, after_cell, cells_text, mod-eq_of_lt}
+use proofs.Common.{RowShape, RowsTaken, RowsWritten, nat_tests}
 use proofs.Vectors.FindNth.{none_counted}
-use proofs.PasteLemmas.Grid.{Column, for_each_cell_unique, top_of, grid_step, uses_here, uses_before_lt, last_use}
-use proofs.PasteLemmas.Grid.{update_here, update_there}
-use proofs.PasteLemmas.FillRow.{each_reader}
+use proofs.PasteLemmas.Grid.{Column, for_each_cell_unique, top_of, grid_step, uses_here, last_use, update_here}
+use proofs.PasteLemmas.Grid.{update_there}
+use proofs.PasteLemmas.FillRow.{each_reader, IsNextReader}
 use proofs.PasteLemmas.RowsTaken.{nothing_taken, rows_taken_none, row_text}
 use proofs.PasteLemmas.BufferedRows.{consumed_none, consumed_more}
 use proofs.PasteLemmas.Replaced.{counted, replaced-append, replaced_line}
@@ -27,15 +27,7 @@ use Rattle.std.proofs.lemmas.Grind.{common_steps}
 ends_of_lines : (end : ℕ) (ls : List (List ℕ)) → AreLines end ls → count_by (is_byte end) (unlines end ls) ≡ length ls
 ends_of_lines end [] are_lines = refl
 ends_of_lines end (line ∷ ls) (free, are_lines) =
-    let test = λ (x : ℕ). cond {A = ℕ} (is_byte end x) 1 0 in
-    grind (
-      arith,
-      sum_by-append test (line ++ end ∷ []) (unlines end ls),
-      sum_by-append test line (end ∷ []),
-      counted end end [] (byte_eq end),
-      none_counted end [] line free,
-      ends_of_lines end ls are_lines,
-    )
+    grind (arith, sum_by-append, counted, byte_eq, none_counted, ends_of_lines end ls are_lines)
 
 ends_with : (end : ℕ) (bytes : List ℕ) → bytes ≢ [] → (0 < length bytes → get_or bytes (length bytes - 1) 0 ≡ end)
     → EndsWithByte end bytes
@@ -44,7 +36,7 @@ ends_with end (b ∷ bs) some last =
     let n = length bs in
     let there : length (b ∷ bs) - 1 ≡ n = omega arith in (
       take n (b ∷ bs),
-      cc (take_all (n + 1) (b ∷ bs) (omega arith), take_more (b ∷ bs) n 0 (omega arith), there, last (omega arith)),
+      cc (take_all (n + 1) (b ∷ bs) (omega arith), take_more (b ∷ bs) n 0 (omega arith), last (omega arith)),
     )
 
 -- Bytes that end with a terminator and have count * n terminators are `count` complete rows.
@@ -54,13 +46,13 @@ pub whole_rows_counted : (end n count : ℕ) (bytes : List ℕ)
 whole_rows_counted end n count bytes last counted =
     let ((are_lines, text), only) = the_lines end bytes in
     let is : unlines end (lines end bytes) ≡ bytes =
-    ⊎_elim (λ same. same) (λ (some, not_ended, missing). absurd (not_ended (ends_with end bytes some last))) text in
+    grind (arith, text, ends_with end bytes) in
     record {
       count = count;
       ls = lines end bytes;
       is = sym is;
       are_lines = lines_are end bytes;
-      long = sym (ends_of_lines end (lines end bytes) (lines_are end bytes)) ∙ ap (count_by (is_byte end)) is ∙ counted;
+      long = cc (ends_of_lines end (lines end bytes) (lines_are end bytes), counted);
     }
 
 -- ---- the text of rows
@@ -92,18 +84,16 @@ module _ {row : RowShape} {cycle : Cycle} (t : IsSharedCycle row cycle) where
   row_replaced k c [] are_lines all = refl
   row_replaced k c (line ∷ ls) (free, are_lines) all =
       let rest = unlines row.terminator ls in
-      let low : c < n = omega (arith, all) in
-      let less : c < cycle.len = omega (arith, low, t.len) in
+      let low : c < n = omega arith in
+      let less : c < cycle.len = omega arith in
       let index : (k * n + c) % cycle.len ≡ c % cycle.len =
-      ap (λ (size : ℕ). (k * n + c) % size) t.len ∙ mod-mul-add k n c low ∙ sym (mod-eq_of_lt less) in
+      cc (mod-mul-add k n c low, mod-eq_of_lt less) in
       let byte = ap (λ m. get_or cycle.unrolled m 0 ∷ []) index ∙ t.bytes c low in
       let number : k * n + c + 1 ≡ k * n + (c + 1) = omega arith in
-      let more = ap (λ m. all_replaced m rest) number ∙ row_replaced k (c + 1) ls are_lines (omega (arith, all)) in
+      let more = ap (λ m. all_replaced m rest) number ∙ row_replaced k (c + 1) ls are_lines (omega arith) in
       cc (
         append_assoc line (row.terminator ∷ []) rest,
         replaced_line row.terminator (cycle_byte cycle) (k * n + c) line rest free,
-        byte,
-        more,
         append_assoc line (after_cell row c) (cells_text row (c + 1) ls),
       )
 
@@ -112,26 +102,23 @@ module _ {row : RowShape} {cycle : Cycle} (t : IsSharedCycle row cycle) where
       → all_replaced (k * n) (unlines row.terminator ls)
       ≡ unlines row.terminator (map (join_with_cycle row.delims 0) (rows_in n more ls))
   rows_replaced k zero [] are_lines long = refl
-  rows_replaced k zero (line ∷ ls) are_lines long = absurd (omega (arith, long))
+  rows_replaced k zero (line ∷ ls) are_lines long = absurd (omega arith)
   rows_replaced k (suc more) ls are_lines long =
       let end = row.terminator in
-      let size : suc more * n ≡ n + more * n = omega arith in
       let first = take n ls in
       let rest = drop n ls in
       let (whole_first, whole_rest) = are_parts end n ls are_lines in
-      let first_long : length first ≡ n = length-take-le n ls (omega (arith, long, size)) in
+      let first_long = length-take-le n ls (omega arith) in
       let start : k * n ≡ k * n + 0 = omega arith in
       let next : k * n + count_by (is_byte end) (unlines end first) ≡ (k + 1) * n =
-      omega (arith, ends_of_lines end first whole_first, first_long) in
-      let more_long : length rest ≡ more * n = omega (arith, length-drop n ls, long, size) in
+      omega (arith, ends_of_lines end first whole_first) in
+      let more_long : length rest ≡ more * n = omega (arith, length-drop n ls) in
       cc (
         take-append-drop n ls,
         unlines-append end first rest,
         replaced-append end (cycle_byte cycle) (k * n) (unlines end first) (unlines end rest),
-        start,
-        next,
-        row_replaced k 0 first whole_first (omega (arith, first_long)),
-        row_text row 0 first (omega (arith, first_long)) (omega (arith, first_long, t.some)),
+        row_replaced k 0 first whole_first (omega arith),
+        row_text row 0 first (omega arith) (omega arith),
         rows_replaced (k + 1) more rest whole_rest more_long,
       )
 
@@ -150,36 +137,32 @@ module _ (cells : List ℕ) (input : ℕ) (same : (c : ℕ) → c < length cells
   uses_before_column zero low = refl
   uses_before_column (suc c) low =
       let next : suc c ≡ c + 1 = omega arith in
-      cc (
-        next,
-        uses_here cells c input (omega (arith, low)) (same c (omega (arith, low))),
-        uses_before_column c (omega (arith, low)),
-      )
+      cc (uses_here cells c input (omega arith) (same c (omega arith)), uses_before_column c (omega arith))
 
   uses_all : uses_of cells input ≡ length cells
   uses_all = grind (arith, common_steps, uses_before_column)
 
   uses_none : (q : ℕ) → q ≢ input → uses_of cells q ≡ 0
-  uses_none q differ = ⊎_elim
-      (λ some. let (c, low, uses, before) = last_use cells q some in absurd (differ (sym uses ∙ same c low)))
-      (λ none. omega (arith, none))
-      (cases_lt 0 (uses_of cells q))
+  uses_none q differ = grind (arith, last_use cells q, same)
 
   -- The first n lines are the first row.
   row_on : (some : 0 < length cells) (ls : Column) (more : ℕ → Column) → length ls ≡ length cells
       → rows (columns cells (λ q. lines_of_input input ls q ++ more q)) ≡ ls ∷ rows (columns cells more)
   row_on some ls more long =
-      grid_step cells (lines_of_input input ls) more
-      (record {
-        all = λ q. inl (⊎_elim
-            (λ here. rw here (rw (update_here input ls (λ q. []) input refl, uses_all) long))
-            (λ there. rw (update_there input ls (λ q. []) q there, uses_none q there) refl)
-            (cases_eq q input));
-      }) 0 some (omega (arith, ap length (update_here input ls (λ q. []) (get_or cells 0 0) (same 0 some)), long, some))
-      ∙ ap (λ (r : List (List ℕ)). r ∷ rows (columns cells more))
-      (sym (for_each_cell_unique (top_of cells (lines_of_input input ls)) cells ls [] long
-      (λ c low. rw (same c low)
-      (rw (update_here input ls (λ q. []) input refl, uses_before_column c (omega (arith, low))) refl))))
+      cc (
+        grid_step cells (lines_of_input input ls) more
+            (record {
+              all = λ q. inl (grind (arith, nat_tests, cases_eq q input, uses_all, uses_none q));
+            }) 0 some (omega (
+              arith,
+              ap length (update_here input ls (λ q. []) (get_or cells 0 0) (same 0 some)),
+            )),
+        for_each_cell_unique (top_of cells (lines_of_input input ls)) cells ls [] long
+            (λ c low. rw (same c low) (rw (
+              update_here input ls (λ q. []) input refl,
+              uses_before_column c (omega arith),
+            ) refl)),
+      )
 
   -- The first k * n lines are the first k rows.
   rows_on : (some : 0 < length cells) (k : ℕ) (ls : Column) (more : ℕ → Column) → length ls ≡ k * length cells
@@ -189,10 +172,9 @@ module _ (cells : List ℕ) (input : ℕ) (same : (c : ℕ) → c < length cells
     where
       none : (q : ℕ) → lines_of_input input [] q ≡ []
       none q = grind (arith, nat_tests)
-  rows_on some zero (line ∷ ls) more long = absurd (omega (arith, long))
+  rows_on some zero (line ∷ ls) more long = absurd (omega arith)
   rows_on some (suc k) ls more long =
       let n = length cells in
-      let size : suc k * n ≡ n + k * n = omega arith in
       let split : (q : ℕ) → lines_of_input input ls q ++ more q
       ≡ lines_of_input input (take n ls) q ++ (lines_of_input input (drop n ls) q ++ more q) = λ q. cc (
         take-append-drop n ls,
@@ -201,15 +183,15 @@ module _ (cells : List ℕ) (input : ℕ) (same : (c : ℕ) → c < length cells
       ) in
       (λ i. rows (columns cells (λ q. split q i)))
       ∙ row_on some (take n ls) (λ q. lines_of_input input (drop n ls) q ++ more q)
-      (length-take-le n ls (omega (arith, long, size)))
+      (length-take-le n ls (omega arith))
       ∙ ap (λ (r : List (List (List ℕ))). take n ls ∷ r)
-      (rows_on some k (drop n ls) more (omega (arith, length-drop n ls, long, size)))
+      (rows_on some k (drop n ls) more (omega (arith, length-drop n ls)))
 
 -- ---- the complete rows in the buffer
 
 module _ {row : RowShape} {cycle : Cycle} (t : IsSharedCycle row cycle) {old : List Reader}
-    (ready : BufferedRowsPre row old) {b r : Reader} (is_read : b ≡ reader_at old (get_or row.cells 0 0))
-    (sound : IsSound b) {count : ℕ} (some : 0 < count) (within : count ≤ length b.buffered)
+    {b r : Reader} (x : IsNextReader row old 0 b) (sound : IsSound b) {count : ℕ} (some : 0 < count)
+    (within : count ≤ length b.buffered)
     (rs : IsWholeRows row.terminator (length row.cells) (take count b.buffered))
     (step : r ≡ record b { buffered = drop count b.buffered }) where
   abbrev end : ℕ
@@ -218,29 +200,22 @@ module _ {row : RowShape} {cycle : Cycle} (t : IsSharedCycle row cycle) {old : L
   abbrev input : ℕ
   input = get_or row.cells 0 0
 
-  low : input < length old
-  low = ready.within 0 0 t.some
-
-  clean : b.fault ≡ None
-  clean = cc (is_read, ready.unfailed input (omega (arith, uses_before_lt row.cells 0 t.some)))
-
   same : (c : ℕ) → c < length row.cells → get_or row.cells c 0 ≡ input
-  same c low = All-get_or (λ (q : ℕ). q ≡ input) row.cells c 0 low t.same
+  same c low = t.same c 0 low
 
   lines_taken_here : LinesTaken end b r (rs.count * length row.cells) rs.ls
   lines_taken_here = rw step (record {
     bytes = take count b.buffered;
-    reads = (advance_ok_take b _ count clean within refl).reads;
+    reads = (advance_ok_take b _ count x.clean within refl).reads;
     failed = refl;
     fault = refl;
     short = λ h. h;
-    buffered = λ h. omega (arith, h, length-drop count b.buffered);
+    buffered = λ h. omega (arith, length-drop count b.buffered);
     none = λ none. absurd (omega (
       arith,
-      some,
       length-take-le count b.buffered within,
       ap length rs.is,
-      ap (λ (l : List (List ℕ)). length (unlines end l)) (nil_from_length rs.ls (rs.long ∙ none)),
+      ap (λ l. length (unlines end l)) (nil_from_length rs.ls (rs.long ∙ none)),
     ));
     came = record { so_far = inl (rs.is, rs.are_lines) };
     enough = inl rs.long;
@@ -254,12 +229,12 @@ module _ {row : RowShape} {cycle : Cycle} (t : IsSharedCycle row cycle) {old : L
     first_rows = record {
       lines_taken = each_reader (λ q x. LinesTaken end (reader_at old q) x
           (length (rows_in (length row.cells) rs.count rs.ls) * uses_of row.cells q) (lines_of_input input rs.ls q)) old
-          low
+          x.within
           (rw (
             update_here input rs.ls (λ q. []) input refl,
             length-rows (length row.cells) rs.count rs.ls,
             uses_all row.cells input same,
-            ← is_read,
+            ← x.is_read,
           ) lines_taken_here)
           (λ q differ. rw (update_there input rs.ls (λ q. []) q differ, uses_none row.cells input same q differ)
           (nothing_taken (omega arith)));
@@ -268,13 +243,10 @@ module _ {row : RowShape} {cycle : Cycle} (t : IsSharedCycle row cycle) {old : L
     };
     least = omega (
       arith,
-      some,
-      within,
-      sound.long clean,
       length-drop count b.buffered,
-      ap budget is_read,
+      ap budget x.is_read,
       ap budget step,
-      sum_by-set budget old input r no_reader low,
+      sum_by-set budget old input r no_reader x.within,
     );
     is =
         let start : 0 ≡ 0 * length row.cells = omega arith in
@@ -289,7 +261,7 @@ module _ {row : RowShape} {cycle : Cycle} (t : IsSharedCycle row cycle) {old : L
   copied_rows {written} copied wrote = record {
     written = written;
     rows = rw (copied, t.terminator) rows_of_input;
-    consumed = consumed_more consumed_none low is_read (record { size = count; is = step });
+    consumed = consumed_more consumed_none x.within x.is_read (record { size = count; is = step });
     wrote = wrote;
   }
 

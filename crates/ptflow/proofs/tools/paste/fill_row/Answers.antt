@@ -2,12 +2,11 @@
 -- from there, and the further columns are from the buffers. A failed write, read or growth stops the row; nothing was
 -- pushed.
 use Rattle.ptflow.proofs
-use proofs.Common.{◌≡◌, ◌+◌, ◌<◌, ℕ, List, [], ◌++◌, length, take, get_or, set, ◌∙◌, ap, arith, err_from_is_err_and}
-use proofs.Common.{PushEffect, Reader, Slots, push_nothing, push_trans, reader_at, uses_of, ◌||◌, BegunText}
-use proofs.Common.{BufferedRowsPre, RowAmid, after_cell, begun_in, shape_of}
+use proofs.Common.{◌≡◌, ◌+◌, List, [], ◌++◌, length, take, get_or, set, ◌∙◌, arith, err_from_is_err_and, PushEffect}
+use proofs.Common.{Reader, Slots, push_nothing, push_trans, ◌||◌, BegunText, BufferedRowsPre, RowAmid, after_cell}
+use proofs.Common.{begun_in, shape_of}
 use borrow.Author.Rules.{scaled_Fits}
-use proofs.PasteLemmas.Grid.{uses_before_lt}
-use proofs.PasteLemmas.FillRow.{at_index, amid_next, amid_failed, amid_resumed, with_slot, readable_after}
+use proofs.PasteLemmas.FillRow.{next_reader, amid_next, amid_failed, amid_resumed, with_slot, readable_after}
 use proofs.PasteLemmas.BufferedRows.{still_readable}
 use Rattle.ptflow.proofs.tools.paste.fill_row.Goals.{After-fill_cell, In_ok-has_line}
 use Rattle.ptflow.proofs.tools.paste.fill_row.Given as given
@@ -25,55 +24,33 @@ cells-init g c = record {
 
 pub offset_bounds-readers-input : goal.offset_bounds-readers-input
 offset_bounds-readers-input g c =
-    let low = c.requires.readable.within c.cells.column 0 c.cells-test.true in search (scaled_Fits, low)
+    let low = c.requires.readable.within c.cells.column 0 c.cells-test.true in search scaled_Fits
 
 pub fill_cell-requires-clause-readable : goal.fill_cell-requires-clause-readable
 fill_cell-requires-clause-readable g c =
-    let cells = c.args.row.cells.now in
-    let input = get_or cells c.cells.column 0 in
-    let ready = c.cells.invariant.readable in
-    ap (λ (r : Reader). r.fault) (at_index c.cells.readers input c.index-readers-input.result
-    (ready.within c.cells.column 0 c.cells-test.true))
-    ∙ ready.unfailed input (omega (arith, uses_before_lt cells c.cells.column c.cells-test.true))
+    (next_reader c.cells.invariant.readable c.cells-test.true c.index-readers-input.result).clean
 
 pub returns-in_err-has_line-clause-fills : goal.returns-in_err-has_line-clause-fills
 returns-in_err-has_line-clause-fills g c =
     let (fault, same, is) = err_from_is_err_and c.from_residual.result c.from_residual.ensures.1 in
-    let n = c.cells.column in
-    let low = c.cells.invariant.readable.within n 0 c.cells-test.true in
-    rw (same, is) (λ from first a.
-    amid_failed (c.cells.invariant.amid from first a) c.cells-test.true low
-    (at_index c.cells.readers (get_or c.args.row.cells.now n 0) c.index-readers-input.result low)
-    c.fill_cell.new.reader c.fill_cell.new.store c.cells.into c.in_err-has_line.field-0.0
-    c.in_err-has_line.ensures.fills)
+    rw (same, is) (λ from first a. amid_failed (c.cells.invariant.amid from first a)
+    (next_reader c.cells.invariant.readable c.cells-test.true c.index-readers-input.result) c.fill_cell.new.reader
+    c.fill_cell.new.store c.cells.into c.in_err-has_line.field-0.0 c.in_err-has_line.ensures.fills)
 
 -- Nothing was pushed.
 sent : (g : given.Over) (c : After-fill_cell g) → PushEffect c.args.out.now c.fill_cell.new.out []
-sent g c = push_trans c.args.out.now c.cells.out c.fill_cell.new.out [] [] c.cells.invariant.clean
-    c.cells.invariant.wrote c.fill_cell.ensures.wrote
+sent g c = push_trans _ _ _ _ _ c.cells.invariant.clean c.cells.invariant.wrote c.fill_cell.ensures.wrote
 
 pub returns-in_err-has_line-clause-wrote : goal.returns-in_err-has_line-clause-wrote
 returns-in_err-has_line-clause-wrote g c = sent g (goal.at.returns-in_err-has_line-clause-wrote g c).After-fill_cell
 
 module _ (g : given.Over) (c : In_ok-has_line g) where
-  abbrev input : ℕ
-  input = get_or c.args.row.cells.now c.cells.column 0
-
   -- The row after the line was read into its slot.
   abbrev filled : BegunText
   filled = record (begun_in c.cells.readers c.cells.begun c.cells.into) {
-    readers = set c.cells.readers input c.fill_cell.new.reader;
+    readers = set c.cells.readers (get_or c.args.row.cells.now c.cells.column 0) c.fill_cell.new.reader;
     any_line = c.cells.begun.any_line || c.in_ok-has_line.has_line;
   }
-
-  low : input < length c.cells.readers
-  low = c.cells.invariant.readable.within c.cells.column 0 c.cells-test.true
-
-  used : 0 < uses_of c.args.row.cells.now input
-  used = omega (arith, uses_before_lt c.args.row.cells.now c.cells.column c.cells-test.true)
-
-  is_read : get_or c.cells.readers input c.index-readers-input.result ≡ reader_at c.cells.readers input
-  is_read = at_index c.cells.readers input c.index-readers-input.result low
 
   amid : (from : List Reader) (first : Slots)
       → RowAmid (shape_of c.args.row) c.args.begun.count from first
@@ -81,15 +58,14 @@ module _ (g : given.Over) (c : In_ok-has_line g) where
       → RowAmid (shape_of c.args.row) (c.cells.column + 1) from first filled c.fill_cell.new.store
   amid from first a =
       let (fills, sound) = c.in_ok-has_line.ensures.fills in
-      amid_next (c.cells.invariant.amid from first a) c.cells-test.true low is_read c.fill_cell.new.reader
-      c.fill_cell.new.store (omega (arith, c.cells-test.true, c.cells.invariant.slots))
-      (cc (is_read, c.cells.invariant.readable.unfailed input used)) sound c.in_ok-has_line.has_line fills
+      amid_next (c.cells.invariant.amid from first a)
+      (next_reader c.cells.invariant.readable c.cells-test.true c.index-readers-input.result) c.fill_cell.new.reader
+      c.fill_cell.new.store (omega arith) sound c.in_ok-has_line.has_line fills
 
   ready : BufferedRowsPre (shape_of c.args.row) filled.readers
-  ready =
-      let (fills, sound) = c.in_ok-has_line.ensures.fills in
-      readable_after c.cells.readers c.fill_cell.new.reader c.cells.invariant.readable low used is_read c.cells.store
-      c.fill_cell.new.store c.cells.column c.in_ok-has_line.has_line fills
+  ready = readable_after (next_reader c.cells.invariant.readable c.cells-test.true c.index-readers-input.result)
+      c.fill_cell.new.reader c.cells.invariant.readable c.cells.store c.fill_cell.new.store c.cells.column
+      c.in_ok-has_line.has_line c.in_ok-has_line.ensures.fills.0
 
 pub copy_columns-begun-requires-clause-readable : goal.copy_columns-begun-requires-clause-readable
 copy_columns-begun-requires-clause-readable g c = ready g (goal.at.copy_columns-begun-requires-clause-readable g
@@ -109,7 +85,7 @@ cells-preserved-in-Some g c =
     record {
       amid = λ from start a. amid_resumed (amid g at.In_ok-has_line from start a) first resumed p;
       readable = still_readable p.consumed (ready g at.In_ok-has_line);
-      slots = omega (arith, c.cells.invariant.slots, c.fill_cell.ensures.slots);
+      slots = omega arith;
       within = (omega arith, c.copy_columns-begun.ensures.within.0);
       wrote = sent g at.After-fill_cell;
       clean = c.in_ok-has_line.ensures.write_failed;
@@ -121,14 +97,14 @@ cells-preserved g c =
     record {
       amid = λ from start a. rw c.in-None.ensures.none (amid g at.In_ok-has_line from start a);
       readable = ready g at.In_ok-has_line;
-      slots = omega (arith, c.cells.invariant.slots, c.fill_cell.ensures.slots);
-      within = (omega (arith, c.cells.invariant.within), omega (arith, c.cells-test.true));
+      slots = omega arith;
+      within = (omega arith, omega arith);
       wrote = sent g at.After-fill_cell;
       clean = c.in_ok-has_line.ensures.write_failed;
     }
 
 pub returns-clause-fills : goal.returns-clause-fills
 returns-clause-fills g c = λ from first a.
-    let all : c.cells.column ≡ length c.args.row.cells.now = omega (arith, c.cells-test.false, c.cells.invariant.within)
+    let all : c.cells.column ≡ length c.args.row.cells.now = omega arith
     in
     rw all at (c.cells.invariant.amid from first a)

@@ -19,13 +19,13 @@ use Rattle.ptflow.proofs.tools.paste.paste.Goals as goal
 
 pub returns-then-has_failed : goal.returns-then-has_failed
 returns-then-has_failed g c =
-    call_on_failed_output _ _ (sym c.has_failed.ensures ∙ c.if-has_failed.true) c.requires.not_denied
+    call_on_failed_output _ _ (cc) c.requires.not_denied
 
 -- The terminators of the readers were set.
 starts : (g : given.Over) (c : After-ensure_slots g) → HasStarted (paste_job c.args.job.now) c.args.cells.now
     c.args.readers.now c.set_terminators.new.readers c.args.out.now c.args.store.now
 starts g c = record {
-  writable = sym c.has_failed.ensures ∙ c.if-has_failed.false;
+  writable = cc;
   ready = c.requires;
   are_set = c.set_terminators.ensures;
   count = c.set_terminators.auto.readers;
@@ -42,7 +42,7 @@ returns-in_err-ensure_slots g c =
 pub rows-init : goal.rows-init
 rows-init g c = record {
   invariant_holds = invariant_starts (starts g (goal.at.rows-init g c).After-ensure_slots) c.ensure_slots.ensures.adds
-      c.in_ok-ensure_slots.ensures.allowed (c.ensure_slots.ensures.same_total ∙ c.requires.empty)
+      c.in_ok-ensure_slots.ensures.allowed (cc)
       c.ensure_slots.ensures.same_peak;
 }
 
@@ -80,15 +80,14 @@ fill_row-requires-clause-readable g c =
 pub fill_row-requires-clause-within : goal.fill_row-requires-clause-within
 fill_row-requires-clause-within g c = omega (
   arith,
-  c.copy_rows-copied.ensures.within,
-  ap (λ (b : BegunText). b.count) (c.move_to_front-begun.ensures c.copy_rows-copied.new.readers),
+  ap (λ b. b.count) (c.move_to_front-begun.ensures c.copy_rows-copied.new.readers),
 )
 
 pub fill_row-requires-clause-slots : goal.fill_row-requires-clause-slots
 fill_row-requires-clause-slots g c = omega (
   arith,
   invariant_slots c.rows.invariant.invariant_holds,
-  ap (λ (r : RowShape). length r.cells) c.row_format-row.ensures,
+  ap (λ r. length r.cells) c.row_format-row.ensures,
 )
 
 module _ (g : given.Over) (c : After-fill_row g) where
@@ -119,7 +118,7 @@ module _ (g : given.Over) (c : After-fill_row g) where
   begun = begun_in c.copy_rows-copied.new.readers c.move_to_front-begun.result c.move_to_front-begun.new.into
 
   amid_begun : RowAmid shape begun.count rows.mid c.rows.store begun c.rows.store
-  amid_begun = subst (λ (b : BegunText). RowAmid shape b.count rows.mid c.rows.store b c.rows.store)
+  amid_begun = subst (λ b. RowAmid shape b.count rows.mid c.rows.store b c.rows.store)
       (sym (c.move_to_front-begun.ensures c.copy_rows-copied.new.readers)) (amid_starts rows.filled rows.is)
 
   abbrev Fills : RowShape → Result BegunRow FlowFault → Type 0
@@ -128,7 +127,7 @@ module _ (g : given.Over) (c : After-fill_row g) where
   filled_by : (result : Result BegunRow FlowFault) → Fills (shape_of c.row_format-row.result) result
       → RowFilled shape rows.mid c.rows.store c.fill_row.new.readers c.fill_row.new.store c.fill_row.new.into result
   filled_by result fills =
-      subst (λ (row : RowShape). Fills row result) c.row_format-row.ensures fills rows.mid c.rows.store amid_begun
+      subst (λ row. Fills row result) c.row_format-row.ensures fills rows.mid c.rows.store amid_begun
 
   -- The row that was filled.
   module _ (filled : BegunRow) (fills : Fills (shape_of c.row_format-row.result) (Ok filled)) where
@@ -155,9 +154,7 @@ module _ (g : given.Over) (c : After-fill_row g) where
 
       row_pushed : PushEffect c.fill_row.new.out is (rows_text job (amid.fields ∷ []))
       row_pushed = row_wrote sent amid.slots (has true some) (subst (PushEffect c.fill_row.new.out is)
-          (ap (λ (row : RowShape). take filled.end c.fill_row.new.into ++ slots_text row filled.count
-          c.fill_row.new.store)
-          c.row_format-row.ensures ∙ amid_text amid room) pushed)
+          (cc (amid_text amid room)) pushed)
 
       row_failed : is.write_failed ≡ true
           → PastePost job c.args.cells.now c.args.readers.now c.fill_row.new.readers c.args.out.now is c.args.store.now
@@ -194,7 +191,7 @@ write_row-requires-clause-within g c = omega (
   arith,
   (amid g (goal.at.write_row-requires-clause-within g c).After-fill_row
       c.in_ok-filled.filled c.in_ok-filled.ensures.fills).within,
-  ap (λ (r : RowShape). length r.cells) c.row_format-row.ensures,
+  ap (λ r. length r.cells) c.row_format-row.ensures,
 )
 
 pub write_row-requires-clause-slots : goal.write_row-requires-clause-slots
@@ -202,7 +199,7 @@ write_row-requires-clause-slots g c = omega (
   arith,
   room g (goal.at.write_row-requires-clause-slots g c).After-fill_row
       c.in_ok-filled.filled c.in_ok-filled.ensures.fills,
-  ap (λ (r : RowShape). length r.cells) c.row_format-row.ensures,
+  ap (λ r. length r.cells) c.row_format-row.ensures,
 )
 
 pub returns-in_err-write_row : goal.returns-in_err-write_row
@@ -212,7 +209,8 @@ returns-in_err-write_row g c =
     let (fault, same, is) = err_from_is_err_and c.from_residual-in_err-write_row.result
     c.from_residual-in_err-write_row.ensures.1 in
     rw (same, is) (row_failed g here c.in_ok-filled.filled row.fills
-    (sym (not-not _) ∙ ap not c.if-not-filled.false) row.wrote row.write_failed c.write_row.ensures.wrote c.in_err-write_row.ensures.fault)
+    (sym (not-not _) ∙ ap not c.if-not-filled.false) row.wrote row.write_failed c.write_row.ensures.wrote
+    c.in_err-write_row.ensures.fault)
 
 pub rows-smaller : goal.rows-smaller
 rows-smaller g c =
@@ -222,7 +220,6 @@ rows-smaller g c =
       (amid g here c.in_ok-filled.filled c.in_ok-filled.ensures.fills).filled.less
           (sym (not-not _) ∙ ap not c.if-not-filled.false),
       (rows g here).rows.least,
-      c.write_shared_rows.ensures.rows.rows.least,
     )
 
 pub rows-preserved : goal.rows-preserved
@@ -231,5 +228,6 @@ rows-preserved g c =
     let row = c.in_ok-filled.ensures in
     record {
       invariant_holds = row_more g here c.in_ok-filled.filled row.fills
-          (sym (not-not _) ∙ ap not c.if-not-filled.false) row.wrote row.write_failed c.write_row.ensures.wrote c.in_ok-write_row.ensures.clean;
+          (sym (not-not _) ∙ ap not c.if-not-filled.false) row.wrote row.write_failed c.write_row.ensures.wrote
+          c.in_ok-write_row.ensures.clean;
     }

@@ -1,8 +1,8 @@
 -- Each step sets the terminator of one more reader. Setting it twice, for a reader that several columns use, has no
 -- further effect.
 use Rattle.ptflow.proofs
-use proofs.Common.{◌≡◌, ◌<◌, ℕ, List, subst, Bool, true, false, cond, length, get_or, refl, ◌∙◌, arith, take_all}
-use proofs.Common.{All-get_or, terminator, SetTerminatorsPost}
+use proofs.Common.{◌≡◌, ◌<◌, subst, Bool, true, false, cond, length, get_or, refl, ◌∙◌, arith, take_all, terminator}
+use proofs.Common.{SetTerminatorsPost}
 use borrow.Author.Rules.{scaled_Fits}
 use proofs.PasteLemmas.FillRow.{at_index, set_terminator_more}
 use Rattle.ptflow.proofs.tools.paste.set_terminators.Goals as goal
@@ -16,12 +16,7 @@ loop-input-preserved g c =
     let cells = c.args.cells.now in
     let i = c.loop-input.input-index in
     let now = c.loop-input.readers in
-    let within : get_or cells i 0 < length now = omega (
-      arith,
-      All-get_or (λ (p : ℕ). p < length c.args.readers.now)
-          cells i 0 c.loop-input-test.true c.requires,
-      c.loop-input.auto.readers,
-    ) in
+    let within : get_or cells i 0 < length now = omega (arith, c.requires i 0 c.loop-input-test.true) in
     set_terminator_more (terminator c.args.zero) cells i c.args.readers.now now c.set_ending.new.self
     c.loop-input-test.true within c.loop-input.invariant
     (c.set_ending.ensures.set ∙ (λ j. record (at_index now (get_or cells i 0) c.index-readers-input.result within j)
@@ -29,17 +24,13 @@ loop-input-preserved g c =
 
 pub bounds-readers-input : goal.bounds-readers-input
 bounds-readers-input g c =
-    let low = All-get_or (λ (p : ℕ). p < length c.args.readers.now) c.args.cells.now c.loop-input.input-index 0
-    c.loop-input-test.true c.requires in
-    omega (arith, low, c.loop-input.auto.readers)
+    omega (arith, c.requires c.loop-input.input-index 0 c.loop-input-test.true)
 
 pub offset_bounds-readers-input : goal.offset_bounds-readers-input
 offset_bounds-readers-input g c =
-    let low = All-get_or (λ (p : ℕ). p < length c.args.readers.now) c.args.cells.now c.loop-input.input-index 0
-    c.loop-input-test.true c.requires in
-    search (scaled_Fits, low)
+    let low = c.requires c.loop-input.input-index 0 c.loop-input-test.true in search scaled_Fits
 
 pub returns : goal.returns
 returns g c =
-    subst (λ (l : List ℕ). SetTerminatorsPost (terminator c.args.zero) l c.args.readers.now c.loop-input.readers)
+    subst (λ l. SetTerminatorsPost (terminator c.args.zero) l c.args.readers.now c.loop-input.readers)
     (take_all c.loop-input.input-index c.args.cells.now c.loop-input-test.false) c.loop-input.invariant

@@ -1,6 +1,6 @@
 -- Each step writes the field of one more column. A failed write leaves a prefix of the row.
 use Rattle.ptflow.proofs
-use proofs.Common.{◌≡◌, ℕ, ◌+◌, ◌<◌, ◌≤◌, List, [], ◌∷◌, ◌++◌, length, take, drop, get_or, sym, ◌∙◌, ap, subst, arith}
+use proofs.Common.{◌≡◌, ℕ, ◌+◌, ◌<◌, ◌≤◌, List, [], ◌∷◌, ◌++◌, length, take, drop, get_or, sym, subst, arith}
 use proofs.Common.{length-take-le, length-drop, take_more, take-append-drop, take-take, drop_all, append-nil}
 use proofs.Common.{append_assoc, drop-append-le, err_from_is_err_and, PushEffect, push_past_failure, push_trans}
 use proofs.Common.{RowShape, after_cell, cells_text, shape_of}
@@ -17,18 +17,18 @@ module _ (row : RowShape) (first : ℕ) (lines : List (List ℕ)) where
   text_to k = cells_text row first (drop first (take k lines))
 
   text_start : text_to first ≡ []
-  text_start = ap (cells_text row first) (drop_all first (take first lines) (omega (arith, length-take first lines)))
+  text_start = grind (arith, drop_all, length-take)
 
   text_more : (k : ℕ) → first ≤ k → k < length lines
       → text_to (k + 1) ≡ text_to k ++ (get_or lines k [] ++ after_cell row k)
   text_more k over low =
       let front = take k lines in
-      let long : length front ≡ k = length-take-le k lines (omega (arith, low)) in
+      let long = length-take-le k lines (omega arith) in
       cc (
         take_more lines k [] low,
-        drop-append-le first front (get_or lines k [] ∷ []) (omega (arith, long, over)),
+        drop-append-le first front (get_or lines k [] ∷ []) (omega arith),
         cells_text-push row first (drop first front) (get_or lines k []) {k = k}
-            (omega (arith, over, long, length-drop first front)),
+            (omega (arith, length-drop first front)),
       )
 
   -- The text of further fields.
@@ -37,12 +37,12 @@ module _ (row : RowShape) (first : ℕ) (lines : List (List ℕ)) where
   text_rest k all over under fits =
       let front = take k lines in
       let more = drop k (take all lines) in
-      let long : length front ≡ k = length-take-le k lines (omega (arith, under, fits)) in (
+      let long = length-take-le k lines (omega arith) in (
         cells_text row (first + length (drop first front)) more,
         cc (
           take-append-drop k (take all lines),
           take-take k all lines under,
-          drop-append-le first front more (omega (arith, long, over)),
+          drop-append-le first front more (omega arith),
           cells_text-append row first (drop first front) more,
         ),
       )
@@ -61,7 +61,7 @@ loop-column-init g c =
     let none = text_start (shape_of c.args.row) c.args.begun.count c.args.store.now.lines in
     record {
       wrote = subst (PushEffect c.args.out.now c.push.new.self)
-          (sym (ap (λ (l : List ℕ). front ++ l) none ∙ append-nil front)) c.push.ensures.pushed.wrote;
+          (sym (cc (append-nil front))) c.push.ensures.pushed.wrote;
       clean = c.in_ok-push.ensures.pushed.clean;
       within = c.requires.within;
     }
@@ -73,7 +73,7 @@ module _ (g : given.Over) (c : After-write_slot g) where
       ++ text_to (shape_of c.args.row) c.args.begun.count c.args.store.now.lines k
 
   over : c.args.begun.count ≤ c.loop-column.column
-  over = omega (arith, c.loop-column.auto.column)
+  over = omega arith
 
   wrote_more : PushEffect c.args.out.now c.write_slot.new.out (text (c.loop-column.column + 1))
   wrote_more =
@@ -82,10 +82,10 @@ module _ (g : given.Over) (c : After-write_slot g) where
       let k = c.loop-column.column in
       let piece = get_or lines k [] ++ after_cell row k in
       let more : text (k + 1) ≡ text k ++ piece = cc (
-        text_more row c.args.begun.count lines k over (omega (arith, c.loop-column-test.true, c.requires.slots)),
+        text_more row c.args.begun.count lines k over (omega arith),
         append_assoc (take c.args.begun.end c.args.into.now) (text_to row c.args.begun.count lines k) piece,
       ) in
-      rw more (push_trans c.args.out.now c.loop-column.out c.write_slot.new.out (text k) piece
+      rw more (push_trans _ _ _ _ _
       c.loop-column.invariant.clean c.loop-column.invariant.wrote c.write_slot.ensures.wrote)
 
 pub returns-in_err-write_slot : goal.returns-in_err-write_slot
@@ -97,12 +97,10 @@ returns-in_err-write_slot g c =
     let lines = c.args.store.now.lines in
     let first = c.args.begun.count in
     let next = c.loop-column.column + 1 in
-    let (rest, all) = text_rest row first lines next (length row.cells) (omega (arith, over g here)) (omega
-    (arith, c.loop-column-test.true)) c.requires.slots in
-    let split : text g here (length row.cells) ≡ text g here next ++ rest = cc (
-      all,
-      append_assoc (take c.args.begun.end c.args.into.now) (text_to row first lines next) rest,
-    ) in
+    let (rest, all) = text_rest row first lines next (length row.cells) (omega arith) (omega arith)
+    c.requires.slots in
+    let split : text g here (length row.cells) ≡ text g here next ++ rest =
+    cc (append_assoc (take c.args.begun.end c.args.into.now) (text_to row first lines next) rest) in
     push_failed same (rw split (push_past_failure c.args.out.now c.write_slot.new.out (text g here next) rest
     c.in_err-write_slot.ensures.fault (wrote_more g here))) c.in_err-write_slot.ensures.fault
 
@@ -110,5 +108,5 @@ pub loop-column-preserved : goal.loop-column-preserved
 loop-column-preserved g c = record {
   wrote = wrote_more g (goal.at.loop-column-preserved g c).After-write_slot;
   clean = c.in_ok-write_slot.ensures.clean;
-  within = omega (arith, c.loop-column-test.true);
+  within = omega arith;
 }

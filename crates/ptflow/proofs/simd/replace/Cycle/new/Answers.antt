@@ -1,4 +1,4 @@
-use Rattle.ptflow.proofs.Common.{◌%◌, [], ◌∷◌, length, slice_index_or, sym, ◌∙◌, ap, arith, mod-lt, mod-eq_of_lt}
+use Rattle.ptflow.proofs.Common.{◌%◌, [], ◌∷◌, length, ap, arith, mod-lt, mod-eq_of_lt}
 use Rattle.ptflow.proofs.simd.replace.Cycle.new.Goals as goal
 
 pub invariant_of-result : goal.invariant_of-result
@@ -11,14 +11,14 @@ invariant_of-result c =
         few = c.requires.1;
         at = λ number low.
             let less = mod-lt number c.requires.0 in
-            at number (omega (arith, low))
-            ∙ sym (at (number % len) (omega (arith, less, c.requires.1)) ∙ ap
-            (λ k. slice_index_or c.args.bytes.now k 0) (mod-eq_of_lt less));
+            cc (at number (omega arith), at (number % len) (omega arith), mod-eq_of_lt less);
       };
     }
 
 pub returns-clause-bytes : goal.returns-clause-bytes
 returns-clause-bytes c = λ number.
     let less = mod-lt number c.requires.0 in
-    ap (λ x. x ∷ []) (c.loop-number.invariant.at (number % length c.args.bytes.now) (omega (arith, less, c.requires.1))
-    ∙ ap (λ k. slice_index_or c.args.bytes.now k 0) (mod-eq_of_lt less))
+    ap (λ x. x ∷ []) (cc (
+      c.loop-number.invariant.at (number % length c.args.bytes.now) (omega arith),
+      mod-eq_of_lt less,
+    ))

@@ -5,4 +5,4 @@ use Rattle.ptflow.proofs.simd.replace.Cycle.replace_chunks.Goals as goal
 pub loop-at-preserved : goal.loop-at-preserved
 loop-at-preserved c =
     let made = c.replace_chunk-index.ensures in
-    replaced_more made.long c.loop-at.invariant 64 (omega (arith, c.loop-at-test.true)) made.next made.replaced
+    replaced_more made.long c.loop-at.invariant 64 (omega arith) made.next made.replaced

@@ -1,12 +1,10 @@
 -- Each step copies the field of one more column and the byte after it. It ends at a field that cannot be copied, and
 -- then nothing was consumed.
 use Rattle.ptflow.proofs
-use proofs.Common.{◌≡◌, length, take, set, get_or, refl, ◌∙◌, ap, arith, set-get_or, mod-add-mod}
+use proofs.Common.{◌≡◌, length, take, set, get_or, refl, arith, set-get_or, mod-add-mod}
 use Rattle.std.proofs.lemmas.List.{take_more_set}
 use borrow.Author.Rules.{scaled_Fits}
-use proofs.PasteLemmas.FillRow.{at_index}
-use proofs.PasteLemmas.Grid.{uses_before_lt}
-use proofs.PasteLemmas.BufferedRows.{columns_start, columns_more, still_readable, after_last, after_other}
+use proofs.PasteLemmas.BufferedRows.{columns_start, columns_more, after_last, after_other}
 use Rattle.ptflow.proofs.tools.paste.buffered_rows.copy_columns.Goals.{else-cells-test, then-cells-test+in_default}
 use Rattle.ptflow.proofs.tools.paste.buffered_rows.copy_columns.Goals.{then-cells-test+in-Some+then-column-cells}
 use Rattle.ptflow.proofs.tools.paste.buffered_rows.copy_columns.Goals as goal
@@ -23,66 +21,52 @@ cells-init g c = record {
 
 pub offset_bounds-readers-input : goal.offset_bounds-readers-input
 offset_bounds-readers-input g c = let low = c.requires.readable.within c.cells.column 0 c.cells-test.true in
-    search (scaled_Fits, low)
+    search scaled_Fits
 
 pub cells-preserved : goal.cells-preserved
 cells-preserved g c =
-    let cells = c.args.row.cells.now in
     let n = c.cells.column in
     let inv = c.cells.invariant in
-    let input = get_or cells n 0 in
-    let ready = still_readable inv.copied.consumed c.requires.readable in
     record {
-      copied = columns_more inv.copied c.cells-test.true ready
-          (omega (arith, uses_before_lt cells n c.cells-test.true)) c.copy_cell.new.reader
-          (at_index c.cells.readers input c.index-readers-input.result (ready.within n 0 c.cells-test.true))
-          c.in-Some.ensures.was_sound c.in-Some.field.is_line
-          (take c.in-Some.field.end c.copy_cell.new.into) c.in-Some.ensures.cell
-          c.copy_option-end.ensures.copied (after_other _ n c.cells.index c.if-column-cells.false inv.at);
-      within = omega (arith, c.cells-test.true);
-      grows = omega (arith, inv.grows, c.in-Some.ensures.size_bound, c.copy_option-end.ensures.size_bound);
-      size_bound = omega (arith, c.in-Some.ensures.size_bound, c.copy_option-end.ensures.size_bound);
-      at = cc (c.next_index-index.ensures, inv.at, mod-add-mod n (length c.args.row.delims.now) 1);
+      copied = columns_more inv.copied c.requires.readable c.cells-test.true c.index-readers-input.result
+          c.copy_cell.new.reader c.in-Some.ensures.was_sound c.in-Some.field.is_line
+          (take c.in-Some.field.end c.copy_cell.new.into) c.in-Some.ensures.cell c.copy_option-end.ensures.copied
+          (after_other _ n c.cells.index c.if-column-cells.false inv.at);
+      within = omega arith;
+      grows = omega (arith, c.in-Some.ensures.size_bound);
+      size_bound = omega (arith, c.in-Some.ensures.size_bound);
+      at = cc (mod-add-mod n (length c.args.row.delims.now) 1);
       buffer_size = c.copy_option-end.array_long;
     }
 
 pub returns-clause-cells : goal.returns-clause-cells
 returns-clause-cells g c =
-    let cells = c.args.row.cells.now in
     let n = c.cells.column in
     let inv = c.cells.invariant in
     let readers = c.cells.readers in
-    let input = get_or cells n 0 in
-    let ready = still_readable inv.copied.consumed c.requires.readable in
+    let input = get_or c.args.row.cells.now n 0 in
     elim c.cells-test.branch [
       | else-cells-test w ↦ rw (w.readers-is, w.into-is, w.column-is, w.end-is, w.any_line-is) inv.copied
       | then-cells-test+in_default w ↦
           let none = w.in_default.ensures in
-          let same : set readers input w.copy_cell.new.reader ≡ readers = ap (set readers input) none.none
-          ∙ set-get_or readers input w.index-readers-input.result in
+          let same : set readers input w.copy_cell.new.reader ≡ readers =
+          cc (set-get_or readers input w.index-readers-input.result) in
           rw (w.readers-is, w.into-is, w.column-is, w.end-is, w.any_line-is)
           (rw (same, none.prefix_kept) inv.copied)
       | then-cells-test+in-Some+then-column-cells w ↦
           let end = w.in-Some.field.end in
           let into = w.copy_cell.new.into in
-          let stored = take_more_set into end c.args.row.terminator
-          (omega (arith, w.copy_cell.array_long, w.in-Some.ensures.size_bound)) in
+          let stored = take_more_set into end c.args.row.terminator (omega arith) in
           rw (w.readers-is, w.into-is, w.column-is, w.end-is, w.any_line-is)
-          (columns_more inv.copied w.cells-test.true ready
-          (omega (arith, uses_before_lt cells n w.cells-test.true)) w.copy_cell.new.reader
-          (at_index readers input w.index-readers-input.result (ready.within n 0 w.cells-test.true))
-          w.in-Some.ensures.was_sound w.in-Some.field.is_line (take end into) w.in-Some.ensures.cell stored
-          (after_last _ n w.if-column-cells.true))
+          (columns_more inv.copied c.requires.readable w.cells-test.true w.index-readers-input.result
+          w.copy_cell.new.reader w.in-Some.ensures.was_sound w.in-Some.field.is_line (take end into)
+          w.in-Some.ensures.cell stored (after_last _ n w.if-column-cells.true))
     ]
 
 pub returns-clause-within : goal.returns-clause-within
 returns-clause-within g c =
-    let inv = c.cells.invariant in
     elim c.cells-test.branch [
-      | else-cells-test w ↦ (omega (arith, w.column-is, inv.within), omega (arith, w.end-is, inv.grows))
-      | then-cells-test+in_default w ↦ (omega (arith, w.column-is, inv.within), omega (arith, w.end-is, inv.grows))
-      | then-cells-test+in-Some+then-column-cells w ↦ (
-        omega (arith, w.column-is, w.cells-test.true),
-        omega (arith, w.end-is, inv.grows, w.in-Some.ensures.size_bound),
-      )
+      | else-cells-test w ↦ (omega arith, omega arith)
+      | then-cells-test+in_default w ↦ (omega arith, omega arith)
+      | then-cells-test+in-Some+then-column-cells w ↦ (omega arith, omega (arith, w.in-Some.ensures.size_bound))
     ]

@@ -5,5 +5,5 @@ use Rattle.ptflow.proofs.tools.paste.buffered_rows.copy_line_in.Goals as goal
 pub returns-clause-line : goal.returns-clause-line
 returns-clause-line g c =
     vector_line c.args.at (8208 - c.args.at) g.row.N c.args.into.now c.buffered-bytes.ensures.buffered c.if-bytes.false
-    (omega (arith, c.if-at.false, c.requires)) (omega (arith, c.if-at.false, c.told-into)) c.in_ok-count.ensures
+    (omega arith) (omega arith) c.in_ok-count.ensures
     c.consume.ensures.consumed

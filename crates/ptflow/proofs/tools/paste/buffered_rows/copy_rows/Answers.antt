@@ -24,7 +24,7 @@ pub returns-then-begun-row-clause-rows : goal.returns-then-begun-row-clause-rows
 returns-then-begun-row-clause-rows g c =
     rows_and_begun c.rows.into c.copy_columns-begun.new.into c.rows.invariant.rows c.rows.invariant.consumed
     c.copy_columns-begun.ensures.cells
-    c.copy_columns-begun.ensures.within.1 (omega (arith, c.rows.invariant.size_bound))
+    c.copy_columns-begun.ensures.within.1 (omega arith)
 
 pub rows-smaller : goal.rows-smaller
 rows-smaller g c = (c.copy_columns-begun.ensures.cells.filled c.rows.readers [] fill_starts).less
@@ -35,9 +35,9 @@ rows-preserved g c =
     let p = c.copy_columns-begun.ensures.cells in
     record {
       rows = rows_more c.rows.invariant.rows (still_readable c.rows.invariant.consumed c.requires) p
-          (omega (arith, c.if-begun-row.false, c.copy_columns-begun.ensures.within))
+          (omega arith)
           (sym (not-not _) ∙ ap not c.if-not-begun.false);
       consumed = consumed_trans c.rows.invariant.consumed p.consumed;
       size_bound = c.copy_columns-begun.result.size_bound;
-      buffer_size = omega (arith, c.copy_columns-begun.auto.into, c.rows.invariant.buffer_size);
+      buffer_size = omega arith;
     }

@@ -1,5 +1,5 @@
-use Rattle.ptflow.proofs.Common.{◌≡◌, ◌+◌, ◌-◌, ◌≤◌, ℕ, List, length, take, drop, ◌∙◌, ap, arith, length-drop}
-use Rattle.ptflow.proofs.Common.{drop-take, begun_in}
+use Rattle.ptflow.proofs.Common.{◌≡◌, ◌+◌, ◌-◌, ◌≤◌, ℕ, List, length, take, drop, ap, arith, length-drop, drop-take}
+use Rattle.ptflow.proofs.Common.{begun_in}
 use lib.Seq.{paste}
 use Rattle.std.proofs.lemmas.List.Edits.{take-paste}
 use Rattle.ptflow.proofs.tools.paste.buffered_rows.move_to_front.Goals as goal
@@ -8,18 +8,14 @@ moved : (at to : ℕ) (bytes : List ℕ) → at ≤ to → to ≤ length bytes
     → take (to - at) (paste bytes 0 (drop at bytes) (to - at)) ≡ drop at (take to bytes)
 moved at to bytes further fits =
     let start : to - at ≡ 0 + (to - at) = omega arith in
-    let split : at + (to - at) ≡ to = omega (arith, further) in
+    let split : at + (to - at) ≡ to = omega arith in
     cc (
-      start,
       take-paste bytes 0 (drop at bytes) (to - at) (omega arith) (omega (arith, length-drop at bytes)),
       drop-take at (to - at) bytes,
-      split,
     )
 
 pub returns : goal.returns
 returns c = λ readers.
     let rows = c.args.copied in
-    ap (λ (text : List ℕ). record (begun_in readers rows.begun c.args.into.now) { text = text })
-    (ap (take (rows.begun.end - rows.end)) c.copy_within.ensures.after
-    ∙ moved rows.end rows.begun.end c.args.into.now rows.order
-    (omega (arith, rows.begun.size_bound, c.told-into)))
+    ap (λ text. record (begun_in readers rows.begun c.args.into.now) { text = text })
+    (cc (moved rows.end rows.begun.end c.args.into.now rows.order (omega arith)))

@@ -8,11 +8,11 @@ returns c = λ x is.
     let size = length delims in
     let list = c.in_ok-bytes.ensures in
     let (items, _) = c.deref.ensures in
-    let long : length c.deref.result.now ≡ size = ap length items ∙ list.size in
+    let long : length c.deref.result.now ≡ size = cc in
     let same : c.new.result ≡ x = cc is in
     subst (IsDelimiterCycle delims c.args.terminator) same (record {
       terminator = c.new.ensures.terminator;
-      len = c.new.ensures.len ∙ long;
+      len = cc;
       bytes = λ number.
           let low = mod-lt number c.requires in
           c.new.ensures.bytes number ∙ (λ i. slice_index_or (items i) (number % long i) 0 ∷ [])

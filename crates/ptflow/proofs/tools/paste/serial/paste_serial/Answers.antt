@@ -9,7 +9,7 @@ use Rattle.ptflow.proofs.tools.paste.serial.paste_serial.Goals as goal
 
 pub returns-then-has_failed : goal.returns-then-has_failed
 returns-then-has_failed g c = pass_unchanged (paste_serial_tool (paste_job c.args.job.now)) c.args.reader.now
-    c.args.out.now c.args._store.now c.requires (sym c.has_failed.ensures ∙ c.if-has_failed.true)
+    c.args.out.now c.args._store.now c.requires (cc)
 
 pub returns : goal.returns
 returns g c =
@@ -31,4 +31,4 @@ returns g c =
       slots = refl;
     })
     c.args._store.now (ready_set c.args.reader.now c.requires c.set_ending.ensures.set))
-    c.set_ending.ensures.set (search rules) (sym c.has_failed.ensures ∙ c.if-has_failed.false)
+    c.set_ending.ensures.set (search rules) (cc)

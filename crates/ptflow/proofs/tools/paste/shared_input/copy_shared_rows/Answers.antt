@@ -1,8 +1,8 @@
 -- The buffer up to `rows_end` has a multiple of the row's number of terminators and ends with one, so it is complete
 -- rows; and the copy up to there depends only on these bytes.
 use Rattle.ptflow.proofs
-use proofs.Common.{◌≡◌, ◌+◌, ◌/◌, ◌-◌, length, take, get_or, ◌∙◌, ap, arith, get_or-take, take-append-le}
-use proofs.Common.{length-take-le, count_by, is_byte}
+use proofs.Common.{◌≡◌, ◌+◌, ◌/◌, ◌-◌, length, take, ap, ◌∙◌, arith, get_or-take, take-append-le, length-take-le}
+use proofs.Common.{count_by, is_byte}
 use proofs.PasteLemmas.SharedInput.{whole_rows_counted}
 use proofs.PasteLemmas.Replaced.{length-replaced, take-replaced}
 use Rattle.ptflow.proofs.tools.paste.shared_input.copy_shared_rows.Goals as goal
@@ -12,13 +12,15 @@ returns-clause-rows g c =
     let cycle = c.args.cycle.now in
     let bytes = c.buffered-bytes.result.now in
     let at = c.rows_end.result in
-    let long : length (take at bytes) ≡ at = length-take-le at bytes c.rows_end.ensures.within in
+    let long = length-take-le at bytes c.rows_end.ensures.within in
     rw (← c.buffered-bytes.ensures.buffered)
     (whole_rows_counted cycle.terminator cycle.len
     ((0 + count_by (is_byte cycle.terminator) bytes) / cycle.len) (take at bytes)
-    (λ some. get_or-take at bytes (length (take at bytes) - 1) 0 (omega (arith, some, long))
-    ∙ ap (λ n. get_or bytes (n - 1) 0) long ∙ c.rows_end.ensures.ends (omega (arith, some, long)))
-    (omega (arith, c.rows_end.ensures.counted, c.replace-extra.ensures.next, cycle.is_unrolled.some)))
+    (λ some. cc (
+      get_or-take at bytes (length (take at bytes) - 1) 0 (omega arith),
+      c.rows_end.ensures.ends (omega arith),
+    ))
+    (omega arith))
 
 pub returns-clause-copied : goal.returns-clause-copied
 returns-clause-copied g c =
@@ -29,5 +31,5 @@ returns-clause-copied g c =
     let long : length made.new.to ≡ length bytes =
     ap length made.ensures.replaced ∙ length-replaced cycle.terminator _ 0 bytes in
     rw (← c.buffered-bytes.ensures.buffered)
-    (take-append-le at made.new.to _ (omega (arith, c.rows_end.ensures.within, long))
+    (take-append-le at made.new.to _ (omega arith)
     ∙ ap (take at) made.ensures.replaced ∙ take-replaced cycle.terminator _ at 0 bytes c.rows_end.ensures.within)

@@ -11,20 +11,14 @@ none_after : (test : ℕ → Bool) (xs : List ℕ) (from n : ℕ) → from + n �
     → count_by test xs ≡ count_by test (take from xs)
 none_after test xs from zero all none = ap (count_by test) (sym (take_all from xs (omega arith)))
 none_after test xs from (suc n) all none =
-    none_after test xs (from + 1) n (omega arith) (λ k over. none k (omega (arith, over)))
+    none_after test xs (from + 1) n (omega arith) (λ k over. none k (omega arith))
     ∙ count_by_more_no test xs from 0 (omega arith)
     (false_from_ne_true _ (none from (omega arith) (omega arith)))
 
 pub returns-in-None-clause-counted : goal.returns-in-None-clause-counted
 returns-in-None-clause-counted c =
     let searched = take c.loop-found.at c.args.bytes.now in
-    omega (
-      arith,
-      none_after (is_byte c.args.terminator) searched 0 (length searched) (omega arith) c.in-None.ensures,
-      c.loop-found.invariant.counted,
-      c.loop-found-test.true,
-      c.requires,
-    )
+    omega (arith, none_after (is_byte c.args.terminator) searched 0 (length searched) (omega arith) c.in-None.ensures)
 
 pub loop-found-preserved : goal.loop-found-preserved
 loop-found-preserved c =
@@ -35,18 +29,18 @@ loop-found-preserved c =
     let searched = take at bytes in
     let inv = c.loop-found.invariant in
     let (highest, passes) = c.in-Some.ensures in
-    let low : last < at = omega (arith, highest.high, length-take-le at bytes inv.within) in
+    let low : last < at = omega (arith, length-take-le at bytes inv.within) in
     record {
       counted = omega (
         arith,
-        none_after test searched (last + 1) (length searched - (last + 1)) (omega (arith, highest.high)) highest.after,
+        none_after test searched (last + 1) (length searched - (last + 1)) (omega arith)
+            highest.after,
         count_by_more_yes test searched last 0 highest.high passes,
-        ap (count_by test) (take-take last at bytes (omega (arith, low))),
-        inv.counted,
+        ap (count_by test) (take-take last at bytes (omega arith)),
       );
-      within = omega (arith, low, inv.within);
+      within = omega arith;
       found = λ some. (
-        omega (arith, low, inv.within),
-        eqb-true (get_or bytes last 0) c.args.terminator (cc (get_or-take at bytes last 0 low, passes)),
+        omega arith,
+        eqb-true (get_or bytes last 0) c.args.terminator (cc (get_or-take at bytes last 0 low)),
       );
     }

@@ -1,8 +1,7 @@
 -- The bytes of the cycle are the delimiters between the columns, and the terminator.
 use Rattle.ptflow.proofs
-use proofs.Common.{◌≡◌, ◌+◌, ◌<◌, ◌%◌, [], ◌∷◌, ◌++◌, refl, length, get_or, sym, ◌∙◌, ap, arith, ⊎_elim, cases_lt}
-use proofs.Common.{All-from_get_or, length-append, get_or_append_left, get_or_push, mod-eq_of_lt, eqb-false, shape_of}
-use proofs.PasteLemmas.BufferedRows.{after_last, after_other}
+use proofs.Common.{nat_tests, ◌≡◌, ◌<◌, [], ◌∷◌, length, get_or, sym, ◌∙◌, ap, arith, All-from_get_or, length-append}
+use proofs.Common.{get_or_append_left, get_or_push, mod-eq_of_lt, eqb-false, shape_of}
 use Rattle.ptflow.proofs.tools.paste.shared_input.shared_cycle.Goals as goal
 
 pub returns : goal.returns
@@ -13,26 +12,15 @@ returns c =
     let list = c.in_ok-bytes.ensures in
     let items = c.deref.ensures.0 ∙ c.push.ensures.items in
     let long : length c.deref.result.now ≡ n =
-    omega (arith, ap length items, length-append c.in_ok-bytes.bytes.items (row.terminator ∷ []), list.size, some) in
+    omega (arith, ap length items, length-append c.in_ok-bytes.bytes.items (row.terminator ∷ [])) in
     record {
       some = some;
       same = All-from_get_or (λ p. p ≡ get_or row.cells 0 0) row.cells 0
-          (λ k low. c.loop-input.invariant.same k (omega (arith, low, c.loop-input-test.false)));
+          (λ k low. c.loop-input.invariant.same k (omega arith));
       terminator = c.new.ensures.terminator;
-      len = c.new.ensures.len ∙ long;
+      len = cc;
       bytes = λ k low.
-          let bytes = c.in_ok-bytes.bytes.items in
-          let size : length bytes + 1 ≡ n = omega (arith, list.size, some) in
-          c.new.ensures.bytes k
-          ∙ (λ i. get_or (items i) (k % long i) 0 ∷ [])
-          ∙ ap (λ m. get_or (bytes ++ row.terminator ∷ []) m 0 ∷ []) (mod-eq_of_lt low)
-          ∙ ⊎_elim
-          (λ between.
-          ap (λ x. x ∷ []) (get_or_append_left bytes (row.terminator ∷ []) 0 k (omega (arith, between, size)))
-          ∙ sym (list.at k (omega (arith, between)))
-          ∙ after_other row k (k % length row.delims) (λ last. absurd (omega (arith, last, between))) refl)
-          (λ last.
-          ap (λ x. x ∷ []) (get_or_push bytes row.terminator 0 k (omega (arith, last, low, size)))
-          ∙ after_last row k (omega (arith, last, low)))
-          (cases_lt (k + 1) n);
+          let small : k < length c.deref.result.now = omega arith in
+          let here = mod-eq_of_lt small in
+          grind (arith, nat_tests, c.new.ensures.bytes k, list.at k, get_or_append_left, get_or_push);
     }

@@ -2,7 +2,7 @@
 use Rattle.ptflow.proofs
 use proofs.Common.{get_or, arith, set-get_or}
 use proofs.PasteLemmas.SharedInput.{copied_rows, no_rows_written}
-use proofs.PasteLemmas.FillRow.{at_index}
+use proofs.PasteLemmas.FillRow.{next_reader}
 use Rattle.ptflow.proofs.tools.paste.shared_input.write_shared_rows.Goals as goal
 
 pub returns-in_default-clause-rows : goal.returns-in_default-clause-rows
@@ -15,9 +15,7 @@ returns-then-count-eq0-clause-rows g c =
 pub returns-clause-rows : goal.returns-clause-rows
 returns-clause-rows g c =
     let shared = rw c.in-Some.is at c.requires.is_cycle in
-    let input = get_or c.args.row.cells.now 0 0 in
     let copied = c.copy_shared_rows-count.ensures in
-    copied_rows shared c.requires.readable
-    (at_index c.args.readers.now input c.index-readers-row.result (c.requires.readable.within 0 0 shared.some))
-    copied.sound (omega (arith, c.if-count-eq0.false)) copied.within (rw (shared.terminator, shared.len) at copied.rows)
-    c.consume.ensures.consumed copied.copied c.push.ensures.pushed.wrote
+    copied_rows shared (next_reader c.requires.readable shared.some c.index-readers-row.result) copied.sound
+    (omega arith) copied.within (rw (shared.terminator, shared.len) at copied.rows) c.consume.ensures.consumed
+    copied.copied c.push.ensures.pushed.wrote

@@ -1,7 +1,7 @@
 -- The terminator that was held back comes first. Then a block is its bytes up to the last one, and the last one.
 use Rattle.ptflow.proofs
-use proofs.Common.{◌≡◌, ◌+◌, ◌-◌, ◌<◌, ◌++◌, ℕ, Bool, true, false, cond, List, [], ◌∷◌, length, take, get_or, refl, sym}
-use proofs.Common.{◌∙◌, ap, arith, append_assoc, take_more, take_all, take_more_set, from_bool, mod-lt, count_by}
+use proofs.Common.{◌≡◌, ◌+◌, ◌-◌, ◌<◌, ◌++◌, ℕ, Bool, true, false, cond, List, [], ◌∷◌, length, take, get_or, refl}
+use proofs.Common.{sym, ◌∙◌, arith, append_assoc, take_more, take_all, take_more_set, from_bool, mod-lt, count_by}
 use proofs.Common.{is_byte, serial_rest, row_rest, Option, ◌==◌, not, set, eqb-true, take-set}
 use Rattle.std.proofs.lemmas.List.{length-take}
 use proofs.PasteLemmas.SerialRest.{copied_on, row_byte}
@@ -15,8 +15,7 @@ held_is false end rest is = rw is refl
 
 parts : (block : List ℕ) → 0 < length block
     → take (length block - 1) block ++ get_or block (length block - 1) 0 ∷ [] ≡ block
-parts block some = sym (take_more block (length block - 1) 0 (omega (arith, some)))
-    ∙ take_all (length block - 1 + 1) block (omega arith)
+parts block some = grind (arith, take_more, take_all)
 
 module _ (c : After-copy_cells-end) (more : List ℕ) where
   abbrev last : ℕ
@@ -33,13 +32,16 @@ module _ (c : After-copy_cells-end) (more : List ℕ) where
       let bytes = take (length block - 1) block in
       let first = c.copy_cells-at.ensures.copied in
       let second = c.copy_cells-end.ensures.copied in
-      let some : 0 < length delims = omega (arith, c.requires.index) in
-      ap (row_rest end delims c.args.cell.index) (held_is c.args.cell.complete end (block ++ more) c.from-size.ensures
-      ∙ ap (◌++◌ held) (ap (λ (l : List ℕ). l ++ more) (sym (parts block c.requires.some.0))
-      ∙ append_assoc bytes (last ∷ []) more))
-      ∙ copied_on end delims c.args.cell.index held bytes (last ∷ more) (omega arith) first.is first.later second.is
-      second.later (rw (sym second.later) at (mod-lt (c.copy_cells-at.result.1 + count_by (is_byte end) bytes) some))
-      (rw (sym first.later) at (mod-lt (c.args.cell.index + count_by (is_byte end) held) some))
+      let some : 0 < length delims = omega arith in
+      cc (
+        held_is c.args.cell.complete end (block ++ more) c.from-size.ensures,
+        parts block c.requires.some.0,
+        append_assoc bytes (last ∷ []) more,
+        copied_on end delims c.args.cell.index held bytes (last ∷ more) (omega arith) first.is first.later second.is
+            second.later (rw (sym second.later) at
+            (mod-lt (c.copy_cells-at.result.1 + count_by (is_byte end) bytes) some))
+            (rw (sym first.later) at (mod-lt (c.args.cell.index + count_by (is_byte end) held) some)),
+      )
 
 -- The last byte is put after the copy, and counted unless it is a terminator.
 last_copied : (end : ℕ) (delims : List (Option ℕ)) (number last : ℕ) (more into : List ℕ) {at size : ℕ}
@@ -47,11 +49,9 @@ last_copied : (end : ℕ) (delims : List (Option ℕ)) (number last : ℕ) (more
     → take at into ++ row_rest end delims number (last ∷ more)
     ≡ take (at + size) (set into at last) ++ row_rest end delims number (cond t (end ∷ more) more)
 last_copied end delims number last more into {at} {size} low true is none =
-    let same : at + size ≡ at = omega (arith, none) in cc (same, take-set into at last, eqb-true last end is)
+    let same : at + size ≡ at = omega arith in cc (take-set into at last, eqb-true last end is)
 last_copied end delims number last more into {at} {size} low false is one =
-    let next : at + size ≡ at + 1 = omega (arith, one) in
     cc (
-      next,
       take_more_set into at last low,
       row_byte end delims number last more is,
       append_assoc (take at into) (last ∷ []) (row_rest end delims number more),
@@ -61,9 +61,9 @@ pub returns-clause-copied : goal.returns-clause-copied
 returns-clause-copied c = λ more.
     let block = c.args.block.now in
     let last = get_or block (length block - 1) 0 in
-    let low : c.copy_cells-end.result.0 < length c.copy_cells-end.new.into = omega (
+    let low : c.copy_cells-end.result.0 < length c.copy_cells-end.new.into =
+    omega (
       arith,
-      c.copy_cells-end.array_long,
       length-take c.from-size.result (c.args.self.now.terminator ∷ []),
       length-take (length block - 1) block,
     ) in

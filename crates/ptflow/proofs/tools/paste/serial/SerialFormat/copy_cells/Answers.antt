@@ -1,5 +1,5 @@
 use Rattle.ptflow.proofs
-use proofs.Common.{◌≡◌, ◌+◌, ◌-◌, ◌%◌, ◌≤◌, ◌++◌, ℕ, List, length, take, drop, sym, ◌∙◌, ap, arith, with_replacements}
+use proofs.Common.{◌≡◌, ◌+◌, ◌-◌, ◌%◌, ◌≤◌, ◌++◌, ℕ, List, length, take, drop, ◌∙◌, ap, arith, with_replacements}
 use proofs.Common.{length-take-le, take_at, take-append-add, count_by, is_byte}
 use borrow.Rule.Slice.PartMut.{put_mid}
 use proofs.PasteLemmas.Replaced.{length-replaced}
@@ -8,10 +8,11 @@ use Rattle.ptflow.proofs.tools.paste.serial.SerialFormat.copy_cells.Goals as goa
 put_taken : (at : ℕ) (was xs : List ℕ) {n : ℕ} → length xs ≡ n → at + n ≤ length was
     → take (at + n) (put_mid at (at + n - at) was xs) ≡ take at was ++ xs
 put_taken at was xs {n} long room =
-    let front = length-take-le at was (omega (arith, room)) in
-    ap (λ k. take (k + n) (put_mid at (at + n - at) was xs)) (sym front)
-    ∙ take-append-add (take at was) (xs ++ drop (at + n - at) (drop at was)) n
-    ∙ ap (◌++◌ (take at was)) (take_at xs (drop (at + n - at) (drop at was)) n long)
+    let front = length-take-le at was (omega arith) in
+    cc (
+      take-append-add (take at was) (xs ++ drop (at + n - at) (drop at was)) n,
+      take_at xs (drop (at + n - at) (drop at was)) n long,
+    )
 
 pub returns-clause-copied : goal.returns-clause-copied
 returns-clause-copied c =
@@ -22,8 +23,9 @@ returns-clause-copied c =
     let is = format.is_cycle cycle c.in-Some.is in
     record {
       is = put_taken c.args.at c.args.into.now made (ap length c.replace.ensures.replaced
-          ∙ length-replaced cycle.terminator _ c.args.index bytes) (omega (arith, c.requires.room, c.told-into))
-          ∙ ap (◌++◌ (take c.args.at c.args.into.now)) (c.replace.ensures.replaced ∙ (λ i. with_replacements (is.terminator i)
+          ∙ length-replaced cycle.terminator _ c.args.index bytes) (omega arith)
+          ∙ ap (◌++◌ (take c.args.at c.args.into.now))
+          (c.replace.ensures.replaced ∙ (λ i. with_replacements (is.terminator i)
           (λ n. is.bytes n i) c.args.index bytes));
       later = c.replace.ensures.next ∙ (λ i. (c.args.index + count_by (is_byte (is.terminator i)) bytes) % is.len i);
     }

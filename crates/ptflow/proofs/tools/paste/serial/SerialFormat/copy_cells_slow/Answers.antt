@@ -1,9 +1,8 @@
 -- Each step copies one line and the delimiter after its column. After the last terminator the rest is a part of a line,
 -- which is copied as it is.
 use Rattle.ptflow.proofs
-use proofs.Common.{◌≡◌, ◌+◌, ◌-◌, ◌%◌, ◌<◌, ◌++◌, length, take, sym, ◌∙◌, ap, arith, length-drop, take_rest, take_all}
-use proofs.Common.{line_if_not_found, mod-lt, mod-eq_of_lt, delimiter, count_by, is_byte, None, option_to_list}
-use proofs.Common.{slice_index_or}
+use proofs.Common.{◌≡◌, ◌+◌, ◌-◌, ◌<◌, ◌++◌, length, take, sym, ◌∙◌, ap, arith, length-drop, take_rest, take_all}
+use proofs.Common.{line_if_not_found, mod-eq_of_lt, delimiter, count_by, is_byte}
 use proofs.Vectors.FindNth.{none_counted}
 use proofs.PasteLemmas.Replaced.{replaced_none}
 use proofs.PasteLemmas.SerialRest.{next_piece}
@@ -15,24 +14,17 @@ pieces-preserved c =
     let inv = c.pieces.invariant in
     let count = c.in-Some.count in
     let all : count - 0 ≡ count = omega arith in
-    let some : 0 < length delims = omega (arith, inv.low) in
+    let some : 0 < length delims = omega arith in
     let line = take (c.pieces.at + count) c.copy_short.new.into in
     let (is, later) = next_piece c.args.self.now.terminator delims some c.pieces.index
     c.pieces.rest.now (take c.pieces.at c.pieces.into) c.in-Some.ensures c.next_index-index.ensures
     (rw all at c.copy_short.ensures.copied)
-    (c.copy_option-at.ensures.copied ∙ ap (λ k. line ++ option_to_list (slice_index_or delims k None)) (sym
-    (mod-eq_of_lt inv.low))) inv.is inv.later in
+    (cc (mod-eq_of_lt inv.low)) inv.is inv.later in
     rw take_rest (record {
       is = is;
       later = later;
-      low = omega (arith, c.next_index-index.ensures, mod-lt (c.pieces.index + 1) some);
-      size_bound = omega (
-        arith,
-        length-drop (count + 1) c.pieces.rest.now,
-        c.in-Some.ensures.0.high,
-        inv.size_bound,
-        c.copy_option-at.ensures.size_bound,
-      );
+      low = omega arith;
+      size_bound = omega (arith, length-drop (count + 1) c.pieces.rest.now, c.in-Some.ensures.0.high);
       buffer_size = c.copy_option-at.array_long;
     })
 
@@ -52,5 +44,5 @@ returns-clause-copied c =
       is = rw all at c.copy_short-2.ensures.copied
           ∙ ap (◌++◌ (take c.pieces.at c.pieces.into)) (take_all (length rest) rest (omega arith)
           ∙ sym (replaced_none end (delimiter delims) c.pieces.index rest free)) ∙ inv.is;
-      later = sym (mod-eq_of_lt inv.low) ∙ ap (λ k. k % length delims) (sym none) ∙ inv.later;
+      later = cc (mod-eq_of_lt inv.low);
     }
