@@ -150,7 +150,7 @@ from_two_parts : (squeezed : ℕ → Bool) (written bytes : List ℕ)
 from_two_parts squeezed [] bytes apart = refl
 from_two_parts squeezed (b ∷ written) bytes apart =
     let (last, is, ends) = last_of b written in
-    cc (after_two_parts squeezed last bytes (apart last ends))
+    grind (arith, after_two_parts)
 
 pub tr_of_parts : TrOfParts
 tr_of_parts tables a b apart =
@@ -192,7 +192,7 @@ tr_after_byte tables byte a b (front, ends) kept unsqueezed =
         one_byte tables (last_or None (tr tables front)) byte kept unsqueezed,
       ),
     ) in
-    tr_of_parts tables a b (λ c is begins. cc (same_last c (image tables byte) (tr tables a) is last, unsqueezed))
+    grind (arith, common_steps, tr_of_parts, same_last)
 
 -- bytes that begin with the byte before them, which is squeezed
 after_same : (squeezed : ℕ → Bool) (last : ℕ) (bytes rest : List ℕ) → squeezed last ≡ true
