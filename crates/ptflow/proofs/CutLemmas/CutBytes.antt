@@ -40,19 +40,13 @@ module _ (end : ℕ) (selected : ℕ → Bool) where
       → cut_bytes_from end selected line_offset (piece ++ rest) ≡ select_from selected (line_offset + 1) piece
       ++ cut_bytes_from end selected (line_offset + length piece) rest
   rest_piece line_offset [] rest whole = let same : line_offset + 0 ≡ line_offset = omega arith in cc
-  rest_piece line_offset (b ∷ piece) rest whole =
-      let same : line_offset + 1 + length piece ≡ line_offset + length (b ∷ piece) = omega arith in
-      let first : cut_bytes_from end selected line_offset ((b ∷ piece) ++ rest)
-      ≡ select_from selected (line_offset + 1) (b ∷ [])
-      ++ cut_bytes_from end selected (line_offset + 1) (piece ++ rest) =
-      grind (arith, byte_ne, rest_onto) in
-      cc (
-        rest_piece (line_offset + 1) piece rest whole.1,
-        append_assoc (select_from selected (line_offset + 1) (b ∷ []))
-            (select_from selected (line_offset + 1 + 1) piece)
-            (cut_bytes_from end selected (line_offset + 1 + length piece) rest),
-        select_onto (line_offset + 1) b piece,
-      )
+  rest_piece line_offset (b ∷ piece) rest whole = grind (
+    arith,
+    rest_piece (line_offset + 1) piece rest whole.1,
+    byte_ne,
+    rest_onto,
+    select_onto,
+  )
 
 -- the selected bytes of the first line, and its terminator
 module _ (end : ℕ) (bytes : List ℕ) (at : ℕ) (first : IsFirstByte (is_byte end) bytes (Some at)) where

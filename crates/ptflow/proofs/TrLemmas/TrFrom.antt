@@ -99,12 +99,7 @@ module _ (t : Tables) where
 after_all : (squeezed : ℕ → Bool) → ((b : ℕ) → squeezed b ≡ false) → (last : ℕ) (bytes : List ℕ)
     → squeeze_after squeezed last bytes ≡ bytes
 after_all squeezed none last [] = refl
-after_all squeezed none last (b ∷ bytes) =
-    cc (
-      after_one_byte squeezed last b bytes,
-      and_right (last == b) (squeezed b) (none b),
-      after_all squeezed none b bytes,
-    )
+after_all squeezed none last (b ∷ bytes) = grind (arith, after_all squeezed none b bytes, after_one_byte, and_right)
 
 pub from_all : (squeezed : ℕ → Bool) → ((b : ℕ) → squeezed b ≡ false) → (last : Option ℕ) (bytes : List ℕ)
     → squeeze_from squeezed last bytes ≡ bytes
@@ -231,13 +226,11 @@ first_squeezed squeezed last (b ∷ from) into {repeats = false} some room is co
 same_after : (p q : ℕ → Bool) → ((b : ℕ) → b < 256 → p b ≡ q b) → (last : ℕ) (bytes : List ℕ) → Each1 (Fits w8) bytes
     → squeeze_after p last bytes ≡ squeeze_after q last bytes
 same_after p q same last [] fit = refl
-same_after p q same last (b ∷ bytes) (first, others) =
-    cc (
-      after_one_byte p last b bytes,
-      same b first.fits,
-      same_after p q same b bytes others,
-      after_one_byte q last b bytes,
-    )
+same_after p q same last (b ∷ bytes) (first, others) = grind (
+  arith,
+  same_after p q same b bytes others,
+  after_one_byte,
+)
 
 pub same_from : (p q : ℕ → Bool) → ((b : ℕ) → b < 256 → p b ≡ q b) → (last : Option ℕ) (bytes : List ℕ)
     → ((k : ℕ) → Fits w8 (get_or bytes k 0)) → squeeze_from p last bytes ≡ squeeze_from q last bytes

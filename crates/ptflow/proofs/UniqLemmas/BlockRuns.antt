@@ -25,8 +25,7 @@ pub record BlockPrefix (end : ℕ) (block rest : List ℕ) (front : List (List �
 
 text_long : (end : ℕ) (ls : List (List ℕ)) → length ls ≤ length (unlines end ls)
 text_long end [] = omega arith
-text_long end (l ∷ ls) =
-    omega (arith, text_long end ls, length-append (l ++ end ∷ []) (unlines end ls), length-append l (end ∷ []))
+text_long end (l ∷ ls) = grind (arith, text_long end ls, length-append)
 
 module _ {end : ℕ} {block rest : List ℕ} {front : List (List ℕ)} (lies : BlockPrefix end block rest front) where
   front_size : length block ≡ length (unlines end front) + length rest

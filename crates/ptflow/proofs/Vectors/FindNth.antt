@@ -1,13 +1,13 @@
 -- The n-th item of a list that passes a test, by the bits of a mask of which the lowest n are cleared; a field starts
 -- after the n-th delimiter. Then the terminators in 64 bytes, which are processed in order by clearing the lowest bit.
 use Rattle.ptflow.proofs
-use proofs.Common.{◌≡◌, ℕ, zero, suc, ◌+◌, ◌-◌, ◌*◌, ◌/◌, ◌%◌, ◌^◌, ◌<◌, ◌≤◌, min, Bool, true, false, cond, not}
-use proofs.Common.{Option, Some, List, [], ◌∷◌, length, map, take, drop, get_or, refl, sym, ◌∙◌, ap, arith}
-use proofs.Common.{get_or-take, length-drop, count_ones, count_by, prefix_len, mask_l, chunk, take-add, take-take}
-use proofs.Common.{length-take-le, get_or-le-sum_by, sum_by-cons, sum_by-append, sum_by-take-le, trailing_mask_l}
-use proofs.Common.{ones-mask_l, get_or-chunk, length-chunk, IsFirstByte, NoneBefore, Passes, is_byte}
-use proofs.Common.{line_before_terminator, line_if_not_found, Nowhere, None, option_map, nowhere_trans, IsLine}
-use proofs.Common.{byte_ne, IsNth, HasTerminators, count_by_more_yes, common_steps}
+use proofs.Common.{◌≡◌, ℕ, zero, suc, ◌+◌, ◌-◌, ◌*◌, ◌/◌, ◌%◌, ◌^◌, ◌<◌, ◌≤◌, Bool, true, false, cond, not, Option}
+use proofs.Common.{Some, List, [], ◌∷◌, length, map, take, drop, get_or, refl, sym, ◌∙◌, ap, arith, get_or-take}
+use proofs.Common.{length-drop, count_ones, count_by, prefix_len, mask_l, chunk, take-add, take-take, length-take-le}
+use proofs.Common.{get_or-le-sum_by, sum_by-cons, sum_by-append, sum_by-take-le, trailing_mask_l, ones-mask_l}
+use proofs.Common.{get_or-chunk, length-chunk, IsFirstByte, NoneBefore, Passes, is_byte, line_before_terminator}
+use proofs.Common.{line_if_not_found, Nowhere, None, option_map, nowhere_trans, IsLine, byte_ne, IsNth}
+use proofs.Common.{HasTerminators, count_by_more_yes, common_steps}
 use Rattle.std.proofs.lemmas.List.{get_or-drop, drop-map}
 use Rattle.std.proofs.Common.{pow-suc, mul_comm, div-one}
 use Rattle.std.proofs.Math.Nat.{div-div-eq-div-mul, zero-div}
@@ -48,14 +48,7 @@ length-without (suc n) bits = length-clear_first (without n bits) ∙ length-wit
 and_less : (bits : List Bool) → bit_and (mask_l bits) (mask_l bits - 1) ≡ mask_l (clear_first bits)
 and_less [] = and_zero_l 0
 and_less (true ∷ bits) = grind (arith, and_self, and_step)
-and_less (false ∷ bits) =
-    let m = mask_l bits in
-    let x = 0 + 2 * m in
-    let half : x / 2 ≡ m = omega arith in
-    let less : (x - 1) / 2 ≡ m - 1 = omega arith in
-    let low : min (x % 2) ((x - 1) % 2) ≡ 0 = omega arith in
-    let both : bit_and (x / 2) ((x - 1) / 2) ≡ mask_l (clear_first bits) = cc (and_less bits) in
-    omega (arith, and_step x (x - 1))
+and_less (false ∷ bits) = grind (arith, and_less bits, and_step)
 
 -- the lowest set bit is cleared
 pub cleared : (n : ℕ) {x : ℕ} (bits : List Bool) → x < 2 ^ 64 → x ≡ mask_l (without n bits)
@@ -176,15 +169,14 @@ module _ (p : ℕ → Bool) (bytes : List ℕ) where
 
   pub some_counted : (xs : List ℕ) → 0 < mask_l (map p xs) → 0 < count_by p xs
   some_counted [] lt = absurd (omega arith)
-  some_counted (x ∷ xs) lt = grind (arith, some_counted xs, sum_by-cons (λ b. cond (p b) 1 0) x xs)
+  some_counted (x ∷ xs) lt = grind (arith, common_steps, some_counted xs, sum_by-cons)
 
 -- ---- by the first match
 
 module _ (d : ℕ) (line : List ℕ) where
   pub none_counted : (bytes : List ℕ) → IsLine d bytes → count_by (is_byte d) bytes ≡ 0
   none_counted [] free = refl
-  none_counted (b ∷ bytes) (differs, free) =
-      cc (sum_by-cons (λ x. cond (is_byte d x) 1 0) b bytes, byte_ne d b differs, none_counted bytes free)
+  none_counted (b ∷ bytes) (differs, free) = grind (arith, none_counted bytes free, sum_by-cons, byte_ne)
 
   -- the first delimiter is the one after 0 others
   module _ (to : ℕ) (le : to ≤ length line) where

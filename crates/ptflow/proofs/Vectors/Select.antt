@@ -28,15 +28,22 @@ above r n high = grind (arith, nat_tests)
 -- intervals that begin after a position do not select it
 pub not_selected : (rs : List Interval) (low n : ℕ) → AreSeparated low rs → n ≤ low → is_selected rs n ≡ false
 not_selected [] low n apart out = refl
-not_selected (r ∷ rs) low n apart out =
-    rw (below r n (omega (arith, apart.0))) (not_selected rs (r.last + 1) n apart.2 (omega (arith, apart.0, apart.1)))
+not_selected (r ∷ rs) low n apart out = grind (
+  arith,
+  not_selected rs (r.last + 1) n apart.2 (omega (
+    arith,
+    apart.0,
+    apart.1,
+  )),
+  below,
+  apart,
+)
 
 -- no item is selected
 pub select_none : {X : Type 0} (test : ℕ → Bool) (n : ℕ) (xs : List X)
     → ((k : ℕ) → n ≤ k → k < n + length xs → test k ≡ false) → select_from test n xs ≡ []
 select_none test n [] out = refl
-select_none test n (x ∷ xs) out = rw (out n (omega arith) (omega arith))
-    (select_none test (n + 1) xs (grind arith))
+select_none test n (x ∷ xs) out = grind (arith, select_none test (n + 1) xs (grind arith))
 
 pub select_past : {X : Type 0} (r : Interval) (n : ℕ) (xs : List X) → r.last < n → select_from (is_within r) n xs ≡ []
 select_past r n xs past = select_none (is_within r) n xs (λ k low high. above r k (omega arith))
@@ -74,10 +81,7 @@ pub select_skip : {X : Type 0} (test : ℕ → Bool) (n count : ℕ) (xs : List 
     → select_from test n xs ≡ select_from test (n + count) (drop count xs)
 select_skip test n zero xs out = let same : n + 0 ≡ n = omega arith in rw same refl
 select_skip test n (suc count) [] out = refl
-select_skip test n (suc count) (x ∷ xs) out =
-    let same : n + suc count ≡ (n + 1) + count = omega arith in
-    rw (out n (omega arith) (omega arith), same)
-    (select_skip test (n + 1) count xs (grind arith))
+select_skip test n (suc count) (x ∷ xs) out = grind (arith, select_skip test (n + 1) count xs (grind arith))
 
 -- the items of one interval are a slice, from index i to index j
 pub select_slice : {X : Type 0} (r : Interval) (n : ℕ) (xs : List X) (i j : ℕ) → i ≡ r.first - n → j ≡ r.last + 1 - n
@@ -85,14 +89,19 @@ pub select_slice : {X : Type 0} (r : Interval) (n : ℕ) (xs : List X) (i j : �
 select_slice r n [] zero j is js = sym (take-nil (j - 0))
 select_slice r n [] (suc i) j is js = sym (take-nil (j - suc i))
 select_slice r n (x ∷ xs) i zero is js = grind (arith, select_past)
-select_slice r n (x ∷ xs) zero (suc j) is js =
-    let whole : suc j - 0 ≡ suc j = omega arith in
-    let rest : j - 0 ≡ j = omega arith in
-    rw (inside r n (omega arith) (omega arith), whole) (ap (◌∷◌ x)
-    (cc (select_slice r (n + 1) xs zero j (omega arith) (omega arith))))
-select_slice r n (x ∷ xs) (suc i) (suc j) is js =
-    let same : suc j - suc i ≡ j - i = omega arith in
-    rw (below r n (omega arith), same) (select_slice r (n + 1) xs i j (omega arith) (omega arith))
+select_slice r n (x ∷ xs) zero (suc j) is js = grind (
+  arith,
+  common_steps,
+  select_slice r (n + 1) xs zero j (omega
+      arith) (omega arith),
+  inside,
+)
+select_slice r n (x ∷ xs) (suc i) (suc j) is js = grind (
+  arith,
+  select_slice r (n + 1) xs i j (omega arith) (omega
+      arith),
+  below,
+)
 
 -- The invariant of `copy_selected`: the selected bytes of the intervals so far were copied, and the others select the
 -- rest of the piece; then comes the tail. The copied bytes are no longer than the part of the piece that the intervals
