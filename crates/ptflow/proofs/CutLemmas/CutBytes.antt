@@ -40,13 +40,8 @@ module _ (end : ℕ) (selected : ℕ → Bool) where
       → cut_bytes_from end selected line_offset (piece ++ rest) ≡ select_from selected (line_offset + 1) piece
       ++ cut_bytes_from end selected (line_offset + length piece) rest
   rest_piece line_offset [] rest whole = let same : line_offset + 0 ≡ line_offset = omega arith in cc
-  rest_piece line_offset (b ∷ piece) rest whole = grind (
-    arith,
-    rest_piece (line_offset + 1) piece rest whole.1,
-    byte_ne,
-    rest_onto,
-    select_onto,
-  )
+  rest_piece line_offset (b ∷ piece) rest whole =
+      grind (arith, rest_piece (line_offset + 1) piece rest whole.1, byte_ne, rest_onto, select_onto)
 
 -- the selected bytes of the first line, and its terminator
 module _ (end : ℕ) (bytes : List ℕ) (at : ℕ) (first : IsFirstByte (is_byte end) bytes (Some at)) where

@@ -60,12 +60,8 @@ module _ (job : Cut) where
 eof-append : (end : ℕ) (ls : List (List ℕ)) (bytes : List ℕ) → AreLines end ls
     → complete_lines end (unlines end ls ++ bytes) ≡ ls ++ complete_lines end bytes
 eof-append end [] bytes whole = refl
-eof-append end (l ∷ ls) bytes whole = grind (
-  arith,
-  common_steps,
-  eof-append end ls bytes whole.1,
-  complete_lines_cons,
-)
+eof-append end (l ∷ ls) bytes whole =
+    grind (arith, common_steps, eof-append end ls bytes whole.1, complete_lines_cons)
 
 -- bytes that end with a terminator are the text of their lines
 text_of_ended : (end : ℕ) (front : List ℕ) → unlines end (complete_lines end (front ++ end ∷ [])) ≡ front ++ end ∷ []

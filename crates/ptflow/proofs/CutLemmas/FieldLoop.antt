@@ -169,12 +169,8 @@ few_prefixed d test n (f ∷ fs) = by_test (select_from test (n + 1) fs) (test n
   where
     by_test : (rest : List (List ℕ)) (t : Bool) → length (prefixed_fields d rest) ≤ length (prefixed_fields d fs)
         → length (prefixed_fields d (cond t (f ∷ rest) rest)) ≤ length (prefixed_fields d (f ∷ fs))
-    by_test rest true few = omega (
-      arith,
-      few,
-      length-append f (prefixed_fields d rest),
-      length-append f (prefixed_fields d fs),
-    )
+    by_test rest true few =
+        omega (arith, few, length-append f (prefixed_fields d rest), length-append f (prefixed_fields d fs))
     by_test rest false few = omega (arith, few, length-append f (prefixed_fields d fs))
 
 pub output_is_short : (job : Cut) (line : List ℕ) → length (cut_fields job line) ≤ length line

@@ -226,11 +226,8 @@ first_squeezed squeezed last (b ∷ from) into {repeats = false} some room is co
 same_after : (p q : ℕ → Bool) → ((b : ℕ) → b < 256 → p b ≡ q b) → (last : ℕ) (bytes : List ℕ) → Each1 (Fits w8) bytes
     → squeeze_after p last bytes ≡ squeeze_after q last bytes
 same_after p q same last [] fit = refl
-same_after p q same last (b ∷ bytes) (first, others) = grind (
-  arith,
-  same_after p q same b bytes others,
-  after_one_byte,
-)
+same_after p q same last (b ∷ bytes) (first, others) =
+    grind (arith, same_after p q same b bytes others, after_one_byte)
 
 pub same_from : (p q : ℕ → Bool) → ((b : ℕ) → b < 256 → p b ≡ q b) → (last : Option ℕ) (bytes : List ℕ)
     → ((k : ℕ) → Fits w8 (get_or bytes k 0)) → squeeze_from p last bytes ≡ squeeze_from q last bytes

@@ -28,16 +28,8 @@ above r n high = grind (arith, nat_tests)
 -- intervals that begin after a position do not select it
 pub not_selected : (rs : List Interval) (low n : ℕ) → AreSeparated low rs → n ≤ low → is_selected rs n ≡ false
 not_selected [] low n apart out = refl
-not_selected (r ∷ rs) low n apart out = grind (
-  arith,
-  not_selected rs (r.last + 1) n apart.2 (omega (
-    arith,
-    apart.0,
-    apart.1,
-  )),
-  below,
-  apart,
-)
+not_selected (r ∷ rs) low n apart out =
+    grind (arith, not_selected rs (r.last + 1) n apart.2 (omega (arith, apart.0, apart.1)), below, apart)
 
 -- no item is selected
 pub select_none : {X : Type 0} (test : ℕ → Bool) (n : ℕ) (xs : List X)
@@ -89,19 +81,10 @@ pub select_slice : {X : Type 0} (r : Interval) (n : ℕ) (xs : List X) (i j : �
 select_slice r n [] zero j is js = sym (take-nil (j - 0))
 select_slice r n [] (suc i) j is js = sym (take-nil (j - suc i))
 select_slice r n (x ∷ xs) i zero is js = grind (arith, select_past)
-select_slice r n (x ∷ xs) zero (suc j) is js = grind (
-  arith,
-  common_steps,
-  select_slice r (n + 1) xs zero j (omega
-      arith) (omega arith),
-  inside,
-)
-select_slice r n (x ∷ xs) (suc i) (suc j) is js = grind (
-  arith,
-  select_slice r (n + 1) xs i j (omega arith) (omega
-      arith),
-  below,
-)
+select_slice r n (x ∷ xs) zero (suc j) is js =
+    grind (arith, common_steps, select_slice r (n + 1) xs zero j (omega arith) (omega arith), inside)
+select_slice r n (x ∷ xs) (suc i) (suc j) is js =
+    grind (arith, select_slice r (n + 1) xs i j (omega arith) (omega arith), below)
 
 -- The invariant of `copy_selected`: the selected bytes of the intervals so far were copied, and the others select the
 -- rest of the piece; then comes the tail. The copied bytes are no longer than the part of the piece that the intervals
@@ -236,10 +219,5 @@ module _ {all : List Interval} {before count end : ℕ} (bytes : List ℕ) {was 
       pub copied_more : {from to : ℕ} → from ≡ at_i.first - (before + 1) → to ≡ at_i.last - before
           → at_i.last < before + count → is' ≡ is ++ take (to - from) (drop from bytes)
           → CopyInvariant all (i + 1) before piece tail was is' start (at + (to - from))
-      copied_more {from} {to} from_is to_is short copied = grind (
-        arith,
-        common_steps,
-        copy_next,
-        slice_is,
-        piece_long,
-      )
+      copied_more {from} {to} from_is to_is short copied =
+          grind (arith, common_steps, copy_next, slice_is, piece_long)
