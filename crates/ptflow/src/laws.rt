@@ -5,6 +5,7 @@ ghost use Rattle.ptflow.specs.Parts.{CutOfParts, TrOfAnyParts, TrOfParts, TrAfte
 /// `cut` can be run on parts of a file, by bytes and by fields, if each part but the last ends with the line
 /// terminator: the output for the file is the outputs for the parts, in order.
 /// This function does nothing at run time. Its contract states the theorem.
+#[tactic(auto, using(crate::proofs::CutLemmas::FieldLines::cut_of_parts))]
 pub fn parts_of_cut()
     ensures { CutOfParts }
 {}
@@ -14,6 +15,7 @@ pub fn parts_of_cut()
 /// A file can be cut after any byte that is not deleted and whose image is not squeezed, which in most commands is the
 /// case for a newline. If a squeezed byte is at both sides of a cut, drop one of the two.
 /// This function does nothing at run time. Its contract states the theorem.
+#[tactic(auto, using(crate::proofs::TrLemmas::TrFrom::tr_of_any_parts, crate::proofs::TrLemmas::TrFrom::tr_of_parts, crate::proofs::TrLemmas::TrFrom::tr_after_byte, crate::proofs::TrLemmas::TrFrom::tr_meets_twice))]
 pub fn parts_of_tr()
     ensures any { TrOfAnyParts }
     ensures apart { TrOfParts }
@@ -25,6 +27,7 @@ pub fn parts_of_tr()
 /// terminator, and its last line has a different key than the first line of the next part, so that no run of lines
 /// spans two parts.
 /// This function does nothing at run time. Its contract states the theorem.
+#[tactic(auto, using(crate::proofs::UniqLemmas::Parts::uniq_of_parts))]
 pub fn parts_of_uniq()
     ensures { UniqOfParts }
 {}
@@ -33,6 +36,7 @@ pub fn parts_of_uniq()
 /// the order of the file: the output of `uniq` for the lines with some keys is its output for the runs with these keys.
 /// So the parts together have the output for the file, and each of them has its share in order.
 /// This function does nothing at run time. Its contract states the theorem.
+#[tactic(auto, using(crate::proofs::UniqLemmas::Parts::uniq_by_key))]
 pub fn uniq_by_key()
     ensures { UniqByKey }
 {}

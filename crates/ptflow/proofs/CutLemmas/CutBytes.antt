@@ -2,11 +2,11 @@
 -- resets it; at offset 0 the output is that of complete lines.
 use Rattle.ptflow.proofs
 use proofs.Common.{◌≡◌, ℕ, ◌+◌, ◌-◌, ◌≤◌, ◌^◌, Bool, false, List, [], ◌∷◌, ◌++◌, map, length, take, drop, Some, refl}
-use proofs.Common.{ap, arith, append_assoc, common_steps, onto_first, flat_map, mask_l, chunk, length-chunk, chunk-drop}
-use proofs.Common.{append-nil, take_all, drop_all, append_cancel_right, map-append, IsFirstByte, is_byte, unlines}
-use proofs.Common.{lines, IsLine, complete_lines, lines_cons, byte_ne, lines_of_unlines, unlines-append}
-use proofs.Common.{line_before_terminator, select_from, cut_line, cut, cut_decided, cut_lines_from, cut_bytes_from}
-use proofs.Common.{cut_list_from, IsPrefix, Cut, Interval, ExtendsCut}
+use proofs.Common.{ap, arith, append_assoc, common_steps, onto_first, flat_map, mask_l, chunk, length-chunk}
+use proofs.Common.{chunk-drop, append-nil, take_all, drop_all, IsFirstByte, is_byte, unlines, lines, IsLine}
+use proofs.Common.{complete_lines, lines_cons, byte_ne, lines_of_unlines, unlines-append, line_before_terminator}
+use proofs.Common.{select_from, cut_line, cut, cut_decided, cut_lines_from, cut_bytes_from, cut_list_from, IsPrefix}
+use proofs.Common.{Cut, Interval, ExtendsCut}
 use proofs.Passes.Lines.{split_of, line_of, end_of, LineSplit, line_split}
 
 module _ (end : ℕ) (selected : ℕ → Bool) where
@@ -41,18 +41,7 @@ module _ (end : ℕ) (selected : ℕ → Bool) where
       ++ cut_bytes_from end selected (line_offset + length piece) rest
   rest_piece line_offset [] rest whole = let same : line_offset + 0 ≡ line_offset = omega arith in cc
   rest_piece line_offset (b ∷ piece) rest whole =
-      let same : line_offset + 1 + length piece ≡ line_offset + length (b ∷ piece) = omega arith in
-      let first : cut_bytes_from end selected line_offset ((b ∷ piece) ++ rest)
-      ≡ select_from selected (line_offset + 1) (b ∷ [])
-      ++ cut_bytes_from end selected (line_offset + 1) (piece ++ rest) =
-      cc (byte_ne end b whole.0, rest_onto line_offset b (lines end (piece ++ rest))) in
-      cc (
-        rest_piece (line_offset + 1) piece rest whole.1,
-        append_assoc (select_from selected (line_offset + 1) (b ∷ []))
-            (select_from selected (line_offset + 1 + 1) piece)
-            (cut_bytes_from end selected (line_offset + 1 + length piece) rest),
-        select_onto (line_offset + 1) b piece,
-      )
+      grind (arith, rest_piece (line_offset + 1) piece rest whole.1, byte_ne, rest_onto, select_onto)
 
 -- the selected bytes of the first line, and its terminator
 module _ (end : ℕ) (bytes : List ℕ) (at : ℕ) (first : IsFirstByte (is_byte end) bytes (Some at)) where
@@ -88,13 +77,7 @@ terminators_next end selected block {start} room here none is all more =
     let left = drop (start + 64) block ++ more in
     let long : length ends ≡ 64 = length-chunk start 64 block (omega arith) in
     let every : mask_l (map (is_byte end) ends) + 1
-    ≡ 2 ^ length ends = omega (
-      arith,
-      ap (λ (k : ℕ). mask_l (map (is_byte end) (chunk k 64 block))) here,
-      is,
-      all,
-      ap (λ (k : ℕ). 2 ^ k) long,
-    ) in
+    ≡ 2 ^ length ends = grind arith in
     cc (
       chunk-drop start 64 block,
       append_assoc ends (drop (start + 64) block) more,
@@ -151,18 +134,5 @@ module _ (job : Cut) (by_bytes : job.fields ≡ false) where
       ) in
       record {
         rest = select_from job.selected 1 p.piece;
-        is = append_cancel_right pushed (unlines end (flat_map (cut_line job) ls) ++ select_from job.selected 1 p.piece)
-            (end ∷ []) (
-            cc (
-              on (end ∷ []),
-              rest_line end job.selected now [] [] tt,
-              rest_of_all end job.selected (lines end (given ++ end ∷ [])),
-              all_lines,
-              map-append (select_from job.selected 1) ls (p.piece ∷ []),
-              unlines-append end (map (select_from job.selected 1) ls) (select_from job.selected 1 p.piece ∷ []),
-              made_is ls,
-              append-nil (select_from job.selected 1 p.piece ++ end ∷ []),
-              append_assoc (unlines end (flat_map (cut_line job) ls)) (select_from job.selected 1 p.piece) (end ∷ []),
-            )
-            );
+        is = grind (arith, common_steps, rest_line, rest_of_all, unlines-append, made_is);
       }

@@ -6,10 +6,11 @@ use proofs.Common.{◌≡◌, ℕ, ◌==◌, true, false, arith, List, [], ◌�
 use proofs.Common.{list_any, list_any_at, IsFirstByte, is_byte, line_if_not_found, append-nil, unlines, IsLine}
 use proofs.Common.{byte_ne, Cut, is_field_delimiter, cut_fields, cut_line, cut_lines, cut_tool, cut_fields_from}
 use proofs.Common.{IsPrefix, IsLineFilter, zero, suc, ◌+◌, ◌-◌, ◌<◌, ◌≤◌, ◌⊎◌, inl, inr, length, take, drop}
-use proofs.Common.{common_steps, get_or, ap₂, append_assoc, get_or-take, take-append-drop, unwrap_or, take-take}
-use proofs.Common.{take_all, length-take-le, complete_lines, AreLines, line_before_terminator, complete_lines_cons}
-use proofs.Common.{the_lines, the_complete_lines, CopyLinesPost, the_lines_of_parts, CutOfParts}
+use proofs.Common.{common_steps, get_or, get_or-take, take-append-drop, unwrap_or, take-take, take_all}
+use proofs.Common.{length-take-le, complete_lines, AreLines, line_before_terminator, complete_lines_cons, the_lines}
+use proofs.Common.{the_complete_lines, CopyLinesPost, the_lines_of_parts, CutOfParts}
 use proofs.Passes.Lines.{ended_next, line_split}
+use Rattle.std.proofs.Common.{rules}
 
 pub none_of : (d : ℕ) (line : List ℕ) → IsLine d line → list_any (λ b. b == d) line ≡ false
 none_of d [] free = refl
@@ -60,13 +61,7 @@ eof-append : (end : ℕ) (ls : List (List ℕ)) (bytes : List ℕ) → AreLines 
     → complete_lines end (unlines end ls ++ bytes) ≡ ls ++ complete_lines end bytes
 eof-append end [] bytes whole = refl
 eof-append end (l ∷ ls) bytes whole =
-    cc (
-      append_assoc l (end ∷ []) (unlines end ls),
-      append_assoc l (end ∷ unlines end ls) bytes,
-      complete_lines_cons end
-          l (unlines end ls ++ bytes) whole.0,
-      eof-append end ls bytes whole.1,
-    )
+    grind (arith, common_steps, eof-append end ls bytes whole.1, complete_lines_cons)
 
 -- bytes that end with a terminator are the text of their lines
 text_of_ended : (end : ℕ) (front : List ℕ) → unlines end (complete_lines end (front ++ end ∷ [])) ≡ front ++ end ∷ []
@@ -86,13 +81,11 @@ free_lines d end (b ∷ bytes) free = grind (arith, free_lines d end bytes free.
 module _ (job : Cut) (by_fields : job.fields ≡ true) where
   lines_kept : job.only ≡ false → (ls : List (List ℕ)) → AreLines job.delimiter ls → flat_map (cut_line job) ls ≡ ls
   lines_kept keeps [] free = refl
-  lines_kept keeps (l ∷ ls) free = ap₂ (λ (a b : List (List ℕ)). a ++ b)
-      (of_line job by_fields l (none_of job.delimiter l free.0) keeps) (lines_kept keeps ls free.1)
+  lines_kept keeps (l ∷ ls) free = search (rules, lines_kept keeps ls free.1, of_line, none_of)
 
   lines_dropped : job.only ≡ true → (ls : List (List ℕ)) → AreLines job.delimiter ls → flat_map (cut_line job) ls ≡ []
   lines_dropped only [] free = refl
-  lines_dropped only (l ∷ ls) free = ap₂ (λ (a b : List (List ℕ)). a ++ b)
-      (of_none job by_fields l (none_of job.delimiter l free.0) only) (lines_dropped only ls free.1)
+  lines_dropped only (l ∷ ls) free = search (rules, lines_dropped only ls free.1, of_none, none_of)
 
 -- ---- the first lines of a block
 

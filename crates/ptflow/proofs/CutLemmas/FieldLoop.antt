@@ -3,13 +3,12 @@
 use Rattle.ptflow.proofs
 use proofs.Common.{common_steps, ◌≡◌, ℕ, zero, suc, Bool, true, false, cond, ◌+◌, ◌-◌, ◌<◌, ◌≤◌, List, [], ◌∷◌, ◌++◌}
 use proofs.Common.{length, take, drop, get_or, refl, ap, arith, length-append, length-drop, drop_all, drop_more}
-use proofs.Common.{drop-drop, drop-take, drop-append-le, length-take-le, Cut, cut_fields, is_selected, AreSeparated}
-use proofs.Common.{Interval, select_from, fields, prefixed_fields, IsFieldOffset, IsFieldCursor, IsNextSlice}
-use proofs.Common.{output_from_cursor, min}
+use proofs.Common.{drop-drop, length-take-le, Cut, cut_fields, is_selected, AreSeparated, Interval, select_from}
+use proofs.Common.{fields, prefixed_fields, IsFieldOffset, IsFieldCursor, IsNextSlice, output_from_cursor, min}
 use Rattle.ptflow.specs.declared.tools.cut.fields.FieldCursor.{FieldCursor}
 use proofs.Vectors.Select.{not_selected, select_none, select_first, select_slice, select_skip}
-use proofs.CutLemmas.FieldOffsets.{prefixed_fields-append, prefixed_of_fields, join_prefixed, offset_start, offset_add}
-use proofs.CutLemmas.FieldOffsets.{rest_at, none_left}
+use proofs.CutLemmas.FieldOffsets.{prefixed_fields-append, prefixed_of_fields, join_prefixed, offset_start}
+use proofs.CutLemmas.FieldOffsets.{offset_add, rest_at, none_left}
 
 -- the cursor at the start of a line
 abbrev pub line_start : FieldCursor
@@ -84,8 +83,7 @@ module _ (d : ℕ) (all : List Interval) (line : List ℕ) (cursor : FieldCursor
         ends_before past = none_selected (cc (
           these,
           select_skip (is_selected (r ∷ rs)) (cursor.passed + 1) skip here
-              (λ m low high. not_selected (r ∷ rs) (r.first - 1) m (omega (arith, not_past), apart.1, apart.2)
-              (omega (arith, high, not_past))),
+              (grind (arith, not_selected, not_past, apart)),
           left,
           none_left d line starts past,
         ))
@@ -135,7 +133,7 @@ module _ (d : ℕ) (all : List Interval) (line : List ℕ) (cursor : FieldCursor
                   left,
                   starts.later begun,
                   select_skip (is_selected rs) (cursor.passed + 1) (skip + size) here
-                      (λ m low high. not_selected rs (r.last + 1) m apart.2 (omega (arith, count, high))),
+                      (grind (arith, not_selected, apart)),
                   drop-drop (skip + size) cursor.passed (fields d line),
                 )
 
@@ -143,21 +141,17 @@ module _ (d : ℕ) (all : List Interval) (line : List ℕ) (cursor : FieldCursor
             output : output_from_cursor d all line cursor
                 ≡ take ((at - 1) - (from - min cursor.index 1)) (drop (from - min cursor.index 1) line)
                 ++ output_from_cursor d all line next
-            output =
-                grind (
-                  arith,
-                  common_steps,
-                  some,
-                  sep_fits,
-                  prefixed_fields,
-                  length-take-le,
-                  sep_drop,
-                  drop-take,
-                  these,
-                  selected,
-                  prefixed_fields-append,
-                  drop-append-le,
-                )
+            output = grind (
+              arith,
+              common_steps,
+              some,
+              sep_fits,
+              length-take-le,
+              sep_drop,
+              these,
+              selected,
+              prefixed_fields-append,
+            )
 
             one : min (cursor.index + 1) 1 ≡ 1
             one = omega arith
@@ -175,12 +169,8 @@ few_prefixed d test n (f ∷ fs) = by_test (select_from test (n + 1) fs) (test n
   where
     by_test : (rest : List (List ℕ)) (t : Bool) → length (prefixed_fields d rest) ≤ length (prefixed_fields d fs)
         → length (prefixed_fields d (cond t (f ∷ rest) rest)) ≤ length (prefixed_fields d (f ∷ fs))
-    by_test rest true few = omega (
-      arith,
-      few,
-      length-append f (prefixed_fields d rest),
-      length-append f (prefixed_fields d fs),
-    )
+    by_test rest true few =
+        omega (arith, few, length-append f (prefixed_fields d rest), length-append f (prefixed_fields d fs))
     by_test rest false few = omega (arith, few, length-append f (prefixed_fields d fs))
 
 pub output_is_short : (job : Cut) (line : List ℕ) → length (cut_fields job line) ≤ length line

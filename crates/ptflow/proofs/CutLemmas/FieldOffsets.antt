@@ -2,10 +2,10 @@
 -- n, starts after the n-th delimiter.
 use Rattle.ptflow.proofs
 use proofs.Common.{common_steps, ◌≡◌, ℕ, zero, suc, ◌+◌, ◌<◌, ◌==◌, ◌-◌, ◌≤◌, Bool, true, false, cond, List, [], ◌∷◌}
-use proofs.Common.{◌++◌, length, take, drop, get_or, refl, sym, ◌∙◌, ap, arith, onto_first, join_with_byte, append-nil}
-use proofs.Common.{take-take, take-add, take_all, drop_all, take_at, drop_at, drop_more, drop-drop, length-drop}
-use proofs.Common.{length-take-le, take-append-drop, flat_map-append, length-slice_split, count_by, is_byte, byte_eq}
-use proofs.Common.{eqb-true, fields, prefixed_fields, IsFieldOffset, IsNth}
+use proofs.Common.{◌++◌, length, take, drop, refl, sym, ◌∙◌, ap, arith, onto_first, join_with_byte, append-nil}
+use proofs.Common.{take-take, take-add, take_all, drop_all, drop-drop, length-drop, length-take-le, take-append-drop}
+use proofs.Common.{flat_map-append, length-slice_split, count_by, is_byte, byte_eq, eqb-true, fields, prefixed_fields}
+use proofs.Common.{IsFieldOffset, IsNth}
 use lib.Seq.{take-nil}
 
 module _ (d : ℕ) where
@@ -55,17 +55,10 @@ module _ (d : ℕ) where
         let ys = drop (at + 1) line in
         let one : at + 1 ≡ suc at = omega arith in
         let long : length xs ≡ at = length-take-le at line (omega arith) in
-        let here : drop at line ≡ d ∷ ys = cc (drop_more line at 0 within, eqb-true (get_or line at 0) d passes) in
+        let here : drop at line ≡ d ∷ ys = grind (arith, common_steps, eqb-true) in
         let number : length (fields d xs) ≡ n = omega (arith, length-slice_split (is_byte d) xs, before) in
         let split : fields d line ≡ fields d xs ++ fields d ys = cc (take-append-drop at line, fields-append xs ys) in
-        let rest : drop n (fields d line) ≡ fields d ys = cc (drop_at (fields d xs) (fields d ys) n number) in
-        record {
-          fits = omega (arith, within);
-          some = omega arith;
-          front = grind (arith, common_steps, prefixed_of_fields, take_at);
-          back = cc (prefixed_of_fields ys);
-          later = λ fits. rest;
-        }
+        grind (arith, common_steps, prefixed_of_fields)
 
     module _ {n at : ℕ} (o : IsFieldOffset d n line at) where
       pub rest_at : at ≤ length line → drop at (d ∷ line) ≡ d ∷ drop at line

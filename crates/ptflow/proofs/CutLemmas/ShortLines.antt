@@ -38,8 +38,7 @@ module _ (selected : ℕ → Bool) where
   few_selected n (x ∷ xs) = grind (arith, few_selected (n + 1) xs)
 
   range_parts : (a n m : ℕ) → range_with_len a (n + m) ≡ range_with_len a n ++ range_with_len (a + n) m
-  range_parts a zero m = let same : a ≡ a + 0 = omega arith in let none : 0 + m
-      ≡ m = omega arith in ap (range_with_len a) none ∙ ap (λ k. range_with_len k m) same
+  range_parts a zero m = let same : a + 0 ≡ a = omega arith in let none : 0 + m ≡ m = omega arith in cc
   range_parts a (suc n) m =
       let next : suc n + m ≡ suc (n + m) = omega arith in
       let there : a + 1 + n ≡ a + suc n = omega arith in

@@ -1,15 +1,14 @@
 -- A tool that works block by block. The output of each block is pushed before the next is read, so the input with no
 -- output yet is in the reader's buffer.
 use Rattle.ptflow.proofs
-use proofs.Common.{common_steps, ◌≡◌, ℕ, ◌+◌, ◌-◌, ◌≤◌, ◌<◌, ◌^◌, true, false, List, [], ◌++◌, None, Ok, Err, length}
-use proofs.Common.{drop, refl, arith, append-nil, append_assoc, take_all, Reader, ReaderAdvance, AdvanceOk, IsDone}
-use proofs.Common.{IsSound, HasReadCause, IsPrefix, Output, PushEffect, Slots, advance_ok_trans, push_trans, ToolSpec}
-use proofs.Common.{PassPre, PassPost, Read, Write, OutputFailed}
+use proofs.Common.{common_steps, ◌≡◌, ℕ, ◌+◌, ◌-◌, ◌≤◌, false, List, [], ◌++◌, None, Err, length, drop, refl, arith}
+use proofs.Common.{append-nil, append_assoc, take_all, Reader, ReaderAdvance, AdvanceOk, IsSound, HasReadCause}
+use proofs.Common.{IsPrefix, Output, PushEffect, Slots, advance_ok_trans, push_trans, ToolSpec, PassPre, PassPost}
+use proofs.Common.{Read}
 use Rattle.ptflow.specs.Private.Passes.BlockLoop.{IsBlockFilter}
 use Rattle.ptflow.specs.Private.Passes.StepOutput.{OutputPart}
 use proofs.Passes.Readers.{advance_past}
-use proofs.Passes.Exits.{Progress, progress_none, progress_flushed, PassState, PassEnding, store_unchanged}
-use proofs.Passes.Exits.{nothing_more, pass_read, pass_write, pass_done, pass_unended}
+use proofs.Passes.Exits.{Progress, progress_none, progress_flushed, PassState, PassEnding, store_unchanged, pass_read}
 use Rattle.std.proofs.Common.{rules}
 
 -- a counter is at most the number of bytes that were processed
@@ -64,7 +63,7 @@ module _ {X : Type 0} {rest_from : X → List ℕ → List ℕ} {IsUnchanged : X
       pushed = run.pushed ++ part.pushed;
       reached = record {
         advance_ok = grind (arith, common_steps, advance_ok_trans, take_all, advance_past);
-        wrote = push_trans _ _ _ _ _ run.reached.clean run.reached.wrote part.wrote;
+        wrote = search (rules, push_trans);
         clean = part.clean;
       };
       on = grind (arith, common_steps, append_assoc);
@@ -82,7 +81,7 @@ module _ {X : Type 0} {rest_from : X → List ℕ → List ℕ} {IsUnchanged : X
       decided_so = grind (arith, common_steps)
 
       -- the output that was pushed before this block
-      ending : PassEnding tool midway new store store []
+      pub ending : PassEnding tool midway new store store []
       ending = record {
         is_text = block_filter.text;
         ready = ready;
@@ -104,24 +103,4 @@ module _ {X : Type 0} {rest_from : X → List ℕ → List ℕ} {IsUnchanged : X
 
       pub block_read : HasReadCause reader new → PassPost tool old new was is store store (Err (Read 0))
       block_read cause = pass_read ending cause ready.not_denied
-          (λ empty going. rw (empty, going, append-nil (run.given ++ []), append-nil run.given) decided_so)
-
-      -- a write failed at the block
-      pub block_write : {is' : Output} {block : List ℕ} → new.buffered ≡ block → OutputFailed rest_from now block is is'
-          → new.failed ≡ reader.failed → PassPost tool old new was is' store store (Err Write)
-      block_write buffered halted same = pass_write ending halted.wrote
-          (λ rest may. rw buffered (halted.is_prefix rest)) halted.fault same ready.not_denied
-
-      -- the buffered output could not be written
-      pub block_flush_failed : {is' : Output} → PushEffect is is' [] → is'.write_failed ≡ true
-          → new.failed ≡ reader.failed → PassPost tool old new was is' store store (Err Write)
-      block_flush_failed wrote fault same = pass_write ending wrote (nothing_more ending) fault same ready.not_denied
-
-      module _ {is' : Output} (wrote : PushEffect is is' (rest_from now [])) (done : IsDone new)
-          (same : new.failed ≡ reader.failed) where
-        pub block_done : is'.write_failed ≡ false → new.fault ≡ None → new.pulled < 2 ^ 63
-            → PassPost tool old new was is' store store (Ok tt)
-        block_done clean fault short = search (rules, pass_done, ending)
-
-        pub block_unended : is'.write_failed ≡ true → PassPost tool old new was is' store store (Err Write)
-        block_unended fault = pass_unended ending wrote done refl same ready.not_denied fault
+          (search (rules, decided_so))

@@ -3,15 +3,16 @@
 -- the rest, are the output for every continuation of the input. So the output is exact at the end of the input, it is a
 -- prefix of the output for each consistent input, and decided output is written.
 use Rattle.ptflow.proofs
-use proofs.Common.{◌≡◌, ⊎_elim, ℕ, ◌≤◌, ◌<◌, ◌^◌, true, false, List, [], ◌++◌, length, None, Result, Ok, Err, max}
-use proofs.Common.{refl, arith, append_assoc, common_steps, append-nil, false_from_ne_true, Reader, ReaderAdvance}
-use proofs.Common.{AdvanceOk, IsDone, IsSound, HasReadCause, Received, IsPrefix, IsConsistent, Output, PushEffect}
-use proofs.Common.{Slots, total_bytes, received_with, advance_trans, push_nothing, push_trans, ToolSpec, PassPre}
-use proofs.Common.{PassPost, only_input, pass_end, pass_engine, CallState, call_state, CallOutcome, AddedSlots}
-use proofs.Common.{CallProgress, DecidedIfReadFailed, call_ends, call_on_failed_output, call_set, call_without_slots}
-use proofs.Common.{ProcessLag, bounded_lag_after, FlowFault, Read, Write, Memory}
+use proofs.Common.{◌≡◌, ℕ, ◌≤◌, ◌<◌, ◌^◌, true, false, List, [], ◌++◌, length, None, Result, Ok, Err, max, arith}
+use proofs.Common.{append_assoc, common_steps, append-nil, false_from_ne_true, Reader, ReaderAdvance, AdvanceOk}
+use proofs.Common.{IsDone, IsSound, HasReadCause, Received, IsPrefix, IsConsistent, Output, PushEffect, Slots}
+use proofs.Common.{total_bytes, received_with, advance_trans, push_nothing, push_trans, ToolSpec, PassPre, PassPost}
+use proofs.Common.{only_input, pass_end, pass_engine, CallState, call_state, CallOutcome, AddedSlots, CallProgress}
+use proofs.Common.{DecidedIfReadFailed, call_ends, call_on_failed_output, call_set, call_without_slots, ProcessLag}
+use proofs.Common.{bounded_lag_after, FlowFault, Read, Write, Memory}
 use Rattle.std.specs.Prelude.{IsErrAnd}
 use proofs.Passes.Readers.{stays_at_eof}
+use Rattle.std.proofs.Common.{rules}
 
 abbrev state : Reader → Output → Slots → CallState (Unit {0})
 state reader out store = call_state (λ u. reader) out store
@@ -140,11 +141,10 @@ module _ {X : Type 0} {rest_from : X → List ℕ → List ℕ} {start now : X} 
       untouched = λ u unread. cc;
       never_failed = λ u read. never_failed;
       writable = grind (arith, common_steps, false_from_ne_true);
-      wrote = push_trans _ _ _ _ _ midway.reached.clean midway.reached.wrote wrote;
+      wrote = search (rules, push_trans);
       is_prefix = grind (arith, common_steps, text_of, append_assoc);
-      bounded_lag = λ u read.
-          bounded_lag_after _ _ _ _ _ p.processing midway.reached.wrote midway.reached.clean is' bytes wrote;
-      peak = λ texts a. p.stored.peak (texts tt) (a tt refl);
+      bounded_lag = search (rules, bounded_lag_after);
+      peak = grind arith;
       slots = λ texts a. omega (arith, p.stored.size);
       least = omega (arith, p.stored.size);
       room = omega (arith, p.stored.size);
@@ -167,7 +167,7 @@ module _ {X : Type 0} {rest_from : X → List ℕ → List ℕ} {start now : X} 
     pub pass_write : is'.write_failed ≡ true → new.failed ≡ reader.failed → store.denied ≡ false
         → PassPost tool old new was is' before store (Err Write)
     pass_write fault same not_denied = pass (Err Write)
-        (record { write_failed = fault; unfailed = λ u read. same_failed same; not_denied = not_denied }) tt
+        (grind (arith, same_failed)) tt
         (λ index is. cc)
 
   pub nothing_more : (rest : List ℕ) → (new.eof ≡ true → rest ≡ [])
@@ -179,28 +179,15 @@ module _ {X : Type 0} {rest_from : X → List ℕ → List ℕ} {start now : X} 
       → (new.buffered ≡ [] → new.eof ≡ false → IsPrefix (tool.decided received) midway.pushed)
       → PassPost tool old new was is before store (Err (Read 0))
   pass_read cause not_denied decided = pass (push_nothing is) nothing_more (Err (Read 0))
-      (record {
-        named = refl;
-        unfailed = never_failed;
-        cause = grind arith;
-        others = λ u read differs. absurd (differs refl);
-        clean = midway.reached.clean;
-        not_denied = not_denied;
-      })
-      (λ u read failed. rw (append-nil midway.pushed) (⊎_elim (λ (_, empty, going). decided empty going)
-      (λ (_, same). cc (same_failed same, never_failed)) cause))
+      (grind (arith, never_failed))
+      (search (rules, same_failed, never_failed))
       (λ index is. cc)
 
   -- the store could not grow
   pub pass_memory : new.failed ≡ reader.failed → store.denied ≡ true → 0 < length new.buffered
       → PassPost tool old new was is before store (Err Memory)
   pass_memory same denied left = pass (push_nothing is) nothing_more (Err Memory)
-      (record {
-        denied = denied;
-        unfailed = λ u read. same_failed same;
-        clean = midway.reached.clean;
-        left = grind (arith, common_steps);
-      })
+      (grind (arith, same_failed))
       tt (λ index is. cc)
 
   -- the end of the input was reached
@@ -217,17 +204,7 @@ module _ {X : Type 0} {rest_from : X → List ℕ → List ℕ} {start now : X} 
     pub pass_done : is'.write_failed ≡ false → new.fault ≡ None → new.pulled < 2 ^ 63 → total_bytes store.lines ≡ 0
         → PassPost tool old new was is' before store (Ok tt)
     pass_done clean fault short empty = pass wrote all_of_it (Ok tt)
-        (record {
-          out = grind (arith, common_steps);
-          disorder = λ texts a. refl;
-          ended = λ complete u read. done;
-          fault = λ u read. fault;
-          short = λ u read. short;
-          unfailed = λ u read. same_failed same;
-          clean = clean;
-          not_denied = not_denied;
-          empty = empty;
-        })
+        (search (rules, same_failed))
         tt (λ index is. cc)
 
     -- and a write failed there

@@ -80,7 +80,7 @@ module _ {S X E : Type 0} {tool : ToolSpec} {state : S → Slots → X} {rest_fr
       passed = [];
       terminator = ends;
       came = lines_none end old;
-      reached = rw none_written (progress_none old was ready.readable clean);
+      reached = search (rules, none_written, progress_none);
       first = store;
       on = λ more. refl;
       count = omega (arith, line_filter.fresh store);
@@ -134,9 +134,9 @@ module _ {S X E : Type 0} {tool : ToolSpec} {state : S → Slots → X} {rest_fr
         terminator = run.terminator;
         came = came;
         reached = record {
-          advance_ok = advance_ok_trans _ _ _ _ _ run.reached.advance_ok advance_ok;
+          advance_ok = search (rules, advance_ok_trans);
           wrote = rw (line_filter.apart run.passed processed.passed)
-              (push_trans _ _ _ _ _ run.reached.clean run.reached.wrote processed.wrote);
+              (search (rules, push_trans));
           clean = processed.clean run.reached.clean;
         };
         first = run.first;
@@ -155,7 +155,7 @@ module _ {S X E : Type 0} {tool : ToolSpec} {state : S → Slots → X} {rest_fr
           let (within, _) = passed in
           let front = subst (AdvanceOk reader new) (cc) (advance_past _ advance_ok buffered within consumed) in
           run_more ls front (lines_block run.came ls front (line_split end block).whole)
-          (bounds_weaker (max (max_length run.ls) (max_length ls)) run.keeps (omega arith)) processed
+          (grind (arith, bounds_weaker)) processed
 
       -- ---- exits
 
@@ -190,7 +190,7 @@ module _ {S X E : Type 0} {tool : ToolSpec} {state : S → Slots → X} {rest_fr
           → LaggedOutput tool (received piece new) (written run.passed)
       works_line reads line behind is_line whole short =
           let next_line = before_line run.came reads line behind is_line whole short in
-          record { before = λ u. next_line.before; begins = decided_so next_line.before.earlier next_line.whole }
+          record { before = λ u. next_line.before; begins = grind (arith, decided_so) }
 
       works_piece : {new : Reader} {piece : List ℕ} → ReaderAdvance reader new piece → IsLine end piece → IsSound new
           → LaggedOutput tool (received piece new) (written run.passed)
@@ -218,10 +218,7 @@ module _ {S X E : Type 0} {tool : ToolSpec} {state : S → Slots → X} {rest_fr
       halts p same not_denied halted front = pass_write p halted.wrote
           (λ rest may.
           let (more, split) = front rest may in
-          let (later, on) = halted.is_prefix more in record {
-            rest = written later;
-            is = cc (line_filter.apart halted.passed later);
-          })
+          let (later, on) = halted.is_prefix more in grind arith)
           halted.fault same not_denied
 
       module _ (ready : PassPre old before) (sound : IsSound reader) where
@@ -249,8 +246,7 @@ module _ {S X E : Type 0} {tool : ToolSpec} {state : S → Slots → X} {rest_fr
           unfolding midway
           run_read bounds cause =
               pass_read (piece_ending (stored bounds)) cause bounds.denied
-              (λ empty going. decided_so (received piece new)
-              (whole_before _ _ _ _ run.came _ _ reads free empty going))
+              (grind (arith, decided_so, whole_before))
 
           pub run_broken : {after : Slots} → after ≡ with_line store (width - 1) piece → HasReadCause reader new
               → PassPost tool old new was is before after (Err (Read 0))
@@ -263,7 +259,7 @@ module _ {S X E : Type 0} {tool : ToolSpec} {state : S → Slots → X} {rest_fr
           run_memory told same left =
               let bounded = stored (keeps_last piece refl) in
               rw told
-              (pass_memory (piece_ending (record { peak = bounded.peak; size = bounded.size })) same refl left)
+              (pass_memory (piece_ending (grind arith)) same refl left)
 
         -- a block was read
         module _ {new : Reader} (reads : ReaderAdvance reader new []) (is_sound : IsSound new) where
@@ -319,11 +315,10 @@ module _ {S X E : Type 0} {tool : ToolSpec} {state : S → Slots → X} {rest_fr
         run_line {next} {is'} {after'} processed swapped =
             let most = max (max_length run.ls) (max_length (next_line.line ∷ [])) in
             run_more run (next_line.line ∷ []) next_line.advance_ok
-            (lines_more _ _ _ _ run.came _ _ _ _ next_line (run.reached.advance_ok.reads.terminator ∙ run.terminator))
+            (lines_more _ _ _ _ run.came _ _ _ _ next_line (cc))
             (bounds_swapped after' line_filter.some
             (bounds_weaker most (keeps_last run next_line.line next_line.stored) (omega arith)) swapped)
-            (subst (λ x. On x next (next_line.line ∷ []) is is') (same_state next_line.line next_line.stored)
-            (subst (λ l. On (state now after) next (l ∷ []) is is') (filled next_line.line next_line.stored) processed))
+            (grind (arith, same_state, stored, filled))
 
         -- a write failed
         pub run_line_halts : PassPre old before → IsSound reader → IsSound new → {is' : Output}
@@ -336,17 +331,16 @@ module _ {S X E : Type 0} {tool : ToolSpec} {state : S → Slots → X} {rest_fr
             let bounds = keeps_last run next_line.line next_line.stored in
             halts run
             (ending run ready sound next_line.advance_ok.reads (kept run (received run came new)
-            (bounds_weaker (max_length (run.ls ++ next_line.line ∷ [])) bounds
-            (omega (arith, max_length-append run.ls (next_line.line ∷ []))))
+            (grind (arith, bounds_weaker, bounds, max_length-append))
             (received_longest _ _ _ _ more))
             (works_line run next_line.advance_ok.reads next_line.line (next_line.terminator ++ new.buffered)
-            (append_assoc next_line.line next_line.terminator new.buffered) (rw ends at next_line.whole)
+            (grind (arith, common_steps)) (rw ends at next_line.whole)
             (after_line next_line is_sound))) next_line.advance_ok.failed bounds.denied
             (rw (same_state next_line.line next_line.stored) at (rw (filled next_line.line next_line.stored) at halted))
             (λ rest may. (
               lines end (new.buffered ++ rest),
               line_prefix _ _ _ _ run.came _ _ _ _ next_line ends (new.buffered ++ rest)
-                  (λ done. λ i. done.buffered i ++ may done.eof i),
+                  (grind arith),
             ))
 
       -- the end of the input was reached
@@ -369,7 +363,7 @@ module _ {S X E : Type 0} {tool : ToolSpec} {state : S → Slots → X} {rest_fr
         run_done empties clean =
             let (cleared, total) = bounds_cleared bounds line_filter.some (filled [] told) empties in
             pass_done (last_ending cleared) last done refl advance_ok.failed cleared.denied clean advance_ok.fault
-            (advance_ok.short (sound.long run.reached.advance_ok.fault)) total
+            (grind arith) total
 
         pub run_unended : is'.write_failed ≡ true → PassPost tool old new was is' before after (Err Write)
         run_unended fault = pass_unended (last_ending bounds) last done refl advance_ok.failed bounds.denied fault

@@ -2,10 +2,10 @@
 -- continuation; the same holds for the complete lines of a block.
 use Rattle.ptflow.proofs
 use proofs.Common.{common_steps, ◌≡◌, inl, inr, ℕ, zero, suc, ◌-◌, ◌≤◌, true, false, List, [], ◌∷◌, ◌++◌, length}
-use proofs.Common.{take, drop, max, refl, arith, append_assoc, length-append, length-drop, take-append-drop}
-use proofs.Common.{false≢true, append-nil, unlines, lines, IsLine, AreLines, max_length, max_line_length, Received}
-use proofs.Common.{IsConsistent, known_lines, LaggedInput, Reader, ReaderAdvance, AdvanceOk, IsDone, IsSound, Slots}
-use proofs.Common.{FillLine, lines_of_unlines, lines_of_last, lines_cons, lines-unlines, complete_lines_of_unlines}
+use proofs.Common.{take, drop, max, refl, arith, append_assoc, length-append, take-append-drop, false≢true}
+use proofs.Common.{append-nil, unlines, lines, IsLine, AreLines, max_length, max_line_length, Received, IsConsistent}
+use proofs.Common.{known_lines, LaggedInput, Reader, ReaderAdvance, AdvanceOk, IsDone, IsSound, Slots, FillLine}
+use proofs.Common.{lines_of_unlines, lines_of_last, lines_cons, lines-unlines, complete_lines_of_unlines}
 use proofs.Common.{AreReceivedLines, received_with}
 use proofs.Passes.Lines.{piece_le_max_length, max_length-append}
 use proofs.Passes.Readers.{eof_gives_nothing, stays_at_eof}
@@ -110,7 +110,7 @@ module _ {end : ℕ} {now new : Reader} {given : List ℕ} {ls : List (List ℕ)
               append_assoc (take n line) (drop n line) behind,
               append_assoc given (take n line) (drop n line ++ behind),
             );
-        short = omega (arith, length-append (drop n line) behind, length-drop n line);
+        short = grind (arith, common_steps, length-append);
         eof = λ never. absurd (false≢true never);
       };
       whole = grind (arith, common_steps, complete_lines_of_unlines, line_take);

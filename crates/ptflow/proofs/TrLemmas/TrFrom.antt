@@ -99,12 +99,7 @@ module _ (t : Tables) where
 after_all : (squeezed : ℕ → Bool) → ((b : ℕ) → squeezed b ≡ false) → (last : ℕ) (bytes : List ℕ)
     → squeeze_after squeezed last bytes ≡ bytes
 after_all squeezed none last [] = refl
-after_all squeezed none last (b ∷ bytes) =
-    cc (
-      after_one_byte squeezed last b bytes,
-      and_right (last == b) (squeezed b) (none b),
-      after_all squeezed none b bytes,
-    )
+after_all squeezed none last (b ∷ bytes) = grind (arith, after_all squeezed none b bytes, after_one_byte, and_right)
 
 pub from_all : (squeezed : ℕ → Bool) → ((b : ℕ) → squeezed b ≡ false) → (last : Option ℕ) (bytes : List ℕ)
     → squeeze_from squeezed last bytes ≡ bytes
@@ -150,7 +145,7 @@ from_two_parts : (squeezed : ℕ → Bool) (written bytes : List ℕ)
 from_two_parts squeezed [] bytes apart = refl
 from_two_parts squeezed (b ∷ written) bytes apart =
     let (last, is, ends) = last_of b written in
-    cc (after_two_parts squeezed last bytes (apart last ends))
+    grind (arith, after_two_parts)
 
 pub tr_of_parts : TrOfParts
 tr_of_parts tables a b apart =
@@ -192,7 +187,7 @@ tr_after_byte tables byte a b (front, ends) kept unsqueezed =
         one_byte tables (last_or None (tr tables front)) byte kept unsqueezed,
       ),
     ) in
-    tr_of_parts tables a b (λ c is begins. cc (same_last c (image tables byte) (tr tables a) is last, unsqueezed))
+    grind (arith, common_steps, tr_of_parts, same_last)
 
 -- bytes that begin with the byte before them, which is squeezed
 after_same : (squeezed : ℕ → Bool) (last : ℕ) (bytes rest : List ℕ) → squeezed last ≡ true
@@ -232,12 +227,7 @@ same_after : (p q : ℕ → Bool) → ((b : ℕ) → b < 256 → p b ≡ q b) �
     → squeeze_after p last bytes ≡ squeeze_after q last bytes
 same_after p q same last [] fit = refl
 same_after p q same last (b ∷ bytes) (first, others) =
-    cc (
-      after_one_byte p last b bytes,
-      same b first.fits,
-      same_after p q same b bytes others,
-      after_one_byte q last b bytes,
-    )
+    grind (arith, same_after p q same b bytes others, after_one_byte)
 
 pub same_from : (p q : ℕ → Bool) → ((b : ℕ) → b < 256 → p b ≡ q b) → (last : Option ℕ) (bytes : List ℕ)
     → ((k : ℕ) → Fits w8 (get_or bytes k 0)) → squeeze_from p last bytes ≡ squeeze_from q last bytes

@@ -2,12 +2,12 @@
 -- count, or ends it. Output that is contiguous in the block is deferred, so the pushed bytes and the deferred ones
 -- together are the output so far.
 use Rattle.ptflow.proofs
-use proofs.Common.{◌≡◌, ℕ, ◌+◌, ◌-◌, ◌<◌, ◌≤◌, ◌&&◌, Bool, true, false, List, [], ◌∷◌, ◌++◌, Some, None, Option, length}
-use proofs.Common.{take, drop, refl, sym, subst, ◌∙◌, ap, arith, append_assoc, length-append, common_steps, bytes_eq}
+use proofs.Common.{◌≡◌, ℕ, ◌+◌, ◌-◌, ◌<◌, ◌≤◌, ◌&&◌, Bool, true, false, List, [], ◌∷◌, ◌++◌, Some, None, Option}
+use proofs.Common.{length, take, drop, refl, subst, arith, append_assoc, length-append, common_steps, bytes_eq}
 use proofs.Common.{nat_lt, slice_range, drop_split, append-nil, length-drop, take_at, drop_at, IsFirstByte, is_byte}
-use proofs.Common.{Output, PushEffect, unlines, complete_lines, IsLine, push_nothing, unlines_push, complete_lines_none}
-use proofs.Common.{Uniq, Run, key, is_same, output_of, run_of, current_run, runs_after, has_output, RunsWritten}
-use proofs.Common.{RunsFailed, span_of, IsSpan, IsPending}
+use proofs.Common.{Output, PushEffect, unlines, complete_lines, IsLine, push_nothing, unlines_push}
+use proofs.Common.{complete_lines_none, Uniq, Run, key, is_same, output_of, run_of, current_run, runs_after}
+use proofs.Common.{has_output, RunsWritten, RunsFailed, span_of, IsSpan, IsPending}
 use Rattle.ptlines.proofs.Consume.{length_range}
 use Rattle.ptflow.specs.Private.Uniq.BlockRuns.{EndRunPre, IsLineSpan, first_of}
 use Rattle.ptflow.specs.Private.Uniq.RunsFrom.{count_prefix, run_text}
@@ -25,8 +25,7 @@ pub record BlockPrefix (end : ℕ) (block rest : List ℕ) (front : List (List �
 
 text_long : (end : ℕ) (ls : List (List ℕ)) → length ls ≤ length (unlines end ls)
 text_long end [] = omega arith
-text_long end (l ∷ ls) =
-    omega (arith, text_long end ls, length-append (l ++ end ∷ []) (unlines end ls), length-append l (end ∷ []))
+text_long end (l ∷ ls) = grind (arith, text_long end ls, length-append)
 
 module _ {end : ℕ} {block rest : List ℕ} {front : List (List ℕ)} (lies : BlockPrefix end block rest front) where
   front_size : length block ≡ length (unlines end front) + length rest
@@ -62,20 +61,10 @@ span_join : {block : List ℕ} {a b : Span} → IsSpan block a → IsSpan block 
 span_join {block} {a} {b} fits next touch =
     let front = span_of block a in
     let back = span_of block b in
-    let long : b.to - a.from ≡ length (front ++ back) = omega (
-      arith,
-      length-append front back,
-      length_range block _ _ fits.ordered fits.within,
-      length_range block _ _ next.ordered next.within,
-      next.ordered,
-    ) in
+    let long : b.to - a.from ≡ length (front ++ back) = grind (arith, length-append, length_range) in
     let split : drop a.from block ≡ (front ++ back) ++ drop b.to block =
-    cc (
-      drop_split block a.from a.to fits.ordered,
-      drop_split block b.from b.to next.ordered,
-      append_assoc front back (drop b.to block),
-    ) in
-    cc (take_at (front ++ back) (drop b.to block) (length (front ++ back)) refl)
+    grind (arith, common_steps, drop_split) in
+    grind (arith, common_steps)
 
 -- the first line of a run that has output is in the block
 module _ (job : Uniq) (first : List ℕ) (count : ℕ) {block : List ℕ} {line : Option Span} {l pending : Span}
@@ -106,7 +95,7 @@ module _ {bytes block : List ℕ} {pending : Span} {was is : Output} (waits : Is
 
   pending_pushed : PushEffect is is' (span_of block pending ++ more) → PushEffect was is' (bytes ++ more)
   pending_pushed wrote = subst (PushEffect was is')
-      (sym (append_assoc waits.pushed (span_of block pending) more) ∙ ap (λ all. all ++ more) waits.all)
+      (grind (arith, common_steps))
       (wrote_then _ _ _ waits.wrote wrote)
 
 -- ---- runs one after another
@@ -145,8 +134,8 @@ module _ {job : Uniq} {before after : Run} {ls : List (List ℕ)} {passed : List
       wrote = wrote;
       clean = clean;
       on = λ more. cc (steps.on more);
-      count = omega (arith, steps.count, ap length same);
-      some = λ some. steps.some (omega (arith, some, ap length same));
+      count = grind (arith, steps);
+      some = grind (arith, steps);
     }
 
     -- a write failed before these lines
@@ -158,7 +147,7 @@ module _ {job : Uniq} {before after : Run} {ls : List (List ℕ)} {passed : List
       fault = fault;
       is_prefix = λ more. (
         runs_after job after (later ++ more),
-        cc (append_assoc ls later more, steps.on (later ++ more)),
+        grind (arith, common_steps, steps),
       );
     }
 
@@ -241,7 +230,7 @@ module _ {job : Uniq} {first block rest : List ℕ} {start count : ℕ} {line : 
             lies = front_more so_far.lies at found;
             passed = so_far.passed ++ current_run run;
             steps = rw line_is steps;
-            waits = rw entries (pending_then so_far.waits (run_text job run) waits);
+            waits = grind (arith, entries, pending_then);
             run_key_is = cc;
             ready = grind (arith, common_steps);
             some = omega arith;
@@ -252,7 +241,7 @@ module _ {job : Uniq} {first block rest : List ℕ} {start count : ℕ} {line : 
           → is'.write_failed ≡ true
           → RunsFailed job (run_of first start) (complete_lines job.terminator block) was is'
       runs_loop_failed wrote fault = steps_failed steps
-          (rw entries (pending_pushed so_far.waits (run_text job run) wrote))
+          (search (rules, entries, pending_pushed))
           (complete_lines job.terminator (drop (at + 1) rest)) (front_more so_far.lies at found).lines fault
 
   -- no complete line is left

@@ -1,14 +1,15 @@
 -- The current run of `uniq`, for one line and for the lines of a block. The items of the tool are runs: a line of
 -- another key ends the current run, whose output is known then.
 use Rattle.ptflow.proofs
-use proofs.Common.{◌≡◌, ℕ, ◌<◌, false, List, [], ◌∷◌, ◌++◌, None, Some, length, sym, ◌∙◌, common_steps, ap, arith, swap}
-use proofs.Common.{is_some, append-nil, get_or-set_other, IsFirstByte, is_byte, known_lines, Slots, line}
-use proofs.Common.{complete_lines, line_if_not_found, complete_lines_none, Uniq, Option, runs, output_of, uniq_tool}
-use proofs.Common.{IsLineFilter, Output, first_line, current_run_of, run_of, count_of, current_run, runs_after}
-use proofs.Common.{run_output, Result, refl}
+use proofs.Common.{◌≡◌, ℕ, ◌<◌, false, List, [], ◌∷◌, ◌++◌, None, Some, length, sym, ◌∙◌, common_steps, ap, arith}
+use proofs.Common.{swap, is_some, append-nil, IsFirstByte, is_byte, known_lines, Slots, line, complete_lines}
+use proofs.Common.{line_if_not_found, complete_lines_none, Uniq, Option, runs, output_of, uniq_tool, IsLineFilter}
+use proofs.Common.{Output, first_line, current_run_of, run_of, count_of, current_run, runs_after, run_output, Result}
+use proofs.Common.{refl}
 use Rattle.ptlines.specs.Outputs.{PushPost}
 use Rattle.ptflow.specs.declared.tools.uniq.CurrentRun.{CurrentRun}
 use proofs.UniqLemmas.RunsFrom.{entries-append, init_current}
+use Rattle.std.proofs.Common.{rules}
 
 -- after the first two slots were swapped
 pub swapped_first : (store : Slots) {after : Slots} → 1 < length store.lines
@@ -28,7 +29,7 @@ pub uniq_line_tool : (job : Uniq) (start : CurrentRun) → start.count ≡ 0
     → IsLineFilter (uniq_tool job) current_run_of (runs_after job) (output_of job) count_of 2 start
 uniq_line_tool job start none = record {
   apart = entries-append job;
-  stays = grind (arith, common_steps, get_or-set_other);
+  stays = search rules;
   fresh = λ store. omega arith;
   tool_text = λ store bytes. cc;
   decided = λ store given passed now on.

@@ -6,6 +6,7 @@ use proofs.Common.{length, drop, get_or, refl, sym, ◌∙◌, arith, common_ste
 use proofs.Common.{nat_tests, IsFirstByte, Nowhere, Passes, is_byte, is_byte2, is_blank, ends_word, word_ends}
 use proofs.Common.{after_fields, after_nonblanks}
 use Rattle.std.specs.Prelude.{◌==◌}
+use Rattle.std.proofs.Common.{rules}
 
 -- the rest of these bytes after n more field ends
 abbrev pub suffix_at : ℕ → List ℕ → List ℕ
@@ -56,7 +57,7 @@ suffix_add n (b ∷ bytes) = grind (arith, suffix_add n bytes, suffix_zero bytes
 -- the first byte is not a blank
 suffix_other : (b : ℕ) (bytes : List ℕ) → is_blank b ≡ false → suffix_at 1 (b ∷ bytes) ≡ after_nonblanks bytes
 suffix_other b [] other = rw other refl
-suffix_other b (c ∷ bytes) other = grind (arith, common_steps, suffix_other c bytes)
+suffix_other b (c ∷ bytes) other = search (rules, suffix_other c bytes)
 
 pub after_one : (line : List ℕ) → after_fields 1 line ≡ suffix_at 1 line
 after_one line = sym (suffix_is 1 line)

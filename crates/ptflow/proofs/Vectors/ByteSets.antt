@@ -1,16 +1,17 @@
 -- Membership tests of a byte set. The tables are filled flag by flag, and each flag is one bit of one entry; a test
 -- looks up the entry and the bit of each byte.
 use Rattle.ptflow.proofs
-use proofs.Common.{◌≡◌, ℕ, suc, ◌+◌, ◌*◌, ◌/◌, ◌%◌, ◌<◌, ◌≤◌, ◌^◌, ◌&&◌, ◌||◌, Bool, true, false, List, [], ◌∷◌, length}
-use proofs.Common.{map, cond, leb, ltb, eqb, zero, ◌≢◌, ⊎_elim, get_or, get_or-drop, drop, ◌-◌, set, bit_or, replicate}
-use proofs.Common.{negsuc, pos, bit_and, refl, ap, ◌∙◌, arith, w8, Fits, top, zip2, sel_l, Each1, cast_signed, bit_at}
-use proofs.Common.{from_bool, swz_l, SwzOk, SwzOk-from_below, zip2_splat, zip2_of_maps, map-map, and_mask, lt-ltb}
-use proofs.Common.{le-ltb, cases_eq, cases_lt, nat_tests, pow_pos, length-map, set-get_or, get_or-set_same}
-use proofs.Common.{get_or-set_other, table_has, set_has, IsSetOf, mask_of}
+use proofs.Common.{◌≡◌, ℕ, suc, ◌+◌, ◌*◌, ◌/◌, ◌%◌, ◌<◌, ◌≤◌, ◌^◌, ◌&&◌, ◌||◌, Bool, true, false, List, [], ◌∷◌}
+use proofs.Common.{length, map, cond, leb, ltb, eqb, zero, ◌≢◌, ⊎_elim, get_or, get_or-drop, drop, ◌-◌, set, bit_or}
+use proofs.Common.{replicate, negsuc, pos, bit_and, refl, ap, ◌∙◌, arith, w8, Fits, top, zip2, sel_l, Each1}
+use proofs.Common.{cast_signed, bit_at, from_bool, swz_l, SwzOk, SwzOk-from_below, zip2_splat, zip2_of_maps, map-map}
+use proofs.Common.{and_mask, lt-ltb, le-ltb, cases_eq, cases_lt, nat_tests, pow_pos, length-map, set-get_or}
+use proofs.Common.{get_or-set_same, table_has, set_has, IsSetOf, mask_of}
 use Rattle.std.proofs.lemmas.Nat.Bits.{and_pow, bit_at-lt, bit_at_set_same, bit_at_set_other}
 use Rattle.std.specs.Int.Bits.{or_zero_r}
 use Rattle.ptflow.specs.declared.simd.byte_set.ByteSet.{ByteSet}
 use proofs.Vectors.Lanes.{sel_maps, mask_right, bytes_same}
+use Rattle.std.proofs.lemmas.Grind.{common_steps}
 
 -- ---- a table of 16 entries, indexed by a nibble of each byte
 
@@ -85,14 +86,7 @@ byte_tested : (set : ByteSet) (b : ℕ) → b < 256
     (eqb (bit_and (cond (ltb b 128) (get_or set.low (b % 16) 0) (get_or set.high (b % 16) 0))
     (get_or bits_in_order (b / 16) 0)) (get_or bits_in_order (b / 16) 0)) 255 0)
     ≡ cond (set_has set b) (negsuc 0) (pos 0)
-byte_tested set b byte =
-    let row = cond (ltb b 128) (get_or set.low (b % 16) 0) (get_or set.high (b % 16) 0) in
-    cc (
-      bit_of (high_small b byte),
-      all_or_none row (b / 16 % 8),
-      table_row set (ltb b 128) (b % 16),
-      as_mask (set_has set b),
-    )
+byte_tested set b byte = grind (arith, bit_of, high_small, all_or_none, table_row, as_mask)
 
 pub tested : (set : ByteSet) (v : List ℕ) {low high bit : List ℕ} → length v ≡ 16 → Each1 (Fits w8) v
     → low ≡ map (λ b. get_or set.low (b % 16) 0) v → high ≡ map (λ b. get_or set.high (b % 16) 0) v
@@ -140,9 +134,9 @@ module _ (table : List ℕ) {n : ℕ} (long : length table ≡ 16) (within : n <
   set_there {b} byte other = ⊎_elim
       (λ row. cc (
         get_or-set_same table (n % 16) put 0 (omega arith),
-        bit_at_set_other w8 old (n / 16) (omega arith) (b / 16 % 8) (λ same. other (omega (arith, row, same))),
+        bit_at_set_other w8 old (n / 16) (omega arith) (b / 16 % 8) (grind arith),
       ))
-      (λ row. cc (get_or-set_other table (n % 16) (b % 16) put 0 row)) (cases_eq (b % 16) (n % 16))
+      (grind (arith, common_steps)) (cases_eq (b % 16) (n % 16))
 
   filled_is : (flag : Bool) {b : ℕ} → b < 128
       → table_has (flags_set table n (from_bool flag)) b
@@ -163,7 +157,7 @@ pub set_of_nibbles : (set : ByteSet) (flags : List Bool) (n : ℕ) → 128 ≤ n
     → ((b : ℕ) → b < 128 → table_has set.low b ≡ (ltb b n && get_or flags b false))
     → ((b : ℕ) → b < 128 → table_has set.high b ≡ (ltb b n && get_or (drop 128 flags) b false)) → IsSetOf set flags
 set_of_nibbles set flags n all low high b byte = ⊎_elim
-    (λ less. cc (lt-ltb b 128 less, low b less, lt-ltb b n (omega (arith, less, all))))
+    (grind (arith, lt-ltb))
     (λ more.
     let entry : b % 16 ≡ (b - 128) % 16 = omega (arith, more) in
     let bit : b / 16 % 8 ≡ (b - 128) / 16 % 8 = omega (arith, more) in

@@ -3,11 +3,11 @@
 use Rattle.ptflow.proofs
 use proofs.Common.{common_steps, ◌≡◌, ℕ, zero, suc, ◌+◌, ◌*◌, ◌^◌, ◌/◌, ◌%◌, ◌<◌, ◌≤◌, Bool, true, false, cond, List}
 use proofs.Common.{[], ◌∷◌, ◌++◌, map, length, take, drop, set, get_or, length-drop, drop-cons, append_assoc, add-one}
-use proofs.Common.{refl, sym, ◌∙◌, ap, arith, w8, All, nat_eq, nat_le, range_with_len, mask_l, put_chunk, chunk, pick_l}
-use proofs.Common.{Each1, take_more_put_chunk, bit_mask_l, mask_l-lt, Each1-from_get_or, swz_l, ones-mask_l_cons}
-use proofs.Common.{pick_l-range_with_len, take-map, take-take, take_more, take_all, take-append-le, drop-append-le}
-use proofs.Common.{length-take-le, length-range_with_len, get_or-range_with_len, take-append-add, and_numeral}
-use proofs.Common.{nat_tests, pow-succ', select_by, true_indices, IsCompressRow, IsCompressTable}
+use proofs.Common.{refl, sym, ◌∙◌, ap, arith, w8, All, nat_eq, nat_le, range_with_len, mask_l, put_chunk, chunk}
+use proofs.Common.{pick_l, Each1, take_more_put_chunk, bit_mask_l, mask_l-lt, Each1-from_get_or, swz_l}
+use proofs.Common.{ones-mask_l_cons, pick_l-range_with_len, take-map, take-append-le, drop-append-le, length-take-le}
+use proofs.Common.{length-range_with_len, get_or-range_with_len, take-append-add, and_numeral, nat_tests, pow-succ'}
+use proofs.Common.{select_by, true_indices, IsCompressRow, IsCompressTable}
 use Rattle.std.specs.Prelude.{bit_and, slice_index_or, count_ones}
 use Rattle.ptlines.proofs.MatchMasks.{mask_append}
 
@@ -110,7 +110,7 @@ pub selected_stored : (at n : ℕ) (into lanes : List ℕ) → length lanes ≡ 
 selected_stored at n into lanes long few room =
     let stored = put_chunk at into lanes in
     let front : length (take at into) ≡ at = length-take-le at into (omega arith) in
-    sym (take-take (at + n) (at + 16) stored (omega arith))
+    sym (grind (arith, common_steps))
     ∙ ap (take (at + n)) (take_more_put_chunk at into lanes (at + 16) (omega (arith, long)) room)
     ∙ ap (λ k. take k (take at into ++ lanes)) (omega arith) ∙ take-append-add (take at into) lanes n
 
@@ -140,9 +140,7 @@ next_place flags {place} long low =
       get_or-range_with_len 0 8 place 0 low,
       add-one place,
     ) in
-    ap (λ fs. select_by fs indices) (take_more flags place false (omega (arith, long)))
-    ∙ select_by_append front (flag ∷ []) indices
-    ∙ ap (λ ps. select_by front indices ++ select_by (flag ∷ []) ps) behind
+    grind (arith, common_steps, select_by_append)
 
 pub row_next : {mask place count bit : ℕ} {row : List ℕ} → place < 8 → bit ≡ mask / 2 ^ place % 2
     → RowPrefix mask place count row → RowPrefix mask (place + 1) (count + bit) (set row count place)
@@ -152,9 +150,8 @@ pub row_complete : {mask count : ℕ} {row : List ℕ} {flags : List Bool} → l
     → RowPrefix mask 8 count row → IsCompressRow flags row
 row_complete {count} {row} {flags} long masked begun =
     let all : take count row ≡ true_indices flags =
-    cc (begun.indices flags long masked, take_all 8 flags (omega (arith, long)), long) in
-    let count_is : length (true_indices flags) ≡ count = cc (length-take-le count row (omega arith)) in
-    record { indices = cc; long = begun.long; lanes = begun.lanes }
+    grind (arith, common_steps) in
+    grind (arith, length-take-le)
 
 -- ---- the halves of a mask and of lanes
 

@@ -1,13 +1,13 @@
 -- The n-th item of a list that passes a test, by the bits of a mask of which the lowest n are cleared; a field starts
 -- after the n-th delimiter. Then the terminators in 64 bytes, which are processed in order by clearing the lowest bit.
 use Rattle.ptflow.proofs
-use proofs.Common.{◌≡◌, ℕ, zero, suc, ◌+◌, ◌-◌, ◌*◌, ◌/◌, ◌%◌, ◌^◌, ◌<◌, ◌≤◌, min, Bool, true, false, cond, not, Option}
-use proofs.Common.{Some, List, [], ◌∷◌, length, map, take, drop, get_or, refl, sym, ◌∙◌, ap, subst, arith, get_or-take}
+use proofs.Common.{◌≡◌, ℕ, zero, suc, ◌+◌, ◌-◌, ◌*◌, ◌/◌, ◌%◌, ◌^◌, ◌<◌, ◌≤◌, Bool, true, false, cond, not, Option}
+use proofs.Common.{Some, List, [], ◌∷◌, length, map, take, drop, get_or, refl, sym, ◌∙◌, ap, arith, get_or-take}
 use proofs.Common.{length-drop, count_ones, count_by, prefix_len, mask_l, chunk, take-add, take-take, length-take-le}
 use proofs.Common.{get_or-le-sum_by, sum_by-cons, sum_by-append, sum_by-take-le, trailing_mask_l, ones-mask_l}
 use proofs.Common.{get_or-chunk, length-chunk, IsFirstByte, NoneBefore, Passes, is_byte, line_before_terminator}
-use proofs.Common.{line_if_not_found, Nowhere, None, option_map, nowhere_trans, IsLine, byte_ne, IsNth, HasTerminators}
-use proofs.Common.{count_by_more_yes, length-map, common_steps}
+use proofs.Common.{line_if_not_found, Nowhere, None, option_map, nowhere_trans, IsLine, byte_ne, IsNth}
+use proofs.Common.{HasTerminators, count_by_more_yes, common_steps}
 use Rattle.std.proofs.lemmas.List.{get_or-drop, drop-map}
 use Rattle.std.proofs.Common.{pow-suc, mul_comm, div-one}
 use Rattle.std.proofs.Math.Nat.{div-div-eq-div-mul, zero-div}
@@ -47,22 +47,8 @@ length-without (suc n) bits = length-clear_first (without n bits) ∙ length-wit
 
 and_less : (bits : List Bool) → bit_and (mask_l bits) (mask_l bits - 1) ≡ mask_l (clear_first bits)
 and_less [] = and_zero_l 0
-and_less (true ∷ bits) =
-    let m = mask_l bits in
-    let x = 1 + 2 * m in
-    let half : x / 2 ≡ m = omega arith in
-    let less : (x - 1) / 2 ≡ m = omega arith in
-    let low : min (x % 2) ((x - 1) % 2) ≡ 0 = omega arith in
-    let both : bit_and (x / 2) ((x - 1) / 2) ≡ m = cc (and_self m) in
-    omega (arith, and_step x (x - 1))
-and_less (false ∷ bits) =
-    let m = mask_l bits in
-    let x = 0 + 2 * m in
-    let half : x / 2 ≡ m = omega arith in
-    let less : (x - 1) / 2 ≡ m - 1 = omega arith in
-    let low : min (x % 2) ((x - 1) % 2) ≡ 0 = omega arith in
-    let both : bit_and (x / 2) ((x - 1) / 2) ≡ mask_l (clear_first bits) = cc (and_less bits) in
-    omega (arith, and_step x (x - 1))
+and_less (true ∷ bits) = grind (arith, and_self, and_step)
+and_less (false ∷ bits) = grind (arith, and_less bits, and_step)
 
 -- the lowest set bit is cleared
 pub cleared : (n : ℕ) {x : ℕ} (bits : List Bool) → x < 2 ^ 64 → x ≡ mask_l (without n bits)
@@ -110,10 +96,7 @@ pub after_set : (p : ℕ → Bool) (xs : List ℕ) (n : ℕ) {rest : ℕ} → le
 after_set p xs n few lt is =
     let bits = map p xs in
     let here = behind p 0 xs n lt in
-    let (within, _, _) = here in
-    let long : length (without n bits) ≡ length xs = length-without n bits ∙ length-map xs p in
-    subst (IsNth p 0 n xs)
-    (sym (cc (is, lowest_set (without n bits) (omega (arith, long)) (omega (arith, long, within))))) here
+    grind (arith, common_steps, length-without, lowest_set)
 
 -- the lowest n bits are shifted out
 shifted : (n : ℕ) (bits : List Bool) → mask_l bits / 2 ^ n ≡ mask_l (drop n bits)
@@ -121,7 +104,7 @@ shifted zero bits = div-one (mask_l bits)
 shifted (suc n) [] = zero-div (2 ^ suc n)
 shifted (suc n) (b ∷ bits) =
     let half : (b : Bool) → (cond b 1 0 + 2 * mask_l bits) / 2 ≡ mask_l bits =
-    elim [ true ↦ omega arith | false ↦ omega arith ] in
+    grind arith in
     ap (λ k. mask_l (b ∷ bits) / k) (pow-suc 2 n ∙ mul_comm (2 ^ n) 2)
     ∙ sym (div-div-eq-div-mul (mask_l (b ∷ bits)) 2 (2 ^ n)) ∙ ap (λ x. x / 2 ^ n) (half b) ∙ shifted n bits
 
@@ -143,7 +126,7 @@ module _ (p : ℕ → Bool) (bytes : List ℕ) (size : ℕ) (within : size ≤ l
   first_in_rest (Some at) (first, found) = (
     record {
       low = omega arith;
-      high = omega (arith, first.high, length-drop size bytes);
+      high = grind (arith, common_steps);
       before = nowhere_trans (Passes p bytes) 0 size (size + at) front
           (λ k low high passes. first.before (k - size) (omega arith) (omega arith) (there k low passes));
     },
@@ -186,15 +169,14 @@ module _ (p : ℕ → Bool) (bytes : List ℕ) where
 
   pub some_counted : (xs : List ℕ) → 0 < mask_l (map p xs) → 0 < count_by p xs
   some_counted [] lt = absurd (omega arith)
-  some_counted (x ∷ xs) lt = grind (arith, some_counted xs, sum_by-cons (λ b. cond (p b) 1 0) x xs)
+  some_counted (x ∷ xs) lt = grind (arith, common_steps, some_counted xs, sum_by-cons)
 
 -- ---- by the first match
 
 module _ (d : ℕ) (line : List ℕ) where
   pub none_counted : (bytes : List ℕ) → IsLine d bytes → count_by (is_byte d) bytes ≡ 0
   none_counted [] free = refl
-  none_counted (b ∷ bytes) (differs, free) =
-      cc (sum_by-cons (λ x. cond (is_byte d x) 1 0) b bytes, byte_ne d b differs, none_counted bytes free)
+  none_counted (b ∷ bytes) (differs, free) = grind (arith, none_counted bytes free, sum_by-cons, byte_ne)
 
   -- the first delimiter is the one after 0 others
   module _ (to : ℕ) (le : to ≤ length line) where
@@ -205,11 +187,7 @@ module _ (d : ℕ) (line : List ℕ) where
 
     pub no_nth_before_first : (at : ℕ) → IsFirstByte (is_byte d) line (Some at) → to ≤ at
         → count_by (is_byte d) (take to line) ≤ 0
-    no_nth_before_first at first ge = omega (
-      arith,
-      count_up_to (is_byte d) line to at ge,
-      none_counted (take at line) (line_before_terminator d line at first),
-    )
+    no_nth_before_first at first ge = grind (arith, count_up_to, none_counted, line_before_terminator)
 
     pub no_nth : IsFirstByte (is_byte d) line None → count_by (is_byte d) (take to line) ≤ 0
     no_nth none = grind (arith, common_steps, none_counted, line_if_not_found)
@@ -228,8 +206,8 @@ module _ (p : ℕ → Bool) (bytes : List ℕ) (start end : ℕ) (fits : end < l
   next_is =
       let whole : start + (end - start) ≡ end = omega (arith, in_order) in
       first_is p (drop start bytes) (end - start) (
-        omega (arith, length-drop start bytes, fits, in_order),
-        cc (get_or-drop start bytes (end - start) 0, is),
+        grind (arith, common_steps, in_order),
+        grind (arith, common_steps),
         omega (
           arith,
           same,
@@ -258,16 +236,11 @@ module _ {d : ℕ} {block : List ℕ} {from all marked : ℕ} (n start : ℕ) (h
       let bit = count_trailing_zeros 64 marked in
       let room : from + 64 ≤ length block = omega arith in
       let nth : IsNth p 0 n v bit = after_set p v n (omega (arith, length-chunk from 64 block room))
-      (omega (arith, ap count_ones h.is, ones-mask_l p v)) bits in
+      (grind (arith, ones-mask_l)) bits in
       let close : bit < 64 = near p block 64 from n bit room nth in
       let fits : from + bit < length block = omega (arith, close, room) in
       let (_, passes, _) = nth in
       let is : p (get_or block (from + bit) 0) ≡ true = cc (get_or-chunk from 64 block bit 0 close, passes) in
       let as_many : count_by p (take (from + bit) block) ≡ count_by p (take start block) =
       count_in_prefix p block 64 from n bit room nth ∙ sym ends in
-      record {
-        near = close;
-        order = in_order p block start _ fits is as_many;
-        first = next_is p block start _ fits is as_many;
-        counted = grind (arith, common_steps, one_after);
-      }
+      grind (arith, near, in_order, next_is, one_after)

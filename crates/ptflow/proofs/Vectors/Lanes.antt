@@ -11,6 +11,7 @@ use Rattle.std.specs.Prelude.{is_some}
 use Rattle.ptflow.specs.declared.simd.shift.ShiftRange.{ShiftRange}
 pub use Rattle.std.proofs.lemmas.List.{map-id}
 use Rattle.ptlangs.specs.declared.tr.shifts.Stretch.{Stretch}
+use Rattle.std.proofs.Common.{rules}
 
 -- ---- lanes that are computed from bytes
 
@@ -81,12 +82,7 @@ stretch_taken : (ss : List Stretch) (i b : ℕ)
 stretch_taken [] zero b = omega arith
 stretch_taken [] (suc i) b = omega arith
 stretch_taken (s ∷ ss) zero b = omega arith
-stretch_taken (s ∷ ss) (suc i) b =
-    let after = λ (n : ℕ). sum_by-cons (λ s. shift_at s b) s (take n ss) in
-    let more : stretch_sum (take (suc (suc i)) (s ∷ ss)) b ≡ shift_at s b + stretch_sum (take (suc i) ss) b =
-    after (suc i) in
-    let fewer : stretch_sum (take (suc i) (s ∷ ss)) b ≡ shift_at s b + stretch_sum (take i ss) b = after i in
-    omega (arith, more, fewer, stretch_taken ss i b)
+stretch_taken (s ∷ ss) (suc i) b = search (rules, stretch_taken ss i b, sum_by-cons)
 
 range_added : (ranges : List ShiftRange) (last : ShiftRange) (b : ℕ)
     → range_sum (ranges ++ last ∷ []) b ≡ range_sum ranges b + range_delta last b
@@ -104,7 +100,7 @@ one_stretch_more ranges ss i range b room before is =
 pub all_stretches : (n : ℕ) (ss : List Stretch) → is_some (stretch_at ss n) ≡ false → length ss ≤ n
 all_stretches n [] none = omega arith
 all_stretches zero (s ∷ ss) none = absurd (false≢true (sym none))
-all_stretches (suc n) (s ∷ ss) none = let rest = all_stretches n ss none in omega (arith, rest)
+all_stretches (suc n) (s ∷ ss) none = grind (arith, all_stretches n ss none)
 
 -- the shift of one range more is added to each lane
 pub one_range_more : (ranges : List ShiftRange) (i : ℕ) (default : ShiftRange) (v : List ℕ) {images deltas : List ℕ}

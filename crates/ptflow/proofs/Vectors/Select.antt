@@ -2,9 +2,9 @@
 -- slice; so the selected items are these slices in order.
 use Rattle.ptflow.proofs
 use proofs.Common.{common_steps, ◌≡◌, ⊎_elim, ℕ, zero, suc, ◌+◌, ◌-◌, ◌<◌, ◌≤◌, Bool, true, false, cond, ◌&&◌, ◌||◌}
-use proofs.Common.{List, [], ◌∷◌, ◌++◌, length, take, drop, get_or, min, append_assoc, length-drop, refl, sym, ◌∙◌, ap}
-use proofs.Common.{arith, nat_le, false≢true, nat_tests, take_all, drop_all, take-take, drop_more, length-take-le}
-use proofs.Common.{drop-append-le, is_selected, AreSeparated, Interval, select_from, cases_lt}
+use proofs.Common.{List, [], ◌∷◌, ◌++◌, length, take, drop, get_or, min, append_assoc, refl, sym, ap, arith, nat_le}
+use proofs.Common.{false≢true, nat_tests, drop_all, take-take, drop_more, length-take-le, drop-append-le, is_selected}
+use proofs.Common.{AreSeparated, Interval, select_from, cases_lt}
 use Rattle.std.proofs.lemmas.List.{take-append-drop}
 use proofs.CutLemmas.FieldOffsets.{rest_of}
 use lib.Seq.{take-nil}
@@ -29,14 +29,13 @@ above r n high = grind (arith, nat_tests)
 pub not_selected : (rs : List Interval) (low n : ℕ) → AreSeparated low rs → n ≤ low → is_selected rs n ≡ false
 not_selected [] low n apart out = refl
 not_selected (r ∷ rs) low n apart out =
-    rw (below r n (omega (arith, apart.0))) (not_selected rs (r.last + 1) n apart.2 (omega (arith, apart.0, apart.1)))
+    grind (arith, not_selected rs (r.last + 1) n apart.2 (omega (arith, apart.0, apart.1)), below, apart)
 
 -- no item is selected
 pub select_none : {X : Type 0} (test : ℕ → Bool) (n : ℕ) (xs : List X)
     → ((k : ℕ) → n ≤ k → k < n + length xs → test k ≡ false) → select_from test n xs ≡ []
 select_none test n [] out = refl
-select_none test n (x ∷ xs) out = rw (out n (omega arith) (omega arith))
-    (select_none test (n + 1) xs (λ k low high. out k (omega arith) (omega arith)))
+select_none test n (x ∷ xs) out = grind (arith, select_none test (n + 1) xs (grind arith))
 
 pub select_past : {X : Type 0} (r : Interval) (n : ℕ) (xs : List X) → r.last < n → select_from (is_within r) n xs ≡ []
 select_past r n xs past = select_none (is_within r) n xs (λ k low high. above r k (omega arith))
@@ -74,10 +73,7 @@ pub select_skip : {X : Type 0} (test : ℕ → Bool) (n count : ℕ) (xs : List 
     → select_from test n xs ≡ select_from test (n + count) (drop count xs)
 select_skip test n zero xs out = let same : n + 0 ≡ n = omega arith in rw same refl
 select_skip test n (suc count) [] out = refl
-select_skip test n (suc count) (x ∷ xs) out =
-    let same : n + suc count ≡ (n + 1) + count = omega arith in
-    rw (out n (omega arith) (omega arith), same)
-    (select_skip test (n + 1) count xs (λ k low high. out k (omega arith) (omega arith)))
+select_skip test n (suc count) (x ∷ xs) out = grind (arith, select_skip test (n + 1) count xs (grind arith))
 
 -- the items of one interval are a slice, from index i to index j
 pub select_slice : {X : Type 0} (r : Interval) (n : ℕ) (xs : List X) (i j : ℕ) → i ≡ r.first - n → j ≡ r.last + 1 - n
@@ -86,13 +82,9 @@ select_slice r n [] zero j is js = sym (take-nil (j - 0))
 select_slice r n [] (suc i) j is js = sym (take-nil (j - suc i))
 select_slice r n (x ∷ xs) i zero is js = grind (arith, select_past)
 select_slice r n (x ∷ xs) zero (suc j) is js =
-    let whole : suc j - 0 ≡ suc j = omega arith in
-    let rest : j - 0 ≡ j = omega arith in
-    rw (inside r n (omega arith) (omega arith), whole) (ap (◌∷◌ x)
-    (cc (select_slice r (n + 1) xs zero j (omega arith) (omega arith))))
+    grind (arith, common_steps, select_slice r (n + 1) xs zero j (omega arith) (omega arith), inside)
 select_slice r n (x ∷ xs) (suc i) (suc j) is js =
-    let same : suc j - suc i ≡ j - i = omega arith in
-    rw (below r n (omega arith), same) (select_slice r (n + 1) xs i j (omega arith) (omega arith))
+    grind (arith, select_slice r (n + 1) xs i j (omega arith) (omega arith), below)
 
 -- The invariant of `copy_selected`: the selected bytes of the intervals so far were copied, and the others select the
 -- rest of the piece; then comes the tail. The copied bytes are no longer than the part of the piece that the intervals
@@ -133,15 +125,7 @@ module _ {all : List Interval} {before : ℕ} {piece tail was : List ℕ} {start
       next : (is ++ select_from (is_within r) (before + 1) piece)
           ++ (select_from (is_selected rs) (before + 1) piece ++ tail) ≡ was
           ++ (select_from (is_selected all) (before + 1) piece ++ tail)
-      next =
-          cc (
-            append_assoc is (select_from (is_within r) (before + 1) piece)
-                (select_from (is_selected rs) (before + 1) piece ++ tail),
-            append_assoc (select_from (is_within r) (before + 1) piece)
-                (select_from (is_selected rs) (before + 1) piece) tail,
-            select_first r rs (before + 1) piece apart.2,
-            drop_more all i (record { first = 0; last = 0 }) within,
-          )
+      next = grind (arith, common_steps, select_first, apart)
 
       -- the bytes of the interval fit before the end of the part that it covers
       pub copy_room : at + ((r.last - before) - (r.first - (before + 1))) ≤ start + (r.last - before)
@@ -151,14 +135,7 @@ module _ {all : List Interval} {before : ℕ} {piece tail was : List ℕ} {start
       pub copy_next : {is' : List ℕ} {at' : ℕ} → is' ≡ is ++ select_from (is_within r) (before + 1) piece
           → at' ≡ at + ((r.last - before) - (r.first - (before + 1))) → r.last < before + 1 + length piece
           → CopyInvariant all (i + 1) before piece tail was is' start at'
-      copy_next is_is at_is short = record {
-        front = cc (next);
-        low = r.last + 1;
-        apart = apart.2;
-        near = omega (arith, copy_room);
-        within = omega
-            (arith, copy_room);
-      }
+      copy_next is_is at_is short = grind (arith, next, apart, copy_room)
 
       pub copy_ends : before + length piece ≤ r.last
           → is ++ (select_from (is_within r) (before + 1) piece ++ tail)
@@ -166,7 +143,7 @@ module _ {all : List Interval} {before : ℕ} {piece tail was : List ℕ} {start
       copy_ends reaches =
           cc (
             select_none (is_selected rs) (before + 1) piece
-                (λ m low high. not_selected rs (r.last + 1) m apart.2 (omega arith)),
+                (grind (arith, not_selected, apart)),
             append_assoc is (select_from (is_within r) (before + 1) piece)
                 (select_from (is_selected rs) (before + 1) piece ++ tail),
             next,
@@ -192,9 +169,7 @@ rest_is r before count bytes within reaches =
     let i = r.first - (before + 1) in
     let long : length (take count bytes) ≡ count = length-take-le count bytes within in
     let piece : select_from (is_within r) (before + 1) (take count bytes) ≡ drop i (take count bytes) =
-    select_slice r (before + 1) (take count bytes) i (r.last + 1 - (before + 1)) refl refl
-    ∙ take_all (r.last + 1 - (before + 1) - i) (drop i (take count bytes))
-    (omega (arith, long, length-drop i (take count bytes))) in
+    grind (arith, common_steps, select_slice, long) in
     cc (
       take-append-drop count bytes,
       drop-append-le (min i count) (take count bytes) (drop count bytes)
@@ -245,6 +220,4 @@ module _ {all : List Interval} {before count end : ℕ} (bytes : List ℕ) {was 
           → at_i.last < before + count → is' ≡ is ++ take (to - from) (drop from bytes)
           → CopyInvariant all (i + 1) before piece tail was is' start (at + (to - from))
       copied_more {from} {to} from_is to_is short copied =
-          copy_next k within
-          (cc (slice_is at_i before count bytes (omega (arith, in_piece)) short, take-take count end bytes in_piece))
-          (omega arith) (omega (arith, piece_long, short))
+          grind (arith, common_steps, copy_next, slice_is, piece_long)

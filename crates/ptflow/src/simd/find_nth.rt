@@ -36,6 +36,7 @@ fn nth_bit(mask: u64, count: u64) -> usize
 
 // The index of the match after `before` others in `from..to`, byte by byte. For the last bytes.
 #[inline(never)]
+#[tactic(auto, using(crate::proofs::Vectors::FindNth::count_up_to))]
 fn nth_tail(byte: u8, bytes: &[u8], from: usize, to: usize, before: u64) -> Option<usize>
     requires { to ≤ length bytes.now }
     ensures { IsNthResult (is_byte byte) (before + count_by (is_byte byte) (take from bytes.now))

@@ -127,6 +127,7 @@ impl<const N: usize> ByteMap for ShiftRanges<N> {
 }
 
 /// Stores the images of the bytes of `from` by the shifts in `to`. Both slices have the same length.
+#[tactic(auto, using(crate::proofs::Vectors::Lanes::all_stretches, crate::proofs::Vectors::Lanes::images_same))]
 pub fn translate(shifts: &Shifts, from: &[u8], to: &mut [u8])
     requires { length to.old ≡ length from.now }
     ensures { to.new ≡ map (image_of_shifts shifts.now) from.now }

@@ -13,6 +13,7 @@ use std::simd::prelude::*;
 
 // The entries of each row, indexed by the low nibbles of the bytes.
 #[inline(always)]
+#[tactic(auto, using(crate::proofs::Vectors::Tables::filled_next, std::proofs::lemmas::Grind::common_steps))]
 fn look_up_rows<const N: usize>(rows: [u8x16; N], v: u8x16) -> [u8x16; N]
     ensures lanes { All (λ row. length row ≡ 16) result }
     ensures found { (row : ℕ) → row < N
@@ -133,6 +134,7 @@ impl MovedRange {
 
     /// Stores the images of the bytes of `from` in `to`, which is as long. (Four rows have room for the letters of both
     /// cases, and five for the digits, too.)
+    #[tactic(auto, using(crate::proofs::Vectors::Lanes::images_same))]
     pub(crate) fn store_images(self, images: &[u8; 256], from: &[u8], to: &mut [u8])
         requires moved { HasMoved self images.now }
         requires long { length to.old ≡ length from.now }

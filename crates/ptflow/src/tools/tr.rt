@@ -59,6 +59,7 @@ impl<'a> Translation<'a> {
     }
 
     // The bytes of `block` that are not deleted, in `into`.
+    #[tactic(auto, using(crate::proofs::Vectors::Lanes::filter_same, crate::proofs::Vectors::Lanes::bytes_fit))]
     fn kept<'b>(&self, block: &'b [u8], into: &'b mut OutBuf) -> &'b [u8]
         requires { length block.now ≤ 8192 }
         ensures kept { result.now ≡ filter (λ b. not (deletes self.now.plan.now b)) block.now }
@@ -87,6 +88,7 @@ impl<'a> Translation<'a> {
     }
 
     // The bytes that are left after squeezing, in `into`. `last` is the byte before `bytes`, if there is one.
+    #[tactic(auto, using(crate::proofs::TrLemmas::TrFrom::same_from, crate::proofs::TrLemmas::TrFrom::from_all))]
     fn squeezed<'b>(&self, last: Option<u8>, bytes: &'b [u8], into: &'b mut OutBuf) -> &'b [u8]
         requires { length bytes.now ≤ 8192 }
         ensures { result.now ≡ squeeze_from (squeezes self.now.plan.now) last bytes.now }

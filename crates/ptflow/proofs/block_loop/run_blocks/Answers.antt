@@ -1,10 +1,9 @@
 -- Each iteration processes one block, and the contract of `process_block` preserves the invariant. Each exit is a lemma
--- of `BlockLoop`. The budget decreases, since a block that is not empty is consumed.
+-- of `Exits`. The budget decreases, since a block that is not empty is consumed.
 use Rattle.ptflow.proofs
 use proofs.Common.{◌≡◌, [], length, refl, sym, ◌∙◌, arith, eqb-true, nil_from_length, reads_nothing}
-use proofs.Passes.BlockLoop.{BlockLoopState, blocks_start, block_sent, block_taken, counted_more, block_read}
-use proofs.Passes.BlockLoop.{block_write, block_flush_failed, block_done, block_unended}
-use proofs.Passes.Exits.{by_write}
+use proofs.Passes.BlockLoop.{BlockLoopState, blocks_start, block_sent, block_taken, counted_more, block_read, ending}
+use proofs.Passes.Exits.{by_write, nothing_more, pass_write, pass_done, pass_unended}
 use Rattle.ptflow.proofs.block_loop.run_blocks.Given as given
 use Rattle.ptflow.proofs.block_loop.run_blocks.Goals as goal
 use Rattle.ptflow.proofs.block_loop.run_blocks.Goals.{In_ok-write_out_before_blocking}
@@ -22,9 +21,10 @@ reading-init g c = record { run = blocks_start c.requires.readable c.requires.cl
 pub returns-in_err-write_out_before_blocking : goal.returns-in_err-write_out_before_blocking
 returns-in_err-write_out_before_blocking g c =
     let sound = c.write_out_before_blocking.ensures.sound in
-    λ t tool store ready. by_write c.from_residual.ensures
-    (block_flush_failed c.reading.invariant.run tool ready sound (reads_nothing c.reading.reader) sound
-    c.write_out_before_blocking.ensures.pushed.wrote c.in_err-write_out_before_blocking.ensures.pushed.fault refl)
+    λ t tool store ready.
+    let end = ending c.reading.invariant.run tool ready sound (reads_nothing c.reading.reader) sound in
+    by_write c.from_residual.ensures (pass_write end c.write_out_before_blocking.ensures.pushed.wrote (nothing_more end)
+    c.in_err-write_out_before_blocking.ensures.pushed.fault refl ready.not_denied)
 
 pub returns-in-Err : goal.returns-in-Err
 returns-in-Err g c =
@@ -38,9 +38,10 @@ returns-in_err-process_block-in-Ok g c =
     let b = c.block.follows.holds-at-none in
     let run = written_out g (goal.at.returns-in_err-process_block-in-Ok g c).In_ok-write_out_before_blocking in
     let (refilled, shown, ended) = (rw c.in-Ok.is at b.shows) run.reached.advance_ok.fault in
+    let halted = c.in_err-process_block-in-Ok.ensures.halts in
     λ t tool store ready. by_write c.from_residual-in_err-process_block-in-Ok.ensures
-    (block_write run tool ready b.was_sound refilled.reads b.is_sound shown
-    c.in_err-process_block-in-Ok.ensures.halts refilled.failed)
+    (pass_write (ending run tool ready b.was_sound refilled.reads b.is_sound) halted.wrote
+    (λ rest may. rw shown (halted.is_prefix rest)) halted.fault refilled.failed ready.not_denied)
 
 pub returns-then-is_empty : goal.returns-then-is_empty
 returns-then-is_empty g c =
@@ -50,9 +51,9 @@ returns-then-is_empty g c =
     let none : c.in-Ok.block.now ≡ [] =
     nil_from_length c.in-Ok.block.now
     (eqb-true (length c.in-Ok.block.now) 0 (sym c.is_empty.ensures ∙ c.if-is_empty.true)) in
-    λ t tool store ready. block_done run tool ready b.was_sound refilled.reads b.is_sound
-    c.finish.ensures.wrote (ended none) refilled.failed c.in_ok-finish-in-Ok.ensures.clean refilled.fault
-    (b.is_sound.long refilled.fault)
+    λ t tool store ready. pass_done (ending run tool ready b.was_sound refilled.reads b.is_sound) c.finish.ensures.wrote
+    (ended none) refl refilled.failed ready.not_denied c.in_ok-finish-in-Ok.ensures.clean refilled.fault
+    (b.is_sound.long refilled.fault) ready.empty
 
 pub returns-in_err-finish-in-Ok : goal.returns-in_err-finish-in-Ok
 returns-in_err-finish-in-Ok g c =
@@ -63,8 +64,8 @@ returns-in_err-finish-in-Ok g c =
     nil_from_length c.in-Ok.block.now
     (eqb-true (length c.in-Ok.block.now) 0 (sym c.is_empty.ensures ∙ c.if-is_empty.true)) in
     λ t tool store ready. by_write c.from_residual-in_err-finish-in-Ok.ensures
-    (block_unended run tool ready b.was_sound refilled.reads b.is_sound
-    c.finish.ensures.wrote (ended none) refilled.failed c.in_err-finish-in-Ok.ensures.fault)
+    (pass_unended (ending run tool ready b.was_sound refilled.reads b.is_sound) c.finish.ensures.wrote (ended none) refl
+    refilled.failed ready.not_denied c.in_err-finish-in-Ok.ensures.fault)
 
 pub reading-preserved : goal.reading-preserved
 reading-preserved g c =

@@ -12,10 +12,8 @@ use proofs.Passes.Slots.{bounds_start, swapped_room}
 use Rattle.ptflow.proofs.line_loop.run_lines.Given as given
 use Rattle.ptflow.proofs.line_loop.run_lines.Goals as goal
 use Rattle.ptflow.proofs.line_loop.run_lines.Goals.{In_ok-write_out_before_blocking, In_ok-process_line-in-Ok-true}
-use Rattle.ptflow.proofs.line_loop.run_lines.Goals.{In_ok-write_out_before_blocking-2}
 
--- the state after the buffered output was written; after the line in the last slot; and after the output was written
--- again
+-- the state after the buffered output was written, and after the line in the last slot
 written_out : (g : given.Over) (c : In_ok-write_out_before_blocking g) → let T = g.T.LineFilter in
     LineLoopState T.model (T.rest c.args.tool.now) (T.written c.args.tool.now) T.counted
     (T.tool c.args.tool.now).end T.SLOTS c.args.state.now (T.model c.reading.state c.reading.store)
@@ -37,22 +35,6 @@ line_taken g c =
     let took = c.in_ok-process_line-in-Ok-true.ensures in
     run_line c.requires.tool r e {next = g.T.LineFilter.model c.process_line.new.state c.process_line.new.store}
     took.continues took.swapped
-
-sent_again : (g : given.Over) (c : In_ok-write_out_before_blocking-2 g) → let T = g.T.LineFilter in
-    LineLoopState T.model (T.rest c.args.tool.now) (T.written c.args.tool.now) T.counted
-    (T.tool c.args.tool.now).end T.SLOTS c.args.state.now
-    (T.model c.process_line.new.state c.process_line.new.store) c.args.reader.now c.fill.new.self c.args.out.now
-    c.write_out_before_blocking-in-reading.new.out c.args.store.now c.process_line.new.store
-sent_again g c =
-    let r = run_sent c.requires.tool c.reading.invariant c.write_out_before_blocking.ensures.pushed.wrote
-    c.in_ok-write_out_before_blocking.ensures.pushed.clean in
-    let e = filled_line c.requires.slots c.in-Ok-true.field-0-test
-    (c.in-Ok-true.ensures.fills r.reached.advance_ok.fault) in
-    let took = c.in_ok-process_line-in-Ok-true.ensures in
-    let v = run_line c.requires.tool r e {next = g.T.LineFilter.model c.process_line.new.state c.process_line.new.store}
-    took.continues took.swapped in
-    run_sent c.requires.tool v c.write_out_before_blocking-in-reading.ensures.pushed.wrote
-    c.in_ok-write_out_before_blocking-2.ensures.pushed.clean
 
 pub returns-in_err-ensure_slots : goal.returns-in_err-ensure_slots
 returns-in_err-ensure_slots g c =
@@ -165,7 +147,9 @@ process_lines-requires-clause-buffered g c =
 
 pub returns-in_err-passed-in-Ok : goal.returns-in_err-passed-in-Ok
 returns-in_err-passed-in-Ok g c =
-    let u = sent_again g (goal.at.returns-in_err-passed-in-Ok g c).In_ok-write_out_before_blocking-2 in
+    let v = line_taken g (goal.at.returns-in_err-passed-in-Ok g c).In_ok-process_line-in-Ok-true in
+    let u = run_sent c.requires.tool v c.write_out_before_blocking-in-reading.ensures.pushed.wrote
+    c.in_ok-write_out_before_blocking-2.ensures.pushed.clean in
     let (refilled, shown, _) = (rw c.in-Ok.is at c.block.follows.holds-at-none.shows) u.reached.advance_ok.fault in
     by_write c.from_residual-in_err-passed-in-Ok.ensures
     (run_block_halts c.requires.tool u c.requires.begins.ready c.fill.ensures.is_sound refilled.reads
@@ -173,14 +157,18 @@ returns-in_err-passed-in-Ok g c =
 
 pub returns-in-Err : goal.returns-in-Err
 returns-in-Err g c =
-    let u = sent_again g (goal.at.returns-in-Err g c).In_ok-write_out_before_blocking-2 in
+    let v = line_taken g (goal.at.returns-in-Err g c).In_ok-process_line-in-Ok-true in
+    let u = run_sent c.requires.tool v c.write_out_before_blocking-in-reading.ensures.pushed.wrote
+    c.in_ok-write_out_before_blocking-2.ensures.pushed.clean in
     let (failed, cause, _) = (rw c.in-Err.is at c.block.follows.holds-at-none.shows) u.reached.advance_ok.fault in
     run_no_block c.requires.tool u c.requires.begins.ready c.fill.ensures.is_sound failed.reads
     c.block.follows.holds-at-none.is_sound cause
 
 pub reading-preserved : goal.reading-preserved
 reading-preserved g c =
-    let u = sent_again g (goal.at.reading-preserved g c).In_ok-write_out_before_blocking-2 in
+    let v = line_taken g (goal.at.reading-preserved g c).In_ok-process_line-in-Ok-true in
+    let u = run_sent c.requires.tool v c.write_out_before_blocking-in-reading.ensures.pushed.wrote
+    c.in_ok-write_out_before_blocking-2.ensures.pushed.clean in
     let (refilled, shown, _) = (rw c.in-Ok.is at c.block.follows.holds-at-none.shows) u.reached.advance_ok.fault in
     let rest = c.in_ok-passed-in-Ok.ensures in
     run_block c.requires.tool u refilled shown rest.passed c.consume.ensures.consumed

@@ -20,6 +20,7 @@ fn is_blank(byte: u8) -> bool
 
 // Skips the bytes before the first blank. Out of line, so that a blank near the start is found without a call.
 #[inline(never)]
+#[tactic(auto, using(crate::proofs::UniqLemmas::Keys::after_not_found, std::proofs::lemmas::Grind::common_steps))]
 fn skip_nonblanks_cold(line: &[u8]) -> &[u8]
     ensures { result.now ≡ after_nonblanks line.now }
 {
@@ -84,6 +85,7 @@ fn skip_nonblanks(line: &[u8]) -> &[u8]
 }
 
 // Skips one field, which is blanks and then other bytes.
+#[tactic(auto, using(crate::proofs::UniqLemmas::Keys::other_first, crate::proofs::UniqLemmas::Keys::after_one))]
 fn skip_field(line: &[u8]) -> &[u8]
     ensures { result.now ≡ after_fields 1 line.now }
 {

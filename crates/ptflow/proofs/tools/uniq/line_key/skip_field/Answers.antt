@@ -1,12 +1,7 @@
 -- The blanks are skipped one by one, and then the bytes up to the next blank, which are the rest of the field.
 use Rattle.ptflow.proofs.Common.{◌≡◌, [], sym, ◌∙◌, ap, arith, nil_from_length}
-use Rattle.ptflow.proofs.UniqLemmas.Keys.{suffix_at, suffix_none, after_one, other_first}
+use Rattle.ptflow.proofs.UniqLemmas.Keys.{suffix_at, suffix_none, after_one}
 use Rattle.ptflow.proofs.tools.uniq.line_key.skip_field.Goals as goal
-
-pub returns-then-not-is_blank : goal.returns-then-not-is_blank
-returns-then-not-is_blank c =
-    c.skip_nonblanks.ensures ∙ sym (other_first c.blanks.rest.now c.in-len1-up.len_at_least
-    (sym c.is_blank.ensures ∙ c.if-not-is_blank.true)) ∙ c.blanks.invariant ∙ sym (after_one c.args.line.now)
 
 pub returns : goal.returns
 returns c = let none : c.blanks.rest.now ≡ [] = nil_from_length c.blanks.rest.now (omega arith) in
