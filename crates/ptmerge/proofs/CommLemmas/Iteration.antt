@@ -125,11 +125,15 @@ module _ {job : Comm} {cmp : Cmp} {key : Side → Key} {old now : MergeState} {o
   abbrev head : Side → List ℕ
   head s = line now.store (both one two s).current_slot
 
+  -- the input `s` advanced, with this output
+  abbrev Advances : Side → Sorted → Sorted → Reader → Slots → Output → Type 0
+  Advances s one2 two2 reader after new =
+      AdvanceOkPost key cmp s one two one2 two2 (now.reader s) reader now.store after new
+
   -- a step for a line of one input alone
   module _ {s : Side} (step : HasOnlyLeastKey cmp key (both one two) now.store s) where
     pub alone_decreases : {one2 two2 : Sorted} {reader : Reader} {after : Slots} {new : Output}
-        → AdvanceOkPost key cmp s one two one2 two2 (now.reader s) reader now.store after new
-        → reads_ahead (with_side s reader now.reader) one2 two2 < reads_ahead now.reader one two
+        → Advances s one2 two2 reader after new → reads_ahead (with_side s reader now.reader) one2 two2 < reads_ahead now.reader one two
     alone_decreases h = reads_less between s h.continues step.status_is h.came
 
     module _ {new : Output} {tabs : List ℕ} (led : tabs ≡ tabs_of job s) (pushed : PushEffect now.out new
@@ -145,7 +149,7 @@ module _ {job : Comm} {cmp : Cmp} {key : Side → Key} {old now : MergeState} {o
           (rw ((sides s).lines_read.terminator, led) at pushed)))
 
       pub alone_continues : {one2 two2 : Sorted} {reader : Reader} {after : Slots}
-          → AdvanceOkPost key cmp s one two one2 two2 (now.reader s) reader now.store after new
+          → Advances s one2 two2 reader after new
           → IterationInvariant job cmp key old (state_by_side (with_side s reader now.reader) new after) one2 two2
       alone_continues {one2} {two2} {reader} h = record {
         opened = w;
@@ -163,14 +167,13 @@ module _ {job : Comm} {cmp : Cmp} {key : Side → Key} {old now : MergeState} {o
   -- a step for a line of both inputs, after the first input advanced: the second one is still at the line
   pub second_advance_pre : HaveEqualKeys cmp key (both one two) now.store
       → {one2 two2 : Sorted} {reader : Reader} {after : Slots} {mid : Output}
-      → AdvanceOkPost key cmp First one two one2 two2 (now.reader First) reader now.store after mid
+      → Advances First one2 two2 reader after mid
       → AdvancePre key Second one2 two2 (now.reader Second) after
   second_advance_pre step h = grind (arith, advance_pre, between_next)
 
   module _ (step : HaveEqualKeys cmp key (both one two) now.store) where
     pub pair_decreases : {one2 two2 one3 two3 : Sorted} {reader reader2 : Reader} {after last : Slots}
-        {mid new : Output}
-        → AdvanceOkPost key cmp First one two one2 two2 (now.reader First) reader now.store after mid
+        {mid new : Output} → Advances First one2 two2 reader after mid
         → AdvanceOkPost key cmp Second one2 two2 one3 two3 (now.reader Second) reader2 after last new
         → reads_ahead (both reader reader2) one3 two3 < reads_ahead now.reader one two
     pair_decreases h k = grind (arith, reads_less, between_next, second_advance_pre)
@@ -205,8 +208,7 @@ module _ {job : Comm} {cmp : Cmp} {key : Side → Key} {old now : MergeState} {o
 
       -- the first input advanced, and the output was written out
       module _ {one2 two2 : Sorted} {reader : Reader} {after : Slots}
-          (h : AdvanceOkPost key cmp First one two one2 two2 (now.reader First) reader now.store after mid)
-          {new : Output} (written_out : PushEffect mid new []) where
+          (h : Advances First one2 two2 reader after mid) {new : Output} (written_out : PushEffect mid new []) where
         wrote_line_out : MergeInvariant tool b both_written old.out new
         wrote_line_out = let (m, _) = wrote_both (wrote_and_sent _ _ _ _ h.continues.clean wrote_pair written_out) in m
 

@@ -19,7 +19,7 @@ use proofs.MergeLemmas.Invariant.{output_of, Bound, NoBound, AtLeast, AfterDisor
 use proofs.MergeLemmas.Invariant.{IsSortedUpTo, sorted_up_to_more, is_disordered, IsProcessedPrefix}
 use proofs.MergeLemmas.Invariant.{processed_before_line, processed_all, processed_to_disorder, processed_to_line}
 use proofs.MergeLemmas.Invariant.{LagInvariant, MergeInvariant, InputSplit, IsExactStop, is_continuation, input_split}
-use proofs.MergeLemmas.Invariant.{all_keys, under_fall, sorted_after}
+use proofs.MergeLemmas.Invariant.{all_keys, under_fall}
 use proofs.MergeLemmas.LinesRead.{LinesRead, HoldsLines, HasBegun, begun_gives_line, one_line_and_block}
 use proofs.MergeLemmas.LinesRead.{lines_read_more, lines_read_eof, Continues, KnownLines, lines_read_known}
 use proofs.MergeLemmas.LinesRead.{lines_read_of_input}
@@ -30,35 +30,21 @@ use Rattle.ptlines.proofs.MaxLength.{max_length-append}
 use Rattle.std.proofs.Common.{rules}
 use Rattle.std.proofs.lemmas.Grind.{common_steps}
 
+-- the current line becomes a processed line
+pub record IsAtCurrentLine (cmp : Cmp) (key : Key) (number : ℕ) (x : List ℕ) (ls p : Lines) (b : Bound) : Type 0 where
+  pub all : ls ≡ p ++ x ∷ []
+  pub sorted_up_to : IsSortedUpTo cmp key ls (Some (key x))
+  pub bound : b ≡ AtLeast (key x)
+  pub some : 0 < number
+
 -- The lines `ls` are read and `p` of them are processed: the last one is the current line, or there is none, or it is
 -- out of order.
 abbrev pub MatchesStatus : Cmp → Key → CursorStatus → Sorted → Slots → Reader → Lines → Lines → Bound → Type 0
 MatchesStatus cmp key Head cursor store now ls p b =
-    (ls ≡ p ++ line store cursor.current_slot ∷ []) × IsSortedUpTo cmp key ls
-    (Some (key (line store cursor.current_slot)))
-    × (b ≡ AtLeast (key (line store cursor.current_slot)))
+    IsAtCurrentLine cmp key cursor.number (line store cursor.current_slot) ls p b
 MatchesStatus cmp key Ended cursor store now ls p b = (b ≡ NothingMore) × IsDone now
 MatchesStatus cmp key (Disorder n) cursor store now ls p b =
     b ≡ AfterDisorder (record { last_key = key (line store cursor.previous_slot); line = n })
-
--- the invariant of one input
-pub record SideInvariant (end : ℕ) (cmp : Cmp) (key : Key) (old now : Reader) (cursor : Sorted) (store : Slots)
-    (ls p : Lines) (b : Bound) : Type 0 where
-  pub lines_read : LinesRead end old now ls
-  pub begun : HasBegun now ls
-  pub sound : IsSound now
-  pub processed_nearly : ProcessedNearly ls p []
-  pub number : cursor.number ≡ length ls
-  pub processed_prefix : IsProcessedPrefix cmp key ls p b
-  pub status_is : MatchesStatus cmp key cursor.status cursor store now ls p b
-
--- the current line becomes a processed line
-pub record IsAtCurrentLine (cmp : Cmp) (key : Key) (cursor : Sorted) (store : Slots) (ls p : Lines)
-    (b : Bound) : Type 0 where
-  pub all : ls ≡ p ++ line store cursor.current_slot ∷ []
-  pub sorted_up_to : IsSortedUpTo cmp key ls (Some (key (line store cursor.current_slot)))
-  pub bound : b ≡ AtLeast (key (line store cursor.current_slot))
-  pub some : 0 < cursor.number
 
 -- an input at an exit: the lines `ls` are read, `p` of them are processed, and a piece of a further line is read
 pub record ReadFacts (end : ℕ) (cmp : Cmp) (key : Key) (old now new : Reader) (piece : List ℕ) (ls p : Lines)
@@ -71,6 +57,21 @@ pub record ReadFacts (end : ℕ) (cmp : Cmp) (key : Key) (old now new : Reader) 
   pub processed_prefix : IsProcessedPrefix cmp key ls p b
   pub nothing_follows : b ≡ NothingMore → IsDone now
 
+-- a piece of a further line is read, after all lines were processed
+pub read_further : {end : ℕ} {cmp : Cmp} {key : Key} {old now new : Reader} {piece : List ℕ} {ls p : Lines} {b : Bound}
+    → ReadFacts end cmp key old now now [] ls p b → p ≡ ls → ReaderAdvance now new piece → IsLine now.terminator piece
+    → IsSound new → ReadFacts end cmp key old now new piece ls p b
+read_further facts all reads is_line sound = grind arith
+
+-- the invariant of one input
+pub record SideInvariant (end : ℕ) (cmp : Cmp) (key : Key) (old now : Reader) (cursor : Sorted) (store : Slots)
+    (ls p : Lines) (b : Bound) : Type 0 where
+  pub facts : ReadFacts end cmp key old now now [] ls p b
+  pub open facts use {lines_read, sound}
+  pub begun : HasBegun now ls
+  pub number : cursor.number ≡ length ls
+  pub status_is : MatchesStatus cmp key cursor.status cursor store now ls p b
+
 module _ {end : ℕ} {cmp : Cmp} {key : Key} {old now : Reader} {cursor : Sorted} {store : Slots} {ls p : Lines}
     {b : Bound}
     (s : SideInvariant end cmp key old now cursor store ls p b) where
@@ -78,24 +79,15 @@ module _ {end : ℕ} {cmp : Cmp} {key : Key} {old now : Reader} {cursor : Sorted
   pub side_invariant_kept : {after : Slots} → line after cursor.current_slot ≡ line store cursor.current_slot
       → line after cursor.previous_slot ≡ line store cursor.previous_slot
       → SideInvariant end cmp key old now cursor after ls p b
-  side_invariant_kept {after} same1 same2 = let status_is = by cursor.status s.status_is in assumption
-    where
-      by : (t : CursorStatus) → MatchesStatus cmp key t cursor store now ls p b
-          → MatchesStatus cmp key t cursor after now ls p b
-      by Head st = rw same1 st
-      by Ended st = st
-      by (Disorder n) st = rw same2 st
+  side_invariant_kept {after} same1 same2 = grind (arith, common_steps)
 
-  pub at_current_line : cursor.status ≡ Head → IsAtCurrentLine cmp key cursor store ls p b
-  at_current_line head = grind (arith, common_steps)
+  pub at_current_line : cursor.status ≡ Head
+      → IsAtCurrentLine cmp key cursor.number (line store cursor.current_slot) ls p b
+  at_current_line head = rw head at s.status_is
 
-  pub read_facts_at_line : ReadFacts end cmp key old now now [] ls p b
-  read_facts_at_line = let nothing_follows = by cursor.status s.status_is in assumption (reads_nothing now)
-    where
-      by : (t : CursorStatus) → MatchesStatus cmp key t cursor store now ls p b → b ≡ NothingMore → IsDone now
-      by Head (_, _, bound) e = cc
-      by Ended (_, done) e = done
-      by (Disorder n) st e = cc
+  -- the current line is processed
+  pub read_facts_after_line : IsKeyOrder cmp → cursor.status ≡ Head → ReadFacts end cmp key old now now [] ls ls b
+  read_facts_after_line o head = let h = at_current_line head in grind (arith, processed_to_line, s.facts)
 
 -- the bound of an input after the last key, or before any line
 abbrev pub bound_after : Option (List ℕ) → Bound
@@ -168,13 +160,13 @@ module _ (end : ℕ) (cmp : Cmp) (o : IsKeyOrder cmp) (key : Key) (old now new :
   at_next : (last : Option (List ℕ)) (more : Lines) (bytes : List ℕ) (q : Sorted) (b : Bound)
       → LinesRead end old new (ls ++ more) → HasBegun new (ls ++ more) → IsSound new
       → ProcessedNearly (ls ++ more) ls [] → q.number ≡ length (ls ++ more)
-      → IsProcessedPrefix cmp key (ls ++ more) ls b → MatchesStatus cmp key q.status q after new (ls ++ more) ls b
+      → IsProcessedPrefix cmp key (ls ++ more) ls b → (b ≡ NothingMore → IsDone new)
+      → MatchesStatus cmp key q.status q after new (ls ++ more) ls b
       → ((r : Lines) → MayFollow cmp key b r → MayFollow cmp key (bound_after last) r)
       → ((k : List ℕ) → IsUnder cmp (bound_after last) k → IsUnder cmp b k)
       → after ≡ with_line before cursor.previous_slot bytes → length bytes ≤ max_length (ls ++ more) → Goal last q
-  at_next last more bytes q b lines_read begun sound processed_nearly number processed_prefix status_is may_follow
-      under
-      stored fits = grind (arith, max_length-append)
+  at_next last more bytes q b lines_read begun sound processed_nearly number processed_prefix ended status_is may_follow
+      under stored fits = grind (arith, max_length-append, reads_nothing)
 
   -- a line was read
   module _ (e : FillLine now new before after cursor.previous_slot) (sound : IsSound new)
@@ -189,7 +181,12 @@ module _ (end : ℕ) (cmp : Cmp) (o : IsKeyOrder cmp) (key : Key) (old now new :
         at_next last (e.line ∷ []) e.line (next_cursor Head _ same) (AtLeast (key e.line))
         (lines_read_more lines_read e) (inr (omega (arith, length_push ls e.line))) sound (inr (e.line, refl, refl))
         (omega (arith, number, length_push ls e.line))
-        (processed_before_line o more) (rw now_is (refl, more, refl)) may_follow under e.stored
+        (processed_before_line o more) (λ ended. cc) (rw now_is (record {
+          all = refl;
+          sorted_up_to = more;
+          bound = refl;
+          some = omega arith;
+        })) may_follow under e.stored
         (omega (arith, max_length-append ls (e.line ∷ [])))
 
     at_fall : (last : Option (List ℕ)) → cursor.current_slot ≢ cursor.previous_slot → IsSortedUpTo cmp key ls last
@@ -204,7 +201,7 @@ module _ (end : ℕ) (cmp : Cmp) (o : IsKeyOrder cmp) (key : Key) (old now new :
         (AfterDisorder (record { last_key = k; line = length ls + 1 })) (lines_read_more lines_read e)
         (inr (omega (arith, length_push ls e.line))) sound
         (inr (e.line, refl, refl)) (omega (arith, number, length_push ls e.line))
-        (processed_to_disorder e.line sorted_up_to falls_now)
+        (processed_to_disorder e.line sorted_up_to falls_now) (λ ended. cc)
         (rw (← key_is, number) refl) (nothing_follows cmp key (Some k)) (λ j u. u) e.stored
         (omega (arith, max_length-append ls (e.line ∷ [])))
 
@@ -212,8 +209,7 @@ module _ (end : ℕ) (cmp : Cmp) (o : IsKeyOrder cmp) (key : Key) (old now new :
         → cursor.current_slot ≢ cursor.previous_slot → IsSortedUpTo cmp key ls last → IsLastKey key last cursor before
         → (t : Bool) → is_disordered cmp last (key e.line) ≡ t
         → Goal last (next_cursor (cond t (Disorder (cursor.number + 1)) Head) (cursor.number + 1) same)
-    at_line last within apart sorted_up_to is true h = at_fall last apart sorted_up_to is h
-    at_line last within apart sorted_up_to is false h = at_head last within sorted_up_to h
+    at_line last within apart sorted_up_to is t h = search (rules, at_fall, at_head)
 
   pub next_invariant : {last : Option (List ℕ)} → cursor.previous_slot < length before.lines
       → cursor.current_slot ≢ cursor.previous_slot → LinesRead end old now ls → cursor.number ≡ length ls
@@ -227,7 +223,7 @@ module _ (end : ℕ) (cmp : Cmp) (o : IsKeyOrder cmp) (key : Key) (old now new :
       let all = append-nil ls in
       subst (Goal last) (sym e.cursor) (at_next last [] [] (next_cursor Ended cursor.number false) NothingMore
       (rw all (lines_read_eof lines_read e.advance_ok e.done)) (inl e.done) e.sound (inl all) (rw all number)
-      (rw all (processed_all sorted_up_to))
+      (rw all (processed_all sorted_up_to)) (λ ended. e.done)
       (refl, e.done) (nothing_follows cmp key last) (λ k u. tt) e.empty (omega arith))
 
 -- advancing decreases the remaining work
@@ -249,46 +245,12 @@ pub next_same_key : (cmp : Cmp) (o : IsKeyOrder cmp) (key : Key) (cursor next : 
     → NextOkPost key cmp cursor next now new before after
     → next.same ≡ (is_head next.status && bytes_eq (key (line before cursor.current_slot))
     (key (line after next.current_slot)))
-next_same_key cmp o key cursor next now new before after some within (inl e) = grind (arith, line_of_with_line,
-    status_same_key, equal_is)
-next_same_key cmp o key cursor next now new before after some within (inr e) = rw e.cursor refl
+next_same_key cmp o key cursor next now new before after some within e = grind (arith, line_of_with_line, status_same_key, equal_is, e)
 
 -- ---- an exit
 
 abbrev pub state_by_side : (Side → Reader) → Output → Slots → MergeState
 state_by_side reader out store = record { reader = reader; out = out; store = store }
-
--- all lines read are processed
-processed_after : {cmp : Cmp} (o : IsKeyOrder cmp) {key : Key} {ls : Lines} (last : Option (List ℕ))
-    → IsSortedUpTo cmp key ls last → IsProcessedPrefix cmp key ls ls (bound_after last)
-processed_after {cmp} o {key} None sorted_up_to = record {
-  future = λ w _. record {
-    rest = sorted_after cmp key None w;
-    is = sorted_up_to.ordered w;
-    may_follow = tt;
-    may_disorder = tt;
-  };
-}
-processed_after o (Some k) sorted_up_to = processed_to_line o sorted_up_to
-
--- an input whose lines are all processed, and a piece of a further line
-pub read_facts_after_line : {end : ℕ} {cmp : Cmp} (o : IsKeyOrder cmp) {key : Key} {old now new : Reader}
-    {piece : List ℕ} {ls : Lines} (last : Option (List ℕ)) → LinesRead end old now ls
-    → ReaderAdvance now new piece → IsLine now.terminator piece → IsSound new → IsSortedUpTo cmp key ls last
-    → ReadFacts end cmp key old now new piece ls ls (bound_after last)
-read_facts_after_line o last lines_read reads is_line sound sorted_up_to = record {
-  lines_read = lines_read;
-  reads = reads;
-  line = is_line;
-  sound = sound;
-  processed_nearly = inl refl;
-  processed_prefix = processed_after o last sorted_up_to;
-  nothing_follows = not_at_end last;
-}
-  where
-    not_at_end : (last : Option (List ℕ)) {X : Type 0} → bound_after last ≡ NothingMore → X
-    not_at_end None e = cc
-    not_at_end (Some k) e = cc
 
 -- reading an input failed after all its lines were processed
 pub record IsFailedRead (new : Reader) (ls p : Lines) : Type 0 where
@@ -352,16 +314,15 @@ pub record IsOpenMerge (tool : MergeTool) (old : MergeState) : Type 0 where
   pub allowed : old.store.denied ≡ false
   pub empty : total_bytes old.store.lines ≡ 0
 
--- the facts of both inputs
-abbrev pub ReadFactsOf : MergeTool → MergeState → (Side → Reader) → (Side → Reader) → (Side → List ℕ) → (Side → Lines)
-    → (Side → Lines) → (Side → Bound) → Side → Type 0
-ReadFactsOf tool old now new piece ls p b side =
-    ReadFacts tool.terminator tool.cmp (tool.key side) (old.reader side) (now side) (new side) (piece side) (ls side)
-    (p side) (b side)
+-- the facts of an input
+abbrev pub ReadFactsOf : MergeTool → MergeState → (Side → Reader) → (Side → Lines) → (Side → Lines) → (Side → Bound)
+    → Side → Reader → List ℕ → Type 0
+ReadFactsOf tool old now ls p b side new piece = ReadFacts tool.terminator tool.cmp (tool.key side) (old.reader side)
+    (now side) new piece (ls side) (p side) (b side)
 
 module _ {tool : MergeTool} {old : MergeState} (w : IsOpenMerge tool old) (new : MergeState) {now : Side → Reader}
     {piece : Side → List ℕ} {ls p : Side → Lines} {b : Side → Bound}
-    (g : (side : Side) → ReadFactsOf tool old now new.reader piece ls p b side) where
+    (g : (side : Side) → ReadFactsOf tool old now ls p b side (new.reader side) (piece side)) where
   open tool use {cmp, key}
 
   abbrev pub took : Side → List ℕ
@@ -490,10 +451,11 @@ module _ {tool : MergeTool} {old : MergeState} (w : IsOpenMerge tool old) (new :
         shortest side = (given side).bytes
 
         has : max (length old.store.lines) 4 ≤ length new.store.lines
-        has =
-            let agree : AreAllConsistent both_sides given shortest =
-            λ side read. record { rest = []; is = sym (append-nil (given side).bytes); whole = λ eof. refl } in
-            let (_, _, least) = fits (lines_of tool shortest) (input_lines shortest agree) in least
+        has = let (_, _, least) = fits (lines_of tool shortest) (input_lines shortest (λ side read. record {
+          rest = [];
+          is = sym (append-nil (given side).bytes);
+          whole = λ eof. refl;
+        })) in least
 
     pub exit_is_merge_post : Fits tool old.store now ls piece new.store
         → FirstReads tool.terminator old.reader now new.reader ls piece

@@ -5,7 +5,7 @@ use Rattle.ptmerge.proofs
 use proofs.Common.{nat_tests, ◌≡◌, ℕ, ◌+◌, List, [], ◌∷◌, ◌++◌, Bool, true, false, cond, Option, Some, None, length}
 use proofs.Common.{refl, ◌∙◌, map, append_assoc, arith, nat_lt, unwrap_or, if◌then◌else◌, last_or, is_gt, Lines}
 use proofs.Common.{sorted_prefix, first_disorder, FirstDisorder, Cmp, Key, ◌&&◌, not, ap, sym, append-nil}
-use proofs.Common.{flat_map-append, filter, flat_map, Less, Greater, Side, First, Second, MergeTool, insert_key}
+use proofs.Common.{flat_map-append, filter, flat_map, Greater, Side, First, Second, MergeTool, insert_key}
 use proofs.Common.{distinct_keys, keys, entries_of_key, entries_by_key, earlier_disorder, is_up_to, subst, is_lt}
 use proofs.Common.{Output, PushEffect, unlines, push_trans, push_nothing, unlines-append, disorder, is_below}
 use proofs.Common.{is_decided, is_past, merged_entries, lines_with_key, option_map, with_side, disordered_line}
@@ -176,11 +176,7 @@ IsDownwardClosed cmp w = (a b : List ℕ) → cmp b a ≡ Greater → w b ≡ tr
 module _ (cmp : Cmp) (o : IsKeyOrder cmp) where
   ascends_insert : (k : List ℕ) (ks : Lines) → Ascends cmp ks → Ascends cmp (insert_key cmp k ks)
   ascends_insert k [] a = (tt, tt)
-  ascends_insert k (x ∷ ks) (above, more) =
-      let less = λ (e : cmp k x ≡ Less). Each-weaker _ _
-      (λ y h. above_trans cmp o k x y (ap is_gt e) h) ks above in
-      let greater = λ (e : cmp k x ≡ Greater). Each-insert cmp (Above cmp x) k ks e above in
-      grind (arith, less, greater, less_flips cmp o k x, ascends_insert k ks more)
+  ascends_insert k (x ∷ xs) (above, more) = let ih = ascends_insert k xs more in grind (arith, ih, Each-weaker, above_trans, Each-insert, less_flips)
 
   pub ascends_distinct : (ks : Lines) → Ascends cmp (distinct_keys cmp ks)
   ascends_distinct [] = tt
@@ -192,12 +188,9 @@ module _ (cmp : Cmp) (o : IsKeyOrder cmp) where
   downward_first w p down [] a = refl
   downward_first w p down (k ∷ ks) (above, more) =
       let ih = downward_first w p down ks more in
-      let none : p k ≡ false → filter _ ks ≡ [] = λ h. filter_none _ ks
-      (Each-weaker _ _ (not_above h) _ above) in
+      let none : p k ≡ false → filter (λ k. w k && p k) ks ≡ [] = λ h. filter_none _ ks
+      (Each-weaker _ _ (λ y g. (let d = down k y g in grind arith)) _ above) in
       grind (arith, ih, none)
-    where
-      not_above : p k ≡ false → (y : List ℕ) → cmp y k ≡ Greater → (w y && p y) ≡ false
-      not_above h y g = grind (arith, down k y g)
 
   -- the disorder comes after a key that is at least k
   pub under_fall : (b : Bound) (k : List ℕ) (f : Option FirstDisorder) → IsUnder cmp b k → MayDisorder cmp b f

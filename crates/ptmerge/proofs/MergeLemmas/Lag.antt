@@ -79,8 +79,7 @@ abbrev Shape : ℕ → List ℕ → Lines → Type 0
 Shape end given ls = AreLines end ls × ((given ≡ unlines end ls) ⊎ (given ++ end ∷ [] ≡ unlines end ls))
 
 shape_of : (end : ℕ) (given : List ℕ) (ls : Lines) (now : Reader) → IsReadAs end given ls now → Shape end given ls
-shape_of end given ls now (inl (is, all)) = (all, inl is)
-shape_of end given ls now (inr (is, _)) = grind (arith, the_lines)
+shape_of end given ls now far = grind (arith, the_lines)
 
 last_of : {A : Type 0} (xs : List A) → (xs ≡ []) ⊎ ((front : List A) × (x : A) × (xs ≡ front ++ x ∷ []))
 last_of [] = inl refl
@@ -105,41 +104,44 @@ ProcessedNearly ls p piece = (ls ≡ p) ⊎ ((x : List ℕ) × (ls ≡ p ++ x �
 
 module _ (end : ℕ) (given piece : List ℕ) (ls p : Lines) (now new : Reader) (far : IsReadAs end given ls now)
     (free : IsLine end piece) (few : length new.buffered ≤ 8192) where
-  -- the buffered bytes are left out
-  unheld : (whole : Lines) (tail : List ℕ) → given ++ piece ≡ unlines end whole ++ tail → AreLines end whole
-      → IsLine end tail → (rest : Lines) → p ≡ whole
-      ++ rest → LagPoint end (received_with (given ++ piece) new) p
-  unheld whole tail is all line rest split = record {
-    before =
-        record {
-          earlier = record { bytes = given ++ piece; eof = false };
-          last = new.buffered;
-          split = refl;
-          short = omega (arith, few);
-          eof = λ e. cc;
-        };
+  abbrev Point : Type 0
+  Point = LagPoint end (received_with (given ++ piece) new) p
+
+  -- complete lines, a part of a line, and `last`, which is left out
+  point : (whole : Lines) (tail last : List ℕ)
+      → (given ++ piece) ++ new.buffered ≡ (unlines end whole ++ tail) ++ last → length last ≤ 8193
+      → AreLines end whole → IsLine end tail → (rest : Lines) → p ≡ whole ++ rest → Point
+  point whole tail last is short all line rest split = record {
+    before = record {
+      earlier = record { bytes = unlines end whole ++ tail; eof = false };
+      last = last;
+      split = is;
+      short = omega arith;
+      eof = λ e. cc;
+    };
     going = refl;
     whole = whole;
-    whole_is = cc (complete_lines_of_unlines end whole tail all line);
+    whole_is = complete_lines_of_unlines end whole tail all line;
     rest = rest;
     split = split;
   }
 
   -- the last line lacks its terminator
   open_line : (w : Lines) (y : List ℕ) → ls ≡ w ++ y ∷ [] → AreLines end ls → given ++ end ∷ [] ≡ unlines end ls
-      → (rest : Lines) → p ≡ w ++ rest → LagPoint end (received_with (given ++ piece) new) p
+      → (rest : Lines) → p ≡ w ++ rest → Point
   open_line w y last all is rest split =
       let (lines, line) = are_split end w y (rw last at all) in
       let ends : given ≡ unlines end w ++ y = append_cancel_right given (unlines end w ++ y) (end ∷ [])
       (is ∙ (rw (last, unlines_push end w y, append_assoc (unlines end w) y (end ∷ [])))) in
-      unheld w (y ++ piece) (rw (ends, append_assoc (unlines end w) y piece)) lines
+      point w (y ++ piece) new.buffered (rw (ends, append_assoc (unlines end w) y piece)) (omega arith) lines
       (IsLine-append end y piece line free) rest split
 
-  pub back : ProcessedNearly ls p piece → LagPoint end (received_with (given ++ piece) new) p
+  pub back : ProcessedNearly ls p piece → Point
   back processed_nearly = by processed_nearly (shape_of end given ls now far)
     where
-      by : ProcessedNearly ls p piece → Shape end given ls → LagPoint end (received_with (given ++ piece) new) p
-      by (inl e) (all, inl is) = unheld ls piece (rw is) all free [] (sym e ∙ sym (append-nil ls))
+      by : ProcessedNearly ls p piece → Shape end given ls → Point
+      by (inl e) (all, inl is) =
+          point ls piece new.buffered (rw is) (omega arith) all free [] (sym e ∙ sym (append-nil ls))
       by (inl e) (all, inr is) =
           ⊎_elim
           (λ none.
@@ -149,20 +151,9 @@ module _ (end : ℕ) (given piece : List ℕ) (ls p : Lines) (now new : Reader) 
       by (inr (y, split, _)) (all, inr is) = open_line p y split all is [] (sym (append-nil p))
       by (inr (y, split, none)) (all, inl is) =
           let (lines, line) = are_split end p y (rw split at all) in
-          record {
-            before = record {
-              earlier = record { bytes = unlines end p ++ y; eof = false };
-              last = end ∷ new.buffered;
-              split = rw (none, append-nil given, is, split, unlines_push end p y) (simp append_assoc);
-              short = omega (arith, few);
-              eof = λ e. cc;
-            };
-            going = refl;
-            whole = p;
-            whole_is = complete_lines_of_unlines end p y lines line;
-            rest = [];
-            split = sym (append-nil p);
-          }
+          point p y (end ∷ new.buffered)
+          (rw (none, append-nil given, is, split, unlines_push end p y) (simp append_assoc)) (omega arith) lines line []
+          (sym (append-nil p))
 
 -- ---- the decided output is a prefix of the output, if only processed lines decide it
 
@@ -261,12 +252,7 @@ module _ (tool : MergeTool) (o : IsKeyOrder tool.cmp) (given : Side → Received
       (map (tool.key side) (sorted_prefixes tool unread_lines side)))))
 
   pub unread_decides_no_disorder : disorder_is_decided tool unread ≡ false
-  unread_decides_no_disorder = by (disorder tool unread_lines)
-    where
-      by : (d : Option MergeDisorder)
-          → lines_decide_disorder tool (λ side. (unread side).eof) unread_lines d ≡ false
-      by None = refl
-      by (Some d) = none_decided _
+  unread_decides_no_disorder = grind (arith, none_decided)
 
 -- ---- the output decided two blocks earlier
 
@@ -321,13 +307,7 @@ module _ (tool : MergeTool) (o : IsKeyOrder tool.cmp) (given : Side → Received
         Differ tool last (tool.key side) (sorted_prefix cmp (tool.key side) (known_lines terminator g)) (p side)
 
     mine : Differs of point.before.earlier
-    mine = let (own, _) = ordered in rw (point.whole_is, own) (record {
-      rest = point.rest;
-      tail = tail of;
-      same = sym point.split ∙ split of;
-      none_rest = none_below cmp o (tool.key of) whole point.rest in_order;
-      none_tail = front_has _ (tool.key of) (tail of) (future of).rest (above of);
-    })
+    mine = grind (arith, none_below, front_has, ordered, in_order, above of)
 
     others : (side : Side) → Differs side (given side)
     others side = record {

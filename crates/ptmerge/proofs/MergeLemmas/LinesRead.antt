@@ -1,12 +1,12 @@
 -- The lines read from a source. The bytes received are the lines read so far, and all but the last have their
 -- terminator. So every input that begins with these bytes begins with these lines.
 use Rattle.ptmerge.proofs
-use proofs.Common.{◌≡◌, ◌⊎◌, ⊎_elim, inl, inr, ℕ, ◌+◌, ◌<◌, ◌≤◌, Bool, true, false, List, [], ◌∷◌, ◌++◌, None, length}
-use proofs.Common.{max, refl, sym, ◌∙◌, ap, arith, append_assoc, length-append, append-nil, FillLine, Received}
-use proofs.Common.{IsConsistent, known_lines, Reader, ReaderAdvance, AdvanceOk, IsDone, Slots, unlines, lines}
-use proofs.Common.{complete_lines, IsLine, AreLines, max_length, received_with, advance_ok_trans, lines_of_unlines}
-use proofs.Common.{lines_of_last, unlines_push, IsSound, HasNoLine, IsFirstLineAndBlock, AreLines_push}
-use proofs.Common.{complete_lines_none, complete_lines_cons}
+use proofs.Common.{◌≡◌, ◌⊎◌, ⊎_elim, inl, inr, ℕ, ◌+◌, ◌<◌, ◌≤◌, true, false, List, [], ◌∷◌, ◌++◌, None, length, max}
+use proofs.Common.{refl, ◌∙◌, ap, arith, append_assoc, length-append, append-nil, FillLine, Received, IsConsistent}
+use proofs.Common.{known_lines, Reader, ReaderAdvance, AdvanceOk, IsDone, Slots, unlines, lines, complete_lines}
+use proofs.Common.{IsLine, AreLines, max_length, received_with, advance_ok_trans, lines_of_unlines, lines_of_last}
+use proofs.Common.{unlines_push, IsSound, HasNoLine, IsFirstLineAndBlock, AreLines_push, complete_lines_none}
+use proofs.Common.{complete_lines_cons}
 use Rattle.ptlines.proofs.MaxLength.{max_length-append, piece_le_max_length}
 use Rattle.std.proofs.Common.{rules}
 use Rattle.std.proofs.lemmas.Grind.{common_steps}
@@ -115,8 +115,15 @@ module _ {end : ℕ} {old now new : Reader} {ls : List (List ℕ)} {piece : List
   -- the lines of an input that is consistent with the bytes received
   pub lines_read_of_input : (input : List ℕ) → IsConsistent came input
       → HoldsLines now ls piece (lines end input)
-  lines_read_of_input input a = search (rules, front_of, lines_of_unlines, done_gives_nothing, max_length-append,
-      piece_le_max_length, free)
+  lines_read_of_input input a = search (
+    rules,
+    front_of,
+    lines_of_unlines,
+    done_gives_nothing,
+    max_length-append,
+    piece_le_max_length,
+    free,
+  )
 
   -- the lines that are known to be complete: `ls` and, if a read failed, no more
   pub record KnownLines (ws : List (List ℕ)) : Type 0 where
@@ -124,44 +131,13 @@ module _ {end : ℕ} {old now new : Reader} {ls : List (List ℕ)} {piece : List
     pub exact : new.buffered ≡ [] → new.eof ≡ false → ws ≡ ls
 
   pub lines_read_known : KnownLines (known_lines end came)
-  lines_read_known = by_end new.eof refl
-    where
-      by_end : (t : Bool) → new.eof ≡ t → KnownLines (known_lines end came)
-      by_end true e =
-          let all : known_lines end came
-          ≡ lines end _ = rw e in
-          let w = (lines_read_of_input _
-          (record {
-            rest = [];
-            is = sym (append-nil _);
-            whole = λ _. refl;
-          })).continues in
-          record {
-            known = record { more = w.more; is = all ∙ w.is; done = w.done };
-            exact = λ _ going. cc;
-          }
-      by_end false e = ⊎_elim (λ (given_is, all).
-          let is : known_lines end came
-          ≡ ls ++ complete_lines end (piece ++ (new.buffered ++ [])) =
-          rw e (ap (complete_lines end) (sym (append-nil ((c.given ++ piece) ++ new.buffered)) ∙ front_of given_is [])
-          ∙ ended_more end ls (piece ++ (new.buffered ++ [])) all) in
-          record {
-            known = record {
-              more = complete_lines end _;
-              is = is;
-              done = λ d. cc (done_gives_nothing d reads).eof;
-            };
-            exact = λ empty _. is ∙ (rw (empty, append-nil piece, complete_lines_none end piece free) (append-nil ls));
-          }) (λ (_, done). cc (done_gives_nothing done reads).eof) c.so_far
+  lines_read_known = grind (arith, common_steps, lines_read_of_input, front_of, ended_more, complete_lines_none, done_gives_nothing, append-nil)
 
   -- after the first line or the end was read, one of both was received
   pub begun_gives_line : HasBegun now ls → ¬ HasNoLine end came
   begun_gives_line begun none =
-      ⊎_elim (λ done. cc (none.eof, (done_gives_nothing done reads).eof)) (λ some.
-      let nothing : known_lines end came ≡ [] = rw none.eof
-      (complete_lines_none end ((c.given ++ piece) ++ new.buffered) none.unterminated) in
       let known = lines_read_known.known in
-      absurd (omega (arith, some, ap length (sym nothing ∙ known.is), length-append ls known.more))) begun
+      grind (arith, common_steps, complete_lines_none end _ none.unterminated, done_gives_nothing, known.is, length-append ls known.more)
 
   -- at most one line was read, or a part of it
   pub one_line_and_block : IsSound new → length ls + length (lines end piece) ≤ 1

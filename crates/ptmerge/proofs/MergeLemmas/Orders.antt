@@ -1,7 +1,7 @@
 -- Consequences of the laws of an order of keys. Distinct keys are sorted, so the entries of the least key come first,
 -- followed by the entries of the lines with other keys.
 use Rattle.ptmerge.proofs
-use proofs.Common.{◌≡◌, ◌⊎◌, inl, inr, ℕ, List, Bool, true, false, refl, sym, ◌∙◌, ap, arith, false≢true, bytes_eq}
+use proofs.Common.{◌≡◌, ◌⊎◌, inr, ℕ, List, Bool, true, false, refl, sym, ◌∙◌, ap, arith, false≢true, bytes_eq}
 use proofs.Common.{Ordering, Less, Equal, Greater, is_eq, is_gt, is_le, ordering_reverse, bytes_decides, back_total}
 use proofs.Common.{nat_list_cmp_total, tied_itself, upto, Cmp, byte_cmp, line_cmp, ◌<◌, length, get_or, suc, zero, []}
 use proofs.Common.{◌∷◌, ◌++◌, cond, map, append_assoc, append-nil, filter, flat_map, Side, First, Second, Lines}
@@ -209,33 +209,13 @@ module _ (tool : MergeTool) (o : IsKeyOrder tool.cmp) where
   pub least_first : (w : List ℕ → Bool) (k : List ℕ) (ls : Side → Lines)
       → ((side : Side) → EachKey (AtMost cmp k) (tool.key side) (ls side)) → tool.entries k [] [] ≡ []
       → entries_by_key tool w ls ≡ cond (w k) (entries_of_key tool ls k) [] ++ entries_by_key tool w (others_of k ls)
-  least_first w k ls e none = by (distinct_least cmp o k (keys tool ls) all)
-    where
-      all : Each (AtMost cmp k) (keys tool ls)
-      all = Each-append _ _ _ (e First) (e Second)
-
-      ds : Lines
-      ds = distinct_keys cmp (others k (keys tool ls))
-
-      rest : nothing_follows w ls ds ≡ entries_by_key tool w (others_of k ls)
-      rest = over_others w k ls _ (Each-distinct _ _ _ (others_above cmp o k (keys tool ls) all))
-          ∙ ap (λ l. nothing_follows w (others_of k ls) (distinct_keys cmp l))
-          (others-keys (tool.key First) (tool.key Second) k (ls First) (ls Second))
-
-      by : (distinct_keys cmp (keys tool ls) ≡ k ∷ ds)
-          ⊎ ((distinct_keys cmp (keys tool ls) ≡ ds) × Each (λ y. bytes_eq y k ≡ false) (keys tool ls))
-          → entries_by_key tool w ls ≡ cond (w k) (entries_of_key tool ls k) []
-          ++ entries_by_key tool w (others_of k ls)
-      by (inl d) = rw (d, ← rest) (grind arith)
-      by (inr (without_k, absent)) =
-          let (absent1, absent2) = Each-parts _ _
-          (map _ (ls Second)) absent in
-          rw (without_k, ← rest) (grind (
-            arith,
-            none,
-            kept_none (λ y. bytes_eq y k) (tool.key First) (ls First) absent1,
-            kept_none (λ y. bytes_eq y k) (tool.key Second) (ls Second) absent2,
-          ))
+  least_first w k ls e none =
+      let ks = keys tool ls in
+      let all : Each (AtMost cmp k) ks = Each-append _ _ _ (e First) (e Second) in
+      let above = Each-distinct cmp _ _ (others_above cmp o k ks all) in
+      let none_of = λ (side : Side). kept_none (λ y. bytes_eq y k) (tool.key side) (ls side) in
+      let parts = Each-parts (λ y. bytes_eq y k ≡ false) (map (tool.key First) (ls First)) (map (tool.key Second) (ls Second)) in
+      grind (arith, over_others w k ls _ above, others-keys (tool.key First) (tool.key Second) k (ls First) (ls Second), none, distinct_least cmp o k ks all, parts, none_of First, none_of Second)
 
   -- lines of one key, followed by lines with no lesser keys
   pub lines_with_key-front : (key : Key) (k : List ℕ) (f r : Lines) → EachKey (λ x. x ≡ k) key f
@@ -248,10 +228,6 @@ module _ (tool : MergeTool) (o : IsKeyOrder tool.cmp) where
       → EachKey (AtMost cmp k) key (f ++ r)
   at_most-same key k f r e h =
       EachKey-append _ key f r (EachKey-weaker _ _ (λ x is. rw is (self_at_most cmp o k)) _ f e) h
-
-  glued : (t : Bool) (all a b rest : Lines) → all ≡ a ++ b
-      → cond t all [] ++ rest ≡ cond t a [] ++ (cond t b [] ++ rest)
-  glued t all a b rest e = grind (arith, append_assoc a b rest)
 
   -- Lines of the least key, followed by lines with no lesser keys.
   module _ (w : List ℕ → Bool) (k : List ℕ) (f r : Side → Lines)
@@ -276,9 +252,7 @@ module _ (tool : MergeTool) (o : IsKeyOrder tool.cmp) where
       → entries_by_key tool w (λ side. f side ++ r side) ≡ entries_by_key tool w f ++ entries_by_key tool w r
   front_first w k f r s a none law =
       let first = simp append-nil at (front_is w k f (λ side. []) s (λ side. tt) none) in
-      front_is w k f r s a none ∙ glued (w k) _ (tool.entries k (f First) (f Second)) (entries_of_key tool r k)
-      (entries_by_key tool w (others_of k r)) law
-      ∙ (λ i. sym first i ++ sym (least_first w k r a none) i)
+      grind (arith, first, front_is w k f r s a none, least_first w k r a none, append_assoc (tool.entries k (f First) (f Second)) (entries_of_key tool r k) (entries_by_key tool w (others_of k r)))
 
   -- no line with a greater key has the key
   pub lines_with_key-above : (key : Key) (k : List ℕ) (r : Lines) → EachKey (Above cmp k) key r

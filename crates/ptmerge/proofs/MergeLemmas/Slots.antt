@@ -109,8 +109,12 @@ pub store_with_line : {before store after : Slots} (s : Side) (cursor : Sorted) 
     (x : List ℕ)
     → HasSlots s cursor → StoreOfLines before store m → ((side : Side) → m side ≤ k side) → length x ≤ k s
     → after ≡ with_line store cursor.previous_slot x → StoreOfLines before after k
-store_with_line {store = store} s cursor {m} k x slots kept up fits is = grind (arith, common_steps, set_line,
-    has_lines_total)
+store_with_line {store = store} s cursor {m} k x slots kept up fits is = grind (
+  arith,
+  common_steps,
+  set_line,
+  has_lines_total,
+)
 
 -- the first four slots were emptied
 cleared : (lines : List (List ℕ)) (peak : ℕ) (denied : Bool) → 4 ≤ length lines

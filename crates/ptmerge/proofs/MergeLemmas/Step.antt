@@ -5,27 +5,27 @@ use Rattle.ptmerge.proofs
 use proofs.Common.{AdvancePre, IsReadyToContinue, ◌≡◌, ◌≢◌, inl, inr, ℕ, ◌+◌, ◌≤◌, true, false, List, [], ◌∷◌, ◌++◌}
 use proofs.Common.{Option, Some, None, Err, length, refl, sym, ◌∙◌, arith, is_lt, is_le, append-nil, Output}
 use proofs.Common.{PushEffect, Reader, ReaderAdvance, IsDone, IsSound, Slots, line, with_line, unlines, IsLine}
-use proofs.Common.{push_nothing, MergeFault, Read, Memory, Side, First, Second, Sorted, CursorStatus, Head, Ended}
-use proofs.Common.{Disorder, Lines, MergeTool, FirstDisorder, entries_by_key, earlier_disorder, first_disorder}
-use proofs.Common.{lines_with_key, MergeState, MergePost, Cmp, Key, NextErrPost, NextOkPost, HasSlots, base_slot}
-use proofs.Common.{with_side, other, PrecedesInput, IsDisorderDecided, IsReportable, previous_key, ap, ◌⊎◌, max}
-use proofs.Common.{length-set, total_bytes, max_length, Write, MergeRunPre, merge_state, WriteFaultPost, both}
-use proofs.Common.{AreValidCursors, budget, IsReaderOf, push_trans, cond, Ordering, is_eq, is_gt, CopyToGroupPost}
-use proofs.Common.{same_key_at, status_at, IsValidCursor, ◌<◌, Result, ClearFourSlotsPost, Ok, Bool, terminator}
-use proofs.Common.{initial_cursor, MergeInputs, StartErrPost, StartOkPost, StartFirstPost, CallOutcome, AllPushed}
-use proofs.Common.{Received, both_sides, reads_nothing, merge_engine, merge_end, IsErrAnd, err_from_is_err_and}
+use proofs.Common.{push_nothing, MergeFault, Side, First, Second, Sorted, CursorStatus, Head, Ended, Disorder, Lines}
+use proofs.Common.{MergeTool, FirstDisorder, entries_by_key, earlier_disorder, first_disorder, MergeState, MergePost}
+use proofs.Common.{Cmp, Key, NextErrPost, NextOkPost, HasSlots, base_slot, with_side, other, PrecedesInput}
+use proofs.Common.{IsDisorderDecided, IsReportable, previous_key, ap, ◌⊎◌, max, length-set, total_bytes, max_length}
+use proofs.Common.{Write, MergeRunPre, merge_state, WriteFaultPost, both, AreValidCursors, budget, IsReaderOf}
+use proofs.Common.{push_trans, cond, Ordering, is_eq, is_gt, CopyToGroupPost, same_key_at, status_at, IsValidCursor}
+use proofs.Common.{◌<◌, Result, ClearFourSlotsPost, Ok, Bool, terminator, initial_cursor, MergeInputs, StartErrPost}
+use proofs.Common.{StartOkPost, StartFirstPost, CallOutcome, AllPushed, Received, both_sides, reads_nothing}
+use proofs.Common.{merge_engine, merge_end, IsErrAnd, err_from_is_err_and}
 use proofs.MergeLemmas.Invariant.{output_of, Bound, AtLeast, AfterDisorder, NothingMore, MayFollow, MayDisorder}
-use proofs.MergeLemmas.Invariant.{IsDisorderFrom, IsUnder, IsSortedUpTo, IsLeastKeyRun, LagInvariant, MergeInvariant}
-use proofs.MergeLemmas.Invariant.{IsExactStop, line_is_least_run, lag_invariant_starts, not_below, write_least_run}
-use proofs.MergeLemmas.Invariant.{bound_changes, all_keys, none_wanted, NoBound, sorted_up_to_none}
-use proofs.MergeLemmas.Invariant.{merge_invariant_starts, AllWritten, exact_at_end}
+use proofs.MergeLemmas.Invariant.{IsDisorderFrom, IsUnder, IsLeastKeyRun, LagInvariant, MergeInvariant, IsExactStop}
+use proofs.MergeLemmas.Invariant.{line_is_least_run, lag_invariant_starts, not_below, write_least_run, bound_changes}
+use proofs.MergeLemmas.Invariant.{all_keys, none_wanted, NoBound, sorted_up_to_none, merge_invariant_starts}
+use proofs.MergeLemmas.Invariant.{AllWritten, exact_at_end}
 use proofs.MergeLemmas.Orders.{EachKey, EachKey-weaker, lines_with_key-above, IsKeyOrder, Above, above_at_most}
 use proofs.MergeLemmas.Orders.{above_up, greater_flips, is_greater}
 use proofs.MergeLemmas.Slots.{both_each, put_both, put_each, put_other, put_same, side_case, line_other, StoreOfLines}
 use proofs.MergeLemmas.Slots.{has_lines_total, store_with_line, line_added, HasLines, store_of_no_lines}
 use proofs.MergeLemmas.Exits.{SideInvariant, MatchesStatus, SideAfterNext, IsAtCurrentLine, next_invariant}
-use proofs.MergeLemmas.Exits.{at_current_line, side_invariant_kept, IsFailedRead, Fits, ReadFacts, state_by_side}
-use proofs.MergeLemmas.Exits.{exit_is_merge_post, FitsIn, read_facts_after_line, read_facts_at_line, reads_left}
+use proofs.MergeLemmas.Exits.{at_current_line, side_invariant_kept, IsFailedRead, Fits, state_by_side}
+use proofs.MergeLemmas.Exits.{exit_is_merge_post, FitsIn, read_facts_after_line, read_further, reads_left}
 use proofs.MergeLemmas.Exits.{next_decreases, FirstReads, both_begun, ComeFirst, bound_after, HoldsTwoLines}
 use proofs.MergeLemmas.Exits.{IsOpenMerge, ReadFactsOf, processed_come_first, exact_output, merge_without_slots}
 use proofs.MergeLemmas.Exits.{given}
@@ -47,8 +47,7 @@ slot_low s = grind arith
 -- the slots of the two inputs are distinct
 pub slots_apart : (s : Side) (a c : Sorted) → HasSlots s a → HasSlots (other s) c
     → (a.previous_slot ≢ c.current_slot) × (a.previous_slot ≢ c.previous_slot)
-slots_apart First a c x y = omega (arith, own_slots First a x, own_slots Second c y)
-slots_apart Second a c x y = omega (arith, own_slots Second a x, own_slots First c y)
+slots_apart s a c x y = grind arith
 
 -- ---- keys that may follow
 
@@ -61,10 +60,10 @@ pub current_key_is_above : (cmp : Cmp) (o : IsKeyOrder cmp) (key : Key) (x : Lis
     (cursor : Sorted) (store : Slots) (now : Reader) (ls p : Lines) (b : Bound)
     → PrecedesInput cmp x status (key (line store cursor.current_slot)) (key (line store cursor.previous_slot))
     → MatchesStatus cmp key status cursor store now ls p b → IsAbove cmp key x b × IsUnder cmp b x
-current_key_is_above cmp o key x Head cursor store now ls p b before (_, _, bound) =
+current_key_is_above cmp o key x Head cursor store now ls p b before line_is =
     let head = key (line store cursor.current_slot) in
     let above : Above cmp x head = is_greater (cmp head x) before in
-    rw bound (
+    rw line_is.bound (
       λ r c. EachKey-weaker _ _ (λ k h. above_up cmp o x head k above h) _ _ c,
       above_at_most cmp o x head above,
     )
@@ -102,20 +101,13 @@ pub write_one_line : (tool : MergeTool) (o : IsKeyOrder tool.cmp) → IsLineByLi
     → PushEffect is new (unlines tool.terminator (entries_by_key tool all_keys (alone s x)))
     → MergeInvariant tool b (with_side s (p s ++ x ∷ []) p) was new
     × AllWritten tool b (with_side s (p s ++ x ∷ []) p) was new
-write_one_line tool o laws First x b p was is new clean m is_from above under wrote =
-    let k = tool.key First x in
-    write_least_run o k (with_side First (p First ++ x ∷ []) p) (alone First x)
-    (elim [ First ↦ line_is_least_run o is_from refl | Second ↦ front_none o above under ])
-    (elim [ First ↦ refl | Second ↦ sym (append-nil (p Second)) ]) (laws.none k)
-    (λ r c. rw (lines_with_key-above tool o (tool.key Second) k (r Second) (above (r Second) (c Second)))
-    (laws.first k x (lines_with_key (tool.key First) (r First) k))) clean m wrote
-write_one_line tool o laws Second x b p was is new clean m is_from above under wrote =
-    let k = tool.key Second x in
-    write_least_run o k (with_side Second (p Second ++ x ∷ []) p) (alone Second x)
-    (elim [ First ↦ front_none o above under | Second ↦ line_is_least_run o is_from refl ])
-    (elim [ First ↦ sym (append-nil (p First)) | Second ↦ refl ]) (laws.none k)
-    (λ r c. rw (lines_with_key-above tool o (tool.key First) k (r First) (above (r First) (c First)))
-    (laws.second k x (lines_with_key (tool.key Second) (r Second) k))) clean m wrote
+write_one_line tool o laws s x b p was is new clean m is_from above under wrote =
+    let k = tool.key s x in
+    let none = lines_with_key-above tool o (tool.key (other s)) k in
+    write_least_run o k (with_side s (p s ++ x ∷ []) p) (alone s x)
+    (side_case _ s (simp put_same (line_is_least_run o is_from refl)) (simp put_other (front_none o above under)))
+    (side_case _ s (simp put_same) (simp (put_other, append-nil))) (laws.none k)
+    (λ r c. grind (arith, laws, none (r (other s)) (above (r (other s)) (c (other s))))) clean m wrote
 
 -- ---- the invariant of both inputs
 
@@ -132,7 +124,7 @@ module _ (tool : MergeTool) (o : IsKeyOrder tool.cmp) {old now : Side → Reader
     (head : (cursor s).status ≡ Head) where
   open tool use {cmp, key, terminator}
 
-  pub passed_at : IsAtCurrentLine cmp (key s) (cursor s) store (ls s) (p s) (b s)
+  pub passed_at : IsAtCurrentLine cmp (key s) (cursor s).number (line store (cursor s).current_slot) (ls s) (p s) (b s)
   passed_at = at_current_line (sides s) head
 
   abbrev NextOf : Reader → Sorted → Slots → Type 0
@@ -154,15 +146,7 @@ module _ (tool : MergeTool) (o : IsKeyOrder tool.cmp) {old now : Side → Reader
 
     pub sides_invariant_continues : SidesInvariant tool old (with_side s new now) (with_side s next cursor) after
         (with_side s n.now_ls ls) (with_side s (ls s) p) (with_side s n.bound b)
-    sides_invariant_continues =
-        elim s as (λ t. SideInvariant terminator cmp (key t) (old t) new next after n.now_ls (ls t) n.bound
-        → SideInvariant terminator cmp (key (other t)) (old (other t)) (now (other t)) (cursor (other t)) after
-        (ls (other t)) (p (other t)) (b (other t))
-        → SidesInvariant tool old (with_side t new now) (with_side t next cursor) after (with_side t n.now_ls ls)
-        (with_side t (ls t) p) (with_side t n.bound b)) [
-          | First ↦ λ x y. elim [ First ↦ x | Second ↦ y ]
-          | Second ↦ λ x y. elim [ First ↦ y | Second ↦ x ]
-        ] n.side_invariant other_stays
+    sides_invariant_continues = side_case _ s (simp put_same n.side_invariant) (simp put_other other_stays)
 
     -- the output comes first, as before
     pub merge_invariant_continues : (q : Side → Lines) (was is : Output) → MergeInvariant tool b q was is
@@ -204,7 +188,7 @@ module _ (cmp : Cmp) (o : IsKeyOrder cmp) where
       → MatchesStatus cmp key status cursor store now ls p b → (f : Option FirstDisorder) (r : Lines)
       → MayFollow cmp key b r → MayDisorder cmp b f
       → IsReportedOver cmp s d f × EachKey (λ k. is_le (cmp k d.last_key) ≡ false) key r
-  named_other key s d Head cursor store now ls p b named (_, _, bound) f r c is_disordered =
+  named_other key s d Head cursor store now ls p b named line_is f r c is_disordered =
       let l = d.last_key in
       let head = key (line store cursor.current_slot) in
       let above : Above cmp l head = is_greater (cmp head l) named in (
@@ -213,12 +197,14 @@ module _ (cmp : Cmp) (o : IsKeyOrder cmp) where
               | None ↦ λ u. tt
               | Some e ↦ λ u. precedes_above s l e.last_key (above_up cmp o l head e.last_key above u)
             ]
-            (rw bound at is_disordered),
-        EachKey-weaker _ _ (λ k h. ap is_le (above_up cmp o l head k above h)) _ _ (rw bound at c),
+            (rw line_is.bound at is_disordered),
+        EachKey-weaker _ _ (λ k h. ap is_le (above_up cmp o l head k above h)) _ _ (rw line_is.bound at c),
       )
   named_other key s d Ended cursor store now ls p b named (bound, _) f r c is_disordered = grind arith
-  named_other key s d (Disorder m) cursor store now ls p b named st f r c is_disordered = grind (arith,
-      named_precedes)
+  named_other key s d (Disorder m) cursor store now ls p b named st f r c is_disordered = grind (
+    arith,
+    named_precedes,
+  )
 
 -- an input is out of order, and no key that may follow is up to its last key
 pub stops_at : (tool : MergeTool) (o : IsKeyOrder tool.cmp) (old now : Side → Reader) (cursor : Side → Sorted)
@@ -268,21 +254,13 @@ record FailedAdvance (cursor : Sorted) (was is : Reader) (before after : Slots) 
 failed_advance : (s : Side) (cursor : Sorted) (was is : Reader) (before after : Slots) (out : Output)
     (fault : MergeFault) → IsSound was → AdvanceErrPost s cursor was is before after out fault
     → FailedAdvance cursor was is before after
-failed_advance s cursor was is before after out fault sound (inl (_, e)) = search rules
-failed_advance s cursor was is before after out (Read file) sound (inr (_, (e, _, is_sound))) = grind arith
-failed_advance s cursor was is before after out Memory sound (inr (_, (e, is_sound))) = grind arith
-failed_advance s cursor was is before after out other sound (inr (_, moves)) = absurd moves
+failed_advance s cursor was is before after out fault sound e = search rules
 
 -- the input `s` is to advance, and all its lines are processed
 pub record IsAdvancing (tool : MergeTool) (old now : MergeState) (s : Side) (cursor : Sorted) (ls p : Side → Lines)
     (b : Side → Bound) : Type 0 where
-  pub lines_read : LinesRead tool.terminator (old.reader s) (now.reader s) (ls s)
-  pub sound : IsSound (now.reader s)
+  pub facts : (side : Side) → ReadFactsOf tool old now.reader ls p b side (now.reader side) []
   pub all : p s ≡ ls s
-  pub last : Option (List ℕ)
-  pub sorted_up_to : IsSortedUpTo tool.cmp (tool.key s) (ls s) last
-  pub bound : b s ≡ bound_after last
-  pub rest : ReadFactsOf tool old now.reader now.reader (λ side. []) ls p b (other s)
   pub order : (r : Reader) (piece : List ℕ) → IsLine (now.reader s).terminator piece
       → FirstReads tool.terminator old.reader now.reader (with_side s r now.reader) ls (with_side s piece (λ side. []))
   pub denied : now.store.denied ≡ false
@@ -294,8 +272,7 @@ module _ {tool : MergeTool} {old : MergeState} (w : IsOpenMerge tool old) {now :
   open tool use {cmp, key}
 
   none_failed_yet : (side : Side) → (now.reader side).failed ≡ (old.reader side).failed
-  none_failed_yet = side_case (λ side. (now.reader side).failed ≡ (old.reader side).failed) s
-      a.lines_read.advance_ok.failed a.rest.lines_read.advance_ok.failed
+  none_failed_yet side = (a.facts side).lines_read.advance_ok.failed
 
   none_fails : (new : Reader) → new.failed ≡ (now.reader s).failed → (side : Side)
       → (with_side s new now.reader side).failed ≡ (old.reader side).failed
@@ -306,27 +283,18 @@ module _ {tool : MergeTool} {old : MergeState} (w : IsOpenMerge tool old) {now :
       (fault : MergeFault) → AdvanceErrPost s cursor (now.reader s) new now.store after out fault
       → CallOutcome both_sides (merge_engine tool) old (state_by_side (with_side s new now.reader) out after) given
       pushed (merge_end (Err fault))
-  advance_ends new after out given pushed fault (inl (is_write, e)) = grind (arith, none_fails)
-  advance_ends new after out given pushed (Read file) (inr (clean, (e, file_is, _))) = grind (arith, put_same,
-      none_failed_yet, side_case, put_other)
-  advance_ends new after out given pushed Memory (inr (clean, (e, _))) = grind (arith, none_fails, put_same,
-      buffered_not_done)
-  advance_ends new after out given pushed other (inr (_, moves)) = absurd moves
+  advance_ends new after out given pushed fault e = grind (arith, none_fails, put_same, none_failed_yet, side_case, put_other, buffered_not_done)
 
   -- the merge ends with this fault
   pub advance_fails : {out : Output} {done : Lines} → LagInvariant tool b p old.out out done
       → ((new : MergeState) (piece : Side → List ℕ)
-      → ((side : Side) → ReadFactsOf tool old now.reader new.reader piece ls p b side)
+      → ((side : Side) → ReadFactsOf tool old now.reader ls p b side (new.reader side) (piece side))
       → ComeFirst tool now.reader ls done)
       → EndsIfFails tool old now s cursor out
   advance_fails {out} {done} lag first new after fault e =
-      let f = failed_advance s cursor (now.reader s) new now.store after out fault a.sound e in
-      let facts : (side : Side) → ReadFactsOf tool old now.reader (with_side s new now.reader)
-      (with_side s f.piece (λ side. [])) ls p b side =
-      put_both (λ side (r : Reader) (piece : List ℕ). ReadFacts tool.terminator cmp (key side) (old.reader side)
-      (now.reader side) r piece (ls side) (p side) (b side)) s new now.reader f.piece (λ side. [])
-      (rw (a.all, a.bound)
-      (read_facts_after_line w.o a.last a.lines_read f.reads f.line f.sound a.sorted_up_to)) a.rest in
+      let f = failed_advance s cursor (now.reader s) new now.store after out fault (a.facts s).sound e in
+      let facts = put_both (ReadFactsOf tool old now.reader ls p b) s new now.reader f.piece (λ side. [])
+      (read_further (a.facts s) a.all f.reads f.line f.sound) (a.facts (other s)) in
       let is = state_by_side (with_side s new now.reader) out after in
       exit_is_merge_post w is facts lag
       (first is (with_side s f.piece (λ side. [])) facts)
@@ -357,8 +325,7 @@ wrote_as same list wrote = rw (list, ← same) wrote
 
 pub next_keeps_slot_count : {key : Key} {cmp : Cmp} {cursor next : Sorted} {was is : Reader} {before after : Slots}
     → NextOkPost key cmp cursor next was is before after → length after.lines ≡ length before.lines
-next_keeps_slot_count (inl e) = rw (e.next_line.stored, length-set)
-next_keeps_slot_count (inr e) = rw (e.empty, length-set)
+next_keeps_slot_count e = grind (arith, length-set)
 
 -- ---- a tool that stores two lines of each input
 
@@ -394,8 +361,12 @@ StoreHoldsTwoLines before store ls = StoreOfLines before store (λ side. max_len
 pub holds_two : {tool : MergeTool} (fits : HoldsTwoLines tool) {before store : Slots} {reader : Side → Reader}
     {cursor : Side → Sorted} {ls : Side → Lines} → StoreHoldsTwoLines before store ls
     → ((side : Side) → HasSlots side (cursor side)) → StoreInvariant tool before reader cursor store ls
-holds_two {tool} fits {store = store} {cursor = cursor} {ls} k slots = grind (arith, has_lines_total, within_size,
-    put_same)
+holds_two {tool} fits {store = store} {cursor = cursor} {ls} k slots = grind (
+  arith,
+  has_lines_total,
+  within_size,
+  put_same,
+)
 
 -- the cursors between two steps, for any output
 pub record CursorsInvariant (tool : MergeTool) (old : MergeState) (reader : Side → Reader) (cursor : Side → Sorted)
@@ -404,15 +375,9 @@ pub record CursorsInvariant (tool : MergeTool) (old : MergeState) (reader : Side
   pub holds : StoreInvariant tool old.store reader cursor store ls
   pub slots : (side : Side) → HasSlots side (cursor side)
 
--- the two slots change places
-other_slots : (s : Side) (cursor : Sorted) → HasSlots s cursor
-    → HasSlots s (record cursor { current_slot = cursor.previous_slot; previous_slot = cursor.current_slot })
-other_slots s cursor h = grind (arith, h)
-
 pub slots_on : {key : Key} {cmp : Cmp} {cursor next : Sorted} {was is : Reader} {before after : Slots} (s : Side)
     → HasSlots s cursor → NextOkPost key cmp cursor next was is before after → HasSlots s next
-slots_on {cursor = cursor} s h (inl e) = rw e.cursor (other_slots s cursor h)
-slots_on {cursor = cursor} s h (inr e) = rw e.cursor (other_slots s cursor h)
+slots_on s h e = grind (arith, e)
 
 module _ {tool : MergeTool} {old : MergeState} (w : IsOpenMerge tool old) {reader : Side → Reader}
     {cursor : Side → Sorted} {store : Slots} {ls p : Side → Lines} {b : Side → Bound}
@@ -430,17 +395,14 @@ module _ {tool : MergeTool} {old : MergeState} (w : IsOpenMerge tool old) {reade
 
   -- an input of which the lines `q` are processed
   abbrev ReadFactsBy : Side → Lines → Type 0
-  ReadFactsBy side q =
-      ReadFacts tool.terminator cmp (key side) (old.reader side) (reader side) (reader side) [] (ls side) q (b side)
+  ReadFactsBy side q = ReadFactsOf tool old reader ls (λ t. q) b side (reader side) []
 
   -- an input at its current line, and one whose current line is processed
   pub read_facts_current : (side : Side) → ReadFactsBy side (p side)
-  read_facts_current side = read_facts_at_line (a.sides side)
+  read_facts_current side = (a.sides side).facts
 
   pub passing_now : (s : Side) → (cursor s).status ≡ Head → ReadFactsBy s (ls s)
-  passing_now s head = let h = at_current_line (a.sides s) head in
-      rw h.bound (read_facts_after_line w.o (Some (key s (line store (cursor s).current_slot))) (a.sides s).lines_read
-      (reads_nothing (reader s)) tt (a.sides s).sound h.sorted_up_to)
+  passing_now s head = read_facts_after_line (a.sides s) w.o head
 
   -- the iteration failed, after the lines `q` were processed
   pub iteration_fails : (s : Side) → (cursor s).status ≡ Head → {q : Side → Lines} {out : Output}
@@ -448,15 +410,9 @@ module _ {tool : MergeTool} {old : MergeState} (w : IsOpenMerge tool old) {reade
       → ReadFactsBy (other s) (q (other s))
       → EndsIfFails tool old (state_by_side reader out store) s (cursor s) out
   iteration_fails s head {q} {out} (m, lag) same rest =
-      let h = at_current_line (a.sides s) head in
       advance_fails w {now = state_by_side reader out store} {cursor = cursor s} {p = q} (record {
-        lines_read = (a.sides s).lines_read;
-        sound = (a.sides s).sound;
+        facts = side_case (λ side. ReadFactsBy side (q side)) s (rw same (passing_now s head)) rest;
         all = same;
-        last = Some (key s (line store (cursor s).current_slot));
-        sorted_up_to = h.sorted_up_to;
-        bound = h.bound;
-        rest = rest;
         order = λ r piece free. both_begun begun;
         denied = a.holds.denied;
         fits = a.holds.line s;
@@ -561,14 +517,12 @@ measure_less : (key : Key) (cmp : Cmp) (s : Side) (one two one2 two2 : Sorted) (
     (before after : Slots) → (both one two s).status ≡ Head
     → both one2 two2 (other s) ≡ both one two (other s) → NextOkPost key cmp (both one two s) (both one2 two2 s) (f s)
     reader before after → reads_ahead (with_side s reader f) one2 two2 < reads_ahead f one two
-measure_less key cmp First one two one2 two2 f reader before after head same came = grind (arith, next_decreases)
-measure_less key cmp Second one two one2 two2 f reader before after head same came = grind (arith, next_decreases)
+measure_less key cmp s one two one2 two2 f reader before after head same came = grind (arith, next_decreases)
 
 -- the cursors after this input advanced
 pub place_is : (s : Side) (one two one2 two2 : Sorted) → both one2 two2 (other s) ≡ both one two (other s)
     → with_side s (both one2 two2 s) (both one two) ≡ both one2 two2
-place_is First one two one2 two2 same = λ i. both one2 (sym same i)
-place_is Second one two one2 two2 same = λ i. both (sym same i) two2
+place_is s one two one2 two2 same = grind (arith, same)
 
 -- the cursors, the readers and the output between two steps
 pub record BetweenSteps (key : Side → Key) (now : MergeState) (one two : Sorted) : Type 0 where
@@ -689,22 +643,38 @@ module _ {tool : MergeTool} {old : MergeState} (w : IsOpenMerge tool old) where
   start_ok new cursor slots s =
       let f = began s in
       let k = first_line Second (mid_four s) s.later in
-      let (apart, apart_previous) = slots_apart Second (initial_cursor Second) (cursor First) (fresh_slots Second) slots
-      in
+      let apart = slots_apart Second (initial_cursor Second) (cursor First) (fresh_slots Second) slots in
+      let first : SideInvariant terminator cmp (key First) (old.reader First) (new.reader First) (cursor First) new.store f.now_ls [] f.bound = grind (arith, side_invariant_kept, f.side_invariant, k.stored, line_other, apart) in
       record {
         ls = both f.now_ls k.now_ls;
         p = no_lines;
         b = both f.bound k.bound;
-        sides = elim [
-          | First ↦ side_invariant_kept f.side_invariant (rw k.stored (line_other s.mid 2 (cursor First).current_slot
-              k.bytes apart)) (rw k.stored (line_other s.mid 2 (cursor First).previous_slot k.bytes apart_previous))
-          | Second ↦ k.side_invariant
-        ];
+        sides = elim [ First ↦ first | Second ↦ k.side_invariant ];
         merge_invariant = bound_changes Second k.bound (half_invariant s) k.may_follow k.under;
-        keeps = store_with_line Second (initial_cursor Second) (λ side. max_length (both f.now_ls k.now_ls side))
-            k.bytes (fresh_slots Second) (half_store s)
-            (elim [ First ↦ omega arith | Second ↦ omega arith ]) k.fits k.stored;
+        keeps = store_with_line Second (initial_cursor Second) (λ side. max_length (both f.now_ls k.now_ls side)) k.bytes (fresh_slots Second) (half_store s) (elim [ First ↦ omega arith | Second ↦ omega arith ]) k.fits k.stored;
       }
+
+  -- nothing was read of an input
+  unread : (side : Side) → ReadFactsOf tool old old.reader no_lines no_lines (λ t. NoBound) side (old.reader side) []
+  unread side = grind (arith, none_read, reads_nothing, w.sound side, sorted_up_to_none)
+
+  -- the first read of an input failed
+  first_read_fails : (s : Side) (now : MergeState) {ls : Side → Lines} {b : Side → Bound}
+      → ((side : Side) → ReadFactsOf tool old now.reader ls no_lines b side (now.reader side) []) → ls s ≡ []
+      → ((r : Reader) (piece : List ℕ) → IsLine (now.reader s).terminator piece
+      → FirstReads terminator old.reader now.reader (with_side s r now.reader) ls (with_side s piece (λ side. [])))
+      → StoreHoldsTwoLines old.store now.store ls → MergeInvariant tool b no_lines old.out old.out
+      → EndsIfFails tool old now s (initial_cursor s) old.out
+  first_read_fails s now {ls} facts none order kept m =
+      let holds : StoreInvariant tool old.store now.reader initial_cursor now.store ls =
+      holds_two w.fits kept fresh_slots in
+      advance_fails w {now = now} {cursor = initial_cursor s} (record {
+        facts = facts;
+        all = sym none;
+        order = order;
+        denied = kept.denied;
+        fits = holds.line s;
+      }) (lag_invariant_starts m w.writable (push_nothing old.out)) (λ new piece g. processed_come_first w new g m)
 
   -- the merge could not start
   abbrev StartErr : Reader → Reader → Slots → MergeFault → Type 0
@@ -716,49 +686,19 @@ module _ {tool : MergeTool} {old : MergeState} (w : IsOpenMerge tool old) where
         → MergePost tool old (state_by_side (both new1 new2) old.out after) (Err fault)
     start_fault (inl u) = rw u.memory (merge_without_slots w refl u.unread u.slots)
     start_fault (inr (inl f)) =
-        let kept = store_of_no_lines f.four w.allowed w.empty in
-        let begins = merge_invariant_starts tool old.out in
-        rw f.unread (advance_fails w {now = state_by_side old.reader old.out f.made} {s = First}
-        {cursor = initial_cursor First} {ls = no_lines}
-        {p = no_lines} (record {
-          lines_read = none_read First;
-          sound = w.sound First;
-          all = refl;
-          last = None;
-          sorted_up_to = sorted_up_to_none;
-          bound = refl;
-          rest = read_facts_after_line w.o None (none_read Second) (reads_nothing (old.reader Second)) tt
-              (w.sound Second) sorted_up_to_none;
-          order = λ r piece free. record {
-            first = inr refl;
-            second = inr (omega (arith, one_line_at_most terminator piece (rw (w.terminator First) at free)));
-          };
-          denied = kept.denied;
-          fits = λ piece all l. within_size tool w.fits First (initial_cursor First) no_lines all piece
-              (fresh_slots First) kept (λ side. omega (arith, (l side).longest)) (omega (arith, (l First).longest));
-        }) (lag_invariant_starts begins w.writable (push_nothing old.out))
-        (λ new piece g. processed_come_first w new g begins) _ _ _ (inr (w.writable, f.fails)))
+        rw f.unread (first_read_fails First (state_by_side old.reader old.out f.made) unread refl
+        (λ r piece free. record {
+          first = inr refl;
+          second = inr (omega (arith, one_line_at_most terminator piece (rw (w.terminator First) at free)));
+        }) (store_of_no_lines f.four w.allowed w.empty) (merge_invariant_starts tool old.out) _ _ _
+        (inr (w.writable, f.fails)))
     start_fault (inr (inr f)) =
         let s = f.begins in
         let g = began s in
-        advance_fails w {now = state_by_side (both new1 (old.reader Second)) old.out s.mid} {s = Second}
-        {cursor = initial_cursor Second}
-        {ls = both g.now_ls []} {p = no_lines} (record {
-          lines_read = none_read Second;
-          sound = w.sound Second;
-          all = refl;
-          last = None;
-          sorted_up_to = sorted_up_to_none;
-          bound = refl;
-          rest = read_facts_at_line g.side_invariant;
-          order = λ r piece free.
-              record { first = inl g.side_invariant.begun; second = inr (first_line_only s) };
-          denied = (half_store s).denied;
-          fits = λ piece all l. within_size tool w.fits Second (initial_cursor Second) (both g.now_ls []) all piece
-              (fresh_slots Second) (half_store s) (λ side. omega (arith, (l side).longest))
-              (omega (arith, (l Second).longest));
-        }) (lag_invariant_starts (half_invariant s) w.writable (push_nothing old.out))
-        (λ new piece facts. processed_come_first w new facts (half_invariant s)) _ _ _ (inr (w.writable, s.later))
+        first_read_fails Second (state_by_side (both new1 (old.reader Second)) old.out s.mid)
+        (elim [ First ↦ g.side_invariant.facts | Second ↦ unread Second ]) refl
+        (λ r piece free. record { first = inl g.side_invariant.begun; second = inr (first_line_only s) })
+        (half_store s) (half_invariant s) _ _ _ (inr (w.writable, s.later))
 
 pub ending_is : (zero : Bool) → cond zero 0 10 ≡ terminator zero
 ending_is zero = grind arith
@@ -767,5 +707,4 @@ ending_is zero = grind arith
 pub set_is : (first second set1 set2 : Reader) (zero : Bool) → set1 ≡ record first { terminator = cond zero 0 10 }
     → set2 ≡ record second { terminator = cond zero 0 10 } → (side : Side)
     → both set1 set2 side ≡ record (both first second side) { terminator = terminator zero }
-set_is first second set1 set2 zero is1 is2 First = rw (is1, ending_is zero)
-set_is first second set1 set2 zero is1 is2 Second = rw (is2, ending_is zero)
+set_is first second set1 set2 zero is1 is2 side = grind (arith, is1, is2)
