@@ -156,7 +156,7 @@ module _ {job : Comm} {cmp : Cmp} {key : Side → Key} {old now : MergeState} {o
         whole_line_keys = whole_line_keys;
         loop_invariant = rw (← place_is s one two one2 two2 h.continues.others)
             (runs_on w lines_before s step.status_is h.came (keeps_two w lines_before s step.status_is h.came keeps)
-            (let (m, _) = wrote_line in m));
+            wrote_line.0);
         between = between_next between s h.continues;
       }
 

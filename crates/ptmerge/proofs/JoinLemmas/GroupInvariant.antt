@@ -12,7 +12,7 @@ use proofs.Common.{is_up_to, Cmp, Key}
 use proofs.MergeLemmas.Step.{slots_on, SidesInvariant, IsAbove, IsLineByLine, current_key_is_above, next_at}
 use proofs.MergeLemmas.Step.{own_slots, passed_at, sides_invariant_continues, slots_apart, StoreInvariant}
 use proofs.MergeLemmas.Step.{EndsIfFails, advance_fails}
-use proofs.MergeLemmas.Invariant.{Bound, AtLeast, MayFollow, IsUnder, MergeInvariant, InputSplit, MayCome, all_keys}
+use proofs.MergeLemmas.Invariant.{Bound, AtLeast, MayFollow, IsUnder, MergeInvariant, IsFuture, MayCome, all_keys}
 use proofs.MergeLemmas.Invariant.{splits_step, all_wanted, written_is_wanted, LagInvariant}
 use proofs.JoinLemmas.GroupSlots.{AllSlots, Extends, GroupBounds, InGroup, largest_group, GroupStore}
 use proofs.JoinLemmas.GroupSlots.{group_store_line, group_store_next, low_slot, put_more}
@@ -77,19 +77,20 @@ module _ {tool : MergeTool} {old : MergeState} (w : IsOpenMerge tool old) {mid :
       (gone : (side : Side)
       → ReadFactsOf tool old now ls (λ side. p side ++ g side) d side (new.reader side) (piece side))
       (all : Side → Lines) (more : (side : Side) → Continues (now side) (ls side) (all side)) where
-    seen : InputSplit tool d (λ side. p side ++ g side) all
+    seen : (side : Side) → IsFuture cmp (key side) (all side) (p side ++ g side) (d side)
     seen = input_split_of w new gone all more
 
+    abbrev coming : Side → Lines
+    coming side = (seen side).rest
+
     parts : (w : List ℕ → Bool) → entries_by_key tool w (sorted_prefixes tool all) ≡ entries_by_key tool w
-        p ++ entries_by_key tool w (λ side. g side ++ seen.r side)
-    parts w = (λ i. entries_by_key tool w (λ side. (seen.parts side ∙ append_assoc (p side) (g side) (seen.r side)) i))
-        ∙ m.merge_invariant.splits.split w (λ side. g side ++ seen.r side)
-        (λ side. rest_not_less side (seen.r side) (seen.may_follow side))
+        p ++ entries_by_key tool w (λ side. g side ++ coming side)
+    parts w = (λ i. entries_by_key tool w (λ side. ((seen side).is ∙ append_assoc (p side) (g side) (coming side)) i))
+        ∙ m.merge_invariant.splits.split w (λ side. g side ++ coming side)
+        (λ side. rest_not_less side (coming side) (seen side).may_follow)
 
     wanted : (x : List ℕ) → AtMost cmp x k → is_up_to cmp (disorder tool all) x ≡ true
-    wanted x h = written_is_wanted _ o (d First) (d Second) _ _ x
-        (seen.may_disorder First) (seen.may_disorder Second) (under_lower o (d First) x k h (m.under First))
-        (under_lower o (d Second) x k h (m.under Second))
+    wanted x h = grind (arith, written_is_wanted, seen, under_lower)
 
     abbrev is_wanted : List ℕ → Bool
     is_wanted = is_up_to cmp (disorder tool all)
@@ -102,14 +103,14 @@ module _ {tool : MergeTool} {old : MergeState} (w : IsOpenMerge tool old) {mid :
     pub group_comes_first : {extra : Lines} → OutputStartsWith tool g d k extra → (rest : Lines)
         × (merged_entries tool all ≡ (front ++ extra) ++ rest)
     group_comes_first {extra} starts =
-        let (rest, is) = starts.rest is_wanted seen.r seen.may_follow (wanted k (self_at_most cmp o k)) in
+        let (rest, is) = starts.rest is_wanted coming (λ side. (seen side).may_follow) (wanted k (self_at_most cmp o k)) in
         (rest, cc (parts is_wanted, front_is_first, is, append_assoc front extra rest))
 
     -- the entries of lesser keys are not all, if the group has entries
     pub front_is_not_all : HasEntries tool g d k → ¬ (merged_entries tool all ≡ front ++ [])
     front_is_not_all has same =
-        let some = has.some is_wanted seen.r seen.may_follow (wanted k (self_at_most cmp o k)) in
-        let own = entries_by_key tool is_wanted (λ side. g side ++ seen.r side) in
+        let some = has.some is_wanted coming (λ side. (seen side).may_follow) (wanted k (self_at_most cmp o k)) in
+        let own = entries_by_key tool is_wanted (λ side. g side ++ coming side) in
         absurd (omega (
           arith,
           some,

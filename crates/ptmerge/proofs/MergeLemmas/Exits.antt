@@ -9,17 +9,16 @@ use proofs.Common.{is_head, status_at, same_key_at, NextOkPost, Result, Err, max
 use proofs.Common.{ReaderAdvance, unlines, ◌⊎◌, ⊎_elim, length-append, Memory, lines, IsLine, advance_trans}
 use proofs.Common.{append_assoc, push_trans, bounded_lag_after, unlines-append, MergeFault, Write, Side, First}
 use proofs.Common.{Second, MergeTool, entries_by_key, decided_output, disorder, first_disorder, lines_of}
-use proofs.Common.{merge_output, merged_entries, sorted_prefix, is_up_to, MergeState, MergePost, HasNoLine, other}
-use proofs.Common.{reads_nothing, EnsureFourSlotsErrPost, ◌*◌, option_map, CallEnd, ReadFault, CallOutcome}
-use proofs.Common.{AreAllConsistent, with_input, given_before, given_by, CallProgress, DecidedIfReadFailed}
-use proofs.Common.{call_on_failed_output, IsPrefix, total_bytes, both_sides, merge_engine, merge_end, disordered_line}
+use proofs.Common.{merge_output, merged_entries, MergeState, MergePost, HasNoLine, other, reads_nothing}
+use proofs.Common.{EnsureFourSlotsErrPost, ◌*◌, option_map, CallEnd, ReadFault, CallOutcome, AreAllConsistent}
+use proofs.Common.{with_input, given_before, given_by, CallProgress, DecidedIfReadFailed, call_on_failed_output}
+use proofs.Common.{IsPrefix, total_bytes, both_sides, merge_engine, merge_end, disordered_line}
 use proofs.MergeLemmas.Lag.{decided_at, ProcessedNearly, LinesToCome, LagPoint, back, unsettled, lag_bound}
 use proofs.MergeLemmas.Lag.{unread_decides_nothing, unread_decides_no_disorder}
 use proofs.MergeLemmas.Invariant.{output_of, Bound, NoBound, AtLeast, AfterDisorder, NothingMore, MayFollow, IsUnder}
-use proofs.MergeLemmas.Invariant.{IsSortedUpTo, sorted_up_to_more, is_disordered, IsProcessedPrefix}
+use proofs.MergeLemmas.Invariant.{IsSortedUpTo, sorted_up_to_more, is_disordered, IsProcessedPrefix, IsFuture}
 use proofs.MergeLemmas.Invariant.{processed_before_line, processed_all, processed_to_disorder, processed_to_line}
-use proofs.MergeLemmas.Invariant.{LagInvariant, MergeInvariant, InputSplit, IsExactStop, is_continuation, input_split}
-use proofs.MergeLemmas.Invariant.{all_keys, under_fall}
+use proofs.MergeLemmas.Invariant.{LagInvariant, MergeInvariant, IsExactStop, input_split, all_keys, under_fall}
 use proofs.MergeLemmas.LinesRead.{LinesRead, HoldsLines, HasBegun, begun_gives_line, one_line_and_block}
 use proofs.MergeLemmas.LinesRead.{lines_read_more, lines_read_eof, Continues, KnownLines, lines_read_known}
 use proofs.MergeLemmas.LinesRead.{lines_read_of_input}
@@ -288,14 +287,7 @@ both_begun begun = record { first = inl (begun First); second = inl (begun Secon
 -- lines without a text are none
 no_lines_left : (end : ℕ) (done rest : Lines) → unlines end done ≡ unlines end (done ++ rest) → rest ≡ []
 no_lines_left end done [] same = refl
-no_lines_left end done (x ∷ rest) same = absurd (omega (
-  arith,
-  ap length same,
-  ap length (unlines-append end done (x ∷ rest)),
-  length-append (unlines end done) (unlines end (x ∷ rest)),
-  length-append (x ++ end ∷ []) (unlines end rest),
-  length_push x end,
-))
+no_lines_left end done (x ∷ rest) same = absurd (omega (arith, simp (unlines-append, length-append) at (ap length same)))
 
 -- the measure of a tool that stores two lines of each input
 abbrev pub HoldsTwoLines : MergeTool → Type 0
@@ -332,23 +324,15 @@ module _ {tool : MergeTool} {old : MergeState} (w : IsOpenMerge tool old) (new :
   given = given_by new took
 
   pub input_split_of : (all : Side → Lines) → ((side : Side) → Continues (now side) (ls side) (all side))
-      → InputSplit tool b p all
-  input_split_of all more =
-      let rest = λ (side : Side). (g side).processed_prefix.future (more side).more
-      (is_continuation (b side) (more side).more (λ e. (more side).done ((g side).nothing_follows e))) in
-      record {
-        r = λ side. (rest side).rest;
-        parts = λ side. ap (sorted_prefix cmp (key side)) (more side).is ∙ (rest side).is;
-        may_follow = λ side. (rest side).may_follow;
-        may_disorder = λ side. rw (more side).is (rest side).may_disorder;
-      }
+      → (side : Side) → IsFuture cmp (key side) (all side) (p side) (b side)
+  input_split_of all more side = rw (more side).is ((g side).processed_prefix.future (more side).more
+      (λ ended. (more side).done ((g side).nothing_follows ended)))
 
   -- the entries of the processed lines come first
   pub processed_come_first : {was is : Output} → MergeInvariant tool b p was is
       → ComeFirst tool now ls (entries_by_key tool all_keys p)
   processed_come_first m all more =
-      let s = input_split_of all more in
-      (entries_by_key tool (is_up_to cmp (disorder tool all)) s.r, input_split w.o m s)
+      let s = input_split_of all more in (_, input_split w.o m s)
 
   input_lines : (texts : Side → List ℕ) → AreAllConsistent both_sides given texts → (side : Side)
       → HoldsLines (now side) (ls side) (piece side) (lines tool.terminator (texts side))
@@ -363,7 +347,8 @@ module _ {tool : MergeTool} {old : MergeState} (w : IsOpenMerge tool old) (new :
       (known_lines tool.terminator (given side))
   known side = lines_read_known (g side).lines_read (g side).reads (g side).line
 
-  whole_input_split : InputSplit tool b p (λ side. known_lines tool.terminator (given side))
+  whole_input_split : (side : Side)
+      → IsFuture cmp (key side) (known_lines tool.terminator (given side)) (p side) (b side)
   whole_input_split = input_split_of (λ side. known_lines _ (given side)) (λ side. (known side).known)
 
   backs : (side : Side) → LagPoint tool.terminator (given side) (p side)
@@ -377,7 +362,8 @@ module _ {tool : MergeTool} {old : MergeState} (w : IsOpenMerge tool old) (new :
       × (option_map disordered_line (disorder tool (lines_of tool texts)) ≡ found)
   exact_output m stop texts agree =
       let s = input_split_of (lines_of tool texts) (continues texts agree) in
-      let (none, found) = stop (lines_of tool texts) s.r s.may_follow s.may_disorder in
+      let (none, found) = stop (lines_of tool texts) (λ side. (s side).rest) (λ side. (s side).may_follow)
+      (λ side. (s side).may_disorder) in
       let done = entries_by_key tool all_keys p in
       (cc (ap (unlines tool.terminator) (input_split w.o m s), none, append-nil done), found)
 
@@ -393,7 +379,9 @@ module _ {tool : MergeTool} {old : MergeState} (w : IsOpenMerge tool old) (new :
 
     future : (side : Side) → LinesToCome tool side (known_lines tool.terminator (given side)) (p side) (tail side)
         (bound side)
-    future side = grind (arith, whole_input_split)
+    future side =
+        let s = whole_input_split side in
+        record { rest = s.rest; is = s.is; may_follow = lag.may_follow side s.rest s.may_follow }
 
     -- everything is decided once the last line of an input is processed
     decided : (side : Side) → IsFailedRead (new.reader side) (ls side) (p side)
@@ -441,8 +429,8 @@ module _ {tool : MergeTool} {old : MergeState} (w : IsOpenMerge tool old) (new :
           (output_of tool front)
           (lag_bound tool w.o given front _ tail _ lag.split lag.under_bound future of (backs of)) lag.wrote lag.clean
           new.out bytes lag.more);
-      peak = λ texts agree. (let (peak, _, _) = fits (lines_of tool texts) (input_lines texts agree) in peak);
-      slots = λ texts agree. (let (_, slots, _) = fits (lines_of tool texts) (input_lines texts agree) in slots);
+      peak = λ texts agree. (fits (lines_of tool texts) (input_lines texts agree)).0;
+      slots = λ texts agree. (fits (lines_of tool texts) (input_lines texts agree)).1;
       least = omega (arith, has);
       room = omega (arith, has);
     }
@@ -472,7 +460,7 @@ module _ {tool : MergeTool} {old : MergeState} (w : IsOpenMerge tool old) (new :
           let f = first_disorder cmp (key (other of)) (known_lines tool.terminator (given (other of))) in
           unsettled tool w.o given front _ tail _ lag.split lag.under_bound future of (backs of)
           (EachKey-weaker _ _ (λ k u. under_fall cmp w.o (b (other of)) k f u
-          (whole_input_split.may_disorder (other of))) _ _ (lag.under (other of) of));
+          (whole_input_split (other of)).may_disorder) _ _ (lag.under (other of) of));
       first_reads = λ clean_then. record {
         second_unread = λ none. ⊎_elim (λ begun. absurd (has_line First begun none))
             (λ same. same ∙ (λ i. record (old.reader Second) { terminator = w.terminator Second i })) order.first;
@@ -501,16 +489,9 @@ pub merge_set : {tool : MergeTool} {old new : MergeState} {set : Side → Reader
     → MergePost tool old new result
 unfolding call_set
 merge_set {tool} {old} {new} {set} clean is m = record {
-  call = call_set both_sides _ old _ new clean refl refl
-      (λ side read. is side) (λ side none. cc) m.call;
+  call = call_set both_sides _ old _ new clean refl refl (λ side read. is side) (λ side none. cc) m.call;
   stops_at_disorder = m.stops_at_disorder;
-  first_reads = λ fine.
-      let reads = m.first_reads fine in
-      record {
-        second_unread = λ none. reads.second_unread none
-            ∙ ap {B = Reader} (λ (r : Reader). record r { terminator = tool.terminator }) (is Second);
-        first_waits = reads.first_waits;
-      };
+  first_reads = grind (arith, is Second, m.first_reads);
 }
 
 -- the output had failed, and nothing was done
@@ -523,32 +504,23 @@ pub merge_without_slots : {tool : MergeTool} {old : MergeState} → IsOpenMerge 
     → new.out ≡ old.out → ((side : Side) → new.reader side ≡ old.reader side)
     → EnsureFourSlotsErrPost old.store new.store → MergePost tool old new (Err Memory)
 unfolding call_without_slots
-merge_without_slots {tool} {old} w {new} same_output unread slots = record {
-  call = call_without_slots both_sides (merge_engine tool) old new w.writable same_output (λ side read. set side)
-      (λ side none. cc) (λ side read. w.sound side) (λ side read. w.unfailed side) slots.denied slots.peak slots.least
-      slots.few (λ texts. omega (arith, w.fits (lines_of tool texts)))
-      (λ side read. rw (unread_decides_nothing tool w.o (given_before old) side) (record { rest = []; is = refl }));
-  stops_at_disorder = λ side clean. (
+merge_without_slots {tool} {old} w {new} same_output unread slots =
+    let set : (side : Side) → new.reader side ≡ record (old.reader side) { terminator = tool.terminator } =
+    λ side. unread side ∙ (λ i. record (old.reader side) { terminator = w.terminator side i }) in
     record {
-      earlier = record { bytes = []; eof = false };
-      last = (old.reader side).buffered;
-      split = refl;
-      short = omega (arith, (w.sound side).buffered);
-      eof = λ never. cc;
-    },
-    unread_decides_no_disorder tool w.o (given_before old) side,
-  );
-  first_reads = λ clean. record {
-    second_unread = λ none. set Second;
-    first_waits = λ none. record {
-      first = [];
-      rest = (old.reader First).buffered;
-      split = refl;
-      one_line = omega arith;
-      block = (w.sound First).buffered;
-    };
-  };
-}
-  where
-    set : (side : Side) → new.reader side ≡ record (old.reader side) { terminator = tool.terminator }
-    set side = unread side ∙ (λ i. record (old.reader side) { terminator = w.terminator side i })
+      call = call_without_slots both_sides (merge_engine tool) old new w.writable same_output (λ side read. set side)
+          (λ side none. cc) (λ side read. w.sound side) (λ side read. w.unfailed side) slots.denied slots.peak slots.least
+          slots.few (λ texts. omega (arith, w.fits (lines_of tool texts)))
+          (λ side read. rw (unread_decides_nothing tool w.o (given_before old) side) (record { rest = []; is = refl }));
+      stops_at_disorder = λ side clean. (
+        record {
+          earlier = record { bytes = []; eof = false };
+          last = (old.reader side).buffered;
+          split = refl;
+          short = omega (arith, (w.sound side).buffered);
+          eof = λ never. cc;
+        },
+        unread_decides_no_disorder tool w.o (given_before old) side,
+      );
+      first_reads = search (rules, set, w.sound);
+    }

@@ -112,11 +112,6 @@ IsUnder cmp (AtLeast l) k = AtMost cmp k l
 IsUnder cmp (AfterDisorder d) k = AtMost cmp k d.last_key
 IsUnder cmp NothingMore k = Unit {0}
 
--- nothing follows after the end of the input
-abbrev pub IsContinuation : Bound → Lines → Type 0
-IsContinuation NothingMore w = w ≡ []
-IsContinuation b w = Unit {0}
-
 pub may_follow_none : (cmp : Cmp) (key : Key) (b : Bound) → MayFollow cmp key b []
 may_follow_none cmp key b = grind arith
 
@@ -127,9 +122,10 @@ pub record IsFuture (cmp : Cmp) (key : Key) (all p : Lines) (b : Bound) : Type 0
   pub may_follow : MayFollow cmp key b rest
   pub may_disorder : MayDisorder cmp b (first_disorder cmp key all)
 
--- The lines `ls` are read, and `p` of them are processed: so it is for every list that continues `ls`.
+-- The lines `ls` are read, and `p` of them are processed: so it is for every list that continues `ls`. Nothing follows
+-- after the end of the input.
 pub record IsProcessedPrefix (cmp : Cmp) (key : Key) (ls p : Lines) (b : Bound) : Type 0 where
-  pub future : (w : Lines) → IsContinuation b w → IsFuture cmp key (ls ++ w) p b
+  pub future : (w : Lines) → (b ≡ NothingMore → w ≡ []) → IsFuture cmp key (ls ++ w) p b
 
 -- all lines read are processed
 pub processed_to_line : {cmp : Cmp} (o : IsKeyOrder cmp) {key : Key} {ls : Lines} {k : List ℕ}
@@ -405,9 +401,6 @@ exact_at_end tool ended ls r follow disorder_at = grind arith
 
 -- ---- the decided output
 
-pub is_continuation : (b : Bound) (w : Lines) → (b ≡ NothingMore → w ≡ []) → IsContinuation b w
-is_continuation b w h = grind arith
-
 pub both_under : (key : Key) (P Q R : List ℕ → Type 0) → ((k : List ℕ) → P k → Q k → R k) → (xs : Lines)
     → EachKey P key xs → EachKey Q key xs → EachKey R key xs
 both_under key P Q R f [] p q = tt
@@ -469,24 +462,15 @@ module _ (tool : MergeTool) (o : IsKeyOrder tool.cmp) (eof : Side → Bool) (ls 
   not_decided First k e = grind (arith, e)
   not_decided Second k e = grind (arith, e)
 
--- two lists that continue the lines read so far
-pub record InputSplit (tool : MergeTool) (b : Side → Bound) (p ls : Side → Lines) : Type 0 where
-  pub r : Side → Lines
-  pub parts : (side : Side) → sorted_prefix tool.cmp (tool.key side) (ls side) ≡ p side ++ r side
-  pub may_follow : (side : Side) → MayFollow tool.cmp (tool.key side) (b side) (r side)
-  pub may_disorder : (side : Side) → MayDisorder tool.cmp (b side) (first_disorder tool.cmp (tool.key side) (ls side))
-
--- the entries of the processed lines come first, for all such lists
+-- the entries of the processed lines come first, for all lists that continue those read so far
 pub input_split : {tool : MergeTool} (o : IsKeyOrder tool.cmp) {b : Side → Bound} {p ls : Side → Lines}
-    {was is : Output} → MergeInvariant tool b p was is → (s : InputSplit tool b p ls)
+    {was is : Output} → MergeInvariant tool b p was is
+    → (s : (side : Side) → IsFuture tool.cmp (tool.key side) (ls side) (p side) (b side))
     → merged_entries tool ls ≡ entries_by_key tool all_keys p
-    ++ entries_by_key tool (is_up_to tool.cmp (disorder tool ls)) s.r
+    ++ entries_by_key tool (is_up_to tool.cmp (disorder tool ls)) (λ side. (s side).rest)
 input_split {tool} o {b} {p} {ls} m s =
     let w = is_up_to tool.cmp (disorder tool ls) in
-    let first =
-    all_wanted tool w p (λ side. both_under (tool.key side) (IsUnder tool.cmp (b First)) (IsUnder tool.cmp (b Second))
-    (λ k. w k ≡ true)
-    (λ k u1 u2. written_is_wanted _ o (b First) (b Second) _
-    _ k
-    (s.may_disorder First) (s.may_disorder Second) u1 u2) (p side) (m.under First side) (m.under Second side)) in
-    (λ i. entries_by_key tool w (λ side. s.parts side i)) ∙ cc (m.splits.split w s.r s.may_follow, first)
+    let first = all_wanted tool w p (λ side. both_under (tool.key side) _ _ _ (λ k u1 u2. written_is_wanted _ o _ _ _ _ k (s First).may_disorder (s Second).may_disorder u1 u2)
+    _ (m.under First side) (m.under Second side)) in
+    (λ i. entries_by_key tool w (λ side. (s side).is i))
+    ∙ cc (m.splits.split w (λ side. (s side).rest) (λ side. (s side).may_follow), first)

@@ -199,6 +199,9 @@ module _ (tool : MergeTool) (o : IsKeyOrder tool.cmp) (eof : Side → Bool) (ls 
   decided_of_passed p differ =
       let dec = is_decided tool eof ls in
       let (rest, is) = downward_is_prefix tool o dec (downward_decided tool o eof ls) p in
+      let kept = λ (side : Side). (let d = differ side in
+      kept_same dec (tool.key side) _ _ d.rest d.tail d.same (EachKey-weaker _ _ undecided _ _ d.none_rest)
+      (EachKey-weaker _ _ undecided _ _ d.none_tail)) in
       let known : decided_entries tool eof ls ≡ entries_by_key tool dec p =
       sym (by_keys_kept dec tool o (λ side. sorted_prefix cmp (tool.key side) (ls side)) all_keys)
       ∙ (λ i. entries_by_key tool all_keys (λ side. kept side i)) ∙ by_keys_kept dec tool o p all_keys in
@@ -206,14 +209,6 @@ module _ (tool : MergeTool) (o : IsKeyOrder tool.cmp) (eof : Side → Bool) (ls 
         rest = unlines terminator rest;
         is = cc (is, known, unlines-append terminator (decided_entries tool eof ls) rest);
       }
-    where
-      kept : (side : Side)
-          → filter (λ line. is_decided tool eof ls (tool.key side line)) (sorted_prefix cmp (tool.key side) (ls side))
-          ≡ filter (λ line. is_decided tool eof ls (tool.key side line)) (p side)
-      kept side =
-          let d = differ side in
-          kept_same (is_decided tool eof ls) (tool.key side) _ _ d.rest d.tail d.same
-          (EachKey-weaker _ _ undecided _ _ d.none_rest) (EachKey-weaker _ _ undecided _ _ d.none_tail)
 
   -- the disorder of the other input comes after its keys, so no disorder is decided
   not_settled : EachKey (λ k. IsDisorderFrom cmp k (first_disorder cmp (tool.key (other of)) (ls (other of))))
@@ -353,9 +348,5 @@ module _ (tool : MergeTool) (o : IsKeyOrder tool.cmp) (given : Side → Received
     unsettled up = (
       point.before,
       not_settled tool o (λ side. (mix side).eof) (λ side. known_lines terminator (mix side)) of going
-          (rw whole_now no_disorder)
-          (rw (put_other of point.before.earlier given, whole_now)
-          (front_has (λ k. IsDisorderFrom cmp k (first_disorder cmp (tool.key (other of))
-          (known_lines terminator (given (other of)))))
-          (tool.key of) whole point.rest (rw point.split at up))),
+          (rw whole_now no_disorder) (rw (put_other, whole_now) (front_has _ (tool.key of) whole point.rest (rw point.split at up))),
     )

@@ -1,12 +1,11 @@
 -- The lines read from a source. The bytes received are the lines read so far, and all but the last have their
 -- terminator. So every input that begins with these bytes begins with these lines.
 use Rattle.ptmerge.proofs
-use proofs.Common.{◌≡◌, ◌⊎◌, ⊎_elim, inl, inr, ℕ, ◌+◌, ◌<◌, ◌≤◌, true, false, List, [], ◌∷◌, ◌++◌, None, length, max}
-use proofs.Common.{refl, ◌∙◌, ap, arith, append_assoc, length-append, append-nil, FillLine, Received, IsConsistent}
-use proofs.Common.{known_lines, Reader, ReaderAdvance, AdvanceOk, IsDone, Slots, unlines, lines, complete_lines}
-use proofs.Common.{IsLine, AreLines, max_length, received_with, advance_ok_trans, lines_of_unlines, lines_of_last}
-use proofs.Common.{unlines_push, IsSound, HasNoLine, IsFirstLineAndBlock, AreLines_push, complete_lines_none}
-use proofs.Common.{complete_lines_cons}
+use proofs.Common.{◌≡◌, ◌⊎◌, ℕ, ◌+◌, ◌<◌, ◌≤◌, true, false, List, [], ◌∷◌, ◌++◌, None, length, max, refl, ◌∙◌, arith}
+use proofs.Common.{append_assoc, length-append, append-nil, FillLine, Received, IsConsistent, known_lines, Reader}
+use proofs.Common.{ReaderAdvance, AdvanceOk, IsDone, Slots, unlines, lines, complete_lines, IsLine, AreLines}
+use proofs.Common.{max_length, received_with, advance_ok_trans, lines_of_unlines, lines_of_last, unlines_push}
+use proofs.Common.{IsSound, HasNoLine, IsFirstLineAndBlock, AreLines_push, complete_lines_none, complete_lines_cons}
 use Rattle.ptlines.proofs.MaxLength.{max_length-append, piece_le_max_length}
 use Rattle.std.proofs.Common.{rules}
 use Rattle.std.proofs.lemmas.Grind.{common_steps}
@@ -59,30 +58,14 @@ one_line_at_most end (b ∷ piece) free = rw (lines_of_last end (b ∷ piece) fr
 
 pub lines_read_more : {end : ℕ} {old now new : Reader} {ls : List (List ℕ)} {before after : Slots} {slot : ℕ}
     → LinesRead end old now ls → (e : FillLine now new before after slot) → LinesRead end old new (ls ++ e.line ∷ [])
-lines_read_more {end} {old} {now} {new} {ls} c e = record {
-  given = c.given ++ (e.line ++ e.terminator);
-  so_far = ⊎_elim opened (λ (_, done). absurd
-      (omega (arith, some_came, ap length (done_gives_nothing done e.advance_ok.reads).bytes_are))) c.so_far;
-  advance_ok = advance_ok_trans old now new c.given _ c.advance_ok e.advance_ok;
-  terminator = e.advance_ok.reads.terminator ∙ c.terminator;
-}
-  where
-    free : IsLine end e.line
-    free = rw c.terminator at e.whole
-
-    opened : (c.given ≡ unlines end ls) × AreLines end ls
-        → IsReadAs end (c.given ++ (e.line ++ e.terminator)) (ls ++ e.line ∷ []) new
-    opened (is, all) = elim e.ends [
-      | inl ends ↦ inl (rw (is, ends, c.terminator, unlines_push end ls e.line), AreLines_push end ls e.line all free)
-      | inr last ↦ (let (ends, some, done) = last in
-          inr (
-            rw (is, ends, append-nil e.line, lines_of_unlines end ls e.line all, lines_of_last end e.line free some),
-            done,
-          ))
-    ]
-
-    some_came : 0 < length (e.line ++ e.terminator)
-    some_came = grind (arith, length-append e.line e.terminator)
+lines_read_more {end} {old} {now} {new} {ls} c e =
+    let free : IsLine end e.line = rw c.terminator at e.whole in
+    record {
+      given = c.given ++ (e.line ++ e.terminator);
+      so_far = search (rules, free, done_gives_nothing, unlines_push, AreLines_push, lines_of_unlines, lines_of_last, append-nil, length-append);
+      advance_ok = advance_ok_trans old now new c.given _ c.advance_ok e.advance_ok;
+      terminator = e.advance_ok.reads.terminator ∙ c.terminator;
+    }
 
 pub lines_read_eof : {end : ℕ} {old now new : Reader} {ls : List (List ℕ)} → LinesRead end old now ls
     → AdvanceOk now new [] → IsDone new → LinesRead end old new ls

@@ -1,12 +1,11 @@
 -- Consequences of the laws of an order of keys. Distinct keys are sorted, so the entries of the least key come first,
 -- followed by the entries of the lines with other keys.
 use Rattle.ptmerge.proofs
-use proofs.Common.{◌≡◌, ◌⊎◌, inr, ℕ, List, Bool, true, false, refl, sym, ◌∙◌, ap, arith, false≢true, bytes_eq}
-use proofs.Common.{Ordering, Less, Equal, Greater, is_eq, is_gt, is_le, ordering_reverse, bytes_decides, back_total}
-use proofs.Common.{nat_list_cmp_total, tied_itself, upto, Cmp, byte_cmp, line_cmp, ◌<◌, length, get_or, suc, zero, []}
-use proofs.Common.{◌∷◌, ◌++◌, cond, map, append_assoc, append-nil, filter, flat_map, Side, First, Second, Lines}
-use proofs.Common.{MergeTool, insert_key, distinct_keys, keys, lines_with_key, entries_of_key, entries_by_key, Key}
-use proofs.Common.{map-append}
+use proofs.Common.{◌≡◌, ◌⊎◌, inr, ℕ, List, Bool, true, false, refl, ◌∙◌, ap, arith, bytes_eq, Ordering, Less, Equal}
+use proofs.Common.{Greater, is_eq, is_gt, is_le, ordering_reverse, bytes_decides, back_total, nat_list_cmp_total}
+use proofs.Common.{tied_itself, upto, Cmp, byte_cmp, line_cmp, ◌<◌, length, get_or, suc, zero, [], ◌∷◌, ◌++◌, cond}
+use proofs.Common.{map, append_assoc, append-nil, filter, flat_map, Side, First, Second, Lines, MergeTool, insert_key}
+use proofs.Common.{distinct_keys, keys, lines_with_key, entries_of_key, entries_by_key, Key, map-append}
 use Rattle.std.specs.Cmp.{IsTotalOrder}
 use Rattle.ptmerge.specs.OrderLaws.{reversed_same_bytes, byte_cmp_equal}
 use Rattle.std.proofs.Common.{rules}
@@ -155,10 +154,7 @@ module _ (cmp : Cmp) (o : IsKeyOrder cmp) where
       → (distinct_keys cmp ks ≡ k ∷ distinct_keys cmp (others k ks))
       ⊎ ((distinct_keys cmp ks ≡ distinct_keys cmp (others k ks)) × Each (λ y. bytes_eq y k ≡ false) ks)
   distinct_least k [] e = inr (refl, tt)
-  distinct_least k (y ∷ ks) (here, more) =
-      let above = Each-distinct cmp _ _ (others_above k ks more) in
-      let least = insert_least k (distinct_keys cmp (others k ks)) above in
-      grind (arith, distinct_least k ks more, least_or_above cmp o k y here, tied_itself o.total k, least)
+  distinct_least k (y ∷ ks) (here, more) = grind (arith, distinct_least k ks more, least_or_above cmp o k y here, tied_itself o.total k, insert_least, Each-distinct, others_above)
 
 others-keys : (key1 key2 : Key) (k : List ℕ) (xs ys : Lines)
     → others k (map key1 xs ++ map key2 ys) ≡ map key1 (without key1 k xs) ++ map key2 (without key2 k ys)
@@ -176,11 +172,7 @@ kept_none w key (x ∷ ls) (here, more) = rw here (kept_none w key ls more)
 with_key_without : (key : Key) (k q : List ℕ) (xs : Lines) → bytes_eq q k ≡ false
     → lines_with_key key (without key k xs) q ≡ lines_with_key key xs q
 with_key_without key k q [] n = refl
-with_key_without key k q (x ∷ xs) n =
-    let ih = with_key_without key k q xs n in
-    let apart : key x ≡ k → bytes_eq (key x) q ≡ false = λ e. not_same (key x) q
-    (λ f. false≢true (sym n ∙ same_bytes (sym f ∙ e))) in
-    grind (arith, ih, apart, bytes_decides (key x) k)
+with_key_without key k q (x ∷ xs) n = let ih = with_key_without key k q xs n in grind (arith, ih, not_same, same_bytes, bytes_decides (key x) k)
 
 module _ (tool : MergeTool) (o : IsKeyOrder tool.cmp) where
   open tool use {cmp}
@@ -195,15 +187,7 @@ module _ (tool : MergeTool) (o : IsKeyOrder tool.cmp) where
   over_others : (w : List ℕ → Bool) (k : List ℕ) (ls : Side → Lines) (ks : Lines) → Each (Above cmp k) ks
       → nothing_follows w ls ks ≡ nothing_follows w (others_of k ls) ks
   over_others w k ls [] e = refl
-  over_others w k ls (q ∷ ks) (here, more) =
-      let ih = over_others w k ls ks more in
-      let n = above_not_same cmp o k q here in
-      grind (
-        arith,
-        ih,
-        with_key_without (tool.key First) k q (ls First) n,
-        with_key_without (tool.key Second) k q (ls Second) n,
-      )
+  over_others w k ls (q ∷ ks) (here, more) = let ih = over_others w k ls ks more in grind (arith, ih, above_not_same, with_key_without)
 
   -- The entries of a key that is at most all others come first, followed by those of the lines with other keys.
   pub least_first : (w : List ℕ → Bool) (k : List ℕ) (ls : Side → Lines)

@@ -12,10 +12,7 @@ use Rattle.std.proofs.lemmas.Grind.{common_steps}
 pub put_both : {X Y : Type 0} (P : Side → X → Y → Type 0) (s : Side) (x : X) (f : Side → X) (y : Y) (g : Side → Y)
     → P s x y → P (other s) (f (other s)) (g (other s))
     → (side : Side) → P side (with_side s x f side) (with_side s y g side)
-put_both P First x f y g p q First = p
-put_both P First x f y g p q Second = q
-put_both P Second x f y g p q First = q
-put_both P Second x f y g p q Second = p
+put_both P s x f y g p q side = grind (arith, p, q)
 
 module _ {X : Type 0} (P : Side → X → Type 0) where
   pub both_each : (x y : X) → P First x → P Second y → (side : Side) → P side (both x y side)
@@ -35,10 +32,7 @@ put_other s x f = grind arith
 -- a side that is changed as an input
 pub with_side_is : {X : Type 0} (s : Side) (x : X) (f : Side → X) (side : Side)
     → with_side s x f side ≡ with_input both_sides s x f side
-with_side_is First x f First = refl
-with_side_is First x f Second = refl
-with_side_is Second x f First = refl
-with_side_is Second x f Second = refl
+with_side_is s x f side = grind arith
 
 pub with_own : {X : Type 0} (s : Side) (f : Side → X) (side : Side) → with_input both_sides s (f s) f side ≡ f side
 with_own s f side = grind (arith, with_side_is, put_each)

@@ -428,8 +428,8 @@ module _ {tool : MergeTool} {old : MergeState} (w : IsOpenMerge tool old) {reade
     pushed_all ended stop =
         let exact = exact_output w (state_by_side reader out after) read_facts_current m stop in
         record {
-          out = λ texts agree. (let (is, _) = exact texts agree in is);
-          disorder = λ texts agree. (let (_, is) = exact texts agree in is);
+          out = λ texts agree. (exact texts agree).0;
+          disorder = λ texts agree. (exact texts agree).1;
           ended = λ none side read. ended none side;
           fault = λ side read. (a.sides side).lines_read.advance_ok.fault;
           short = λ side read. (a.sides side).lines_read.advance_ok.short ((w.sound side).long (w.readable side));
@@ -459,8 +459,7 @@ module _ {tool : MergeTool} {old : MergeState} (w : IsOpenMerge tool old) {reade
     ends_well step =
         let e : (side : Side) → (b side ≡ NothingMore) × IsDone (reader side) =
         λ side. rw (step side) at (a.sides side).status_is in
-        concludes (Ok tt) (pushed_all (λ none side. (let (_, done) = e side in done))
-        (exact_at_end tool (λ side. (let (none, _) = e side in none))))
+        concludes (Ok tt) (pushed_all (λ none side. (e side).1) (exact_at_end tool (λ side. (e side).0)))
 
     pub ends_fallen : {s : Side} {n : ℕ} → IsDisorderDecided cmp key cursor store s n
         → MergePost tool old (state_by_side reader out after) (Err (faults.Disorder s n))
@@ -605,10 +604,8 @@ module _ {tool : MergeTool} {old : MergeState} (w : IsOpenMerge tool old) where
   first_line : (side : Side) {new : Reader} {cursor : Sorted} {before after : Slots} → 4 ≤ length before.lines
       → NextOkPost (key side) cmp (initial_cursor side) cursor (old.reader side) new before after
       → SideAfterNext terminator cmp (key side) (old.reader side) new cursor (base_slot side) before after [] None
-  first_line side four comes =
-      let (apart, low, _, _, _) = own_slots side (initial_cursor side) (fresh_slots side) in
-      next_invariant _ _ w.o _ _ _ _ _ _ _ _ _ (omega (arith, low, slot_low side)) apart
-      (none_read side) refl sorted_up_to_none refl comes
+  first_line side four comes = let own = own_slots side (initial_cursor side) (fresh_slots side) in
+      next_invariant _ _ w.o _ _ _ _ _ _ _ _ _ (omega (arith, own, slot_low side)) own.0 (none_read side) refl sorted_up_to_none refl comes
 
   abbrev no_lines : Side → Lines
   no_lines side = []
