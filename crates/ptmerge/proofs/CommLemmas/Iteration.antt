@@ -5,16 +5,15 @@ use Rattle.ptmerge.proofs
 use proofs.Common.{◌≡◌, ℕ, ◌<◌, List, [], ◌∷◌, ◌++◌, Ok, Err, length, refl, sym, arith, Comm, Output, PushEffect}
 use proofs.Common.{Reader, Slots, line, unlines, MergeFault, Side, First, Second, Sorted, Ended, comm_with}
 use proofs.Common.{column_entries, tab_if_shown, Lines, MergeTool, entries_by_key, lines_with_key, AdvanceOkPost}
-use proofs.Common.{AdvancePre, MergeState, MergePost, merge_state, Cmp, Key, both, with_side, other, HaveEqualKeys}
+use proofs.Common.{AdvancePre, MergeState, MergePost, merge_state, Cmp, Key, both, with_side, HaveEqualKeys}
 use proofs.Common.{HasOnlyLeastKey, IsDisorderDecided, IsReaderOf, AreValidCursors, StartOkPost, merge_inputs}
 use proofs.Common.{ClearFourSlotsPost, suc, ◌-◌, append-nil, entries, Bool}
 use proofs.MergeLemmas.Step.{BetweenSteps, between_next, advance_pre, reads_less, EndsIfFails, CursorsInvariant}
 use proofs.MergeLemmas.Step.{LoopInvariant, advance_ok, goes_merging, passing_now, runs_on, slots_of}
-use proofs.MergeLemmas.Step.{read_facts_current, iteration_fails, IsLineByLine, current_key_is_above, alone}
-use proofs.MergeLemmas.Step.{write_one_line, reads_ahead, place_is, wrote_and_sent, StoreHoldsTwoLines, holds_two}
-use proofs.MergeLemmas.Step.{keeps_two, ends_well, ends_fallen, start_ok}
+use proofs.MergeLemmas.Step.{read_facts_current, iteration_fails, IsLineByLine, alone, wrote_alone, alone_breaks}
+use proofs.MergeLemmas.Step.{reads_ahead, place_is, wrote_and_sent, StoreHoldsTwoLines, holds_two, keeps_two}
+use proofs.MergeLemmas.Step.{ends_well, ends_fallen, start_ok}
 use proofs.MergeLemmas.Orders.{IsKeyOrder, same_bytes}
-use proofs.MergeLemmas.Slots.{put_other, put_same}
 use proofs.MergeLemmas.Invariant.{AllWritten, MergeInvariant, line_is_least_run, lag_invariant_starts}
 use proofs.MergeLemmas.Invariant.{write_least_run, all_keys}
 use proofs.MergeLemmas.Exits.{at_current_line, state_by_side, IsOpenMerge}
@@ -138,15 +137,9 @@ module _ {job : Comm} {cmp : Cmp} {key : Side → Key} {old now : MergeState} {o
 
     module _ {new : Output} {tabs : List ℕ} (led : tabs ≡ tabs_of job s) (pushed : PushEffect now.out new
         (unlines (now.reader s).terminator (column_entries (hidden_of job s) tabs 1 (head s)))) where
-      wrote_line : MergeInvariant tool b (with_side s (ls s) p) old.out new
-          × AllWritten tool b (with_side s (ls s) p) old.out new
-      wrote_line =
-          let h = at_current_line (sides s) step.status_is in
-          let (above, under) = current_key_is_above _ w.o _ _ _ _ _ _ _ _ _ step.before (sides (other s)).status_is in
-          rw h.all (write_one_line _ w.o (is_line_by_line job cmp key) s (head s) _ _ _ _ _ between.clean merge_invariant
-          h.bound above under
-          (rw (entries_alone job cmp key s (head s) (whole_line_keys s (head s)))
-          (rw ((sides s).lines_read.terminator, led) at pushed)))
+      wrote_line : PushEffect now.out new (unlines (now.reader s).terminator (entries_by_key tool all_keys
+          (alone s (head s))))
+      wrote_line = rw (entries_alone job cmp key s (head s) (whole_line_keys s (head s))) (rw led at pushed)
 
       pub alone_continues : {one2 two2 : Sorted} {reader : Reader} {after : Slots}
           → Advances s one2 two2 reader after new
@@ -156,13 +149,13 @@ module _ {job : Comm} {cmp : Cmp} {key : Side → Key} {old now : MergeState} {o
         whole_line_keys = whole_line_keys;
         loop_invariant = rw (← place_is s one two one2 two2 h.continues.others)
             (runs_on w lines_before s step.status_is h.came (keeps_two w lines_before s step.status_is h.came keeps)
-            wrote_line.0);
+            (wrote_alone w lines_before (is_line_by_line job cmp key) step between.clean merge_invariant wrote_line).0);
         between = between_next between s h.continues;
       }
 
       pub alone_fails : EndsIfFails tool old now s (both one two s) new
-      alone_fails = iteration_fails w lines_before s step.status_is wrote_line (put_same s (ls s) p)
-          (rw (put_other s (ls s) p) (read_facts_current w lines_before (other s)))
+      alone_fails =
+          alone_breaks w lines_before (is_line_by_line job cmp key) step between.clean merge_invariant wrote_line
 
   -- a step for a line of both inputs, after the first input advanced: the second one is still at the line
   pub second_advance_pre : HaveEqualKeys cmp key (both one two) now.store

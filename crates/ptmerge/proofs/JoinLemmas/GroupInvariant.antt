@@ -442,8 +442,7 @@ module _ {call : JoinCall} {now : MergeState} {cursor : Side → Sorted} {end : 
   -- the current line is processed
   pub passing_now : (side : Side) → ReadFactsOf tool old now.reader q.ls
       (λ t. q.p t ++ with_added_line now cursor s g t) q.d side (now.reader side) []
-  passing_now = side_case (λ side. ReadFactsOf tool old now.reader q.ls
-      (λ t. q.p t ++ with_added_line now cursor s g t) q.d side (now.reader side) []) s
+  passing_now = side_case _ s
       (rw all_processed (read_facts_after_line (q.sides s) o l.head)) (simp put_other (group_read_facts q (other s)))
 
   -- writing failed, or reading the next line, after a prefix of the group's output was written

@@ -173,35 +173,23 @@ module _ (end : ℕ) (cmp : Cmp) (o : IsKeyOrder cmp) (key : Key) (old now new :
     at_head : (last : Option (List ℕ)) → cursor.previous_slot < length before.lines → IsSortedUpTo cmp key ls last
         → is_disordered cmp last (key e.line) ≡ false → Goal last (next_cursor Head (cursor.number + 1) same)
     at_head last within sorted_up_to no_disorder =
-        let now_is : line after cursor.previous_slot ≡ e.line =
-        rw e.stored (line_of_with_line before _ e.line within) in
+        let now_is : line after cursor.previous_slot ≡ e.line = rw e.stored (line_of_with_line before _ e.line within) in
         let more = sorted_up_to_more e.line sorted_up_to no_disorder in
         let (may_follow, under) = from_next o key last e.line no_disorder in
         at_next last (e.line ∷ []) e.line (next_cursor Head _ same) (AtLeast (key e.line))
         (lines_read_more lines_read e) (inr (omega (arith, length_push ls e.line))) sound (inr (e.line, refl, refl))
-        (omega (arith, number, length_push ls e.line))
-        (processed_before_line o more) (λ ended. cc) (rw now_is (record {
-          all = refl;
-          sorted_up_to = more;
-          bound = refl;
-          some = omega arith;
-        })) may_follow under e.stored
-        (omega (arith, max_length-append ls (e.line ∷ [])))
+        (omega (arith, number, length_push ls e.line)) (processed_before_line o more) (λ ended. cc)
+        (grind (arith, more, now_is)) may_follow under e.stored (omega (arith, max_length-append ls (e.line ∷ [])))
 
     at_fall : (last : Option (List ℕ)) → cursor.current_slot ≢ cursor.previous_slot → IsSortedUpTo cmp key ls last
         → IsLastKey key last cursor before → is_disordered cmp last (key e.line) ≡ true
         → Goal last (next_cursor (Disorder (cursor.number + 1)) (cursor.number + 1) same)
     at_fall None apart sorted_up_to is falls_now = cc
     at_fall (Some k) apart sorted_up_to (_, is) falls_now =
-        let kept : line after cursor.current_slot ≡ line before cursor.current_slot = rw e.stored
-        (line_other before cursor.previous_slot cursor.current_slot e.line (λ i. apart (sym i))) in
-        let key_is : k ≡ key (line after cursor.current_slot) = cc in
-        at_next (Some k) (e.line ∷ []) e.line (next_cursor (Disorder (cursor.number + 1)) (cursor.number + 1) same)
-        (AfterDisorder (record { last_key = k; line = length ls + 1 })) (lines_read_more lines_read e)
-        (inr (omega (arith, length_push ls e.line))) sound
-        (inr (e.line, refl, refl)) (omega (arith, number, length_push ls e.line))
-        (processed_to_disorder e.line sorted_up_to falls_now) (λ ended. cc)
-        (rw (← key_is, number) refl) (nothing_follows cmp key (Some k)) (λ j u. u) e.stored
+        at_next (Some k) (e.line ∷ []) e.line (next_cursor (Disorder (cursor.number + 1)) (cursor.number + 1) same) _
+        (lines_read_more lines_read e) (inr (omega (arith, length_push ls e.line))) sound (inr (e.line, refl, refl))
+        (omega (arith, number, length_push ls e.line)) (processed_to_disorder e.line sorted_up_to falls_now) (λ ended. cc)
+        (grind (arith, line_other, is)) (nothing_follows cmp key (Some k)) (λ j u. u) e.stored
         (omega (arith, max_length-append ls (e.line ∷ [])))
 
     at_line : (last : Option (List ℕ)) → cursor.previous_slot < length before.lines
@@ -229,8 +217,7 @@ module _ (end : ℕ) (cmp : Cmp) (o : IsKeyOrder cmp) (key : Key) (old now new :
 pub next_decreases : {key : Key} {cmp : Cmp} {cursor next : Sorted} {now new : Reader} {before after : Slots}
     → cursor.status ≡ Head → NextOkPost key cmp cursor next now new before after
     → budget new + reads_left next.status < budget now + reads_left cursor.status
-next_decreases {next = next} head (inl e) = grind (arith, reads_left_most)
-next_decreases head (inr e) = grind arith
+next_decreases head e = grind (arith, reads_left_most, e)
 
 -- ---- whether the current line has the key of the previous one
 

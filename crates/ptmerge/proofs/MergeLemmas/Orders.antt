@@ -205,8 +205,7 @@ module _ (tool : MergeTool) (o : IsKeyOrder tool.cmp) where
   pub lines_with_key-front : (key : Key) (k : List ℕ) (f r : Lines) → EachKey (λ x. x ≡ k) key f
       → (lines_with_key key (f ++ r) k ≡ f ++ lines_with_key key r k) × (without key k (f ++ r) ≡ without key k r)
   lines_with_key-front key k [] r e = (refl, refl)
-  lines_with_key-front key k (x ∷ f) r (here, more) =
-      let (ih, others) = lines_with_key-front key k f r more in rw (same_bytes here) (ap (λ l. x ∷ l) ih, others)
+  lines_with_key-front key k (x ∷ f) r (here, more) = let ih = lines_with_key-front key k f r more in grind (arith, ih, same_bytes here)
 
   pub at_most-same : (key : Key) (k : List ℕ) (f r : Lines) → EachKey (λ x. x ≡ k) key f → EachKey (AtMost cmp k) key r
       → EachKey (AtMost cmp k) key (f ++ r)

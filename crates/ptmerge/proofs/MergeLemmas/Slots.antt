@@ -66,8 +66,7 @@ four_total : (a b c d : List ℕ) (rest : List (List ℕ))
 four_total a b c d rest = grind (arith, common_steps)
 
 pub has_lines_none : (xs : List (List ℕ)) → 4 ≤ length xs → total_bytes xs ≡ 0 → HasLines (λ side. 0) 0 xs
-has_lines_none (a ∷ b ∷ c ∷ d ∷ rest) four none = omega (arith, four_total a b c d rest)
-has_lines_none few four none = absurd (omega arith)
+has_lines_none xs four none = grind (arith, four_total)
 
 -- the number of slots, and the bytes in all of them
 pub record LinesTotal (xs : List (List ℕ)) (m : Side → ℕ) (more : ℕ) : Type 0 where
@@ -78,15 +77,13 @@ pub record LinesTotal (xs : List (List ℕ)) (m : Side → ℕ) (more : ℕ) : T
 
 pub has_lines_total : (xs : List (List ℕ)) (m : Side → ℕ) (more : ℕ) → HasLines m more xs
     → LinesTotal xs m more
-has_lines_total (a ∷ b ∷ c ∷ d ∷ rest) m more h = grind (arith, four_total)
-has_lines_total few m more h = absurd h
+has_lines_total xs m more h = grind (arith, four_total)
 
 -- the next line of an input replaces its previous line
 pub set_line : (s : Side) (cursor : Sorted) (xs : List (List ℕ)) (m k : Side → ℕ) (more : ℕ) (x : List ℕ)
     → HasSlots s cursor → HasLines m more xs → ((side : Side) → m side ≤ k side) → length x ≤ k s
     → HasLines k more (set xs cursor.previous_slot x)
-set_line s cursor (a ∷ b ∷ c ∷ d ∷ rest) m k more x slots h up l = search rules
-set_line s cursor few m k more x slots h up l = absurd h
+set_line s cursor xs m k more x slots h up l = search rules
 
 -- The invariant of the store of a merge: two lines of each input, of at most `m` bytes each.
 pub record StoreOfLines (before store : Slots) (m : Side → ℕ) : Type 0 where

@@ -13,12 +13,12 @@ use proofs.Common.{Write, MergeRunPre, merge_state, WriteFaultPost, both, AreVal
 use proofs.Common.{push_trans, cond, Ordering, is_eq, is_gt, CopyToGroupPost, same_key_at, status_at, IsValidCursor}
 use proofs.Common.{◌<◌, Result, ClearFourSlotsPost, Ok, Bool, terminator, initial_cursor, MergeInputs, StartErrPost}
 use proofs.Common.{StartOkPost, StartFirstPost, CallOutcome, AllPushed, Received, both_sides, reads_nothing}
-use proofs.Common.{merge_engine, merge_end, IsErrAnd, err_from_is_err_and}
-use proofs.MergeLemmas.Invariant.{output_of, Bound, AtLeast, AfterDisorder, NothingMore, MayFollow, MayDisorder}
-use proofs.MergeLemmas.Invariant.{IsDisorderFrom, IsUnder, IsLeastKeyRun, LagInvariant, MergeInvariant, IsExactStop}
-use proofs.MergeLemmas.Invariant.{line_is_least_run, lag_invariant_starts, not_below, write_least_run, bound_changes}
-use proofs.MergeLemmas.Invariant.{all_keys, none_wanted, NoBound, sorted_up_to_none, merge_invariant_starts}
-use proofs.MergeLemmas.Invariant.{AllWritten, exact_at_end}
+use proofs.Common.{merge_engine, merge_end, IsErrAnd, err_from_is_err_and, HasOnlyLeastKey}
+use proofs.MergeLemmas.Invariant.{output_of, Bound, AfterDisorder, NothingMore, MayFollow, MayDisorder, IsUnder}
+use proofs.MergeLemmas.Invariant.{IsLeastKeyRun, LagInvariant, MergeInvariant, IsExactStop, line_is_least_run}
+use proofs.MergeLemmas.Invariant.{lag_invariant_starts, not_below, write_least_run, bound_changes, all_keys}
+use proofs.MergeLemmas.Invariant.{none_wanted, NoBound, sorted_up_to_none, merge_invariant_starts, AllWritten}
+use proofs.MergeLemmas.Invariant.{exact_at_end}
 use proofs.MergeLemmas.Orders.{EachKey, EachKey-weaker, lines_with_key-above, IsKeyOrder, Above, above_at_most}
 use proofs.MergeLemmas.Orders.{above_up, greater_flips, is_greater}
 use proofs.MergeLemmas.Slots.{both_each, put_both, put_each, put_other, put_same, side_case, line_other, StoreOfLines}
@@ -93,22 +93,6 @@ front_none {cmp} o {key} {k = k} above under = record {
   under = under;
 }
 
--- a line is processed whose key precedes all lines that may follow in the other input
-pub write_one_line : (tool : MergeTool) (o : IsKeyOrder tool.cmp) → IsLineByLine tool
-    → (s : Side) (x : List ℕ) (b : Side → Bound) (p : Side → Lines) (was is new : Output) → is.write_failed ≡ false
-    → MergeInvariant tool b p was is → b s ≡ AtLeast (tool.key s x)
-    → IsAbove tool.cmp (tool.key (other s)) (tool.key s x) (b (other s)) → IsUnder tool.cmp (b (other s)) (tool.key s x)
-    → PushEffect is new (unlines tool.terminator (entries_by_key tool all_keys (alone s x)))
-    → MergeInvariant tool b (with_side s (p s ++ x ∷ []) p) was new
-    × AllWritten tool b (with_side s (p s ++ x ∷ []) p) was new
-write_one_line tool o laws s x b p was is new clean m is_from above under wrote =
-    let k = tool.key s x in
-    let none = lines_with_key-above tool o (tool.key (other s)) k in
-    write_least_run o k (with_side s (p s ++ x ∷ []) p) (alone s x)
-    (side_case _ s (simp put_same (line_is_least_run o is_from refl)) (simp put_other (front_none o above under)))
-    (side_case _ s (simp put_same) (simp (put_other, append-nil))) (laws.none k)
-    (λ r c. grind (arith, laws, none (r (other s)) (above (r (other s)) (c (other s))))) clean m wrote
-
 -- ---- the invariant of both inputs
 
 abbrev pub SidesInvariant : MergeTool → (Side → Reader) → (Side → Reader) → (Side → Sorted) → Slots → (Side → Lines)
@@ -180,31 +164,24 @@ module _ (cmp : Cmp) (o : IsKeyOrder cmp) where
       → Precedes cmp s l last
   named_precedes s l head last m h = grind (arith, not_below, greater_flips cmp o last l)
 
-  -- the other input, if this one is reported
-  named_other : (key : Key) (s : Side) (d : FirstDisorder) (status : CursorStatus) (cursor : Sorted) (store : Slots)
+  -- the disorder of the other input is not the one to report
+  reported_over : (key : Key) (s : Side) (d : FirstDisorder) (status : CursorStatus) (cursor : Sorted) (store : Slots)
       (now : Reader) (ls p : Lines) (b : Bound)
       → IsReportable cmp s d.last_key status (key (line store cursor.current_slot))
       (key (line store cursor.previous_slot))
-      → MatchesStatus cmp key status cursor store now ls p b → (f : Option FirstDisorder) (r : Lines)
-      → MayFollow cmp key b r → MayDisorder cmp b f
-      → IsReportedOver cmp s d f × EachKey (λ k. is_le (cmp k d.last_key) ≡ false) key r
-  named_other key s d Head cursor store now ls p b named line_is f r c is_disordered =
-      let l = d.last_key in
-      let head = key (line store cursor.current_slot) in
-      let above : Above cmp l head = is_greater (cmp head l) named in (
-        elim f as (λ g. IsDisorderFrom cmp head g → IsReportedOver cmp s d
-            g) [
-              | None ↦ λ u. tt
-              | Some e ↦ λ u. precedes_above s l e.last_key (above_up cmp o l head e.last_key above u)
-            ]
-            (rw line_is.bound at is_disordered),
-        EachKey-weaker _ _ (λ k h. ap is_le (above_up cmp o l head k above h)) _ _ (rw line_is.bound at c),
-      )
-  named_other key s d Ended cursor store now ls p b named (bound, _) f r c is_disordered = grind arith
-  named_other key s d (Disorder m) cursor store now ls p b named st f r c is_disordered = grind (
+      → MatchesStatus cmp key status cursor store now ls p b → (f : Option FirstDisorder) → MayDisorder cmp b f
+      → IsReportedOver cmp s d f
+  reported_over key s d status cursor store now ls p b named st f is_disordered = grind (
     arith,
+    precedes_above,
+    above_up,
+    is_greater,
     named_precedes,
   )
+
+  reportable_precedes : (s : Side) (l : List ℕ) (status : CursorStatus) (head last : List ℕ)
+      → IsReportable cmp s l status head last → PrecedesInput cmp l status head last
+  reportable_precedes s l status head last named = grind (arith, greater_flips, is_greater)
 
 -- an input is out of order, and no key that may follow is up to its last key
 pub stops_at : (tool : MergeTool) (o : IsKeyOrder tool.cmp) (old now : Side → Reader) (cursor : Side → Sorted)
@@ -214,13 +191,14 @@ pub stops_at : (tool : MergeTool) (o : IsKeyOrder tool.cmp) (old now : Side → 
 stops_at tool o old now cursor store ls p b sides s n dec l r c f =
     let d : FirstDisorder = record { last_key = previous_key tool.key cursor store s; line = n } in
     let disordered : b s ≡ AfterDisorder d = rw dec.status_is at (sides s).status_is in
-    let (reported, above) = named_other _ o _ s d _ _ _ _ _ _ _ dec.named (sides (other s)).status_is _ _ (c (other s))
-    (f (other s)) in
+    let st = (sides (other s)).status_is in
+    let (above, _) = current_key_is_above _ o _ d.last_key _ _ _ _ _ _ _
+    (reportable_precedes _ o s d.last_key _ _ _ dec.named) st in
     rw (named_is tool.cmp s (λ side. first_disorder tool.cmp (tool.key side) (l side)) d (rw disordered at (f s))
-    reported) (
+    (reported_over _ o _ s d _ _ _ _ _ _ _ dec.named st _ (f (other s)))) (
       none_wanted tool (λ k. is_le (tool.cmp k d.last_key)) r
-          (side_case (λ side. EachKey (λ k. is_le (tool.cmp k d.last_key) ≡ false) (tool.key side) (r side)) s
-          (rw (rw disordered at (c s)) tt) above),
+          (side_case _ s (rw (rw disordered at (c s)) tt)
+          (EachKey-weaker _ _ (λ k h. ap is_le h) _ _ (above _ (c (other s))))),
       refl,
     )
 
@@ -411,12 +389,35 @@ module _ {tool : MergeTool} {old : MergeState} (w : IsOpenMerge tool old) {reade
       → EndsIfFails tool old (state_by_side reader out store) s (cursor s) out
   iteration_fails s head {q} {out} (m, lag) same rest =
       advance_fails w {now = state_by_side reader out store} {cursor = cursor s} {p = q} (record {
-        facts = side_case (λ side. ReadFactsBy side (q side)) s (rw same (passing_now s head)) rest;
+        facts = side_case _ s (rw same (passing_now s head)) rest;
         all = same;
         order = λ r piece free. both_begun begun;
         denied = a.holds.denied;
         fits = a.holds.line s;
       }) lag (λ new piece g. processed_come_first w new g m)
+
+  -- the current line of the input `s`, whose key precedes everything in the other input, is written
+  module _ (laws : IsLineByLine tool) {s : Side} (step : HasOnlyLeastKey cmp key cursor store s) {is new : Output}
+      (clean : is.write_failed ≡ false) (m : MergeInvariant tool b p old.out is)
+      (wrote : PushEffect is new (unlines (reader s).terminator (entries_by_key tool all_keys
+      (alone s (line store (cursor s).current_slot))))) where
+    pub wrote_alone : MergeInvariant tool b (with_side s (ls s) p) old.out new
+        × AllWritten tool b (with_side s (ls s) p) old.out new
+    wrote_alone =
+        let x = line store (cursor s).current_slot in
+        let h = at_current_line (a.sides s) step.status_is in
+        let (above, under) =
+        current_key_is_above _ w.o _ _ _ _ _ _ _ _ _ step.before (a.sides (other s)).status_is in
+        let none = lines_with_key-above tool w.o (key (other s)) (key s x) in
+        write_least_run w.o (key s x) (with_side s (ls s) p) (alone s x)
+        (side_case _ s (simp put_same (line_is_least_run w.o h.bound refl)) (simp put_other (front_none w.o above under)))
+        (side_case _ s (simp put_same h.all) (simp (put_other, append-nil))) (laws.none (key s x))
+        (λ r c. grind (arith, laws, none (r (other s)) (above (r (other s)) (c (other s))))) clean m
+        (rw (a.sides s).lines_read.terminator at wrote)
+
+    pub alone_breaks : EndsIfFails tool old (state_by_side reader new store) s (cursor s) new
+    alone_breaks = iteration_fails s step.status_is wrote_alone (put_same s (ls s) p)
+        (rw (put_other s (ls s) p) (read_facts_current (other s)))
 
   -- the slots are emptied at the end
   module _ {out : Output} (m : MergeInvariant tool b p old.out out) (clean : out.write_failed ≡ false) {after : Slots}
@@ -476,10 +477,7 @@ module _ {tool : MergeTool} {old : MergeState} (w : IsOpenMerge tool old) {reade
     n = next_at tool w.o a.sides a.slots four s head _ _ _ comes
 
     pub keeps_two : StoreHoldsTwoLines old.store store ls → StoreHoldsTwoLines old.store after (with_side s n.now_ls ls)
-    keeps_two keeps = store_with_line s (cursor s) (λ side. max_length (with_side s n.now_ls ls side)) n.bytes
-        (a.slots s) keeps
-        (put_each (λ side (l : Lines). max_length (ls side) ≤ max_length l) s n.now_ls ls n.longer
-        (λ side. omega arith)) (rw (put_same s n.now_ls ls) n.fits) n.stored
+    keeps_two keeps = store_with_line s (cursor s) _ n.bytes (a.slots s) keeps (side_case _ s (simp put_same n.longer) (simp put_other (omega arith))) (simp put_same n.fits) n.stored
 
     sides_next : SidesInvariant tool old.reader (with_side s new reader) (with_side s next cursor) after
         (with_side s n.now_ls ls) (with_side s (ls s) p) (with_side s n.bound b)
@@ -618,9 +616,7 @@ module _ {tool : MergeTool} {old : MergeState} (w : IsOpenMerge tool old) where
     began = first_line First (omega (arith, s.four.slots)) s.came
 
     half_store : StoreOfLines old.store s.mid (λ side. max_length (both began.now_ls [] side))
-    half_store = store_with_line First (initial_cursor First) (λ side. max_length (both began.now_ls [] side))
-        began.bytes (fresh_slots First) (store_of_no_lines s.four w.allowed w.empty)
-        (elim [ First ↦ omega arith | Second ↦ omega arith ]) began.fits began.stored
+    half_store = store_with_line First (initial_cursor First) _ began.bytes (fresh_slots First) (store_of_no_lines s.four w.allowed w.empty) (elim [ First ↦ omega arith | Second ↦ omega arith ]) began.fits began.stored
 
     half_invariant : MergeInvariant tool (both began.bound NoBound) no_lines old.out old.out
     half_invariant = search (rules, bound_changes, began, merge_invariant_starts)
@@ -641,14 +637,13 @@ module _ {tool : MergeTool} {old : MergeState} (w : IsOpenMerge tool old) where
       let f = began s in
       let k = first_line Second (mid_four s) s.later in
       let apart = slots_apart Second (initial_cursor Second) (cursor First) (fresh_slots Second) slots in
-      let first : SideInvariant terminator cmp (key First) (old.reader First) (new.reader First) (cursor First) new.store f.now_ls [] f.bound = grind (arith, side_invariant_kept, f.side_invariant, k.stored, line_other, apart) in
       record {
         ls = both f.now_ls k.now_ls;
         p = no_lines;
         b = both f.bound k.bound;
-        sides = elim [ First ↦ first | Second ↦ k.side_invariant ];
+        sides = elim [ First ↦ grind (arith, side_invariant_kept, k.stored, line_other, apart) | Second ↦ k.side_invariant ];
         merge_invariant = bound_changes Second k.bound (half_invariant s) k.may_follow k.under;
-        keeps = store_with_line Second (initial_cursor Second) (λ side. max_length (both f.now_ls k.now_ls side)) k.bytes (fresh_slots Second) (half_store s) (elim [ First ↦ omega arith | Second ↦ omega arith ]) k.fits k.stored;
+        keeps = store_with_line Second (initial_cursor Second) _ k.bytes (fresh_slots Second) (half_store s) (elim [ First ↦ omega arith | Second ↦ omega arith ]) k.fits k.stored;
       }
 
   -- nothing was read of an input
