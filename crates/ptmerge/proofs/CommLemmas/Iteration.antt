@@ -2,12 +2,12 @@
 -- So each step of the merge extends the output by the entries of its key, and the loop invariant of the merge carries
 -- over.
 use Rattle.ptmerge.proofs
-use proofs.Common.{◌≡◌, ℕ, ◌<◌, List, [], ◌∷◌, ◌++◌, Ok, Err, length, refl, sym, arith, Comm, Output, PushEffect}
-use proofs.Common.{Reader, Slots, line, unlines, MergeFault, Side, First, Second, Sorted, Ended, comm_with}
-use proofs.Common.{column_entries, tab_if_shown, Lines, MergeTool, entries_by_key, lines_with_key, AdvanceOkPost}
-use proofs.Common.{AdvancePre, MergeState, MergePost, merge_state, Cmp, Key, both, with_side, HaveEqualKeys}
-use proofs.Common.{HasOnlyLeastKey, IsDisorderDecided, IsReaderOf, AreValidCursors, StartOkPost, merge_inputs}
-use proofs.Common.{ClearFourSlotsPost, suc, ◌-◌, append-nil, entries, Bool}
+use proofs.Common.{◌≡◌, ℕ, ◌<◌, List, [], ◌∷◌, ◌++◌, Ok, Err, refl, sym, arith, Comm, Output, PushEffect, Reader}
+use proofs.Common.{Slots, line, unlines, MergeFault, Side, First, Second, Sorted, Ended, comm_with, column_entries}
+use proofs.Common.{tab_if_shown, Lines, MergeTool, entries_by_key, AdvanceOkPost, AdvancePre, MergeState, MergePost}
+use proofs.Common.{merge_state, Cmp, Key, both, with_side, HaveEqualKeys, HasOnlyLeastKey, IsDisorderDecided}
+use proofs.Common.{IsReaderOf, AreValidCursors, StartOkPost, merge_inputs, ClearFourSlotsPost, suc, ◌-◌, append-nil}
+use proofs.Common.{entries, Bool}
 use proofs.MergeLemmas.Step.{BetweenSteps, between_next, advance_pre, reads_less, EndsIfFails, CursorsInvariant}
 use proofs.MergeLemmas.Step.{LoopInvariant, advance_ok, goes_merging, passing_now, runs_on, slots_of}
 use proofs.MergeLemmas.Step.{read_facts_current, iteration_fails, IsLineByLine, alone, wrote_alone, alone_breaks}
@@ -55,17 +55,16 @@ module _ (job : Comm) (x : List ℕ) where
   one_common_entry = grind (arith, no_entries, append-nil (common_entries 1))
 
   entries_both : (n k : ℕ) → entries job x (suc n) (suc k) ≡ entries job x 1 1 ++ entries job x n k
-  entries_both n k = grind (arith, one_common_entry, one_more_entry)
+  entries_both n k = grind (arith, no_entries, one_more_entry)
 
 module _ (job : Comm) (cmp : Cmp) (key : Side → Key) where
   is_line_by_line : IsLineByLine (comm_with job cmp key)
-  is_line_by_line = grind (arith, entries_none, only_first, one_more_entry, only_second)
+  is_line_by_line = grind (arith, no_entries, one_more_entry, append-nil)
 
   -- the entries of one line of one input alone, if the key is the line
   entries_alone : (s : Side) (x : List ℕ) → key s x ≡ x → entries_by_key (comm_with job cmp key) all_keys
       (alone s x) ≡ column_entries (hidden_of job s) (tabs_of job s) 1 x
-  entries_alone First x whole_line_keys = grind (arith, same_bytes, only_first)
-  entries_alone Second x whole_line_keys = grind (arith, same_bytes, only_second)
+  entries_alone s x w = grind (arith, same_bytes, only_first, only_second)
 
   -- the entries of one line of both inputs
   entries_of_pair : IsKeyOrder cmp → (x y : List ℕ) → key First x ≡ x → key Second y ≡ key First x
@@ -132,7 +131,8 @@ module _ {job : Comm} {cmp : Cmp} {key : Side → Key} {old now : MergeState} {o
   -- a step for a line of one input alone
   module _ {s : Side} (step : HasOnlyLeastKey cmp key (both one two) now.store s) where
     pub alone_decreases : {one2 two2 : Sorted} {reader : Reader} {after : Slots} {new : Output}
-        → Advances s one2 two2 reader after new → reads_ahead (with_side s reader now.reader) one2 two2 < reads_ahead now.reader one two
+        → Advances s one2 two2 reader after new → reads_ahead (with_side s reader now.reader) one2 two2 < reads_ahead
+        now.reader one two
     alone_decreases h = reads_less between s h.continues step.status_is h.came
 
     module _ {new : Output} {tabs : List ℕ} (led : tabs ≡ tabs_of job s) (pushed : PushEffect now.out new
@@ -185,8 +185,7 @@ module _ {job : Comm} {cmp : Cmp} {key : Side → Key} {old now : MergeState} {o
         write_least_run w.o (key First x) both_written (both (x ∷ []) (head Second ∷ []))
         (elim [ First ↦ line_is_least_run w.o h1.bound refl | Second ↦ line_is_least_run w.o h2.bound (sym step.same) ])
         (elim [ First ↦ h1.all | Second ↦ h2.all ]) (entries_none job (key First x))
-        (λ r c. entries_both job (key First x) (length (lines_with_key (key First) (r First) (key First x)))
-        (length (lines_with_key (key Second) (r Second) (key First x)))) between.clean merge_invariant wrote
+        (λ r c. entries_both job (key First x) _ _) between.clean merge_invariant wrote
 
     module _ {mid : Output} {tabs : List ℕ} (led : tabs ≡ tab_if_shown job.hide1 ++ tab_if_shown job.hide2)
         (pushed : PushEffect now.out mid (unlines (now.reader First).terminator

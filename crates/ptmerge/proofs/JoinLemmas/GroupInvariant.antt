@@ -103,7 +103,8 @@ module _ {tool : MergeTool} {old : MergeState} (w : IsOpenMerge tool old) {mid :
     pub group_comes_first : {extra : Lines} → OutputStartsWith tool g d k extra → (rest : Lines)
         × (merged_entries tool all ≡ (front ++ extra) ++ rest)
     group_comes_first {extra} starts =
-        let (rest, is) = starts.rest is_wanted coming (λ side. (seen side).may_follow) (wanted k (self_at_most cmp o k)) in
+        let (rest, is) = starts.rest is_wanted coming (λ side. (seen side).may_follow)
+        (wanted k (self_at_most cmp o k)) in
         (rest, cc (parts is_wanted, front_is_first, is, append_assoc front extra rest))
 
     -- the entries of lesser keys are not all, if the group has entries

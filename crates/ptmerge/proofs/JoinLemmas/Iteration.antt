@@ -290,7 +290,8 @@ module _ {job : Join} {cmp : Cmp} {key : Side → Key} {old : MergeState} {phase
 
       pub alone_fails : EndsIfFails (join_with job cmp key) old now s (both one two s) new
       alone_fails =
-          alone_breaks t.opened.w lines_before (is_line_by_line job cmp key) step t.clean r.merge_invariant wrote_unpaired
+          alone_breaks t.opened.w lines_before (is_line_by_line job cmp key) step t.clean r.merge_invariant
+          wrote_unpaired
 
     -- both inputs have the same key, and a group of it begins
     pub group_opens : HaveEqualKeys cmp key (both one two) now.store

@@ -2,17 +2,16 @@
 -- others are known for each input, and the contract of the tool follows from these and from the output.
 use Rattle.ptmerge.proofs
 use proofs.Common.{◌≡◌, ◌≢◌, inl, inr, ℕ, ◌+◌, ◌<◌, ◌≤◌, ◌&&◌, Bool, true, false, cond, List, [], ◌∷◌, ◌++◌, Option}
-use proofs.Common.{Some, None, length, refl, sym, ◌∙◌, ap, subst, arith, bytes_eq, Ordering, is_eq, is_gt, nat_tests}
-use proofs.Common.{append-nil, length_push, FillLine, Reader, IsDone, IsSound, budget, Slots, line, with_line}
-use proofs.Common.{max_length, line_of_with_line, Sorted, CursorStatus, Head, Ended, Disorder, Lines, Cmp, Key}
-use proofs.Common.{is_head, status_at, same_key_at, NextOkPost, Result, Err, max, Received, known_lines, Output}
-use proofs.Common.{ReaderAdvance, unlines, ◌⊎◌, ⊎_elim, length-append, Memory, lines, IsLine, advance_trans}
-use proofs.Common.{append_assoc, push_trans, bounded_lag_after, unlines-append, MergeFault, Write, Side, First}
-use proofs.Common.{Second, MergeTool, entries_by_key, decided_output, disorder, first_disorder, lines_of}
-use proofs.Common.{merge_output, merged_entries, MergeState, MergePost, HasNoLine, other, reads_nothing}
-use proofs.Common.{EnsureFourSlotsErrPost, ◌*◌, option_map, CallEnd, ReadFault, CallOutcome, AreAllConsistent}
-use proofs.Common.{with_input, given_before, given_by, CallProgress, DecidedIfReadFailed, call_on_failed_output}
-use proofs.Common.{IsPrefix, total_bytes, both_sides, merge_engine, merge_end, disordered_line}
+use proofs.Common.{Some, None, length, refl, sym, ◌∙◌, ap, subst, arith, bytes_eq, nat_tests, append-nil, length_push}
+use proofs.Common.{FillLine, Reader, IsDone, IsSound, budget, Slots, line, with_line, max_length, line_of_with_line}
+use proofs.Common.{Sorted, CursorStatus, Head, Ended, Disorder, Lines, Cmp, Key, is_head, status_at, same_key_at}
+use proofs.Common.{NextOkPost, Result, Err, max, Received, known_lines, Output, ReaderAdvance, unlines, ◌⊎◌, ⊎_elim}
+use proofs.Common.{length-append, Memory, lines, IsLine, advance_trans, append_assoc, push_trans, bounded_lag_after}
+use proofs.Common.{unlines-append, MergeFault, Write, Side, First, Second, MergeTool, entries_by_key, decided_output}
+use proofs.Common.{disorder, first_disorder, lines_of, merge_output, merged_entries, MergeState, MergePost, HasNoLine}
+use proofs.Common.{other, reads_nothing, EnsureFourSlotsErrPost, ◌*◌, option_map, CallEnd, ReadFault, CallOutcome}
+use proofs.Common.{AreAllConsistent, with_input, given_before, given_by, CallProgress, DecidedIfReadFailed}
+use proofs.Common.{call_on_failed_output, IsPrefix, total_bytes, both_sides, merge_engine, merge_end, disordered_line}
 use proofs.MergeLemmas.Lag.{decided_at, ProcessedNearly, LinesToCome, LagPoint, back, unsettled, lag_bound}
 use proofs.MergeLemmas.Lag.{unread_decides_nothing, unread_decides_no_disorder}
 use proofs.MergeLemmas.Invariant.{output_of, Bound, NoBound, AtLeast, AfterDisorder, NothingMore, MayFollow, IsUnder}
@@ -104,9 +103,6 @@ reads_left Head = 1
 reads_left Ended = 0
 reads_left (Disorder n) = 0
 
-reads_left_most : (s : CursorStatus) → reads_left s ≤ 1
-reads_left_most s = grind arith
-
 -- the input after its next line was read, if all earlier lines are processed
 pub record SideAfterNext (end : ℕ) (cmp : Cmp) (key : Key) (old new : Reader) (cursor : Sorted) (slot : ℕ)
     (before after : Slots) (ls : Lines) (last : Option (List ℕ)) : Type 0 where
@@ -173,7 +169,8 @@ module _ (end : ℕ) (cmp : Cmp) (o : IsKeyOrder cmp) (key : Key) (old now new :
     at_head : (last : Option (List ℕ)) → cursor.previous_slot < length before.lines → IsSortedUpTo cmp key ls last
         → is_disordered cmp last (key e.line) ≡ false → Goal last (next_cursor Head (cursor.number + 1) same)
     at_head last within sorted_up_to no_disorder =
-        let now_is : line after cursor.previous_slot ≡ e.line = rw e.stored (line_of_with_line before _ e.line within) in
+        let now_is : line after cursor.previous_slot ≡ e.line = rw e.stored (line_of_with_line before _ e.line within)
+        in
         let more = sorted_up_to_more e.line sorted_up_to no_disorder in
         let (may_follow, under) = from_next o key last e.line no_disorder in
         at_next last (e.line ∷ []) e.line (next_cursor Head _ same) (AtLeast (key e.line))
@@ -188,7 +185,8 @@ module _ (end : ℕ) (cmp : Cmp) (o : IsKeyOrder cmp) (key : Key) (old now new :
     at_fall (Some k) apart sorted_up_to (_, is) falls_now =
         at_next (Some k) (e.line ∷ []) e.line (next_cursor (Disorder (cursor.number + 1)) (cursor.number + 1) same) _
         (lines_read_more lines_read e) (inr (omega (arith, length_push ls e.line))) sound (inr (e.line, refl, refl))
-        (omega (arith, number, length_push ls e.line)) (processed_to_disorder e.line sorted_up_to falls_now) (λ ended. cc)
+        (omega (arith, number, length_push ls e.line)) (processed_to_disorder e.line sorted_up_to falls_now)
+        (λ ended. cc)
         (grind (arith, line_other, is)) (nothing_follows cmp key (Some k)) (λ j u. u) e.stored
         (omega (arith, max_length-append ls (e.line ∷ [])))
 
@@ -217,13 +215,9 @@ module _ (end : ℕ) (cmp : Cmp) (o : IsKeyOrder cmp) (key : Key) (old now new :
 pub next_decreases : {key : Key} {cmp : Cmp} {cursor next : Sorted} {now new : Reader} {before after : Slots}
     → cursor.status ≡ Head → NextOkPost key cmp cursor next now new before after
     → budget new + reads_left next.status < budget now + reads_left cursor.status
-next_decreases head e = grind (arith, reads_left_most, e)
+next_decreases head e = grind (arith, e)
 
 -- ---- whether the current line has the key of the previous one
-
--- keys that are equal are in order
-status_same_key : (n : ℕ) (r : Ordering) → is_eq r ≡ (is_head (cond (is_gt r) (Disorder n) Head) && is_eq r)
-status_same_key n r = grind arith
 
 pub next_same_key : (cmp : Cmp) (o : IsKeyOrder cmp) (key : Key) (cursor next : Sorted) (now new : Reader)
     (before after : Slots)
@@ -231,7 +225,7 @@ pub next_same_key : (cmp : Cmp) (o : IsKeyOrder cmp) (key : Key) (cursor next : 
     → NextOkPost key cmp cursor next now new before after
     → next.same ≡ (is_head next.status && bytes_eq (key (line before cursor.current_slot))
     (key (line after next.current_slot)))
-next_same_key cmp o key cursor next now new before after some within e = grind (arith, line_of_with_line, status_same_key, equal_is, e)
+next_same_key cmp o key cursor next now new before after some within e = grind (arith, line_of_with_line, equal_is, e)
 
 -- ---- an exit
 
@@ -274,7 +268,8 @@ both_begun begun = record { first = inl (begun First); second = inl (begun Secon
 -- lines without a text are none
 no_lines_left : (end : ℕ) (done rest : Lines) → unlines end done ≡ unlines end (done ++ rest) → rest ≡ []
 no_lines_left end done [] same = refl
-no_lines_left end done (x ∷ rest) same = absurd (omega (arith, simp (unlines-append, length-append) at (ap length same)))
+no_lines_left end done (x ∷ rest) same =
+    absurd (omega (arith, simp (unlines-append, length-append) at (ap length same)))
 
 -- the measure of a tool that stores two lines of each input
 abbrev pub HoldsTwoLines : MergeTool → Type 0
@@ -323,8 +318,8 @@ module _ {tool : MergeTool} {old : MergeState} (w : IsOpenMerge tool old) (new :
 
   input_lines : (texts : Side → List ℕ) → AreAllConsistent both_sides given texts → (side : Side)
       → HoldsLines (now side) (ls side) (piece side) (lines tool.terminator (texts side))
-  input_lines texts agree side = lines_read_of_input (g side).lines_read (g side).reads (g side).line
-      (texts side) (agree side refl)
+  input_lines texts agree side =
+      lines_read_of_input (g side).lines_read (g side).reads (g side).line _ (agree side refl)
 
   pub continues : (texts : Side → List ℕ) → AreAllConsistent both_sides given texts → (side : Side)
       → Continues (now side) (ls side) (lines tool.terminator (texts side))
@@ -391,10 +386,7 @@ module _ {tool : MergeTool} {old : MergeState} (w : IsOpenMerge tool old) (new :
         let begins = subst (λ (all : Side → Received). IsPrefix (decided_output tool all)
         (output_of tool front)) (λ i t. with_own side given t i)
         (decided_at tool w.o given front _ tail _ lag.split lag.under_bound future side point) in
-        rw (← lag.all) (record {
-          rest = begins.rest ++ bytes;
-          is = cc (begins.is, append_assoc (decided_output tool given) begins.rest bytes);
-        })
+        search (rules, begins, lag, append_assoc)
 
     progress : Fits tool old.store now ls piece new.store
         → CallProgress both_sides (merge_engine tool) old new took (unlines tool.terminator done)
@@ -404,13 +396,8 @@ module _ {tool : MergeTool} {old : MergeState} (w : IsOpenMerge tool old) (new :
       never_failed = λ side read. w.unfailed side;
       writable = w.writable;
       wrote = rw lag.all at (push_trans _ _ _ _ _ lag.clean lag.wrote lag.more);
-      is_prefix = λ texts agree.
-          let (rest, is) = first (lines_of tool texts) (continues texts agree) in
-          record {
-            rest = unlines tool.terminator rest;
-            is = ap (unlines tool.terminator) is ∙ unlines-append tool.terminator done rest;
-          };
-      -- everything was written that was decided two blocks of an input earlier
+      is_prefix = λ texts agree. (let come = first (lines_of tool texts) (continues texts agree) in search
+          (rules, come, unlines-append));
       bounded_lag = λ of read. rw lag.all at (bounded_lag_after (λ came. decided_output tool
           (with_input both_sides of (came tt) given)) (λ u. given of) old.out lag.mid
           (output_of tool front)
@@ -422,15 +409,10 @@ module _ {tool : MergeTool} {old : MergeState} (w : IsOpenMerge tool old) (new :
       room = omega (arith, has);
     }
       where
-        shortest : Side → List ℕ
-        shortest side = (given side).bytes
-
         has : max (length old.store.lines) 4 ≤ length new.store.lines
-        has = let (_, _, least) = fits (lines_of tool shortest) (input_lines shortest (λ side read. record {
-          rest = [];
-          is = sym (append-nil (given side).bytes);
-          whole = λ eof. refl;
-        })) in least
+        has = (fits (lines_of tool (λ side. (given side).bytes))
+            (input_lines (λ side. (given side).bytes) (λ side read. record
+            { rest = []; is = sym (append-nil (given side).bytes); whole = λ eof. refl }))).2
 
     pub exit_is_merge_post : Fits tool old.store now ls piece new.store
         → FirstReads tool.terminator old.reader now new.reader ls piece
@@ -496,7 +478,8 @@ merge_without_slots {tool} {old} w {new} same_output unread slots =
     λ side. unread side ∙ (λ i. record (old.reader side) { terminator = w.terminator side i }) in
     record {
       call = call_without_slots both_sides (merge_engine tool) old new w.writable same_output (λ side read. set side)
-          (λ side none. cc) (λ side read. w.sound side) (λ side read. w.unfailed side) slots.denied slots.peak slots.least
+          (λ side none. cc) (λ side read. w.sound side) (λ side read. w.unfailed side) slots.denied slots.peak
+          slots.least
           slots.few (λ texts. omega (arith, w.fits (lines_of tool texts)))
           (λ side read. rw (unread_decides_nothing tool w.o (given_before old) side) (record { rest = []; is = refl }));
       stops_at_disorder = λ side clean. (

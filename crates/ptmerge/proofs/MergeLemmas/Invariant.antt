@@ -172,7 +172,9 @@ IsDownwardClosed cmp w = (a b : List ℕ) → cmp b a ≡ Greater → w b ≡ tr
 module _ (cmp : Cmp) (o : IsKeyOrder cmp) where
   ascends_insert : (k : List ℕ) (ks : Lines) → Ascends cmp ks → Ascends cmp (insert_key cmp k ks)
   ascends_insert k [] a = (tt, tt)
-  ascends_insert k (x ∷ xs) (above, more) = let ih = ascends_insert k xs more in grind (arith, ih, Each-weaker, above_trans, Each-insert, less_flips)
+  ascends_insert k (x ∷ xs) (above, more) =
+      let ih = ascends_insert k xs more in
+      grind (arith, ih, Each-weaker, above_trans, Each-insert, less_flips)
 
   pub ascends_distinct : (ks : Lines) → Ascends cmp (distinct_keys cmp ks)
   ascends_distinct [] = tt
@@ -199,7 +201,7 @@ module _ (cmp : Cmp) (o : IsKeyOrder cmp) where
 
   pub written_is_wanted : (b1 b2 : Bound) (f1 f2 : Option FirstDisorder) (k : List ℕ) → MayDisorder cmp b1 f1
       → MayDisorder cmp b2 f2 → IsUnder cmp b1 k → IsUnder cmp b2 k → is_up_to cmp (earlier_disorder cmp f1 f2) k ≡ true
-  written_is_wanted b1 b2 f1 f2 k h1 h2 u1 u2 = grind (arith, up_to_from, under_fall)
+  written_is_wanted b1 b2 f1 f2 k h1 h2 u1 u2 = grind (arith, at_most_is_le, at_most_trans)
 
 -- the output for these lines, of all keys
 abbrev pub output_of : MergeTool → (Side → Lines) → List ℕ
@@ -470,7 +472,8 @@ pub input_split : {tool : MergeTool} (o : IsKeyOrder tool.cmp) {b : Side → Bou
     ++ entries_by_key tool (is_up_to tool.cmp (disorder tool ls)) (λ side. (s side).rest)
 input_split {tool} o {b} {p} {ls} m s =
     let w = is_up_to tool.cmp (disorder tool ls) in
-    let first = all_wanted tool w p (λ side. both_under (tool.key side) _ _ _ (λ k u1 u2. written_is_wanted _ o _ _ _ _ k (s First).may_disorder (s Second).may_disorder u1 u2)
+    let first = all_wanted tool w p (λ side. both_under (tool.key side) _ _ _
+    (λ k u1 u2. written_is_wanted _ o _ _ _ _ k (s First).may_disorder (s Second).may_disorder u1 u2)
     _ (m.under First side) (m.under Second side)) in
     (λ i. entries_by_key tool w (λ side. (s side).is i))
     ∙ cc (m.splits.split w (λ side. (s side).rest) (λ side. (s side).may_follow), first)

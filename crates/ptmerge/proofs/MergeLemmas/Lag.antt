@@ -53,8 +53,8 @@ sorted_from_whole cmp key last n (x ∷ ls) (here, more) =
 
 sorted_from_start : (cmp : Cmp) (key : Key) (ls : Lines) → IsSortedFrom cmp key None ls
     → (sorted_prefix cmp key ls ≡ ls) × (first_disorder cmp key ls ≡ None)
-sorted_from_start cmp key ls r = let (whole, none) =
-    sorted_from_whole cmp key None 0 ls r in (sorted_prefix_is cmp key ls ∙ whole, first_disorder_is cmp key ls ∙ none)
+sorted_from_start cmp key ls r =
+    grind (arith, sorted_from_whole cmp key None 0 ls r, sorted_prefix_is, first_disorder_is)
 
 module _ (cmp : Cmp) (o : IsKeyOrder cmp) (key : Key) where
   from_key : (k : List ℕ) (ls : Lines) → IsSortedFrom cmp key (Some k) ls → EachKey (AtMost cmp k) key ls
@@ -247,7 +247,7 @@ module _ (tool : MergeTool) (o : IsKeyOrder tool.cmp) (given : Side → Received
       (map (tool.key side) (sorted_prefixes tool unread_lines side)))))
 
   pub unread_decides_no_disorder : disorder_is_decided tool unread ≡ false
-  unread_decides_no_disorder = grind (arith, none_decided)
+  unread_decides_no_disorder = grind (arith, not_decided, put_same)
 
 -- ---- the output decided two blocks earlier
 
@@ -278,10 +278,8 @@ module _ (tool : MergeTool) (o : IsKeyOrder tool.cmp) (given : Side → Received
     last = last_or None (map (tool.key of) whole)
 
     in_order : IsSortedFrom cmp (tool.key of) None (whole ++ point.rest)
-    in_order =
-        let (own, _) = sorted_from_parts cmp (tool.key of) None (q of) (future of).rest
-        (rw (future of).is at (sorted_from_prefix cmp (tool.key of) (known_lines terminator (given of)))) in
-        rw point.split at own
+    in_order = rw (← point.split) (sorted_from_parts cmp (tool.key of) None (q of) _
+        (rw (future of).is at (sorted_from_prefix cmp (tool.key of) (known_lines terminator (given of))))).0
 
     ordered : (sorted_prefix cmp (tool.key of) whole ≡ whole) × (first_disorder cmp (tool.key of) whole ≡ None)
     ordered = grind (arith, sorted_from_parts, in_order, sorted_from_start)
@@ -348,5 +346,6 @@ module _ (tool : MergeTool) (o : IsKeyOrder tool.cmp) (given : Side → Received
     unsettled up = (
       point.before,
       not_settled tool o (λ side. (mix side).eof) (λ side. known_lines terminator (mix side)) of going
-          (rw whole_now no_disorder) (rw (put_other, whole_now) (front_has _ (tool.key of) whole point.rest (rw point.split at up))),
+          (rw whole_now no_disorder) (rw (put_other, whole_now)
+          (front_has _ (tool.key of) whole point.rest (rw point.split at up))),
     )

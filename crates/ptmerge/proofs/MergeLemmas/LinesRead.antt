@@ -62,7 +62,17 @@ lines_read_more {end} {old} {now} {new} {ls} c e =
     let free : IsLine end e.line = rw c.terminator at e.whole in
     record {
       given = c.given ++ (e.line ++ e.terminator);
-      so_far = search (rules, free, done_gives_nothing, unlines_push, AreLines_push, lines_of_unlines, lines_of_last, append-nil, length-append);
+      so_far = search (
+        rules,
+        free,
+        done_gives_nothing,
+        unlines_push,
+        AreLines_push,
+        lines_of_unlines,
+        lines_of_last,
+        append-nil,
+        length-append,
+      );
       advance_ok = advance_ok_trans old now new c.given _ c.advance_ok e.advance_ok;
       terminator = e.advance_ok.reads.terminator ∙ c.terminator;
     }
@@ -114,13 +124,29 @@ module _ {end : ℕ} {old now new : Reader} {ls : List (List ℕ)} {piece : List
     pub exact : new.buffered ≡ [] → new.eof ≡ false → ws ≡ ls
 
   pub lines_read_known : KnownLines (known_lines end came)
-  lines_read_known = grind (arith, common_steps, lines_read_of_input, front_of, ended_more, complete_lines_none, done_gives_nothing, append-nil)
+  lines_read_known = grind (
+    arith,
+    common_steps,
+    lines_read_of_input,
+    front_of,
+    ended_more,
+    complete_lines_none,
+    done_gives_nothing,
+    append-nil,
+  )
 
   -- after the first line or the end was read, one of both was received
   pub begun_gives_line : HasBegun now ls → ¬ HasNoLine end came
   begun_gives_line begun none =
       let known = lines_read_known.known in
-      grind (arith, common_steps, complete_lines_none end _ none.unterminated, done_gives_nothing, known.is, length-append ls known.more)
+      grind (
+        arith,
+        common_steps,
+        complete_lines_none end _ none.unterminated,
+        done_gives_nothing,
+        known.is,
+        length-append ls known.more,
+      )
 
   -- at most one line was read, or a part of it
   pub one_line_and_block : IsSound new → length ls + length (lines end piece) ≤ 1

@@ -154,7 +154,15 @@ module _ (cmp : Cmp) (o : IsKeyOrder cmp) where
       → (distinct_keys cmp ks ≡ k ∷ distinct_keys cmp (others k ks))
       ⊎ ((distinct_keys cmp ks ≡ distinct_keys cmp (others k ks)) × Each (λ y. bytes_eq y k ≡ false) ks)
   distinct_least k [] e = inr (refl, tt)
-  distinct_least k (y ∷ ks) (here, more) = grind (arith, distinct_least k ks more, least_or_above cmp o k y here, tied_itself o.total k, insert_least, Each-distinct, others_above)
+  distinct_least k (y ∷ ks) (here, more) = grind (
+    arith,
+    distinct_least k ks more,
+    least_or_above cmp o k y here,
+    tied_itself o.total k,
+    insert_least,
+    Each-distinct,
+    others_above,
+  )
 
 others-keys : (key1 key2 : Key) (k : List ℕ) (xs ys : Lines)
     → others k (map key1 xs ++ map key2 ys) ≡ map key1 (without key1 k xs) ++ map key2 (without key2 k ys)
@@ -172,7 +180,9 @@ kept_none w key (x ∷ ls) (here, more) = rw here (kept_none w key ls more)
 with_key_without : (key : Key) (k q : List ℕ) (xs : Lines) → bytes_eq q k ≡ false
     → lines_with_key key (without key k xs) q ≡ lines_with_key key xs q
 with_key_without key k q [] n = refl
-with_key_without key k q (x ∷ xs) n = let ih = with_key_without key k q xs n in grind (arith, ih, not_same, same_bytes, bytes_decides (key x) k)
+with_key_without key k q (x ∷ xs) n =
+    let ih = with_key_without key k q xs n in
+    grind (arith, ih, not_same, same_bytes, bytes_decides (key x) k)
 
 module _ (tool : MergeTool) (o : IsKeyOrder tool.cmp) where
   open tool use {cmp}
@@ -187,7 +197,9 @@ module _ (tool : MergeTool) (o : IsKeyOrder tool.cmp) where
   over_others : (w : List ℕ → Bool) (k : List ℕ) (ls : Side → Lines) (ks : Lines) → Each (Above cmp k) ks
       → nothing_follows w ls ks ≡ nothing_follows w (others_of k ls) ks
   over_others w k ls [] e = refl
-  over_others w k ls (q ∷ ks) (here, more) = let ih = over_others w k ls ks more in grind (arith, ih, above_not_same, with_key_without)
+  over_others w k ls (q ∷ ks) (here, more) =
+      let ih = over_others w k ls ks more in
+      grind (arith, ih, above_not_same, with_key_without)
 
   -- The entries of a key that is at most all others come first, followed by those of the lines with other keys.
   pub least_first : (w : List ℕ → Bool) (k : List ℕ) (ls : Side → Lines)
@@ -198,14 +210,27 @@ module _ (tool : MergeTool) (o : IsKeyOrder tool.cmp) where
       let all : Each (AtMost cmp k) ks = Each-append _ _ _ (e First) (e Second) in
       let above = Each-distinct cmp _ _ (others_above cmp o k ks all) in
       let none_of = λ (side : Side). kept_none (λ y. bytes_eq y k) (tool.key side) (ls side) in
-      let parts = Each-parts (λ y. bytes_eq y k ≡ false) (map (tool.key First) (ls First)) (map (tool.key Second) (ls Second)) in
-      grind (arith, over_others w k ls _ above, others-keys (tool.key First) (tool.key Second) k (ls First) (ls Second), none, distinct_least cmp o k ks all, parts, none_of First, none_of Second)
+      let parts = Each-parts (λ y. bytes_eq y k ≡ false) (map (tool.key First) (ls First))
+      (map (tool.key Second) (ls Second)) in
+      grind (
+        arith,
+        over_others w k ls _ above,
+        others-keys (tool.key First) (tool.key Second) k (ls First)
+            (ls Second),
+        none,
+        distinct_least cmp o k ks all,
+        parts,
+        none_of First,
+        none_of Second,
+      )
 
   -- lines of one key, followed by lines with no lesser keys
   pub lines_with_key-front : (key : Key) (k : List ℕ) (f r : Lines) → EachKey (λ x. x ≡ k) key f
       → (lines_with_key key (f ++ r) k ≡ f ++ lines_with_key key r k) × (without key k (f ++ r) ≡ without key k r)
   lines_with_key-front key k [] r e = (refl, refl)
-  lines_with_key-front key k (x ∷ f) r (here, more) = let ih = lines_with_key-front key k f r more in grind (arith, ih, same_bytes here)
+  lines_with_key-front key k (x ∷ f) r (here, more) =
+      let ih = lines_with_key-front key k f r more in
+      grind (arith, ih, same_bytes here)
 
   pub at_most-same : (key : Key) (k : List ℕ) (f r : Lines) → EachKey (λ x. x ≡ k) key f → EachKey (AtMost cmp k) key r
       → EachKey (AtMost cmp k) key (f ++ r)
@@ -235,7 +260,14 @@ module _ (tool : MergeTool) (o : IsKeyOrder tool.cmp) where
       → entries_by_key tool w (λ side. f side ++ r side) ≡ entries_by_key tool w f ++ entries_by_key tool w r
   front_first w k f r s a none law =
       let first = simp append-nil at (front_is w k f (λ side. []) s (λ side. tt) none) in
-      grind (arith, first, front_is w k f r s a none, least_first w k r a none, append_assoc (tool.entries k (f First) (f Second)) (entries_of_key tool r k) (entries_by_key tool w (others_of k r)))
+      grind (
+        arith,
+        first,
+        front_is w k f r s a none,
+        least_first w k r a none,
+        append_assoc
+            (tool.entries k (f First) (f Second)) (entries_of_key tool r k) (entries_by_key tool w (others_of k r)),
+      )
 
   -- no line with a greater key has the key
   pub lines_with_key-above : (key : Key) (k : List ℕ) (r : Lines) → EachKey (Above cmp k) key r

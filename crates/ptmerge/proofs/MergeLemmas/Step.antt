@@ -10,10 +10,10 @@ use proofs.Common.{MergeTool, FirstDisorder, entries_by_key, earlier_disorder, f
 use proofs.Common.{Cmp, Key, NextErrPost, NextOkPost, HasSlots, base_slot, with_side, other, PrecedesInput}
 use proofs.Common.{IsDisorderDecided, IsReportable, previous_key, ap, ◌⊎◌, max, length-set, total_bytes, max_length}
 use proofs.Common.{Write, MergeRunPre, merge_state, WriteFaultPost, both, AreValidCursors, budget, IsReaderOf}
-use proofs.Common.{push_trans, cond, Ordering, is_eq, is_gt, CopyToGroupPost, same_key_at, status_at, IsValidCursor}
-use proofs.Common.{◌<◌, Result, ClearFourSlotsPost, Ok, Bool, terminator, initial_cursor, MergeInputs, StartErrPost}
-use proofs.Common.{StartOkPost, StartFirstPost, CallOutcome, AllPushed, Received, both_sides, reads_nothing}
-use proofs.Common.{merge_engine, merge_end, IsErrAnd, err_from_is_err_and, HasOnlyLeastKey}
+use proofs.Common.{push_trans, cond, Ordering, is_eq, is_gt, CopyToGroupPost, same_key_at, status_at, ◌<◌, Result}
+use proofs.Common.{ClearFourSlotsPost, Ok, Bool, terminator, initial_cursor, MergeInputs, StartErrPost, StartOkPost}
+use proofs.Common.{StartFirstPost, CallOutcome, AllPushed, Received, both_sides, reads_nothing, merge_engine}
+use proofs.Common.{merge_end, IsErrAnd, err_from_is_err_and, HasOnlyLeastKey}
 use proofs.MergeLemmas.Invariant.{output_of, Bound, AfterDisorder, NothingMore, MayFollow, MayDisorder, IsUnder}
 use proofs.MergeLemmas.Invariant.{IsLeastKeyRun, LagInvariant, MergeInvariant, IsExactStop, line_is_least_run}
 use proofs.MergeLemmas.Invariant.{lag_invariant_starts, not_below, write_least_run, bound_changes, all_keys}
@@ -157,13 +157,6 @@ named_is : (cmp : Cmp) (s : Side) (f : Side → Option FirstDisorder) (d : First
 named_is cmp s f d e u = grind arith
 
 module _ (cmp : Cmp) (o : IsKeyOrder cmp) where
-  precedes_above : (s : Side) (l e : List ℕ) → Above cmp l e → Precedes cmp s l e
-  precedes_above s l e g = grind (arith, greater_flips)
-
-  named_precedes : (s : Side) (l head last : List ℕ) (m : ℕ) → IsReportable cmp s l (Disorder m) head last
-      → Precedes cmp s l last
-  named_precedes s l head last m h = grind (arith, not_below, greater_flips cmp o last l)
-
   -- the disorder of the other input is not the one to report
   reported_over : (key : Key) (s : Side) (d : FirstDisorder) (status : CursorStatus) (cursor : Sorted) (store : Slots)
       (now : Reader) (ls p : Lines) (b : Bound)
@@ -171,13 +164,8 @@ module _ (cmp : Cmp) (o : IsKeyOrder cmp) where
       (key (line store cursor.previous_slot))
       → MatchesStatus cmp key status cursor store now ls p b → (f : Option FirstDisorder) → MayDisorder cmp b f
       → IsReportedOver cmp s d f
-  reported_over key s d status cursor store now ls p b named st f is_disordered = grind (
-    arith,
-    precedes_above,
-    above_up,
-    is_greater,
-    named_precedes,
-  )
+  reported_over key s d status cursor store now ls p b named st f is_disordered = grind
+      (arith, above_up, is_greater, not_below, greater_flips)
 
   reportable_precedes : (s : Side) (l : List ℕ) (status : CursorStatus) (head last : List ℕ)
       → IsReportable cmp s l status head last → PrecedesInput cmp l status head last
@@ -261,7 +249,8 @@ module _ {tool : MergeTool} {old : MergeState} (w : IsOpenMerge tool old) {now :
       (fault : MergeFault) → AdvanceErrPost s cursor (now.reader s) new now.store after out fault
       → CallOutcome both_sides (merge_engine tool) old (state_by_side (with_side s new now.reader) out after) given
       pushed (merge_end (Err fault))
-  advance_ends new after out given pushed fault e = grind (arith, none_fails, put_same, none_failed_yet, side_case, put_other, buffered_not_done)
+  advance_ends new after out given pushed fault e =
+      grind (arith, none_fails, put_same, none_failed_yet, side_case, put_other, buffered_not_done)
 
   -- the merge ends with this fault
   pub advance_fails : {out : Output} {done : Lines} → LagInvariant tool b p old.out out done
@@ -410,7 +399,8 @@ module _ {tool : MergeTool} {old : MergeState} (w : IsOpenMerge tool old) {reade
         current_key_is_above _ w.o _ _ _ _ _ _ _ _ _ step.before (a.sides (other s)).status_is in
         let none = lines_with_key-above tool w.o (key (other s)) (key s x) in
         write_least_run w.o (key s x) (with_side s (ls s) p) (alone s x)
-        (side_case _ s (simp put_same (line_is_least_run w.o h.bound refl)) (simp put_other (front_none w.o above under)))
+        (side_case _ s (simp put_same (line_is_least_run w.o h.bound refl))
+        (simp put_other (front_none w.o above under)))
         (side_case _ s (simp put_same h.all) (simp (put_other, append-nil))) (laws.none (key s x))
         (λ r c. grind (arith, laws, none (r (other s)) (above (r (other s)) (c (other s))))) clean m
         (rw (a.sides s).lines_read.terminator at wrote)
@@ -477,7 +467,8 @@ module _ {tool : MergeTool} {old : MergeState} (w : IsOpenMerge tool old) {reade
     n = next_at tool w.o a.sides a.slots four s head _ _ _ comes
 
     pub keeps_two : StoreHoldsTwoLines old.store store ls → StoreHoldsTwoLines old.store after (with_side s n.now_ls ls)
-    keeps_two keeps = store_with_line s (cursor s) _ n.bytes (a.slots s) keeps (side_case _ s (simp put_same n.longer) (simp put_other (omega arith))) (simp put_same n.fits) n.stored
+    keeps_two keeps = store_with_line s (cursor s) _ n.bytes (a.slots s) keeps
+        (side_case _ s (simp put_same n.longer) (simp put_other (omega arith))) (simp put_same n.fits) n.stored
 
     sides_next : SidesInvariant tool old.reader (with_side s new reader) (with_side s next cursor) after
         (with_side s n.now_ls ls) (with_side s (ls s) p) (with_side s n.bound b)
@@ -510,12 +501,6 @@ abbrev pub reads_ahead : (Side → Reader) → Sorted → Sorted → ℕ
 reads_ahead reader one two =
     (budget (reader First) + reads_left one.status) + (budget (reader Second) + reads_left two.status)
 
-measure_less : (key : Key) (cmp : Cmp) (s : Side) (one two one2 two2 : Sorted) (f : Side → Reader) (reader : Reader)
-    (before after : Slots) → (both one two s).status ≡ Head
-    → both one2 two2 (other s) ≡ both one two (other s) → NextOkPost key cmp (both one two s) (both one2 two2 s) (f s)
-    reader before after → reads_ahead (with_side s reader f) one2 two2 < reads_ahead f one two
-measure_less key cmp s one two one2 two2 f reader before after head same came = grind (arith, next_decreases)
-
 -- the cursors after this input advanced
 pub place_is : (s : Side) (one two one2 two2 : Sorted) → both one2 two2 (other s) ≡ both one two (other s)
     → with_side s (both one2 two2 s) (both one two) ≡ both one2 two2
@@ -543,7 +528,7 @@ module _ {key : Side → Key} {now : MergeState} {one two : Sorted} (t : Between
     pub reads_less : {cmp : Cmp} {made : Slots} → (both one two s).status ≡ Head
         → NextOkPost (key s) cmp (both one two s) (both one2 two2 s) (now.reader s) reader now.store made
         → reads_ahead (with_side s reader now.reader) one2 two2 < reads_ahead now.reader one two
-    reads_less head came = grind (arith, measure_less)
+    reads_less head came = grind (arith, next_decreases)
 
 -- writing out buffered output does not change what was pushed
 pub wrote_and_sent : (was mid is : Output) (pushed : List ℕ) → mid.write_failed ≡ false → PushEffect was mid pushed
@@ -560,17 +545,11 @@ pub later_status : (key : Key) (cmp : Cmp) (number : ℕ) (last next : List ℕ)
     × (is_eq r ≡ same_key_at key cmp number last next)
 later_status key cmp number last next r some is = grind arith
 
--- the stored span belongs to the current line, for all contents of other slots
-pub cursor_valid_kept : (key : Key) (cursor : Sorted) (before after : Slots)
-    → line after cursor.current_slot ≡ line before cursor.current_slot → IsValidCursor key cursor before
-    → IsValidCursor key cursor after
-cursor_valid_kept key cursor before after same cursor_valid = grind arith
-
 -- the slots after the first four may change
 pub valid_cursors_kept : (key : Side → Key) (one two : Sorted) (before after : Slots)
     → AreValidCursors key one two before → length before.lines ≤ length after.lines
     → ((slot : ℕ) → slot < 4 → line after slot ≡ line before slot) → AreValidCursors key one two after
-valid_cursors_kept key one two before after p least same = grind (arith, cursor_valid_kept, own_slots)
+valid_cursors_kept key one two before after p least same = grind (arith, own_slots)
 
 -- copying a line changes one slot, or adds one
 pub kept_line : (before after : Slots) (from to slot : ℕ) → slot < to → CopyToGroupPost before after from to
@@ -603,7 +582,8 @@ module _ {tool : MergeTool} {old : MergeState} (w : IsOpenMerge tool old) where
       → NextOkPost (key side) cmp (initial_cursor side) cursor (old.reader side) new before after
       → SideAfterNext terminator cmp (key side) (old.reader side) new cursor (base_slot side) before after [] None
   first_line side four comes = let own = own_slots side (initial_cursor side) (fresh_slots side) in
-      next_invariant _ _ w.o _ _ _ _ _ _ _ _ _ (omega (arith, own, slot_low side)) own.0 (none_read side) refl sorted_up_to_none refl comes
+      next_invariant _ _ w.o _ _ _ _ _ _ _ _ _ (omega (arith, own, slot_low side)) own.0 (none_read side) refl
+      sorted_up_to_none refl comes
 
   abbrev no_lines : Side → Lines
   no_lines side = []
@@ -616,7 +596,9 @@ module _ {tool : MergeTool} {old : MergeState} (w : IsOpenMerge tool old) where
     began = first_line First (omega (arith, s.four.slots)) s.came
 
     half_store : StoreOfLines old.store s.mid (λ side. max_length (both began.now_ls [] side))
-    half_store = store_with_line First (initial_cursor First) _ began.bytes (fresh_slots First) (store_of_no_lines s.four w.allowed w.empty) (elim [ First ↦ omega arith | Second ↦ omega arith ]) began.fits began.stored
+    half_store = store_with_line First (initial_cursor First) _ began.bytes (fresh_slots First)
+        (store_of_no_lines s.four w.allowed w.empty) (elim [ First ↦ omega arith | Second ↦ omega arith ]) began.fits
+        began.stored
 
     half_invariant : MergeInvariant tool (both began.bound NoBound) no_lines old.out old.out
     half_invariant = search (rules, bound_changes, began, merge_invariant_starts)
@@ -641,9 +623,14 @@ module _ {tool : MergeTool} {old : MergeState} (w : IsOpenMerge tool old) where
         ls = both f.now_ls k.now_ls;
         p = no_lines;
         b = both f.bound k.bound;
-        sides = elim [ First ↦ grind (arith, side_invariant_kept, k.stored, line_other, apart) | Second ↦ k.side_invariant ];
+        sides = elim [
+          | First ↦ grind (arith, side_invariant_kept, k.stored, line_other, apart)
+          | Second
+              ↦ k.side_invariant
+        ];
         merge_invariant = bound_changes Second k.bound (half_invariant s) k.may_follow k.under;
-        keeps = store_with_line Second (initial_cursor Second) _ k.bytes (fresh_slots Second) (half_store s) (elim [ First ↦ omega arith | Second ↦ omega arith ]) k.fits k.stored;
+        keeps = store_with_line Second (initial_cursor Second) _ k.bytes (fresh_slots Second) (half_store s)
+            (elim [ First ↦ omega arith | Second ↦ omega arith ]) k.fits k.stored;
       }
 
   -- nothing was read of an input
@@ -679,17 +666,15 @@ module _ {tool : MergeTool} {old : MergeState} (w : IsOpenMerge tool old) where
     start_fault (inl u) = rw u.memory (merge_without_slots w refl u.unread u.slots)
     start_fault (inr (inl f)) =
         rw f.unread (first_read_fails First (state_by_side old.reader old.out f.made) unread refl
-        (λ r piece free. record {
-          first = inr refl;
-          second = inr (omega (arith, one_line_at_most terminator piece (rw (w.terminator First) at free)));
-        }) (store_of_no_lines f.four w.allowed w.empty) (merge_invariant_starts tool old.out) _ _ _
+        (λ r piece free. grind (arith, one_line_at_most, free, w.terminator First))
+        (store_of_no_lines f.four w.allowed w.empty) (merge_invariant_starts tool old.out) _ _ _
         (inr (w.writable, f.fails)))
     start_fault (inr (inr f)) =
         let s = f.begins in
         let g = began s in
         first_read_fails Second (state_by_side (both new1 (old.reader Second)) old.out s.mid)
         (elim [ First ↦ g.side_invariant.facts | Second ↦ unread Second ]) refl
-        (λ r piece free. record { first = inl g.side_invariant.begun; second = inr (first_line_only s) })
+        (λ r piece free. grind (arith, g.side_invariant, first_line_only s))
         (half_store s) (half_invariant s) _ _ _ (inr (w.writable, s.later))
 
 pub ending_is : (zero : Bool) → cond zero 0 10 ≡ terminator zero
