@@ -39,20 +39,11 @@ tabs_of job First = []
 tabs_of job Second = tab_if_shown job.hide1 ++ []
 
 module _ (job : Comm) (x : List ℕ) where
-  abbrev common_entries : ℕ → Lines
-  common_entries n = column_entries job.hide3 (tab_if_shown job.hide1 ++ tab_if_shown job.hide2) n x
-
   entries_none : entries job x 0 0 ≡ []
   entries_none = grind (arith, no_entries)
 
   only_first : (n : ℕ) → entries job x n 0 ≡ column_entries job.hide1 [] n x
   only_first n = grind (arith, no_entries, append-nil (column_entries job.hide1 [] n x))
-
-  only_second : (n : ℕ) → entries job x 0 n ≡ column_entries job.hide2 (tab_if_shown job.hide1) n x
-  only_second n = grind (arith, no_entries)
-
-  one_common_entry : entries job x 1 1 ≡ common_entries 1
-  one_common_entry = grind (arith, no_entries, append-nil (common_entries 1))
 
   entries_both : (n k : ℕ) → entries job x (suc n) (suc k) ≡ entries job x 1 1 ++ entries job x n k
   entries_both n k = grind (arith, no_entries, one_more_entry)
@@ -64,13 +55,13 @@ module _ (job : Comm) (cmp : Cmp) (key : Side → Key) where
   -- the entries of one line of one input alone, if the key is the line
   entries_alone : (s : Side) (x : List ℕ) → key s x ≡ x → entries_by_key (comm_with job cmp key) all_keys
       (alone s x) ≡ column_entries (hidden_of job s) (tabs_of job s) 1 x
-  entries_alone s x w = grind (arith, same_bytes, only_first, only_second)
+  entries_alone s x w = grind (arith, same_bytes, no_entries, append-nil)
 
   -- the entries of one line of both inputs
   entries_of_pair : IsKeyOrder cmp → (x y : List ℕ) → key First x ≡ x → key Second y ≡ key First x
       → entries_by_key (comm_with job cmp key) all_keys (both (x ∷ []) (y ∷ [])) ≡ column_entries job.hide3
       (tab_if_shown job.hide1 ++ tab_if_shown job.hide2) 1 x
-  entries_of_pair o x y whole_line_keys same = grind (arith, same_bytes, one_common_entry)
+  entries_of_pair o x y whole_line_keys same = grind (arith, same_bytes, no_entries, append-nil)
 
 -- ---- the loop invariant
 

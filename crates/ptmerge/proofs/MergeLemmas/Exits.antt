@@ -3,9 +3,9 @@
 use Rattle.ptmerge.proofs
 use proofs.Common.{◌≡◌, ◌≢◌, inl, inr, ℕ, ◌+◌, ◌<◌, ◌≤◌, ◌&&◌, Bool, true, false, cond, List, [], ◌∷◌, ◌++◌, Option}
 use proofs.Common.{Some, None, length, refl, sym, ◌∙◌, ap, subst, arith, bytes_eq, nat_tests, append-nil, length_push}
-use proofs.Common.{FillLine, Reader, IsDone, IsSound, budget, Slots, line, with_line, max_length, line_of_with_line}
-use proofs.Common.{Sorted, CursorStatus, Head, Ended, Disorder, Lines, Cmp, Key, is_head, status_at, same_key_at}
-use proofs.Common.{NextOkPost, Result, Err, max, Received, known_lines, Output, ReaderAdvance, unlines, ◌⊎◌, ⊎_elim}
+use proofs.Common.{FillLine, Reader, IsDone, IsSound, Slots, line, with_line, max_length, line_of_with_line, Sorted}
+use proofs.Common.{CursorStatus, Head, Ended, Disorder, Lines, Cmp, Key, is_head, status_at, same_key_at, NextOkPost}
+use proofs.Common.{Result, Err, max, Received, known_lines, Output, ReaderAdvance, unlines, ◌⊎◌, ⊎_elim}
 use proofs.Common.{length-append, Memory, lines, IsLine, advance_trans, append_assoc, push_trans, bounded_lag_after}
 use proofs.Common.{unlines-append, MergeFault, Write, Side, First, Second, MergeTool, entries_by_key, decided_output}
 use proofs.Common.{disorder, first_disorder, lines_of, merge_output, merged_entries, MergeState, MergePost, HasNoLine}
@@ -16,8 +16,8 @@ use proofs.MergeLemmas.Lag.{decided_at, ProcessedNearly, LinesToCome, LagPoint, 
 use proofs.MergeLemmas.Lag.{unread_decides_nothing, unread_decides_no_disorder}
 use proofs.MergeLemmas.Invariant.{output_of, Bound, NoBound, AtLeast, AfterDisorder, NothingMore, MayFollow, IsUnder}
 use proofs.MergeLemmas.Invariant.{IsSortedUpTo, sorted_up_to_more, is_disordered, IsProcessedPrefix, IsFuture}
-use proofs.MergeLemmas.Invariant.{processed_before_line, processed_all, processed_to_disorder, processed_to_line}
-use proofs.MergeLemmas.Invariant.{LagInvariant, MergeInvariant, IsExactStop, input_split, all_keys, under_fall}
+use proofs.MergeLemmas.Invariant.{processed_before_line, processed_all, processed_to_line, LagInvariant}
+use proofs.MergeLemmas.Invariant.{MergeInvariant, IsExactStop, input_split, all_keys, under_fall}
 use proofs.MergeLemmas.LinesRead.{LinesRead, HoldsLines, HasBegun, begun_gives_line, one_line_and_block}
 use proofs.MergeLemmas.LinesRead.{lines_read_more, lines_read_eof, Continues, KnownLines, lines_read_known}
 use proofs.MergeLemmas.LinesRead.{lines_read_of_input}
@@ -54,12 +54,6 @@ pub record ReadFacts (end : ℕ) (cmp : Cmp) (key : Key) (old now new : Reader) 
   pub processed_nearly : ProcessedNearly ls p piece
   pub processed_prefix : IsProcessedPrefix cmp key ls p b
   pub nothing_follows : b ≡ NothingMore → IsDone now
-
--- a piece of a further line is read, after all lines were processed
-pub read_further : {end : ℕ} {cmp : Cmp} {key : Key} {old now new : Reader} {piece : List ℕ} {ls p : Lines} {b : Bound}
-    → ReadFacts end cmp key old now now [] ls p b → p ≡ ls → ReaderAdvance now new piece → IsLine now.terminator piece
-    → IsSound new → ReadFacts end cmp key old now new piece ls p b
-read_further facts all reads is_line sound = grind arith
 
 -- the invariant of one input
 pub record SideInvariant (end : ℕ) (cmp : Cmp) (key : Key) (old now : Reader) (cursor : Sorted) (store : Slots)
@@ -183,9 +177,10 @@ module _ (end : ℕ) (cmp : Cmp) (o : IsKeyOrder cmp) (key : Key) (old now new :
         → Goal last (next_cursor (Disorder (cursor.number + 1)) (cursor.number + 1) same)
     at_fall None apart sorted_up_to is falls_now = cc
     at_fall (Some k) apart sorted_up_to (_, is) falls_now =
-        at_next (Some k) (e.line ∷ []) e.line (next_cursor (Disorder (cursor.number + 1)) (cursor.number + 1) same) _
+        at_next (Some k) (e.line ∷ []) e.line (next_cursor (Disorder (cursor.number + 1)) (cursor.number + 1) same)
+        (AfterDisorder (record { last_key = k; line = length ls + 1 }))
         (lines_read_more lines_read e) (inr (omega (arith, length_push ls e.line))) sound (inr (e.line, refl, refl))
-        (omega (arith, number, length_push ls e.line)) (processed_to_disorder e.line sorted_up_to falls_now)
+        (omega (arith, number, length_push ls e.line)) (grind (arith, common_steps, sorted_up_to, falls_now))
         (λ ended. cc)
         (grind (arith, line_other, is)) (nothing_follows cmp key (Some k)) (λ j u. u) e.stored
         (omega (arith, max_length-append ls (e.line ∷ [])))
@@ -205,17 +200,11 @@ module _ (end : ℕ) (cmp : Cmp) (o : IsKeyOrder cmp) (key : Key) (old now new :
       rw (e.cursor, status_after_next cmp key last cursor before e.next_line.line is)
       (at_line e.next_line e.sound lines_read number same last within apart sorted_up_to is _ refl)
   next_invariant {last} within apart lines_read number sorted_up_to is (inr e) =
-      let all = append-nil ls in
-      subst (Goal last) (sym e.cursor) (at_next last [] [] (next_cursor Ended cursor.number false) NothingMore
-      (rw all (lines_read_eof lines_read e.advance_ok e.done)) (inl e.done) e.sound (inl all) (rw all number)
-      (rw all (processed_all sorted_up_to)) (λ ended. e.done)
+      rw e.cursor (at_next last [] [] (next_cursor Ended cursor.number false) NothingMore
+      (simp append-nil (lines_read_eof lines_read e.advance_ok e.done)) (inl e.done) e.sound (inl (append-nil ls))
+      (simp append-nil number)
+      (simp append-nil (processed_all sorted_up_to)) (λ ended. e.done)
       (refl, e.done) (nothing_follows cmp key last) (λ k u. tt) e.empty (omega arith))
-
--- advancing decreases the remaining work
-pub next_decreases : {key : Key} {cmp : Cmp} {cursor next : Sorted} {now new : Reader} {before after : Slots}
-    → cursor.status ≡ Head → NextOkPost key cmp cursor next now new before after
-    → budget new + reads_left next.status < budget now + reads_left cursor.status
-next_decreases head e = grind (arith, e)
 
 -- ---- whether the current line has the key of the previous one
 

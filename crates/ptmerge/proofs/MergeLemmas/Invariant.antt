@@ -141,12 +141,6 @@ pub processed_before_line : {cmp : Cmp} (o : IsKeyOrder cmp) {key : Key} {p : Li
     → IsSortedUpTo cmp key (p ++ x ∷ []) (Some (key x)) → IsProcessedPrefix cmp key (p ++ x ∷ []) p (AtLeast (key x))
 processed_before_line {cmp} o {key} {p} {x} g = grind (arith, common_steps, after_from, self_at_most)
 
--- the current line is out of order
-pub processed_to_disorder : {cmp : Cmp} {key : Key} {p : Lines} {k : List ℕ} (x : List ℕ)
-    → IsSortedUpTo cmp key p (Some k) → is_gt (cmp k (key x)) ≡ true
-    → IsProcessedPrefix cmp key (p ++ x ∷ []) p (AfterDisorder (record { last_key = k; line = length p + 1 }))
-processed_to_disorder {p = p} x g fell = grind (arith, common_steps)
-
 -- ---- the output
 
 abbrev pub all_keys : List ℕ → Bool
@@ -226,10 +220,6 @@ module _ (tool : MergeTool) where
       let ks = distinct_keys cmp (keys tool ls) in
       ap (flat_map (entries_of_key tool ls)) (downward_first cmp o w p down ks (ascends_distinct cmp o (keys tool ls)))
       ∙ flat_map-append (entries_of_key tool ls) (filter (λ k. w k && p k) ks) (filter (λ k. w k && not (p k)) ks)
-
-  pub downward_is_prefix : IsKeyOrder cmp → (w : List ℕ → Bool) → IsDownwardClosed cmp w → (p : Side → Lines)
-      → (rest : Lines) × (entries_by_key tool all_keys p ≡ entries_by_key tool w p ++ rest)
-  downward_is_prefix o w down p = (entries_by_key tool (λ k. not (w k)) p, downward_splits o all_keys w down p)
 
   -- the lines that may follow in both inputs
   abbrev pub MayCome : (Side → Bound) → (Side → Lines) → Type 0

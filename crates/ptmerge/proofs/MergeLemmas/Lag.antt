@@ -2,18 +2,18 @@
 -- the complete lines that remain are all processed. No key below the last of these can follow in either input, so with
 -- any content of the other input they decide only output that is written.
 use Rattle.ptmerge.proofs
-use proofs.Common.{◌≡◌, ◌⊎◌, ⊎_elim, inl, inr, ℕ, ◌+◌, ◌≤◌, false, List, [], ◌∷◌, ◌++◌, Option, Some, None, length, map}
-use proofs.Common.{refl, sym, ◌∙◌, ap, arith, append_assoc, length-append, last_or, append-nil, append_cancel_right}
-use proofs.Common.{Received, known_lines, LaggedInput, Reader, unlines, IsLine, AreLines, received_with}
-use proofs.Common.{complete_lines_of_unlines, unlines_push, the_lines, Lines, first_disorder, is_below, sorted_prefix}
-use proofs.Common.{Cmp, Key, Bool, filter-append, filter, IsPrefix, unlines-append, Side, First, Second, MergeTool}
-use proofs.Common.{entries_by_key, decided_entries, disorder, earlier_disorder, is_decided, lines_decide_disorder}
-use proofs.Common.{other, ProcessLag, decided_output, disorder_is_decided, with_side, FirstDisorder, map-append}
-use proofs.Common.{with_input, both_sides, subst, sorted_prefixes}
+use proofs.Common.{◌≡◌, ◌⊎◌, ⊎_elim, inl, inr, ℕ, ◌+◌, ◌≤◌, false, List, [], ◌∷◌, ◌++◌, Option, Some, None, length}
+use proofs.Common.{map, refl, sym, ◌∙◌, ap, arith, append_assoc, length-append, last_or, append-nil}
+use proofs.Common.{append_cancel_right, Received, known_lines, LaggedInput, Reader, unlines, IsLine, AreLines}
+use proofs.Common.{received_with, complete_lines_of_unlines, unlines_push, the_lines, Lines, first_disorder, is_below}
+use proofs.Common.{sorted_prefix, Cmp, Key, Bool, filter-append, filter, IsPrefix, unlines-append, Side, First}
+use proofs.Common.{Second, MergeTool, entries_by_key, decided_entries, disorder, earlier_disorder, is_decided}
+use proofs.Common.{lines_decide_disorder, other, ProcessLag, decided_output, disorder_is_decided, with_side}
+use proofs.Common.{FirstDisorder, map-append, with_input, both_sides, subst, sorted_prefixes, not}
 use proofs.MergeLemmas.Invariant.{output_of, disorder_after, first_disorder_is, is_disordered, sorted_after}
 use proofs.MergeLemmas.Invariant.{sorted_prefix_is, Bound, IsDisorderFrom, IsUnder, MayFollow, not_below}
-use proofs.MergeLemmas.Invariant.{downward_decided, not_decided, past_none, all_keys, downward_is_prefix, AtLeast}
-use proofs.MergeLemmas.Invariant.{none_wanted}
+use proofs.MergeLemmas.Invariant.{downward_decided, not_decided, past_none, all_keys, AtLeast, none_wanted}
+use proofs.MergeLemmas.Invariant.{downward_splits}
 use proofs.MergeLemmas.LinesRead.{IsReadAs}
 use proofs.MergeLemmas.Orders.{EachKey, Each-all, EachKey-weaker, Each-parts, kept_none, IsKeyOrder, AtMost}
 use proofs.MergeLemmas.Orders.{at_most_trans, self_at_most}
@@ -198,7 +198,10 @@ module _ (tool : MergeTool) (o : IsKeyOrder tool.cmp) (eof : Side → Bool) (ls 
       (output_of tool p)
   decided_of_passed p differ =
       let dec = is_decided tool eof ls in
-      let (rest, is) = downward_is_prefix tool o dec (downward_decided tool o eof ls) p in
+      let down = downward_decided tool o eof ls in
+      let rest = entries_by_key tool (λ k. not (dec k)) p in
+      let is : entries_by_key tool all_keys p ≡ entries_by_key tool dec p ++ rest = downward_splits tool o all_keys
+      dec down p in
       let kept = λ (side : Side). (let d = differ side in
       kept_same dec (tool.key side) _ _ d.rest d.tail d.same (EachKey-weaker _ _ undecided _ _ d.none_rest)
       (EachKey-weaker _ _ undecided _ _ d.none_tail)) in
@@ -284,9 +287,6 @@ module _ (tool : MergeTool) (o : IsKeyOrder tool.cmp) (given : Side → Received
     ordered : (sorted_prefix cmp (tool.key of) whole ≡ whole) × (first_disorder cmp (tool.key of) whole ≡ None)
     ordered = grind (arith, sorted_from_parts, in_order, sorted_from_start)
 
-    no_disorder : first_disorder cmp (tool.key of) whole ≡ None
-    no_disorder = let (_, none) = ordered in none
-
     -- no line that follows is below that key
     above : (side : Side) → EachKey (λ k. is_below cmp k last ≡ false) (tool.key side) (tail side ++ (future side).rest)
     above side =
@@ -332,7 +332,7 @@ module _ (tool : MergeTool) (o : IsKeyOrder tool.cmp) (given : Side → Received
         (output_of tool p))
         (λ i side. with_side_is of point.before.earlier given side i)
         (decided_of_passed tool o (λ side. (mix side).eof) (λ side. known_lines terminator (mix side)) of going
-        (rw whole_now no_disorder) p
+        (rw whole_now ordered.1) p
         (rw whole_now (put_each Differs of point.before.earlier given mine others)))
 
     pub lag_bound : ProcessLag {I = Unit {0}} (λ came. decided_output tool (with_input both_sides of (came tt) given))
@@ -346,6 +346,6 @@ module _ (tool : MergeTool) (o : IsKeyOrder tool.cmp) (given : Side → Received
     unsettled up = (
       point.before,
       not_settled tool o (λ side. (mix side).eof) (λ side. known_lines terminator (mix side)) of going
-          (rw whole_now no_disorder) (rw (put_other, whole_now)
+          (rw whole_now ordered.1) (rw (put_other, whole_now)
           (front_has _ (tool.key of) whole point.rest (rw point.split at up))),
     )

@@ -41,7 +41,7 @@ module _ (cmp : Cmp) (o : IsKeyOrder cmp) where
   not_equal a b n = not_same a b (λ e. cc (tied_itself o.total a))
 
   pub equal_is : (a b : List ℕ) → is_eq (cmp a b) ≡ bytes_eq a b
-  equal_is a b = grind (arith, not_equal a b, o.exact a b, bytes_decides a b)
+  equal_is a b = grind (arith, not_same a b, tied_itself o.total a, o.exact a b, bytes_decides a b)
 
   pub at_most_trans : (a b c : List ℕ) → AtMost cmp a b → AtMost cmp b c → AtMost cmp a c
   at_most_trans a b c p q = upto o.total a b c p q

@@ -25,10 +25,9 @@ use proofs.MergeLemmas.Slots.{both_each, put_both, put_each, put_other, put_same
 use proofs.MergeLemmas.Slots.{has_lines_total, store_with_line, line_added, HasLines, store_of_no_lines}
 use proofs.MergeLemmas.Exits.{SideInvariant, MatchesStatus, SideAfterNext, IsAtCurrentLine, next_invariant}
 use proofs.MergeLemmas.Exits.{at_current_line, side_invariant_kept, IsFailedRead, Fits, state_by_side}
-use proofs.MergeLemmas.Exits.{exit_is_merge_post, FitsIn, read_facts_after_line, read_further, reads_left}
-use proofs.MergeLemmas.Exits.{next_decreases, FirstReads, both_begun, ComeFirst, bound_after, HoldsTwoLines}
-use proofs.MergeLemmas.Exits.{IsOpenMerge, ReadFactsOf, processed_come_first, exact_output, merge_without_slots}
-use proofs.MergeLemmas.Exits.{given}
+use proofs.MergeLemmas.Exits.{exit_is_merge_post, read_facts_after_line, reads_left, FirstReads, both_begun}
+use proofs.MergeLemmas.Exits.{ComeFirst, bound_after, HoldsTwoLines, IsOpenMerge, ReadFactsOf, processed_come_first}
+use proofs.MergeLemmas.Exits.{exact_output, merge_without_slots, given}
 use proofs.MergeLemmas.LinesRead.{HasBegun, LinesRead, lines_read_none, one_line_at_most}
 use Rattle.ptmerge.specs.declared.faults.MergeFault.TheVariants as faults
 use Rattle.std.proofs.Common.{rules}
@@ -123,21 +122,10 @@ module _ (tool : MergeTool) (o : IsKeyOrder tool.cmp) {old now : Side → Reader
       (sides s).number passed_at.sorted_up_to (passed_at.some, refl) comes
 
   module _ (new : Reader) (next : Sorted) (after : Slots) (n : NextOf new next after) where
-    -- the other input is unchanged
-    other_stays : SideInvariant terminator cmp (key (other s)) (old (other s)) (now (other s)) (cursor (other s)) after
-        (ls (other s)) (p (other s)) (b (other s))
-    other_stays = grind (arith, slots_apart, side_invariant_kept, n, line_other)
-
     pub sides_invariant_continues : SidesInvariant tool old (with_side s new now) (with_side s next cursor) after
         (with_side s n.now_ls ls) (with_side s (ls s) p) (with_side s n.bound b)
-    sides_invariant_continues = side_case _ s (simp put_same n.side_invariant) (simp put_other other_stays)
-
-    -- the output comes first, as before
-    pub merge_invariant_continues : (q : Side → Lines) (was is : Output) → MergeInvariant tool b q was is
-        → MergeInvariant tool (with_side s n.bound b) q was is
-    merge_invariant_continues q was is m =
-        bound_changes s n.bound m (λ r c. rw passed_at.bound (n.may_follow r c))
-        (λ k u. n.under k (rw passed_at.bound at u))
+    sides_invariant_continues = side_case _ s (simp put_same n.side_invariant)
+        (simp put_other (grind (arith, slots_apart, side_invariant_kept, n, line_other)))
 
 -- ---- the end of the loop
 
@@ -240,17 +228,13 @@ module _ {tool : MergeTool} {old : MergeState} (w : IsOpenMerge tool old) {now :
   none_failed_yet : (side : Side) → (now.reader side).failed ≡ (old.reader side).failed
   none_failed_yet side = (a.facts side).lines_read.advance_ok.failed
 
-  none_fails : (new : Reader) → new.failed ≡ (now.reader s).failed → (side : Side)
-      → (with_side s new now.reader side).failed ≡ (old.reader side).failed
-  none_fails new same = grind (arith, put_each, none_failed_yet)
-
   -- how the call ends
   advance_ends : (new : Reader) (after : Slots) (out : Output) (given : Side → Received) (pushed : List ℕ)
       (fault : MergeFault) → AdvanceErrPost s cursor (now.reader s) new now.store after out fault
       → CallOutcome both_sides (merge_engine tool) old (state_by_side (with_side s new now.reader) out after) given
       pushed (merge_end (Err fault))
   advance_ends new after out given pushed fault e =
-      grind (arith, none_fails, put_same, none_failed_yet, side_case, put_other, buffered_not_done)
+      grind (arith, put_same, none_failed_yet, side_case, put_other, buffered_not_done)
 
   -- the merge ends with this fault
   pub advance_fails : {out : Output} {done : Lines} → LagInvariant tool b p old.out out done
@@ -261,15 +245,13 @@ module _ {tool : MergeTool} {old : MergeState} (w : IsOpenMerge tool old) {now :
   advance_fails {out} {done} lag first new after fault e =
       let f = failed_advance s cursor (now.reader s) new now.store after out fault (a.facts s).sound e in
       let facts = put_both (ReadFactsOf tool old now.reader ls p b) s new now.reader f.piece (λ side. [])
-      (read_further (a.facts s) a.all f.reads f.line f.sound) (a.facts (other s)) in
+      (grind (arith, a.facts s, a.all, f)) (a.facts (other s)) in
       let is = state_by_side (with_side s new now.reader) out after in
       exit_is_merge_post w is facts lag
       (first is (with_side s f.piece (λ side. [])) facts)
       (λ all holds. omega (arith, f.peak, f.count, a.fits f.piece all holds)) (a.order new f.piece f.line)
       (put_each (λ side (r : Reader). r.failed ≡ true → IsFailedRead r (ls side) (p side)) s new now.reader
-      (λ fail.
-      let (buffered, eof) = f.failed fail (none_failed_yet s ∙ w.unfailed s) in
-      record { buffered = buffered; eof = eof; all = sym a.all })
+      (grind (arith, f, none_failed_yet s, w.unfailed s, a.all))
       (λ side fail. cc (none_failed_yet side, w.unfailed side)))
       (Err fault) (advance_ends new after out _ _ fault e)
 
@@ -296,14 +278,6 @@ next_keeps_slot_count e = grind (arith, length-set)
 
 -- ---- a tool that stores two lines of each input
 
--- a line is no longer than the longest line
-pub within_size : (tool : MergeTool) → HoldsTwoLines tool → {before store : Slots} (s : Side) (cursor : Sorted)
-    (ls all : Side → Lines) (piece : List ℕ) → HasSlots s cursor
-    → StoreOfLines before store (λ side. max_length (ls side))
-    → ((side : Side) → max_length (ls side) ≤ max_length (all side)) → length piece ≤ max_length (all s)
-    → FitsIn tool before (with_line store cursor.previous_slot piece) all
-within_size tool fits s cursor ls all piece slots k up fit = grind (arith, common_steps, store_with_line)
-
 -- the conditions at the start
 pub open_merge : {tool : MergeTool} {first second : Reader} {out : Output} {store : Slots} → IsKeyOrder tool.cmp
     → HoldsTwoLines tool → MergeRunPre tool.terminator first second out store
@@ -328,12 +302,8 @@ StoreHoldsTwoLines before store ls = StoreOfLines before store (λ side. max_len
 pub holds_two : {tool : MergeTool} (fits : HoldsTwoLines tool) {before store : Slots} {reader : Side → Reader}
     {cursor : Side → Sorted} {ls : Side → Lines} → StoreHoldsTwoLines before store ls
     → ((side : Side) → HasSlots side (cursor side)) → StoreInvariant tool before reader cursor store ls
-holds_two {tool} fits {store = store} {cursor = cursor} {ls} k slots = grind (
-  arith,
-  has_lines_total,
-  within_size,
-  put_same,
-)
+holds_two {tool} fits {store = store} {cursor = cursor} {ls} k slots = grind
+    (arith, common_steps, has_lines_total, store_with_line, put_same)
 
 -- the cursors between two steps, for any output
 pub record CursorsInvariant (tool : MergeTool) (old : MergeState) (reader : Side → Reader) (cursor : Side → Sorted)
@@ -483,7 +453,9 @@ module _ {tool : MergeTool} {old : MergeState} (w : IsOpenMerge tool old) {reade
     -- the output comes first, as before
     pub goes_merging : {q : Side → Lines} {out : Output} → MergeInvariant tool b q old.out out
         → MergeInvariant tool (with_side s n.bound b) q old.out out
-    goes_merging m = merge_invariant_continues tool w.o a.sides a.slots four s head _ _ _ n _ _ _ m
+    goes_merging m =
+        let h = at_current_line (a.sides s) head in
+        bound_changes s n.bound m (λ r c. rw h.bound (n.may_follow r c)) (λ k u. n.under k (rw h.bound at u))
 
     pub runs_on : {Keep : Slots → (Side → Lines) → Type 0} {out : Output} → Keep after (with_side s n.now_ls ls)
         → MergeInvariant tool b (with_side s (ls s) p) old.out out
@@ -528,7 +500,7 @@ module _ {key : Side → Key} {now : MergeState} {one two : Sorted} (t : Between
     pub reads_less : {cmp : Cmp} {made : Slots} → (both one two s).status ≡ Head
         → NextOkPost (key s) cmp (both one two s) (both one2 two2 s) (now.reader s) reader now.store made
         → reads_ahead (with_side s reader now.reader) one2 two2 < reads_ahead now.reader one two
-    reads_less head came = grind (arith, next_decreases)
+    reads_less head came = grind (arith, came)
 
 -- writing out buffered output does not change what was pushed
 pub wrote_and_sent : (was mid is : Output) (pushed : List ℕ) → mid.write_failed ≡ false → PushEffect was mid pushed
@@ -676,9 +648,6 @@ module _ {tool : MergeTool} {old : MergeState} (w : IsOpenMerge tool old) where
         (elim [ First ↦ g.side_invariant.facts | Second ↦ unread Second ]) refl
         (λ r piece free. grind (arith, g.side_invariant, first_line_only s))
         (half_store s) (half_invariant s) _ _ _ (inr (w.writable, s.later))
-
-pub ending_is : (zero : Bool) → cond zero 0 10 ≡ terminator zero
-ending_is zero = grind arith
 
 -- the terminator of both readers was set
 pub set_is : (first second set1 set2 : Reader) (zero : Bool) → set1 ≡ record first { terminator = cond zero 0 10 }
