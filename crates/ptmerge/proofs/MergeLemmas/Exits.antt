@@ -10,8 +10,8 @@ use proofs.Common.{length-append, Memory, lines, IsLine, advance_trans, append_a
 use proofs.Common.{unlines-append, MergeFault, Write, Side, First, Second, MergeTool, entries_by_key, decided_output}
 use proofs.Common.{disorder, first_disorder, lines_of, merge_output, merged_entries, MergeState, MergePost, HasNoLine}
 use proofs.Common.{other, reads_nothing, EnsureFourSlotsErrPost, ◌*◌, option_map, CallEnd, ReadFault, CallOutcome}
-use proofs.Common.{AreAllConsistent, with_input, given_before, given_by, CallProgress, DecidedIfReadFailed}
-use proofs.Common.{call_on_failed_output, IsPrefix, total_bytes, both_sides, merge_engine, merge_end, disordered_line}
+use proofs.Common.{AreAllConsistent, given_before, given_by, CallProgress, DecidedIfReadFailed, call_on_failed_output}
+use proofs.Common.{IsPrefix, total_bytes, both_sides, merge_engine, merge_end, disordered_line}
 use proofs.MergeLemmas.Lag.{decided_at, ProcessedNearly, LinesToCome, LagPoint, back, unsettled, lag_bound}
 use proofs.MergeLemmas.Lag.{unread_decides_nothing, unread_decides_no_disorder}
 use proofs.MergeLemmas.Invariant.{output_of, Bound, NoBound, AtLeast, AfterDisorder, NothingMore, MayFollow, IsUnder}
@@ -163,14 +163,14 @@ module _ (end : ℕ) (cmp : Cmp) (o : IsKeyOrder cmp) (key : Key) (old now new :
     at_head : (last : Option (List ℕ)) → cursor.previous_slot < length before.lines → IsSortedUpTo cmp key ls last
         → is_disordered cmp last (key e.line) ≡ false → Goal last (next_cursor Head (cursor.number + 1) same)
     at_head last within sorted_up_to no_disorder =
-        let now_is : line after cursor.previous_slot ≡ e.line = rw e.stored (line_of_with_line before _ e.line within)
-        in
         let more = sorted_up_to_more e.line sorted_up_to no_disorder in
         let (may_follow, under) = from_next o key last e.line no_disorder in
-        at_next last (e.line ∷ []) e.line (next_cursor Head _ same) (AtLeast (key e.line))
-        (lines_read_more lines_read e) (inr (omega (arith, length_push ls e.line))) sound (inr (e.line, refl, refl))
+        at_next last (e.line ∷ []) e.line (next_cursor Head (cursor.number + 1) same) (AtLeast (key e.line))
+        (lines_read_more lines_read e)
+        (inr (omega (arith, length_push ls e.line))) sound (inr (e.line, refl, refl))
         (omega (arith, number, length_push ls e.line)) (processed_before_line o more) (λ ended. cc)
-        (grind (arith, more, now_is)) may_follow under e.stored (omega (arith, max_length-append ls (e.line ∷ [])))
+        (grind (arith, more, line_of_with_line)) may_follow under e.stored
+        (omega (arith, max_length-append ls (e.line ∷ [])))
 
     at_fall : (last : Option (List ℕ)) → cursor.current_slot ≢ cursor.previous_slot → IsSortedUpTo cmp key ls last
         → IsLastKey key last cursor before → is_disordered cmp last (key e.line) ≡ true
@@ -334,9 +334,10 @@ module _ {tool : MergeTool} {old : MergeState} (w : IsOpenMerge tool old) (new :
   exact_output m stop texts agree =
       let s = input_split_of (lines_of tool texts) (continues texts agree) in
       let (none, found) = stop (lines_of tool texts) (λ side. (s side).rest) (λ side. (s side).may_follow)
-      (λ side. (s side).may_disorder) in
-      let done = entries_by_key tool all_keys p in
-      (cc (ap (unlines tool.terminator) (input_split w.o m s), none, append-nil done), found)
+      (λ side. (s side).may_disorder) in (
+        cc (ap (unlines tool.terminator) (input_split w.o m s), none, append-nil (entries_by_key tool all_keys p)),
+        found,
+      )
 
   module _ {done : Lines} (lag : LagInvariant tool b p old.out new.out done) (first : ComeFirst tool now ls done) where
     open lag use {front, tail, bound, bytes}
@@ -387,9 +388,8 @@ module _ {tool : MergeTool} {old : MergeState} (w : IsOpenMerge tool old) (new :
       wrote = rw lag.all at (push_trans _ _ _ _ _ lag.clean lag.wrote lag.more);
       is_prefix = λ texts agree. (let come = first (lines_of tool texts) (continues texts agree) in search
           (rules, come, unlines-append));
-      bounded_lag = λ of read. rw lag.all at (bounded_lag_after (λ came. decided_output tool
-          (with_input both_sides of (came tt) given)) (λ u. given of) old.out lag.mid
-          (output_of tool front)
+      -- everything was written that was decided two blocks of an input earlier
+      bounded_lag = λ of read. rw lag.all at (bounded_lag_after _ _ old.out lag.mid (output_of tool front)
           (lag_bound tool w.o given front _ tail _ lag.split lag.under_bound future of (backs of)) lag.wrote lag.clean
           new.out bytes lag.more);
       peak = λ texts agree. (fits (lines_of tool texts) (input_lines texts agree)).0;

@@ -306,12 +306,7 @@ module _ (tool : MergeTool) (o : IsKeyOrder tool.cmp) (given : Side → Received
     others side = record {
       rest = [];
       tail = tail side ++ (future side).rest;
-      same = cc (
-        append-nil (sorted_prefix cmp (tool.key side) (known_lines terminator (given side))),
-        (future side).is,
-        split side,
-        append_assoc (p side) (tail side) (future side).rest,
-      );
+      same = grind (arith, append-nil, (future side).is, split side, append_assoc);
       none_rest = tt;
       none_tail = above side;
     }
