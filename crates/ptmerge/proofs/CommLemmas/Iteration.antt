@@ -42,9 +42,6 @@ module _ (job : Comm) (x : List ℕ) where
   entries_none : entries job x 0 0 ≡ []
   entries_none = grind (arith, no_entries)
 
-  only_first : (n : ℕ) → entries job x n 0 ≡ column_entries job.hide1 [] n x
-  only_first n = grind (arith, no_entries, append-nil (column_entries job.hide1 [] n x))
-
   entries_both : (n k : ℕ) → entries job x (suc n) (suc k) ≡ entries job x 1 1 ++ entries job x n k
   entries_both n k = grind (arith, no_entries, one_more_entry)
 

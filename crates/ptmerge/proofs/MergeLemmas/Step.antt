@@ -382,12 +382,15 @@ module _ {tool : MergeTool} {old : MergeState} (w : IsOpenMerge tool old) {reade
   -- the slots are emptied at the end
   module _ {out : Output} (m : MergeInvariant tool b p old.out out) (clean : out.write_failed ≡ false) {after : Slots}
       (clear : ClearFourSlotsPost store after) where
+    abbrev last : MergeState
+    last = state_by_side reader out after
+
     pushed_all : {found : Option (Side × ℕ)} → (found ≡ None → (side : Side) → IsDone (reader side))
-        → IsExactStop tool b found → AllPushed both_sides (merge_engine tool) old (state_by_side reader out after)
-        (given w (state_by_side reader out after) read_facts_current)
+        → IsExactStop tool b found → AllPushed both_sides (merge_engine tool) old last
+        (given w last read_facts_current)
         (output_of tool p) found
     pushed_all ended stop =
-        let exact = exact_output w (state_by_side reader out after) read_facts_current m stop in
+        let exact = exact_output w last read_facts_current m stop in
         record {
           out = λ texts agree. (exact texts agree).0;
           disorder = λ texts agree. (exact texts agree).1;
@@ -405,25 +408,25 @@ module _ {tool : MergeTool} {old : MergeState} (w : IsOpenMerge tool old) {reade
         }
 
     concludes : (result : Result (Unit {0}) MergeFault)
-        → CallOutcome both_sides (merge_engine tool) old (state_by_side reader out after)
-        (given w (state_by_side reader out after) read_facts_current)
+        → CallOutcome both_sides (merge_engine tool) old last
+        (given w last read_facts_current)
         (output_of tool p) (merge_end result)
-        → MergePost tool old (state_by_side reader out after) result
+        → MergePost tool old last result
     concludes result ends = exit_is_merge_post w _ read_facts_current
         (lag_invariant_starts m clean (push_nothing out))
-        (processed_come_first w (state_by_side reader out after) read_facts_current m)
+        (processed_come_first w last read_facts_current m)
         (a.holds.fits after clear.peak clear.slots) (both_begun begun)
         (λ side fail. cc (none_failed side, w.unfailed side)) result ends
 
     pub ends_well : ((side : Side) → (cursor side).status ≡ Ended)
-        → MergePost tool old (state_by_side reader out after) (Ok tt)
+        → MergePost tool old last (Ok tt)
     ends_well step =
         let e : (side : Side) → (b side ≡ NothingMore) × IsDone (reader side) =
         λ side. rw (step side) at (a.sides side).status_is in
         concludes (Ok tt) (pushed_all (λ none side. (e side).1) (exact_at_end tool (λ side. (e side).0)))
 
     pub ends_fallen : {s : Side} {n : ℕ} → IsDisorderDecided cmp key cursor store s n
-        → MergePost tool old (state_by_side reader out after) (Err (faults.Disorder s n))
+        → MergePost tool old last (Err (faults.Disorder s n))
     ends_fallen {s} {n} step = concludes (Err (faults.Disorder s n)) (record {
       named = refl;
       pushed_all = pushed_all (λ none. cc) (stops_at tool w.o _ _ _ _ _ _ _ a.sides s n step);
