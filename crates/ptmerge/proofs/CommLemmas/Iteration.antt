@@ -190,19 +190,15 @@ module _ {job : Comm} {cmp : Cmp} {key : Side → Key} {old now : MergeState} {o
       module _ {one2 two2 : Sorted} {reader : Reader} {after : Slots}
           (h : Advances First one2 two2 reader after mid) {new : Output} (written_out : PushEffect mid new []) where
         wrote_line_out : MergeInvariant tool b both_written old.out new
-        wrote_line_out = let (m, _) = wrote_both (wrote_and_sent _ _ _ _ h.continues.clean wrote_pair written_out) in m
+        wrote_line_out = (wrote_both (wrote_and_sent _ _ _ _ h.continues.clean wrote_pair written_out)).0
 
         pub second_fails : EndsIfFails tool old (state_by_side (both reader (now.reader Second)) new after) Second two2
             new
         second_fails _ _ _ k =
             let g = advance_ok w lines_before First step.first h.came w.fits keeps in
             let m = goes_merging w lines_before First step.first h.came wrote_line_out in
-            let (before, _) = wrote_both wrote_pair in
-            iteration_fails w g Second step.second (
-              m,
-              lag_invariant_starts (goes_merging w lines_before First step.first h.came before) h.continues.clean
-                  written_out,
-            ) refl (read_facts_current w g First) _ _ _ (rw h.continues.others at k)
+            let before = goes_merging w lines_before First step.first h.came (wrote_both wrote_pair).0 in
+            iteration_fails w g Second step.second (m, lag_invariant_starts before h.continues.clean written_out) refl (read_facts_current w g First) _ _ _ (rw h.continues.others at k)
 
         pub pair_continues : {one3 two3 : Sorted} {reader2 : Reader} {last : Slots}
             → AdvanceOkPost key cmp Second one2 two2 one3 two3 (now.reader Second) reader2 after last new

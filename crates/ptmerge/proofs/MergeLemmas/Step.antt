@@ -15,10 +15,9 @@ use proofs.Common.{ClearFourSlotsPost, Ok, Bool, terminator, initial_cursor, Mer
 use proofs.Common.{StartFirstPost, CallOutcome, AllPushed, Received, both_sides, reads_nothing, merge_engine}
 use proofs.Common.{merge_end, IsErrAnd, err_from_is_err_and, HasOnlyLeastKey}
 use proofs.MergeLemmas.Invariant.{output_of, Bound, AfterDisorder, NothingMore, MayFollow, MayDisorder, IsUnder}
-use proofs.MergeLemmas.Invariant.{IsLeastKeyRun, LagInvariant, MergeInvariant, IsExactStop, line_is_least_run}
-use proofs.MergeLemmas.Invariant.{lag_invariant_starts, not_below, write_least_run, bound_changes, all_keys}
-use proofs.MergeLemmas.Invariant.{none_wanted, NoBound, sorted_up_to_none, merge_invariant_starts, AllWritten}
-use proofs.MergeLemmas.Invariant.{exact_at_end}
+use proofs.MergeLemmas.Invariant.{LagInvariant, MergeInvariant, IsExactStop, line_is_least_run, lag_invariant_starts}
+use proofs.MergeLemmas.Invariant.{not_below, write_least_run, bound_changes, all_keys, none_wanted, NoBound}
+use proofs.MergeLemmas.Invariant.{sorted_up_to_none, merge_invariant_starts, AllWritten, exact_at_end}
 use proofs.MergeLemmas.Orders.{EachKey, EachKey-weaker, lines_with_key-above, IsKeyOrder, Above, above_at_most}
 use proofs.MergeLemmas.Orders.{above_up, greater_flips, is_greater}
 use proofs.MergeLemmas.Slots.{both_each, put_both, put_each, put_other, put_same, side_case, line_other, StoreOfLines}
@@ -81,16 +80,6 @@ pub record IsLineByLine (tool : MergeTool) : Type 0 where
 -- a line of one input
 abbrev pub alone : Side → List ℕ → Side → Lines
 alone s x = with_side s (x ∷ []) (λ side. [])
-
--- an input without lines of the key, in which only greater keys follow
-front_none : {cmp : Cmp} (o : IsKeyOrder cmp) {key : Key} {b : Bound} {k : List ℕ} → IsAbove cmp key k b
-    → IsUnder cmp b k → IsLeastKeyRun cmp key b k []
-front_none {cmp} o {key} {k = k} above under = record {
-  own = tt;
-  may_follow = λ r c. c;
-  bound_after = λ r c. EachKey-weaker _ _ (λ y g. above_at_most cmp o k y g) _ _ (above r c);
-  under = under;
-}
 
 -- ---- the invariant of both inputs
 
@@ -370,7 +359,13 @@ module _ {tool : MergeTool} {old : MergeState} (w : IsOpenMerge tool old) {reade
         let none = lines_with_key-above tool w.o (key (other s)) (key s x) in
         write_least_run w.o (key s x) (with_side s (ls s) p) (alone s x)
         (side_case _ s (simp put_same (line_is_least_run w.o h.bound refl))
-        (simp put_other (front_none w.o above under)))
+        (simp put_other (record {
+          -- no line of the other input has the key, and only greater keys follow
+          own = tt;
+          may_follow = λ r c. c;
+          bound_after = λ r c. EachKey-weaker _ _ (above_at_most cmp w.o (key s x)) _ _ (above r c);
+          under = under;
+        })))
         (side_case _ s (simp put_same h.all) (simp (put_other, append-nil))) (laws.none (key s x))
         (λ r c. grind (arith, laws, none (r (other s)) (above (r (other s)) (c (other s))))) clean m
         (rw (a.sides s).lines_read.terminator at wrote)
