@@ -198,7 +198,8 @@ module _ {job : Comm} {cmp : Cmp} {key : Side → Key} {old now : MergeState} {o
             let g = advance_ok w lines_before First step.first h.came w.fits keeps in
             let m = goes_merging w lines_before First step.first h.came wrote_line_out in
             let before = goes_merging w lines_before First step.first h.came (wrote_both wrote_pair).0 in
-            iteration_fails w g Second step.second (m, lag_invariant_starts before h.continues.clean written_out) refl (read_facts_current w g First) _ _ _ (rw h.continues.others at k)
+            iteration_fails w g Second step.second (m, lag_invariant_starts before h.continues.clean written_out) refl
+            (read_facts_current w g First) _ _ _ (rw h.continues.others at k)
 
         pub pair_continues : {one3 two3 : Sorted} {reader2 : Reader} {last : Slots}
             → AdvanceOkPost key cmp Second one2 two2 one3 two3 (now.reader Second) reader2 after last new
