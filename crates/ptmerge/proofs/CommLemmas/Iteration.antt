@@ -2,19 +2,18 @@
 -- So each step of the merge extends the output by the entries of its key, and the loop invariant of the merge carries
 -- over.
 use Rattle.ptmerge.proofs
-use proofs.Common.{◌≡◌, ℕ, ◌<◌, List, [], ◌∷◌, ◌++◌, Ok, Err, length, refl, sym, arith, Comm, Output, PushEffect}
-use proofs.Common.{Reader, Slots, line, unlines, MergeFault, Side, First, Second, Sorted, Ended, comm_with}
-use proofs.Common.{column_entries, tab_if_shown, Lines, MergeTool, entries_by_key, lines_with_key, AdvanceOkPost}
-use proofs.Common.{AdvancePre, MergeState, MergePost, merge_state, Cmp, Key, both, with_side, other, HaveEqualKeys}
-use proofs.Common.{HasOnlyLeastKey, IsDisorderDecided, IsReaderOf, AreValidCursors, StartOkPost, merge_inputs}
-use proofs.Common.{ClearFourSlotsPost, suc, ◌-◌, append-nil, entries, Bool}
+use proofs.Common.{◌≡◌, ℕ, ◌<◌, List, [], ◌∷◌, ◌++◌, Ok, Err, refl, sym, arith, Comm, Output, PushEffect, Reader}
+use proofs.Common.{Slots, line, unlines, MergeFault, Side, First, Second, Sorted, Ended, comm_with, column_entries}
+use proofs.Common.{tab_if_shown, Lines, MergeTool, entries_by_key, AdvanceOkPost, AdvancePre, MergeState, MergePost}
+use proofs.Common.{merge_state, Cmp, Key, both, with_side, HaveEqualKeys, HasOnlyLeastKey, IsDisorderDecided}
+use proofs.Common.{IsReaderOf, AreValidCursors, StartOkPost, merge_inputs, ClearFourSlotsPost, suc, ◌-◌, append-nil}
+use proofs.Common.{entries, Bool}
 use proofs.MergeLemmas.Step.{BetweenSteps, between_next, advance_pre, reads_less, EndsIfFails, CursorsInvariant}
 use proofs.MergeLemmas.Step.{LoopInvariant, advance_ok, goes_merging, passing_now, runs_on, slots_of}
-use proofs.MergeLemmas.Step.{read_facts_current, iteration_fails, IsLineByLine, current_key_is_above, alone}
-use proofs.MergeLemmas.Step.{write_one_line, reads_ahead, place_is, wrote_and_sent, StoreHoldsTwoLines, holds_two}
-use proofs.MergeLemmas.Step.{keeps_two, ends_well, ends_fallen, start_ok}
+use proofs.MergeLemmas.Step.{read_facts_current, iteration_fails, IsLineByLine, alone, wrote_alone, alone_breaks}
+use proofs.MergeLemmas.Step.{reads_ahead, place_is, wrote_and_sent, StoreHoldsTwoLines, holds_two, keeps_two}
+use proofs.MergeLemmas.Step.{ends_well, ends_fallen, start_ok}
 use proofs.MergeLemmas.Orders.{IsKeyOrder, same_bytes}
-use proofs.MergeLemmas.Slots.{put_other, put_same}
 use proofs.MergeLemmas.Invariant.{AllWritten, MergeInvariant, line_is_least_run, lag_invariant_starts}
 use proofs.MergeLemmas.Invariant.{write_least_run, all_keys}
 use proofs.MergeLemmas.Exits.{at_current_line, state_by_side, IsOpenMerge}
@@ -40,39 +39,26 @@ tabs_of job First = []
 tabs_of job Second = tab_if_shown job.hide1 ++ []
 
 module _ (job : Comm) (x : List ℕ) where
-  abbrev common_entries : ℕ → Lines
-  common_entries n = column_entries job.hide3 (tab_if_shown job.hide1 ++ tab_if_shown job.hide2) n x
-
   entries_none : entries job x 0 0 ≡ []
   entries_none = grind (arith, no_entries)
 
-  only_first : (n : ℕ) → entries job x n 0 ≡ column_entries job.hide1 [] n x
-  only_first n = grind (arith, no_entries, append-nil (column_entries job.hide1 [] n x))
-
-  only_second : (n : ℕ) → entries job x 0 n ≡ column_entries job.hide2 (tab_if_shown job.hide1) n x
-  only_second n = grind (arith, no_entries)
-
-  one_common_entry : entries job x 1 1 ≡ common_entries 1
-  one_common_entry = grind (arith, no_entries, append-nil (common_entries 1))
-
   entries_both : (n k : ℕ) → entries job x (suc n) (suc k) ≡ entries job x 1 1 ++ entries job x n k
-  entries_both n k = grind (arith, one_common_entry, one_more_entry)
+  entries_both n k = grind (arith, no_entries, one_more_entry)
 
 module _ (job : Comm) (cmp : Cmp) (key : Side → Key) where
   is_line_by_line : IsLineByLine (comm_with job cmp key)
-  is_line_by_line = grind (arith, entries_none, only_first, one_more_entry, only_second)
+  is_line_by_line = grind (arith, no_entries, one_more_entry, append-nil)
 
   -- the entries of one line of one input alone, if the key is the line
   entries_alone : (s : Side) (x : List ℕ) → key s x ≡ x → entries_by_key (comm_with job cmp key) all_keys
       (alone s x) ≡ column_entries (hidden_of job s) (tabs_of job s) 1 x
-  entries_alone First x whole_line_keys = grind (arith, same_bytes, only_first)
-  entries_alone Second x whole_line_keys = grind (arith, same_bytes, only_second)
+  entries_alone s x w = grind (arith, same_bytes, no_entries, append-nil)
 
   -- the entries of one line of both inputs
   entries_of_pair : IsKeyOrder cmp → (x y : List ℕ) → key First x ≡ x → key Second y ≡ key First x
       → entries_by_key (comm_with job cmp key) all_keys (both (x ∷ []) (y ∷ [])) ≡ column_entries job.hide3
       (tab_if_shown job.hide1 ++ tab_if_shown job.hide2) 1 x
-  entries_of_pair o x y whole_line_keys same = grind (arith, same_bytes, one_common_entry)
+  entries_of_pair o x y whole_line_keys same = grind (arith, same_bytes, no_entries, append-nil)
 
 -- ---- the loop invariant
 
@@ -125,52 +111,50 @@ module _ {job : Comm} {cmp : Cmp} {key : Side → Key} {old now : MergeState} {o
   abbrev head : Side → List ℕ
   head s = line now.store (both one two s).current_slot
 
+  -- the input `s` advanced, with this output
+  abbrev Advances : Side → Sorted → Sorted → Reader → Slots → Output → Type 0
+  Advances s one2 two2 reader after new =
+      AdvanceOkPost key cmp s one two one2 two2 (now.reader s) reader now.store after new
+
   -- a step for a line of one input alone
   module _ {s : Side} (step : HasOnlyLeastKey cmp key (both one two) now.store s) where
     pub alone_decreases : {one2 two2 : Sorted} {reader : Reader} {after : Slots} {new : Output}
-        → AdvanceOkPost key cmp s one two one2 two2 (now.reader s) reader now.store after new
-        → reads_ahead (with_side s reader now.reader) one2 two2 < reads_ahead now.reader one two
+        → Advances s one2 two2 reader after new → reads_ahead (with_side s reader now.reader) one2 two2 < reads_ahead
+        now.reader one two
     alone_decreases h = reads_less between s h.continues step.status_is h.came
 
     module _ {new : Output} {tabs : List ℕ} (led : tabs ≡ tabs_of job s) (pushed : PushEffect now.out new
         (unlines (now.reader s).terminator (column_entries (hidden_of job s) tabs 1 (head s)))) where
-      wrote_line : MergeInvariant tool b (with_side s (ls s) p) old.out new
-          × AllWritten tool b (with_side s (ls s) p) old.out new
-      wrote_line =
-          let h = at_current_line (sides s) step.status_is in
-          let (above, under) = current_key_is_above _ w.o _ _ _ _ _ _ _ _ _ step.before (sides (other s)).status_is in
-          rw h.all (write_one_line _ w.o (is_line_by_line job cmp key) s (head s) _ _ _ _ _ between.clean merge_invariant
-          h.bound above under
-          (rw (entries_alone job cmp key s (head s) (whole_line_keys s (head s)))
-          (rw ((sides s).lines_read.terminator, led) at pushed)))
+      wrote_line : PushEffect now.out new (unlines (now.reader s).terminator (entries_by_key tool all_keys
+          (alone s (head s))))
+      wrote_line = rw (entries_alone job cmp key s (head s) (whole_line_keys s (head s))) (rw led at pushed)
 
       pub alone_continues : {one2 two2 : Sorted} {reader : Reader} {after : Slots}
-          → AdvanceOkPost key cmp s one two one2 two2 (now.reader s) reader now.store after new
+          → Advances s one2 two2 reader after new
           → IterationInvariant job cmp key old (state_by_side (with_side s reader now.reader) new after) one2 two2
       alone_continues {one2} {two2} {reader} h = record {
         opened = w;
         whole_line_keys = whole_line_keys;
         loop_invariant = rw (← place_is s one two one2 two2 h.continues.others)
             (runs_on w lines_before s step.status_is h.came (keeps_two w lines_before s step.status_is h.came keeps)
-            (let (m, _) = wrote_line in m));
+            (wrote_alone w lines_before (is_line_by_line job cmp key) step between.clean merge_invariant wrote_line).0);
         between = between_next between s h.continues;
       }
 
       pub alone_fails : EndsIfFails tool old now s (both one two s) new
-      alone_fails = iteration_fails w lines_before s step.status_is wrote_line (put_same s (ls s) p)
-          (rw (put_other s (ls s) p) (read_facts_current w lines_before (other s)))
+      alone_fails =
+          alone_breaks w lines_before (is_line_by_line job cmp key) step between.clean merge_invariant wrote_line
 
   -- a step for a line of both inputs, after the first input advanced: the second one is still at the line
   pub second_advance_pre : HaveEqualKeys cmp key (both one two) now.store
       → {one2 two2 : Sorted} {reader : Reader} {after : Slots} {mid : Output}
-      → AdvanceOkPost key cmp First one two one2 two2 (now.reader First) reader now.store after mid
+      → Advances First one2 two2 reader after mid
       → AdvancePre key Second one2 two2 (now.reader Second) after
   second_advance_pre step h = grind (arith, advance_pre, between_next)
 
   module _ (step : HaveEqualKeys cmp key (both one two) now.store) where
     pub pair_decreases : {one2 two2 one3 two3 : Sorted} {reader reader2 : Reader} {after last : Slots}
-        {mid new : Output}
-        → AdvanceOkPost key cmp First one two one2 two2 (now.reader First) reader now.store after mid
+        {mid new : Output} → Advances First one2 two2 reader after mid
         → AdvanceOkPost key cmp Second one2 two2 one3 two3 (now.reader Second) reader2 after last new
         → reads_ahead (both reader reader2) one3 two3 < reads_ahead now.reader one two
     pair_decreases h k = grind (arith, reads_less, between_next, second_advance_pre)
@@ -189,8 +173,7 @@ module _ {job : Comm} {cmp : Cmp} {key : Side → Key} {old now : MergeState} {o
         write_least_run w.o (key First x) both_written (both (x ∷ []) (head Second ∷ []))
         (elim [ First ↦ line_is_least_run w.o h1.bound refl | Second ↦ line_is_least_run w.o h2.bound (sym step.same) ])
         (elim [ First ↦ h1.all | Second ↦ h2.all ]) (entries_none job (key First x))
-        (λ r c. entries_both job (key First x) (length (lines_with_key (key First) (r First) (key First x)))
-        (length (lines_with_key (key Second) (r Second) (key First x)))) between.clean merge_invariant wrote
+        (λ r c. entries_both job (key First x) _ _) between.clean merge_invariant wrote
 
     module _ {mid : Output} {tabs : List ℕ} (led : tabs ≡ tab_if_shown job.hide1 ++ tab_if_shown job.hide2)
         (pushed : PushEffect now.out mid (unlines (now.reader First).terminator
@@ -205,22 +188,18 @@ module _ {job : Comm} {cmp : Cmp} {key : Side → Key} {old now : MergeState} {o
 
       -- the first input advanced, and the output was written out
       module _ {one2 two2 : Sorted} {reader : Reader} {after : Slots}
-          (h : AdvanceOkPost key cmp First one two one2 two2 (now.reader First) reader now.store after mid)
-          {new : Output} (written_out : PushEffect mid new []) where
+          (h : Advances First one2 two2 reader after mid) {new : Output} (written_out : PushEffect mid new []) where
         wrote_line_out : MergeInvariant tool b both_written old.out new
-        wrote_line_out = let (m, _) = wrote_both (wrote_and_sent _ _ _ _ h.continues.clean wrote_pair written_out) in m
+        wrote_line_out = (wrote_both (wrote_and_sent _ _ _ _ h.continues.clean wrote_pair written_out)).0
 
         pub second_fails : EndsIfFails tool old (state_by_side (both reader (now.reader Second)) new after) Second two2
             new
         second_fails _ _ _ k =
             let g = advance_ok w lines_before First step.first h.came w.fits keeps in
             let m = goes_merging w lines_before First step.first h.came wrote_line_out in
-            let (before, _) = wrote_both wrote_pair in
-            iteration_fails w g Second step.second (
-              m,
-              lag_invariant_starts (goes_merging w lines_before First step.first h.came before) h.continues.clean
-                  written_out,
-            ) refl (read_facts_current w g First) _ _ _ (rw h.continues.others at k)
+            let before = goes_merging w lines_before First step.first h.came (wrote_both wrote_pair).0 in
+            iteration_fails w g Second step.second (m, lag_invariant_starts before h.continues.clean written_out) refl
+            (read_facts_current w g First) _ _ _ (rw h.continues.others at k)
 
         pub pair_continues : {one3 two3 : Sorted} {reader2 : Reader} {last : Slots}
             → AdvanceOkPost key cmp Second one2 two2 one3 two3 (now.reader Second) reader2 after last new

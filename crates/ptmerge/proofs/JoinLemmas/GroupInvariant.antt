@@ -8,11 +8,11 @@ use proofs.Common.{Output, PushEffect, Reader, Slots, line, total_bytes, with_li
 use proofs.Common.{unlines-append, Side, First, Second, Sorted, CursorStatus, Head, Ended, Disorder, is_head}
 use proofs.Common.{length-append, Lines, MergeTool, entries_by_key, entries_of_key, lines_with_key, MergeState}
 use proofs.Common.{NextOkPost, HasSlots, with_side, other, PrecedesInput, disorder, merged_entries, sorted_prefixes}
-use proofs.Common.{is_up_to, Cmp, Key, reads_nothing}
+use proofs.Common.{is_up_to, Cmp, Key}
 use proofs.MergeLemmas.Step.{slots_on, SidesInvariant, IsAbove, IsLineByLine, current_key_is_above, next_at}
 use proofs.MergeLemmas.Step.{own_slots, passed_at, sides_invariant_continues, slots_apart, StoreInvariant}
 use proofs.MergeLemmas.Step.{EndsIfFails, advance_fails}
-use proofs.MergeLemmas.Invariant.{Bound, AtLeast, MayFollow, IsUnder, MergeInvariant, InputSplit, MayCome, all_keys}
+use proofs.MergeLemmas.Invariant.{Bound, AtLeast, MayFollow, IsUnder, MergeInvariant, IsFuture, MayCome, all_keys}
 use proofs.MergeLemmas.Invariant.{splits_step, all_wanted, written_is_wanted, LagInvariant}
 use proofs.JoinLemmas.GroupSlots.{AllSlots, Extends, GroupBounds, InGroup, largest_group, GroupStore}
 use proofs.JoinLemmas.GroupSlots.{group_store_line, group_store_next, low_slot, put_more}
@@ -21,8 +21,7 @@ use proofs.MergeLemmas.Orders.{others_of, lines_with_key-above, IsKeyOrder, AtMo
 use proofs.MergeLemmas.Orders.{at_most_trans, same_bytes}
 use proofs.MergeLemmas.Slots.{put_both, put_each, put_other, put_same, side_case, has_lines_total, line_other}
 use proofs.MergeLemmas.Exits.{SideAfterNext, IsAtCurrentLine, MatchesStatus, next_same_key, side_invariant_kept, Fits}
-use proofs.MergeLemmas.Exits.{read_facts_after_line, read_facts_at_line, input_split_of, both_begun, IsOpenMerge}
-use proofs.MergeLemmas.Exits.{ReadFactsOf}
+use proofs.MergeLemmas.Exits.{read_facts_after_line, input_split_of, both_begun, IsOpenMerge, ReadFactsOf}
 use proofs.MergeLemmas.LinesRead.{Continues, HasBegun, HoldsLines}
 use Rattle.std.proofs.Common.{rules}
 use Rattle.std.proofs.lemmas.Grind.{common_steps}
@@ -77,16 +76,20 @@ module _ {tool : MergeTool} {old : MergeState} (w : IsOpenMerge tool old) {mid :
 
   -- two lists that continue the lines read so far: their sorted prefixes and their disorder
   module _ (new : MergeState) {now : Side → Reader} {piece : Side → List ℕ} {ls : Side → Lines}
-      (gone : (side : Side) → ReadFactsOf tool old now new.reader piece ls (λ side. p side ++ g side) d side)
+      (gone : (side : Side)
+      → ReadFactsOf tool old now ls (λ side. p side ++ g side) d side (new.reader side) (piece side))
       (all : Side → Lines) (more : (side : Side) → Continues (now side) (ls side) (all side)) where
-    seen : InputSplit tool d (λ side. p side ++ g side) all
+    seen : (side : Side) → IsFuture cmp (key side) (all side) (p side ++ g side) (d side)
     seen = input_split_of w new gone all more
 
+    abbrev coming : Side → Lines
+    coming side = (seen side).rest
+
     parts : (w : List ℕ → Bool) → entries_by_key tool w (sorted_prefixes tool all) ≡ entries_by_key tool w
-        p ++ entries_by_key tool w (λ side. g side ++ seen.r side)
-    parts w = (λ i. entries_by_key tool w (λ side. (seen.parts side ∙ append_assoc (p side) (g side) (seen.r side)) i))
-        ∙ m.merge_invariant.splits.split w (λ side. g side ++ seen.r side)
-        (λ side. rest_not_less side (seen.r side) (seen.may_follow side))
+        p ++ entries_by_key tool w (λ side. g side ++ coming side)
+    parts w = (λ i. entries_by_key tool w (λ side. ((seen side).is ∙ append_assoc (p side) (g side) (coming side)) i))
+        ∙ m.merge_invariant.splits.split w (λ side. g side ++ coming side)
+        (λ side. rest_not_less side (coming side) (seen side).may_follow)
 
     wanted : (x : List ℕ) → AtMost cmp x k → is_up_to cmp (disorder tool all) x ≡ true
     wanted x h = grind (arith, written_is_wanted, seen, under_lower)
@@ -102,14 +105,15 @@ module _ {tool : MergeTool} {old : MergeState} (w : IsOpenMerge tool old) {mid :
     pub group_comes_first : {extra : Lines} → OutputStartsWith tool g d k extra → (rest : Lines)
         × (merged_entries tool all ≡ (front ++ extra) ++ rest)
     group_comes_first {extra} starts =
-        let (rest, is) = starts.rest is_wanted seen.r seen.may_follow (wanted k (self_at_most cmp o k)) in
+        let (rest, is) = starts.rest is_wanted coming (λ side. (seen side).may_follow)
+        (wanted k (self_at_most cmp o k)) in
         (rest, cc (parts is_wanted, front_is_first, is, append_assoc front extra rest))
 
     -- the entries of lesser keys are not all, if the group has entries
     pub front_is_not_all : HasEntries tool g d k → ¬ (merged_entries tool all ≡ front ++ [])
     front_is_not_all has same =
-        let some = has.some is_wanted seen.r seen.may_follow (wanted k (self_at_most cmp o k)) in
-        let own = entries_by_key tool is_wanted (λ side. g side ++ seen.r side) in
+        let some = has.some is_wanted coming (λ side. (seen side).may_follow) (wanted k (self_at_most cmp o k)) in
+        let own = entries_by_key tool is_wanted (λ side. g side ++ coming side) in
         absurd (omega (
           arith,
           some,
@@ -349,9 +353,9 @@ module _ {call : JoinCall} {now : MergeState} {cursor : Side → Sorted} {end : 
       by : (t : CursorStatus) → MatchesStatus cmp (key s) t (cursor s) now.store (now.reader s) (q.ls s) (q.p s ++ g s)
           (q.d s) → (t ≡ Head → ¬ (key s (head_of now cursor s) ≡ k))
           → PrecedesInput cmp k t (key s (head_of now cursor s)) (key s (line now.store (cursor s).previous_slot))
-      by Head (_, _, bound) other = ap is_gt (⊎_elim (λ (_, same). absurd (other refl same)) (λ (_, greater). greater)
+      by Head at_line other = ap is_gt (⊎_elim (λ (_, same). absurd (other refl same)) (λ (_, greater). greater)
           (least_or_above cmp o k (key s (head_of now cursor s))
-          (rw bound at (q.within.under s))))
+          (rw at_line.bound at (q.within.under s))))
       by Ended st other = tt
       by (Disorder n) st other = rw st at (q.within.under s)
 
@@ -362,8 +366,8 @@ module _ {call : JoinCall} {now : MergeState} {cursor : Side → Sorted} {end : 
   group_begun side = (q.sides side).begun
 
   pub group_read_facts : (side : Side)
-      → ReadFactsOf tool old now.reader now.reader (λ t. []) q.ls (λ t. q.p t ++ g t) q.d side
-  group_read_facts side = read_facts_at_line (q.sides side)
+      → ReadFactsOf tool old now.reader q.ls (λ t. q.p t ++ g t) q.d side (now.reader side) []
+  group_read_facts side = (q.sides side).facts
 
   -- the group after other lines were stored for it
   pub group_kept : AllSlots cursor → {after : Slots} → ((i : ℕ) → i < 4 → line after i ≡ line now.store i)
@@ -384,7 +388,7 @@ module _ {call : JoinCall} {now : MergeState} {cursor : Side → Sorted} {end : 
   abbrev x : List ℕ
   x = head_of now cursor s
 
-  at_head : IsAtCurrentLine cmp (key s) (cursor s) now.store (q.ls s) (q.p s ++ g s) (q.d s)
+  at_head : IsAtCurrentLine cmp (key s) (cursor s).number x (q.ls s) (q.p s ++ g s) (q.d s)
   at_head = passed_at tool o q.sides l.slots q.keeps.four s l.head
 
   -- all lines read, including the current one
@@ -398,20 +402,14 @@ module _ {call : JoinCall} {now : MergeState} {cursor : Side → Sorted} {end : 
   pub within_more : OutputInGroup tool old.out q.mid q.p (with_added_line now cursor s g) q.d k
   within_more = assumption (own_more, q.within)
 
-  pub rest_facts : ReadFactsOf tool old now.reader now.reader (λ t. []) q.ls
-      (λ t. q.p t ++ with_added_line now cursor s g t) q.d (other s)
-  rest_facts = simp put_other (group_read_facts q (other s))
-
   pub all_processed : q.p s ++ with_added_line now cursor s g s ≡ q.ls s
   all_processed = cc (with_head, put_same s (g s ++ x ∷ []) g)
 
   -- the current line is processed
-  pub passing_now : (side : Side) → ReadFactsOf tool old now.reader now.reader (λ t. []) q.ls
-      (λ t. q.p t ++ with_added_line now cursor s g t) q.d side
-  passing_now = side_case (ReadFactsOf tool old now.reader now.reader (λ t. []) q.ls
-      (λ t. q.p t ++ with_added_line now cursor s g t) q.d) s
-      (rw (all_processed, at_head.bound) (read_facts_after_line o (Some (key s x)) (q.sides s).lines_read
-      (reads_nothing (now.reader s)) tt (q.sides s).sound at_head.sorted_up_to)) rest_facts
+  pub passing_now : (side : Side) → ReadFactsOf tool old now.reader q.ls
+      (λ t. q.p t ++ with_added_line now cursor s g t) q.d side (now.reader side) []
+  passing_now = side_case _ s
+      (rw all_processed (read_facts_after_line (q.sides s) o l.head)) (simp put_other (group_read_facts q (other s)))
 
   -- writing failed, or reading the next line, after a prefix of the group's output was written
   pub group_breaks : {out : Output} {extra : Lines}
@@ -420,13 +418,8 @@ module _ {call : JoinCall} {now : MergeState} {cursor : Side → Sorted} {end : 
       → EndsIfFails tool old now s (cursor s) out
   group_breaks {extra = extra} begins wrote = advance_fails w {now = now} {cursor = cursor s}
       {p = λ t. q.p t ++ with_added_line now cursor s g t} (record {
-        lines_read = (q.sides s).lines_read;
-        sound = (q.sides s).sound;
+        facts = passing_now;
         all = all_processed;
-        last = Some (key s x);
-        sorted_up_to = at_head.sorted_up_to;
-        bound = at_head.bound;
-        rest = rest_facts;
         order = λ r piece free. both_begun (group_begun q);
         denied = q.keeps.denied;
         fits = peak_line call q.keeps s (cursor s) (l.slots s);

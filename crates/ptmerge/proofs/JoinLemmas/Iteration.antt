@@ -2,22 +2,22 @@
 -- merge. An iteration there writes one unpaired line, opens a group or ends the loop. The remaining work, three times
 -- the reads that are left plus the rank of the phase, decreases in each iteration.
 use Rattle.ptmerge.proofs
-use proofs.Common.{NextOkPost, ◌≡◌, ℕ, Bool, true, false, cond, List, [], ◌∷◌, ◌++◌, map, refl, ap, sym, ◌∙◌, ◌+◌, ◌*◌}
-use proofs.Common.{◌≤◌, ◌<◌, Ok, Err, length, subst, arith, append-nil, flat_map-append, Join, Side, First, Second}
-use proofs.Common.{unpaired_entries1, unpaired_entries2, unpaired_entry, entry, join_fields, join_with, join_entries}
-use proofs.Common.{join_key, pair_entries, Lines, entries_by_key, Cmp, Key, Output, PushEffect, Reader, Slots, line}
-use proofs.Common.{unlines, MergeFault, Sorted, Head, Ended, IsReadyToContinue, AdvanceOkPost, MergeState, MergePost}
-use proofs.Common.{merge_state, HasSlots, both, with_side, lines_of, Memory, HaveEqualKeys, HasOnlyLeastKey}
-use proofs.Common.{IsDisorderDecided, IsReaderOf, AreValidCursors, StartOkPost, merge_inputs, ClearFourSlotsPost, ◌⊎◌}
-use proofs.Common.{MergeRunPre, JoinStepPre, AdvancePre, push_nothing, other, if◌then◌else◌, max_group_bytes}
-use proofs.Common.{max_group_lines, inl, inr, ReadGroupLineOkPost, ReadGroupLinePost, IsGroup, ClearGroupPost}
-use proofs.Common.{group_end_slot, group_first_slot, group, JoinLinePre, ⊎_elim, ◌-◌, ◌==◌, push_trans, nat_tests}
-use proofs.Common.{length_push, unlines-append, append_assoc, merged_entries, nil_from_length, CopyToGroupPost}
+use proofs.Common.{NextOkPost, ◌≡◌, ℕ, Bool, true, false, cond, List, [], ◌∷◌, ◌++◌, map, refl, ap, sym, ◌∙◌, ◌+◌}
+use proofs.Common.{◌*◌, ◌≤◌, ◌<◌, Ok, Err, length, subst, arith, append-nil, flat_map-append, Join, Side, First}
+use proofs.Common.{Second, unpaired_entries1, unpaired_entries2, unpaired_entry, entry, join_fields, join_with}
+use proofs.Common.{join_entries, join_key, pair_entries, Lines, entries_by_key, Cmp, Key, Output, PushEffect, Reader}
+use proofs.Common.{Slots, line, unlines, MergeFault, Sorted, Head, Ended, IsReadyToContinue, AdvanceOkPost}
+use proofs.Common.{MergeState, MergePost, merge_state, HasSlots, both, with_side, lines_of, Memory, HaveEqualKeys}
+use proofs.Common.{HasOnlyLeastKey, IsDisorderDecided, IsReaderOf, AreValidCursors, StartOkPost, merge_inputs}
+use proofs.Common.{ClearFourSlotsPost, ◌⊎◌, MergeRunPre, JoinStepPre, AdvancePre, push_nothing, other, if◌then◌else◌}
+use proofs.Common.{max_group_bytes, max_group_lines, inl, inr, ReadGroupLineOkPost, ReadGroupLinePost, IsGroup}
+use proofs.Common.{ClearGroupPost, group_end_slot, group_first_slot, group, JoinLinePre, ⊎_elim, ◌-◌, ◌==◌}
+use proofs.Common.{push_trans, nat_tests, length_push, unlines-append, append_assoc, merged_entries, nil_from_length}
+use proofs.Common.{CopyToGroupPost}
 use proofs.MergeLemmas.Step.{BetweenSteps, between_next, advance_pre, reads_less, open_merge, slots_of, wrote_as}
-use proofs.MergeLemmas.Step.{IsLineByLine, alone, current_key_is_above, write_one_line, IsAbove, reads_ahead, place_is}
-use proofs.MergeLemmas.Step.{LoopInvariant, CursorsInvariant, EndsIfFails, iteration_fails, read_facts_current, runs_on}
-use proofs.MergeLemmas.Step.{n, ends_well, ends_fallen, start_ok, next_keeps_slot_count, valid_cursors_kept}
-use proofs.MergeLemmas.Step.{wrote_and_sent}
+use proofs.MergeLemmas.Step.{IsLineByLine, alone, wrote_alone, alone_breaks, IsAbove, reads_ahead, place_is}
+use proofs.MergeLemmas.Step.{LoopInvariant, CursorsInvariant, EndsIfFails, runs_on, n, ends_well, ends_fallen}
+use proofs.MergeLemmas.Step.{start_ok, next_keeps_slot_count, valid_cursors_kept, wrote_and_sent}
 use proofs.JoinLemmas.GroupInvariant.{IsPairTool, IsAtKey, head_of, JoinCall, state_after_read, GroupState}
 use proofs.JoinLemmas.GroupInvariant.{store_between_groups, IsAtGroupLine, AdvancedGroup, closes, continues_key}
 use proofs.JoinLemmas.GroupInvariant.{leaves_key, advanced_group, group_breaks, with_added_line, is_past, next_slots}
@@ -25,12 +25,11 @@ use proofs.JoinLemmas.GroupInvariant.{others_stay, passing_now, extends, front_i
 use proofs.JoinLemmas.GroupInvariant.{same_cursors, group_read_facts, starts, none_failed, within_more, group_kept}
 use proofs.JoinLemmas.GroupInvariant.{last_stays, own_more, size_of, starts_none, with_head, OutputStartsWith}
 use proofs.JoinLemmas.GroupInvariant.{group_written, group_comes_first}
-use proofs.MergeLemmas.Invariant.{all_keys, AtLeast, AllWritten, MergeInvariant, Bound}
+use proofs.MergeLemmas.Invariant.{all_keys, AtLeast, MergeInvariant, Bound}
 use proofs.JoinLemmas.GroupSlots.{GroupBounds, end_within, pair_of, GroupStore, group_store_next, group_store_starts}
-use proofs.JoinLemmas.GroupSlots.{group_is, kept_line, group_store_cleared, low_slot, group_one, InGroup, largest_group}
-use proofs.JoinLemmas.GroupSlots.{CopiedLine, group_in, group_store_copied}
+use proofs.JoinLemmas.GroupSlots.{group_is, kept_line, group_store_cleared, low_slot, group_one, InGroup}
+use proofs.JoinLemmas.GroupSlots.{largest_group, CopiedLine, group_in, group_store_copied}
 use proofs.MergeLemmas.Orders.{IsKeyOrder, same_bytes, self_at_most, EachKey-at}
-use proofs.MergeLemmas.Slots.{put_other, put_same}
 use proofs.MergeLemmas.Exits.{at_current_line, IsOpenMerge as OpenMerge, ComeFirst, exit_is_merge_post, continues}
 use proofs.MergeLemmas.Exits.{none_missing, both_begun}
 use proofs.MergeLemmas.LinesRead.{Continues}
@@ -275,16 +274,9 @@ module _ {job : Join} {cmp : Cmp} {key : Side → Key} {old : MergeState} {phase
     module _ {s : Side} (step : HasOnlyLeastKey cmp key (both one two) now.store s) {new : Output}
         (pushed : PushEffect now.out new (unlines (now.reader s).terminator
         (unpaired_entry job s (head_of now (both one two) s)))) where
-      wrote_unpaired : MergeInvariant (join_with job cmp key) r.b (with_side s (r.ls s) r.p) old.out new
-          × AllWritten (join_with job cmp key) r.b (with_side s (r.ls s) r.p) old.out new
-      wrote_unpaired =
-          let x = head_of now (both one two) s in
-          let h = at_current_line (r.sides s) step.status_is in
-          let (above, under) = current_key_is_above _ o _ _ _ _ _ _ _ _ _ step.before (r.sides (other s)).status_is in
-          rw h.all (write_one_line _ o (is_line_by_line job cmp key) s x _ _ _ _ _ t.clean r.merge_invariant h.bound
-          above under
-          (wrote_as (r.sides s).lines_read.terminator (entries_alone job cmp key s x (t.opened.keys s x))
-          pushed))
+      wrote_unpaired : PushEffect now.out new (unlines (now.reader s).terminator
+          (entries_by_key (join_with job cmp key) all_keys (alone s (head_of now (both one two) s))))
+      wrote_unpaired = rw (entries_alone job cmp key s _ (t.opened.keys s _)) pushed
 
       pub alone_continues : {one2 two2 : Sorted} {reader : Reader} {after : Slots}
           → AdvanceOkPost key cmp s one two one2 two2 (now.reader s) reader now.store after new
@@ -292,13 +284,15 @@ module _ {job : Join} {cmp : Cmp} {key : Side → Key} {old : MergeState} {phase
       alone_continues h =
           let keeps =
           group_store_next s (both one two s) (slots s) r.keeps (n t.opened.w lines_before s step.status_is h.came) in
-          let (m, _) = wrote_unpaired in
+          let (m, _) = wrote_alone t.opened.w lines_before (is_line_by_line job cmp key) step t.clean r.merge_invariant
+          wrote_unpaired in
           iteration_continues {next = phase} s h.continues
           (rw is (runs_on t.opened.w lines_before s step.status_is h.came keeps m, no_copies))
 
       pub alone_fails : EndsIfFails (join_with job cmp key) old now s (both one two s) new
-      alone_fails = iteration_fails t.opened.w lines_before s step.status_is wrote_unpaired (put_same s (r.ls s) r.p)
-          (rw (put_other s (r.ls s) r.p) (read_facts_current t.opened.w lines_before (other s)))
+      alone_fails =
+          alone_breaks t.opened.w lines_before (is_line_by_line job cmp key) step t.clean r.merge_invariant
+          wrote_unpaired
 
     -- both inputs have the same key, and a group of it begins
     pub group_opens : HaveEqualKeys cmp key (both one two) now.store

@@ -2,24 +2,22 @@
 -- others are known for each input, and the contract of the tool follows from these and from the output.
 use Rattle.ptmerge.proofs
 use proofs.Common.{◌≡◌, ◌≢◌, inl, inr, ℕ, ◌+◌, ◌<◌, ◌≤◌, ◌&&◌, Bool, true, false, cond, List, [], ◌∷◌, ◌++◌, Option}
-use proofs.Common.{Some, None, length, refl, sym, ◌∙◌, ap, subst, arith, bytes_eq, Ordering, is_eq, is_gt, nat_tests}
-use proofs.Common.{append-nil, length_push, FillLine, Reader, IsDone, IsSound, budget, Slots, line, with_line}
-use proofs.Common.{max_length, line_of_with_line, Sorted, CursorStatus, Head, Ended, Disorder, Lines, Cmp, Key}
-use proofs.Common.{is_head, status_at, same_key_at, NextOkPost, Result, Err, max, Received, known_lines, Output}
-use proofs.Common.{ReaderAdvance, unlines, ◌⊎◌, ⊎_elim, length-append, Memory, lines, IsLine, advance_trans}
-use proofs.Common.{append_assoc, push_trans, bounded_lag_after, unlines-append, MergeFault, Write, Side, First}
-use proofs.Common.{Second, MergeTool, entries_by_key, decided_output, disorder, first_disorder, lines_of}
-use proofs.Common.{merge_output, merged_entries, sorted_prefix, is_up_to, MergeState, MergePost, HasNoLine, other}
-use proofs.Common.{reads_nothing, EnsureFourSlotsErrPost, ◌*◌, option_map, CallEnd, ReadFault, CallOutcome}
-use proofs.Common.{AreAllConsistent, with_input, given_before, given_by, CallProgress, DecidedIfReadFailed}
-use proofs.Common.{call_on_failed_output, IsPrefix, total_bytes, both_sides, merge_engine, merge_end, disordered_line}
+use proofs.Common.{Some, None, length, refl, sym, ◌∙◌, ap, subst, arith, bytes_eq, nat_tests, append-nil, length_push}
+use proofs.Common.{FillLine, Reader, IsDone, IsSound, Slots, line, with_line, max_length, line_of_with_line, Sorted}
+use proofs.Common.{CursorStatus, Head, Ended, Disorder, Lines, Cmp, Key, is_head, status_at, same_key_at, NextOkPost}
+use proofs.Common.{Result, Err, max, Received, known_lines, Output, ReaderAdvance, unlines, ◌⊎◌, ⊎_elim}
+use proofs.Common.{length-append, Memory, lines, IsLine, advance_trans, append_assoc, push_trans, bounded_lag_after}
+use proofs.Common.{unlines-append, MergeFault, Write, Side, First, Second, MergeTool, entries_by_key, decided_output}
+use proofs.Common.{disorder, first_disorder, lines_of, merge_output, merged_entries, MergeState, MergePost, HasNoLine}
+use proofs.Common.{other, reads_nothing, EnsureFourSlotsErrPost, ◌*◌, option_map, CallEnd, ReadFault, CallOutcome}
+use proofs.Common.{AreAllConsistent, given_before, given_by, CallProgress, DecidedIfReadFailed, call_on_failed_output}
+use proofs.Common.{IsPrefix, total_bytes, both_sides, merge_engine, merge_end, disordered_line}
 use proofs.MergeLemmas.Lag.{decided_at, ProcessedNearly, LinesToCome, LagPoint, back, unsettled, lag_bound}
 use proofs.MergeLemmas.Lag.{unread_decides_nothing, unread_decides_no_disorder}
 use proofs.MergeLemmas.Invariant.{output_of, Bound, NoBound, AtLeast, AfterDisorder, NothingMore, MayFollow, IsUnder}
-use proofs.MergeLemmas.Invariant.{IsSortedUpTo, sorted_up_to_more, is_disordered, IsProcessedPrefix}
-use proofs.MergeLemmas.Invariant.{processed_before_line, processed_all, processed_to_disorder, processed_to_line}
-use proofs.MergeLemmas.Invariant.{LagInvariant, MergeInvariant, InputSplit, IsExactStop, is_continuation, input_split}
-use proofs.MergeLemmas.Invariant.{all_keys, under_fall, sorted_after}
+use proofs.MergeLemmas.Invariant.{IsSortedUpTo, sorted_up_to_more, is_disordered, IsProcessedPrefix, IsFuture}
+use proofs.MergeLemmas.Invariant.{processed_before_line, processed_all, processed_to_line, LagInvariant}
+use proofs.MergeLemmas.Invariant.{MergeInvariant, IsExactStop, input_split, all_keys, under_fall}
 use proofs.MergeLemmas.LinesRead.{LinesRead, HoldsLines, HasBegun, begun_gives_line, one_line_and_block}
 use proofs.MergeLemmas.LinesRead.{lines_read_more, lines_read_eof, Continues, KnownLines, lines_read_known}
 use proofs.MergeLemmas.LinesRead.{lines_read_of_input}
@@ -30,35 +28,21 @@ use Rattle.ptlines.proofs.MaxLength.{max_length-append}
 use Rattle.std.proofs.Common.{rules}
 use Rattle.std.proofs.lemmas.Grind.{common_steps}
 
+-- the current line becomes a processed line
+pub record IsAtCurrentLine (cmp : Cmp) (key : Key) (number : ℕ) (x : List ℕ) (ls p : Lines) (b : Bound) : Type 0 where
+  pub all : ls ≡ p ++ x ∷ []
+  pub sorted_up_to : IsSortedUpTo cmp key ls (Some (key x))
+  pub bound : b ≡ AtLeast (key x)
+  pub some : 0 < number
+
 -- The lines `ls` are read and `p` of them are processed: the last one is the current line, or there is none, or it is
 -- out of order.
 abbrev pub MatchesStatus : Cmp → Key → CursorStatus → Sorted → Slots → Reader → Lines → Lines → Bound → Type 0
 MatchesStatus cmp key Head cursor store now ls p b =
-    (ls ≡ p ++ line store cursor.current_slot ∷ []) × IsSortedUpTo cmp key ls
-    (Some (key (line store cursor.current_slot)))
-    × (b ≡ AtLeast (key (line store cursor.current_slot)))
+    IsAtCurrentLine cmp key cursor.number (line store cursor.current_slot) ls p b
 MatchesStatus cmp key Ended cursor store now ls p b = (b ≡ NothingMore) × IsDone now
 MatchesStatus cmp key (Disorder n) cursor store now ls p b =
     b ≡ AfterDisorder (record { last_key = key (line store cursor.previous_slot); line = n })
-
--- the invariant of one input
-pub record SideInvariant (end : ℕ) (cmp : Cmp) (key : Key) (old now : Reader) (cursor : Sorted) (store : Slots)
-    (ls p : Lines) (b : Bound) : Type 0 where
-  pub lines_read : LinesRead end old now ls
-  pub begun : HasBegun now ls
-  pub sound : IsSound now
-  pub processed_nearly : ProcessedNearly ls p []
-  pub number : cursor.number ≡ length ls
-  pub processed_prefix : IsProcessedPrefix cmp key ls p b
-  pub status_is : MatchesStatus cmp key cursor.status cursor store now ls p b
-
--- the current line becomes a processed line
-pub record IsAtCurrentLine (cmp : Cmp) (key : Key) (cursor : Sorted) (store : Slots) (ls p : Lines)
-    (b : Bound) : Type 0 where
-  pub all : ls ≡ p ++ line store cursor.current_slot ∷ []
-  pub sorted_up_to : IsSortedUpTo cmp key ls (Some (key (line store cursor.current_slot)))
-  pub bound : b ≡ AtLeast (key (line store cursor.current_slot))
-  pub some : 0 < cursor.number
 
 -- an input at an exit: the lines `ls` are read, `p` of them are processed, and a piece of a further line is read
 pub record ReadFacts (end : ℕ) (cmp : Cmp) (key : Key) (old now new : Reader) (piece : List ℕ) (ls p : Lines)
@@ -71,6 +55,15 @@ pub record ReadFacts (end : ℕ) (cmp : Cmp) (key : Key) (old now new : Reader) 
   pub processed_prefix : IsProcessedPrefix cmp key ls p b
   pub nothing_follows : b ≡ NothingMore → IsDone now
 
+-- the invariant of one input
+pub record SideInvariant (end : ℕ) (cmp : Cmp) (key : Key) (old now : Reader) (cursor : Sorted) (store : Slots)
+    (ls p : Lines) (b : Bound) : Type 0 where
+  pub facts : ReadFacts end cmp key old now now [] ls p b
+  pub open facts use {lines_read, sound}
+  pub begun : HasBegun now ls
+  pub number : cursor.number ≡ length ls
+  pub status_is : MatchesStatus cmp key cursor.status cursor store now ls p b
+
 module _ {end : ℕ} {cmp : Cmp} {key : Key} {old now : Reader} {cursor : Sorted} {store : Slots} {ls p : Lines}
     {b : Bound}
     (s : SideInvariant end cmp key old now cursor store ls p b) where
@@ -78,24 +71,15 @@ module _ {end : ℕ} {cmp : Cmp} {key : Key} {old now : Reader} {cursor : Sorted
   pub side_invariant_kept : {after : Slots} → line after cursor.current_slot ≡ line store cursor.current_slot
       → line after cursor.previous_slot ≡ line store cursor.previous_slot
       → SideInvariant end cmp key old now cursor after ls p b
-  side_invariant_kept {after} same1 same2 = let status_is = by cursor.status s.status_is in assumption
-    where
-      by : (t : CursorStatus) → MatchesStatus cmp key t cursor store now ls p b
-          → MatchesStatus cmp key t cursor after now ls p b
-      by Head st = rw same1 st
-      by Ended st = st
-      by (Disorder n) st = rw same2 st
+  side_invariant_kept {after} same1 same2 = grind (arith, common_steps)
 
-  pub at_current_line : cursor.status ≡ Head → IsAtCurrentLine cmp key cursor store ls p b
-  at_current_line head = grind (arith, common_steps)
+  pub at_current_line : cursor.status ≡ Head
+      → IsAtCurrentLine cmp key cursor.number (line store cursor.current_slot) ls p b
+  at_current_line head = rw head at s.status_is
 
-  pub read_facts_at_line : ReadFacts end cmp key old now now [] ls p b
-  read_facts_at_line = let nothing_follows = by cursor.status s.status_is in assumption (reads_nothing now)
-    where
-      by : (t : CursorStatus) → MatchesStatus cmp key t cursor store now ls p b → b ≡ NothingMore → IsDone now
-      by Head (_, _, bound) e = cc
-      by Ended (_, done) e = done
-      by (Disorder n) st e = cc
+  -- the current line is processed
+  pub read_facts_after_line : IsKeyOrder cmp → cursor.status ≡ Head → ReadFacts end cmp key old now now [] ls ls b
+  read_facts_after_line o head = let h = at_current_line head in grind (arith, processed_to_line, s.facts)
 
 -- the bound of an input after the last key, or before any line
 abbrev pub bound_after : Option (List ℕ) → Bound
@@ -112,9 +96,6 @@ abbrev pub reads_left : CursorStatus → ℕ
 reads_left Head = 1
 reads_left Ended = 0
 reads_left (Disorder n) = 0
-
-reads_left_most : (s : CursorStatus) → reads_left s ≤ 1
-reads_left_most s = grind arith
 
 -- the input after its next line was read, if all earlier lines are processed
 pub record SideAfterNext (end : ℕ) (cmp : Cmp) (key : Key) (old new : Reader) (cursor : Sorted) (slot : ℕ)
@@ -168,13 +149,13 @@ module _ (end : ℕ) (cmp : Cmp) (o : IsKeyOrder cmp) (key : Key) (old now new :
   at_next : (last : Option (List ℕ)) (more : Lines) (bytes : List ℕ) (q : Sorted) (b : Bound)
       → LinesRead end old new (ls ++ more) → HasBegun new (ls ++ more) → IsSound new
       → ProcessedNearly (ls ++ more) ls [] → q.number ≡ length (ls ++ more)
-      → IsProcessedPrefix cmp key (ls ++ more) ls b → MatchesStatus cmp key q.status q after new (ls ++ more) ls b
+      → IsProcessedPrefix cmp key (ls ++ more) ls b → (b ≡ NothingMore → IsDone new)
+      → MatchesStatus cmp key q.status q after new (ls ++ more) ls b
       → ((r : Lines) → MayFollow cmp key b r → MayFollow cmp key (bound_after last) r)
       → ((k : List ℕ) → IsUnder cmp (bound_after last) k → IsUnder cmp b k)
       → after ≡ with_line before cursor.previous_slot bytes → length bytes ≤ max_length (ls ++ more) → Goal last q
-  at_next last more bytes q b lines_read begun sound processed_nearly number processed_prefix status_is may_follow
-      under
-      stored fits = grind (arith, max_length-append)
+  at_next last more bytes q b lines_read begun sound processed_nearly number processed_prefix ended status_is may_follow
+      under stored fits = grind (arith, max_length-append, reads_nothing)
 
   -- a line was read
   module _ (e : FillLine now new before after cursor.previous_slot) (sound : IsSound new)
@@ -182,14 +163,13 @@ module _ (end : ℕ) (cmp : Cmp) (o : IsKeyOrder cmp) (key : Key) (old now new :
     at_head : (last : Option (List ℕ)) → cursor.previous_slot < length before.lines → IsSortedUpTo cmp key ls last
         → is_disordered cmp last (key e.line) ≡ false → Goal last (next_cursor Head (cursor.number + 1) same)
     at_head last within sorted_up_to no_disorder =
-        let now_is : line after cursor.previous_slot ≡ e.line =
-        rw e.stored (line_of_with_line before _ e.line within) in
         let more = sorted_up_to_more e.line sorted_up_to no_disorder in
         let (may_follow, under) = from_next o key last e.line no_disorder in
-        at_next last (e.line ∷ []) e.line (next_cursor Head _ same) (AtLeast (key e.line))
-        (lines_read_more lines_read e) (inr (omega (arith, length_push ls e.line))) sound (inr (e.line, refl, refl))
-        (omega (arith, number, length_push ls e.line))
-        (processed_before_line o more) (rw now_is (refl, more, refl)) may_follow under e.stored
+        at_next last (e.line ∷ []) e.line (next_cursor Head (cursor.number + 1) same) (AtLeast (key e.line))
+        (lines_read_more lines_read e)
+        (inr (omega (arith, length_push ls e.line))) sound (inr (e.line, refl, refl))
+        (omega (arith, number, length_push ls e.line)) (processed_before_line o more) (λ ended. cc)
+        (grind (arith, more, line_of_with_line)) may_follow under e.stored
         (omega (arith, max_length-append ls (e.line ∷ [])))
 
     at_fall : (last : Option (List ℕ)) → cursor.current_slot ≢ cursor.previous_slot → IsSortedUpTo cmp key ls last
@@ -197,23 +177,19 @@ module _ (end : ℕ) (cmp : Cmp) (o : IsKeyOrder cmp) (key : Key) (old now new :
         → Goal last (next_cursor (Disorder (cursor.number + 1)) (cursor.number + 1) same)
     at_fall None apart sorted_up_to is falls_now = cc
     at_fall (Some k) apart sorted_up_to (_, is) falls_now =
-        let kept : line after cursor.current_slot ≡ line before cursor.current_slot = rw e.stored
-        (line_other before cursor.previous_slot cursor.current_slot e.line (λ i. apart (sym i))) in
-        let key_is : k ≡ key (line after cursor.current_slot) = cc in
         at_next (Some k) (e.line ∷ []) e.line (next_cursor (Disorder (cursor.number + 1)) (cursor.number + 1) same)
-        (AfterDisorder (record { last_key = k; line = length ls + 1 })) (lines_read_more lines_read e)
-        (inr (omega (arith, length_push ls e.line))) sound
-        (inr (e.line, refl, refl)) (omega (arith, number, length_push ls e.line))
-        (processed_to_disorder e.line sorted_up_to falls_now)
-        (rw (← key_is, number) refl) (nothing_follows cmp key (Some k)) (λ j u. u) e.stored
+        (AfterDisorder (record { last_key = k; line = length ls + 1 }))
+        (lines_read_more lines_read e) (inr (omega (arith, length_push ls e.line))) sound (inr (e.line, refl, refl))
+        (omega (arith, number, length_push ls e.line)) (grind (arith, common_steps, sorted_up_to, falls_now))
+        (λ ended. cc)
+        (grind (arith, line_other, is)) (nothing_follows cmp key (Some k)) (λ j u. u) e.stored
         (omega (arith, max_length-append ls (e.line ∷ [])))
 
     at_line : (last : Option (List ℕ)) → cursor.previous_slot < length before.lines
         → cursor.current_slot ≢ cursor.previous_slot → IsSortedUpTo cmp key ls last → IsLastKey key last cursor before
         → (t : Bool) → is_disordered cmp last (key e.line) ≡ t
         → Goal last (next_cursor (cond t (Disorder (cursor.number + 1)) Head) (cursor.number + 1) same)
-    at_line last within apart sorted_up_to is true h = at_fall last apart sorted_up_to is h
-    at_line last within apart sorted_up_to is false h = at_head last within sorted_up_to h
+    at_line last within apart sorted_up_to is t h = search (rules, at_fall, at_head)
 
   pub next_invariant : {last : Option (List ℕ)} → cursor.previous_slot < length before.lines
       → cursor.current_slot ≢ cursor.previous_slot → LinesRead end old now ls → cursor.number ≡ length ls
@@ -224,24 +200,13 @@ module _ (end : ℕ) (cmp : Cmp) (o : IsKeyOrder cmp) (key : Key) (old now new :
       rw (e.cursor, status_after_next cmp key last cursor before e.next_line.line is)
       (at_line e.next_line e.sound lines_read number same last within apart sorted_up_to is _ refl)
   next_invariant {last} within apart lines_read number sorted_up_to is (inr e) =
-      let all = append-nil ls in
-      subst (Goal last) (sym e.cursor) (at_next last [] [] (next_cursor Ended cursor.number false) NothingMore
-      (rw all (lines_read_eof lines_read e.advance_ok e.done)) (inl e.done) e.sound (inl all) (rw all number)
-      (rw all (processed_all sorted_up_to))
+      rw e.cursor (at_next last [] [] (next_cursor Ended cursor.number false) NothingMore
+      (simp append-nil (lines_read_eof lines_read e.advance_ok e.done)) (inl e.done) e.sound (inl (append-nil ls))
+      (simp append-nil number)
+      (simp append-nil (processed_all sorted_up_to)) (λ ended. e.done)
       (refl, e.done) (nothing_follows cmp key last) (λ k u. tt) e.empty (omega arith))
 
--- advancing decreases the remaining work
-pub next_decreases : {key : Key} {cmp : Cmp} {cursor next : Sorted} {now new : Reader} {before after : Slots}
-    → cursor.status ≡ Head → NextOkPost key cmp cursor next now new before after
-    → budget new + reads_left next.status < budget now + reads_left cursor.status
-next_decreases {next = next} head (inl e) = grind (arith, reads_left_most)
-next_decreases head (inr e) = grind arith
-
 -- ---- whether the current line has the key of the previous one
-
--- keys that are equal are in order
-status_same_key : (n : ℕ) (r : Ordering) → is_eq r ≡ (is_head (cond (is_gt r) (Disorder n) Head) && is_eq r)
-status_same_key n r = grind arith
 
 pub next_same_key : (cmp : Cmp) (o : IsKeyOrder cmp) (key : Key) (cursor next : Sorted) (now new : Reader)
     (before after : Slots)
@@ -249,46 +214,12 @@ pub next_same_key : (cmp : Cmp) (o : IsKeyOrder cmp) (key : Key) (cursor next : 
     → NextOkPost key cmp cursor next now new before after
     → next.same ≡ (is_head next.status && bytes_eq (key (line before cursor.current_slot))
     (key (line after next.current_slot)))
-next_same_key cmp o key cursor next now new before after some within (inl e) = grind (arith, line_of_with_line,
-    status_same_key, equal_is)
-next_same_key cmp o key cursor next now new before after some within (inr e) = rw e.cursor refl
+next_same_key cmp o key cursor next now new before after some within e = grind (arith, line_of_with_line, equal_is, e)
 
 -- ---- an exit
 
 abbrev pub state_by_side : (Side → Reader) → Output → Slots → MergeState
 state_by_side reader out store = record { reader = reader; out = out; store = store }
-
--- all lines read are processed
-processed_after : {cmp : Cmp} (o : IsKeyOrder cmp) {key : Key} {ls : Lines} (last : Option (List ℕ))
-    → IsSortedUpTo cmp key ls last → IsProcessedPrefix cmp key ls ls (bound_after last)
-processed_after {cmp} o {key} None sorted_up_to = record {
-  future = λ w _. record {
-    rest = sorted_after cmp key None w;
-    is = sorted_up_to.ordered w;
-    may_follow = tt;
-    may_disorder = tt;
-  };
-}
-processed_after o (Some k) sorted_up_to = processed_to_line o sorted_up_to
-
--- an input whose lines are all processed, and a piece of a further line
-pub read_facts_after_line : {end : ℕ} {cmp : Cmp} (o : IsKeyOrder cmp) {key : Key} {old now new : Reader}
-    {piece : List ℕ} {ls : Lines} (last : Option (List ℕ)) → LinesRead end old now ls
-    → ReaderAdvance now new piece → IsLine now.terminator piece → IsSound new → IsSortedUpTo cmp key ls last
-    → ReadFacts end cmp key old now new piece ls ls (bound_after last)
-read_facts_after_line o last lines_read reads is_line sound sorted_up_to = record {
-  lines_read = lines_read;
-  reads = reads;
-  line = is_line;
-  sound = sound;
-  processed_nearly = inl refl;
-  processed_prefix = processed_after o last sorted_up_to;
-  nothing_follows = not_at_end last;
-}
-  where
-    not_at_end : (last : Option (List ℕ)) {X : Type 0} → bound_after last ≡ NothingMore → X
-    not_at_end None e = cc
-    not_at_end (Some k) e = cc
 
 -- reading an input failed after all its lines were processed
 pub record IsFailedRead (new : Reader) (ls p : Lines) : Type 0 where
@@ -326,14 +257,8 @@ both_begun begun = record { first = inl (begun First); second = inl (begun Secon
 -- lines without a text are none
 no_lines_left : (end : ℕ) (done rest : Lines) → unlines end done ≡ unlines end (done ++ rest) → rest ≡ []
 no_lines_left end done [] same = refl
-no_lines_left end done (x ∷ rest) same = absurd (omega (
-  arith,
-  ap length same,
-  ap length (unlines-append end done (x ∷ rest)),
-  length-append (unlines end done) (unlines end (x ∷ rest)),
-  length-append (x ++ end ∷ []) (unlines end rest),
-  length_push x end,
-))
+no_lines_left end done (x ∷ rest) same =
+    absurd (omega (arith, simp (unlines-append, length-append) at (ap length same)))
 
 -- the measure of a tool that stores two lines of each input
 abbrev pub HoldsTwoLines : MergeTool → Type 0
@@ -352,16 +277,15 @@ pub record IsOpenMerge (tool : MergeTool) (old : MergeState) : Type 0 where
   pub allowed : old.store.denied ≡ false
   pub empty : total_bytes old.store.lines ≡ 0
 
--- the facts of both inputs
-abbrev pub ReadFactsOf : MergeTool → MergeState → (Side → Reader) → (Side → Reader) → (Side → List ℕ) → (Side → Lines)
-    → (Side → Lines) → (Side → Bound) → Side → Type 0
-ReadFactsOf tool old now new piece ls p b side =
-    ReadFacts tool.terminator tool.cmp (tool.key side) (old.reader side) (now side) (new side) (piece side) (ls side)
-    (p side) (b side)
+-- the facts of an input
+abbrev pub ReadFactsOf : MergeTool → MergeState → (Side → Reader) → (Side → Lines) → (Side → Lines) → (Side → Bound)
+    → Side → Reader → List ℕ → Type 0
+ReadFactsOf tool old now ls p b side new piece = ReadFacts tool.terminator tool.cmp (tool.key side) (old.reader side)
+    (now side) new piece (ls side) (p side) (b side)
 
 module _ {tool : MergeTool} {old : MergeState} (w : IsOpenMerge tool old) (new : MergeState) {now : Side → Reader}
     {piece : Side → List ℕ} {ls p : Side → Lines} {b : Side → Bound}
-    (g : (side : Side) → ReadFactsOf tool old now new.reader piece ls p b side) where
+    (g : (side : Side) → ReadFactsOf tool old now ls p b side (new.reader side) (piece side)) where
   open tool use {cmp, key}
 
   abbrev pub took : Side → List ℕ
@@ -371,28 +295,20 @@ module _ {tool : MergeTool} {old : MergeState} (w : IsOpenMerge tool old) (new :
   given = given_by new took
 
   pub input_split_of : (all : Side → Lines) → ((side : Side) → Continues (now side) (ls side) (all side))
-      → InputSplit tool b p all
-  input_split_of all more =
-      let rest = λ (side : Side). (g side).processed_prefix.future (more side).more
-      (is_continuation (b side) (more side).more (λ e. (more side).done ((g side).nothing_follows e))) in
-      record {
-        r = λ side. (rest side).rest;
-        parts = λ side. ap (sorted_prefix cmp (key side)) (more side).is ∙ (rest side).is;
-        may_follow = λ side. (rest side).may_follow;
-        may_disorder = λ side. rw (more side).is (rest side).may_disorder;
-      }
+      → (side : Side) → IsFuture cmp (key side) (all side) (p side) (b side)
+  input_split_of all more side = rw (more side).is ((g side).processed_prefix.future (more side).more
+      (λ ended. (more side).done ((g side).nothing_follows ended)))
 
   -- the entries of the processed lines come first
   pub processed_come_first : {was is : Output} → MergeInvariant tool b p was is
       → ComeFirst tool now ls (entries_by_key tool all_keys p)
   processed_come_first m all more =
-      let s = input_split_of all more in
-      (entries_by_key tool (is_up_to cmp (disorder tool all)) s.r, input_split w.o m s)
+      let s = input_split_of all more in (_, input_split w.o m s)
 
   input_lines : (texts : Side → List ℕ) → AreAllConsistent both_sides given texts → (side : Side)
       → HoldsLines (now side) (ls side) (piece side) (lines tool.terminator (texts side))
-  input_lines texts agree side = lines_read_of_input (g side).lines_read (g side).reads (g side).line
-      (texts side) (agree side refl)
+  input_lines texts agree side =
+      lines_read_of_input (g side).lines_read (g side).reads (g side).line _ (agree side refl)
 
   pub continues : (texts : Side → List ℕ) → AreAllConsistent both_sides given texts → (side : Side)
       → Continues (now side) (ls side) (lines tool.terminator (texts side))
@@ -402,7 +318,8 @@ module _ {tool : MergeTool} {old : MergeState} (w : IsOpenMerge tool old) (new :
       (known_lines tool.terminator (given side))
   known side = lines_read_known (g side).lines_read (g side).reads (g side).line
 
-  whole_input_split : InputSplit tool b p (λ side. known_lines tool.terminator (given side))
+  whole_input_split : (side : Side)
+      → IsFuture cmp (key side) (known_lines tool.terminator (given side)) (p side) (b side)
   whole_input_split = input_split_of (λ side. known_lines _ (given side)) (λ side. (known side).known)
 
   backs : (side : Side) → LagPoint tool.terminator (given side) (p side)
@@ -416,9 +333,11 @@ module _ {tool : MergeTool} {old : MergeState} (w : IsOpenMerge tool old) (new :
       × (option_map disordered_line (disorder tool (lines_of tool texts)) ≡ found)
   exact_output m stop texts agree =
       let s = input_split_of (lines_of tool texts) (continues texts agree) in
-      let (none, found) = stop (lines_of tool texts) s.r s.may_follow s.may_disorder in
-      let done = entries_by_key tool all_keys p in
-      (cc (ap (unlines tool.terminator) (input_split w.o m s), none, append-nil done), found)
+      let (none, found) = stop (lines_of tool texts) (λ side. (s side).rest) (λ side. (s side).may_follow)
+      (λ side. (s side).may_disorder) in (
+        cc (ap (unlines tool.terminator) (input_split w.o m s), none, append-nil (entries_by_key tool all_keys p)),
+        found,
+      )
 
   module _ {done : Lines} (lag : LagInvariant tool b p old.out new.out done) (first : ComeFirst tool now ls done) where
     open lag use {front, tail, bound, bytes}
@@ -432,7 +351,9 @@ module _ {tool : MergeTool} {old : MergeState} (w : IsOpenMerge tool old) (new :
 
     future : (side : Side) → LinesToCome tool side (known_lines tool.terminator (given side)) (p side) (tail side)
         (bound side)
-    future side = grind (arith, whole_input_split)
+    future side =
+        let s = whole_input_split side in
+        record { rest = s.rest; is = s.is; may_follow = lag.may_follow side s.rest s.may_follow }
 
     -- everything is decided once the last line of an input is processed
     decided : (side : Side) → IsFailedRead (new.reader side) (ls side) (p side)
@@ -455,10 +376,7 @@ module _ {tool : MergeTool} {old : MergeState} (w : IsOpenMerge tool old) (new :
         let begins = subst (λ (all : Side → Received). IsPrefix (decided_output tool all)
         (output_of tool front)) (λ i t. with_own side given t i)
         (decided_at tool w.o given front _ tail _ lag.split lag.under_bound future side point) in
-        rw (← lag.all) (record {
-          rest = begins.rest ++ bytes;
-          is = cc (begins.is, append_assoc (decided_output tool given) begins.rest bytes);
-        })
+        search (rules, begins, lag, append_assoc)
 
     progress : Fits tool old.store now ls piece new.store
         → CallProgress both_sides (merge_engine tool) old new took (unlines tool.terminator done)
@@ -468,32 +386,22 @@ module _ {tool : MergeTool} {old : MergeState} (w : IsOpenMerge tool old) (new :
       never_failed = λ side read. w.unfailed side;
       writable = w.writable;
       wrote = rw lag.all at (push_trans _ _ _ _ _ lag.clean lag.wrote lag.more);
-      is_prefix = λ texts agree.
-          let (rest, is) = first (lines_of tool texts) (continues texts agree) in
-          record {
-            rest = unlines tool.terminator rest;
-            is = ap (unlines tool.terminator) is ∙ unlines-append tool.terminator done rest;
-          };
+      is_prefix = λ texts agree. (let come = first (lines_of tool texts) (continues texts agree) in search
+          (rules, come, unlines-append));
       -- everything was written that was decided two blocks of an input earlier
-      bounded_lag = λ of read. rw lag.all at (bounded_lag_after (λ came. decided_output tool
-          (with_input both_sides of (came tt) given)) (λ u. given of) old.out lag.mid
-          (output_of tool front)
+      bounded_lag = λ of read. rw lag.all at (bounded_lag_after _ _ old.out lag.mid (output_of tool front)
           (lag_bound tool w.o given front _ tail _ lag.split lag.under_bound future of (backs of)) lag.wrote lag.clean
           new.out bytes lag.more);
-      peak = λ texts agree. (let (peak, _, _) = fits (lines_of tool texts) (input_lines texts agree) in peak);
-      slots = λ texts agree. (let (_, slots, _) = fits (lines_of tool texts) (input_lines texts agree) in slots);
+      peak = λ texts agree. (fits (lines_of tool texts) (input_lines texts agree)).0;
+      slots = λ texts agree. (fits (lines_of tool texts) (input_lines texts agree)).1;
       least = omega (arith, has);
       room = omega (arith, has);
     }
       where
-        shortest : Side → List ℕ
-        shortest side = (given side).bytes
-
         has : max (length old.store.lines) 4 ≤ length new.store.lines
-        has =
-            let agree : AreAllConsistent both_sides given shortest =
-            λ side read. record { rest = []; is = sym (append-nil (given side).bytes); whole = λ eof. refl } in
-            let (_, _, least) = fits (lines_of tool shortest) (input_lines shortest agree) in least
+        has = (fits (lines_of tool (λ side. (given side).bytes))
+            (input_lines (λ side. (given side).bytes) (λ side read. record
+            { rest = []; is = sym (append-nil (given side).bytes); whole = λ eof. refl }))).2
 
     pub exit_is_merge_post : Fits tool old.store now ls piece new.store
         → FirstReads tool.terminator old.reader now new.reader ls piece
@@ -510,7 +418,7 @@ module _ {tool : MergeTool} {old : MergeState} (w : IsOpenMerge tool old) (new :
           let f = first_disorder cmp (key (other of)) (known_lines tool.terminator (given (other of))) in
           unsettled tool w.o given front _ tail _ lag.split lag.under_bound future of (backs of)
           (EachKey-weaker _ _ (λ k u. under_fall cmp w.o (b (other of)) k f u
-          (whole_input_split.may_disorder (other of))) _ _ (lag.under (other of) of));
+          (whole_input_split (other of)).may_disorder) _ _ (lag.under (other of) of));
       first_reads = λ clean_then. record {
         second_unread = λ none. ⊎_elim (λ begun. absurd (has_line First begun none))
             (λ same. same ∙ (λ i. record (old.reader Second) { terminator = w.terminator Second i })) order.first;
@@ -539,16 +447,9 @@ pub merge_set : {tool : MergeTool} {old new : MergeState} {set : Side → Reader
     → MergePost tool old new result
 unfolding call_set
 merge_set {tool} {old} {new} {set} clean is m = record {
-  call = call_set both_sides _ old _ new clean refl refl
-      (λ side read. is side) (λ side none. cc) m.call;
+  call = call_set both_sides _ old _ new clean refl refl (λ side read. is side) (λ side none. cc) m.call;
   stops_at_disorder = m.stops_at_disorder;
-  first_reads = λ fine.
-      let reads = m.first_reads fine in
-      record {
-        second_unread = λ none. reads.second_unread none
-            ∙ ap {B = Reader} (λ (r : Reader). record r { terminator = tool.terminator }) (is Second);
-        first_waits = reads.first_waits;
-      };
+  first_reads = grind (arith, is Second, m.first_reads);
 }
 
 -- the output had failed, and nothing was done
@@ -561,32 +462,24 @@ pub merge_without_slots : {tool : MergeTool} {old : MergeState} → IsOpenMerge 
     → new.out ≡ old.out → ((side : Side) → new.reader side ≡ old.reader side)
     → EnsureFourSlotsErrPost old.store new.store → MergePost tool old new (Err Memory)
 unfolding call_without_slots
-merge_without_slots {tool} {old} w {new} same_output unread slots = record {
-  call = call_without_slots both_sides (merge_engine tool) old new w.writable same_output (λ side read. set side)
-      (λ side none. cc) (λ side read. w.sound side) (λ side read. w.unfailed side) slots.denied slots.peak slots.least
-      slots.few (λ texts. omega (arith, w.fits (lines_of tool texts)))
-      (λ side read. rw (unread_decides_nothing tool w.o (given_before old) side) (record { rest = []; is = refl }));
-  stops_at_disorder = λ side clean. (
+merge_without_slots {tool} {old} w {new} same_output unread slots =
+    let set : (side : Side) → new.reader side ≡ record (old.reader side) { terminator = tool.terminator } =
+    λ side. unread side ∙ (λ i. record (old.reader side) { terminator = w.terminator side i }) in
     record {
-      earlier = record { bytes = []; eof = false };
-      last = (old.reader side).buffered;
-      split = refl;
-      short = omega (arith, (w.sound side).buffered);
-      eof = λ never. cc;
-    },
-    unread_decides_no_disorder tool w.o (given_before old) side,
-  );
-  first_reads = λ clean. record {
-    second_unread = λ none. set Second;
-    first_waits = λ none. record {
-      first = [];
-      rest = (old.reader First).buffered;
-      split = refl;
-      one_line = omega arith;
-      block = (w.sound First).buffered;
-    };
-  };
-}
-  where
-    set : (side : Side) → new.reader side ≡ record (old.reader side) { terminator = tool.terminator }
-    set side = unread side ∙ (λ i. record (old.reader side) { terminator = w.terminator side i })
+      call = call_without_slots both_sides (merge_engine tool) old new w.writable same_output (λ side read. set side)
+          (λ side none. cc) (λ side read. w.sound side) (λ side read. w.unfailed side) slots.denied slots.peak
+          slots.least
+          slots.few (λ texts. omega (arith, w.fits (lines_of tool texts)))
+          (λ side read. rw (unread_decides_nothing tool w.o (given_before old) side) (record { rest = []; is = refl }));
+      stops_at_disorder = λ side clean. (
+        record {
+          earlier = record { bytes = []; eof = false };
+          last = (old.reader side).buffered;
+          split = refl;
+          short = omega (arith, (w.sound side).buffered);
+          eof = λ never. cc;
+        },
+        unread_decides_no_disorder tool w.o (given_before old) side,
+      );
+      first_reads = search (rules, set, w.sound);
+    }

@@ -5,7 +5,7 @@ use Rattle.ptmerge.proofs
 use proofs.Common.{nat_tests, ◌≡◌, ℕ, ◌+◌, List, [], ◌∷◌, ◌++◌, Bool, true, false, cond, Option, Some, None, length}
 use proofs.Common.{refl, ◌∙◌, map, append_assoc, arith, nat_lt, unwrap_or, if◌then◌else◌, last_or, is_gt, Lines}
 use proofs.Common.{sorted_prefix, first_disorder, FirstDisorder, Cmp, Key, ◌&&◌, not, ap, sym, append-nil}
-use proofs.Common.{flat_map-append, filter, flat_map, Less, Greater, Side, First, Second, MergeTool, insert_key}
+use proofs.Common.{flat_map-append, filter, flat_map, Greater, Side, First, Second, MergeTool, insert_key}
 use proofs.Common.{distinct_keys, keys, entries_of_key, entries_by_key, earlier_disorder, is_up_to, subst, is_lt}
 use proofs.Common.{Output, PushEffect, unlines, push_trans, push_nothing, unlines-append, disorder, is_below}
 use proofs.Common.{is_decided, is_past, merged_entries, lines_with_key, option_map, with_side, disordered_line}
@@ -112,11 +112,6 @@ IsUnder cmp (AtLeast l) k = AtMost cmp k l
 IsUnder cmp (AfterDisorder d) k = AtMost cmp k d.last_key
 IsUnder cmp NothingMore k = Unit {0}
 
--- nothing follows after the end of the input
-abbrev pub IsContinuation : Bound → Lines → Type 0
-IsContinuation NothingMore w = w ≡ []
-IsContinuation b w = Unit {0}
-
 pub may_follow_none : (cmp : Cmp) (key : Key) (b : Bound) → MayFollow cmp key b []
 may_follow_none cmp key b = grind arith
 
@@ -127,9 +122,10 @@ pub record IsFuture (cmp : Cmp) (key : Key) (all p : Lines) (b : Bound) : Type 0
   pub may_follow : MayFollow cmp key b rest
   pub may_disorder : MayDisorder cmp b (first_disorder cmp key all)
 
--- The lines `ls` are read, and `p` of them are processed: so it is for every list that continues `ls`.
+-- The lines `ls` are read, and `p` of them are processed: so it is for every list that continues `ls`. Nothing follows
+-- after the end of the input.
 pub record IsProcessedPrefix (cmp : Cmp) (key : Key) (ls p : Lines) (b : Bound) : Type 0 where
-  pub future : (w : Lines) → IsContinuation b w → IsFuture cmp key (ls ++ w) p b
+  pub future : (w : Lines) → (b ≡ NothingMore → w ≡ []) → IsFuture cmp key (ls ++ w) p b
 
 -- all lines read are processed
 pub processed_to_line : {cmp : Cmp} (o : IsKeyOrder cmp) {key : Key} {ls : Lines} {k : List ℕ}
@@ -144,12 +140,6 @@ processed_all g = grind arith
 pub processed_before_line : {cmp : Cmp} (o : IsKeyOrder cmp) {key : Key} {p : Lines} {x : List ℕ}
     → IsSortedUpTo cmp key (p ++ x ∷ []) (Some (key x)) → IsProcessedPrefix cmp key (p ++ x ∷ []) p (AtLeast (key x))
 processed_before_line {cmp} o {key} {p} {x} g = grind (arith, common_steps, after_from, self_at_most)
-
--- the current line is out of order
-pub processed_to_disorder : {cmp : Cmp} {key : Key} {p : Lines} {k : List ℕ} (x : List ℕ)
-    → IsSortedUpTo cmp key p (Some k) → is_gt (cmp k (key x)) ≡ true
-    → IsProcessedPrefix cmp key (p ++ x ∷ []) p (AfterDisorder (record { last_key = k; line = length p + 1 }))
-processed_to_disorder {p = p} x g fell = grind (arith, common_steps)
 
 -- ---- the output
 
@@ -176,11 +166,9 @@ IsDownwardClosed cmp w = (a b : List ℕ) → cmp b a ≡ Greater → w b ≡ tr
 module _ (cmp : Cmp) (o : IsKeyOrder cmp) where
   ascends_insert : (k : List ℕ) (ks : Lines) → Ascends cmp ks → Ascends cmp (insert_key cmp k ks)
   ascends_insert k [] a = (tt, tt)
-  ascends_insert k (x ∷ ks) (above, more) =
-      let less = λ (e : cmp k x ≡ Less). Each-weaker _ _
-      (λ y h. above_trans cmp o k x y (ap is_gt e) h) ks above in
-      let greater = λ (e : cmp k x ≡ Greater). Each-insert cmp (Above cmp x) k ks e above in
-      grind (arith, less, greater, less_flips cmp o k x, ascends_insert k ks more)
+  ascends_insert k (x ∷ xs) (above, more) =
+      let ih = ascends_insert k xs more in
+      grind (arith, ih, Each-weaker, above_trans, Each-insert, less_flips)
 
   pub ascends_distinct : (ks : Lines) → Ascends cmp (distinct_keys cmp ks)
   ascends_distinct [] = tt
@@ -192,12 +180,9 @@ module _ (cmp : Cmp) (o : IsKeyOrder cmp) where
   downward_first w p down [] a = refl
   downward_first w p down (k ∷ ks) (above, more) =
       let ih = downward_first w p down ks more in
-      let none : p k ≡ false → filter _ ks ≡ [] = λ h. filter_none _ ks
-      (Each-weaker _ _ (not_above h) _ above) in
+      let none : p k ≡ false → filter (λ k. w k && p k) ks ≡ [] = λ h. filter_none _ ks
+      (Each-weaker _ _ (λ y g. (let d = down k y g in grind arith)) _ above) in
       grind (arith, ih, none)
-    where
-      not_above : p k ≡ false → (y : List ℕ) → cmp y k ≡ Greater → (w y && p y) ≡ false
-      not_above h y g = grind (arith, down k y g)
 
   -- the disorder comes after a key that is at least k
   pub under_fall : (b : Bound) (k : List ℕ) (f : Option FirstDisorder) → IsUnder cmp b k → MayDisorder cmp b f
@@ -210,7 +195,7 @@ module _ (cmp : Cmp) (o : IsKeyOrder cmp) where
 
   pub written_is_wanted : (b1 b2 : Bound) (f1 f2 : Option FirstDisorder) (k : List ℕ) → MayDisorder cmp b1 f1
       → MayDisorder cmp b2 f2 → IsUnder cmp b1 k → IsUnder cmp b2 k → is_up_to cmp (earlier_disorder cmp f1 f2) k ≡ true
-  written_is_wanted b1 b2 f1 f2 k h1 h2 u1 u2 = grind (arith, up_to_from, under_fall)
+  written_is_wanted b1 b2 f1 f2 k h1 h2 u1 u2 = grind (arith, at_most_is_le, at_most_trans)
 
 -- the output for these lines, of all keys
 abbrev pub output_of : MergeTool → (Side → Lines) → List ℕ
@@ -235,10 +220,6 @@ module _ (tool : MergeTool) where
       let ks = distinct_keys cmp (keys tool ls) in
       ap (flat_map (entries_of_key tool ls)) (downward_first cmp o w p down ks (ascends_distinct cmp o (keys tool ls)))
       ∙ flat_map-append (entries_of_key tool ls) (filter (λ k. w k && p k) ks) (filter (λ k. w k && not (p k)) ks)
-
-  pub downward_is_prefix : IsKeyOrder cmp → (w : List ℕ → Bool) → IsDownwardClosed cmp w → (p : Side → Lines)
-      → (rest : Lines) × (entries_by_key tool all_keys p ≡ entries_by_key tool w p ++ rest)
-  downward_is_prefix o w down p = (entries_by_key tool (λ k. not (w k)) p, downward_splits o all_keys w down p)
 
   -- the lines that may follow in both inputs
   abbrev pub MayCome : (Side → Bound) → (Side → Lines) → Type 0
@@ -412,9 +393,6 @@ exact_at_end tool ended ls r follow disorder_at = grind arith
 
 -- ---- the decided output
 
-pub is_continuation : (b : Bound) (w : Lines) → (b ≡ NothingMore → w ≡ []) → IsContinuation b w
-is_continuation b w h = grind arith
-
 pub both_under : (key : Key) (P Q R : List ℕ → Type 0) → ((k : List ℕ) → P k → Q k → R k) → (xs : Lines)
     → EachKey P key xs → EachKey Q key xs → EachKey R key xs
 both_under key P Q R f [] p q = tt
@@ -476,24 +454,16 @@ module _ (tool : MergeTool) (o : IsKeyOrder tool.cmp) (eof : Side → Bool) (ls 
   not_decided First k e = grind (arith, e)
   not_decided Second k e = grind (arith, e)
 
--- two lists that continue the lines read so far
-pub record InputSplit (tool : MergeTool) (b : Side → Bound) (p ls : Side → Lines) : Type 0 where
-  pub r : Side → Lines
-  pub parts : (side : Side) → sorted_prefix tool.cmp (tool.key side) (ls side) ≡ p side ++ r side
-  pub may_follow : (side : Side) → MayFollow tool.cmp (tool.key side) (b side) (r side)
-  pub may_disorder : (side : Side) → MayDisorder tool.cmp (b side) (first_disorder tool.cmp (tool.key side) (ls side))
-
--- the entries of the processed lines come first, for all such lists
+-- the entries of the processed lines come first, for all lists that continue those read so far
 pub input_split : {tool : MergeTool} (o : IsKeyOrder tool.cmp) {b : Side → Bound} {p ls : Side → Lines}
-    {was is : Output} → MergeInvariant tool b p was is → (s : InputSplit tool b p ls)
+    {was is : Output} → MergeInvariant tool b p was is
+    → (s : (side : Side) → IsFuture tool.cmp (tool.key side) (ls side) (p side) (b side))
     → merged_entries tool ls ≡ entries_by_key tool all_keys p
-    ++ entries_by_key tool (is_up_to tool.cmp (disorder tool ls)) s.r
+    ++ entries_by_key tool (is_up_to tool.cmp (disorder tool ls)) (λ side. (s side).rest)
 input_split {tool} o {b} {p} {ls} m s =
     let w = is_up_to tool.cmp (disorder tool ls) in
-    let first =
-    all_wanted tool w p (λ side. both_under (tool.key side) (IsUnder tool.cmp (b First)) (IsUnder tool.cmp (b Second))
-    (λ k. w k ≡ true)
-    (λ k u1 u2. written_is_wanted _ o (b First) (b Second) _
-    _ k
-    (s.may_disorder First) (s.may_disorder Second) u1 u2) (p side) (m.under First side) (m.under Second side)) in
-    (λ i. entries_by_key tool w (λ side. s.parts side i)) ∙ cc (m.splits.split w s.r s.may_follow, first)
+    let first = all_wanted tool w p (λ side. both_under (tool.key side) _ _ _
+    (λ k u1 u2. written_is_wanted _ o _ _ _ _ k (s First).may_disorder (s Second).may_disorder u1 u2)
+    _ (m.under First side) (m.under Second side)) in
+    (λ i. entries_by_key tool w (λ side. (s side).is i))
+    ∙ cc (m.splits.split w (λ side. (s side).rest) (λ side. (s side).may_follow), first)

@@ -2,18 +2,18 @@
 -- the complete lines that remain are all processed. No key below the last of these can follow in either input, so with
 -- any content of the other input they decide only output that is written.
 use Rattle.ptmerge.proofs
-use proofs.Common.{◌≡◌, ◌⊎◌, ⊎_elim, inl, inr, ℕ, ◌+◌, ◌≤◌, false, List, [], ◌∷◌, ◌++◌, Option, Some, None, length, map}
-use proofs.Common.{refl, sym, ◌∙◌, ap, arith, append_assoc, length-append, last_or, append-nil, append_cancel_right}
-use proofs.Common.{Received, known_lines, LaggedInput, Reader, unlines, IsLine, AreLines, received_with}
-use proofs.Common.{complete_lines_of_unlines, unlines_push, the_lines, Lines, first_disorder, is_below, sorted_prefix}
-use proofs.Common.{Cmp, Key, Bool, filter-append, filter, IsPrefix, unlines-append, Side, First, Second, MergeTool}
-use proofs.Common.{entries_by_key, decided_entries, disorder, earlier_disorder, is_decided, lines_decide_disorder}
-use proofs.Common.{other, ProcessLag, decided_output, disorder_is_decided, with_side, FirstDisorder, map-append}
-use proofs.Common.{with_input, both_sides, subst, sorted_prefixes}
+use proofs.Common.{◌≡◌, ◌⊎◌, ⊎_elim, inl, inr, ℕ, ◌+◌, ◌≤◌, false, List, [], ◌∷◌, ◌++◌, Option, Some, None, length}
+use proofs.Common.{map, refl, sym, ◌∙◌, ap, arith, append_assoc, length-append, last_or, append-nil}
+use proofs.Common.{append_cancel_right, Received, known_lines, LaggedInput, Reader, unlines, IsLine, AreLines}
+use proofs.Common.{received_with, complete_lines_of_unlines, unlines_push, the_lines, Lines, first_disorder, is_below}
+use proofs.Common.{sorted_prefix, Cmp, Key, Bool, filter-append, filter, IsPrefix, unlines-append, Side, First}
+use proofs.Common.{Second, MergeTool, entries_by_key, decided_entries, disorder, earlier_disorder, is_decided}
+use proofs.Common.{lines_decide_disorder, other, ProcessLag, decided_output, disorder_is_decided, with_side}
+use proofs.Common.{FirstDisorder, map-append, with_input, both_sides, subst, sorted_prefixes, not}
 use proofs.MergeLemmas.Invariant.{output_of, disorder_after, first_disorder_is, is_disordered, sorted_after}
 use proofs.MergeLemmas.Invariant.{sorted_prefix_is, Bound, IsDisorderFrom, IsUnder, MayFollow, not_below}
-use proofs.MergeLemmas.Invariant.{downward_decided, not_decided, past_none, all_keys, downward_is_prefix, AtLeast}
-use proofs.MergeLemmas.Invariant.{none_wanted}
+use proofs.MergeLemmas.Invariant.{downward_decided, not_decided, past_none, all_keys, AtLeast, none_wanted}
+use proofs.MergeLemmas.Invariant.{downward_splits}
 use proofs.MergeLemmas.LinesRead.{IsReadAs}
 use proofs.MergeLemmas.Orders.{EachKey, Each-all, EachKey-weaker, Each-parts, kept_none, IsKeyOrder, AtMost}
 use proofs.MergeLemmas.Orders.{at_most_trans, self_at_most}
@@ -53,8 +53,8 @@ sorted_from_whole cmp key last n (x ∷ ls) (here, more) =
 
 sorted_from_start : (cmp : Cmp) (key : Key) (ls : Lines) → IsSortedFrom cmp key None ls
     → (sorted_prefix cmp key ls ≡ ls) × (first_disorder cmp key ls ≡ None)
-sorted_from_start cmp key ls r = let (whole, none) =
-    sorted_from_whole cmp key None 0 ls r in (sorted_prefix_is cmp key ls ∙ whole, first_disorder_is cmp key ls ∙ none)
+sorted_from_start cmp key ls r =
+    grind (arith, sorted_from_whole cmp key None 0 ls r, sorted_prefix_is, first_disorder_is)
 
 module _ (cmp : Cmp) (o : IsKeyOrder cmp) (key : Key) where
   from_key : (k : List ℕ) (ls : Lines) → IsSortedFrom cmp key (Some k) ls → EachKey (AtMost cmp k) key ls
@@ -79,8 +79,7 @@ abbrev Shape : ℕ → List ℕ → Lines → Type 0
 Shape end given ls = AreLines end ls × ((given ≡ unlines end ls) ⊎ (given ++ end ∷ [] ≡ unlines end ls))
 
 shape_of : (end : ℕ) (given : List ℕ) (ls : Lines) (now : Reader) → IsReadAs end given ls now → Shape end given ls
-shape_of end given ls now (inl (is, all)) = (all, inl is)
-shape_of end given ls now (inr (is, _)) = grind (arith, the_lines)
+shape_of end given ls now far = grind (arith, the_lines)
 
 last_of : {A : Type 0} (xs : List A) → (xs ≡ []) ⊎ ((front : List A) × (x : A) × (xs ≡ front ++ x ∷ []))
 last_of [] = inl refl
@@ -105,41 +104,44 @@ ProcessedNearly ls p piece = (ls ≡ p) ⊎ ((x : List ℕ) × (ls ≡ p ++ x �
 
 module _ (end : ℕ) (given piece : List ℕ) (ls p : Lines) (now new : Reader) (far : IsReadAs end given ls now)
     (free : IsLine end piece) (few : length new.buffered ≤ 8192) where
-  -- the buffered bytes are left out
-  unheld : (whole : Lines) (tail : List ℕ) → given ++ piece ≡ unlines end whole ++ tail → AreLines end whole
-      → IsLine end tail → (rest : Lines) → p ≡ whole
-      ++ rest → LagPoint end (received_with (given ++ piece) new) p
-  unheld whole tail is all line rest split = record {
-    before =
-        record {
-          earlier = record { bytes = given ++ piece; eof = false };
-          last = new.buffered;
-          split = refl;
-          short = omega (arith, few);
-          eof = λ e. cc;
-        };
+  abbrev Point : Type 0
+  Point = LagPoint end (received_with (given ++ piece) new) p
+
+  -- complete lines, a part of a line, and `last`, which is left out
+  point : (whole : Lines) (tail last : List ℕ)
+      → (given ++ piece) ++ new.buffered ≡ (unlines end whole ++ tail) ++ last → length last ≤ 8193
+      → AreLines end whole → IsLine end tail → (rest : Lines) → p ≡ whole ++ rest → Point
+  point whole tail last is short all line rest split = record {
+    before = record {
+      earlier = record { bytes = unlines end whole ++ tail; eof = false };
+      last = last;
+      split = is;
+      short = omega arith;
+      eof = λ e. cc;
+    };
     going = refl;
     whole = whole;
-    whole_is = cc (complete_lines_of_unlines end whole tail all line);
+    whole_is = complete_lines_of_unlines end whole tail all line;
     rest = rest;
     split = split;
   }
 
   -- the last line lacks its terminator
   open_line : (w : Lines) (y : List ℕ) → ls ≡ w ++ y ∷ [] → AreLines end ls → given ++ end ∷ [] ≡ unlines end ls
-      → (rest : Lines) → p ≡ w ++ rest → LagPoint end (received_with (given ++ piece) new) p
+      → (rest : Lines) → p ≡ w ++ rest → Point
   open_line w y last all is rest split =
       let (lines, line) = are_split end w y (rw last at all) in
       let ends : given ≡ unlines end w ++ y = append_cancel_right given (unlines end w ++ y) (end ∷ [])
       (is ∙ (rw (last, unlines_push end w y, append_assoc (unlines end w) y (end ∷ [])))) in
-      unheld w (y ++ piece) (rw (ends, append_assoc (unlines end w) y piece)) lines
+      point w (y ++ piece) new.buffered (rw (ends, append_assoc (unlines end w) y piece)) (omega arith) lines
       (IsLine-append end y piece line free) rest split
 
-  pub back : ProcessedNearly ls p piece → LagPoint end (received_with (given ++ piece) new) p
+  pub back : ProcessedNearly ls p piece → Point
   back processed_nearly = by processed_nearly (shape_of end given ls now far)
     where
-      by : ProcessedNearly ls p piece → Shape end given ls → LagPoint end (received_with (given ++ piece) new) p
-      by (inl e) (all, inl is) = unheld ls piece (rw is) all free [] (sym e ∙ sym (append-nil ls))
+      by : ProcessedNearly ls p piece → Shape end given ls → Point
+      by (inl e) (all, inl is) =
+          point ls piece new.buffered (rw is) (omega arith) all free [] (sym e ∙ sym (append-nil ls))
       by (inl e) (all, inr is) =
           ⊎_elim
           (λ none.
@@ -149,20 +151,9 @@ module _ (end : ℕ) (given piece : List ℕ) (ls p : Lines) (now new : Reader) 
       by (inr (y, split, _)) (all, inr is) = open_line p y split all is [] (sym (append-nil p))
       by (inr (y, split, none)) (all, inl is) =
           let (lines, line) = are_split end p y (rw split at all) in
-          record {
-            before = record {
-              earlier = record { bytes = unlines end p ++ y; eof = false };
-              last = end ∷ new.buffered;
-              split = rw (none, append-nil given, is, split, unlines_push end p y) (simp append_assoc);
-              short = omega (arith, few);
-              eof = λ e. cc;
-            };
-            going = refl;
-            whole = p;
-            whole_is = complete_lines_of_unlines end p y lines line;
-            rest = [];
-            split = sym (append-nil p);
-          }
+          point p y (end ∷ new.buffered)
+          (rw (none, append-nil given, is, split, unlines_push end p y) (simp append_assoc)) (omega arith) lines line []
+          (sym (append-nil p))
 
 -- ---- the decided output is a prefix of the output, if only processed lines decide it
 
@@ -207,7 +198,13 @@ module _ (tool : MergeTool) (o : IsKeyOrder tool.cmp) (eof : Side → Bool) (ls 
       (output_of tool p)
   decided_of_passed p differ =
       let dec = is_decided tool eof ls in
-      let (rest, is) = downward_is_prefix tool o dec (downward_decided tool o eof ls) p in
+      let down = downward_decided tool o eof ls in
+      let rest = entries_by_key tool (λ k. not (dec k)) p in
+      let is : entries_by_key tool all_keys p ≡ entries_by_key tool dec p ++ rest = downward_splits tool o all_keys
+      dec down p in
+      let kept = λ (side : Side). (let d = differ side in
+      kept_same dec (tool.key side) _ _ d.rest d.tail d.same (EachKey-weaker _ _ undecided _ _ d.none_rest)
+      (EachKey-weaker _ _ undecided _ _ d.none_tail)) in
       let known : decided_entries tool eof ls ≡ entries_by_key tool dec p =
       sym (by_keys_kept dec tool o (λ side. sorted_prefix cmp (tool.key side) (ls side)) all_keys)
       ∙ (λ i. entries_by_key tool all_keys (λ side. kept side i)) ∙ by_keys_kept dec tool o p all_keys in
@@ -215,14 +212,6 @@ module _ (tool : MergeTool) (o : IsKeyOrder tool.cmp) (eof : Side → Bool) (ls 
         rest = unlines terminator rest;
         is = cc (is, known, unlines-append terminator (decided_entries tool eof ls) rest);
       }
-    where
-      kept : (side : Side)
-          → filter (λ line. is_decided tool eof ls (tool.key side line)) (sorted_prefix cmp (tool.key side) (ls side))
-          ≡ filter (λ line. is_decided tool eof ls (tool.key side line)) (p side)
-      kept side =
-          let d = differ side in
-          kept_same (is_decided tool eof ls) (tool.key side) _ _ d.rest d.tail d.same
-          (EachKey-weaker _ _ undecided _ _ d.none_rest) (EachKey-weaker _ _ undecided _ _ d.none_tail)
 
   -- the disorder of the other input comes after its keys, so no disorder is decided
   not_settled : EachKey (λ k. IsDisorderFrom cmp k (first_disorder cmp (tool.key (other of)) (ls (other of))))
@@ -261,12 +250,7 @@ module _ (tool : MergeTool) (o : IsKeyOrder tool.cmp) (given : Side → Received
       (map (tool.key side) (sorted_prefixes tool unread_lines side)))))
 
   pub unread_decides_no_disorder : disorder_is_decided tool unread ≡ false
-  unread_decides_no_disorder = by (disorder tool unread_lines)
-    where
-      by : (d : Option MergeDisorder)
-          → lines_decide_disorder tool (λ side. (unread side).eof) unread_lines d ≡ false
-      by None = refl
-      by (Some d) = none_decided _
+  unread_decides_no_disorder = grind (arith, not_decided, put_same)
 
 -- ---- the output decided two blocks earlier
 
@@ -297,16 +281,11 @@ module _ (tool : MergeTool) (o : IsKeyOrder tool.cmp) (given : Side → Received
     last = last_or None (map (tool.key of) whole)
 
     in_order : IsSortedFrom cmp (tool.key of) None (whole ++ point.rest)
-    in_order =
-        let (own, _) = sorted_from_parts cmp (tool.key of) None (q of) (future of).rest
-        (rw (future of).is at (sorted_from_prefix cmp (tool.key of) (known_lines terminator (given of)))) in
-        rw point.split at own
+    in_order = rw (← point.split) (sorted_from_parts cmp (tool.key of) None (q of) _
+        (rw (future of).is at (sorted_from_prefix cmp (tool.key of) (known_lines terminator (given of))))).0
 
     ordered : (sorted_prefix cmp (tool.key of) whole ≡ whole) × (first_disorder cmp (tool.key of) whole ≡ None)
     ordered = grind (arith, sorted_from_parts, in_order, sorted_from_start)
-
-    no_disorder : first_disorder cmp (tool.key of) whole ≡ None
-    no_disorder = let (_, none) = ordered in none
 
     -- no line that follows is below that key
     above : (side : Side) → EachKey (λ k. is_below cmp k last ≡ false) (tool.key side) (tail side ++ (future side).rest)
@@ -321,24 +300,13 @@ module _ (tool : MergeTool) (o : IsKeyOrder tool.cmp) (given : Side → Received
         Differ tool last (tool.key side) (sorted_prefix cmp (tool.key side) (known_lines terminator g)) (p side)
 
     mine : Differs of point.before.earlier
-    mine = let (own, _) = ordered in rw (point.whole_is, own) (record {
-      rest = point.rest;
-      tail = tail of;
-      same = sym point.split ∙ split of;
-      none_rest = none_below cmp o (tool.key of) whole point.rest in_order;
-      none_tail = front_has _ (tool.key of) (tail of) (future of).rest (above of);
-    })
+    mine = grind (arith, none_below, front_has, ordered, in_order, above of)
 
     others : (side : Side) → Differs side (given side)
     others side = record {
       rest = [];
       tail = tail side ++ (future side).rest;
-      same = cc (
-        append-nil (sorted_prefix cmp (tool.key side) (known_lines terminator (given side))),
-        (future side).is,
-        split side,
-        append_assoc (p side) (tail side) (future side).rest,
-      );
+      same = grind (arith, append-nil, (future side).is, split side, append_assoc);
       none_rest = tt;
       none_tail = above side;
     }
@@ -359,7 +327,7 @@ module _ (tool : MergeTool) (o : IsKeyOrder tool.cmp) (given : Side → Received
         (output_of tool p))
         (λ i side. with_side_is of point.before.earlier given side i)
         (decided_of_passed tool o (λ side. (mix side).eof) (λ side. known_lines terminator (mix side)) of going
-        (rw whole_now no_disorder) p
+        (rw whole_now ordered.1) p
         (rw whole_now (put_each Differs of point.before.earlier given mine others)))
 
     pub lag_bound : ProcessLag {I = Unit {0}} (λ came. decided_output tool (with_input both_sides of (came tt) given))
@@ -373,9 +341,6 @@ module _ (tool : MergeTool) (o : IsKeyOrder tool.cmp) (given : Side → Received
     unsettled up = (
       point.before,
       not_settled tool o (λ side. (mix side).eof) (λ side. known_lines terminator (mix side)) of going
-          (rw whole_now no_disorder)
-          (rw (put_other of point.before.earlier given, whole_now)
-          (front_has (λ k. IsDisorderFrom cmp k (first_disorder cmp (tool.key (other of))
-          (known_lines terminator (given (other of)))))
-          (tool.key of) whole point.rest (rw point.split at up))),
+          (rw whole_now ordered.1) (rw (put_other, whole_now)
+          (front_has _ (tool.key of) whole point.rest (rw point.split at up))),
     )

@@ -1,12 +1,11 @@
 -- The lines read from a source. The bytes received are the lines read so far, and all but the last have their
 -- terminator. So every input that begins with these bytes begins with these lines.
 use Rattle.ptmerge.proofs
-use proofs.Common.{◌≡◌, ◌⊎◌, ⊎_elim, inl, inr, ℕ, ◌+◌, ◌<◌, ◌≤◌, Bool, true, false, List, [], ◌∷◌, ◌++◌, None, length}
-use proofs.Common.{max, refl, sym, ◌∙◌, ap, arith, append_assoc, length-append, append-nil, FillLine, Received}
-use proofs.Common.{IsConsistent, known_lines, Reader, ReaderAdvance, AdvanceOk, IsDone, Slots, unlines, lines}
-use proofs.Common.{complete_lines, IsLine, AreLines, max_length, received_with, advance_ok_trans, lines_of_unlines}
-use proofs.Common.{lines_of_last, unlines_push, IsSound, HasNoLine, IsFirstLineAndBlock, AreLines_push}
-use proofs.Common.{complete_lines_none, complete_lines_cons}
+use proofs.Common.{◌≡◌, ◌⊎◌, ℕ, ◌+◌, ◌<◌, ◌≤◌, true, false, List, [], ◌∷◌, ◌++◌, None, length, max, refl, ◌∙◌, arith}
+use proofs.Common.{append_assoc, length-append, append-nil, FillLine, Received, IsConsistent, known_lines, Reader}
+use proofs.Common.{ReaderAdvance, AdvanceOk, IsDone, Slots, unlines, lines, complete_lines, IsLine, AreLines}
+use proofs.Common.{max_length, received_with, advance_ok_trans, lines_of_unlines, lines_of_last, unlines_push}
+use proofs.Common.{IsSound, HasNoLine, IsFirstLineAndBlock, AreLines_push, complete_lines_none, complete_lines_cons}
 use Rattle.ptlines.proofs.MaxLength.{max_length-append, piece_le_max_length}
 use Rattle.std.proofs.Common.{rules}
 use Rattle.std.proofs.lemmas.Grind.{common_steps}
@@ -59,30 +58,24 @@ one_line_at_most end (b ∷ piece) free = rw (lines_of_last end (b ∷ piece) fr
 
 pub lines_read_more : {end : ℕ} {old now new : Reader} {ls : List (List ℕ)} {before after : Slots} {slot : ℕ}
     → LinesRead end old now ls → (e : FillLine now new before after slot) → LinesRead end old new (ls ++ e.line ∷ [])
-lines_read_more {end} {old} {now} {new} {ls} c e = record {
-  given = c.given ++ (e.line ++ e.terminator);
-  so_far = ⊎_elim opened (λ (_, done). absurd
-      (omega (arith, some_came, ap length (done_gives_nothing done e.advance_ok.reads).bytes_are))) c.so_far;
-  advance_ok = advance_ok_trans old now new c.given _ c.advance_ok e.advance_ok;
-  terminator = e.advance_ok.reads.terminator ∙ c.terminator;
-}
-  where
-    free : IsLine end e.line
-    free = rw c.terminator at e.whole
-
-    opened : (c.given ≡ unlines end ls) × AreLines end ls
-        → IsReadAs end (c.given ++ (e.line ++ e.terminator)) (ls ++ e.line ∷ []) new
-    opened (is, all) = elim e.ends [
-      | inl ends ↦ inl (rw (is, ends, c.terminator, unlines_push end ls e.line), AreLines_push end ls e.line all free)
-      | inr last ↦ (let (ends, some, done) = last in
-          inr (
-            rw (is, ends, append-nil e.line, lines_of_unlines end ls e.line all, lines_of_last end e.line free some),
-            done,
-          ))
-    ]
-
-    some_came : 0 < length (e.line ++ e.terminator)
-    some_came = grind (arith, length-append e.line e.terminator)
+lines_read_more {end} {old} {now} {new} {ls} c e =
+    let free : IsLine end e.line = rw c.terminator at e.whole in
+    record {
+      given = c.given ++ (e.line ++ e.terminator);
+      so_far = search (
+        rules,
+        free,
+        done_gives_nothing,
+        unlines_push,
+        AreLines_push,
+        lines_of_unlines,
+        lines_of_last,
+        append-nil,
+        length-append,
+      );
+      advance_ok = advance_ok_trans old now new c.given _ c.advance_ok e.advance_ok;
+      terminator = e.advance_ok.reads.terminator ∙ c.terminator;
+    }
 
 pub lines_read_eof : {end : ℕ} {old now new : Reader} {ls : List (List ℕ)} → LinesRead end old now ls
     → AdvanceOk now new [] → IsDone new → LinesRead end old new ls
@@ -115,8 +108,15 @@ module _ {end : ℕ} {old now new : Reader} {ls : List (List ℕ)} {piece : List
   -- the lines of an input that is consistent with the bytes received
   pub lines_read_of_input : (input : List ℕ) → IsConsistent came input
       → HoldsLines now ls piece (lines end input)
-  lines_read_of_input input a = search (rules, front_of, lines_of_unlines, done_gives_nothing, max_length-append,
-      piece_le_max_length, free)
+  lines_read_of_input input a = search (
+    rules,
+    front_of,
+    lines_of_unlines,
+    done_gives_nothing,
+    max_length-append,
+    piece_le_max_length,
+    free,
+  )
 
   -- the lines that are known to be complete: `ls` and, if a read failed, no more
   pub record KnownLines (ws : List (List ℕ)) : Type 0 where
@@ -124,44 +124,29 @@ module _ {end : ℕ} {old now new : Reader} {ls : List (List ℕ)} {piece : List
     pub exact : new.buffered ≡ [] → new.eof ≡ false → ws ≡ ls
 
   pub lines_read_known : KnownLines (known_lines end came)
-  lines_read_known = by_end new.eof refl
-    where
-      by_end : (t : Bool) → new.eof ≡ t → KnownLines (known_lines end came)
-      by_end true e =
-          let all : known_lines end came
-          ≡ lines end _ = rw e in
-          let w = (lines_read_of_input _
-          (record {
-            rest = [];
-            is = sym (append-nil _);
-            whole = λ _. refl;
-          })).continues in
-          record {
-            known = record { more = w.more; is = all ∙ w.is; done = w.done };
-            exact = λ _ going. cc;
-          }
-      by_end false e = ⊎_elim (λ (given_is, all).
-          let is : known_lines end came
-          ≡ ls ++ complete_lines end (piece ++ (new.buffered ++ [])) =
-          rw e (ap (complete_lines end) (sym (append-nil ((c.given ++ piece) ++ new.buffered)) ∙ front_of given_is [])
-          ∙ ended_more end ls (piece ++ (new.buffered ++ [])) all) in
-          record {
-            known = record {
-              more = complete_lines end _;
-              is = is;
-              done = λ d. cc (done_gives_nothing d reads).eof;
-            };
-            exact = λ empty _. is ∙ (rw (empty, append-nil piece, complete_lines_none end piece free) (append-nil ls));
-          }) (λ (_, done). cc (done_gives_nothing done reads).eof) c.so_far
+  lines_read_known = grind (
+    arith,
+    common_steps,
+    lines_read_of_input,
+    front_of,
+    ended_more,
+    complete_lines_none,
+    done_gives_nothing,
+    append-nil,
+  )
 
   -- after the first line or the end was read, one of both was received
   pub begun_gives_line : HasBegun now ls → ¬ HasNoLine end came
   begun_gives_line begun none =
-      ⊎_elim (λ done. cc (none.eof, (done_gives_nothing done reads).eof)) (λ some.
-      let nothing : known_lines end came ≡ [] = rw none.eof
-      (complete_lines_none end ((c.given ++ piece) ++ new.buffered) none.unterminated) in
       let known = lines_read_known.known in
-      absurd (omega (arith, some, ap length (sym nothing ∙ known.is), length-append ls known.more))) begun
+      grind (
+        arith,
+        common_steps,
+        complete_lines_none end _ none.unterminated,
+        done_gives_nothing,
+        known.is,
+        length-append ls known.more,
+      )
 
   -- at most one line was read, or a part of it
   pub one_line_and_block : IsSound new → length ls + length (lines end piece) ≤ 1

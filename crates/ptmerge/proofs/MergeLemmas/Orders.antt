@@ -1,12 +1,11 @@
 -- Consequences of the laws of an order of keys. Distinct keys are sorted, so the entries of the least key come first,
 -- followed by the entries of the lines with other keys.
 use Rattle.ptmerge.proofs
-use proofs.Common.{◌≡◌, ◌⊎◌, inl, inr, ℕ, List, Bool, true, false, refl, sym, ◌∙◌, ap, arith, false≢true, bytes_eq}
-use proofs.Common.{Ordering, Less, Equal, Greater, is_eq, is_gt, is_le, ordering_reverse, bytes_decides, back_total}
-use proofs.Common.{nat_list_cmp_total, tied_itself, upto, Cmp, byte_cmp, line_cmp, ◌<◌, length, get_or, suc, zero, []}
-use proofs.Common.{◌∷◌, ◌++◌, cond, map, append_assoc, append-nil, filter, flat_map, Side, First, Second, Lines}
-use proofs.Common.{MergeTool, insert_key, distinct_keys, keys, lines_with_key, entries_of_key, entries_by_key, Key}
-use proofs.Common.{map-append}
+use proofs.Common.{◌≡◌, ◌⊎◌, inr, ℕ, List, Bool, true, false, refl, ◌∙◌, ap, arith, bytes_eq, Ordering, Less, Equal}
+use proofs.Common.{Greater, is_eq, is_gt, is_le, ordering_reverse, bytes_decides, back_total, nat_list_cmp_total}
+use proofs.Common.{tied_itself, upto, Cmp, byte_cmp, line_cmp, ◌<◌, length, get_or, suc, zero, [], ◌∷◌, ◌++◌, cond}
+use proofs.Common.{map, append_assoc, append-nil, filter, flat_map, Side, First, Second, Lines, MergeTool, insert_key}
+use proofs.Common.{distinct_keys, keys, lines_with_key, entries_of_key, entries_by_key, Key, map-append}
 use Rattle.std.specs.Cmp.{IsTotalOrder}
 use Rattle.ptmerge.specs.OrderLaws.{reversed_same_bytes, byte_cmp_equal}
 use Rattle.std.proofs.Common.{rules}
@@ -42,7 +41,7 @@ module _ (cmp : Cmp) (o : IsKeyOrder cmp) where
   not_equal a b n = not_same a b (λ e. cc (tied_itself o.total a))
 
   pub equal_is : (a b : List ℕ) → is_eq (cmp a b) ≡ bytes_eq a b
-  equal_is a b = grind (arith, not_equal a b, o.exact a b, bytes_decides a b)
+  equal_is a b = grind (arith, not_same a b, tied_itself o.total a, o.exact a b, bytes_decides a b)
 
   pub at_most_trans : (a b c : List ℕ) → AtMost cmp a b → AtMost cmp b c → AtMost cmp a c
   at_most_trans a b c p q = upto o.total a b c p q
@@ -155,10 +154,15 @@ module _ (cmp : Cmp) (o : IsKeyOrder cmp) where
       → (distinct_keys cmp ks ≡ k ∷ distinct_keys cmp (others k ks))
       ⊎ ((distinct_keys cmp ks ≡ distinct_keys cmp (others k ks)) × Each (λ y. bytes_eq y k ≡ false) ks)
   distinct_least k [] e = inr (refl, tt)
-  distinct_least k (y ∷ ks) (here, more) =
-      let above = Each-distinct cmp _ _ (others_above k ks more) in
-      let least = insert_least k (distinct_keys cmp (others k ks)) above in
-      grind (arith, distinct_least k ks more, least_or_above cmp o k y here, tied_itself o.total k, least)
+  distinct_least k (y ∷ ks) (here, more) = grind (
+    arith,
+    distinct_least k ks more,
+    least_or_above cmp o k y here,
+    tied_itself o.total k,
+    insert_least,
+    Each-distinct,
+    others_above,
+  )
 
 others-keys : (key1 key2 : Key) (k : List ℕ) (xs ys : Lines)
     → others k (map key1 xs ++ map key2 ys) ≡ map key1 (without key1 k xs) ++ map key2 (without key2 k ys)
@@ -178,9 +182,7 @@ with_key_without : (key : Key) (k q : List ℕ) (xs : Lines) → bytes_eq q k �
 with_key_without key k q [] n = refl
 with_key_without key k q (x ∷ xs) n =
     let ih = with_key_without key k q xs n in
-    let apart : key x ≡ k → bytes_eq (key x) q ≡ false = λ e. not_same (key x) q
-    (λ f. false≢true (sym n ∙ same_bytes (sym f ∙ e))) in
-    grind (arith, ih, apart, bytes_decides (key x) k)
+    grind (arith, ih, not_same, same_bytes, bytes_decides (key x) k)
 
 module _ (tool : MergeTool) (o : IsKeyOrder tool.cmp) where
   open tool use {cmp}
@@ -197,61 +199,43 @@ module _ (tool : MergeTool) (o : IsKeyOrder tool.cmp) where
   over_others w k ls [] e = refl
   over_others w k ls (q ∷ ks) (here, more) =
       let ih = over_others w k ls ks more in
-      let n = above_not_same cmp o k q here in
-      grind (
-        arith,
-        ih,
-        with_key_without (tool.key First) k q (ls First) n,
-        with_key_without (tool.key Second) k q (ls Second) n,
-      )
+      grind (arith, ih, above_not_same, with_key_without)
 
   -- The entries of a key that is at most all others come first, followed by those of the lines with other keys.
   pub least_first : (w : List ℕ → Bool) (k : List ℕ) (ls : Side → Lines)
       → ((side : Side) → EachKey (AtMost cmp k) (tool.key side) (ls side)) → tool.entries k [] [] ≡ []
       → entries_by_key tool w ls ≡ cond (w k) (entries_of_key tool ls k) [] ++ entries_by_key tool w (others_of k ls)
-  least_first w k ls e none = by (distinct_least cmp o k (keys tool ls) all)
-    where
-      all : Each (AtMost cmp k) (keys tool ls)
-      all = Each-append _ _ _ (e First) (e Second)
-
-      ds : Lines
-      ds = distinct_keys cmp (others k (keys tool ls))
-
-      rest : nothing_follows w ls ds ≡ entries_by_key tool w (others_of k ls)
-      rest = over_others w k ls _ (Each-distinct _ _ _ (others_above cmp o k (keys tool ls) all))
-          ∙ ap (λ l. nothing_follows w (others_of k ls) (distinct_keys cmp l))
-          (others-keys (tool.key First) (tool.key Second) k (ls First) (ls Second))
-
-      by : (distinct_keys cmp (keys tool ls) ≡ k ∷ ds)
-          ⊎ ((distinct_keys cmp (keys tool ls) ≡ ds) × Each (λ y. bytes_eq y k ≡ false) (keys tool ls))
-          → entries_by_key tool w ls ≡ cond (w k) (entries_of_key tool ls k) []
-          ++ entries_by_key tool w (others_of k ls)
-      by (inl d) = rw (d, ← rest) (grind arith)
-      by (inr (without_k, absent)) =
-          let (absent1, absent2) = Each-parts _ _
-          (map _ (ls Second)) absent in
-          rw (without_k, ← rest) (grind (
-            arith,
-            none,
-            kept_none (λ y. bytes_eq y k) (tool.key First) (ls First) absent1,
-            kept_none (λ y. bytes_eq y k) (tool.key Second) (ls Second) absent2,
-          ))
+  least_first w k ls e none =
+      let ks = keys tool ls in
+      let all : Each (AtMost cmp k) ks = Each-append _ _ _ (e First) (e Second) in
+      let above = Each-distinct cmp _ _ (others_above cmp o k ks all) in
+      let none_of = λ (side : Side). kept_none (λ y. bytes_eq y k) (tool.key side) (ls side) in
+      let parts = Each-parts (λ y. bytes_eq y k ≡ false) (map (tool.key First) (ls First))
+      (map (tool.key Second) (ls Second)) in
+      grind (
+        arith,
+        over_others w k ls _ above,
+        others-keys (tool.key First) (tool.key Second) k (ls First)
+            (ls Second),
+        none,
+        distinct_least cmp o k ks all,
+        parts,
+        none_of First,
+        none_of Second,
+      )
 
   -- lines of one key, followed by lines with no lesser keys
   pub lines_with_key-front : (key : Key) (k : List ℕ) (f r : Lines) → EachKey (λ x. x ≡ k) key f
       → (lines_with_key key (f ++ r) k ≡ f ++ lines_with_key key r k) × (without key k (f ++ r) ≡ without key k r)
   lines_with_key-front key k [] r e = (refl, refl)
   lines_with_key-front key k (x ∷ f) r (here, more) =
-      let (ih, others) = lines_with_key-front key k f r more in rw (same_bytes here) (ap (λ l. x ∷ l) ih, others)
+      let ih = lines_with_key-front key k f r more in
+      grind (arith, ih, same_bytes here)
 
   pub at_most-same : (key : Key) (k : List ℕ) (f r : Lines) → EachKey (λ x. x ≡ k) key f → EachKey (AtMost cmp k) key r
       → EachKey (AtMost cmp k) key (f ++ r)
   at_most-same key k f r e h =
       EachKey-append _ key f r (EachKey-weaker _ _ (λ x is. rw is (self_at_most cmp o k)) _ f e) h
-
-  glued : (t : Bool) (all a b rest : Lines) → all ≡ a ++ b
-      → cond t all [] ++ rest ≡ cond t a [] ++ (cond t b [] ++ rest)
-  glued t all a b rest e = grind (arith, append_assoc a b rest)
 
   -- Lines of the least key, followed by lines with no lesser keys.
   module _ (w : List ℕ → Bool) (k : List ℕ) (f r : Side → Lines)
@@ -276,9 +260,14 @@ module _ (tool : MergeTool) (o : IsKeyOrder tool.cmp) where
       → entries_by_key tool w (λ side. f side ++ r side) ≡ entries_by_key tool w f ++ entries_by_key tool w r
   front_first w k f r s a none law =
       let first = simp append-nil at (front_is w k f (λ side. []) s (λ side. tt) none) in
-      front_is w k f r s a none ∙ glued (w k) _ (tool.entries k (f First) (f Second)) (entries_of_key tool r k)
-      (entries_by_key tool w (others_of k r)) law
-      ∙ (λ i. sym first i ++ sym (least_first w k r a none) i)
+      grind (
+        arith,
+        first,
+        front_is w k f r s a none,
+        least_first w k r a none,
+        append_assoc
+            (tool.entries k (f First) (f Second)) (entries_of_key tool r k) (entries_by_key tool w (others_of k r)),
+      )
 
   -- no line with a greater key has the key
   pub lines_with_key-above : (key : Key) (k : List ℕ) (r : Lines) → EachKey (Above cmp k) key r

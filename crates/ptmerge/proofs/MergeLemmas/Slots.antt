@@ -12,10 +12,7 @@ use Rattle.std.proofs.lemmas.Grind.{common_steps}
 pub put_both : {X Y : Type 0} (P : Side → X → Y → Type 0) (s : Side) (x : X) (f : Side → X) (y : Y) (g : Side → Y)
     → P s x y → P (other s) (f (other s)) (g (other s))
     → (side : Side) → P side (with_side s x f side) (with_side s y g side)
-put_both P First x f y g p q First = p
-put_both P First x f y g p q Second = q
-put_both P Second x f y g p q First = q
-put_both P Second x f y g p q Second = p
+put_both P s x f y g p q side = grind (arith, p, q)
 
 module _ {X : Type 0} (P : Side → X → Type 0) where
   pub both_each : (x y : X) → P First x → P Second y → (side : Side) → P side (both x y side)
@@ -35,10 +32,7 @@ put_other s x f = grind arith
 -- a side that is changed as an input
 pub with_side_is : {X : Type 0} (s : Side) (x : X) (f : Side → X) (side : Side)
     → with_side s x f side ≡ with_input both_sides s x f side
-with_side_is First x f First = refl
-with_side_is First x f Second = refl
-with_side_is Second x f First = refl
-with_side_is Second x f Second = refl
+with_side_is s x f side = grind arith
 
 pub with_own : {X : Type 0} (s : Side) (f : Side → X) (side : Side) → with_input both_sides s (f s) f side ≡ f side
 with_own s f side = grind (arith, with_side_is, put_each)
@@ -72,8 +66,7 @@ four_total : (a b c d : List ℕ) (rest : List (List ℕ))
 four_total a b c d rest = grind (arith, common_steps)
 
 pub has_lines_none : (xs : List (List ℕ)) → 4 ≤ length xs → total_bytes xs ≡ 0 → HasLines (λ side. 0) 0 xs
-has_lines_none (a ∷ b ∷ c ∷ d ∷ rest) four none = omega (arith, four_total a b c d rest)
-has_lines_none few four none = absurd (omega arith)
+has_lines_none xs four none = grind (arith, four_total)
 
 -- the number of slots, and the bytes in all of them
 pub record LinesTotal (xs : List (List ℕ)) (m : Side → ℕ) (more : ℕ) : Type 0 where
@@ -84,15 +77,13 @@ pub record LinesTotal (xs : List (List ℕ)) (m : Side → ℕ) (more : ℕ) : T
 
 pub has_lines_total : (xs : List (List ℕ)) (m : Side → ℕ) (more : ℕ) → HasLines m more xs
     → LinesTotal xs m more
-has_lines_total (a ∷ b ∷ c ∷ d ∷ rest) m more h = grind (arith, four_total)
-has_lines_total few m more h = absurd h
+has_lines_total xs m more h = grind (arith, four_total)
 
 -- the next line of an input replaces its previous line
 pub set_line : (s : Side) (cursor : Sorted) (xs : List (List ℕ)) (m k : Side → ℕ) (more : ℕ) (x : List ℕ)
     → HasSlots s cursor → HasLines m more xs → ((side : Side) → m side ≤ k side) → length x ≤ k s
     → HasLines k more (set xs cursor.previous_slot x)
-set_line s cursor (a ∷ b ∷ c ∷ d ∷ rest) m k more x slots h up l = search rules
-set_line s cursor few m k more x slots h up l = absurd h
+set_line s cursor xs m k more x slots h up l = search rules
 
 -- The invariant of the store of a merge: two lines of each input, of at most `m` bytes each.
 pub record StoreOfLines (before store : Slots) (m : Side → ℕ) : Type 0 where
@@ -109,8 +100,12 @@ pub store_with_line : {before store after : Slots} (s : Side) (cursor : Sorted) 
     (x : List ℕ)
     → HasSlots s cursor → StoreOfLines before store m → ((side : Side) → m side ≤ k side) → length x ≤ k s
     → after ≡ with_line store cursor.previous_slot x → StoreOfLines before after k
-store_with_line {store = store} s cursor {m} k x slots kept up fits is = grind (arith, common_steps, set_line,
-    has_lines_total)
+store_with_line {store = store} s cursor {m} k x slots kept up fits is = grind (
+  arith,
+  common_steps,
+  set_line,
+  has_lines_total,
+)
 
 -- the first four slots were emptied
 cleared : (lines : List (List ℕ)) (peak : ℕ) (denied : Bool) → 4 ≤ length lines

@@ -5,30 +5,28 @@ use Rattle.ptmerge.proofs
 use proofs.Common.{AdvancePre, IsReadyToContinue, ◌≡◌, ◌≢◌, inl, inr, ℕ, ◌+◌, ◌≤◌, true, false, List, [], ◌∷◌, ◌++◌}
 use proofs.Common.{Option, Some, None, Err, length, refl, sym, ◌∙◌, arith, is_lt, is_le, append-nil, Output}
 use proofs.Common.{PushEffect, Reader, ReaderAdvance, IsDone, IsSound, Slots, line, with_line, unlines, IsLine}
-use proofs.Common.{push_nothing, MergeFault, Read, Memory, Side, First, Second, Sorted, CursorStatus, Head, Ended}
-use proofs.Common.{Disorder, Lines, MergeTool, FirstDisorder, entries_by_key, earlier_disorder, first_disorder}
-use proofs.Common.{lines_with_key, MergeState, MergePost, Cmp, Key, NextErrPost, NextOkPost, HasSlots, base_slot}
-use proofs.Common.{with_side, other, PrecedesInput, IsDisorderDecided, IsReportable, previous_key, ap, ◌⊎◌, max}
-use proofs.Common.{length-set, total_bytes, max_length, Write, MergeRunPre, merge_state, WriteFaultPost, both}
-use proofs.Common.{AreValidCursors, budget, IsReaderOf, push_trans, cond, Ordering, is_eq, is_gt, CopyToGroupPost}
-use proofs.Common.{same_key_at, status_at, IsValidCursor, ◌<◌, Result, ClearFourSlotsPost, Ok, Bool, terminator}
-use proofs.Common.{initial_cursor, MergeInputs, StartErrPost, StartOkPost, StartFirstPost, CallOutcome, AllPushed}
-use proofs.Common.{Received, both_sides, reads_nothing, merge_engine, merge_end, IsErrAnd, err_from_is_err_and}
-use proofs.MergeLemmas.Invariant.{output_of, Bound, AtLeast, AfterDisorder, NothingMore, MayFollow, MayDisorder}
-use proofs.MergeLemmas.Invariant.{IsDisorderFrom, IsUnder, IsSortedUpTo, IsLeastKeyRun, LagInvariant, MergeInvariant}
-use proofs.MergeLemmas.Invariant.{IsExactStop, line_is_least_run, lag_invariant_starts, not_below, write_least_run}
-use proofs.MergeLemmas.Invariant.{bound_changes, all_keys, none_wanted, NoBound, sorted_up_to_none}
-use proofs.MergeLemmas.Invariant.{merge_invariant_starts, AllWritten, exact_at_end}
+use proofs.Common.{push_nothing, MergeFault, Side, First, Second, Sorted, CursorStatus, Head, Ended, Disorder, Lines}
+use proofs.Common.{MergeTool, FirstDisorder, entries_by_key, earlier_disorder, first_disorder, MergeState, MergePost}
+use proofs.Common.{Cmp, Key, NextErrPost, NextOkPost, HasSlots, base_slot, with_side, other, PrecedesInput}
+use proofs.Common.{IsDisorderDecided, IsReportable, previous_key, ap, ◌⊎◌, max, length-set, total_bytes, max_length}
+use proofs.Common.{Write, MergeRunPre, merge_state, WriteFaultPost, both, AreValidCursors, budget, IsReaderOf}
+use proofs.Common.{push_trans, cond, Ordering, is_eq, is_gt, CopyToGroupPost, same_key_at, status_at, ◌<◌, Result}
+use proofs.Common.{ClearFourSlotsPost, Ok, Bool, terminator, initial_cursor, MergeInputs, StartErrPost, StartOkPost}
+use proofs.Common.{StartFirstPost, CallOutcome, AllPushed, Received, both_sides, reads_nothing, merge_engine}
+use proofs.Common.{merge_end, IsErrAnd, err_from_is_err_and, HasOnlyLeastKey}
+use proofs.MergeLemmas.Invariant.{output_of, Bound, AfterDisorder, NothingMore, MayFollow, MayDisorder, IsUnder}
+use proofs.MergeLemmas.Invariant.{LagInvariant, MergeInvariant, IsExactStop, line_is_least_run, lag_invariant_starts}
+use proofs.MergeLemmas.Invariant.{not_below, write_least_run, bound_changes, all_keys, none_wanted, NoBound}
+use proofs.MergeLemmas.Invariant.{sorted_up_to_none, merge_invariant_starts, AllWritten, exact_at_end}
 use proofs.MergeLemmas.Orders.{EachKey, EachKey-weaker, lines_with_key-above, IsKeyOrder, Above, above_at_most}
 use proofs.MergeLemmas.Orders.{above_up, greater_flips, is_greater}
 use proofs.MergeLemmas.Slots.{both_each, put_both, put_each, put_other, put_same, side_case, line_other, StoreOfLines}
 use proofs.MergeLemmas.Slots.{has_lines_total, store_with_line, line_added, HasLines, store_of_no_lines}
 use proofs.MergeLemmas.Exits.{SideInvariant, MatchesStatus, SideAfterNext, IsAtCurrentLine, next_invariant}
-use proofs.MergeLemmas.Exits.{at_current_line, side_invariant_kept, IsFailedRead, Fits, ReadFacts, state_by_side}
-use proofs.MergeLemmas.Exits.{exit_is_merge_post, FitsIn, read_facts_after_line, read_facts_at_line, reads_left}
-use proofs.MergeLemmas.Exits.{next_decreases, FirstReads, both_begun, ComeFirst, bound_after, HoldsTwoLines}
-use proofs.MergeLemmas.Exits.{IsOpenMerge, ReadFactsOf, processed_come_first, exact_output, merge_without_slots}
-use proofs.MergeLemmas.Exits.{given}
+use proofs.MergeLemmas.Exits.{at_current_line, side_invariant_kept, IsFailedRead, Fits, state_by_side}
+use proofs.MergeLemmas.Exits.{exit_is_merge_post, read_facts_after_line, reads_left, FirstReads, both_begun}
+use proofs.MergeLemmas.Exits.{ComeFirst, bound_after, HoldsTwoLines, IsOpenMerge, ReadFactsOf, processed_come_first}
+use proofs.MergeLemmas.Exits.{exact_output, merge_without_slots, given}
 use proofs.MergeLemmas.LinesRead.{HasBegun, LinesRead, lines_read_none, one_line_at_most}
 use Rattle.ptmerge.specs.declared.faults.MergeFault.TheVariants as faults
 use Rattle.std.proofs.Common.{rules}
@@ -47,8 +45,7 @@ slot_low s = grind arith
 -- the slots of the two inputs are distinct
 pub slots_apart : (s : Side) (a c : Sorted) → HasSlots s a → HasSlots (other s) c
     → (a.previous_slot ≢ c.current_slot) × (a.previous_slot ≢ c.previous_slot)
-slots_apart First a c x y = omega (arith, own_slots First a x, own_slots Second c y)
-slots_apart Second a c x y = omega (arith, own_slots Second a x, own_slots First c y)
+slots_apart s a c x y = grind arith
 
 -- ---- keys that may follow
 
@@ -61,10 +58,10 @@ pub current_key_is_above : (cmp : Cmp) (o : IsKeyOrder cmp) (key : Key) (x : Lis
     (cursor : Sorted) (store : Slots) (now : Reader) (ls p : Lines) (b : Bound)
     → PrecedesInput cmp x status (key (line store cursor.current_slot)) (key (line store cursor.previous_slot))
     → MatchesStatus cmp key status cursor store now ls p b → IsAbove cmp key x b × IsUnder cmp b x
-current_key_is_above cmp o key x Head cursor store now ls p b before (_, _, bound) =
+current_key_is_above cmp o key x Head cursor store now ls p b before line_is =
     let head = key (line store cursor.current_slot) in
     let above : Above cmp x head = is_greater (cmp head x) before in
-    rw bound (
+    rw line_is.bound (
       λ r c. EachKey-weaker _ _ (λ k h. above_up cmp o x head k above h) _ _ c,
       above_at_most cmp o x head above,
     )
@@ -84,39 +81,6 @@ pub record IsLineByLine (tool : MergeTool) : Type 0 where
 abbrev pub alone : Side → List ℕ → Side → Lines
 alone s x = with_side s (x ∷ []) (λ side. [])
 
--- an input without lines of the key, in which only greater keys follow
-front_none : {cmp : Cmp} (o : IsKeyOrder cmp) {key : Key} {b : Bound} {k : List ℕ} → IsAbove cmp key k b
-    → IsUnder cmp b k → IsLeastKeyRun cmp key b k []
-front_none {cmp} o {key} {k = k} above under = record {
-  own = tt;
-  may_follow = λ r c. c;
-  bound_after = λ r c. EachKey-weaker _ _ (λ y g. above_at_most cmp o k y g) _ _ (above r c);
-  under = under;
-}
-
--- a line is processed whose key precedes all lines that may follow in the other input
-pub write_one_line : (tool : MergeTool) (o : IsKeyOrder tool.cmp) → IsLineByLine tool
-    → (s : Side) (x : List ℕ) (b : Side → Bound) (p : Side → Lines) (was is new : Output) → is.write_failed ≡ false
-    → MergeInvariant tool b p was is → b s ≡ AtLeast (tool.key s x)
-    → IsAbove tool.cmp (tool.key (other s)) (tool.key s x) (b (other s)) → IsUnder tool.cmp (b (other s)) (tool.key s x)
-    → PushEffect is new (unlines tool.terminator (entries_by_key tool all_keys (alone s x)))
-    → MergeInvariant tool b (with_side s (p s ++ x ∷ []) p) was new
-    × AllWritten tool b (with_side s (p s ++ x ∷ []) p) was new
-write_one_line tool o laws First x b p was is new clean m is_from above under wrote =
-    let k = tool.key First x in
-    write_least_run o k (with_side First (p First ++ x ∷ []) p) (alone First x)
-    (elim [ First ↦ line_is_least_run o is_from refl | Second ↦ front_none o above under ])
-    (elim [ First ↦ refl | Second ↦ sym (append-nil (p Second)) ]) (laws.none k)
-    (λ r c. rw (lines_with_key-above tool o (tool.key Second) k (r Second) (above (r Second) (c Second)))
-    (laws.first k x (lines_with_key (tool.key First) (r First) k))) clean m wrote
-write_one_line tool o laws Second x b p was is new clean m is_from above under wrote =
-    let k = tool.key Second x in
-    write_least_run o k (with_side Second (p Second ++ x ∷ []) p) (alone Second x)
-    (elim [ First ↦ front_none o above under | Second ↦ line_is_least_run o is_from refl ])
-    (elim [ First ↦ sym (append-nil (p First)) | Second ↦ refl ]) (laws.none k)
-    (λ r c. rw (lines_with_key-above tool o (tool.key First) k (r First) (above (r First) (c First)))
-    (laws.second k x (lines_with_key (tool.key Second) (r Second) k))) clean m wrote
-
 -- ---- the invariant of both inputs
 
 abbrev pub SidesInvariant : MergeTool → (Side → Reader) → (Side → Reader) → (Side → Sorted) → Slots → (Side → Lines)
@@ -132,7 +96,7 @@ module _ (tool : MergeTool) (o : IsKeyOrder tool.cmp) {old now : Side → Reader
     (head : (cursor s).status ≡ Head) where
   open tool use {cmp, key, terminator}
 
-  pub passed_at : IsAtCurrentLine cmp (key s) (cursor s) store (ls s) (p s) (b s)
+  pub passed_at : IsAtCurrentLine cmp (key s) (cursor s).number (line store (cursor s).current_slot) (ls s) (p s) (b s)
   passed_at = at_current_line (sides s) head
 
   abbrev NextOf : Reader → Sorted → Slots → Type 0
@@ -147,29 +111,10 @@ module _ (tool : MergeTool) (o : IsKeyOrder tool.cmp) {old now : Side → Reader
       (sides s).number passed_at.sorted_up_to (passed_at.some, refl) comes
 
   module _ (new : Reader) (next : Sorted) (after : Slots) (n : NextOf new next after) where
-    -- the other input is unchanged
-    other_stays : SideInvariant terminator cmp (key (other s)) (old (other s)) (now (other s)) (cursor (other s)) after
-        (ls (other s)) (p (other s)) (b (other s))
-    other_stays = grind (arith, slots_apart, side_invariant_kept, n, line_other)
-
     pub sides_invariant_continues : SidesInvariant tool old (with_side s new now) (with_side s next cursor) after
         (with_side s n.now_ls ls) (with_side s (ls s) p) (with_side s n.bound b)
-    sides_invariant_continues =
-        elim s as (λ t. SideInvariant terminator cmp (key t) (old t) new next after n.now_ls (ls t) n.bound
-        → SideInvariant terminator cmp (key (other t)) (old (other t)) (now (other t)) (cursor (other t)) after
-        (ls (other t)) (p (other t)) (b (other t))
-        → SidesInvariant tool old (with_side t new now) (with_side t next cursor) after (with_side t n.now_ls ls)
-        (with_side t (ls t) p) (with_side t n.bound b)) [
-          | First ↦ λ x y. elim [ First ↦ x | Second ↦ y ]
-          | Second ↦ λ x y. elim [ First ↦ y | Second ↦ x ]
-        ] n.side_invariant other_stays
-
-    -- the output comes first, as before
-    pub merge_invariant_continues : (q : Side → Lines) (was is : Output) → MergeInvariant tool b q was is
-        → MergeInvariant tool (with_side s n.bound b) q was is
-    merge_invariant_continues q was is m =
-        bound_changes s n.bound m (λ r c. rw passed_at.bound (n.may_follow r c))
-        (λ k u. n.under k (rw passed_at.bound at u))
+    sides_invariant_continues = side_case _ s (simp put_same n.side_invariant)
+        (simp put_other (grind (arith, slots_apart, side_invariant_kept, n, line_other)))
 
 -- ---- the end of the loop
 
@@ -189,36 +134,19 @@ named_is : (cmp : Cmp) (s : Side) (f : Side → Option FirstDisorder) (d : First
 named_is cmp s f d e u = grind arith
 
 module _ (cmp : Cmp) (o : IsKeyOrder cmp) where
-  precedes_above : (s : Side) (l e : List ℕ) → Above cmp l e → Precedes cmp s l e
-  precedes_above s l e g = grind (arith, greater_flips)
-
-  named_precedes : (s : Side) (l head last : List ℕ) (m : ℕ) → IsReportable cmp s l (Disorder m) head last
-      → Precedes cmp s l last
-  named_precedes s l head last m h = grind (arith, not_below, greater_flips cmp o last l)
-
-  -- the other input, if this one is reported
-  named_other : (key : Key) (s : Side) (d : FirstDisorder) (status : CursorStatus) (cursor : Sorted) (store : Slots)
+  -- the disorder of the other input is not the one to report
+  reported_over : (key : Key) (s : Side) (d : FirstDisorder) (status : CursorStatus) (cursor : Sorted) (store : Slots)
       (now : Reader) (ls p : Lines) (b : Bound)
       → IsReportable cmp s d.last_key status (key (line store cursor.current_slot))
       (key (line store cursor.previous_slot))
-      → MatchesStatus cmp key status cursor store now ls p b → (f : Option FirstDisorder) (r : Lines)
-      → MayFollow cmp key b r → MayDisorder cmp b f
-      → IsReportedOver cmp s d f × EachKey (λ k. is_le (cmp k d.last_key) ≡ false) key r
-  named_other key s d Head cursor store now ls p b named (_, _, bound) f r c is_disordered =
-      let l = d.last_key in
-      let head = key (line store cursor.current_slot) in
-      let above : Above cmp l head = is_greater (cmp head l) named in (
-        elim f as (λ g. IsDisorderFrom cmp head g → IsReportedOver cmp s d
-            g) [
-              | None ↦ λ u. tt
-              | Some e ↦ λ u. precedes_above s l e.last_key (above_up cmp o l head e.last_key above u)
-            ]
-            (rw bound at is_disordered),
-        EachKey-weaker _ _ (λ k h. ap is_le (above_up cmp o l head k above h)) _ _ (rw bound at c),
-      )
-  named_other key s d Ended cursor store now ls p b named (bound, _) f r c is_disordered = grind arith
-  named_other key s d (Disorder m) cursor store now ls p b named st f r c is_disordered = grind (arith,
-      named_precedes)
+      → MatchesStatus cmp key status cursor store now ls p b → (f : Option FirstDisorder) → MayDisorder cmp b f
+      → IsReportedOver cmp s d f
+  reported_over key s d status cursor store now ls p b named st f is_disordered = grind
+      (arith, above_up, is_greater, not_below, greater_flips)
+
+  reportable_precedes : (s : Side) (l : List ℕ) (status : CursorStatus) (head last : List ℕ)
+      → IsReportable cmp s l status head last → PrecedesInput cmp l status head last
+  reportable_precedes s l status head last named = grind (arith, greater_flips, is_greater)
 
 -- an input is out of order, and no key that may follow is up to its last key
 pub stops_at : (tool : MergeTool) (o : IsKeyOrder tool.cmp) (old now : Side → Reader) (cursor : Side → Sorted)
@@ -228,13 +156,14 @@ pub stops_at : (tool : MergeTool) (o : IsKeyOrder tool.cmp) (old now : Side → 
 stops_at tool o old now cursor store ls p b sides s n dec l r c f =
     let d : FirstDisorder = record { last_key = previous_key tool.key cursor store s; line = n } in
     let disordered : b s ≡ AfterDisorder d = rw dec.status_is at (sides s).status_is in
-    let (reported, above) = named_other _ o _ s d _ _ _ _ _ _ _ dec.named (sides (other s)).status_is _ _ (c (other s))
-    (f (other s)) in
+    let st = (sides (other s)).status_is in
+    let (above, _) = current_key_is_above _ o _ d.last_key _ _ _ _ _ _ _
+    (reportable_precedes _ o s d.last_key _ _ _ dec.named) st in
     rw (named_is tool.cmp s (λ side. first_disorder tool.cmp (tool.key side) (l side)) d (rw disordered at (f s))
-    reported) (
+    (reported_over _ o _ s d _ _ _ _ _ _ _ dec.named st _ (f (other s)))) (
       none_wanted tool (λ k. is_le (tool.cmp k d.last_key)) r
-          (side_case (λ side. EachKey (λ k. is_le (tool.cmp k d.last_key) ≡ false) (tool.key side) (r side)) s
-          (rw (rw disordered at (c s)) tt) above),
+          (side_case _ s (rw (rw disordered at (c s)) tt)
+          (EachKey-weaker _ _ (λ k h. ap is_le h) _ _ (above _ (c (other s))))),
       refl,
     )
 
@@ -268,21 +197,13 @@ record FailedAdvance (cursor : Sorted) (was is : Reader) (before after : Slots) 
 failed_advance : (s : Side) (cursor : Sorted) (was is : Reader) (before after : Slots) (out : Output)
     (fault : MergeFault) → IsSound was → AdvanceErrPost s cursor was is before after out fault
     → FailedAdvance cursor was is before after
-failed_advance s cursor was is before after out fault sound (inl (_, e)) = search rules
-failed_advance s cursor was is before after out (Read file) sound (inr (_, (e, _, is_sound))) = grind arith
-failed_advance s cursor was is before after out Memory sound (inr (_, (e, is_sound))) = grind arith
-failed_advance s cursor was is before after out other sound (inr (_, moves)) = absurd moves
+failed_advance s cursor was is before after out fault sound e = search rules
 
 -- the input `s` is to advance, and all its lines are processed
 pub record IsAdvancing (tool : MergeTool) (old now : MergeState) (s : Side) (cursor : Sorted) (ls p : Side → Lines)
     (b : Side → Bound) : Type 0 where
-  pub lines_read : LinesRead tool.terminator (old.reader s) (now.reader s) (ls s)
-  pub sound : IsSound (now.reader s)
+  pub facts : (side : Side) → ReadFactsOf tool old now.reader ls p b side (now.reader side) []
   pub all : p s ≡ ls s
-  pub last : Option (List ℕ)
-  pub sorted_up_to : IsSortedUpTo tool.cmp (tool.key s) (ls s) last
-  pub bound : b s ≡ bound_after last
-  pub rest : ReadFactsOf tool old now.reader now.reader (λ side. []) ls p b (other s)
   pub order : (r : Reader) (piece : List ℕ) → IsLine (now.reader s).terminator piece
       → FirstReads tool.terminator old.reader now.reader (with_side s r now.reader) ls (with_side s piece (λ side. []))
   pub denied : now.store.denied ≡ false
@@ -294,47 +215,32 @@ module _ {tool : MergeTool} {old : MergeState} (w : IsOpenMerge tool old) {now :
   open tool use {cmp, key}
 
   none_failed_yet : (side : Side) → (now.reader side).failed ≡ (old.reader side).failed
-  none_failed_yet = side_case (λ side. (now.reader side).failed ≡ (old.reader side).failed) s
-      a.lines_read.advance_ok.failed a.rest.lines_read.advance_ok.failed
-
-  none_fails : (new : Reader) → new.failed ≡ (now.reader s).failed → (side : Side)
-      → (with_side s new now.reader side).failed ≡ (old.reader side).failed
-  none_fails new same = grind (arith, put_each, none_failed_yet)
+  none_failed_yet side = (a.facts side).lines_read.advance_ok.failed
 
   -- how the call ends
   advance_ends : (new : Reader) (after : Slots) (out : Output) (given : Side → Received) (pushed : List ℕ)
       (fault : MergeFault) → AdvanceErrPost s cursor (now.reader s) new now.store after out fault
       → CallOutcome both_sides (merge_engine tool) old (state_by_side (with_side s new now.reader) out after) given
       pushed (merge_end (Err fault))
-  advance_ends new after out given pushed fault (inl (is_write, e)) = grind (arith, none_fails)
-  advance_ends new after out given pushed (Read file) (inr (clean, (e, file_is, _))) = grind (arith, put_same,
-      none_failed_yet, side_case, put_other)
-  advance_ends new after out given pushed Memory (inr (clean, (e, _))) = grind (arith, none_fails, put_same,
-      buffered_not_done)
-  advance_ends new after out given pushed other (inr (_, moves)) = absurd moves
+  advance_ends new after out given pushed fault e =
+      grind (arith, put_same, none_failed_yet, side_case, put_other, buffered_not_done)
 
   -- the merge ends with this fault
   pub advance_fails : {out : Output} {done : Lines} → LagInvariant tool b p old.out out done
       → ((new : MergeState) (piece : Side → List ℕ)
-      → ((side : Side) → ReadFactsOf tool old now.reader new.reader piece ls p b side)
+      → ((side : Side) → ReadFactsOf tool old now.reader ls p b side (new.reader side) (piece side))
       → ComeFirst tool now.reader ls done)
       → EndsIfFails tool old now s cursor out
   advance_fails {out} {done} lag first new after fault e =
-      let f = failed_advance s cursor (now.reader s) new now.store after out fault a.sound e in
-      let facts : (side : Side) → ReadFactsOf tool old now.reader (with_side s new now.reader)
-      (with_side s f.piece (λ side. [])) ls p b side =
-      put_both (λ side (r : Reader) (piece : List ℕ). ReadFacts tool.terminator cmp (key side) (old.reader side)
-      (now.reader side) r piece (ls side) (p side) (b side)) s new now.reader f.piece (λ side. [])
-      (rw (a.all, a.bound)
-      (read_facts_after_line w.o a.last a.lines_read f.reads f.line f.sound a.sorted_up_to)) a.rest in
+      let f = failed_advance s cursor (now.reader s) new now.store after out fault (a.facts s).sound e in
+      let facts = put_both (ReadFactsOf tool old now.reader ls p b) s new now.reader f.piece (λ side. [])
+      (grind (arith, a.facts s, a.all, f)) (a.facts (other s)) in
       let is = state_by_side (with_side s new now.reader) out after in
       exit_is_merge_post w is facts lag
       (first is (with_side s f.piece (λ side. [])) facts)
       (λ all holds. omega (arith, f.peak, f.count, a.fits f.piece all holds)) (a.order new f.piece f.line)
       (put_each (λ side (r : Reader). r.failed ≡ true → IsFailedRead r (ls side) (p side)) s new now.reader
-      (λ fail.
-      let (buffered, eof) = f.failed fail (none_failed_yet s ∙ w.unfailed s) in
-      record { buffered = buffered; eof = eof; all = sym a.all })
+      (grind (arith, f, none_failed_yet s, w.unfailed s, a.all))
       (λ side fail. cc (none_failed_yet side, w.unfailed side)))
       (Err fault) (advance_ends new after out _ _ fault e)
 
@@ -357,18 +263,9 @@ wrote_as same list wrote = rw (list, ← same) wrote
 
 pub next_keeps_slot_count : {key : Key} {cmp : Cmp} {cursor next : Sorted} {was is : Reader} {before after : Slots}
     → NextOkPost key cmp cursor next was is before after → length after.lines ≡ length before.lines
-next_keeps_slot_count (inl e) = rw (e.next_line.stored, length-set)
-next_keeps_slot_count (inr e) = rw (e.empty, length-set)
+next_keeps_slot_count e = grind (arith, length-set)
 
 -- ---- a tool that stores two lines of each input
-
--- a line is no longer than the longest line
-pub within_size : (tool : MergeTool) → HoldsTwoLines tool → {before store : Slots} (s : Side) (cursor : Sorted)
-    (ls all : Side → Lines) (piece : List ℕ) → HasSlots s cursor
-    → StoreOfLines before store (λ side. max_length (ls side))
-    → ((side : Side) → max_length (ls side) ≤ max_length (all side)) → length piece ≤ max_length (all s)
-    → FitsIn tool before (with_line store cursor.previous_slot piece) all
-within_size tool fits s cursor ls all piece slots k up fit = grind (arith, common_steps, store_with_line)
 
 -- the conditions at the start
 pub open_merge : {tool : MergeTool} {first second : Reader} {out : Output} {store : Slots} → IsKeyOrder tool.cmp
@@ -394,8 +291,8 @@ StoreHoldsTwoLines before store ls = StoreOfLines before store (λ side. max_len
 pub holds_two : {tool : MergeTool} (fits : HoldsTwoLines tool) {before store : Slots} {reader : Side → Reader}
     {cursor : Side → Sorted} {ls : Side → Lines} → StoreHoldsTwoLines before store ls
     → ((side : Side) → HasSlots side (cursor side)) → StoreInvariant tool before reader cursor store ls
-holds_two {tool} fits {store = store} {cursor = cursor} {ls} k slots = grind (arith, has_lines_total, within_size,
-    put_same)
+holds_two {tool} fits {store = store} {cursor = cursor} {ls} k slots = grind
+    (arith, common_steps, has_lines_total, store_with_line, put_same)
 
 -- the cursors between two steps, for any output
 pub record CursorsInvariant (tool : MergeTool) (old : MergeState) (reader : Side → Reader) (cursor : Side → Sorted)
@@ -404,15 +301,9 @@ pub record CursorsInvariant (tool : MergeTool) (old : MergeState) (reader : Side
   pub holds : StoreInvariant tool old.store reader cursor store ls
   pub slots : (side : Side) → HasSlots side (cursor side)
 
--- the two slots change places
-other_slots : (s : Side) (cursor : Sorted) → HasSlots s cursor
-    → HasSlots s (record cursor { current_slot = cursor.previous_slot; previous_slot = cursor.current_slot })
-other_slots s cursor h = grind (arith, h)
-
 pub slots_on : {key : Key} {cmp : Cmp} {cursor next : Sorted} {was is : Reader} {before after : Slots} (s : Side)
     → HasSlots s cursor → NextOkPost key cmp cursor next was is before after → HasSlots s next
-slots_on {cursor = cursor} s h (inl e) = rw e.cursor (other_slots s cursor h)
-slots_on {cursor = cursor} s h (inr e) = rw e.cursor (other_slots s cursor h)
+slots_on s h e = grind (arith, e)
 
 module _ {tool : MergeTool} {old : MergeState} (w : IsOpenMerge tool old) {reader : Side → Reader}
     {cursor : Side → Sorted} {store : Slots} {ls p : Side → Lines} {b : Side → Bound}
@@ -430,17 +321,14 @@ module _ {tool : MergeTool} {old : MergeState} (w : IsOpenMerge tool old) {reade
 
   -- an input of which the lines `q` are processed
   abbrev ReadFactsBy : Side → Lines → Type 0
-  ReadFactsBy side q =
-      ReadFacts tool.terminator cmp (key side) (old.reader side) (reader side) (reader side) [] (ls side) q (b side)
+  ReadFactsBy side q = ReadFactsOf tool old reader ls (λ t. q) b side (reader side) []
 
   -- an input at its current line, and one whose current line is processed
   pub read_facts_current : (side : Side) → ReadFactsBy side (p side)
-  read_facts_current side = read_facts_at_line (a.sides side)
+  read_facts_current side = (a.sides side).facts
 
   pub passing_now : (s : Side) → (cursor s).status ≡ Head → ReadFactsBy s (ls s)
-  passing_now s head = let h = at_current_line (a.sides s) head in
-      rw h.bound (read_facts_after_line w.o (Some (key s (line store (cursor s).current_slot))) (a.sides s).lines_read
-      (reads_nothing (reader s)) tt (a.sides s).sound h.sorted_up_to)
+  passing_now s head = read_facts_after_line (a.sides s) w.o head
 
   -- the iteration failed, after the lines `q` were processed
   pub iteration_fails : (s : Side) → (cursor s).status ≡ Head → {q : Side → Lines} {out : Output}
@@ -448,32 +336,59 @@ module _ {tool : MergeTool} {old : MergeState} (w : IsOpenMerge tool old) {reade
       → ReadFactsBy (other s) (q (other s))
       → EndsIfFails tool old (state_by_side reader out store) s (cursor s) out
   iteration_fails s head {q} {out} (m, lag) same rest =
-      let h = at_current_line (a.sides s) head in
       advance_fails w {now = state_by_side reader out store} {cursor = cursor s} {p = q} (record {
-        lines_read = (a.sides s).lines_read;
-        sound = (a.sides s).sound;
+        facts = side_case _ s (rw same (passing_now s head)) rest;
         all = same;
-        last = Some (key s (line store (cursor s).current_slot));
-        sorted_up_to = h.sorted_up_to;
-        bound = h.bound;
-        rest = rest;
         order = λ r piece free. both_begun begun;
         denied = a.holds.denied;
         fits = a.holds.line s;
       }) lag (λ new piece g. processed_come_first w new g m)
 
+  -- the current line of the input `s`, whose key precedes everything in the other input, is written
+  module _ (laws : IsLineByLine tool) {s : Side} (step : HasOnlyLeastKey cmp key cursor store s) {is new : Output}
+      (clean : is.write_failed ≡ false) (m : MergeInvariant tool b p old.out is)
+      (wrote : PushEffect is new (unlines (reader s).terminator (entries_by_key tool all_keys
+      (alone s (line store (cursor s).current_slot))))) where
+    pub wrote_alone : MergeInvariant tool b (with_side s (ls s) p) old.out new
+        × AllWritten tool b (with_side s (ls s) p) old.out new
+    wrote_alone =
+        let x = line store (cursor s).current_slot in
+        let h = at_current_line (a.sides s) step.status_is in
+        let (above, under) =
+        current_key_is_above _ w.o _ _ _ _ _ _ _ _ _ step.before (a.sides (other s)).status_is in
+        let none = lines_with_key-above tool w.o (key (other s)) (key s x) in
+        write_least_run w.o (key s x) (with_side s (ls s) p) (alone s x)
+        (side_case _ s (simp put_same (line_is_least_run w.o h.bound refl))
+        (simp put_other (record {
+          -- no line of the other input has the key, and only greater keys follow
+          own = tt;
+          may_follow = λ r c. c;
+          bound_after = λ r c. EachKey-weaker _ _ (above_at_most cmp w.o (key s x)) _ _ (above r c);
+          under = under;
+        })))
+        (side_case _ s (simp put_same h.all) (simp (put_other, append-nil))) (laws.none (key s x))
+        (λ r c. grind (arith, laws, none (r (other s)) (above (r (other s)) (c (other s))))) clean m
+        (rw (a.sides s).lines_read.terminator at wrote)
+
+    pub alone_breaks : EndsIfFails tool old (state_by_side reader new store) s (cursor s) new
+    alone_breaks = iteration_fails s step.status_is wrote_alone (put_same s (ls s) p)
+        (rw (put_other s (ls s) p) (read_facts_current (other s)))
+
   -- the slots are emptied at the end
   module _ {out : Output} (m : MergeInvariant tool b p old.out out) (clean : out.write_failed ≡ false) {after : Slots}
       (clear : ClearFourSlotsPost store after) where
+    abbrev last : MergeState
+    last = state_by_side reader out after
+
     pushed_all : {found : Option (Side × ℕ)} → (found ≡ None → (side : Side) → IsDone (reader side))
-        → IsExactStop tool b found → AllPushed both_sides (merge_engine tool) old (state_by_side reader out after)
-        (given w (state_by_side reader out after) read_facts_current)
+        → IsExactStop tool b found → AllPushed both_sides (merge_engine tool) old last
+        (given w last read_facts_current)
         (output_of tool p) found
     pushed_all ended stop =
-        let exact = exact_output w (state_by_side reader out after) read_facts_current m stop in
+        let exact = exact_output w last read_facts_current m stop in
         record {
-          out = λ texts agree. (let (is, _) = exact texts agree in is);
-          disorder = λ texts agree. (let (_, is) = exact texts agree in is);
+          out = λ texts agree. (exact texts agree).0;
+          disorder = λ texts agree. (exact texts agree).1;
           ended = λ none side read. ended none side;
           fault = λ side read. (a.sides side).lines_read.advance_ok.fault;
           short = λ side read. (a.sides side).lines_read.advance_ok.short ((w.sound side).long (w.readable side));
@@ -488,26 +403,25 @@ module _ {tool : MergeTool} {old : MergeState} (w : IsOpenMerge tool old) {reade
         }
 
     concludes : (result : Result (Unit {0}) MergeFault)
-        → CallOutcome both_sides (merge_engine tool) old (state_by_side reader out after)
-        (given w (state_by_side reader out after) read_facts_current)
+        → CallOutcome both_sides (merge_engine tool) old last
+        (given w last read_facts_current)
         (output_of tool p) (merge_end result)
-        → MergePost tool old (state_by_side reader out after) result
+        → MergePost tool old last result
     concludes result ends = exit_is_merge_post w _ read_facts_current
         (lag_invariant_starts m clean (push_nothing out))
-        (processed_come_first w (state_by_side reader out after) read_facts_current m)
+        (processed_come_first w last read_facts_current m)
         (a.holds.fits after clear.peak clear.slots) (both_begun begun)
         (λ side fail. cc (none_failed side, w.unfailed side)) result ends
 
     pub ends_well : ((side : Side) → (cursor side).status ≡ Ended)
-        → MergePost tool old (state_by_side reader out after) (Ok tt)
+        → MergePost tool old last (Ok tt)
     ends_well step =
         let e : (side : Side) → (b side ≡ NothingMore) × IsDone (reader side) =
         λ side. rw (step side) at (a.sides side).status_is in
-        concludes (Ok tt) (pushed_all (λ none side. (let (_, done) = e side in done))
-        (exact_at_end tool (λ side. (let (none, _) = e side in none))))
+        concludes (Ok tt) (pushed_all (λ none side. (e side).1) (exact_at_end tool (λ side. (e side).0)))
 
     pub ends_fallen : {s : Side} {n : ℕ} → IsDisorderDecided cmp key cursor store s n
-        → MergePost tool old (state_by_side reader out after) (Err (faults.Disorder s n))
+        → MergePost tool old last (Err (faults.Disorder s n))
     ends_fallen {s} {n} step = concludes (Err (faults.Disorder s n)) (record {
       named = refl;
       pushed_all = pushed_all (λ none. cc) (stops_at tool w.o _ _ _ _ _ _ _ a.sides s n step);
@@ -521,10 +435,8 @@ module _ {tool : MergeTool} {old : MergeState} (w : IsOpenMerge tool old) {reade
     n = next_at tool w.o a.sides a.slots four s head _ _ _ comes
 
     pub keeps_two : StoreHoldsTwoLines old.store store ls → StoreHoldsTwoLines old.store after (with_side s n.now_ls ls)
-    keeps_two keeps = store_with_line s (cursor s) (λ side. max_length (with_side s n.now_ls ls side)) n.bytes
-        (a.slots s) keeps
-        (put_each (λ side (l : Lines). max_length (ls side) ≤ max_length l) s n.now_ls ls n.longer
-        (λ side. omega arith)) (rw (put_same s n.now_ls ls) n.fits) n.stored
+    keeps_two keeps = store_with_line s (cursor s) _ n.bytes (a.slots s) keeps
+        (side_case _ s (simp put_same n.longer) (simp put_other (omega arith))) (simp put_same n.fits) n.stored
 
     sides_next : SidesInvariant tool old.reader (with_side s new reader) (with_side s next cursor) after
         (with_side s n.now_ls ls) (with_side s (ls s) p) (with_side s n.bound b)
@@ -539,7 +451,9 @@ module _ {tool : MergeTool} {old : MergeState} (w : IsOpenMerge tool old) {reade
     -- the output comes first, as before
     pub goes_merging : {q : Side → Lines} {out : Output} → MergeInvariant tool b q old.out out
         → MergeInvariant tool (with_side s n.bound b) q old.out out
-    goes_merging m = merge_invariant_continues tool w.o a.sides a.slots four s head _ _ _ n _ _ _ m
+    goes_merging m =
+        let h = at_current_line (a.sides s) head in
+        bound_changes s n.bound m (λ r c. rw h.bound (n.may_follow r c)) (λ k u. n.under k (rw h.bound at u))
 
     pub runs_on : {Keep : Slots → (Side → Lines) → Type 0} {out : Output} → Keep after (with_side s n.now_ls ls)
         → MergeInvariant tool b (with_side s (ls s) p) old.out out
@@ -557,18 +471,10 @@ abbrev pub reads_ahead : (Side → Reader) → Sorted → Sorted → ℕ
 reads_ahead reader one two =
     (budget (reader First) + reads_left one.status) + (budget (reader Second) + reads_left two.status)
 
-measure_less : (key : Key) (cmp : Cmp) (s : Side) (one two one2 two2 : Sorted) (f : Side → Reader) (reader : Reader)
-    (before after : Slots) → (both one two s).status ≡ Head
-    → both one2 two2 (other s) ≡ both one two (other s) → NextOkPost key cmp (both one two s) (both one2 two2 s) (f s)
-    reader before after → reads_ahead (with_side s reader f) one2 two2 < reads_ahead f one two
-measure_less key cmp First one two one2 two2 f reader before after head same came = grind (arith, next_decreases)
-measure_less key cmp Second one two one2 two2 f reader before after head same came = grind (arith, next_decreases)
-
 -- the cursors after this input advanced
 pub place_is : (s : Side) (one two one2 two2 : Sorted) → both one2 two2 (other s) ≡ both one two (other s)
     → with_side s (both one2 two2 s) (both one two) ≡ both one2 two2
-place_is First one two one2 two2 same = λ i. both one2 (sym same i)
-place_is Second one two one2 two2 same = λ i. both (sym same i) two2
+place_is s one two one2 two2 same = grind (arith, same)
 
 -- the cursors, the readers and the output between two steps
 pub record BetweenSteps (key : Side → Key) (now : MergeState) (one two : Sorted) : Type 0 where
@@ -592,7 +498,7 @@ module _ {key : Side → Key} {now : MergeState} {one two : Sorted} (t : Between
     pub reads_less : {cmp : Cmp} {made : Slots} → (both one two s).status ≡ Head
         → NextOkPost (key s) cmp (both one two s) (both one2 two2 s) (now.reader s) reader now.store made
         → reads_ahead (with_side s reader now.reader) one2 two2 < reads_ahead now.reader one two
-    reads_less head came = grind (arith, measure_less)
+    reads_less head came = grind (arith, came)
 
 -- writing out buffered output does not change what was pushed
 pub wrote_and_sent : (was mid is : Output) (pushed : List ℕ) → mid.write_failed ≡ false → PushEffect was mid pushed
@@ -609,17 +515,11 @@ pub later_status : (key : Key) (cmp : Cmp) (number : ℕ) (last next : List ℕ)
     × (is_eq r ≡ same_key_at key cmp number last next)
 later_status key cmp number last next r some is = grind arith
 
--- the stored span belongs to the current line, for all contents of other slots
-pub cursor_valid_kept : (key : Key) (cursor : Sorted) (before after : Slots)
-    → line after cursor.current_slot ≡ line before cursor.current_slot → IsValidCursor key cursor before
-    → IsValidCursor key cursor after
-cursor_valid_kept key cursor before after same cursor_valid = grind arith
-
 -- the slots after the first four may change
 pub valid_cursors_kept : (key : Side → Key) (one two : Sorted) (before after : Slots)
     → AreValidCursors key one two before → length before.lines ≤ length after.lines
     → ((slot : ℕ) → slot < 4 → line after slot ≡ line before slot) → AreValidCursors key one two after
-valid_cursors_kept key one two before after p least same = grind (arith, cursor_valid_kept, own_slots)
+valid_cursors_kept key one two before after p least same = grind (arith, own_slots)
 
 -- copying a line changes one slot, or adds one
 pub kept_line : (before after : Slots) (from to slot : ℕ) → slot < to → CopyToGroupPost before after from to
@@ -651,10 +551,9 @@ module _ {tool : MergeTool} {old : MergeState} (w : IsOpenMerge tool old) where
   first_line : (side : Side) {new : Reader} {cursor : Sorted} {before after : Slots} → 4 ≤ length before.lines
       → NextOkPost (key side) cmp (initial_cursor side) cursor (old.reader side) new before after
       → SideAfterNext terminator cmp (key side) (old.reader side) new cursor (base_slot side) before after [] None
-  first_line side four comes =
-      let (apart, low, _, _, _) = own_slots side (initial_cursor side) (fresh_slots side) in
-      next_invariant _ _ w.o _ _ _ _ _ _ _ _ _ (omega (arith, low, slot_low side)) apart
-      (none_read side) refl sorted_up_to_none refl comes
+  first_line side four comes = let own = own_slots side (initial_cursor side) (fresh_slots side) in
+      next_invariant _ _ w.o _ _ _ _ _ _ _ _ _ (omega (arith, own, slot_low side)) own.0 (none_read side) refl
+      sorted_up_to_none refl comes
 
   abbrev no_lines : Side → Lines
   no_lines side = []
@@ -667,9 +566,9 @@ module _ {tool : MergeTool} {old : MergeState} (w : IsOpenMerge tool old) where
     began = first_line First (omega (arith, s.four.slots)) s.came
 
     half_store : StoreOfLines old.store s.mid (λ side. max_length (both began.now_ls [] side))
-    half_store = store_with_line First (initial_cursor First) (λ side. max_length (both began.now_ls [] side))
-        began.bytes (fresh_slots First) (store_of_no_lines s.four w.allowed w.empty)
-        (elim [ First ↦ omega arith | Second ↦ omega arith ]) began.fits began.stored
+    half_store = store_with_line First (initial_cursor First) _ began.bytes (fresh_slots First)
+        (store_of_no_lines s.four w.allowed w.empty) (elim [ First ↦ omega arith | Second ↦ omega arith ]) began.fits
+        began.stored
 
     half_invariant : MergeInvariant tool (both began.bound NoBound) no_lines old.out old.out
     half_invariant = search (rules, bound_changes, began, merge_invariant_starts)
@@ -689,22 +588,42 @@ module _ {tool : MergeTool} {old : MergeState} (w : IsOpenMerge tool old) where
   start_ok new cursor slots s =
       let f = began s in
       let k = first_line Second (mid_four s) s.later in
-      let (apart, apart_previous) = slots_apart Second (initial_cursor Second) (cursor First) (fresh_slots Second) slots
-      in
+      let apart = slots_apart Second (initial_cursor Second) (cursor First) (fresh_slots Second) slots in
       record {
         ls = both f.now_ls k.now_ls;
         p = no_lines;
         b = both f.bound k.bound;
         sides = elim [
-          | First ↦ side_invariant_kept f.side_invariant (rw k.stored (line_other s.mid 2 (cursor First).current_slot
-              k.bytes apart)) (rw k.stored (line_other s.mid 2 (cursor First).previous_slot k.bytes apart_previous))
-          | Second ↦ k.side_invariant
+          | First ↦ grind (arith, side_invariant_kept, k.stored, line_other, apart)
+          | Second
+              ↦ k.side_invariant
         ];
         merge_invariant = bound_changes Second k.bound (half_invariant s) k.may_follow k.under;
-        keeps = store_with_line Second (initial_cursor Second) (λ side. max_length (both f.now_ls k.now_ls side))
-            k.bytes (fresh_slots Second) (half_store s)
+        keeps = store_with_line Second (initial_cursor Second) _ k.bytes (fresh_slots Second) (half_store s)
             (elim [ First ↦ omega arith | Second ↦ omega arith ]) k.fits k.stored;
       }
+
+  -- nothing was read of an input
+  unread : (side : Side) → ReadFactsOf tool old old.reader no_lines no_lines (λ t. NoBound) side (old.reader side) []
+  unread side = grind (arith, none_read, reads_nothing, w.sound side, sorted_up_to_none)
+
+  -- the first read of an input failed
+  first_read_fails : (s : Side) (now : MergeState) {ls : Side → Lines} {b : Side → Bound}
+      → ((side : Side) → ReadFactsOf tool old now.reader ls no_lines b side (now.reader side) []) → ls s ≡ []
+      → ((r : Reader) (piece : List ℕ) → IsLine (now.reader s).terminator piece
+      → FirstReads terminator old.reader now.reader (with_side s r now.reader) ls (with_side s piece (λ side. [])))
+      → StoreHoldsTwoLines old.store now.store ls → MergeInvariant tool b no_lines old.out old.out
+      → EndsIfFails tool old now s (initial_cursor s) old.out
+  first_read_fails s now {ls} facts none order kept m =
+      let holds : StoreInvariant tool old.store now.reader initial_cursor now.store ls =
+      holds_two w.fits kept fresh_slots in
+      advance_fails w {now = now} {cursor = initial_cursor s} (record {
+        facts = facts;
+        all = sym none;
+        order = order;
+        denied = kept.denied;
+        fits = holds.line s;
+      }) (lag_invariant_starts m w.writable (push_nothing old.out)) (λ new piece g. processed_come_first w new g m)
 
   -- the merge could not start
   abbrev StartErr : Reader → Reader → Slots → MergeFault → Type 0
@@ -716,56 +635,20 @@ module _ {tool : MergeTool} {old : MergeState} (w : IsOpenMerge tool old) where
         → MergePost tool old (state_by_side (both new1 new2) old.out after) (Err fault)
     start_fault (inl u) = rw u.memory (merge_without_slots w refl u.unread u.slots)
     start_fault (inr (inl f)) =
-        let kept = store_of_no_lines f.four w.allowed w.empty in
-        let begins = merge_invariant_starts tool old.out in
-        rw f.unread (advance_fails w {now = state_by_side old.reader old.out f.made} {s = First}
-        {cursor = initial_cursor First} {ls = no_lines}
-        {p = no_lines} (record {
-          lines_read = none_read First;
-          sound = w.sound First;
-          all = refl;
-          last = None;
-          sorted_up_to = sorted_up_to_none;
-          bound = refl;
-          rest = read_facts_after_line w.o None (none_read Second) (reads_nothing (old.reader Second)) tt
-              (w.sound Second) sorted_up_to_none;
-          order = λ r piece free. record {
-            first = inr refl;
-            second = inr (omega (arith, one_line_at_most terminator piece (rw (w.terminator First) at free)));
-          };
-          denied = kept.denied;
-          fits = λ piece all l. within_size tool w.fits First (initial_cursor First) no_lines all piece
-              (fresh_slots First) kept (λ side. omega (arith, (l side).longest)) (omega (arith, (l First).longest));
-        }) (lag_invariant_starts begins w.writable (push_nothing old.out))
-        (λ new piece g. processed_come_first w new g begins) _ _ _ (inr (w.writable, f.fails)))
+        rw f.unread (first_read_fails First (state_by_side old.reader old.out f.made) unread refl
+        (λ r piece free. grind (arith, one_line_at_most, free, w.terminator First))
+        (store_of_no_lines f.four w.allowed w.empty) (merge_invariant_starts tool old.out) _ _ _
+        (inr (w.writable, f.fails)))
     start_fault (inr (inr f)) =
         let s = f.begins in
         let g = began s in
-        advance_fails w {now = state_by_side (both new1 (old.reader Second)) old.out s.mid} {s = Second}
-        {cursor = initial_cursor Second}
-        {ls = both g.now_ls []} {p = no_lines} (record {
-          lines_read = none_read Second;
-          sound = w.sound Second;
-          all = refl;
-          last = None;
-          sorted_up_to = sorted_up_to_none;
-          bound = refl;
-          rest = read_facts_at_line g.side_invariant;
-          order = λ r piece free.
-              record { first = inl g.side_invariant.begun; second = inr (first_line_only s) };
-          denied = (half_store s).denied;
-          fits = λ piece all l. within_size tool w.fits Second (initial_cursor Second) (both g.now_ls []) all piece
-              (fresh_slots Second) (half_store s) (λ side. omega (arith, (l side).longest))
-              (omega (arith, (l Second).longest));
-        }) (lag_invariant_starts (half_invariant s) w.writable (push_nothing old.out))
-        (λ new piece facts. processed_come_first w new facts (half_invariant s)) _ _ _ (inr (w.writable, s.later))
-
-pub ending_is : (zero : Bool) → cond zero 0 10 ≡ terminator zero
-ending_is zero = grind arith
+        first_read_fails Second (state_by_side (both new1 (old.reader Second)) old.out s.mid)
+        (elim [ First ↦ g.side_invariant.facts | Second ↦ unread Second ]) refl
+        (λ r piece free. grind (arith, g.side_invariant, first_line_only s))
+        (half_store s) (half_invariant s) _ _ _ (inr (w.writable, s.later))
 
 -- the terminator of both readers was set
 pub set_is : (first second set1 set2 : Reader) (zero : Bool) → set1 ≡ record first { terminator = cond zero 0 10 }
     → set2 ≡ record second { terminator = cond zero 0 10 } → (side : Side)
     → both set1 set2 side ≡ record (both first second side) { terminator = terminator zero }
-set_is first second set1 set2 zero is1 is2 First = rw (is1, ending_is zero)
-set_is first second set1 set2 zero is1 is2 Second = rw (is2, ending_is zero)
+set_is first second set1 set2 zero is1 is2 side = grind (arith, is1, is2)

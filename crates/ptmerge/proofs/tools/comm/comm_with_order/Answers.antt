@@ -80,17 +80,13 @@ steps-preserved g c =
     })
 
 pub steps-smaller-in-Continue-branch-2 : goal.steps-smaller-in-Continue-branch-2
-steps-smaller-in-Continue-branch-2 g c =
-    alone_decreases c.steps.invariant.iteration c.in-First.ensures c.in_ok-write_head-in-First.ensures.advances
+steps-smaller-in-Continue-branch-2 g c = grind (arith, alone_decreases)
 
 pub steps-smaller-in-Continue-branch-3 : goal.steps-smaller-in-Continue-branch-3
-steps-smaller-in-Continue-branch-3 g c =
-    alone_decreases c.steps.invariant.iteration c.in-Second.ensures c.in_ok-write_head-in-Second.ensures.advances
+steps-smaller-in-Continue-branch-3 g c = grind (arith, alone_decreases)
 
 pub steps-smaller : goal.steps-smaller
-steps-smaller g c = pair_decreases c.steps.invariant.iteration c.in-Both.ensures
-    c.in_ok-write_head-in-Both.ensures.advances
-    (rw c.write_head-in-Both.ensures.order at c.in_ok-write_out_and_advance-in-Both.ensures.advances)
+steps-smaller g c = grind (arith, pair_decreases)
 
 pub returns-in_err-write_head-in-First : goal.returns-in_err-write_head-in-First
 returns-in_err-write_head-in-First g c =

@@ -22,16 +22,7 @@ returns-clause-moves g c =
     (line_other before old.previous_slot old.current_slot e.line (λ is. c.requires.distinct_slots.apart (sym is))) in
     let next_is : line after c.swap.new.x ≡ e.line = rw (swap.x_after, e.stored)
     (line_of_with_line before old.previous_slot e.line c.requires.distinct_slots.previous_slot) in
-    let is : c.cmp-ordering.result ≡ cmp (key (line before old.current_slot)) (key e.line) =
-    cc (
-      c.cmp-ordering.ensures,
-      c.key-last.ensures,
-      c.line-2.ensures,
-      last_is,
-      c.key-head.ensures,
-      c.line-3.ensures,
-      next_is,
-    ) in
+    let is : c.cmp-ordering.result ≡ cmp (key (line before old.current_slot)) (key e.line) = cc in
     let status_is =
     later_status key cmp old.number (line before old.current_slot) e.line c.cmp-ordering.result some is in
     let status = c.status_at-self.ensures ∙ ap (λ t. if t then Disorder (old.number + 1) else Head) c.is_gt.ensures
