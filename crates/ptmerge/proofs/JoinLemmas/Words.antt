@@ -4,9 +4,9 @@
 use Rattle.ptmerge.proofs
 use proofs.Common.{◌≡◌, ◌≢◌, ℕ, zero, suc, ◌+◌, ◌-◌, ◌*◌, ◌^◌, ◌%◌, ◌<◌, ◌≤◌, Bool, true, false, cond, not, ◌&&◌}
 use proofs.Common.{◌||◌, eqb, ◌==◌, List, [], ◌∷◌, ◌++◌, None, length, map, take, drop, replicate, filter, refl, sym}
-use proofs.Common.{◌∙◌, ap, subst, arith, bit_and, bit_or, take_all, length-map, length-drop, take-append-drop}
-use proofs.Common.{drop-drop, nat_tests, Lines, is_blank, is_nonempty, join_fields, is_single_spaced}
-use proofs.Common.{has_single_spaces, slice_split, onto_first, with_prefix, IsFieldAt}
+use proofs.Common.{◌∙◌, ap, arith, bit_and, bit_or, take_all, length-map, length-drop, take-append-drop, drop-drop}
+use proofs.Common.{nat_tests, Lines, is_blank, is_nonempty, join_fields, is_single_spaced, has_single_spaces}
+use proofs.Common.{slice_split, onto_first, with_prefix, IsFieldAt}
 use proofs.JoinLemmas.Fields.{none_past, single_spaced_words, space_is}
 use Rattle.std.proofs.lemmas.Simd.{mask_l-lt, trailing_mask_l}
 use Rattle.std.proofs.lemmas.List.{drop-map, map-id, take-map}
@@ -279,20 +279,16 @@ lowest bits few some = cc (map-id bits, trailing_mask_l (λ b. b) 64 bits few (r
 
 -- ---- a word is a run of bytes that are no blanks
 
--- a bit for each byte of a word
-abbrev marks : List ℕ → List Bool
-marks v = map is_word v
-
--- the span of the first word
-abbrev word_start : List ℕ → ℕ
-word_start v = prefix_len not (marks v)
-
-abbrev word_end : List ℕ → ℕ
-word_end v = prefix_len not (after_run (marks v))
+-- a bit for each byte of a word, from the index `at` on
+abbrev from : ℕ → List ℕ → List Bool
+from at v = replicate at false ++ map is_word (drop at v)
 
 split_byte : (b : ℕ) (v : List ℕ) {t : Bool} → is_blank b ≡ t
     → slice_split is_blank (b ∷ v) ≡ cond t ([] ∷ slice_split is_blank v) (onto_first b (slice_split is_blank v))
 split_byte b v e = rw e refl
+
+one_more : (n : ℕ) → 1 + n ≡ suc n
+one_more n = omega arith
 
 -- the bytes continue a word for `size` bytes
 record InWord (v : List ℕ) (size : ℕ) (cleared : List Bool) : Type 0 where
@@ -300,140 +296,101 @@ record InWord (v : List ℕ) (size : ℕ) (cleared : List Bool) : Type 0 where
   pub more : Lines
   pub split : slice_split is_blank v ≡ take size v ∷ more
   pub words : filter is_nonempty more ≡ join_fields None (drop size v)
-  pub rest : cleared ≡ replicate size false ++ marks (drop size v)
-  pub next : is_single_spaced false v ≡ true → is_single_spaced false (drop size v) ≡ true
-  pub spaced : is_single_spaced false v ≡ true → with_prefix 32 (filter is_nonempty more) ≡ drop size v
+  pub rest : cleared ≡ from size v
+  pub spaced : is_single_spaced false v ≡ true → (is_single_spaced false (drop size v) ≡ true)
+      × (with_prefix 32 (join_fields None (drop size v)) ≡ drop size v)
 
 -- a byte of a word among single spaces
 letter_is : (blank : Bool) (b : ℕ) (v : List ℕ) → is_blank b ≡ false → is_single_spaced blank (b ∷ v) ≡ true
     → is_single_spaced false v ≡ true
 letter_is blank b v here spaced = grind (arith, here, spaced)
 
-in_word : (v : List ℕ) → InWord v (prefix_len not (after_ones (marks v))) (clear_ones (marks v))
+in_word : (v : List ℕ) → InWord v (prefix_len not (after_ones (from 0 v))) (clear_ones (from 0 v))
 in_word [] = grind arith
 in_word (b ∷ v) = by (in_word v) (is_blank b) refl
   where
-    by : InWord v (prefix_len not (after_ones (marks v))) (clear_ones (marks v)) → (t : Bool) → is_blank b ≡ t
-        → InWord (b ∷ v) (prefix_len not (after_ones (not t ∷ marks v))) (clear_ones (not t ∷ marks v))
-    by w true e =
-        let split = split_byte b v e in
+    by : InWord v (prefix_len not (after_ones (from 0 v))) (clear_ones (from 0 v)) → (t : Bool) → is_blank b ≡ t
+        → InWord (b ∷ v) (prefix_len not (after_ones (not t ∷ from 0 v))) (clear_ones (not t ∷ from 0 v))
+    by w true e = let split = split_byte b v e in
         record {
           high = omega arith;
           more = slice_split is_blank v;
           split = split;
           words = sym (ap (filter is_nonempty) split);
           rest = cc;
-          next = λ s. s;
-          spaced = λ s. (let (is_space, spaced) = space_is false b v e s in cc (single_spaced_words true v spaced));
+          spaced = λ s. let (is_space, spaced) = space_is false b v e s in
+              (s, cc (split, single_spaced_words true v spaced));
         }
-    by w false e =
-        let n = prefix_len not (after_ones (marks v)) in
-        let one : suc n ≡ 1 + n = omega arith in
-        subst (λ (k : ℕ). InWord (b ∷ v) k (false ∷ clear_ones (marks v))) one (record {
-          high = omega (arith, w.high);
-          more = w.more;
-          split = cc (split_byte b v e, w.split);
-          words = w.words;
-          rest = cc w.rest;
-          next = λ s. w.next (letter_is false b v e s);
-          spaced = λ s. w.spaced (letter_is false b v e s);
-        })
+    by w false e = rw one_more (record {
+      high = omega (arith, w.high);
+      more = w.more;
+      split = cc (split_byte b v e, w.split);
+      words = w.words;
+      rest = cc w.rest;
+      spaced = λ s. w.spaced (letter_is false b v e s);
+    })
 
--- the first word of `v` is from `start` to before `end`
-pub record WordAt (v : List ℕ) (start end : ℕ) (cleared : List Bool) : Type 0 where
+-- the first word of `v` from the index `at` on is from `start` to before `end`
+pub record WordAt (at : ℕ) (v : List ℕ) (start end : ℕ) (cleared : List Bool) : Type 0 where
   pub low : start ≤ end
   pub high : end ≤ length v
-  pub is : join_fields None v ≡ take (end - start) (drop start v) ∷ join_fields None (drop end v)
-  pub rest : cleared ≡ replicate end false ++ marks (drop end v)
-  pub next : (blank : Bool) → is_single_spaced blank v ≡ true → is_single_spaced false (drop end v) ≡ true
-  pub spaced : (blank : Bool) → is_single_spaced blank v ≡ true
-      → with_prefix 32 (join_fields None (drop end v)) ≡ drop end v
+  pub is : join_fields None (drop at v) ≡ take (end - start) (drop start v) ∷ join_fields None (drop end v)
+  pub rest : cleared ≡ from end v
+  pub spaced : (blank : Bool) → is_single_spaced blank (drop at v) ≡ true
+      → (is_single_spaced false (drop end v) ≡ true) × (with_prefix 32 (join_fields None (drop end v)) ≡ drop end v)
 
-word_at : (v : List ℕ) → 0 < mask_l (marks v) → WordAt v (word_start v) (word_end v) (clear_run (marks v))
-word_at [] some = absurd (omega (arith, some))
-word_at (b ∷ v) some = by (word_at v) (is_blank b) refl some
+-- a byte before the word
+byte_before : {at to start end : ℕ} {v : List ℕ} {cleared : List Bool} (b : ℕ) → WordAt at v start end cleared
+    → join_fields None (drop to (b ∷ v)) ≡ join_fields None (drop at v)
+    → ((blank : Bool) → is_single_spaced blank (drop to (b ∷ v)) ≡ true
+    → (left : Bool) × (is_single_spaced left (drop at v) ≡ true))
+    → WordAt to (b ∷ v) (1 + start) (1 + end) (false ∷ cleared)
+byte_before {start = start} {end} b w same spaced = rw (one_more start, one_more end) (record {
+  low = omega (arith, w.low);
+  high = omega (arith, w.high);
+  is = let size : suc end - suc start ≡ end - start = omega arith in cc (same, w.is, size);
+  rest = cc w.rest;
+  spaced = λ blank s. w.spaced (spaced blank s).0 (spaced blank s).1;
+})
+
+word_at : (at : ℕ) (v : List ℕ) → at ≤ length v → 0 < mask_l (from at v)
+    → WordAt at v (prefix_len not (from at v)) (prefix_len not (after_run (from at v))) (clear_run (from at v))
+word_at zero [] low some = absurd (omega (arith, some))
+word_at (suc at) [] low some = absurd (omega (arith, low))
+word_at (suc at) (b ∷ v) low some =
+    byte_before b (word_at at v (omega (arith, low)) (omega (arith, some))) refl (λ blank s. (blank, s))
+word_at zero (b ∷ v) low some = by (word_at 0 v (omega arith)) (is_blank b) refl some
   where
-    by : (0 < mask_l (marks v) → WordAt v (word_start v) (word_end v) (clear_run (marks v))) → (t : Bool)
-        → is_blank b ≡ t → 0 < mask_l (not t ∷ marks v)
-        → WordAt (b ∷ v) (prefix_len not (not t ∷ marks v)) (prefix_len not (after_run (not t ∷ marks v)))
-        (clear_run (not t ∷ marks v))
-    by more true e some =
-        let w = more (omega (arith, some)) in
-        let start = word_start v in
-        let end = word_end v in
-        let size : suc end - suc start ≡ end - start = omega arith in
-        let one : suc start ≡ 1 + start = omega arith in
-        let one_end : suc end ≡ 1 + end = omega arith in
-        subst (λ (k : ℕ). WordAt (b ∷ v) k (1 + end) (false ∷ clear_run (marks v))) one
-        (subst (λ (k : ℕ). WordAt (b ∷ v) (suc start) k (false ∷ clear_run (marks v))) one_end (record {
-          low = omega (arith, w.low);
-          high = omega (arith, w.high);
-          is = cc (split_byte b v e, w.is, size);
-          rest = cc w.rest;
-          next = λ blank s. w.next true (space_is blank b v e s).1;
-          spaced = λ blank s. w.spaced true (space_is blank b v e s).1;
-        }))
+    by : (0 < mask_l (from 0 v)
+        → WordAt 0 v (prefix_len not (from 0 v)) (prefix_len not (after_run (from 0 v))) (clear_run (from 0 v)))
+        → (t : Bool) → is_blank b ≡ t → 0 < mask_l (not t ∷ from 0 v)
+        → WordAt 0 (b ∷ v) (prefix_len not (not t ∷ from 0 v)) (prefix_len not (after_run (not t ∷ from 0 v)))
+        (clear_run (not t ∷ from 0 v))
+    by more true e some = byte_before b (more (omega (arith, some))) (cc (split_byte b v e))
+        (λ blank s. (true, (space_is blank b v e s).1))
     by more false e some =
         let w = in_word v in
-        let n = prefix_len not (after_ones (marks v)) in
+        let n = prefix_len not (after_ones (from 0 v)) in
         let size : suc n - 0 ≡ suc n = omega arith in
-        let one : suc n ≡ 1 + n = omega arith in
-        subst (λ (k : ℕ). WordAt (b ∷ v) 0 k (false ∷ clear_ones (marks v))) one (record {
+        rw one_more (record {
           low = omega arith;
           high = omega (arith, w.high);
           is = cc (split_byte b v e, w.split, w.words, size);
           rest = cc w.rest;
-          next = λ blank s. w.next (letter_is blank b v e s);
-          spaced = λ blank s. cc (w.words, w.spaced (letter_is blank b v e s));
+          spaced = λ blank s. w.spaced (letter_is blank b v e s);
         })
 
-no_words : (v : List ℕ) → mask_l (marks v) ≡ 0 → join_fields None v ≡ []
-no_words [] none = refl
-no_words (b ∷ v) none = by (no_words v) (is_blank b) refl none
-  where
-    by : (mask_l (marks v) ≡ 0 → join_fields None v ≡ []) → (t : Bool) → is_blank b ≡ t → mask_l (not t ∷ marks v) ≡ 0
-        → join_fields None (b ∷ v) ≡ []
-    by more true e none = cc (split_byte b v e, more (omega (arith, none)))
-    by more false e none = absurd (omega (arith, none))
-
--- ---- after some bytes
-
-abbrev from : ℕ → List Bool → List Bool
-from n bits = replicate n false ++ bits
-
-from_prefix_len : (n : ℕ) (bits : List Bool) → prefix_len not (from n bits) ≡ n + prefix_len not bits
-from_prefix_len zero bits = omega arith
-from_prefix_len (suc n) bits = omega (arith, from_prefix_len n bits)
-
-from_after : (n : ℕ) (bits : List Bool) → after_run (from n bits) ≡ from n (after_run bits)
-from_after zero bits = refl
-from_after (suc n) bits = cc (from_after n bits)
-
-from_clear : (n : ℕ) (bits : List Bool) → clear_run (from n bits) ≡ from n (clear_run bits)
-from_clear zero bits = refl
-from_clear (suc n) bits = cc (from_clear n bits)
-
-from_from : (m n : ℕ) (bits : List Bool) → from m (from n bits) ≡ from (m + n) bits
-from_from zero n bits = ap (λ (k : ℕ). from k bits) (omega arith)
-from_from (suc m) n bits = let more : suc (m + n) ≡ suc m + n = omega arith in rw (← more) (cc (from_from m n bits))
-
-from_some : (n : ℕ) (bits : List Bool) → 0 < mask_l (from n bits) → 0 < mask_l bits
-from_some zero bits some = some
-from_some (suc n) bits some = from_some n bits (omega (arith, some))
-
-from_none : (n : ℕ) (bits : List Bool) → mask_l (from n bits) ≡ 0 → mask_l bits ≡ 0
-from_none zero bits none = none
-from_none (suc n) bits none = from_none n bits (omega (arith, none))
-
-from_length : (n : ℕ) (bits : List Bool) → length (from n bits) ≡ n + length bits
-from_length zero bits = omega arith
-from_length (suc n) bits = omega (arith, from_length n bits)
+no_words : (at : ℕ) (v : List ℕ) → mask_l (from at v) ≡ 0 → join_fields None (drop at v) ≡ []
+no_words zero [] none = refl
+no_words (suc at) [] none = refl
+no_words (suc at) (b ∷ v) none = no_words at v (omega (arith, none))
+no_words zero (b ∷ v) none = let ih = no_words 0 v in grind (arith, none, ih)
 
 -- `passed` words of the line have been passed, and `words` is the mask of those from the index `at` on
 pub record WordsLeft (line : List ℕ) (passed words : ℕ) : Type 0 where
   pub at : ℕ
   pub within : at ≤ length line
-  pub mask : words ≡ mask_l (from at (marks (drop at line)))
+  pub mask : words ≡ mask_l (from at line)
   pub fields : drop passed (join_fields None line) ≡ join_fields None (drop at line)
   pub spaced : is_single_spaced true line ≡ true → (blank : Bool) × (is_single_spaced blank (drop at line) ≡ true)
 
@@ -446,28 +403,25 @@ pub any_fits : (line : List ℕ) (any : ℕ) → length line < 64 → any ≡ ma
 any_fits line any short is = omega (arith, power_fits line short, is, word_mask line)
 
 module _ {line : List ℕ} {passed words : ℕ} (short : length line < 64) (left : WordsLeft line passed words) where
-  abbrev rest : List ℕ
-  rest = drop left.at line
-
   abbrev bits : List Bool
-  bits = from left.at (marks rest)
+  bits = from left.at line
 
   bits_long : length bits ≡ length line
-  bits_long = grind (arith, common_steps, from_length)
+  bits_long = grind (arith, common_steps, left)
 
   pub words_small : words < 2 ^ 63
   words_small = search (rules, bits_long, mask_l-lt)
 
   -- no words are left
   pub none_left : (number : ℕ) → words ≡ 0 → passed ≤ number - 1 → drop (number - 1) (join_fields None line) ≡ []
-  none_left number none le = grind (arith, none_past, no_words, from_none)
+  none_left number none le = grind (arith, none_past, no_words)
 
   module _ (some : words ≢ 0) where
     some_bits : 0 < mask_l bits
     some_bits = omega (arith, left.mask, λ (none : mask_l bits ≡ 0). some (left.mask ∙ none))
 
-    first_word : WordAt rest (word_start rest) (word_end rest) (clear_run (marks rest))
-    first_word = word_at rest (from_some left.at (marks rest) some_bits)
+    first_word : WordAt left.at line (prefix_len not bits) (prefix_len not (after_run bits)) (clear_run bits)
+    first_word = word_at left.at line left.within some_bits
 
     abbrev after : ℕ
     after = bit_or words (words - 1) + 1
@@ -475,53 +429,31 @@ module _ {line : List ℕ} {passed words : ℕ} (short : length line < 64) (left
     after_is : after ≡ mask_l (after_run bits)
     after_is = cc (left.mask, or_less bits some_bits)
 
-    start_is : count_trailing_zeros 64 words ≡ left.at + word_start rest
-    start_is = grind (arith, lowest, bits_long, some_bits, from_prefix_len)
+    start_is : count_trailing_zeros 64 words ≡ prefix_len not bits
+    start_is = grind (arith, lowest, bits_long, some_bits)
 
-    end_is : count_trailing_zeros 64 after ≡ left.at + word_end rest
-    end_is = grind (arith, after_is, lowest, length-after_run, bits_long, some_after_run, some_bits, from_after,
-        from_prefix_len)
+    end_is : count_trailing_zeros 64 after ≡ prefix_len not (after_run bits)
+    end_is = grind (arith, after_is, lowest, length-after_run, bits_long, some_after_run, some_bits)
 
     -- the first of them is passed
     pub word_passed : WordsLeft line (passed + 1) (bit_and words after)
-    word_passed =
-        let w = first_word in
-        let end = word_end rest in
-        let there : drop end rest ≡ drop (left.at + end) line = drop-drop end left.at line
-        ∙ ap (λ (n : ℕ). drop n line) (omega arith) in
+    word_passed = let w = first_word in
         record {
-          at = left.at + end;
-          within = omega (arith, w.high, length-drop left.at line, left.within);
-          mask = cc (
-            left.mask,
-            after_is,
-            and_run bits,
-            from_clear left.at (marks rest),
-            w.rest,
-            from_from left.at end (marks (drop end rest)),
-            there,
-          );
-          fields = cc (drop-drop 1 passed (join_fields None line), left.fields, w.is, there);
-          spaced = λ s. (false, rw there at (w.next (left.spaced s).0 (left.spaced s).1));
+          at = prefix_len not (after_run bits);
+          within = w.high;
+          mask = cc (left.mask, after_is, and_run bits, w.rest);
+          fields = cc (drop-drop 1 passed (join_fields None line), left.fields, w.is);
+          spaced = λ s. (false, (w.spaced (left.spaced s).0 (left.spaced s).1).0);
         }
 
     -- the span of the first of them
     pub word_found : (number : ℕ) → passed ≡ number - 1 → IsFieldAt None number line
         (record { start = count_trailing_zeros 64 words; end = count_trailing_zeros 64 after })
-    word_found number is =
-        let w = first_word in
-        let start = word_start rest in
-        let end = word_end rest in
-        let there : drop end rest ≡ drop (count_trailing_zeros 64 after) line = drop-drop end left.at line
-        ∙ ap (λ (n : ℕ). drop n line) (omega (arith, end_is)) in
-        let here : drop start rest ≡ drop (count_trailing_zeros 64 words) line = drop-drop start left.at line
-        ∙ ap (λ (n : ℕ). drop n line) (omega (arith, start_is)) in
-        let size : end - start ≡ count_trailing_zeros 64 after - count_trailing_zeros 64 words =
-        omega (arith, start_is, end_is) in
-        record {
-          more = join_fields None (drop end rest);
-          is = cc (left.fields, w.is, size, here);
-          ordered = omega (arith, start_is, end_is, w.low);
-          within = omega (arith, end_is, w.high, length-drop left.at line, left.within);
-          after = λ s. w.spaced (left.spaced s).0 (left.spaced s).1 ∙ there;
-        }
+    word_found number is = let w = first_word in
+        rw (start_is, end_is) (record {
+          more = join_fields None (drop (prefix_len not (after_run bits)) line);
+          is = cc (left.fields, w.is);
+          ordered = w.low;
+          within = w.high;
+          after = λ s. (w.spaced (left.spaced s).0 (left.spaced s).1).1;
+        })
