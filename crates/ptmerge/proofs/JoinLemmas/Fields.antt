@@ -5,15 +5,15 @@
 use Rattle.std.proofs.lemmas.Bool.{false_from_ne_true}
 use Rattle.ptmerge.proofs
 use proofs.Common.{nil_from_length, drop_more, length-drop, length-append, ◌≡◌, ℕ, suc, ◌+◌, ◌-◌, ◌≤◌, Bool, true}
-use proofs.Common.{false, List, [], ◌∷◌, Option, None, Some, length, drop, get_or, refl, sym, ◌∙◌, ap, arith, zero, ◌<◌}
-use proofs.Common.{◌==◌, cond, ◌++◌, take, append_assoc, position, IfSome, MatchOption, filter, is_some}
-use proofs.Common.{position_or_len, slice_split, nat_tests, drop-drop, take-append-drop, take_all, position_or_len_is}
-use proofs.Common.{IsFirstByte, nth_field, is_nonempty, is_blank, Lines, split_around, split_whole, IsFirstPieceEnd}
-use proofs.Common.{IsFieldIn, IsPiece, is_separator, entry_with_list, remaining_fields, IsKeySpan, IsFieldFound}
+use proofs.Common.{false, List, [], ◌∷◌, Option, None, Some, length, drop, get_or, refl, sym, ◌∙◌, ap, arith, zero}
+use proofs.Common.{◌<◌, ◌==◌, cond, ◌++◌, take, append_assoc, position, IfSome, MatchOption, filter, is_some}
+use proofs.Common.{slice_split, nat_tests, drop-drop, take-append-drop, take_all, position_or_len_is, IsFirstByte}
+use proofs.Common.{nth_field, is_nonempty, is_blank, Lines, split_around, split_whole, IsFirstPieceEnd, IsFieldIn}
+use proofs.Common.{IsPiece, is_separator, entry_with_list, remaining_fields, IsKeySpan, IsFieldFound}
 use proofs.Common.{is_evenly_separated, around, ◌||◌, map, remove, unwrap_or, onto_first, join_with_byte, eqb-true}
 use proofs.Common.{append-nil, flat_map-append, Join, output_separator, entry, join_fields, or_filler, field_named}
 use proofs.Common.{other_fields, IsCanonical, is_single_spaced, with_prefix, ◌%◌, ◌^◌, eqb, replicate, bit_or}
-use proofs.Common.{length-map, drop-append_seam, take_at}
+use proofs.Common.{length-map, take_at}
 use Rattle.std.proofs.lemmas.List.{length-take-le}
 use Rattle.std.proofs.lemmas.List.Quantifiers.{position-Some}
 use Rattle.ptlangs.specs.declared.outlist.OutField.{OutField}
@@ -28,10 +28,7 @@ use Rattle.std.proofs.lemmas.Grind.{common_steps}
 pub first_is_position : (test : ℕ → Bool) (bytes : List ℕ) (r : Option ℕ) → IsFirstByte test bytes r
     → r ≡ position test bytes
 first_is_position test bytes None none =
-    let is : position_or_len test bytes ≡ length bytes = position_or_len_is test bytes (length bytes) 0 (omega arith)
-    (λ k lt. false_from_ne_true _ (none k (omega arith) lt))
-    (λ bad. absurd (omega (arith, bad))) in
-    rw is (grind (arith, nat_tests))
+    let is = position_or_len_is test bytes (length bytes) 0 in grind (arith, is, none, false_from_ne_true, nat_tests)
 first_is_position test bytes (Some at) (range, found) = grind (arith, position_or_len_is, false_from_ne_true)
 
 -- ---- the field with a number
@@ -39,8 +36,7 @@ first_is_position test bytes (Some at) (range, found) = grind (arith, position_o
 -- no fields are left after more fields than there are
 pub none_past : (fs : Lines) (i n : ℕ) → drop i fs ≡ [] → i ≤ n → drop n fs ≡ []
 none_past fs i n none le =
-    let more : n ≡ i + (n - i) = omega (arith, le) in
-    rw (more, ← drop-drop (n - i) i fs, none) (grind arith)
+    grind (arith, drop-drop (n - i) i fs)
 
 pub drop_next : (fs more : Lines) (f : List ℕ) (i : ℕ) → drop i fs ≡ f ∷ more → drop (i + 1) fs ≡ more
 drop_next fs more f i some = rw (← drop-drop 1 i fs, some) refl
@@ -86,24 +82,16 @@ piece_at separator bytes at is = let (within, found, _) = position-Some _ bytes 
       front = [];
       tail = drop at bytes;
       is = sym (take-append-drop at bytes);
-      ends = (
-        get_or bytes at 0,
-        cc (
-          drop_more bytes at 0 within,
-          take_all (length bytes - (at + 1)) (drop (at + 1) bytes) (omega (arith, length-drop (at + 1) bytes)),
-        ),
-        found,
-      );
+      ends = (get_or bytes at 0, grind (arith, common_steps, drop_more bytes at 0 within), found);
     }
 
 -- the index of the first separator is the end of the first field
 pub ends_at : (separator : Option ℕ) (bytes : List ℕ) (at : ℕ) (end : Option ℕ)
     → end ≡ position (is_separator separator) bytes → end ≡ Some at → IsFirstPieceEnd separator bytes at
-ends_at separator bytes at end first some = let is = sym first ∙ some in record {
-  remainder = slice_split (is_separator separator) (take _ _);
-  is = split_around (is_separator separator) bytes at is;
-  within = omega (arith, (position-Some (is_separator separator) bytes at 0 is).0);
-}
+ends_at separator bytes at end first some =
+    let is : position (is_separator separator) bytes ≡ Some at = cc in
+    let split = split_around (is_separator separator) bytes at is in
+    grind (arith, split, position-Some (is_separator separator) bytes at 0 is)
 
 pub ends_whole : (separator : Option ℕ) (bytes : List ℕ) (end : Option ℕ)
     → end ≡ position (is_separator separator) bytes → end ≡ None → IsFirstPieceEnd separator bytes (length bytes)
@@ -129,10 +117,8 @@ pub skip_empty_word : (separator : Option ℕ) (bytes field : List ℕ) (remaind
     (λ left. slice_split (is_separator separator) bytes ≡ field ∷ slice_split (is_separator separator) left)
     → remaining_fields separator remainder ≡ remaining_fields separator (Some bytes)
 skip_empty_word (Some c) bytes field remainder none empty first = cc
-skip_empty_word None bytes field None none empty first =
-    rw (first, empty_word field empty)
-skip_empty_word None bytes field (Some left) none empty first =
-    rw (first, empty_word field empty)
+skip_empty_word None bytes field None none empty first = grind (arith, empty_word)
+skip_empty_word None bytes field (Some left) none empty first = grind (arith, empty_word)
 
 -- ---- writing lines field by field
 
@@ -243,27 +229,16 @@ module _ (job : Join) (key : List ℕ) (none : job.list ≡ None) where
       → nth_field job.field2 (of two) ≡ key → one ++ take (length two - length key)
       (drop (length key) two) ++ end ∷ [] ≡ entry job key (of one) (of two) ++ end ∷ []
   pair_is {one} {two} end w1 w2 keyed1 keyed2 =
-      let ys = with_prefix prefix (other_fields job.field2 (of two)) in
-      cc (
-        after_key key ys two (canonical_is w2 keyed2),
-        canonical_is w1 keyed1,
-        append_assoc key (with_prefix prefix (other_fields job.field1 (of one))) ys,
-        entry_plain job key (Some one) (Some two) none,
-      )
+      grind (arith, after_key, canonical_is, append_assoc, entry_plain job key (Some one) (Some two))
 
   -- the output line for one canonical line
   pub first_is : {line : List ℕ} → IsCanonical job.separator job.field1 line → nth_field job.field1 (of line) ≡ key
       → line ≡ entry job key (of line) []
-  first_is {line} w keyed = rw (
-    entry_plain job key (Some line) None none,
-    others_none prefix _,
-    append-nil _,
-  ) (canonical_is w keyed)
+  first_is {line} w keyed = grind (arith, entry_plain job key (Some line) None, others_none, append-nil, canonical_is)
 
   pub second_is : {line : List ℕ} → IsCanonical job.separator job.field2 line → nth_field job.field2 (of line) ≡ key
       → line ≡ entry job key [] (of line)
-  second_is {line} w keyed = rw (entry_plain job key None (Some line) none, others_none prefix (job.field1 - 1))
-      (canonical_is w keyed)
+  second_is {line} w keyed = grind (arith, entry_plain job key None (Some line), others_none, canonical_is)
 
 -- ---- blanks
 
@@ -317,8 +292,7 @@ after_piece separator line field (Some bytes) end p e even =
     let (byte, ends, test) = p.ends in
     let front = p.front ++ field in
     let split : line ≡ front ++ byte ∷ bytes = rw (p.is, ends) (simp append_assoc) in
-    let at_end : end ≡ length front = omega (arith, e, ap length split, length-append front (byte ∷ bytes)) in
-    rw (at_end, split, drop-append_seam front (byte ∷ bytes)) (by separator byte test (rw split at even))
+    grind (arith, common_steps, split, by separator byte test)
   where
     by : (separator : Option ℕ) (byte : ℕ) → is_separator separator byte ≡ true
         → is_evenly_separated separator ((p.front ++ field) ++ byte ∷ bytes) ≡ true

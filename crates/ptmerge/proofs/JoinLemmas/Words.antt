@@ -3,10 +3,10 @@
 -- first word, after which the words of the rest of the line follow.
 use Rattle.ptmerge.proofs
 use proofs.Common.{◌≡◌, ◌≢◌, ℕ, zero, suc, ◌+◌, ◌-◌, ◌*◌, ◌^◌, ◌%◌, ◌<◌, ◌≤◌, Bool, true, false, cond, not, ◌&&◌}
-use proofs.Common.{◌||◌, eqb, ◌==◌, List, [], ◌∷◌, ◌++◌, None, length, map, take, drop, replicate, filter, refl, sym}
-use proofs.Common.{◌∙◌, ap, arith, bit_and, bit_or, take_all, length-map, length-drop, take-append-drop, drop-drop}
-use proofs.Common.{nat_tests, Lines, is_blank, is_nonempty, join_fields, is_single_spaced, has_single_spaces}
-use proofs.Common.{slice_split, onto_first, with_prefix, IsFieldAt}
+use proofs.Common.{◌||◌, eqb, ◌==◌, List, [], ◌∷◌, ◌++◌, None, length, map, take, drop, replicate, filter, refl, ◌∙◌}
+use proofs.Common.{ap, arith, bit_and, bit_or, length-map, take-append-drop, drop-drop, nat_tests, Lines, is_blank}
+use proofs.Common.{is_nonempty, join_fields, is_single_spaced, has_single_spaces, slice_split, onto_first}
+use proofs.Common.{with_prefix, IsFieldAt}
 use proofs.JoinLemmas.Fields.{none_past, single_spaced_words, space_is}
 use Rattle.std.proofs.lemmas.Simd.{mask_l-lt, trailing_mask_l}
 use Rattle.std.proofs.lemmas.List.{drop-map, map-id, take-map}
@@ -14,8 +14,8 @@ use Rattle.std.specs.Simd.Lanes.{chunk, mask_l}
 use Rattle.std.specs.List.{prefix_len}
 use Rattle.memchr.specs.Find.{is_byte}
 use Rattle.std.proofs.Common.{◌/◌, rules}
-use Rattle.std.proofs.Math.Nat.{div-div-eq-div-mul, mod-eq_of_lt, mul-lt-mul_of_pos_right, mul_assoc, mul_comm}
-use Rattle.std.proofs.Math.Nat.{one-le-pow, two-pow-succ}
+use Rattle.std.proofs.Math.Nat.{div-div-eq-div-mul, mod-eq_of_lt, mul-lt-mul_of_pos_right, mul_assoc, one-le-pow}
+use Rattle.std.proofs.Math.Nat.{two-pow-succ}
 use Rattle.std.proofs.Math.Pow.{pow-add, pow-lt, pow_mono}
 use lib.Bits.{and_step, or_step, or_zero_l, or_zero_r, and_zero_l, or_shifted_r, and_mod, and_le_l, and_self, or_self}
 use lib.Count.{count_trailing_zeros}
@@ -41,7 +41,7 @@ or_prefix : (n : ℕ) (bits : List Bool) → bit_or (mask_l (take n bits)) (mask
 or_prefix zero bits = or_zero_l (mask_l bits)
 or_prefix (suc n) [] = or_zero_l 0
 or_prefix (suc n) (b ∷ bits) =
-    or_bits b b _ (mask_l bits) ∙ grind (arith, or_prefix n bits)
+    grind (arith, or_bits b b (mask_l (take n bits)) (mask_l bits), or_prefix n bits)
 
 or_ends : (last n : ℕ) (bits : List Bool) → last ≤ n
     → bit_or (mask_l (take n bits)) (2 ^ last * mask_l (drop last bits)) ≡ mask_l bits
@@ -64,25 +64,20 @@ pub ends_mask : (test : ℕ → Bool) (bytes : List ℕ) (n : ℕ) → n ≤ len
 ends_mask test bytes n first all few =
     let last = length bytes - n in
     let bits = map test bytes in
-    let size : length (drop last bits) ≡ n = omega (arith, length-drop last bits, length-map bytes test, first) in
-    let tail : map test (chunk last n bytes) ≡ drop last bits =
-    ap (map test) (take_all n (drop last bytes) (omega (arith, length-drop last bytes, first)))
-    ∙ sym (drop-map test last bytes) in
-    let front : map test (chunk 0 n bytes) ≡ take n bits = sym (take-map test n bytes) in
-    let small : mask_l (drop last bits) * 2 ^ last < 2 ^ 64 = fits (mask_l _) n last
-    (rw size at (mask_l-lt (drop last bits))) (omega (arith, all, first, few)) in
-    let whole : mask_l (drop last bits) * 2 ^ last % 2 ^ 64 ≡ 2 ^ last * mask_l (drop last bits) = omega
-    (arith, small, mul_comm (mask_l (drop last bits)) (2 ^ last), mod-eq_of_lt small) in
-    cc (front, tail, whole, or_ends last n bits (omega (arith, all, first)))
+    let tail : map test (chunk last n bytes) ≡ drop last bits = grind (arith, common_steps, drop-map) in
+    let size : length (drop last bits) ≡ n = grind (arith, common_steps) in
+    let small = fits (mask_l (drop last bits)) n last (rw size at (mask_l-lt (drop last bits))) (omega arith) in
+    let whole : mask_l (drop last bits) * 2 ^ last % 2 ^ 64 ≡ 2 ^ last * mask_l (drop last bits) =
+    omega (arith, mod-eq_of_lt small) in
+    cc (take-map test n bytes, tail, whole, or_ends last n bits (omega arith))
   where
     fits : (m n last : ℕ) → m < 2 ^ n → n + last ≤ 64 → m * 2 ^ last < 2 ^ 64
-    fits m n last low le =
-        omega (
-          arith,
-          mul-lt-mul_of_pos_right {k = 2 ^ last} low (one-le-pow last 2 (omega arith)),
-          pow-add 2 n last,
-          pow_mono {j = 64} le,
-        )
+    fits m n last low le = omega (
+      arith,
+      mul-lt-mul_of_pos_right {k = 2 ^ last} low (one-le-pow last 2 (omega arith)),
+      pow-add 2 n last,
+      pow_mono {j = 64} le,
+    )
 
 -- ---- single spaces
 
@@ -104,15 +99,10 @@ pub single_spaces_is : (any before : ℕ) (bytes : List ℕ) → before ≤ 1 �
     → eqb (bit_or (mask_l (map (is_byte 9) bytes)) (bit_and any (bit_or (any * 2 % 2 ^ 64) before))) 0
     ≡ has_single_spaces (before == 1) bytes
 single_spaces_is any before bytes low few is =
-    let size = length-map bytes is_blank in
-    let wide : 2 ^ length (map is_blank bytes) ≤ 2 ^ 64 = pow_mono {j = 64} (omega (arith, size, few)) in
-    let small : any < 2 ^ 64 = omega (arith, is, mask_l-lt (map is_blank bytes), wide) in
-    let one : bit (before == 1) ≡ before = of_bit before low in
-    let with_before : bit_or (any * 2 % 2 ^ 64) before ≡ (any * 2 + before) % 2 ^ 64 = or_even any before low in
-    let whole : bit_and any ((any * 2 + before) % 2 ^ 64) ≡ bit_and any (bit (before == 1) + 2 * any) =
-    let sum : any * 2 + before ≡ bit (before == 1) + 2 * any = omega (arith, one) in
-    rw sum (and_low any (bit (before == 1) + 2 * any) small) in
-    rw (with_before, whole, is) (no_misplaced (before == 1) bytes)
+    let wide : 2 ^ length (map is_blank bytes) ≤ 2 ^ 64 = pow_mono {j = 64} (omega (arith, length-map bytes is_blank)) in
+    let small : any < 2 ^ 64 = omega (arith, mask_l-lt (map is_blank bytes), wide) in
+    let sum : any * 2 + before ≡ bit (before == 1) + 2 * any = omega (arith, of_bit before low) in
+    rw (or_even any before low, and_low any (any * 2 + before) small, sum, is) (no_misplaced (before == 1) bytes)
   where
     of_bit : (before : ℕ) → before ≤ 1 → bit (before == 1) ≡ before
     of_bit before low = grind (arith, nat_tests)
@@ -120,15 +110,12 @@ single_spaces_is any before bytes low few is =
     or_even : (any before : ℕ) → before ≤ 1 → bit_or (any * 2 % 2 ^ 64) before ≡ (any * 2 + before) % 2 ^ 64
     or_even any before low =
         let half = any % 2 ^ 63 in
-        let even : any * 2 % 2 ^ 64 ≡ bit false + 2 * half = omega arith in
-        let one : bit (before == 1) + 2 * 0 ≡ before = omega (arith, of_bit before low) in
-        let sum : bit (before == 1) + 2 * half ≡ (any * 2 + before) % 2 ^ 64 = omega (arith, of_bit before low, low) in
-        cc (even, one, sum, or_bits false (before == 1) half 0, or_zero_r half)
+        let even : any * 2 % 2 ^ 64 ≡ 2 * half = omega arith in
+        grind (arith, even, of_bit, or_bits false (before == 1) half 0, or_zero_r half)
 
     and_low : (x y : ℕ) → x < 2 ^ 64 → bit_and x (y % 2 ^ 64) ≡ bit_and x y
     and_low x y low =
-        let small : bit_and x y % 2 ^ 64 ≡ bit_and x y = mod-eq_of_lt (omega (arith, and_le_l x y, low)) in
-        cc (mod-eq_of_lt low, and_mod x y 64)
+        grind (arith, and_le_l x y, and_mod x y 64)
 
 power_fits : (v : List ℕ) → length v < 64 → 1 * 2 ^ length v % 2 ^ 64 ≡ 1 * 2 ^ length v
 power_fits v short = mod-eq_of_lt (omega (arith, pow-lt {j = 64} short))
@@ -139,23 +126,17 @@ pub with_end : (bytes : List ℕ) (any tabs : ℕ) → length bytes < 64 → any
     → (bit_or any (1 * 2 ^ length bytes % 2 ^ 64) ≡ mask_l (map is_blank (bytes ++ 32 ∷ [])))
     × (tabs ≡ mask_l (map (is_byte 9) (bytes ++ 32 ∷ [])))
 with_end bytes any tabs short any_is tabs_is =
-    let size = length-map bytes is_blank in
     let low : any < 2 ^ length bytes =
-    omega (arith, any_is, mask_l-lt (map is_blank bytes), ap (λ (n : ℕ). 2 ^ n) size) in (
-      ap (bit_or any) (power_fits bytes short) ∙ or_shifted_r 1 (length bytes) any low ∙ omega
-          (arith, end_blank bytes, any_is),
-      tabs_is
-          ∙ sym (end_tab bytes),
+    omega (arith, mask_l-lt (map is_blank bytes), ap (λ (n : ℕ). 2 ^ n) (length-map bytes is_blank)) in (
+      ap (bit_or any) (power_fits bytes short) ∙ or_shifted_r 1 (length bytes) any low
+          ∙ omega (arith, end_bit is_blank bytes),
+      omega (arith, end_bit (is_byte 9) bytes),
     )
   where
-    end_blank : (bytes : List ℕ)
-        → mask_l (map is_blank (bytes ++ 32 ∷ [])) ≡ mask_l (map is_blank bytes) + 2 ^ length bytes
-    end_blank [] = refl
-    end_blank (b ∷ bytes) = omega (arith, end_blank bytes, two-pow-succ (length bytes))
-
-    end_tab : (bytes : List ℕ) → mask_l (map (is_byte 9) (bytes ++ 32 ∷ [])) ≡ mask_l (map (is_byte 9) bytes)
-    end_tab [] = refl
-    end_tab (b ∷ bytes) = omega (arith, end_tab bytes)
+    end_bit : (test : ℕ → Bool) (bytes : List ℕ)
+        → mask_l (map test (bytes ++ 32 ∷ [])) ≡ mask_l (map test bytes) + cond (test 32) (2 ^ length bytes) 0
+    end_bit test [] = grind arith
+    end_bit test (b ∷ bytes) = grind (arith, end_bit test bytes, two-pow-succ (length bytes))
 
 pub spaced_to_end : (blank : Bool) (bytes : List ℕ)
     → has_single_spaces blank (bytes ++ 32 ∷ []) ≡ is_single_spaced blank bytes
@@ -180,11 +161,13 @@ top_bit n blank [] size spaced = absurd (omega (arith, size))
 top_bit zero blank (b ∷ []) size spaced = grind (arith, spaced)
 top_bit zero blank (b ∷ c ∷ v) size spaced = absurd (omega (arith, size))
 top_bit (suc n) blank (b ∷ v) size spaced =
-    let rest : has_single_spaces (b == 32) v ≡ true = grind (arith, spaced) in
     let m = mask_l (map is_blank v) in
     let twice : 2 ^ suc n ≡ 2 * 2 ^ n = omega (arith, two-pow-succ n) in
-    let (half, _) = halves (is_blank b) m in
-    cc (top_bit n (b == 32) v (omega (arith, size)) rest, div-div-eq-div-mul (bit (is_blank b) + 2 * m) 2 (2 ^ n))
+    cc (
+      top_bit n (b == 32) v (omega (arith, size)) (grind (arith, spaced)),
+      (halves (is_blank b) m).0,
+      div-div-eq-div-mul (bit (is_blank b) + 2 * m) 2 (2 ^ n),
+    )
 
 pub chunk_spaced : (blank : Bool) (bytes : List ℕ) (at : ℕ) → at + 64 ≤ length bytes
     → is_single_spaced blank (drop at bytes) ≡ cond (has_single_spaces blank (chunk at 64 bytes))
@@ -241,12 +224,10 @@ or_less : (bits : List Bool) → 0 < mask_l bits → bit_or (mask_l bits) (mask_
 or_less [] some = absurd (omega (arith, some))
 or_less (true ∷ bits) some =
     let m = mask_l bits in
-    let less : bit true + 2 * m - 1 ≡ bit false + 2 * m = omega arith in
-    rw less (omega (arith, or_bits true false m m, or_self m, plus_one bits))
+    grind (arith, or_bits true false m m, or_self m, plus_one bits)
 or_less (false ∷ bits) some =
     let m = mask_l bits in
-    let less : bit false + 2 * m - 1 ≡ bit true + 2 * (m - 1) = omega (arith, some) in
-    rw less (omega (arith, or_bits false true m (m - 1), or_less bits (omega (arith, some))))
+    grind (arith, or_bits false true m (m - 1), or_less bits)
 
 and_ones : (bits : List Bool) → bit_and (mask_l bits) (mask_l (after_ones bits)) ≡ mask_l (clear_ones bits)
 and_ones [] = and_zero_l 1
@@ -258,9 +239,7 @@ and_ones (b ∷ bits) =
 and_run : (bits : List Bool) → bit_and (mask_l bits) (mask_l (after_run bits)) ≡ mask_l (clear_run bits)
 and_run [] = and_zero_l 1
 and_run (b ∷ bits) =
-    let ih = and_run bits in
-    let bits_of = λ (c : Bool). and_bits b c (mask_l bits) in
-    grind (arith, ih, and_ones bits, bits_of false (mask_l (after_ones bits)), bits_of false (mask_l (after_run bits)))
+    grind (arith, and_run bits, and_ones bits, and_bits b false (mask_l bits))
 
 length-after_ones : (bits : List Bool) → length (after_ones bits) ≤ suc (length bits)
 length-after_ones [] = omega arith
@@ -269,9 +248,6 @@ length-after_ones (b ∷ bits) = grind (arith, length-after_ones bits)
 length-after_run : (bits : List Bool) → length (after_run bits) ≤ suc (length bits)
 length-after_run [] = omega arith
 length-after_run (b ∷ bits) = grind (arith, length-after_ones bits, length-after_run bits)
-
-some_after_run : (bits : List Bool) → 0 < mask_l bits → 0 < mask_l (after_run bits)
-some_after_run bits some = omega (arith, or_less bits some)
 
 lowest : (bits : List Bool) → length bits ≤ 64 → 0 < mask_l bits
     → count_trailing_zeros 64 (mask_l bits) ≡ prefix_len not bits
@@ -311,16 +287,10 @@ in_word (b ∷ v) = by (in_word v) (is_blank b) refl
   where
     by : InWord v (prefix_len not (after_ones (from 0 v))) (clear_ones (from 0 v)) → (t : Bool) → is_blank b ≡ t
         → InWord (b ∷ v) (prefix_len not (after_ones (not t ∷ from 0 v))) (clear_ones (not t ∷ from 0 v))
-    by w true e = let split = split_byte b v e in
-        record {
-          high = omega arith;
-          more = slice_split is_blank v;
-          split = split;
-          words = sym (ap (filter is_nonempty) split);
-          rest = cc;
-          spaced = λ s. let (is_space, spaced) = space_is false b v e s in
-              (s, cc (split, single_spaced_words true v spaced));
-        }
+    by w true e =
+        let split = split_byte b v e in
+        let more = slice_split is_blank v in
+        grind (arith, more, split, space_is, single_spaced_words true v)
     by w false e = rw one_more (record {
       high = omega (arith, w.high);
       more = w.more;
@@ -433,7 +403,7 @@ module _ {line : List ℕ} {passed words : ℕ} (short : length line < 64) (left
     start_is = grind (arith, lowest, bits_long, some_bits)
 
     end_is : count_trailing_zeros 64 after ≡ prefix_len not (after_run bits)
-    end_is = grind (arith, after_is, lowest, length-after_run, bits_long, some_after_run, some_bits)
+    end_is = grind (arith, after_is, lowest, length-after_run, bits_long, or_less, some_bits)
 
     -- the first of them is passed
     pub word_passed : WordsLeft line (passed + 1) (bit_and words after)
