@@ -314,43 +314,28 @@ remove_at [] (suc i) f more is = cc
 remove_at (g ∷ fs) zero f more is = cc
 remove_at (g ∷ fs) (suc i) f more is = cc (remove_at fs i f more is)
 
+-- the bytes before a separator
+cut_before : (c : ℕ) (before more line : List ℕ) → before ++ (c ∷ more) ≡ c ∷ line → (rest : List ℕ)
+    → before ++ rest ≡ cond (length before == 0) rest (c ∷ take (length before - 1) line ++ rest)
+cut_before c [] more line is rest = refl
+cut_before c (x ∷ before) more line is rest = grind (arith, common_steps, is)
+
 -- without a field: the bytes before it, except the separator, and those after it
 pub around_is : (separator : Option ℕ) (number : ℕ) (line : List ℕ) (found : Option Span)
     → IsFieldFound separator number line found → is_evenly_separated separator line ≡ true
     → with_prefix (output_separator separator) (other_fields number (join_fields separator line))
     ≡ around (output_separator separator) line found
 around_is separator number line None none even = grind (arith, remove_past, even_prefixed)
-around_is separator number line (Some span) f even = whole ∙ by span.start long
-  where
-    c : ℕ
-    c = output_separator separator
-
-    fs : Lines
-    fs = join_fields separator line
-
-    word : List ℕ
-    word = slice_range line span.start span.end
-
-    rest : List ℕ
-    rest = drop span.end line
-
-    before : List ℕ
-    before = with_prefix c (take (number - 1) fs)
-
-    whole : with_prefix c (remove fs (number - 1)) ≡ before ++ rest
-    whole = rw (remove_at fs (number - 1) word f.more f.is, flat_map-append, f.after even) refl
-
-    with_word : with_prefix c (word ∷ f.more) ≡ c ∷ (word ++ rest)
-    with_word = cc (f.after even)
-
-    line_is : before ++ (c ∷ (word ++ rest)) ≡ c ∷ line
-    line_is =
-        let all = rw (← take-append-drop (number - 1) fs, f.is, flat_map-append) at
-        (even_prefixed separator line even) in
-        cc (with_word, all)
-
-    long : length before ≡ span.start
-    long = omega (
+around_is separator number line (Some span) f even =
+    let c = output_separator separator in
+    let fs = join_fields separator line in
+    let word = slice_range line span.start span.end in
+    let rest = drop span.end line in
+    let before = with_prefix c (take (number - 1) fs) in
+    let line_is : before ++ (c ∷ (word ++ rest)) ≡ c ∷ line =
+    let all = rw (← take-append-drop (number - 1) fs, f.is, flat_map-append) at (even_prefixed separator line even) in
+    cc (f.after even, all) in
+    let long : length before ≡ span.start = omega (
       arith,
       ap length line_is,
       length-append before (c ∷ (word ++ rest)),
@@ -360,12 +345,6 @@ around_is separator number line (Some span) f even = whole ∙ by span.start lon
           (omega (arith, length-drop span.start line, f.within)),
       f.ordered,
       f.within,
-    )
-
-    by : (start : ℕ) → length before ≡ start
-        → before ++ rest ≡ cond (start == 0) rest (c ∷ take (start - 1) line ++ rest)
-    by zero none = cc (nil_from_length before none)
-    by (suc start) size =
-        let one : suc start - 1 ≡ start = omega arith in
-        let some : (suc start == 0) ≡ false = grind (arith, nat_tests) in
-        rw (some, one) (cc (take_at before (c ∷ (word ++ rest)) (suc start) size, line_is))
+    ) in
+    let cut = rw long at (cut_before c before (word ++ rest) line line_is rest) in
+    rw (remove_at fs (number - 1) word f.more f.is, flat_map-append, f.after even) cut

@@ -56,12 +56,8 @@ module _ (job : Join) (cmp : Cmp) (key : Side → Key) where
   is_line_by_line : IsLineByLine (join_with job cmp key)
   is_line_by_line = record {
     none = λ k. cond_of_empty job.unpaired2;
-    first = λ k x g.
-        let of = λ (a : List ℕ). entry job k (join_fields job.separator a) [] in
-        cond_of_append job.unpaired1 (of x ∷ []) (map of g)
-        ∙ ap (λ l. unpaired_entries1 job k (x ∷ []) ++ l) (sym (first_alone k g));
-    second = λ k x g. let of = λ (b : List ℕ). entry job k [] (join_fields job.separator b) in
-        cond_of_append job.unpaired2 (of x ∷ []) (map of g);
+    first = λ k x g. let rest = first_alone k g in grind (arith, rest);
+    second = λ k x g. grind arith;
   }
 
   -- the bounds of a group, if pairs are written; otherwise none is kept
@@ -89,12 +85,8 @@ module _ (job : Join) (cmp : Cmp) (key : Side → Key) where
   -- the entries of one unpaired line of one input
   pub entries_alone : (s : Side) (x : List ℕ) → key s x ≡ join_key job s x
       → entries_by_key (join_with job cmp key) all_keys (alone s x) ≡ unpaired_entry job s x
-  entries_alone First x is = rw (same_bytes (refl {a = key First x}))
-      (append-nil (unpaired_entries1 job (key First x) (x ∷ []))
-      ∙ ap (λ (k : List ℕ). unpaired_entries1 job k (x ∷ [])) is)
-  entries_alone Second x is = rw (same_bytes (refl {a = key Second x}))
-      (append-nil (unpaired_entries2 job (key Second x) (x ∷ []))
-      ∙ ap (λ (k : List ℕ). unpaired_entries2 job k (x ∷ [])) is)
+  entries_alone First x is = grind (arith, same_bytes (refl {a = key First x}), append-nil)
+  entries_alone Second x is = grind (arith, same_bytes (refl {a = key Second x}), append-nil)
 
 -- ---- the phases
 
@@ -205,11 +197,7 @@ module _ {job : Join} {cmp : Cmp} {key : Side → Key} {old : MergeState} (a : I
           },
           refl,
         );
-        between = record {
-          valid_cursors = valid_cursors;
-          own_reader = elim [ First ↦ reader1 | Second ↦ reader2 ];
-          clean = a.w.writable;
-        };
+        between = (let own_reader : (side : Side) → IsReaderOf (both one two side) (both first second side) = elim [ First ↦ reader1 | Second ↦ reader2 ] in assumption a.w);
       }
 
 module _ {job : Join} {cmp : Cmp} {key : Side → Key} {old : MergeState} {phase : JoinPhase} {now : MergeState}
@@ -451,6 +439,19 @@ module _ {job : Join} {cmp : Cmp} {key : Side → Key} {old : MergeState} {phase
             ];
           }
 
+        -- the pairs of the first input's current line and the group are not written yet
+        pairs_are_missing : call.keeps_groups ≡ true → (all : Side → Lines)
+            → ((side : Side) → Continues (with_side Second reader now.reader side) (on_second.group.ls side) (all side))
+            → ¬ (merged_entries call.tool all ≡ entries_by_key call.tool all_keys on_second.group.p ++ [])
+        pairs_are_missing keeps all w =
+            let first : IsAtGroupLine on_second.group First = record {
+              slots = next_slots at_second comes;
+              at_key = record { head = (a.heads First).head; is = key1_on made (λ i low. refl) };
+            } in
+            front_is_not_all call.w (within_more first) (later made) (passing_now first) all w
+            (has_entries call (within_more first) keeps
+            (elim [ First ↦ omega arith | Second ↦ omega (arith, length_push a.g y) ]))
+
         -- the previous line stands for the group, if none is copied
         one_for_all : a.kept ≡ [] → IsOneForAll call a.k (line made two2.previous_slot) a.kept (a.g ++ y ∷ [])
         one_for_all none = record {
@@ -462,8 +463,7 @@ module _ {job : Join} {cmp : Cmp} {key : Side → Key} {old : MergeState} {phase
             by : (t : Bool) → call.keeps_groups ≡ t → (f : Lines)
                 → call.pairs a.k f (y ∷ []) ≡ call.pairs a.k f (a.g ++ y ∷ [])
             by true keeps f = cc (all_copied keeps)
-            by false without f =
-                cc (call.laws.unwritten without a.k f (y ∷ []), call.laws.unwritten without a.k f (a.g ++ y ∷ []))
+            by false without f = grind (arith, call.laws.unwritten without)
 
         -- the previous line was copied, too
         module _ {after : Slots} (keeps : call.keeps_groups ≡ true)
@@ -508,23 +508,6 @@ module _ {job : Join} {cmp : Cmp} {key : Side → Key} {old : MergeState} {phase
             (λ e. rw e.end_is (pairs_by h.came _ (kept_too h.came e.keeps e.copied).same
             (group_on h.came e.keeps e.copied) same (inl (all_copied_too h.came e.keeps e.copied)))) h.kept)
 
-      -- the pairs of the first input's current line and the group are not written yet
-      pairs_are_missing : {reader : Reader} {two2 : Sorted} {made : Slots}
-          (comes : NextOkPost (key Second) cmp two two2 (now.reader Second) reader now.store made)
-          → call.keeps_groups ≡ true
-          → (all : Side → Lines) → ((side : Side) → Continues (with_side Second reader now.reader side)
-          ((on_second comes).group.ls side) (all side))
-          → ¬ (merged_entries call.tool all ≡ entries_by_key call.tool all_keys (on_second comes).group.p ++ [])
-      pairs_are_missing {reader} {two2} {made} comes keeps all w =
-          let q = (on_second comes).group in
-          let first : IsAtGroupLine q First = record {
-            slots = next_slots at_second comes;
-            at_key = record { head = (a.heads First).head; is = key1_on comes made (λ i low. refl) };
-          } in
-          front_is_not_all call.w (within_more first) (state_after_read now Second reader out made) (passing_now first)
-          all w (has_entries call (within_more first) keeps
-          (elim [ First ↦ omega arith | Second ↦ omega (arith, length_push a.g y) ]))
-
       -- a line could not be copied, or the next one could not be read
       pub read_group_fails : {two2 : Sorted} {reader : Reader} {after : Slots} {fault : MergeFault}
           → ReadGroupLinePost call.keeps_groups (key Second) cmp two two2 (now.reader Second) reader now.store after out
@@ -547,9 +530,7 @@ module _ {job : Join} {cmp : Cmp} {key : Side → Key} {old : MergeState} {phase
           let (_, many) = call.laws.largest e.keeps _ _ (inside e.came (more Second).continues.more) in
           omega (
             arith,
-            e.copy_failed.peak,
-            e.copy_failed.slots,
-            e.copy_failed.most,
+            e.copy_failed,
             q.at,
             ap length (all_copied e.keeps),
             size,
@@ -589,28 +570,18 @@ module _ {job : Join} {cmp : Cmp} {key : Side → Key} {old : MergeState} {phase
     keyed_slot : (slot : ℕ) → group_first_slot two end ≤ slot → slot < group_end_slot two end
         → key Second (line now.store slot) ≡ state.k
     keyed_slot slot from low = ⊎_elim (λ same.
-        let least : 4 ≤ slot = rw (is_kept same) at from in
-        let most : slot < end = rw (is_kept same) at low in
-        ap (key Second) (kept_line state.q.keeps slot least (omega (arith, most, state.q.at)))
-        ∙ EachKey-at (λ x. x ≡ state.k) (key Second) state.kept (slot - 4) (omega (arith, least, most, state.q.at))
-        (rw same (state.q.within.own Second)))
-        (λ h.
-        let least : two.previous_slot ≤ slot = rw (is_alone h.none) at from in
-        let most : slot < two.previous_slot + 1 = rw (is_alone h.none) at low in
-        let is : slot ≡ two.previous_slot = omega (arith, least, most) in
-        rw is h.own) state.lines_in
+        let own = rw (← same) at (state.q.within.own Second) in
+        let keyed = EachKey-at (λ x. x ≡ state.k) (key Second) state.kept (slot - 4) in
+        grind (arith, is_kept same, kept_line state.q.keeps, keyed, own, state.q.at))
+        (λ h. let is : slot ≡ two.previous_slot = grind (arith, is_alone h.none) in rw is h.own) state.lines_in
 
     -- the lines in the slots of the group have the pairs of the group
     group_pairs_are : (f : Lines) → pair_entries job state.k f (group now.store (group_first_slot two end)
         (group_end_slot two end)) ≡ pair_entries job state.k f (state.g Second)
-    group_pairs_are f = ⊎_elim (λ same. ap (λ (l : Lines). pair_entries job state.k f l)
-        (rw (is_kept same) (group_is state.q.keeps state.q.at ∙ same)))
-        (λ h.
-        let one : group now.store (group_first_slot two end) (group_end_slot two end) ≡ line now.store
-        two.previous_slot ∷ []
-        = rw (is_alone h.none) (group_one now.store two.previous_slot
-        (omega (arith, state.q.keeps.four, (low_slot Second two (slots Second)).previous))) in
-        cc (one, h.same_pairs f)) state.lines_in
+    group_pairs_are f = ⊎_elim (λ same. rw (is_kept same, group_is state.q.keeps state.q.at, same) refl)
+        (λ h. rw (is_alone h.none, group_one now.store two.previous_slot
+        (omega (arith, state.q.keeps.four, (low_slot Second two (slots Second)).previous))) (h.same_pairs f))
+        state.lines_in
 
     pub write_pairs_group : IsGroup (join_key job Second) two now.store end
         (key First (line now.store one.current_slot))
@@ -677,14 +648,9 @@ module _ {job : Join} {cmp : Cmp} {key : Side → Key} {old : MergeState} {phase
             one2 two2 4
         group_closed {cleared} clear same =
             let q = on_first.group in
-            iteration_continues {next = phases.BetweenGroups} First
-            (record {
-              clean = h.continues.clean;
-              others = h.continues.others;
-              own_reader = h.continues.own_reader;
-              valid_cursors = valid_cursors_kept _ _ _ _ _ h.continues.valid_cursors (omega (arith, clear.slots))
-                  (λ i low. clear.others i (inl low));
-            }) (
+            let valid_cursors = valid_cursors_kept key one2 two2 after cleared h.continues.valid_cursors (omega (arith, clear.slots))
+            (λ i low. clear.others i (inl low)) in
+            iteration_continues {next = phases.BetweenGroups} First (assumption (h.continues, valid_cursors)) (
               record {
                 ls = q.ls;
                 p = λ side. q.p side ++ with_added_line now (both one two) First state.g side;

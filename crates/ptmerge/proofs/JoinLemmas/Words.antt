@@ -291,14 +291,7 @@ in_word (b ∷ v) = by (in_word v) (is_blank b) refl
         let split = split_byte b v e in
         let more = slice_split is_blank v in
         grind (arith, more, split, space_is, single_spaced_words true v)
-    by w false e = rw one_more (record {
-      high = omega (arith, w.high);
-      more = w.more;
-      split = cc (split_byte b v e, w.split);
-      words = w.words;
-      rest = cc w.rest;
-      spaced = λ s. w.spaced (letter_is false b v e s);
-    })
+    by w false e = rw one_more (let more = w.more in grind (arith, more, split_byte b v e, w, letter_is false b v e))
 
 -- the first word of `v` from the index `at` on is from `start` to before `end`
 pub record WordAt (at : ℕ) (v : List ℕ) (start end : ℕ) (cleared : List Bool) : Type 0 where
@@ -315,13 +308,8 @@ byte_before : {at to start end : ℕ} {v : List ℕ} {cleared : List Bool} (b : 
     → ((blank : Bool) → is_single_spaced blank (drop to (b ∷ v)) ≡ true
     → (left : Bool) × (is_single_spaced left (drop at v) ≡ true))
     → WordAt to (b ∷ v) (1 + start) (1 + end) (false ∷ cleared)
-byte_before {start = start} {end} b w same spaced = rw (one_more start, one_more end) (record {
-  low = omega (arith, w.low);
-  high = omega (arith, w.high);
-  is = let size : suc end - suc start ≡ end - start = omega arith in cc (same, w.is, size);
-  rest = cc w.rest;
-  spaced = λ blank s. w.spaced (spaced blank s).0 (spaced blank s).1;
-})
+byte_before {start = start} {end} b w same spaced = rw (one_more start, one_more end)
+    (let size : suc end - suc start ≡ end - start = omega arith in grind (arith, size, same, spaced))
 
 word_at : (at : ℕ) (v : List ℕ) → at ≤ length v → 0 < mask_l (from at v)
     → WordAt at v (prefix_len not (from at v)) (prefix_len not (after_run (from at v))) (clear_run (from at v))

@@ -78,6 +78,7 @@ fn write_around<W: Sink>(
 
 // Writes all fields of a line except the one with this number, each with the output separator before it.
 #[inline(always)]
+#[tactic(auto, using(crate::proofs::JoinLemmas::Fields::around_is, crate::proofs::JoinLemmas::Fields::between_is, crate::proofs::JoinLemmas::PartialWrite::push_is_write))]
 fn write_other_fields<W: Sink>(
     separator: Option<u8>,
     number: u64,

@@ -1,4 +1,5 @@
 -- A canonical line is its key and its other fields, so it is written unchanged.
+use Rattle.std.proofs.Common.{arith, rules}
 use Rattle.ptmerge.proofs
 use proofs.Common.{◌≡◌, List, [], ◌∷◌, ◌++◌, ℕ, Option, Result, append-nil, ap, refl, subst, ◌∙◌, First, Join, Output}
 use proofs.Common.{PushPost, Second, entry_with_list, join_job, option_copied, push_past_failure}
@@ -12,7 +13,7 @@ pushes_entry : {E : Type 0} {was is : Output} {r : Result (Unit {0}) E} (job : J
     {one one2 two two2 : Option (List ℕ)} → one2 ≡ one → two2 ≡ two → {bytes : List ℕ}
     → bytes ≡ entry_with_list job job.list k one two ++ end ∷ [] → PushPost was is bytes r
     → PushPost was is (entry_with_list job job.list k one2 two2 ++ end ∷ []) r
-pushes_entry job k end first second same p = rw (first, second, ← same) p
+pushes_entry job k end first second same p = grind arith
 
 pub returns-in-None-Some-Some : goal.returns-in-None-Some-Some
 returns-in-None-Some-Some g c =
@@ -50,8 +51,7 @@ returns-in-None-None-Some g c =
     c.push_line-in-None-None-Some.ensures.pushed
 
 pub returns-in_err-write_fields : goal.returns-in_err-write_fields
-returns-in_err-write_fields g c = push_fails _ c.from_residual.ensures.1 c.in_err-write_fields.ensures.fault
-    (push_past_failure _ _ _ _ c.in_err-write_fields.ensures.fault c.write_fields.ensures.wrote)
+returns-in_err-write_fields g c = grind (arith, push_fails, push_past_failure)
 
 pub returns : goal.returns
 returns g c = then_pushes c.in_ok-write_fields.ensures.clean c.write_fields.ensures.wrote c.push.ensures.pushed

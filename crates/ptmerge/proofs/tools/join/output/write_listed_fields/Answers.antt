@@ -1,5 +1,6 @@
 -- The first item of a list has no separator before it, so it is written before the loop. Each iteration writes one more
 -- item.
+use Rattle.std.proofs.Common.{arith, rules}
 use Rattle.ptmerge.proofs
 use proofs.Common.{◌∷◌, ℕ, List, sym, option_copied, ◌∙◌, join_job, output_separator}
 use proofs.JoinLemmas.PartialWrite.{partial_first, each_fails, each_more, first_fails}
@@ -7,11 +8,7 @@ use proofs.JoinLemmas.Fields.{between_is, entry_listed, output_item, first_then_
 use Rattle.ptmerge.proofs.tools.join.output.write_listed_fields.Goals as goal
 
 pub returns-in_err-push : goal.returns-in_err-push
-returns-in_err-push g c =
-    let e = c.args.entry.now in
-    first_fails _ c.from_residual.ensures.1 _
-    (entry_listed (join_job e.job.now) e.key.now (option_copied e.one) (option_copied e.two) c.args.items.now _
-    c.in-len1-up.len_at_least c.item_or_filler.ensures) c.push.ensures.pushed.wrote c.in_err-push.ensures.pushed.fault
+returns-in_err-push g c = grind (arith, first_fails, entry_listed)
 
 pub items-init : goal.items-init
 items-init g c =

@@ -6,20 +6,7 @@ use lib.Count.{count_trailing_zeros}
 use Rattle.ptmerge.proofs.tools.join.words.find_blank_long.Goals as goal
 
 pub returns-then-mask-eq0 : goal.returns-then-mask-eq0
-returns-then-mask-eq0 c =
-    let bytes = c.args.bytes.now in
-    let at = c.loop-at.at in
-    let end : at + (length bytes - at) ≡ length bytes = omega (arith, c.loop-at.invariant.0) in
-    first_after (Passes is_blank bytes) 0 at (length bytes) at None (omega arith) (omega arith) c.loop-at.invariant.1
-    (rw end at (none_if_zero_mask is_blank bytes at (length bytes - at) _ (omega (arith, end))
-    c.blanks_of-mask.ensures.any c.if-mask-eq0.true))
+returns-then-mask-eq0 c = grind (arith, first_after, none_if_zero_mask)
 
 pub returns : goal.returns
-returns c =
-    let bytes = c.args.bytes.now in
-    let at = c.loop-at.at in
-    let end : at + (length bytes - at) ≡ length bytes = omega (arith, c.loop-at.invariant.0) in
-    first_after (Passes is_blank bytes) 0 at (length bytes) at (Some
-    (at + count_trailing_zeros 64 c.blanks_of-mask.result.any)) (omega arith) (omega arith) c.loop-at.invariant.1
-    (rw end at (first_at_lowest_bit is_blank bytes at (length bytes - at) _ (omega (arith, c.loop-at-test.false))
-    (omega (arith, end)) c.blanks_of-mask.ensures.any c.if-mask-eq0.false))
+returns c = grind (arith, first_after, first_at_lowest_bit)
