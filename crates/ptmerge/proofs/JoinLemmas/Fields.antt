@@ -5,15 +5,14 @@
 use Rattle.std.proofs.lemmas.Bool.{false_from_ne_true}
 use Rattle.ptmerge.proofs
 use proofs.Common.{nil_from_length, drop_more, length-drop, length-append, ◌≡◌, ℕ, suc, ◌+◌, ◌-◌, ◌≤◌, Bool, true}
-use proofs.Common.{false, List, [], ◌∷◌, Option, None, Some, length, drop, get_or, refl, sym, ◌∙◌, ap, arith, zero}
-use proofs.Common.{◌<◌, ◌==◌, cond, ◌++◌, take, append_assoc, position, IfSome, MatchOption, filter, is_some}
-use proofs.Common.{slice_split, nat_tests, drop-drop, take-append-drop, take_all, position_or_len_is, IsFirstByte}
-use proofs.Common.{nth_field, is_nonempty, is_blank, Lines, split_around, split_whole, IsFirstPieceEnd, IsFieldIn}
-use proofs.Common.{IsPiece, is_separator, entry_with_list, remaining_fields, IsKeySpan, IsFieldFound}
-use proofs.Common.{is_evenly_separated, around, ◌||◌, map, remove, unwrap_or, onto_first, join_with_byte, eqb-true}
-use proofs.Common.{append-nil, flat_map-append, Join, output_separator, entry, join_fields, or_filler, field_named}
-use proofs.Common.{other_fields, IsCanonical, is_single_spaced, with_prefix, ◌%◌, ◌^◌, eqb, replicate, bit_or}
-use proofs.Common.{length-map, take_at}
+use proofs.Common.{false, List, [], ◌∷◌, Option, None, Some, length, drop, get_or, refl, sym, ap, arith, zero, ◌<◌}
+use proofs.Common.{◌==◌, cond, ◌++◌, take, append_assoc, position, IfSome, MatchOption, filter, is_some, slice_split}
+use proofs.Common.{nat_tests, drop-drop, take-append-drop, take_all, position_or_len_is, IsFirstByte, nth_field}
+use proofs.Common.{is_nonempty, is_blank, Lines, split_around, split_whole, IsFirstPieceEnd, IsFieldIn, IsPiece}
+use proofs.Common.{is_separator, entry_with_list, remaining_fields, IsKeySpan, IsFieldFound, is_evenly_separated}
+use proofs.Common.{around, ◌||◌, map, remove, unwrap_or, onto_first, join_with_byte, eqb-true, append-nil}
+use proofs.Common.{flat_map-append, Join, output_separator, entry, join_fields, or_filler, field_named, other_fields}
+use proofs.Common.{IsCanonical, is_single_spaced, with_prefix, ◌%◌, ◌^◌, eqb, replicate, bit_or, length-map}
 use Rattle.std.proofs.lemmas.List.{length-take-le}
 use Rattle.std.proofs.lemmas.List.Quantifiers.{position-Some}
 use Rattle.ptlangs.specs.declared.outlist.OutField.{OutField}

@@ -2,13 +2,13 @@
 -- all inputs, since lesser keys are complete and the pairs of the group are written in their final order. Once both
 -- inputs are past the key, the group is complete, and counts as processed.
 use Rattle.ptmerge.proofs
-use proofs.Common.{◌≡◌, ⊎_elim, ℕ, ◌+◌, ◌*◌, ◌≤◌, ◌<◌, ◌&&◌, Bool, true, false, List, [], ◌∷◌, ◌++◌, Some, length}
-use proofs.Common.{max, refl, sym, ◌∙◌, ap, subst, arith, append_assoc, bytes_eq, bytes_decides, is_gt, append-nil}
-use proofs.Common.{Output, PushEffect, Reader, Slots, line, total_bytes, with_line, unlines, max_length, push_trans}
-use proofs.Common.{unlines-append, Side, First, Second, Sorted, CursorStatus, Head, Ended, Disorder, is_head}
-use proofs.Common.{length-append, Lines, MergeTool, entries_by_key, entries_of_key, lines_with_key, MergeState}
-use proofs.Common.{NextOkPost, HasSlots, with_side, other, PrecedesInput, disorder, merged_entries, sorted_prefixes}
-use proofs.Common.{is_up_to, Cmp, Key, reads_nothing}
+use proofs.Common.{◌≡◌, ℕ, ◌+◌, ◌*◌, ◌≤◌, ◌<◌, ◌&&◌, Bool, true, false, List, [], ◌∷◌, ◌++◌, Some, length, max, refl}
+use proofs.Common.{sym, ◌∙◌, ap, subst, arith, append_assoc, bytes_eq, bytes_decides, append-nil, Output, PushEffect}
+use proofs.Common.{Reader, Slots, line, total_bytes, with_line, unlines, max_length, push_trans, unlines-append, Side}
+use proofs.Common.{First, Second, Sorted, CursorStatus, Head, Ended, Disorder, is_head, length-append, Lines}
+use proofs.Common.{MergeTool, entries_by_key, entries_of_key, lines_with_key, MergeState, NextOkPost, HasSlots}
+use proofs.Common.{with_side, other, PrecedesInput, disorder, merged_entries, sorted_prefixes, is_up_to, Cmp, Key}
+use proofs.Common.{reads_nothing}
 use proofs.MergeLemmas.Step.{slots_on, SidesInvariant, IsAbove, IsLineByLine, current_key_is_above, next_at}
 use proofs.MergeLemmas.Step.{own_slots, passed_at, sides_invariant_continues, slots_apart, StoreInvariant}
 use proofs.MergeLemmas.Step.{EndsIfFails, advance_fails}
@@ -217,8 +217,11 @@ pub same_cursors : (tool : MergeTool) {old now : Side → Reader} {cursor : Side
     {ls p : Side → Lines} {b : Side → Bound} → SidesInvariant tool old now cursor before ls p b
     → AllSlots cursor → ((i : ℕ) → i < 4 → line after i ≡ line before i)
     → SidesInvariant tool old now cursor after ls p b
-same_cursors tool {old} {now} {cursor} {before} {after} {ls} {p} {b} sides slots same side = grind (arith, low_slot,
-    side_invariant_kept)
+same_cursors tool {old} {now} {cursor} {before} {after} {ls} {p} {b} sides slots same side = grind (
+  arith,
+  low_slot,
+  side_invariant_kept,
+)
 
 -- ---- the output of a group
 

@@ -2,14 +2,14 @@
 -- line or copying one changes one slot, so the bytes stored are the sum of both parts. The group is a part of the lines
 -- of one key, so it is bounded by the largest group.
 use Rattle.ptmerge.proofs
-use proofs.Common.{◌≡◌, ⊎_elim, inl, inr, ℕ, ◌+◌, ◌-◌, ◌≤◌, ◌<◌, suc, true, false, length-drop, List, [], ◌∷◌, ◌++◌}
+use proofs.Common.{◌≡◌, ⊎_elim, inl, ℕ, ◌+◌, ◌-◌, ◌≤◌, ◌<◌, suc, true, false, length-drop, List, [], ◌∷◌, ◌++◌}
 use proofs.Common.{length, map, drop, get_or, set, max, refl, sym, ap, ◌∙◌, arith, ◌*◌, cond, Option, append_assoc}
-use proofs.Common.{length-append, append-nil, length-set, drop_more, get_or-drop, drop-set-add, take_more}
-use proofs.Common.{length_push, drop-set-lt, set_at, take_at, bytes_eq, sum_by_push, sum_by-append, sum_by-cons}
-use proofs.Common.{Slots, line, total_bytes, with_line, with_denied, unlines, max_length, total_bytes_set, Join}
-use proofs.Common.{ClearGroupPost, EnsureSlotPost, CopyToGroupErrPost, group, CopyToGroupPost, entry, join_fields}
-use proofs.Common.{pair_entries, max_over_keys, max_group_bytes, max_group_lines, Lines, lines_with_key, Reader, Side}
-use proofs.Common.{First, Second, Sorted, Cmp, Key, HasSlots, with_side}
+use proofs.Common.{length-append, append-nil, length-set, drop_more, drop-set-add, take_more, drop-set-lt, set_at}
+use proofs.Common.{take_at, bytes_eq, sum_by_push, sum_by-append, sum_by-cons, Slots, line, total_bytes, with_line}
+use proofs.Common.{with_denied, unlines, max_length, total_bytes_set, Join, ClearGroupPost, EnsureSlotPost}
+use proofs.Common.{CopyToGroupErrPost, group, CopyToGroupPost, entry, join_fields, pair_entries, max_over_keys}
+use proofs.Common.{max_group_bytes, max_group_lines, Lines, lines_with_key, Reader, Side, First, Second, Sorted, Cmp}
+use proofs.Common.{Key, HasSlots, with_side}
 use proofs.MergeLemmas.Slots.{line_other, HasLines, StoreOfLines, has_lines_total, set_line, put_each, put_same}
 use proofs.MergeLemmas.Orders.{EachKey, same_bytes}
 use proofs.MergeLemmas.Exits.{SideAfterNext}
@@ -211,8 +211,15 @@ group_store_line {store = store} {after} {ls} {now} {g} s cursor slots x k up fi
       split = drop-set-lt 4 store.lines cursor.previous_slot x (low_slot s cursor slots).previous ∙ k.split;
       empty = k.empty;
       lines = inside;
-      bounds = λ all more e. omega (arith, k.bounds all (continues_key.more ++ more)
-          (cc (continues_key.is, append_assoc (ls Second) continues_key.more more)), up First, up Second, sum, size);
+      bounds = λ all more e. omega (
+        arith,
+        k.bounds all (continues_key.more ++ more)
+            (cc (continues_key.is, append_assoc (ls Second) continues_key.more more)),
+        up First,
+        up Second,
+        sum,
+        size,
+      );
       least = omega (arith, k.least, size);
       four = omega (arith, k.four, size);
       denied = k.denied;

@@ -2,22 +2,22 @@
 -- merge. An iteration there writes one unpaired line, opens a group or ends the loop. The remaining work, three times
 -- the reads that are left plus the rank of the phase, decreases in each iteration.
 use Rattle.ptmerge.proofs
-use proofs.Common.{NextOkPost, ◌≡◌, ℕ, Bool, true, false, cond, List, [], ◌∷◌, ◌++◌, map, refl, ap, sym, ◌∙◌, ◌+◌, ◌*◌}
-use proofs.Common.{◌≤◌, ◌<◌, Ok, Err, length, subst, arith, append-nil, flat_map-append, Join, Side, First, Second}
-use proofs.Common.{unpaired_entries1, unpaired_entries2, unpaired_entry, entry, join_fields, join_with, join_entries}
-use proofs.Common.{join_key, pair_entries, Lines, entries_by_key, Cmp, Key, Output, PushEffect, Reader, Slots, line}
-use proofs.Common.{unlines, MergeFault, Sorted, Head, Ended, IsReadyToContinue, AdvanceOkPost, MergeState, MergePost}
-use proofs.Common.{merge_state, HasSlots, both, with_side, lines_of, Memory, HaveEqualKeys, HasOnlyLeastKey}
-use proofs.Common.{IsDisorderDecided, IsReaderOf, AreValidCursors, StartOkPost, merge_inputs, ClearFourSlotsPost, ◌⊎◌}
-use proofs.Common.{MergeRunPre, JoinStepPre, AdvancePre, push_nothing, other, if◌then◌else◌, max_group_bytes}
-use proofs.Common.{max_group_lines, inl, inr, ReadGroupLineOkPost, ReadGroupLinePost, IsGroup, ClearGroupPost}
-use proofs.Common.{group_end_slot, group_first_slot, group, JoinLinePre, ⊎_elim, ◌-◌, ◌==◌, push_trans, nat_tests}
-use proofs.Common.{length_push, unlines-append, append_assoc, merged_entries, nil_from_length, CopyToGroupPost}
+use proofs.Common.{NextOkPost, ◌≡◌, ℕ, Bool, true, false, cond, List, [], ◌∷◌, ◌++◌, map, refl, ap, sym, ◌∙◌, ◌+◌}
+use proofs.Common.{◌*◌, ◌≤◌, ◌<◌, Ok, Err, length, subst, arith, append-nil, flat_map-append, Join, Side, First}
+use proofs.Common.{Second, unpaired_entries1, unpaired_entry, join_with, join_entries, join_key, pair_entries, Lines}
+use proofs.Common.{entries_by_key, Cmp, Key, Output, PushEffect, Reader, Slots, line, unlines, MergeFault, Sorted}
+use proofs.Common.{Head, Ended, IsReadyToContinue, AdvanceOkPost, MergeState, MergePost, merge_state, HasSlots, both}
+use proofs.Common.{with_side, lines_of, Memory, HaveEqualKeys, HasOnlyLeastKey, IsDisorderDecided, IsReaderOf}
+use proofs.Common.{AreValidCursors, StartOkPost, merge_inputs, ClearFourSlotsPost, ◌⊎◌, MergeRunPre, JoinStepPre}
+use proofs.Common.{AdvancePre, push_nothing, other, if◌then◌else◌, max_group_bytes, max_group_lines, inl, inr}
+use proofs.Common.{ReadGroupLineOkPost, ReadGroupLinePost, IsGroup, ClearGroupPost, group_end_slot, group_first_slot}
+use proofs.Common.{group, JoinLinePre, ⊎_elim, ◌-◌, ◌==◌, push_trans, nat_tests, length_push, unlines-append}
+use proofs.Common.{append_assoc, merged_entries, nil_from_length, CopyToGroupPost}
 use proofs.MergeLemmas.Step.{BetweenSteps, between_next, advance_pre, reads_less, open_merge, slots_of, wrote_as}
-use proofs.MergeLemmas.Step.{IsLineByLine, alone, current_key_is_above, write_one_line, IsAbove, reads_ahead, place_is}
-use proofs.MergeLemmas.Step.{LoopInvariant, CursorsInvariant, EndsIfFails, iteration_fails, read_facts_current, runs_on}
-use proofs.MergeLemmas.Step.{n, ends_well, ends_fallen, start_ok, next_keeps_slot_count, valid_cursors_kept}
-use proofs.MergeLemmas.Step.{wrote_and_sent}
+use proofs.MergeLemmas.Step.{IsLineByLine, alone, current_key_is_above, write_one_line, IsAbove, reads_ahead}
+use proofs.MergeLemmas.Step.{place_is, LoopInvariant, CursorsInvariant, EndsIfFails, iteration_fails}
+use proofs.MergeLemmas.Step.{read_facts_current, runs_on, n, ends_well, ends_fallen, start_ok, next_keeps_slot_count}
+use proofs.MergeLemmas.Step.{valid_cursors_kept, wrote_and_sent}
 use proofs.JoinLemmas.GroupInvariant.{IsPairTool, IsAtKey, head_of, JoinCall, state_after_read, GroupState}
 use proofs.JoinLemmas.GroupInvariant.{store_between_groups, IsAtGroupLine, AdvancedGroup, closes, continues_key}
 use proofs.JoinLemmas.GroupInvariant.{leaves_key, advanced_group, group_breaks, with_added_line, is_past, next_slots}
@@ -27,8 +27,8 @@ use proofs.JoinLemmas.GroupInvariant.{last_stays, own_more, size_of, starts_none
 use proofs.JoinLemmas.GroupInvariant.{group_written, group_comes_first}
 use proofs.MergeLemmas.Invariant.{all_keys, AtLeast, AllWritten, MergeInvariant, Bound}
 use proofs.JoinLemmas.GroupSlots.{GroupBounds, end_within, pair_of, GroupStore, group_store_next, group_store_starts}
-use proofs.JoinLemmas.GroupSlots.{group_is, kept_line, group_store_cleared, low_slot, group_one, InGroup, largest_group}
-use proofs.JoinLemmas.GroupSlots.{CopiedLine, group_in, group_store_copied}
+use proofs.JoinLemmas.GroupSlots.{group_is, kept_line, group_store_cleared, low_slot, group_one, InGroup}
+use proofs.JoinLemmas.GroupSlots.{largest_group, CopiedLine, group_in, group_store_copied}
 use proofs.MergeLemmas.Orders.{IsKeyOrder, same_bytes, self_at_most, EachKey-at}
 use proofs.MergeLemmas.Slots.{put_other, put_same}
 use proofs.MergeLemmas.Exits.{at_current_line, IsOpenMerge as OpenMerge, ComeFirst, exit_is_merge_post, continues}
@@ -579,8 +579,11 @@ module _ {job : Join} {cmp : Cmp} {key : Side → Key} {old : MergeState} {phase
     group_pairs_are : (f : Lines) → pair_entries job state.k f (group now.store (group_first_slot two end)
         (group_end_slot two end)) ≡ pair_entries job state.k f (state.g Second)
     group_pairs_are f = ⊎_elim (λ same. rw (is_kept same, group_is state.q.keeps state.q.at, same) refl)
-        (λ h. rw (is_alone h.none, group_one now.store two.previous_slot
-        (omega (arith, state.q.keeps.four, (low_slot Second two (slots Second)).previous))) (h.same_pairs f))
+        (λ h. rw (
+          is_alone h.none,
+          group_one now.store two.previous_slot
+              (omega (arith, state.q.keeps.four, (low_slot Second two (slots Second)).previous)),
+        ) (h.same_pairs f))
         state.lines_in
 
     pub write_pairs_group : IsGroup (join_key job Second) two now.store end

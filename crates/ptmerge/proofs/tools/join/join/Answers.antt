@@ -1,5 +1,4 @@
 -- If the output has failed, nothing is done. Otherwise both orders have one proof, over the order that the job selects.
-use Rattle.std.proofs.Common.{rules}
 use Rattle.ptmerge.proofs
 use proofs.Common.{sym, ◌∙◌, join_job, join_tool, merge_state}
 use proofs.MergeLemmas.Step.{set_is}

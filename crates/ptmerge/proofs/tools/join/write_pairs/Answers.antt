@@ -1,6 +1,5 @@
 use Rattle.std.proofs.Common.{rules}
 use Rattle.ptmerge.proofs
-use proofs.Common.{List, ℕ, [], ◌∷◌, subst, join_job, PushEffect, unlines, group, pair_entries}
 use proofs.MergeLemmas.Step.{wrote_and_sent}
 use Rattle.ptmerge.proofs.tools.join.write_pairs.Goals as goal
 

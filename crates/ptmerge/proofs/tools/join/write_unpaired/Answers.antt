@@ -1,4 +1,3 @@
-use Rattle.std.proofs.Common.{rules}
 use Rattle.ptmerge.proofs.MergeLemmas.Step.{wrote_and_sent}
 use Rattle.ptmerge.proofs.tools.join.write_unpaired.Goals as goal
 

@@ -1,4 +1,3 @@
-use Rattle.std.proofs.Common.{rules}
 use Rattle.std.proofs.Common.{arith}
 use Rattle.ptmerge.proofs.JoinLemmas.GroupSlots.{clears_more}
 use Rattle.ptmerge.proofs.tools.join.key_group.clear_group.Goals as goal

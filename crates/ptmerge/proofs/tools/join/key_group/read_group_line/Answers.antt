@@ -1,5 +1,4 @@
 -- Copying a line changes only slots from 4 on, so the cursors stay valid.
-use Rattle.std.proofs.Common.{rules}
 use Rattle.std.proofs.Common.{arith}
 use Rattle.ptmerge.proofs.MergeLemmas.Step.{kept_line, kept_least, valid_cursors_kept}
 use Rattle.ptmerge.proofs.tools.join.key_group.read_group_line.Goals as goal

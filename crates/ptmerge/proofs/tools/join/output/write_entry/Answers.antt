@@ -1,5 +1,5 @@
 -- A canonical line is its key and its other fields, so it is written unchanged.
-use Rattle.std.proofs.Common.{arith, rules}
+use Rattle.std.proofs.Common.{arith}
 use Rattle.ptmerge.proofs
 use proofs.Common.{◌≡◌, List, [], ◌∷◌, ◌++◌, ℕ, Option, Result, append-nil, ap, refl, subst, ◌∙◌, First, Join, Output}
 use proofs.Common.{PushPost, Second, entry_with_list, join_job, option_copied, push_past_failure}

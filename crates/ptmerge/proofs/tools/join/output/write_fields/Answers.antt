@@ -1,6 +1,6 @@
 -- Without an output list the key comes first, followed by the other fields of the first line and then of the second. A
 -- write that fails leaves a prefix of these.
-use Rattle.std.proofs.Common.{arith, rules}
+use Rattle.std.proofs.Common.{arith}
 use Rattle.ptmerge.proofs
 use proofs.Common.{option_copied, refl, join_job}
 use proofs.JoinLemmas.PartialWrite.{partial_ends, partial_fails, partial_first, partial_more, first_fails}

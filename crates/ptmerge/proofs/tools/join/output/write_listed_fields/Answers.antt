@@ -1,6 +1,6 @@
 -- The first item of a list has no separator before it, so it is written before the loop. Each iteration writes one more
 -- item.
-use Rattle.std.proofs.Common.{arith, rules}
+use Rattle.std.proofs.Common.{arith}
 use Rattle.ptmerge.proofs
 use proofs.Common.{◌∷◌, ℕ, List, sym, option_copied, ◌∙◌, join_job, output_separator}
 use proofs.JoinLemmas.PartialWrite.{partial_first, each_fails, each_more, first_fails}

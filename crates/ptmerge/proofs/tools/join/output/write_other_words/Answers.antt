@@ -1,5 +1,4 @@
 -- A write that fails leaves a prefix of the words; one that succeeds takes the first of the remaining words.
-use Rattle.std.proofs.Common.{rules}
 use Rattle.ptmerge.proofs
 use proofs.Common.{◌-◌, ◌∷◌, ℕ, List, ap, arith, with_prefix}
 use proofs.JoinLemmas.PartialWrite.{partial_ends, each_fails, each_more}

@@ -1,4 +1,3 @@
-use Rattle.std.proofs.Common.{rules}
 use Rattle.std.proofs.Common.{◌∷◌, ℕ, List}
 use Rattle.ptmerge.proofs.JoinLemmas.PartialWrite.{each_fails, each_more}
 use Rattle.ptmerge.proofs.tools.join.output.write_words.Goals as goal

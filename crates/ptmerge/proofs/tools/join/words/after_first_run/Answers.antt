@@ -1,4 +1,3 @@
-use Rattle.std.proofs.Common.{rules}
 use Rattle.ptmerge.proofs.Common.{◌-◌, arith}
 use lib.Bits.{or_lt}
 use Rattle.ptmerge.proofs.tools.join.words.after_first_run.Goals as goal

@@ -1,4 +1,3 @@
-use Rattle.std.proofs.Common.{rules}
 use Rattle.std.proofs.lemmas.Simd.{bitmask_splat, length-chunk}
 use Rattle.std.specs.Simd.Lanes.{chunk}
 use Rattle.ptmerge.proofs
