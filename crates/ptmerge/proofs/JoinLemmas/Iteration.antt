@@ -250,10 +250,7 @@ module _ {job : Join} {cmp : Cmp} {key : Side → Key} {old : MergeState} {phase
     between = rw is at t.phased
 
     r : BetweenGroups call now (both one two)
-    r = let (here, _) = between in here
-
-    no_copies : end ≡ 4
-    no_copies = let (_, four) = between in four
+    r = between.0
 
     lines_before : CursorsInvariant (join_with job cmp key) old now.reader (both one two) now.store r.ls r.p r.b
     lines_before =
@@ -282,7 +279,7 @@ module _ {job : Join} {cmp : Cmp} {key : Side → Key} {old : MergeState} {phase
           group_store_next s (both one two s) (slots s) r.keeps (n t.opened.w lines_before s step.status_is h.came) in
           let (m, _) = wrote_unpaired in
           iteration_continues {next = phase} s h.continues
-          (rw is (runs_on t.opened.w lines_before s step.status_is h.came keeps m, no_copies))
+          (rw is (runs_on t.opened.w lines_before s step.status_is h.came keeps m, between.1))
 
       pub alone_fails : EndsIfFails (join_with job cmp key) old now s (both one two s) new
       alone_fails = iteration_fails t.opened.w lines_before s step.status_is wrote_unpaired (put_same s (r.ls s) r.p)
@@ -323,7 +320,7 @@ module _ {job : Join} {cmp : Cmp} {key : Side → Key} {old : MergeState} {phase
               };
               keeps = r.keeps;
               wrote = rw ((join_pairs job cmp key).none k []) (push_nothing now.out);
-              at = no_copies;
+              at = between.1;
             };
             heads = elim [
               | First ↦ record { head = step.first; is = refl }

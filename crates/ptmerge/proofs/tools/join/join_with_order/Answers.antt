@@ -31,15 +31,9 @@ pub write_unpaired-requires-clause-status_is : goal.write_unpaired-requires-clau
 write_unpaired-requires-clause-status_is g c =
     advance_pre c.steps.invariant.iteration.between sides.First c.in-First.ensures.status_is
 
-pub write_unpaired-requires-clause-joins : goal.write_unpaired-requires-clause-joins
-write_unpaired-requires-clause-joins g c = grind arith
-
 pub write_unpaired-requires-in-Second-clause-status_is : goal.write_unpaired-requires-in-Second-clause-status_is
 write_unpaired-requires-in-Second-clause-status_is g c =
     advance_pre c.steps.invariant.iteration.between sides.Second c.in-Second.ensures.status_is
-
-pub write_unpaired-requires-in-Second-clause-joins : goal.write_unpaired-requires-in-Second-clause-joins
-write_unpaired-requires-in-Second-clause-joins g c = grind arith
 
 pub steps-preserved-in-Continue-branch-2 : goal.steps-preserved-in-Continue-branch-2
 steps-preserved-in-Continue-branch-2 g c =
@@ -86,9 +80,6 @@ steps-preserved-in-Both g c = record {
   iteration = group_opens c.steps.invariant.iteration c.in-BetweenGroups.is c.in-Both.ensures;
   order = c.steps.invariant.order;
 }
-
-pub steps-smaller-in-Both : goal.steps-smaller-in-Both
-steps-smaller-in-Both g c = grind (arith, group_opens_decreases)
 
 pub returns-in-End : goal.returns-in-End
 returns-in-End g c =

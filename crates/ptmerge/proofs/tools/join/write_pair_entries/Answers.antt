@@ -6,9 +6,6 @@ use proofs.JoinLemmas.PartialWrite.{partial_starts, each_done, each_fails, each_
 use proofs.JoinLemmas.GroupSlots.{pair_of, pairs_text, group_from, group_end}
 use Rattle.ptmerge.proofs.tools.join.write_pair_entries.Goals as goal
 
-pub loop-slot-init : goal.loop-slot-init
-loop-slot-init g c = grind (arith, partial_starts, pairs_text)
-
 pub returns-in_err-write_entry : goal.returns-in_err-write_entry
 returns-in_err-write_entry g c =
     each_fails (λ (l : List ℕ). l ++ c.args.terminator ∷ [])

@@ -4,9 +4,6 @@ use proofs.Common.{◌-◌, ◌≡◌, Some, arith, option_copied, remaining_fie
 use proofs.JoinLemmas.Fields.{after_piece, drop_next, field_in, none_past, remaining_after}
 use Rattle.ptmerge.proofs.tools.join.fields.find_by_pieces.Goals as goal
 
-pub returns-in_err-remainder : goal.returns-in_err-remainder
-returns-in_err-remainder c = grind (arith, none_past)
-
 pub returns : goal.returns
 returns c =
     let span = c.span_of_field.ensures.span in
@@ -23,9 +20,6 @@ returns c =
       after = after_piece c.args.separator c.args.line.now c.in_ok-field.field.now remainder
           c.span_of_field.result.end piece c.span_of_field.ensures.end;
     }
-
-pub loop-passed-preserved : goal.loop-passed-preserved
-loop-passed-preserved c = grind (arith, drop_next, remaining_after)
 
 pub span_of_field-requires : goal.span_of_field-requires
 span_of_field-requires c =

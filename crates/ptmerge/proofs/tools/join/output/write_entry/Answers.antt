@@ -31,27 +31,22 @@ returns-in-None-Some-Some g c =
 pub returns-in-None-Some-None : goal.returns-in-None-Some-None
 returns-in-None-Some-None g c =
     let job = join_job c.args.job.now in
-    let key = c.args.key.now in
     let at = c.in-None-Some-None in
     let one = ap option_copied at.is-1 in
-    let two = ap option_copied at.is-2 in
-    pushes_entry job key c.args.terminator one two (ap (λ (l : List ℕ). l ++ c.args.terminator ∷ [])
-    (append-nil at.line.now ∙ first_is job key at.is-0 (c.if-is_canonical-3.ensures refl)
-    (subst (IsKeyOf job First key) one c.requires.one))) c.push_line-in-None-Some-None.ensures.pushed
+    let is = first_is job c.args.key.now at.is-0 (c.if-is_canonical-3.ensures refl)
+    (subst (IsKeyOf job First c.args.key.now) one c.requires.one) in
+    pushes_entry job c.args.key.now c.args.terminator one (ap option_copied at.is-2) (cc (is, append-nil at.line.now))
+    c.push_line-in-None-Some-None.ensures.pushed
 
 pub returns-in-None-None-Some : goal.returns-in-None-None-Some
 returns-in-None-None-Some g c =
     let job = join_job c.args.job.now in
-    let key = c.args.key.now in
     let at = c.in-None-None-Some in
-    let one = ap option_copied at.is-1 in
     let two = ap option_copied at.is-2 in
-    pushes_entry job key c.args.terminator one two (ap (λ (l : List ℕ). l ++ c.args.terminator ∷ [])
-    (second_is job key at.is-0 (c.if-is_canonical-4.ensures refl) (subst (IsKeyOf job Second key) two c.requires.two)))
+    let is = second_is job c.args.key.now at.is-0 (c.if-is_canonical-4.ensures refl)
+    (subst (IsKeyOf job Second c.args.key.now) two c.requires.two) in
+    pushes_entry job c.args.key.now c.args.terminator (ap option_copied at.is-1) two (cc is)
     c.push_line-in-None-None-Some.ensures.pushed
-
-pub returns-in_err-write_fields : goal.returns-in_err-write_fields
-returns-in_err-write_fields g c = grind (arith, push_fails, push_past_failure)
 
 pub returns : goal.returns
 returns g c = then_pushes c.in_ok-write_fields.ensures.clean c.write_fields.ensures.wrote c.push.ensures.pushed

@@ -7,9 +7,6 @@ use proofs.JoinLemmas.PartialWrite.{partial_ends, partial_fails, partial_first, 
 use proofs.JoinLemmas.Fields.{entry_plain}
 use Rattle.ptmerge.proofs.tools.join.output.write_fields.Goals as goal
 
-pub returns-in_err-push-in-None : goal.returns-in_err-push-in-None
-returns-in_err-push-in-None g c = grind (arith, first_fails, entry_plain)
-
 pub returns-in_err-write_other_fields-in-None : goal.returns-in_err-write_other_fields-in-None
 returns-in_err-write_other_fields-in-None g c =
     let e = c.args.entry.now in

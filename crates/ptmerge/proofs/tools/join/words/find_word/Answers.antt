@@ -5,12 +5,6 @@ use proofs.Common.{arith}
 use proofs.JoinLemmas.Words.{any_fits, none_left, word_found, word_passed, words_small, words_start}
 use Rattle.ptmerge.proofs.tools.join.words.find_word.Goals as goal
 
-pub overflow_sub-words-2 : goal.overflow_sub-words-2
-overflow_sub-words-2 c = grind (arith, any_fits)
-
-pub loop-passed-init : goal.loop-passed-init
-loop-passed-init c = grind (arith, words_start)
-
 pub returns-then-words-eq0 : goal.returns-then-words-eq0
 returns-then-words-eq0 c = none_left c.requires.short c.loop-passed.invariant c.args.number c.if-words-eq0.true
     (omega (arith, c.loop-passed-test.true, c.saturating_sub-passed-end.ensures))
@@ -18,14 +12,5 @@ returns-then-words-eq0 c = none_left c.requires.short c.loop-passed.invariant c.
 pub after_first_run-words-requires : goal.after_first_run-words-requires
 after_first_run-words-requires c = search (rules, words_small)
 
-pub loop-passed-preserved : goal.loop-passed-preserved
-loop-passed-preserved c = grind (arith, word_passed)
-
-pub returns-then-words-eq0-2 : goal.returns-then-words-eq0-2
-returns-then-words-eq0-2 c = grind (arith, none_left)
-
 pub after_first_run-requires : goal.after_first_run-requires
 after_first_run-requires c = search (rules, words_small)
-
-pub returns : goal.returns
-returns c = grind (arith, word_found)
