@@ -330,11 +330,6 @@ module _ {job : Join} {cmp : Cmp} {key : Side → Key} {old : MergeState} {phase
           between = t.between;
         }
 
-    -- the phase in which the group is read is next
-    pub group_opens_decreases : 3 * reads_ahead now.reader one two + rank phases.ReadGroup
-        < 3 * reads_ahead now.reader one two + rank phase
-    group_opens_decreases = omega (arith, ap rank is)
-
     -- the end of the loop
     module _ {after : Slots} (clear : ClearFourSlotsPost now.store after) where
       pub eof : ((side : Side) → (both one two side).status ≡ Ended)

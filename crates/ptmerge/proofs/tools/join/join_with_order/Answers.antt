@@ -1,12 +1,12 @@
 -- Each iteration preserves the invariant by one lemma of `Iteration`, and each exit has the
 -- postconditions by another.
-use Rattle.std.proofs.Common.{arith, rules}
+use Rattle.std.proofs.Common.{rules}
 use Rattle.ptmerge.proofs
 use proofs.Common.{refl, sym, ◌∙◌, join_job}
 use proofs.JoinLemmas.Iteration.{read_group_pre, read_group_fails, read_group_continues, group_closed, group_there}
 use proofs.JoinLemmas.Iteration.{write_pairs_group, write_pairs_pre, pair_fails, write_pairs_next}
 use proofs.JoinLemmas.Iteration.{write_pairs_continues, alone_continues, alone_fails, begins, end_in, eof, disordered}
-use proofs.JoinLemmas.Iteration.{measure_decreases, opened, group_opens, group_opens_decreases}
+use proofs.JoinLemmas.Iteration.{measure_decreases, opened, group_opens}
 use proofs.MergeLemmas.Step.{advance_pre, err_is, start_fault}
 use Rattle.ptmerge.specs.declared.key_order.Side.TheVariants as sides
 use Rattle.ptmerge.specs.declared.tools.join.JoinPhase.TheVariants as phases

@@ -1,7 +1,7 @@
 -- The span is that of the next field in the rest of the line, which is a field of the line too.
 use Rattle.ptmerge.proofs
 use proofs.Common.{◌-◌, ◌≡◌, Some, arith, option_copied, remaining_fields}
-use proofs.JoinLemmas.Fields.{after_piece, drop_next, field_in, none_past, remaining_after}
+use proofs.JoinLemmas.Fields.{after_piece, field_in}
 use Rattle.ptmerge.proofs.tools.join.fields.find_by_pieces.Goals as goal
 
 pub returns : goal.returns

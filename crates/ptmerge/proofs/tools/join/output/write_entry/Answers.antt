@@ -1,9 +1,9 @@
 -- A canonical line is its key and its other fields, so it is written unchanged.
 use Rattle.std.proofs.Common.{arith}
 use Rattle.ptmerge.proofs
-use proofs.Common.{◌≡◌, List, [], ◌∷◌, ◌++◌, ℕ, Option, Result, append-nil, ap, refl, subst, ◌∙◌, First, Join, Output}
-use proofs.Common.{PushPost, Second, entry_with_list, join_job, option_copied, push_past_failure}
-use proofs.JoinLemmas.PartialWrite.{push_fails, then_pushes}
+use proofs.Common.{◌≡◌, List, [], ◌∷◌, ◌++◌, ℕ, Option, Result, append-nil, ap, refl, subst, First, Join, Output}
+use proofs.Common.{PushPost, Second, entry_with_list, join_job, option_copied}
+use proofs.JoinLemmas.PartialWrite.{then_pushes}
 use proofs.JoinLemmas.Fields.{first_is, pair_is, second_is}
 use Rattle.ptmerge.specs.JoinFields.{IsKeyOf}
 use Rattle.ptmerge.proofs.tools.join.output.write_entry.Goals as goal

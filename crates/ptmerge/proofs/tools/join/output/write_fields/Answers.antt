@@ -1,9 +1,8 @@
 -- Without an output list the key comes first, followed by the other fields of the first line and then of the second. A
 -- write that fails leaves a prefix of these.
-use Rattle.std.proofs.Common.{arith}
 use Rattle.ptmerge.proofs
 use proofs.Common.{option_copied, refl, join_job}
-use proofs.JoinLemmas.PartialWrite.{partial_ends, partial_fails, partial_first, partial_more, first_fails}
+use proofs.JoinLemmas.PartialWrite.{partial_ends, partial_fails, partial_first, partial_more}
 use proofs.JoinLemmas.Fields.{entry_plain}
 use Rattle.ptmerge.proofs.tools.join.output.write_fields.Goals as goal
 

@@ -1,10 +1,9 @@
 -- The first item of a list has no separator before it, so it is written before the loop. Each iteration writes one more
 -- item.
-use Rattle.std.proofs.Common.{arith}
 use Rattle.ptmerge.proofs
 use proofs.Common.{◌∷◌, ℕ, List, sym, option_copied, ◌∙◌, join_job, output_separator}
-use proofs.JoinLemmas.PartialWrite.{partial_first, each_fails, each_more, first_fails}
-use proofs.JoinLemmas.Fields.{between_is, entry_listed, output_item, first_then_rest}
+use proofs.JoinLemmas.PartialWrite.{partial_first, each_fails, each_more}
+use proofs.JoinLemmas.Fields.{between_is, entry_listed, first_then_rest}
 use Rattle.ptmerge.proofs.tools.join.output.write_listed_fields.Goals as goal
 
 pub items-init : goal.items-init

@@ -2,7 +2,7 @@
 use Rattle.std.proofs.Common.{rules}
 use Rattle.ptmerge.proofs
 use proofs.Common.{arith}
-use proofs.JoinLemmas.Words.{any_fits, none_left, word_found, word_passed, words_small, words_start}
+use proofs.JoinLemmas.Words.{none_left, words_small}
 use Rattle.ptmerge.proofs.tools.join.words.find_word.Goals as goal
 
 pub returns-then-words-eq0 : goal.returns-then-words-eq0
