@@ -567,9 +567,11 @@ module _ {job : Join} {cmp : Cmp} {key : Side → Key} {old : MergeState} {phase
         grind (arith, is_kept same, kept_line state.q.keeps, keyed, own, state.q.at))
         (λ h. let is : slot ≡ two.previous_slot = grind (arith, is_alone h.none) in rw is h.own) state.lines_in
 
+    abbrev in_slots : Lines
+    in_slots = group now.store (group_first_slot two end) (group_end_slot two end)
+
     -- the lines in the slots of the group have the pairs of the group
-    group_pairs_are : (f : Lines) → pair_entries job state.k f (group now.store (group_first_slot two end)
-        (group_end_slot two end)) ≡ pair_entries job state.k f (state.g Second)
+    group_pairs_are : (f : Lines) → pair_entries job state.k f in_slots ≡ pair_entries job state.k f (state.g Second)
     group_pairs_are f = ⊎_elim (λ same. rw (is_kept same, group_is state.q.keeps state.q.at, same) refl)
         (λ h. rw (
           is_alone h.none,
@@ -595,7 +597,7 @@ module _ {job : Join} {cmp : Cmp} {key : Side → Key} {old : MergeState} {phase
     module _ {new : Output}
         (pushed : PushEffect now.out new (unlines (now.reader First).terminator
         (pair_entries job (key First (line now.store one.current_slot)) z
-        (group now.store (group_first_slot two end) (group_end_slot two end))))) where
+        in_slots))) where
       wrote_more : PushEffect state.q.mid new
           (unlines job.terminator (pair_entries job state.k (state.g First ++ z) (state.g Second)))
       wrote_more = rw (
@@ -605,7 +607,7 @@ module _ {job : Join} {cmp : Cmp} {key : Side → Key} {old : MergeState} {phase
       )
           (push_trans _ _ _ _ _ t.clean state.q.wrote (wrote_as (state.q.sides First).lines_read.terminator
           (sym (group_pairs_are z) ∙ (λ j. pair_entries job (sym state.head.is j) z
-          (group now.store (group_first_slot two end) (group_end_slot two end)))) pushed))
+          in_slots)) pushed))
 
       pairs_begin : OutputStartsWith (join_with job cmp key) (with_added_line now (both one two) First state.g)
           state.q.d state.k (pair_entries job state.k (state.g First ++ z) (state.g Second))
