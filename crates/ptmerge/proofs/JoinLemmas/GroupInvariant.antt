@@ -279,7 +279,8 @@ module _ (call : JoinCall) {mid : Output} {p g : Side → Lines} {d : Side → B
       → MergeInvariant tool d (λ side. p side ++ g side) call.old.out is
   closes {is} some above wrote =
       record {
-        splits = splits_step tool (λ side. AtLeast k) d p g m.merge_invariant.splits (rest_not_less call.w m) splits_off;
+        splits = splits_step tool (λ side. AtLeast k) d p g m.merge_invariant.splits
+            (rest_not_less call.w m) splits_off;
         under = passed_under call.w m;
         wrote = rw (all, unlines-append call.terminator (entries_by_key tool all_keys p) (pairs k (g First) (g Second)))
             (push_trans _ _ _ _ _ m.clean m.merge_invariant.wrote wrote);

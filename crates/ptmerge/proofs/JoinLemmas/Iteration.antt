@@ -197,7 +197,9 @@ module _ {job : Join} {cmp : Cmp} {key : Side → Key} {old : MergeState} (a : I
           },
           refl,
         );
-        between = (let own_reader : (side : Side) → IsReaderOf (both one two side) (both first second side) = elim [ First ↦ reader1 | Second ↦ reader2 ] in assumption a.w);
+        between = (let own_reader : (side : Side) → IsReaderOf (both one two side) (both first second side) =
+            elim [ First ↦ reader1 | Second ↦ reader2 ] in
+            assumption a.w);
       }
 
 module _ {job : Join} {cmp : Cmp} {key : Side → Key} {old : MergeState} {phase : JoinPhase} {now : MergeState}
@@ -596,8 +598,7 @@ module _ {job : Join} {cmp : Cmp} {key : Side → Key} {old : MergeState} {phase
 
     module _ {new : Output}
         (pushed : PushEffect now.out new (unlines (now.reader First).terminator
-        (pair_entries job (key First (line now.store one.current_slot)) z
-        in_slots))) where
+        (pair_entries job (key First (line now.store one.current_slot)) z in_slots))) where
       wrote_more : PushEffect state.q.mid new
           (unlines job.terminator (pair_entries job state.k (state.g First ++ z) (state.g Second)))
       wrote_more = rw (
@@ -606,8 +607,7 @@ module _ {job : Join} {cmp : Cmp} {key : Side → Key} {old : MergeState} {phase
             (pair_entries job state.k (state.g First) (state.g Second)) (pair_entries job state.k z (state.g Second)),
       )
           (push_trans _ _ _ _ _ t.clean state.q.wrote (wrote_as (state.q.sides First).lines_read.terminator
-          (sym (group_pairs_are z) ∙ (λ j. pair_entries job (sym state.head.is j) z
-          in_slots)) pushed))
+          (sym (group_pairs_are z) ∙ (λ j. pair_entries job (sym state.head.is j) z in_slots)) pushed))
 
       pairs_begin : OutputStartsWith (join_with job cmp key) (with_added_line now (both one two) First state.g)
           state.q.d state.k (pair_entries job state.k (state.g First ++ z) (state.g Second))
@@ -645,7 +645,8 @@ module _ {job : Join} {cmp : Cmp} {key : Side → Key} {old : MergeState} {phase
             one2 two2 4
         group_closed {cleared} clear same =
             let q = on_first.group in
-            let valid_cursors = valid_cursors_kept key one2 two2 after cleared h.continues.valid_cursors (omega (arith, clear.slots))
+            let valid_cursors = valid_cursors_kept key one2 two2 after cleared h.continues.valid_cursors
+            (omega (arith, clear.slots))
             (λ i low. clear.others i (inl low)) in
             iteration_continues {next = phases.BetweenGroups} First (assumption (h.continues, valid_cursors)) (
               record {

@@ -99,7 +99,8 @@ pub single_spaces_is : (any before : ℕ) (bytes : List ℕ) → before ≤ 1 �
     → eqb (bit_or (mask_l (map (is_byte 9) bytes)) (bit_and any (bit_or (any * 2 % 2 ^ 64) before))) 0
     ≡ has_single_spaces (before == 1) bytes
 single_spaces_is any before bytes low few is =
-    let wide : 2 ^ length (map is_blank bytes) ≤ 2 ^ 64 = pow_mono {j = 64} (omega (arith, length-map bytes is_blank)) in
+    let wide : 2 ^ length (map is_blank bytes) ≤ 2 ^ 64 =
+    pow_mono {j = 64} (omega (arith, length-map bytes is_blank)) in
     let small : any < 2 ^ 64 = omega (arith, mask_l-lt (map is_blank bytes), wide) in
     let sum : any * 2 + before ≡ bit (before == 1) + 2 * any = omega (arith, of_bit before low) in
     rw (or_even any before low, and_low any (any * 2 + before) small, sum, is) (no_misplaced (before == 1) bytes)
