@@ -99,10 +99,10 @@ module _ (p : List ℕ → Bool) where
 -- ---- keys below others
 
 -- a property of the keys of two lists holds for each list
-key_split : (tool : MergeTool) (side : Side) (P : List ℕ → Type 0) (ls : Side → Lines) → Each P (keys tool ls)
+key_split : (tool : MergeTool) (P : List ℕ → Type 0) (ls : Side → Lines) → Each P (keys tool ls) → (side : Side)
     → EachKey P (tool.key side) (ls side)
-key_split tool First P ls e = (Each-parts P (map (tool.key First) (ls First)) (map (tool.key Second) (ls Second)) e).0
-key_split tool Second P ls e = (Each-parts P (map (tool.key First) (ls First)) (map (tool.key Second) (ls Second)) e).1
+key_split tool P ls e = let (first, second) = Each-parts P (map (tool.key First) (ls First)) _ e in
+    elim [ First ↦ first | Second ↦ second ]
 
 -- the key is below all of these
 abbrev is_under : Cmp → Lines → List ℕ → Bool
@@ -158,7 +158,7 @@ module _ (cmp : Cmp) (o : IsKeyOrder cmp) (key : Key) where
       → (sorted_after cmp key last (xs ++ ys) ≡ xs ++ sorted_after cmp key None ys)
       × (without_line_number (disorder_after cmp key last n (xs ++ ys))
       ≡ without_line_number (disorder_after cmp key None 0 ys))
-  appended last n [] [] e h b = (refl, refl)
+  appended last n [] [] e h b = grind arith
   appended last n [] (y ∷ ys) e (here, _) b = rw here (refl, uncounted (Some (key y)) (n + 1) 1 ys)
   appended last n (x ∷ xs) ys e h (below, below_all) =
       let (calm, later) = no_disorder (is_disordered cmp last (key x)) (disorder_at last n)
@@ -171,12 +171,7 @@ module _ (cmp : Cmp) (o : IsKeyOrder cmp) (key : Key) where
   together xs ys e b =
       let all = appended None 0 xs ys (sym (first_disorder_is cmp key xs) ∙ e)
       (Each-all _ (λ k. refl) (map key ys)) b in
-      rw (
-        first_disorder_is cmp key (xs ++ ys),
-        first_disorder_is cmp key ys,
-        sorted_prefix_is cmp key (xs ++ ys),
-        sorted_prefix_is cmp key ys,
-      ) all
+      grind (arith, all, first_disorder_is, sorted_prefix_is)
 
   -- a list without a disorder is its own sorted prefix
   ordered_whole : (xs : Lines) → first_disorder cmp key xs ≡ None → sorted_prefix cmp key xs ≡ xs
@@ -277,9 +272,8 @@ of_parts tool o first second cut =
     let a : Side → Lines = lines_of tool first in
     let b : Side → Lines = lines_of tool second in
     let p : List ℕ → Bool = is_under tool.cmp (keys tool b) in
-    let low = λ (side : Side). key_split tool side (λ k. p k ≡ true) a
-    (Each-weaker _ _ (below_under tool.cmp o (keys tool b)) _ cut.below) in
-    let high = λ (side : Side). key_split tool side (λ k. p k ≡ false) b (none_under tool.cmp o (keys tool b)) in
+    let low = key_split tool (λ k. p k ≡ true) a (Each-weaker _ _ (below_under tool.cmp o (keys tool b)) _ cut.below) in
+    let high = key_split tool (λ k. p k ≡ false) b (none_under tool.cmp o (keys tool b)) in
     ap (unlines tool.terminator)
     ((λ i. merged_entries tool (λ side. the_lines_of_parts tool.terminator (first side) (second side)
     (cut.whole side) i))
@@ -308,12 +302,9 @@ module _ {A : Type 0} where
   of_some f p q all (k ∷ ks) =
       let own : List A = flat_map f (filter q ks) in
       let rest : List A = flat_map f (filter (λ k. p k && not (q k)) ks) in
-      let more = IsPermutation-append_right (f k) _ _ (of_some f p q all ks) in
-      let second : IsPermutation (f k ++ flat_map f (filter p ks)) (own ++ (f k ++ rest)) =
-      IsPermutation-trans _ _ _ more (changed (f k) own rest) in
-      let first : IsPermutation (f k ++ flat_map f (filter p ks)) ((f k ++ own) ++ rest) =
-      rw (append_assoc (f k) own rest) more in
-      grind (arith, all k, of_some f p q all ks, first, second)
+      let first = IsPermutation-append_right (f k) _ _ (of_some f p q all ks) in
+      let second = IsPermutation-trans _ _ _ first (changed (f k) own rest) in
+      grind (arith, append_assoc, all k, of_some f p q all ks, first, second)
 
   -- The keys of each part from `a` on.
   of_each : (f : List ℕ → List A) (part_of : List ℕ → ℕ) (w : List ℕ → Bool) (a n : ℕ)
@@ -362,15 +353,14 @@ split_by_key tool o inputs part_of parts in_order below = simp (whole, of_part)
     of_part : (i : ℕ)
         → output_lines tool (text_of_part tool part_of inputs i) ≡ flat_map each (filter (λ k. part_of k == i) ds)
     of_part i =
-        let advance_ok : List ℕ → Bool = λ k. part_of k == i in
-        let part : Side → Lines = λ side. filter (λ line. advance_ok (tool.key side line)) (ls side) in
-        let in_part = merged_in_order tool o part (kept_in_order tool o (λ side line. advance_ok (tool.key side line))
-        ls in_order) ∙ by_keys_kept advance_ok tool o ls all_keys in
+        let own : List ℕ → Bool = λ k. part_of k == i in
+        let in_part : Side → List ℕ → Bool = λ side line. own (tool.key side line) in
+        let entries = merged_in_order tool o (λ side. filter (in_part side) (ls side))
+        (kept_in_order tool o in_part ls in_order) ∙ by_keys_kept own tool o ls all_keys in
         (λ t. lines tool.terminator (unlines tool.terminator
-        (merged_entries tool (λ side. lines_dealt tool.terminator (λ line. advance_ok (tool.key side line))
-        (inputs side) t))))
-        ∙ ap (λ es. lines tool.terminator (unlines tool.terminator es)) in_part
-        ∙ lines_of_each tool.terminator (entries_of_key tool ls) (filter advance_ok ds) []
+        (merged_entries tool (λ side. lines_dealt tool.terminator (in_part side) (inputs side) t))))
+        ∙ ap (λ es. lines tool.terminator (unlines tool.terminator es)) entries
+        ∙ lines_of_each tool.terminator (entries_of_key tool ls) (filter own ds) []
 
     whole : output_lines tool inputs ≡ flat_map each (filter all_keys ds)
     whole = ap (λ es. lines tool.terminator (unlines tool.terminator es)) (merged_in_order tool o ls in_order)

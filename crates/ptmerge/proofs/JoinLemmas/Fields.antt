@@ -5,15 +5,14 @@
 use Rattle.std.proofs.lemmas.Bool.{false_from_ne_true}
 use Rattle.ptmerge.proofs
 use proofs.Common.{nil_from_length, drop_more, length-drop, length-append, ◌≡◌, ℕ, suc, ◌+◌, ◌-◌, ◌≤◌, Bool, true}
-use proofs.Common.{false, List, [], ◌∷◌, Option, None, Some, length, drop, get_or, refl, sym, ◌∙◌, ap, arith, zero, ◌<◌}
-use proofs.Common.{◌==◌, cond, ◌++◌, take, append_assoc, position, IfSome, MatchOption, filter, is_some}
-use proofs.Common.{position_or_len, slice_split, nat_tests, drop-drop, take-append-drop, take_all, position_or_len_is}
-use proofs.Common.{IsFirstByte, nth_field, is_nonempty, is_blank, Lines, split_around, split_whole, IsFirstPieceEnd}
-use proofs.Common.{IsFieldIn, IsPiece, is_separator, entry_with_list, remaining_fields, IsKeySpan, IsFieldFound}
-use proofs.Common.{is_evenly_separated, around, ◌||◌, map, remove, unwrap_or, onto_first, join_with_byte, eqb-true}
-use proofs.Common.{append-nil, flat_map-append, Join, output_separator, entry, join_fields, or_filler, field_named}
-use proofs.Common.{other_fields, IsCanonical, is_single_spaced, with_prefix, ◌%◌, ◌^◌, eqb, replicate, bit_or}
-use proofs.Common.{length-map, drop-append_seam, take_at}
+use proofs.Common.{false, List, [], ◌∷◌, Option, None, Some, length, drop, get_or, refl, sym, ap, arith, zero, ◌<◌}
+use proofs.Common.{◌==◌, cond, ◌++◌, take, append_assoc, position, IfSome, MatchOption, filter, is_some, slice_split}
+use proofs.Common.{nat_tests, drop-drop, take-append-drop, take_all, position_or_len_is, IsFirstByte, nth_field}
+use proofs.Common.{is_nonempty, is_blank, Lines, split_around, split_whole, IsFirstPieceEnd, IsFieldIn, IsPiece}
+use proofs.Common.{is_separator, entry_with_list, remaining_fields, IsKeySpan, IsFieldFound, is_evenly_separated}
+use proofs.Common.{around, ◌||◌, map, remove, unwrap_or, onto_first, join_with_byte, eqb-true, append-nil}
+use proofs.Common.{flat_map-append, Join, output_separator, entry, join_fields, or_filler, field_named, other_fields}
+use proofs.Common.{IsCanonical, is_single_spaced, with_prefix, ◌%◌, ◌^◌, eqb, replicate, bit_or, length-map}
 use Rattle.std.proofs.lemmas.List.{length-take-le}
 use Rattle.std.proofs.lemmas.List.Quantifiers.{position-Some}
 use Rattle.ptlangs.specs.declared.outlist.OutField.{OutField}
@@ -28,10 +27,7 @@ use Rattle.std.proofs.lemmas.Grind.{common_steps}
 pub first_is_position : (test : ℕ → Bool) (bytes : List ℕ) (r : Option ℕ) → IsFirstByte test bytes r
     → r ≡ position test bytes
 first_is_position test bytes None none =
-    let is : position_or_len test bytes ≡ length bytes = position_or_len_is test bytes (length bytes) 0 (omega arith)
-    (λ k lt. false_from_ne_true _ (none k (omega arith) lt))
-    (λ bad. absurd (omega (arith, bad))) in
-    rw is (grind (arith, nat_tests))
+    let is = position_or_len_is test bytes (length bytes) 0 in grind (arith, is, none, false_from_ne_true, nat_tests)
 first_is_position test bytes (Some at) (range, found) = grind (arith, position_or_len_is, false_from_ne_true)
 
 -- ---- the field with a number
@@ -39,8 +35,7 @@ first_is_position test bytes (Some at) (range, found) = grind (arith, position_o
 -- no fields are left after more fields than there are
 pub none_past : (fs : Lines) (i n : ℕ) → drop i fs ≡ [] → i ≤ n → drop n fs ≡ []
 none_past fs i n none le =
-    let more : n ≡ i + (n - i) = omega (arith, le) in
-    rw (more, ← drop-drop (n - i) i fs, none) (grind arith)
+    grind (arith, drop-drop (n - i) i fs)
 
 pub drop_next : (fs more : Lines) (f : List ℕ) (i : ℕ) → drop i fs ≡ f ∷ more → drop (i + 1) fs ≡ more
 drop_next fs more f i some = rw (← drop-drop 1 i fs, some) refl
@@ -86,24 +81,16 @@ piece_at separator bytes at is = let (within, found, _) = position-Some _ bytes 
       front = [];
       tail = drop at bytes;
       is = sym (take-append-drop at bytes);
-      ends = (
-        get_or bytes at 0,
-        cc (
-          drop_more bytes at 0 within,
-          take_all (length bytes - (at + 1)) (drop (at + 1) bytes) (omega (arith, length-drop (at + 1) bytes)),
-        ),
-        found,
-      );
+      ends = (get_or bytes at 0, grind (arith, common_steps, drop_more bytes at 0 within), found);
     }
 
 -- the index of the first separator is the end of the first field
 pub ends_at : (separator : Option ℕ) (bytes : List ℕ) (at : ℕ) (end : Option ℕ)
     → end ≡ position (is_separator separator) bytes → end ≡ Some at → IsFirstPieceEnd separator bytes at
-ends_at separator bytes at end first some = let is = sym first ∙ some in record {
-  remainder = slice_split (is_separator separator) (take _ _);
-  is = split_around (is_separator separator) bytes at is;
-  within = omega (arith, (position-Some (is_separator separator) bytes at 0 is).0);
-}
+ends_at separator bytes at end first some =
+    let is : position (is_separator separator) bytes ≡ Some at = cc in
+    let split = split_around (is_separator separator) bytes at is in
+    grind (arith, split, position-Some (is_separator separator) bytes at 0 is)
 
 pub ends_whole : (separator : Option ℕ) (bytes : List ℕ) (end : Option ℕ)
     → end ≡ position (is_separator separator) bytes → end ≡ None → IsFirstPieceEnd separator bytes (length bytes)
@@ -129,10 +116,8 @@ pub skip_empty_word : (separator : Option ℕ) (bytes field : List ℕ) (remaind
     (λ left. slice_split (is_separator separator) bytes ≡ field ∷ slice_split (is_separator separator) left)
     → remaining_fields separator remainder ≡ remaining_fields separator (Some bytes)
 skip_empty_word (Some c) bytes field remainder none empty first = cc
-skip_empty_word None bytes field None none empty first =
-    rw (first, empty_word field empty)
-skip_empty_word None bytes field (Some left) none empty first =
-    rw (first, empty_word field empty)
+skip_empty_word None bytes field None none empty first = grind (arith, empty_word)
+skip_empty_word None bytes field (Some left) none empty first = grind (arith, empty_word)
 
 -- ---- writing lines field by field
 
@@ -243,27 +228,16 @@ module _ (job : Join) (key : List ℕ) (none : job.list ≡ None) where
       → nth_field job.field2 (of two) ≡ key → one ++ take (length two - length key)
       (drop (length key) two) ++ end ∷ [] ≡ entry job key (of one) (of two) ++ end ∷ []
   pair_is {one} {two} end w1 w2 keyed1 keyed2 =
-      let ys = with_prefix prefix (other_fields job.field2 (of two)) in
-      cc (
-        after_key key ys two (canonical_is w2 keyed2),
-        canonical_is w1 keyed1,
-        append_assoc key (with_prefix prefix (other_fields job.field1 (of one))) ys,
-        entry_plain job key (Some one) (Some two) none,
-      )
+      grind (arith, after_key, canonical_is, append_assoc, entry_plain job key (Some one) (Some two))
 
   -- the output line for one canonical line
   pub first_is : {line : List ℕ} → IsCanonical job.separator job.field1 line → nth_field job.field1 (of line) ≡ key
       → line ≡ entry job key (of line) []
-  first_is {line} w keyed = rw (
-    entry_plain job key (Some line) None none,
-    others_none prefix _,
-    append-nil _,
-  ) (canonical_is w keyed)
+  first_is {line} w keyed = grind (arith, entry_plain job key (Some line) None, others_none, append-nil, canonical_is)
 
   pub second_is : {line : List ℕ} → IsCanonical job.separator job.field2 line → nth_field job.field2 (of line) ≡ key
       → line ≡ entry job key [] (of line)
-  second_is {line} w keyed = rw (entry_plain job key None (Some line) none, others_none prefix (job.field1 - 1))
-      (canonical_is w keyed)
+  second_is {line} w keyed = grind (arith, entry_plain job key None (Some line), others_none, canonical_is)
 
 -- ---- blanks
 
@@ -317,8 +291,7 @@ after_piece separator line field (Some bytes) end p e even =
     let (byte, ends, test) = p.ends in
     let front = p.front ++ field in
     let split : line ≡ front ++ byte ∷ bytes = rw (p.is, ends) (simp append_assoc) in
-    let at_end : end ≡ length front = omega (arith, e, ap length split, length-append front (byte ∷ bytes)) in
-    rw (at_end, split, drop-append_seam front (byte ∷ bytes)) (by separator byte test (rw split at even))
+    grind (arith, common_steps, split, by separator byte test)
   where
     by : (separator : Option ℕ) (byte : ℕ) → is_separator separator byte ≡ true
         → is_evenly_separated separator ((p.front ++ field) ++ byte ∷ bytes) ≡ true
@@ -340,43 +313,28 @@ remove_at [] (suc i) f more is = cc
 remove_at (g ∷ fs) zero f more is = cc
 remove_at (g ∷ fs) (suc i) f more is = cc (remove_at fs i f more is)
 
+-- the bytes before a separator
+cut_before : (c : ℕ) (before more line : List ℕ) → before ++ (c ∷ more) ≡ c ∷ line → (rest : List ℕ)
+    → before ++ rest ≡ cond (length before == 0) rest (c ∷ take (length before - 1) line ++ rest)
+cut_before c [] more line is rest = refl
+cut_before c (x ∷ before) more line is rest = grind (arith, common_steps, is)
+
 -- without a field: the bytes before it, except the separator, and those after it
 pub around_is : (separator : Option ℕ) (number : ℕ) (line : List ℕ) (found : Option Span)
     → IsFieldFound separator number line found → is_evenly_separated separator line ≡ true
     → with_prefix (output_separator separator) (other_fields number (join_fields separator line))
     ≡ around (output_separator separator) line found
 around_is separator number line None none even = grind (arith, remove_past, even_prefixed)
-around_is separator number line (Some span) f even = whole ∙ by span.start long
-  where
-    c : ℕ
-    c = output_separator separator
-
-    fs : Lines
-    fs = join_fields separator line
-
-    word : List ℕ
-    word = slice_range line span.start span.end
-
-    rest : List ℕ
-    rest = drop span.end line
-
-    before : List ℕ
-    before = with_prefix c (take (number - 1) fs)
-
-    whole : with_prefix c (remove fs (number - 1)) ≡ before ++ rest
-    whole = rw (remove_at fs (number - 1) word f.more f.is, flat_map-append, f.after even) refl
-
-    with_word : with_prefix c (word ∷ f.more) ≡ c ∷ (word ++ rest)
-    with_word = cc (f.after even)
-
-    line_is : before ++ (c ∷ (word ++ rest)) ≡ c ∷ line
-    line_is =
-        let all = rw (← take-append-drop (number - 1) fs, f.is, flat_map-append) at
-        (even_prefixed separator line even) in
-        cc (with_word, all)
-
-    long : length before ≡ span.start
-    long = omega (
+around_is separator number line (Some span) f even =
+    let c = output_separator separator in
+    let fs = join_fields separator line in
+    let word = slice_range line span.start span.end in
+    let rest = drop span.end line in
+    let before = with_prefix c (take (number - 1) fs) in
+    let line_is : before ++ (c ∷ (word ++ rest)) ≡ c ∷ line =
+    let all = rw (← take-append-drop (number - 1) fs, f.is, flat_map-append) at (even_prefixed separator line even) in
+    cc (f.after even, all) in
+    let long : length before ≡ span.start = omega (
       arith,
       ap length line_is,
       length-append before (c ∷ (word ++ rest)),
@@ -386,12 +344,6 @@ around_is separator number line (Some span) f even = whole ∙ by span.start lon
           (omega (arith, length-drop span.start line, f.within)),
       f.ordered,
       f.within,
-    )
-
-    by : (start : ℕ) → length before ≡ start
-        → before ++ rest ≡ cond (start == 0) rest (c ∷ take (start - 1) line ++ rest)
-    by zero none = cc (nil_from_length before none)
-    by (suc start) size =
-        let one : suc start - 1 ≡ start = omega arith in
-        let some : (suc start == 0) ≡ false = grind (arith, nat_tests) in
-        rw (some, one) (cc (take_at before (c ∷ (word ++ rest)) (suc start) size, line_is))
+    ) in
+    let cut = rw long at (cut_before c before (word ++ rest) line line_is rest) in
+    rw (remove_at fs (number - 1) word f.more f.is, flat_map-append, f.after even) cut

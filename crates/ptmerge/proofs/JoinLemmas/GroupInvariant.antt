@@ -2,13 +2,12 @@
 -- all inputs, since lesser keys are complete and the pairs of the group are written in their final order. Once both
 -- inputs are past the key, the group is complete, and counts as processed.
 use Rattle.ptmerge.proofs
-use proofs.Common.{◌≡◌, ⊎_elim, ℕ, ◌+◌, ◌*◌, ◌≤◌, ◌<◌, ◌&&◌, Bool, true, false, List, [], ◌∷◌, ◌++◌, Some, length}
-use proofs.Common.{max, refl, sym, ◌∙◌, ap, subst, arith, append_assoc, bytes_eq, bytes_decides, is_gt, append-nil}
-use proofs.Common.{Output, PushEffect, Reader, Slots, line, total_bytes, with_line, unlines, max_length, push_trans}
-use proofs.Common.{unlines-append, Side, First, Second, Sorted, CursorStatus, Head, Ended, Disorder, is_head}
-use proofs.Common.{length-append, Lines, MergeTool, entries_by_key, entries_of_key, lines_with_key, MergeState}
-use proofs.Common.{NextOkPost, HasSlots, with_side, other, PrecedesInput, disorder, merged_entries, sorted_prefixes}
-use proofs.Common.{is_up_to, Cmp, Key}
+use proofs.Common.{◌≡◌, ℕ, ◌+◌, ◌*◌, ◌≤◌, ◌<◌, ◌&&◌, Bool, true, false, List, [], ◌∷◌, ◌++◌, Some, length, max, refl}
+use proofs.Common.{sym, ◌∙◌, ap, subst, arith, append_assoc, bytes_eq, bytes_decides, append-nil, Output, PushEffect}
+use proofs.Common.{Reader, Slots, line, total_bytes, with_line, unlines, max_length, push_trans, unlines-append, Side}
+use proofs.Common.{First, Second, Sorted, CursorStatus, Head, Ended, Disorder, is_head, length-append, Lines}
+use proofs.Common.{MergeTool, entries_by_key, entries_of_key, lines_with_key, MergeState, NextOkPost, HasSlots}
+use proofs.Common.{with_side, other, PrecedesInput, disorder, merged_entries, sorted_prefixes, is_up_to, Cmp, Key}
 use proofs.MergeLemmas.Step.{slots_on, SidesInvariant, IsAbove, IsLineByLine, current_key_is_above, next_at}
 use proofs.MergeLemmas.Step.{own_slots, passed_at, sides_invariant_continues, slots_apart, StoreInvariant}
 use proofs.MergeLemmas.Step.{EndsIfFails, advance_fails}
@@ -127,6 +126,10 @@ module _ {tool : MergeTool} {old : MergeState} (w : IsOpenMerge tool old) {mid :
       EachKey-append _ (key side) _ _ (m.merge_invariant.under of side)
       (all_own_keys (λ x. AtMost cmp x k) (key side) k (g side) (self_at_most cmp o k) (m.own side))
 
+  passed_under : (of side : Side) → EachKey (IsUnder cmp (d of)) (key side) (p side ++ g side)
+  passed_under of side =
+      EachKey-weaker _ _ (λ x h. under_lower o (d of) x k h (m.under of)) _ _ (passed_keys of side)
+
   pub group_written : {is : Output} (extra : Lines) → PushEffect mid is (unlines terminator extra)
       → LagInvariant tool d (λ side. p side ++ g side) old.out is (front ++ extra)
   group_written extra wrote = record {
@@ -140,8 +143,7 @@ module _ {tool : MergeTool} {old : MergeState} (w : IsOpenMerge tool old) {mid :
     more = wrote;
     all = sym (unlines-append terminator front extra);
     split = λ side. refl;
-    under = λ of side. EachKey-weaker _ _
-        (λ x h. under_lower o (d of) x k h (m.under of)) _ _ (passed_keys of side);
+    under = passed_under;
     under_bound = passed_keys;
     may_follow = rest_not_less;
   }
@@ -218,13 +220,16 @@ pub same_cursors : (tool : MergeTool) {old now : Side → Reader} {cursor : Side
     {ls p : Side → Lines} {b : Side → Bound} → SidesInvariant tool old now cursor before ls p b
     → AllSlots cursor → ((i : ℕ) → i < 4 → line after i ≡ line before i)
     → SidesInvariant tool old now cursor after ls p b
-same_cursors tool {old} {now} {cursor} {before} {after} {ls} {p} {b} sides slots same side = grind (arith, low_slot,
-    side_invariant_kept)
+same_cursors tool {old} {now} {cursor} {before} {after} {ls} {p} {b} sides slots same side = grind (
+  arith,
+  low_slot,
+  side_invariant_kept,
+)
 
 -- ---- the output of a group
 
-module _ (call : JoinCall) {was mid : Output} {p g : Side → Lines} {d : Side → Bound} {k : List ℕ}
-    (m : OutputInGroup call.tool was mid p g d k) where
+module _ (call : JoinCall) {mid : Output} {p g : Side → Lines} {d : Side → Bound} {k : List ℕ}
+    (m : OutputInGroup call.tool call.old.out mid p g d k) where
   open call use {cmp, entries, key, laws, o, pairs, tool}
 
   -- the pairs of a group come first, for all lines of its key that the first input still has
@@ -240,8 +245,7 @@ module _ (call : JoinCall) {was mid : Output} {p g : Side → Lines} {d : Side �
       → OutputStartsWith tool g d k (pairs k (g First) (g Second))
   starts some above = record {
     rest = λ w r c wanted.
-        let none : lines_with_key (key Second) (r Second) k ≡ [] =
-        lines_with_key-above tool o (key Second) k (r Second) (above (r Second) (c Second)) in
+        let none = lines_with_key-above tool o (key Second) k (r Second) (above (r Second) (c Second)) in
         let (rest, is) = starts_pairs (g First) (lines_with_key (key First) (r First) k) (g Second) some in (
           rest ++ entries_by_key tool w (others_of tool o k r),
           front_is tool o w k g r m.own (λ side. m.beyond side (r side) (c side)) (laws.alone.none k)
@@ -275,15 +279,12 @@ module _ (call : JoinCall) {was mid : Output} {p g : Side → Lines} {d : Side �
   pub closes : {is : Output} → ((side : Side) → 0 < length (g side))
       → ((side : Side) → IsAbove cmp (key side) k (d side))
       → PushEffect mid is (unlines call.terminator (pairs k (g First) (g Second)))
-      → MergeInvariant tool d (λ side. p side ++ g side) was is
+      → MergeInvariant tool d (λ side. p side ++ g side) call.old.out is
   closes {is} some above wrote =
       record {
         splits = splits_step tool (λ side. AtLeast k) d p g m.merge_invariant.splits
-            (λ side r c. at_most-same tool o (key side) k (g side) r (m.own side) (m.beyond side r c)) splits_off;
-        under = λ of side. EachKey-append _ (key side) _ _
-            (EachKey-weaker _ _ (λ x h. under_lower o (d of) x k h (m.under of))
-            _ _ (m.merge_invariant.under First side))
-            (all_own_keys (IsUnder cmp (d of)) (key side) k (g side) (m.under of) (m.own side));
+            (rest_not_less call.w m) splits_off;
+        under = passed_under call.w m;
         wrote = rw (all, unlines-append call.terminator (entries_by_key tool all_keys p) (pairs k (g First) (g Second)))
             (push_trans _ _ _ _ _ m.clean m.merge_invariant.wrote wrote);
       }
@@ -305,10 +306,9 @@ module _ (call : JoinCall) {was mid : Output} {p g : Side → Lines} {d : Side �
       all : entries_by_key tool all_keys (λ side. p side ++ g side) ≡ entries_by_key tool all_keys p
           ++ pairs k (g First) (g Second)
       all =
-          m.merge_invariant.splits.split all_keys g
-          (λ side. all_own_keys (AtMost cmp k) (key side) k (g side) (self_at_most cmp o k) (m.own side))
-          ∙ ap (λ l. entries_by_key tool all_keys p ++ l)
-          (alone_is ∙ own_entries (g First) (g Second) (some First) (some Second))
+          let split = m.merge_invariant.splits.split all_keys g
+          (λ side. all_own_keys (AtMost cmp k) (key side) k (g side) (self_at_most cmp o k) (m.own side)) in
+          cc (split, alone_is, own_entries (g First) (g Second) (some First) (some Second))
 
 -- ---- the lines of a group
 
@@ -345,17 +345,13 @@ module _ {call : JoinCall} {now : MergeState} {cursor : Side → Sorted} {end : 
   -- an input is past a key if its current line does not have it
   pub is_past : (s : Side) → ((cursor s).status ≡ Head → ¬ (key s (head_of now cursor s) ≡ k))
       → IsAbove cmp (key s) k (q.d s)
-  is_past s other =
-      let (above, _) = current_key_is_above _ o _ k _ _ _ _ _
-      _ _ (by (cursor s).status (q.sides s).status_is other) (q.sides s).status_is in
-      above
+  is_past s other = (current_key_is_above _ o _ k _ _ _ _ _
+      _ _ (by (cursor s).status (q.sides s).status_is other) (q.sides s).status_is).0
     where
       by : (t : CursorStatus) → MatchesStatus cmp (key s) t (cursor s) now.store (now.reader s) (q.ls s) (q.p s ++ g s)
           (q.d s) → (t ≡ Head → ¬ (key s (head_of now cursor s) ≡ k))
           → PrecedesInput cmp k t (key s (head_of now cursor s)) (key s (line now.store (cursor s).previous_slot))
-      by Head at_line other = ap is_gt (⊎_elim (λ (_, same). absurd (other refl same)) (λ (_, greater). greater)
-          (least_or_above cmp o k (key s (head_of now cursor s))
-          (rw at_line.bound at (q.within.under s))))
+      by Head at_line other = grind (arith, other, least_or_above, q.within.under s, at_line.bound)
       by Ended st other = tt
       by (Disorder n) st other = rw st at (q.within.under s)
 
@@ -365,8 +361,11 @@ module _ {call : JoinCall} {now : MergeState} {cursor : Side → Sorted} {end : 
   pub group_begun : (side : Side) → HasBegun (now.reader side) (q.ls side)
   group_begun side = (q.sides side).begun
 
-  pub group_read_facts : (side : Side)
-      → ReadFactsOf tool old now.reader q.ls (λ t. q.p t ++ g t) q.d side (now.reader side) []
+  -- the facts of an input, if these lines of the group are processed
+  abbrev pub FactsWith : (Side → Lines) → Side → Type 0
+  FactsWith lines side = ReadFactsOf tool old now.reader q.ls (λ t. q.p t ++ lines t) q.d side (now.reader side) []
+
+  pub group_read_facts : (side : Side) → FactsWith g side
   group_read_facts side = (q.sides side).facts
 
   -- the group after other lines were stored for it
@@ -388,6 +387,10 @@ module _ {call : JoinCall} {now : MergeState} {cursor : Side → Sorted} {end : 
   abbrev x : List ℕ
   x = head_of now cursor s
 
+  -- the group with the current line
+  abbrev added : Side → Lines
+  added = with_added_line now cursor s g
+
   at_head : IsAtCurrentLine cmp (key s) (cursor s).number x (q.ls s) (q.p s ++ g s) (q.d s)
   at_head = passed_at tool o q.sides l.slots q.keeps.four s l.head
 
@@ -395,29 +398,28 @@ module _ {call : JoinCall} {now : MergeState} {cursor : Side → Sorted} {end : 
   pub with_head : q.ls s ≡ q.p s ++ (g s ++ head_of now cursor s ∷ [])
   with_head = at_head.all ∙ append_assoc (q.p s) (g s) (x ∷ [])
 
-  pub own_more : (side : Side) → EachKey (λ z. z ≡ k) (key side) (with_added_line now cursor s g side)
+  pub own_more : (side : Side) → EachKey (λ z. z ≡ k) (key side) (added side)
   own_more = put_each (λ side (l : Lines). EachKey (λ z. z ≡ k) (key side) l) s (g s ++ x ∷ []) g
       (EachKey-append _ (key s) _ _ (q.within.own s) (l.is, tt)) q.within.own
 
-  pub within_more : OutputInGroup tool old.out q.mid q.p (with_added_line now cursor s g) q.d k
+  pub within_more : OutputInGroup tool old.out q.mid q.p added q.d k
   within_more = assumption (own_more, q.within)
 
-  pub all_processed : q.p s ++ with_added_line now cursor s g s ≡ q.ls s
+  pub all_processed : q.p s ++ added s ≡ q.ls s
   all_processed = cc (with_head, put_same s (g s ++ x ∷ []) g)
 
   -- the current line is processed
-  pub passing_now : (side : Side) → ReadFactsOf tool old now.reader q.ls
-      (λ t. q.p t ++ with_added_line now cursor s g t) q.d side (now.reader side) []
+  pub passing_now : (side : Side) → FactsWith q added side
   passing_now = side_case _ s
       (rw all_processed (read_facts_after_line (q.sides s) o l.head)) (simp put_other (group_read_facts q (other s)))
 
   -- writing failed, or reading the next line, after a prefix of the group's output was written
   pub group_breaks : {out : Output} {extra : Lines}
-      → OutputStartsWith tool (with_added_line now cursor s g) q.d k extra
+      → OutputStartsWith tool added q.d k extra
       → PushEffect q.mid out (unlines call.terminator extra)
       → EndsIfFails tool old now s (cursor s) out
   group_breaks {extra = extra} begins wrote = advance_fails w {now = now} {cursor = cursor s}
-      {p = λ t. q.p t ++ with_added_line now cursor s g t} (record {
+      {p = λ t. q.p t ++ added t} (record {
         facts = passing_now;
         all = all_processed;
         order = λ r piece free. both_begun (group_begun q);
@@ -457,12 +459,12 @@ module _ {call : JoinCall} {now : MergeState} {cursor : Side → Sorted} {end : 
     -- the previous line belongs to the group
     pub record AdvancedGroup (new : Output) : Type 0 where
       pub group : GroupState call (state_after_read now s reader new after) (with_side s next cursor) end k
-          (with_added_line now cursor s g) kept
+          added kept
       pub bound : group.d (other s) ≡ q.d (other s)
       pub more : Extends (q.ls Second) (group.ls Second)
 
     pub advanced_group : {new : Output} → PushEffect q.mid new (unlines call.terminator
-        (pairs k (with_added_line now cursor s g First) (with_added_line now cursor s g Second))) → AdvancedGroup new
+        (pairs k (added First) (added Second))) → AdvancedGroup new
     advanced_group wrote =
         let n = gone_to in
         record {

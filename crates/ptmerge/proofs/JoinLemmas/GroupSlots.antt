@@ -2,14 +2,14 @@
 -- line or copying one changes one slot, so the bytes stored are the sum of both parts. The group is a part of the lines
 -- of one key, so it is bounded by the largest group.
 use Rattle.ptmerge.proofs
-use proofs.Common.{◌≡◌, ⊎_elim, inl, inr, ℕ, ◌+◌, ◌-◌, ◌≤◌, ◌<◌, suc, true, false, length-drop, List, [], ◌∷◌, ◌++◌}
+use proofs.Common.{◌≡◌, ⊎_elim, inl, ℕ, ◌+◌, ◌-◌, ◌≤◌, ◌<◌, suc, true, false, length-drop, List, [], ◌∷◌, ◌++◌}
 use proofs.Common.{length, map, drop, get_or, set, max, refl, sym, ap, ◌∙◌, arith, ◌*◌, cond, Option, append_assoc}
-use proofs.Common.{length-append, append-nil, length-set, drop_more, get_or-drop, drop-set-add, take_more}
-use proofs.Common.{length_push, drop-set-lt, set_at, take_at, bytes_eq, sum_by_push, sum_by-append, sum_by-cons}
-use proofs.Common.{Slots, line, total_bytes, with_line, with_denied, unlines, max_length, total_bytes_set, Join}
-use proofs.Common.{ClearGroupPost, EnsureSlotPost, CopyToGroupErrPost, group, CopyToGroupPost, entry, join_fields}
-use proofs.Common.{pair_entries, max_over_keys, max_group_bytes, max_group_lines, Lines, lines_with_key, Reader, Side}
-use proofs.Common.{First, Second, Sorted, Cmp, Key, HasSlots, with_side}
+use proofs.Common.{length-append, append-nil, length-set, drop_more, drop-set-add, take_more, drop-set-lt, set_at}
+use proofs.Common.{take_at, bytes_eq, sum_by_push, sum_by-append, sum_by-cons, Slots, line, total_bytes, with_line}
+use proofs.Common.{with_denied, unlines, max_length, total_bytes_set, Join, ClearGroupPost, EnsureSlotPost}
+use proofs.Common.{CopyToGroupErrPost, group, CopyToGroupPost, entry, join_fields, pair_entries, max_over_keys}
+use proofs.Common.{max_group_bytes, max_group_lines, Lines, lines_with_key, Reader, Side, First, Second, Sorted, Cmp}
+use proofs.Common.{Key, HasSlots, with_side}
 use proofs.MergeLemmas.Slots.{line_other, HasLines, StoreOfLines, has_lines_total, set_line, put_each, put_same}
 use proofs.MergeLemmas.Orders.{EachKey, same_bytes}
 use proofs.MergeLemmas.Exits.{SideAfterNext}
@@ -22,7 +22,7 @@ pub group_from : (store : Slots) (end slot : ℕ) → end ≤ length store.lines
     → group store slot end ≡ line store slot ∷ group store (slot + 1) end
 group_from store end slot fits low =
     let more : end - slot ≡ suc (end - (slot + 1)) = omega arith in
-    rw (more, drop_more store.lines slot [] (omega arith)) refl
+    grind (arith, more, drop_more store.lines slot [])
 
 pub group_end : (store : Slots) (end slot : ℕ) → end ≤ slot → group store slot end ≡ []
 group_end store end slot past = let none : end - slot ≡ 0 = omega arith in rw none refl
@@ -30,15 +30,7 @@ group_end store end slot past = let none : end - slot ≡ 0 = omega arith in rw 
 pub group_more : (store : Slots) (from end : ℕ) → from ≤ end → end < length store.lines
     → group store from (end + 1) ≡ group store from end ++ line store end ∷ []
 group_more store from end least within =
-    let rest = drop from store.lines in
-    let next : (end + 1) - from ≡ (end - from) + 1 = omega arith in
-    let back : from + (end - from) ≡ end = omega arith in
-    cc (
-      next,
-      back,
-      take_more rest (end - from) [] (omega (arith, length-drop from store.lines)),
-      get_or-drop from store.lines (end - from) [],
-    )
+    let more = take_more (drop from store.lines) (end - from) [] in grind (arith, common_steps, more)
 
 -- the lines of one slot
 pub group_one : (store : Slots) (slot : ℕ) → slot < length store.lines
@@ -64,20 +56,18 @@ pub clears_more : (a s t : Slots) (slot : ℕ) → 4 ≤ slot → slot < length 
     → t ≡ with_line s slot [] → ClearGroupPost a t (slot + 1)
 clears_more a s t slot from within c is =
     let rest = drop 4 s.lines in
-    let all = total_bytes_set s.lines slot [] (omega (arith, c.slots)) in
     let back : 4 + (slot - 4) ≡ slot = omega arith in
-    let at : get_or rest (slot - 4) [] ≡ line a slot =
-    cc (back, get_or-drop 4 s.lines (slot - 4) [], c.others slot (inr (omega arith))) in
+    let all = total_bytes_set s.lines slot [] (omega (arith, c.slots)) in
+    let at : get_or rest (slot - 4) [] ≡ line a slot = grind (arith, common_steps, back) in
     let d : drop 4 (set s.lines slot []) ≡ set rest (slot - 4) [] = cc (back, drop-set-add 4 s.lines (slot - 4) []) in
     let here = total_bytes_set rest (slot - 4) [] (omega (arith, c.slots, length-drop 4 s.lines)) in
     let grows = ap total_bytes (group_more a 4 slot from within) ∙ sum_by_push length (group a 4 slot) (line a slot) in
     rw is (record {
       slots = length-set s.lines slot [] ∙ c.slots;
-      others = λ i far. line_other s slot i [] (λ e. absurd (omega (arith, e, far)))
-          ∙ c.others i (⊎_elim (λ h. inl h) (λ h. inr (omega (arith, h))) far);
+      others = λ i far. grind (arith, line_other);
       emptied = omega (arith, here, ap total_bytes d, ap length at, c.emptied, grows);
-      less = omega (arith, all, c.less);
-      peak = omega (arith, all, c.less, c.peak);
+      less = omega (arith, all);
+      peak = omega (arith, all, c.peak);
       denied = c.denied;
     })
 
@@ -94,25 +84,8 @@ record EnsuredSlot (before made : Slots) (slot : ℕ) : Type 0 where
 
 ensured_slot : (before made : Slots) (slot : ℕ) → EnsureSlotPost before made slot → EnsuredSlot before made slot
 ensured_slot before made slot g =
-    let kept : slot < length before.lines → length made.lines ≡ length before.lines = λ low. cc (g.there low) in
-    ⊎_elim (λ e. rw e (record {
-      more = [];
-      lines = sym (append-nil before.lines);
-      empty = refl;
-      slots = omega arith;
-      peak = refl;
-      denied = refl;
-    }))
-    (λ e.
-    let more : length made.lines ≡ length before.lines + 1 = cc (length_push before.lines []) in
-    record {
-      more = [] ∷ [];
-      lines = cc;
-      empty = refl;
-      slots = (omega (arith, more), grind (arith, more, kept));
-      peak = cc;
-      denied = cc;
-    }) g.grown
+    ⊎_elim (λ e. let more : Lines = [] in grind (arith, common_steps, e, more))
+    (λ e. let more : Lines = [] ∷ [] in grind (arith, common_steps, e, more, g.there)) g.grown
 
 pub failed_copy : (before made : Slots) (to : ℕ) → EnsureSlotPost before made to
     → CopyToGroupErrPost before (with_denied (with_line made to [])) to
@@ -182,13 +155,7 @@ drop_total xs m more h = absurd h
 same_lines : (xs ys : Lines) (m : Side → ℕ) (more now : ℕ) → HasLines m more xs → 4 ≤ length ys
     → ((i : ℕ) → i < 4 → get_or ys i [] ≡ get_or xs i []) → total_bytes (drop 4 ys) ≡ now → HasLines m now ys
 same_lines (a ∷ b ∷ c ∷ d ∷ rest) (s ∷ t ∷ u ∷ v ∷ end) m more now h four same is =
-    let at = λ (i : ℕ) (low : i < 4). ap length (same i low) in (
-      omega (arith, h.0, at 0 (omega arith)),
-      omega (arith, h.1, at 1 (omega arith)),
-      omega (arith, h.2, at 2 (omega arith)),
-      omega (arith, h.3, at 3 (omega arith)),
-      is,
-    )
+    grind (arith, same 0, same 1, same 2, same 3)
 same_lines (a ∷ b ∷ c ∷ d ∷ rest) ys m more now h four same is = absurd (omega (arith, four))
 same_lines xs ys m more now h four same is = absurd h
 
@@ -244,10 +211,15 @@ group_store_line {store = store} {after} {ls} {now} {g} s cursor slots x k up fi
       split = drop-set-lt 4 store.lines cursor.previous_slot x (low_slot s cursor slots).previous ∙ k.split;
       empty = k.empty;
       lines = inside;
-      bounds = λ all more e.
-          let bounds = k.bounds all (continues_key.more ++ more)
-          (cc (continues_key.is, append_assoc (ls Second) continues_key.more more)) in
-          omega (arith, bounds, up First, up Second, sum, size);
+      bounds = λ all more e. omega (
+        arith,
+        k.bounds all (continues_key.more ++ more)
+            (cc (continues_key.is, append_assoc (ls Second) continues_key.more more)),
+        up First,
+        up Second,
+        sum,
+        size,
+      );
       least = omega (arith, k.least, size);
       four = omega (arith, k.four, size);
       denied = k.denied;
@@ -318,19 +290,15 @@ module _ {most : GroupBounds} {before store : Slots} {ls : Side → Lines} {g : 
       (arith, c.emptied, ap total_bytes (group_is at), ap total_bytes k.split, sum_by-append length g k.tail, k.empty)
       in
       let four : 4 ≤ length after.lines = omega (arith, k.four, c.slots) in
+      let lines = same_lines store.lines after.lines (λ side. max_length (ls side)) (total_bytes g) 0 k.lines four
+      (λ i low. c.others i (inl low)) none in
+      let total = has_lines_total store.lines (λ side. max_length (ls side)) (total_bytes g) k.lines in
       record {
         tail = drop 4 after.lines;
         split = refl;
         empty = none;
-        lines = same_lines store.lines after.lines (λ side. max_length (ls side)) (total_bytes g) 0 k.lines four
-            (λ i low. c.others i (inl low)) none;
-        bounds = λ all more e. omega (
-          arith,
-          c.peak,
-          c.slots,
-          k.bounds all more e,
-          (has_lines_total store.lines (λ side. max_length (ls side)) (total_bytes g) k.lines).most,
-        );
+        lines = lines;
+        bounds = λ all more e. omega (arith, c, k.bounds all more e, total);
         least = omega (arith, k.least, c.slots);
         four = four;
         denied = c.denied ∙ k.denied;

@@ -4,16 +4,15 @@
 use Rattle.ptmerge.proofs
 use proofs.Common.{NextOkPost, ◌≡◌, ℕ, Bool, true, false, cond, List, [], ◌∷◌, ◌++◌, map, refl, ap, sym, ◌∙◌, ◌+◌}
 use proofs.Common.{◌*◌, ◌≤◌, ◌<◌, Ok, Err, length, subst, arith, append-nil, flat_map-append, Join, Side, First}
-use proofs.Common.{Second, unpaired_entries1, unpaired_entries2, unpaired_entry, entry, join_fields, join_with}
-use proofs.Common.{join_entries, join_key, pair_entries, Lines, entries_by_key, Cmp, Key, Output, PushEffect, Reader}
-use proofs.Common.{Slots, line, unlines, MergeFault, Sorted, Head, Ended, IsReadyToContinue, AdvanceOkPost}
-use proofs.Common.{MergeState, MergePost, merge_state, HasSlots, both, with_side, lines_of, Memory, HaveEqualKeys}
-use proofs.Common.{HasOnlyLeastKey, IsDisorderDecided, IsReaderOf, AreValidCursors, StartOkPost, merge_inputs}
-use proofs.Common.{ClearFourSlotsPost, ◌⊎◌, MergeRunPre, JoinStepPre, AdvancePre, push_nothing, other, if◌then◌else◌}
-use proofs.Common.{max_group_bytes, max_group_lines, inl, inr, ReadGroupLineOkPost, ReadGroupLinePost, IsGroup}
-use proofs.Common.{ClearGroupPost, group_end_slot, group_first_slot, group, JoinLinePre, ⊎_elim, ◌-◌, ◌==◌}
-use proofs.Common.{push_trans, nat_tests, length_push, unlines-append, append_assoc, merged_entries, nil_from_length}
-use proofs.Common.{CopyToGroupPost}
+use proofs.Common.{Second, unpaired_entries1, unpaired_entry, join_with, join_entries, join_key, pair_entries, Lines}
+use proofs.Common.{entries_by_key, Cmp, Key, Output, PushEffect, Reader, Slots, line, unlines, MergeFault, Sorted}
+use proofs.Common.{Head, Ended, IsReadyToContinue, AdvanceOkPost, MergeState, MergePost, merge_state, HasSlots, both}
+use proofs.Common.{with_side, lines_of, Memory, HaveEqualKeys, HasOnlyLeastKey, IsDisorderDecided, IsReaderOf}
+use proofs.Common.{AreValidCursors, StartOkPost, merge_inputs, ClearFourSlotsPost, ◌⊎◌, MergeRunPre, JoinStepPre}
+use proofs.Common.{AdvancePre, push_nothing, other, if◌then◌else◌, max_group_bytes, max_group_lines, inl, inr}
+use proofs.Common.{ReadGroupLineOkPost, ReadGroupLinePost, IsGroup, ClearGroupPost, group_end_slot, group_first_slot}
+use proofs.Common.{group, JoinLinePre, ⊎_elim, ◌-◌, ◌==◌, push_trans, nat_tests, length_push, unlines-append}
+use proofs.Common.{append_assoc, merged_entries, nil_from_length, CopyToGroupPost}
 use proofs.MergeLemmas.Step.{BetweenSteps, between_next, advance_pre, reads_less, open_merge, slots_of, wrote_as}
 use proofs.MergeLemmas.Step.{IsLineByLine, alone, wrote_alone, alone_breaks, IsAbove, reads_ahead, place_is}
 use proofs.MergeLemmas.Step.{LoopInvariant, CursorsInvariant, EndsIfFails, runs_on, n, ends_well, ends_fallen}
@@ -55,12 +54,8 @@ module _ (job : Join) (cmp : Cmp) (key : Side → Key) where
   is_line_by_line : IsLineByLine (join_with job cmp key)
   is_line_by_line = record {
     none = λ k. cond_of_empty job.unpaired2;
-    first = λ k x g.
-        let of = λ (a : List ℕ). entry job k (join_fields job.separator a) [] in
-        cond_of_append job.unpaired1 (of x ∷ []) (map of g)
-        ∙ ap (λ l. unpaired_entries1 job k (x ∷ []) ++ l) (sym (first_alone k g));
-    second = λ k x g. let of = λ (b : List ℕ). entry job k [] (join_fields job.separator b) in
-        cond_of_append job.unpaired2 (of x ∷ []) (map of g);
+    first = λ k x g. let rest = first_alone k g in grind (arith, rest);
+    second = λ k x g. grind arith;
   }
 
   -- the bounds of a group, if pairs are written; otherwise none is kept
@@ -88,12 +83,8 @@ module _ (job : Join) (cmp : Cmp) (key : Side → Key) where
   -- the entries of one unpaired line of one input
   pub entries_alone : (s : Side) (x : List ℕ) → key s x ≡ join_key job s x
       → entries_by_key (join_with job cmp key) all_keys (alone s x) ≡ unpaired_entry job s x
-  entries_alone First x is = rw (same_bytes (refl {a = key First x}))
-      (append-nil (unpaired_entries1 job (key First x) (x ∷ []))
-      ∙ ap (λ (k : List ℕ). unpaired_entries1 job k (x ∷ [])) is)
-  entries_alone Second x is = rw (same_bytes (refl {a = key Second x}))
-      (append-nil (unpaired_entries2 job (key Second x) (x ∷ []))
-      ∙ ap (λ (k : List ℕ). unpaired_entries2 job k (x ∷ [])) is)
+  entries_alone First x is = grind (arith, same_bytes (refl {a = key First x}), append-nil)
+  entries_alone Second x is = grind (arith, same_bytes (refl {a = key Second x}), append-nil)
 
 -- ---- the phases
 
@@ -204,11 +195,9 @@ module _ {job : Join} {cmp : Cmp} {key : Side → Key} {old : MergeState} (a : I
           },
           refl,
         );
-        between = record {
-          valid_cursors = valid_cursors;
-          own_reader = elim [ First ↦ reader1 | Second ↦ reader2 ];
-          clean = a.w.writable;
-        };
+        between = (let own_reader : (side : Side) → IsReaderOf (both one two side) (both first second side) =
+            elim [ First ↦ reader1 | Second ↦ reader2 ] in
+            assumption a.w);
       }
 
 module _ {job : Join} {cmp : Cmp} {key : Side → Key} {old : MergeState} {phase : JoinPhase} {now : MergeState}
@@ -261,10 +250,7 @@ module _ {job : Join} {cmp : Cmp} {key : Side → Key} {old : MergeState} {phase
     between = rw is at t.phased
 
     r : BetweenGroups call now (both one two)
-    r = let (here, _) = between in here
-
-    no_copies : end ≡ 4
-    no_copies = let (_, four) = between in four
+    r = between.0
 
     lines_before : CursorsInvariant (join_with job cmp key) old now.reader (both one two) now.store r.ls r.p r.b
     lines_before =
@@ -287,7 +273,7 @@ module _ {job : Join} {cmp : Cmp} {key : Side → Key} {old : MergeState} {phase
           let (m, _) = wrote_alone t.opened.w lines_before (is_line_by_line job cmp key) step t.clean r.merge_invariant
           wrote_unpaired in
           iteration_continues {next = phase} s h.continues
-          (rw is (runs_on t.opened.w lines_before s step.status_is h.came keeps m, no_copies))
+          (rw is (runs_on t.opened.w lines_before s step.status_is h.came keeps m, between.1))
 
       pub alone_fails : EndsIfFails (join_with job cmp key) old now s (both one two s) new
       alone_fails =
@@ -329,7 +315,7 @@ module _ {job : Join} {cmp : Cmp} {key : Side → Key} {old : MergeState} {phase
               };
               keeps = r.keeps;
               wrote = rw ((join_pairs job cmp key).none k []) (push_nothing now.out);
-              at = no_copies;
+              at = between.1;
             };
             heads = elim [
               | First ↦ record { head = step.first; is = refl }
@@ -338,11 +324,6 @@ module _ {job : Join} {cmp : Cmp} {key : Side → Key} {old : MergeState} {phase
           };
           between = t.between;
         }
-
-    -- the phase in which the group is read is next
-    pub group_opens_decreases : 3 * reads_ahead now.reader one two + rank phases.ReadGroup
-        < 3 * reads_ahead now.reader one two + rank phase
-    group_opens_decreases = omega (arith, ap rank is)
 
     -- the end of the loop
     module _ {after : Slots} (clear : ClearFourSlotsPost now.store after) where
@@ -445,6 +426,19 @@ module _ {job : Join} {cmp : Cmp} {key : Side → Key} {old : MergeState} {phase
             ];
           }
 
+        -- the pairs of the first input's current line and the group are not written yet
+        pairs_are_missing : call.keeps_groups ≡ true → (all : Side → Lines)
+            → ((side : Side) → Continues (with_side Second reader now.reader side) (on_second.group.ls side) (all side))
+            → ¬ (merged_entries call.tool all ≡ entries_by_key call.tool all_keys on_second.group.p ++ [])
+        pairs_are_missing keeps all w =
+            let first : IsAtGroupLine on_second.group First = record {
+              slots = next_slots at_second comes;
+              at_key = record { head = (a.heads First).head; is = key1_on made (λ i low. refl) };
+            } in
+            front_is_not_all call.w (within_more first) (later made) (passing_now first) all w
+            (has_entries call (within_more first) keeps
+            (elim [ First ↦ omega arith | Second ↦ omega (arith, length_push a.g y) ]))
+
         -- the previous line stands for the group, if none is copied
         one_for_all : a.kept ≡ [] → IsOneForAll call a.k (line made two2.previous_slot) a.kept (a.g ++ y ∷ [])
         one_for_all none = record {
@@ -456,8 +450,7 @@ module _ {job : Join} {cmp : Cmp} {key : Side → Key} {old : MergeState} {phase
             by : (t : Bool) → call.keeps_groups ≡ t → (f : Lines)
                 → call.pairs a.k f (y ∷ []) ≡ call.pairs a.k f (a.g ++ y ∷ [])
             by true keeps f = cc (all_copied keeps)
-            by false without f =
-                cc (call.laws.unwritten without a.k f (y ∷ []), call.laws.unwritten without a.k f (a.g ++ y ∷ []))
+            by false without f = grind (arith, call.laws.unwritten without)
 
         -- the previous line was copied, too
         module _ {after : Slots} (keeps : call.keeps_groups ≡ true)
@@ -502,23 +495,6 @@ module _ {job : Join} {cmp : Cmp} {key : Side → Key} {old : MergeState} {phase
             (λ e. rw e.end_is (pairs_by h.came _ (kept_too h.came e.keeps e.copied).same
             (group_on h.came e.keeps e.copied) same (inl (all_copied_too h.came e.keeps e.copied)))) h.kept)
 
-      -- the pairs of the first input's current line and the group are not written yet
-      pairs_are_missing : {reader : Reader} {two2 : Sorted} {made : Slots}
-          (comes : NextOkPost (key Second) cmp two two2 (now.reader Second) reader now.store made)
-          → call.keeps_groups ≡ true
-          → (all : Side → Lines) → ((side : Side) → Continues (with_side Second reader now.reader side)
-          ((on_second comes).group.ls side) (all side))
-          → ¬ (merged_entries call.tool all ≡ entries_by_key call.tool all_keys (on_second comes).group.p ++ [])
-      pairs_are_missing {reader} {two2} {made} comes keeps all w =
-          let q = (on_second comes).group in
-          let first : IsAtGroupLine q First = record {
-            slots = next_slots at_second comes;
-            at_key = record { head = (a.heads First).head; is = key1_on comes made (λ i low. refl) };
-          } in
-          front_is_not_all call.w (within_more first) (state_after_read now Second reader out made) (passing_now first)
-          all w (has_entries call (within_more first) keeps
-          (elim [ First ↦ omega arith | Second ↦ omega (arith, length_push a.g y) ]))
-
       -- a line could not be copied, or the next one could not be read
       pub read_group_fails : {two2 : Sorted} {reader : Reader} {after : Slots} {fault : MergeFault}
           → ReadGroupLinePost call.keeps_groups (key Second) cmp two two2 (now.reader Second) reader now.store after out
@@ -541,9 +517,7 @@ module _ {job : Join} {cmp : Cmp} {key : Side → Key} {old : MergeState} {phase
           let (_, many) = call.laws.largest e.keeps _ _ (inside e.came (more Second).continues.more) in
           omega (
             arith,
-            e.copy_failed.peak,
-            e.copy_failed.slots,
-            e.copy_failed.most,
+            e.copy_failed,
             q.at,
             ap length (all_copied e.keeps),
             size,
@@ -583,28 +557,23 @@ module _ {job : Join} {cmp : Cmp} {key : Side → Key} {old : MergeState} {phase
     keyed_slot : (slot : ℕ) → group_first_slot two end ≤ slot → slot < group_end_slot two end
         → key Second (line now.store slot) ≡ state.k
     keyed_slot slot from low = ⊎_elim (λ same.
-        let least : 4 ≤ slot = rw (is_kept same) at from in
-        let most : slot < end = rw (is_kept same) at low in
-        ap (key Second) (kept_line state.q.keeps slot least (omega (arith, most, state.q.at)))
-        ∙ EachKey-at (λ x. x ≡ state.k) (key Second) state.kept (slot - 4) (omega (arith, least, most, state.q.at))
-        (rw same (state.q.within.own Second)))
-        (λ h.
-        let least : two.previous_slot ≤ slot = rw (is_alone h.none) at from in
-        let most : slot < two.previous_slot + 1 = rw (is_alone h.none) at low in
-        let is : slot ≡ two.previous_slot = omega (arith, least, most) in
-        rw is h.own) state.lines_in
+        let own = rw (← same) at (state.q.within.own Second) in
+        let keyed = EachKey-at (λ x. x ≡ state.k) (key Second) state.kept (slot - 4) in
+        grind (arith, is_kept same, kept_line state.q.keeps, keyed, own, state.q.at))
+        (λ h. let is : slot ≡ two.previous_slot = grind (arith, is_alone h.none) in rw is h.own) state.lines_in
+
+    abbrev in_slots : Lines
+    in_slots = group now.store (group_first_slot two end) (group_end_slot two end)
 
     -- the lines in the slots of the group have the pairs of the group
-    group_pairs_are : (f : Lines) → pair_entries job state.k f (group now.store (group_first_slot two end)
-        (group_end_slot two end)) ≡ pair_entries job state.k f (state.g Second)
-    group_pairs_are f = ⊎_elim (λ same. ap (λ (l : Lines). pair_entries job state.k f l)
-        (rw (is_kept same) (group_is state.q.keeps state.q.at ∙ same)))
-        (λ h.
-        let one : group now.store (group_first_slot two end) (group_end_slot two end) ≡ line now.store
-        two.previous_slot ∷ []
-        = rw (is_alone h.none) (group_one now.store two.previous_slot
-        (omega (arith, state.q.keeps.four, (low_slot Second two (slots Second)).previous))) in
-        cc (one, h.same_pairs f)) state.lines_in
+    group_pairs_are : (f : Lines) → pair_entries job state.k f in_slots ≡ pair_entries job state.k f (state.g Second)
+    group_pairs_are f = ⊎_elim (λ same. rw (is_kept same, group_is state.q.keeps state.q.at, same) refl)
+        (λ h. rw (
+          is_alone h.none,
+          group_one now.store two.previous_slot
+              (omega (arith, state.q.keeps.four, (low_slot Second two (slots Second)).previous)),
+        ) (h.same_pairs f))
+        state.lines_in
 
     pub write_pairs_group : IsGroup (join_key job Second) two now.store end
         (key First (line now.store one.current_slot))
@@ -622,8 +591,7 @@ module _ {job : Join} {cmp : Cmp} {key : Side → Key} {old : MergeState} {phase
 
     module _ {new : Output}
         (pushed : PushEffect now.out new (unlines (now.reader First).terminator
-        (pair_entries job (key First (line now.store one.current_slot)) z
-        (group now.store (group_first_slot two end) (group_end_slot two end))))) where
+        (pair_entries job (key First (line now.store one.current_slot)) z in_slots))) where
       wrote_more : PushEffect state.q.mid new
           (unlines job.terminator (pair_entries job state.k (state.g First ++ z) (state.g Second)))
       wrote_more = rw (
@@ -632,8 +600,7 @@ module _ {job : Join} {cmp : Cmp} {key : Side → Key} {old : MergeState} {phase
             (pair_entries job state.k (state.g First) (state.g Second)) (pair_entries job state.k z (state.g Second)),
       )
           (push_trans _ _ _ _ _ t.clean state.q.wrote (wrote_as (state.q.sides First).lines_read.terminator
-          (sym (group_pairs_are z) ∙ (λ j. pair_entries job (sym state.head.is j) z
-          (group now.store (group_first_slot two end) (group_end_slot two end)))) pushed))
+          (sym (group_pairs_are z) ∙ (λ j. pair_entries job (sym state.head.is j) z in_slots)) pushed))
 
       pairs_begin : OutputStartsWith (join_with job cmp key) (with_added_line now (both one two) First state.g)
           state.q.d state.k (pair_entries job state.k (state.g First ++ z) (state.g Second))
@@ -671,14 +638,10 @@ module _ {job : Join} {cmp : Cmp} {key : Side → Key} {old : MergeState} {phase
             one2 two2 4
         group_closed {cleared} clear same =
             let q = on_first.group in
-            iteration_continues {next = phases.BetweenGroups} First
-            (record {
-              clean = h.continues.clean;
-              others = h.continues.others;
-              own_reader = h.continues.own_reader;
-              valid_cursors = valid_cursors_kept _ _ _ _ _ h.continues.valid_cursors (omega (arith, clear.slots))
-                  (λ i low. clear.others i (inl low));
-            }) (
+            let valid_cursors = valid_cursors_kept key one2 two2 after cleared h.continues.valid_cursors
+            (omega (arith, clear.slots))
+            (λ i low. clear.others i (inl low)) in
+            iteration_continues {next = phases.BetweenGroups} First (assumption (h.continues, valid_cursors)) (
               record {
                 ls = q.ls;
                 p = λ side. q.p side ++ with_added_line now (both one two) First state.g side;

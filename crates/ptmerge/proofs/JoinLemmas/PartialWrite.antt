@@ -12,8 +12,8 @@ use Rattle.std.proofs.Common.{arith}
 
 pub wrote_then : {a b c : Output} {xs ys : List ℕ} → (a.write_failed ≡ false → b.write_failed ≡ false)
     → PushEffect a b xs → PushEffect b c ys → PushEffect a c (xs ++ ys)
-wrote_then {a} {b} {c} {xs} {ys} clean p q = ⊎_elim (λ fault. let same = p.stays fault in
-    rw (q.stays (rw same fault), same) (push_after_failure a (xs ++ ys) fault))
+wrote_then {a} {b} {c} {xs} {ys} clean p q =
+    ⊎_elim (λ fault. grind (arith, fault, p.stays, q.stays, push_after_failure a (xs ++ ys)))
     (λ fine. push_trans a b c xs ys (clean fine) p q) (cases_Bool a.write_failed)
 
 pub then_pushes : {E : Type 0} {a b c : Output} {xs ys : List ℕ} {r : Result (Unit {0}) E}
@@ -62,12 +62,8 @@ module _ {E : Type 0} {r : Result (Unit {0}) E} (P : E → Type 0) (err_is : IsE
 
 pub partial_more : {was is new : Output} {all bytes now left : List ℕ} → now ≡ bytes ++ left
     → PartialWrite was is all now → PushEffect is new bytes → new.write_failed ≡ false → PartialWrite was new all left
-partial_more {was} {is} {new} {all} {bytes} {now} {left} e a wrote clean = record {
-  done = a.done ++ bytes;
-  split = a.split ∙ (rw e (sym (append_assoc a.done bytes left)));
-  wrote = wrote_then a.clean a.wrote wrote;
-  clean = λ _. clean;
-}
+partial_more {left = left} e a wrote clean = partial_first (rw e at a.split ∙ sym (append_assoc a.done _ left))
+    (wrote_then a.clean a.wrote wrote) clean
 
 -- the last call succeeded or failed
 pub partial_ends : {E : Type 0} {r : Result (Unit {0}) E} {was is new : Output} {all bytes now : List ℕ} → now ≡ bytes

@@ -3,10 +3,10 @@
 -- first word, after which the words of the rest of the line follow.
 use Rattle.ptmerge.proofs
 use proofs.Common.{◌≡◌, ◌≢◌, ℕ, zero, suc, ◌+◌, ◌-◌, ◌*◌, ◌^◌, ◌%◌, ◌<◌, ◌≤◌, Bool, true, false, cond, not, ◌&&◌}
-use proofs.Common.{◌||◌, eqb, ◌==◌, List, [], ◌∷◌, ◌++◌, None, length, map, take, drop, replicate, filter, refl, sym}
-use proofs.Common.{◌∙◌, ap, subst, arith, bit_and, bit_or, take_all, length-map, length-drop, take-append-drop}
-use proofs.Common.{drop-drop, nat_tests, Lines, is_blank, is_nonempty, join_fields, is_single_spaced}
-use proofs.Common.{has_single_spaces, slice_split, onto_first, with_prefix, IsFieldAt}
+use proofs.Common.{◌||◌, eqb, ◌==◌, List, [], ◌∷◌, ◌++◌, None, length, map, take, drop, replicate, filter, refl, ◌∙◌}
+use proofs.Common.{ap, arith, bit_and, bit_or, length-map, take-append-drop, drop-drop, nat_tests, Lines, is_blank}
+use proofs.Common.{is_nonempty, join_fields, is_single_spaced, has_single_spaces, slice_split, onto_first}
+use proofs.Common.{with_prefix, IsFieldAt}
 use proofs.JoinLemmas.Fields.{none_past, single_spaced_words, space_is}
 use Rattle.std.proofs.lemmas.Simd.{mask_l-lt, trailing_mask_l}
 use Rattle.std.proofs.lemmas.List.{drop-map, map-id, take-map}
@@ -14,8 +14,8 @@ use Rattle.std.specs.Simd.Lanes.{chunk, mask_l}
 use Rattle.std.specs.List.{prefix_len}
 use Rattle.memchr.specs.Find.{is_byte}
 use Rattle.std.proofs.Common.{◌/◌, rules}
-use Rattle.std.proofs.Math.Nat.{div-div-eq-div-mul, mod-eq_of_lt, mul-lt-mul_of_pos_right, mul_assoc, mul_comm}
-use Rattle.std.proofs.Math.Nat.{one-le-pow, two-pow-succ}
+use Rattle.std.proofs.Math.Nat.{div-div-eq-div-mul, mod-eq_of_lt, mul-lt-mul_of_pos_right, mul_assoc, one-le-pow}
+use Rattle.std.proofs.Math.Nat.{two-pow-succ}
 use Rattle.std.proofs.Math.Pow.{pow-add, pow-lt, pow_mono}
 use lib.Bits.{and_step, or_step, or_zero_l, or_zero_r, and_zero_l, or_shifted_r, and_mod, and_le_l, and_self, or_self}
 use lib.Count.{count_trailing_zeros}
@@ -41,7 +41,7 @@ or_prefix : (n : ℕ) (bits : List Bool) → bit_or (mask_l (take n bits)) (mask
 or_prefix zero bits = or_zero_l (mask_l bits)
 or_prefix (suc n) [] = or_zero_l 0
 or_prefix (suc n) (b ∷ bits) =
-    or_bits b b _ (mask_l bits) ∙ grind (arith, or_prefix n bits)
+    grind (arith, or_bits b b (mask_l (take n bits)) (mask_l bits), or_prefix n bits)
 
 or_ends : (last n : ℕ) (bits : List Bool) → last ≤ n
     → bit_or (mask_l (take n bits)) (2 ^ last * mask_l (drop last bits)) ≡ mask_l bits
@@ -64,25 +64,20 @@ pub ends_mask : (test : ℕ → Bool) (bytes : List ℕ) (n : ℕ) → n ≤ len
 ends_mask test bytes n first all few =
     let last = length bytes - n in
     let bits = map test bytes in
-    let size : length (drop last bits) ≡ n = omega (arith, length-drop last bits, length-map bytes test, first) in
-    let tail : map test (chunk last n bytes) ≡ drop last bits =
-    ap (map test) (take_all n (drop last bytes) (omega (arith, length-drop last bytes, first)))
-    ∙ sym (drop-map test last bytes) in
-    let front : map test (chunk 0 n bytes) ≡ take n bits = sym (take-map test n bytes) in
-    let small : mask_l (drop last bits) * 2 ^ last < 2 ^ 64 = fits (mask_l _) n last
-    (rw size at (mask_l-lt (drop last bits))) (omega (arith, all, first, few)) in
-    let whole : mask_l (drop last bits) * 2 ^ last % 2 ^ 64 ≡ 2 ^ last * mask_l (drop last bits) = omega
-    (arith, small, mul_comm (mask_l (drop last bits)) (2 ^ last), mod-eq_of_lt small) in
-    cc (front, tail, whole, or_ends last n bits (omega (arith, all, first)))
+    let tail : map test (chunk last n bytes) ≡ drop last bits = grind (arith, common_steps, drop-map) in
+    let size : length (drop last bits) ≡ n = grind (arith, common_steps) in
+    let small = fits (mask_l (drop last bits)) n last (rw size at (mask_l-lt (drop last bits))) (omega arith) in
+    let whole : mask_l (drop last bits) * 2 ^ last % 2 ^ 64 ≡ 2 ^ last * mask_l (drop last bits) =
+    omega (arith, mod-eq_of_lt small) in
+    cc (take-map test n bytes, tail, whole, or_ends last n bits (omega arith))
   where
     fits : (m n last : ℕ) → m < 2 ^ n → n + last ≤ 64 → m * 2 ^ last < 2 ^ 64
-    fits m n last low le =
-        omega (
-          arith,
-          mul-lt-mul_of_pos_right {k = 2 ^ last} low (one-le-pow last 2 (omega arith)),
-          pow-add 2 n last,
-          pow_mono {j = 64} le,
-        )
+    fits m n last low le = omega (
+      arith,
+      mul-lt-mul_of_pos_right {k = 2 ^ last} low (one-le-pow last 2 (omega arith)),
+      pow-add 2 n last,
+      pow_mono {j = 64} le,
+    )
 
 -- ---- single spaces
 
@@ -104,15 +99,11 @@ pub single_spaces_is : (any before : ℕ) (bytes : List ℕ) → before ≤ 1 �
     → eqb (bit_or (mask_l (map (is_byte 9) bytes)) (bit_and any (bit_or (any * 2 % 2 ^ 64) before))) 0
     ≡ has_single_spaces (before == 1) bytes
 single_spaces_is any before bytes low few is =
-    let size = length-map bytes is_blank in
-    let wide : 2 ^ length (map is_blank bytes) ≤ 2 ^ 64 = pow_mono {j = 64} (omega (arith, size, few)) in
-    let small : any < 2 ^ 64 = omega (arith, is, mask_l-lt (map is_blank bytes), wide) in
-    let one : bit (before == 1) ≡ before = of_bit before low in
-    let with_before : bit_or (any * 2 % 2 ^ 64) before ≡ (any * 2 + before) % 2 ^ 64 = or_even any before low in
-    let whole : bit_and any ((any * 2 + before) % 2 ^ 64) ≡ bit_and any (bit (before == 1) + 2 * any) =
-    let sum : any * 2 + before ≡ bit (before == 1) + 2 * any = omega (arith, one) in
-    rw sum (and_low any (bit (before == 1) + 2 * any) small) in
-    rw (with_before, whole, is) (no_misplaced (before == 1) bytes)
+    let wide : 2 ^ length (map is_blank bytes) ≤ 2 ^ 64 =
+    pow_mono {j = 64} (omega (arith, length-map bytes is_blank)) in
+    let small : any < 2 ^ 64 = omega (arith, mask_l-lt (map is_blank bytes), wide) in
+    let sum : any * 2 + before ≡ bit (before == 1) + 2 * any = omega (arith, of_bit before low) in
+    rw (or_even any before low, and_low any (any * 2 + before) small, sum, is) (no_misplaced (before == 1) bytes)
   where
     of_bit : (before : ℕ) → before ≤ 1 → bit (before == 1) ≡ before
     of_bit before low = grind (arith, nat_tests)
@@ -120,15 +111,12 @@ single_spaces_is any before bytes low few is =
     or_even : (any before : ℕ) → before ≤ 1 → bit_or (any * 2 % 2 ^ 64) before ≡ (any * 2 + before) % 2 ^ 64
     or_even any before low =
         let half = any % 2 ^ 63 in
-        let even : any * 2 % 2 ^ 64 ≡ bit false + 2 * half = omega arith in
-        let one : bit (before == 1) + 2 * 0 ≡ before = omega (arith, of_bit before low) in
-        let sum : bit (before == 1) + 2 * half ≡ (any * 2 + before) % 2 ^ 64 = omega (arith, of_bit before low, low) in
-        cc (even, one, sum, or_bits false (before == 1) half 0, or_zero_r half)
+        let even : any * 2 % 2 ^ 64 ≡ 2 * half = omega arith in
+        grind (arith, even, of_bit, or_bits false (before == 1) half 0, or_zero_r half)
 
     and_low : (x y : ℕ) → x < 2 ^ 64 → bit_and x (y % 2 ^ 64) ≡ bit_and x y
     and_low x y low =
-        let small : bit_and x y % 2 ^ 64 ≡ bit_and x y = mod-eq_of_lt (omega (arith, and_le_l x y, low)) in
-        cc (mod-eq_of_lt low, and_mod x y 64)
+        grind (arith, and_le_l x y, and_mod x y 64)
 
 power_fits : (v : List ℕ) → length v < 64 → 1 * 2 ^ length v % 2 ^ 64 ≡ 1 * 2 ^ length v
 power_fits v short = mod-eq_of_lt (omega (arith, pow-lt {j = 64} short))
@@ -139,23 +127,17 @@ pub with_end : (bytes : List ℕ) (any tabs : ℕ) → length bytes < 64 → any
     → (bit_or any (1 * 2 ^ length bytes % 2 ^ 64) ≡ mask_l (map is_blank (bytes ++ 32 ∷ [])))
     × (tabs ≡ mask_l (map (is_byte 9) (bytes ++ 32 ∷ [])))
 with_end bytes any tabs short any_is tabs_is =
-    let size = length-map bytes is_blank in
     let low : any < 2 ^ length bytes =
-    omega (arith, any_is, mask_l-lt (map is_blank bytes), ap (λ (n : ℕ). 2 ^ n) size) in (
-      ap (bit_or any) (power_fits bytes short) ∙ or_shifted_r 1 (length bytes) any low ∙ omega
-          (arith, end_blank bytes, any_is),
-      tabs_is
-          ∙ sym (end_tab bytes),
+    omega (arith, mask_l-lt (map is_blank bytes), ap (λ (n : ℕ). 2 ^ n) (length-map bytes is_blank)) in (
+      ap (bit_or any) (power_fits bytes short) ∙ or_shifted_r 1 (length bytes) any low
+          ∙ omega (arith, end_bit is_blank bytes),
+      omega (arith, end_bit (is_byte 9) bytes),
     )
   where
-    end_blank : (bytes : List ℕ)
-        → mask_l (map is_blank (bytes ++ 32 ∷ [])) ≡ mask_l (map is_blank bytes) + 2 ^ length bytes
-    end_blank [] = refl
-    end_blank (b ∷ bytes) = omega (arith, end_blank bytes, two-pow-succ (length bytes))
-
-    end_tab : (bytes : List ℕ) → mask_l (map (is_byte 9) (bytes ++ 32 ∷ [])) ≡ mask_l (map (is_byte 9) bytes)
-    end_tab [] = refl
-    end_tab (b ∷ bytes) = omega (arith, end_tab bytes)
+    end_bit : (test : ℕ → Bool) (bytes : List ℕ)
+        → mask_l (map test (bytes ++ 32 ∷ [])) ≡ mask_l (map test bytes) + cond (test 32) (2 ^ length bytes) 0
+    end_bit test [] = grind arith
+    end_bit test (b ∷ bytes) = grind (arith, end_bit test bytes, two-pow-succ (length bytes))
 
 pub spaced_to_end : (blank : Bool) (bytes : List ℕ)
     → has_single_spaces blank (bytes ++ 32 ∷ []) ≡ is_single_spaced blank bytes
@@ -180,11 +162,13 @@ top_bit n blank [] size spaced = absurd (omega (arith, size))
 top_bit zero blank (b ∷ []) size spaced = grind (arith, spaced)
 top_bit zero blank (b ∷ c ∷ v) size spaced = absurd (omega (arith, size))
 top_bit (suc n) blank (b ∷ v) size spaced =
-    let rest : has_single_spaces (b == 32) v ≡ true = grind (arith, spaced) in
     let m = mask_l (map is_blank v) in
     let twice : 2 ^ suc n ≡ 2 * 2 ^ n = omega (arith, two-pow-succ n) in
-    let (half, _) = halves (is_blank b) m in
-    cc (top_bit n (b == 32) v (omega (arith, size)) rest, div-div-eq-div-mul (bit (is_blank b) + 2 * m) 2 (2 ^ n))
+    cc (
+      top_bit n (b == 32) v (omega (arith, size)) (grind (arith, spaced)),
+      (halves (is_blank b) m).0,
+      div-div-eq-div-mul (bit (is_blank b) + 2 * m) 2 (2 ^ n),
+    )
 
 pub chunk_spaced : (blank : Bool) (bytes : List ℕ) (at : ℕ) → at + 64 ≤ length bytes
     → is_single_spaced blank (drop at bytes) ≡ cond (has_single_spaces blank (chunk at 64 bytes))
@@ -241,12 +225,10 @@ or_less : (bits : List Bool) → 0 < mask_l bits → bit_or (mask_l bits) (mask_
 or_less [] some = absurd (omega (arith, some))
 or_less (true ∷ bits) some =
     let m = mask_l bits in
-    let less : bit true + 2 * m - 1 ≡ bit false + 2 * m = omega arith in
-    rw less (omega (arith, or_bits true false m m, or_self m, plus_one bits))
+    grind (arith, or_bits true false m m, or_self m, plus_one bits)
 or_less (false ∷ bits) some =
     let m = mask_l bits in
-    let less : bit false + 2 * m - 1 ≡ bit true + 2 * (m - 1) = omega (arith, some) in
-    rw less (omega (arith, or_bits false true m (m - 1), or_less bits (omega (arith, some))))
+    grind (arith, or_bits false true m (m - 1), or_less bits)
 
 and_ones : (bits : List Bool) → bit_and (mask_l bits) (mask_l (after_ones bits)) ≡ mask_l (clear_ones bits)
 and_ones [] = and_zero_l 1
@@ -258,9 +240,7 @@ and_ones (b ∷ bits) =
 and_run : (bits : List Bool) → bit_and (mask_l bits) (mask_l (after_run bits)) ≡ mask_l (clear_run bits)
 and_run [] = and_zero_l 1
 and_run (b ∷ bits) =
-    let ih = and_run bits in
-    let bits_of = λ (c : Bool). and_bits b c (mask_l bits) in
-    grind (arith, ih, and_ones bits, bits_of false (mask_l (after_ones bits)), bits_of false (mask_l (after_run bits)))
+    grind (arith, and_run bits, and_ones bits, and_bits b false (mask_l bits))
 
 length-after_ones : (bits : List Bool) → length (after_ones bits) ≤ suc (length bits)
 length-after_ones [] = omega arith
@@ -270,29 +250,22 @@ length-after_run : (bits : List Bool) → length (after_run bits) ≤ suc (lengt
 length-after_run [] = omega arith
 length-after_run (b ∷ bits) = grind (arith, length-after_ones bits, length-after_run bits)
 
-some_after_run : (bits : List Bool) → 0 < mask_l bits → 0 < mask_l (after_run bits)
-some_after_run bits some = omega (arith, or_less bits some)
-
 lowest : (bits : List Bool) → length bits ≤ 64 → 0 < mask_l bits
     → count_trailing_zeros 64 (mask_l bits) ≡ prefix_len not bits
 lowest bits few some = cc (map-id bits, trailing_mask_l (λ b. b) 64 bits few (rw (map-id bits) some))
 
 -- ---- a word is a run of bytes that are no blanks
 
--- a bit for each byte of a word
-abbrev marks : List ℕ → List Bool
-marks v = map is_word v
-
--- the span of the first word
-abbrev word_start : List ℕ → ℕ
-word_start v = prefix_len not (marks v)
-
-abbrev word_end : List ℕ → ℕ
-word_end v = prefix_len not (after_run (marks v))
+-- a bit for each byte of a word, from the index `at` on
+abbrev from : ℕ → List ℕ → List Bool
+from at v = replicate at false ++ map is_word (drop at v)
 
 split_byte : (b : ℕ) (v : List ℕ) {t : Bool} → is_blank b ≡ t
     → slice_split is_blank (b ∷ v) ≡ cond t ([] ∷ slice_split is_blank v) (onto_first b (slice_split is_blank v))
 split_byte b v e = rw e refl
+
+one_more : (n : ℕ) → 1 + n ≡ suc n
+one_more n = omega arith
 
 -- the bytes continue a word for `size` bytes
 record InWord (v : List ℕ) (size : ℕ) (cleared : List Bool) : Type 0 where
@@ -300,140 +273,83 @@ record InWord (v : List ℕ) (size : ℕ) (cleared : List Bool) : Type 0 where
   pub more : Lines
   pub split : slice_split is_blank v ≡ take size v ∷ more
   pub words : filter is_nonempty more ≡ join_fields None (drop size v)
-  pub rest : cleared ≡ replicate size false ++ marks (drop size v)
-  pub next : is_single_spaced false v ≡ true → is_single_spaced false (drop size v) ≡ true
-  pub spaced : is_single_spaced false v ≡ true → with_prefix 32 (filter is_nonempty more) ≡ drop size v
+  pub rest : cleared ≡ from size v
+  pub spaced : is_single_spaced false v ≡ true → (is_single_spaced false (drop size v) ≡ true)
+      × (with_prefix 32 (join_fields None (drop size v)) ≡ drop size v)
 
 -- a byte of a word among single spaces
 letter_is : (blank : Bool) (b : ℕ) (v : List ℕ) → is_blank b ≡ false → is_single_spaced blank (b ∷ v) ≡ true
     → is_single_spaced false v ≡ true
 letter_is blank b v here spaced = grind (arith, here, spaced)
 
-in_word : (v : List ℕ) → InWord v (prefix_len not (after_ones (marks v))) (clear_ones (marks v))
+in_word : (v : List ℕ) → InWord v (prefix_len not (after_ones (from 0 v))) (clear_ones (from 0 v))
 in_word [] = grind arith
 in_word (b ∷ v) = by (in_word v) (is_blank b) refl
   where
-    by : InWord v (prefix_len not (after_ones (marks v))) (clear_ones (marks v)) → (t : Bool) → is_blank b ≡ t
-        → InWord (b ∷ v) (prefix_len not (after_ones (not t ∷ marks v))) (clear_ones (not t ∷ marks v))
+    by : InWord v (prefix_len not (after_ones (from 0 v))) (clear_ones (from 0 v)) → (t : Bool) → is_blank b ≡ t
+        → InWord (b ∷ v) (prefix_len not (after_ones (not t ∷ from 0 v))) (clear_ones (not t ∷ from 0 v))
     by w true e =
         let split = split_byte b v e in
-        record {
-          high = omega arith;
-          more = slice_split is_blank v;
-          split = split;
-          words = sym (ap (filter is_nonempty) split);
-          rest = cc;
-          next = λ s. s;
-          spaced = λ s. (let (is_space, spaced) = space_is false b v e s in cc (single_spaced_words true v spaced));
-        }
-    by w false e =
-        let n = prefix_len not (after_ones (marks v)) in
-        let one : suc n ≡ 1 + n = omega arith in
-        subst (λ (k : ℕ). InWord (b ∷ v) k (false ∷ clear_ones (marks v))) one (record {
-          high = omega (arith, w.high);
-          more = w.more;
-          split = cc (split_byte b v e, w.split);
-          words = w.words;
-          rest = cc w.rest;
-          next = λ s. w.next (letter_is false b v e s);
-          spaced = λ s. w.spaced (letter_is false b v e s);
-        })
+        let more = slice_split is_blank v in
+        grind (arith, more, split, space_is, single_spaced_words true v)
+    by w false e = rw one_more (let more = w.more in grind (arith, more, split_byte b v e, w, letter_is false b v e))
 
--- the first word of `v` is from `start` to before `end`
-pub record WordAt (v : List ℕ) (start end : ℕ) (cleared : List Bool) : Type 0 where
+-- the first word of `v` from the index `at` on is from `start` to before `end`
+pub record WordAt (at : ℕ) (v : List ℕ) (start end : ℕ) (cleared : List Bool) : Type 0 where
   pub low : start ≤ end
   pub high : end ≤ length v
-  pub is : join_fields None v ≡ take (end - start) (drop start v) ∷ join_fields None (drop end v)
-  pub rest : cleared ≡ replicate end false ++ marks (drop end v)
-  pub next : (blank : Bool) → is_single_spaced blank v ≡ true → is_single_spaced false (drop end v) ≡ true
-  pub spaced : (blank : Bool) → is_single_spaced blank v ≡ true
-      → with_prefix 32 (join_fields None (drop end v)) ≡ drop end v
+  pub is : join_fields None (drop at v) ≡ take (end - start) (drop start v) ∷ join_fields None (drop end v)
+  pub rest : cleared ≡ from end v
+  pub spaced : (blank : Bool) → is_single_spaced blank (drop at v) ≡ true
+      → (is_single_spaced false (drop end v) ≡ true) × (with_prefix 32 (join_fields None (drop end v)) ≡ drop end v)
 
-word_at : (v : List ℕ) → 0 < mask_l (marks v) → WordAt v (word_start v) (word_end v) (clear_run (marks v))
-word_at [] some = absurd (omega (arith, some))
-word_at (b ∷ v) some = by (word_at v) (is_blank b) refl some
+-- a byte before the word
+byte_before : {at to start end : ℕ} {v : List ℕ} {cleared : List Bool} (b : ℕ) → WordAt at v start end cleared
+    → join_fields None (drop to (b ∷ v)) ≡ join_fields None (drop at v)
+    → ((blank : Bool) → is_single_spaced blank (drop to (b ∷ v)) ≡ true
+    → (left : Bool) × (is_single_spaced left (drop at v) ≡ true))
+    → WordAt to (b ∷ v) (1 + start) (1 + end) (false ∷ cleared)
+byte_before {start = start} {end} b w same spaced = rw (one_more start, one_more end)
+    (let size : suc end - suc start ≡ end - start = omega arith in grind (arith, size, same, spaced))
+
+word_at : (at : ℕ) (v : List ℕ) → at ≤ length v → 0 < mask_l (from at v)
+    → WordAt at v (prefix_len not (from at v)) (prefix_len not (after_run (from at v))) (clear_run (from at v))
+word_at zero [] low some = absurd (omega (arith, some))
+word_at (suc at) [] low some = absurd (omega (arith, low))
+word_at (suc at) (b ∷ v) low some =
+    byte_before b (word_at at v (omega (arith, low)) (omega (arith, some))) refl (λ blank s. (blank, s))
+word_at zero (b ∷ v) low some = by (word_at 0 v (omega arith)) (is_blank b) refl some
   where
-    by : (0 < mask_l (marks v) → WordAt v (word_start v) (word_end v) (clear_run (marks v))) → (t : Bool)
-        → is_blank b ≡ t → 0 < mask_l (not t ∷ marks v)
-        → WordAt (b ∷ v) (prefix_len not (not t ∷ marks v)) (prefix_len not (after_run (not t ∷ marks v)))
-        (clear_run (not t ∷ marks v))
-    by more true e some =
-        let w = more (omega (arith, some)) in
-        let start = word_start v in
-        let end = word_end v in
-        let size : suc end - suc start ≡ end - start = omega arith in
-        let one : suc start ≡ 1 + start = omega arith in
-        let one_end : suc end ≡ 1 + end = omega arith in
-        subst (λ (k : ℕ). WordAt (b ∷ v) k (1 + end) (false ∷ clear_run (marks v))) one
-        (subst (λ (k : ℕ). WordAt (b ∷ v) (suc start) k (false ∷ clear_run (marks v))) one_end (record {
-          low = omega (arith, w.low);
-          high = omega (arith, w.high);
-          is = cc (split_byte b v e, w.is, size);
-          rest = cc w.rest;
-          next = λ blank s. w.next true (space_is blank b v e s).1;
-          spaced = λ blank s. w.spaced true (space_is blank b v e s).1;
-        }))
+    by : (0 < mask_l (from 0 v)
+        → WordAt 0 v (prefix_len not (from 0 v)) (prefix_len not (after_run (from 0 v))) (clear_run (from 0 v)))
+        → (t : Bool) → is_blank b ≡ t → 0 < mask_l (not t ∷ from 0 v)
+        → WordAt 0 (b ∷ v) (prefix_len not (not t ∷ from 0 v)) (prefix_len not (after_run (not t ∷ from 0 v)))
+        (clear_run (not t ∷ from 0 v))
+    by more true e some = byte_before b (more (omega (arith, some))) (cc (split_byte b v e))
+        (λ blank s. (true, (space_is blank b v e s).1))
     by more false e some =
         let w = in_word v in
-        let n = prefix_len not (after_ones (marks v)) in
+        let n = prefix_len not (after_ones (from 0 v)) in
         let size : suc n - 0 ≡ suc n = omega arith in
-        let one : suc n ≡ 1 + n = omega arith in
-        subst (λ (k : ℕ). WordAt (b ∷ v) 0 k (false ∷ clear_ones (marks v))) one (record {
+        rw one_more (record {
           low = omega arith;
           high = omega (arith, w.high);
           is = cc (split_byte b v e, w.split, w.words, size);
           rest = cc w.rest;
-          next = λ blank s. w.next (letter_is blank b v e s);
-          spaced = λ blank s. cc (w.words, w.spaced (letter_is blank b v e s));
+          spaced = λ blank s. w.spaced (letter_is blank b v e s);
         })
 
-no_words : (v : List ℕ) → mask_l (marks v) ≡ 0 → join_fields None v ≡ []
-no_words [] none = refl
-no_words (b ∷ v) none = by (no_words v) (is_blank b) refl none
-  where
-    by : (mask_l (marks v) ≡ 0 → join_fields None v ≡ []) → (t : Bool) → is_blank b ≡ t → mask_l (not t ∷ marks v) ≡ 0
-        → join_fields None (b ∷ v) ≡ []
-    by more true e none = cc (split_byte b v e, more (omega (arith, none)))
-    by more false e none = absurd (omega (arith, none))
-
--- ---- after some bytes
-
-abbrev from : ℕ → List Bool → List Bool
-from n bits = replicate n false ++ bits
-
-from_prefix_len : (n : ℕ) (bits : List Bool) → prefix_len not (from n bits) ≡ n + prefix_len not bits
-from_prefix_len zero bits = omega arith
-from_prefix_len (suc n) bits = omega (arith, from_prefix_len n bits)
-
-from_after : (n : ℕ) (bits : List Bool) → after_run (from n bits) ≡ from n (after_run bits)
-from_after zero bits = refl
-from_after (suc n) bits = cc (from_after n bits)
-
-from_clear : (n : ℕ) (bits : List Bool) → clear_run (from n bits) ≡ from n (clear_run bits)
-from_clear zero bits = refl
-from_clear (suc n) bits = cc (from_clear n bits)
-
-from_from : (m n : ℕ) (bits : List Bool) → from m (from n bits) ≡ from (m + n) bits
-from_from zero n bits = ap (λ (k : ℕ). from k bits) (omega arith)
-from_from (suc m) n bits = let more : suc (m + n) ≡ suc m + n = omega arith in rw (← more) (cc (from_from m n bits))
-
-from_some : (n : ℕ) (bits : List Bool) → 0 < mask_l (from n bits) → 0 < mask_l bits
-from_some zero bits some = some
-from_some (suc n) bits some = from_some n bits (omega (arith, some))
-
-from_none : (n : ℕ) (bits : List Bool) → mask_l (from n bits) ≡ 0 → mask_l bits ≡ 0
-from_none zero bits none = none
-from_none (suc n) bits none = from_none n bits (omega (arith, none))
-
-from_length : (n : ℕ) (bits : List Bool) → length (from n bits) ≡ n + length bits
-from_length zero bits = omega arith
-from_length (suc n) bits = omega (arith, from_length n bits)
+no_words : (at : ℕ) (v : List ℕ) → mask_l (from at v) ≡ 0 → join_fields None (drop at v) ≡ []
+no_words zero [] none = refl
+no_words (suc at) [] none = refl
+no_words (suc at) (b ∷ v) none = no_words at v (omega (arith, none))
+no_words zero (b ∷ v) none = let ih = no_words 0 v in grind (arith, none, ih)
 
 -- `passed` words of the line have been passed, and `words` is the mask of those from the index `at` on
 pub record WordsLeft (line : List ℕ) (passed words : ℕ) : Type 0 where
   pub at : ℕ
   pub within : at ≤ length line
-  pub mask : words ≡ mask_l (from at (marks (drop at line)))
+  pub mask : words ≡ mask_l (from at line)
   pub fields : drop passed (join_fields None line) ≡ join_fields None (drop at line)
   pub spaced : is_single_spaced true line ≡ true → (blank : Bool) × (is_single_spaced blank (drop at line) ≡ true)
 
@@ -446,28 +362,25 @@ pub any_fits : (line : List ℕ) (any : ℕ) → length line < 64 → any ≡ ma
 any_fits line any short is = omega (arith, power_fits line short, is, word_mask line)
 
 module _ {line : List ℕ} {passed words : ℕ} (short : length line < 64) (left : WordsLeft line passed words) where
-  abbrev rest : List ℕ
-  rest = drop left.at line
-
   abbrev bits : List Bool
-  bits = from left.at (marks rest)
+  bits = from left.at line
 
   bits_long : length bits ≡ length line
-  bits_long = grind (arith, common_steps, from_length)
+  bits_long = grind (arith, common_steps, left)
 
   pub words_small : words < 2 ^ 63
   words_small = search (rules, bits_long, mask_l-lt)
 
   -- no words are left
   pub none_left : (number : ℕ) → words ≡ 0 → passed ≤ number - 1 → drop (number - 1) (join_fields None line) ≡ []
-  none_left number none le = grind (arith, none_past, no_words, from_none)
+  none_left number none le = grind (arith, none_past, no_words)
 
   module _ (some : words ≢ 0) where
     some_bits : 0 < mask_l bits
     some_bits = omega (arith, left.mask, λ (none : mask_l bits ≡ 0). some (left.mask ∙ none))
 
-    first_word : WordAt rest (word_start rest) (word_end rest) (clear_run (marks rest))
-    first_word = word_at rest (from_some left.at (marks rest) some_bits)
+    first_word : WordAt left.at line (prefix_len not bits) (prefix_len not (after_run bits)) (clear_run bits)
+    first_word = word_at left.at line left.within some_bits
 
     abbrev after : ℕ
     after = bit_or words (words - 1) + 1
@@ -475,53 +388,31 @@ module _ {line : List ℕ} {passed words : ℕ} (short : length line < 64) (left
     after_is : after ≡ mask_l (after_run bits)
     after_is = cc (left.mask, or_less bits some_bits)
 
-    start_is : count_trailing_zeros 64 words ≡ left.at + word_start rest
-    start_is = grind (arith, lowest, bits_long, some_bits, from_prefix_len)
+    start_is : count_trailing_zeros 64 words ≡ prefix_len not bits
+    start_is = grind (arith, lowest, bits_long, some_bits)
 
-    end_is : count_trailing_zeros 64 after ≡ left.at + word_end rest
-    end_is = grind (arith, after_is, lowest, length-after_run, bits_long, some_after_run, some_bits, from_after,
-        from_prefix_len)
+    end_is : count_trailing_zeros 64 after ≡ prefix_len not (after_run bits)
+    end_is = grind (arith, after_is, lowest, length-after_run, bits_long, or_less, some_bits)
 
     -- the first of them is passed
     pub word_passed : WordsLeft line (passed + 1) (bit_and words after)
-    word_passed =
-        let w = first_word in
-        let end = word_end rest in
-        let there : drop end rest ≡ drop (left.at + end) line = drop-drop end left.at line
-        ∙ ap (λ (n : ℕ). drop n line) (omega arith) in
+    word_passed = let w = first_word in
         record {
-          at = left.at + end;
-          within = omega (arith, w.high, length-drop left.at line, left.within);
-          mask = cc (
-            left.mask,
-            after_is,
-            and_run bits,
-            from_clear left.at (marks rest),
-            w.rest,
-            from_from left.at end (marks (drop end rest)),
-            there,
-          );
-          fields = cc (drop-drop 1 passed (join_fields None line), left.fields, w.is, there);
-          spaced = λ s. (false, rw there at (w.next (left.spaced s).0 (left.spaced s).1));
+          at = prefix_len not (after_run bits);
+          within = w.high;
+          mask = cc (left.mask, after_is, and_run bits, w.rest);
+          fields = cc (drop-drop 1 passed (join_fields None line), left.fields, w.is);
+          spaced = λ s. (false, (w.spaced (left.spaced s).0 (left.spaced s).1).0);
         }
 
     -- the span of the first of them
     pub word_found : (number : ℕ) → passed ≡ number - 1 → IsFieldAt None number line
         (record { start = count_trailing_zeros 64 words; end = count_trailing_zeros 64 after })
-    word_found number is =
-        let w = first_word in
-        let start = word_start rest in
-        let end = word_end rest in
-        let there : drop end rest ≡ drop (count_trailing_zeros 64 after) line = drop-drop end left.at line
-        ∙ ap (λ (n : ℕ). drop n line) (omega (arith, end_is)) in
-        let here : drop start rest ≡ drop (count_trailing_zeros 64 words) line = drop-drop start left.at line
-        ∙ ap (λ (n : ℕ). drop n line) (omega (arith, start_is)) in
-        let size : end - start ≡ count_trailing_zeros 64 after - count_trailing_zeros 64 words =
-        omega (arith, start_is, end_is) in
-        record {
-          more = join_fields None (drop end rest);
-          is = cc (left.fields, w.is, size, here);
-          ordered = omega (arith, start_is, end_is, w.low);
-          within = omega (arith, end_is, w.high, length-drop left.at line, left.within);
-          after = λ s. w.spaced (left.spaced s).0 (left.spaced s).1 ∙ there;
-        }
+    word_found number is = let w = first_word in
+        rw (start_is, end_is) (record {
+          more = join_fields None (drop (prefix_len not (after_run bits)) line);
+          is = cc (left.fields, w.is);
+          ordered = w.low;
+          within = w.high;
+          after = λ s. (w.spaced (left.spaced s).0 (left.spaced s).1).1;
+        })

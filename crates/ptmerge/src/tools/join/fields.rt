@@ -85,6 +85,7 @@ fn span_of_field(separator: Option<u8>, line: &[u8], field: &[u8], remainder: Op
 // Returns the span of the field with this number, counted from 1, or `None` if there is none. Not inlined, so that
 // finding a word of a short line stays small.
 #[inline(never)]
+#[tactic(auto, using(crate::proofs::JoinLemmas::Fields::none_past, crate::proofs::JoinLemmas::Fields::drop_next, crate::proofs::JoinLemmas::Fields::remaining_after))]
 fn find_by_pieces(separator: Option<u8>, number: u64, line: &[u8]) -> Option<Span>
     ensures { IsFieldFound separator number line.now result }
 {

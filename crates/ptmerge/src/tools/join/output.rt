@@ -78,6 +78,7 @@ fn write_around<W: Sink>(
 
 // Writes all fields of a line except the one with this number, each with the output separator before it.
 #[inline(always)]
+#[tactic(auto, using(crate::proofs::JoinLemmas::Fields::around_is, crate::proofs::JoinLemmas::Fields::between_is, crate::proofs::JoinLemmas::PartialWrite::push_is_write))]
 fn write_other_fields<W: Sink>(
     separator: Option<u8>,
     number: u64,
@@ -156,6 +157,7 @@ fn item_or_filler<'a, A: Allocator>(
 }
 
 // Writes an output line by an output list, without its terminator.
+#[tactic(auto, using(crate::proofs::JoinLemmas::PartialWrite::first_fails, crate::proofs::JoinLemmas::Fields::entry_listed))]
 fn write_listed_fields<A: Allocator, W: Sink>(
     entry: &Entry<'_, A>,
     items: &[OutField],
@@ -184,6 +186,7 @@ fn write_listed_fields<A: Allocator, W: Sink>(
 // Writes an output line field by field, without its terminator. Not inlined, so that the code for canonical lines stays
 // short.
 #[inline(never)]
+#[tactic(auto, using(crate::proofs::JoinLemmas::PartialWrite::first_fails, crate::proofs::JoinLemmas::Fields::entry_plain))]
 fn write_fields<A: Allocator, W: Sink>(
     entry: &Entry<'_, A>,
     out: &mut Out<W>,
@@ -216,6 +219,7 @@ fn is_canonical(separator: Option<u8>, number: u64, line: &[u8]) -> bool
 // Canonical lines are written without splitting them: the first line, and after it the second one without its join
 // field.
 #[inline(always)]
+#[tactic(auto, using(crate::proofs::JoinLemmas::PartialWrite::push_fails, ptlines::proofs::Push::push_past_failure))]
 pub(crate) fn write_entry<'a, A: Allocator, W: Sink>(
     job: &'a JoinJob<A>,
     key: &'a [u8],

@@ -1,11 +1,12 @@
 -- Each iteration preserves the invariant by one lemma of `Iteration`, and each exit has the
 -- postconditions by another.
+use Rattle.std.proofs.Common.{rules}
 use Rattle.ptmerge.proofs
 use proofs.Common.{refl, sym, ◌∙◌, join_job}
 use proofs.JoinLemmas.Iteration.{read_group_pre, read_group_fails, read_group_continues, group_closed, group_there}
 use proofs.JoinLemmas.Iteration.{write_pairs_group, write_pairs_pre, pair_fails, write_pairs_next}
 use proofs.JoinLemmas.Iteration.{write_pairs_continues, alone_continues, alone_fails, begins, end_in, eof, disordered}
-use proofs.JoinLemmas.Iteration.{measure_decreases, joins, opened, group_opens, group_opens_decreases}
+use proofs.JoinLemmas.Iteration.{measure_decreases, opened, group_opens}
 use proofs.MergeLemmas.Step.{advance_pre, err_is, start_fault}
 use Rattle.ptmerge.specs.declared.key_order.Side.TheVariants as sides
 use Rattle.ptmerge.specs.declared.tools.join.JoinPhase.TheVariants as phases
@@ -30,15 +31,9 @@ pub write_unpaired-requires-clause-status_is : goal.write_unpaired-requires-clau
 write_unpaired-requires-clause-status_is g c =
     advance_pre c.steps.invariant.iteration.between sides.First c.in-First.ensures.status_is
 
-pub write_unpaired-requires-clause-joins : goal.write_unpaired-requires-clause-joins
-write_unpaired-requires-clause-joins g c = joins c.steps.invariant.iteration
-
 pub write_unpaired-requires-in-Second-clause-status_is : goal.write_unpaired-requires-in-Second-clause-status_is
 write_unpaired-requires-in-Second-clause-status_is g c =
     advance_pre c.steps.invariant.iteration.between sides.Second c.in-Second.ensures.status_is
-
-pub write_unpaired-requires-in-Second-clause-joins : goal.write_unpaired-requires-in-Second-clause-joins
-write_unpaired-requires-in-Second-clause-joins g c = joins c.steps.invariant.iteration
 
 pub steps-preserved-in-Continue-branch-2 : goal.steps-preserved-in-Continue-branch-2
 steps-preserved-in-Continue-branch-2 g c =
@@ -61,14 +56,10 @@ steps-preserved-in-Continue-branch-3 g c =
     })
 
 pub steps-smaller-in-Continue-branch-2 : goal.steps-smaller-in-Continue-branch-2
-steps-smaller-in-Continue-branch-2 g c = let h = c.in_ok-write_unpaired-in-First.ensures.advances in
-    measure_decreases c.steps.invariant.iteration sides.First c.steps.phase c.in-First.ensures.status_is h.came
-    h.continues
+steps-smaller-in-Continue-branch-2 g c = search (rules, measure_decreases)
 
 pub steps-smaller-in-Continue-branch-3 : goal.steps-smaller-in-Continue-branch-3
-steps-smaller-in-Continue-branch-3 g c = let h = c.in_ok-write_unpaired-in-Second.ensures.advances in
-    measure_decreases c.steps.invariant.iteration sides.Second c.steps.phase c.in-Second.ensures.status_is h.came
-    h.continues
+steps-smaller-in-Continue-branch-3 g c = search (rules, measure_decreases)
 
 pub returns-in_err-write_unpaired-in-First : goal.returns-in_err-write_unpaired-in-First
 returns-in_err-write_unpaired-in-First g c =
@@ -89,9 +80,6 @@ steps-preserved-in-Both g c = record {
   iteration = group_opens c.steps.invariant.iteration c.in-BetweenGroups.is c.in-Both.ensures;
   order = c.steps.invariant.order;
 }
-
-pub steps-smaller-in-Both : goal.steps-smaller-in-Both
-steps-smaller-in-Both g c = group_opens_decreases c.steps.invariant.iteration c.in-BetweenGroups.is
 
 pub returns-in-End : goal.returns-in-End
 returns-in-End g c =
@@ -152,16 +140,10 @@ steps-smaller-then-not-has_same_key g c =
     (read_group_pre c.steps.invariant.iteration c.in-ReadGroup.is).head ok.reads_line.came ok.continues
 
 pub steps-smaller-then-not-has_same_key-2 : goal.steps-smaller-then-not-has_same_key-2
-steps-smaller-then-not-has_same_key-2 g c =
-    let h = c.in_ok-write_pairs-in-WritePairs.ensures.advances in
-    measure_decreases c.steps.invariant.iteration sides.First phases.BetweenGroups
-    (write_pairs_pre c.steps.invariant.iteration c.in-WritePairs.is).status_is.head h.came h.continues
+steps-smaller-then-not-has_same_key-2 g c = search (rules, measure_decreases, write_pairs_pre)
 
 pub steps-smaller : goal.steps-smaller
-steps-smaller g c =
-    let h = c.in_ok-write_pairs-in-WritePairs.ensures.advances in
-    measure_decreases c.steps.invariant.iteration sides.First c.steps.phase
-    (write_pairs_pre c.steps.invariant.iteration c.in-WritePairs.is).status_is.head h.came h.continues
+steps-smaller g c = search (rules, measure_decreases, write_pairs_pre)
 
 pub write_pairs-requires-clause-joins : goal.write_pairs-requires-clause-joins
 write_pairs-requires-clause-joins g c = write_pairs_pre c.steps.invariant.iteration c.in-WritePairs.is

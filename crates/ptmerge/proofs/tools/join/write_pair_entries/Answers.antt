@@ -1,16 +1,10 @@
 -- Each iteration writes the output line of one line of the group. A write that fails leaves a prefix of the pairs.
+use Rattle.std.proofs.Common.{rules}
 use Rattle.ptmerge.proofs
 use proofs.Common.{◌++◌, [], ◌∷◌, List, ℕ, ap, arith, sym, map, join_job, group}
-use proofs.JoinLemmas.PartialWrite.{partial_starts, each_done, each_fails, each_more}
-use proofs.JoinLemmas.GroupSlots.{pair_of, pairs_text, group_from, group_end}
+use proofs.JoinLemmas.PartialWrite.{each_done, each_fails, each_more}
+use proofs.JoinLemmas.GroupSlots.{pair_of, group_from, group_end}
 use Rattle.ptmerge.proofs.tools.join.write_pair_entries.Goals as goal
-
-pub loop-slot-init : goal.loop-slot-init
-loop-slot-init g c = record {
-  amid = partial_starts (pairs_text (join_job c.args.job.now) c.args.terminator c.args.line.now c.args.key.now
-      (group c.args.store.now c.args.from c.args.end) c.if-not-job.false);
-  from = omega arith;
-}
 
 pub returns-in_err-write_entry : goal.returns-in_err-write_entry
 returns-in_err-write_entry g c =
@@ -32,8 +26,4 @@ loop-slot-preserved g c = record {
 }
 
 pub returns : goal.returns
-returns g c =
-    each_done (λ (l : List ℕ). l ++ c.args.terminator ∷ [])
-    (ap (map (pair_of (join_job c.args.job.now) c.args.key.now c.args.line.now))
-    (group_end c.args.store.now c.args.end c.loop-slot.slot (omega (arith, c.loop-slot-test.false))))
-    c.loop-slot.invariant.amid
+returns g c = search (rules, each_done, group_end)

@@ -1,13 +1,8 @@
 -- The span is that of the next field in the rest of the line, which is a field of the line too.
 use Rattle.ptmerge.proofs
-use proofs.Common.{◌-◌, ◌∙◌, ◌≡◌, Some, arith, option_copied, remaining_fields}
-use proofs.JoinLemmas.Fields.{after_piece, drop_next, field_in, none_past, remaining_after}
+use proofs.Common.{◌-◌, ◌≡◌, Some, arith, option_copied, remaining_fields}
+use proofs.JoinLemmas.Fields.{after_piece, field_in}
 use Rattle.ptmerge.proofs.tools.join.fields.find_by_pieces.Goals as goal
-
-pub returns-in_err-remainder : goal.returns-in_err-remainder
-returns-in_err-remainder c = rw c.from_residual.ensures (none_past _ c.loop-passed._passed (c.args.number - 1)
-    (c.loop-passed.invariant.passed ∙ c.in_err-remainder.ensures.first)
-    (omega (arith, c.loop-passed-test.true, c.saturating_sub-passed-end.ensures)))
 
 pub returns : goal.returns
 returns c =
@@ -25,14 +20,6 @@ returns c =
       after = after_piece c.args.separator c.args.line.now c.in_ok-field.field.now remainder
           c.span_of_field.result.end piece c.span_of_field.ensures.end;
     }
-
-pub loop-passed-preserved : goal.loop-passed-preserved
-loop-passed-preserved c = record {
-  passed = drop_next _ _ _ c.loop-passed._passed (c.loop-passed.invariant.passed ∙ c.in_ok-remainder.ensures.first);
-  ends = remaining_after c.args.separator (Some c.args.line.now) (option_copied c.loop-passed.left)
-      c.in_ok-remainder.field-0-0.now (option_copied c.in_ok-remainder.remainder) c.loop-passed.invariant.ends
-      c.in_ok-remainder.ensures.is_piece;
-}
 
 pub span_of_field-requires : goal.span_of_field-requires
 span_of_field-requires c =

@@ -1,8 +1,9 @@
 -- A canonical line is its key and its other fields, so it is written unchanged.
+use Rattle.std.proofs.Common.{arith}
 use Rattle.ptmerge.proofs
-use proofs.Common.{◌≡◌, List, [], ◌∷◌, ◌++◌, ℕ, Option, Result, append-nil, ap, refl, subst, ◌∙◌, First, Join, Output}
-use proofs.Common.{PushPost, Second, entry_with_list, join_job, option_copied, push_past_failure}
-use proofs.JoinLemmas.PartialWrite.{push_fails, then_pushes}
+use proofs.Common.{◌≡◌, List, [], ◌∷◌, ◌++◌, ℕ, Option, Result, append-nil, ap, refl, subst, First, Join, Output}
+use proofs.Common.{PushPost, Second, entry_with_list, join_job, option_copied}
+use proofs.JoinLemmas.PartialWrite.{then_pushes}
 use proofs.JoinLemmas.Fields.{first_is, pair_is, second_is}
 use Rattle.ptmerge.specs.JoinFields.{IsKeyOf}
 use Rattle.ptmerge.proofs.tools.join.output.write_entry.Goals as goal
@@ -12,7 +13,7 @@ pushes_entry : {E : Type 0} {was is : Output} {r : Result (Unit {0}) E} (job : J
     {one one2 two two2 : Option (List ℕ)} → one2 ≡ one → two2 ≡ two → {bytes : List ℕ}
     → bytes ≡ entry_with_list job job.list k one two ++ end ∷ [] → PushPost was is bytes r
     → PushPost was is (entry_with_list job job.list k one2 two2 ++ end ∷ []) r
-pushes_entry job k end first second same p = rw (first, second, ← same) p
+pushes_entry job k end first second same p = grind arith
 
 pub returns-in-None-Some-Some : goal.returns-in-None-Some-Some
 returns-in-None-Some-Some g c =
@@ -30,28 +31,22 @@ returns-in-None-Some-Some g c =
 pub returns-in-None-Some-None : goal.returns-in-None-Some-None
 returns-in-None-Some-None g c =
     let job = join_job c.args.job.now in
-    let key = c.args.key.now in
     let at = c.in-None-Some-None in
     let one = ap option_copied at.is-1 in
-    let two = ap option_copied at.is-2 in
-    pushes_entry job key c.args.terminator one two (ap (λ (l : List ℕ). l ++ c.args.terminator ∷ [])
-    (append-nil at.line.now ∙ first_is job key at.is-0 (c.if-is_canonical-3.ensures refl)
-    (subst (IsKeyOf job First key) one c.requires.one))) c.push_line-in-None-Some-None.ensures.pushed
+    let is = first_is job c.args.key.now at.is-0 (c.if-is_canonical-3.ensures refl)
+    (subst (IsKeyOf job First c.args.key.now) one c.requires.one) in
+    pushes_entry job c.args.key.now c.args.terminator one (ap option_copied at.is-2) (cc (is, append-nil at.line.now))
+    c.push_line-in-None-Some-None.ensures.pushed
 
 pub returns-in-None-None-Some : goal.returns-in-None-None-Some
 returns-in-None-None-Some g c =
     let job = join_job c.args.job.now in
-    let key = c.args.key.now in
     let at = c.in-None-None-Some in
-    let one = ap option_copied at.is-1 in
     let two = ap option_copied at.is-2 in
-    pushes_entry job key c.args.terminator one two (ap (λ (l : List ℕ). l ++ c.args.terminator ∷ [])
-    (second_is job key at.is-0 (c.if-is_canonical-4.ensures refl) (subst (IsKeyOf job Second key) two c.requires.two)))
+    let is = second_is job c.args.key.now at.is-0 (c.if-is_canonical-4.ensures refl)
+    (subst (IsKeyOf job Second c.args.key.now) two c.requires.two) in
+    pushes_entry job c.args.key.now c.args.terminator (ap option_copied at.is-1) two (cc is)
     c.push_line-in-None-None-Some.ensures.pushed
-
-pub returns-in_err-write_fields : goal.returns-in_err-write_fields
-returns-in_err-write_fields g c = push_fails _ c.from_residual.ensures.1 c.in_err-write_fields.ensures.fault
-    (push_past_failure _ _ _ _ c.in_err-write_fields.ensures.fault c.write_fields.ensures.wrote)
 
 pub returns : goal.returns
 returns g c = then_pushes c.in_ok-write_fields.ensures.clean c.write_fields.ensures.wrote c.push.ensures.pushed

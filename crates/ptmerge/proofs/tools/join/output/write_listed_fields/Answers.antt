@@ -2,16 +2,9 @@
 -- item.
 use Rattle.ptmerge.proofs
 use proofs.Common.{◌∷◌, ℕ, List, sym, option_copied, ◌∙◌, join_job, output_separator}
-use proofs.JoinLemmas.PartialWrite.{partial_first, each_fails, each_more, first_fails}
-use proofs.JoinLemmas.Fields.{between_is, entry_listed, output_item, first_then_rest}
+use proofs.JoinLemmas.PartialWrite.{partial_first, each_fails, each_more}
+use proofs.JoinLemmas.Fields.{between_is, entry_listed, first_then_rest}
 use Rattle.ptmerge.proofs.tools.join.output.write_listed_fields.Goals as goal
-
-pub returns-in_err-push : goal.returns-in_err-push
-returns-in_err-push g c =
-    let e = c.args.entry.now in
-    first_fails _ c.from_residual.ensures.1 _
-    (entry_listed (join_job e.job.now) e.key.now (option_copied e.one) (option_copied e.two) c.args.items.now _
-    c.in-len1-up.len_at_least c.item_or_filler.ensures) c.push.ensures.pushed.wrote c.in_err-push.ensures.pushed.fault
 
 pub items-init : goal.items-init
 items-init g c =
@@ -24,8 +17,7 @@ pub returns-in_err-write_prefixed_field : goal.returns-in_err-write_prefixed_fie
 returns-in_err-write_prefixed_field g c =
     let e = c.args.entry.now in
     each_fails (λ (l : List ℕ). output_separator (join_job e.job.now).separator ∷ l)
-    (first_then_rest (output_item (join_job e.job.now) e.key.now (option_copied e.one) (option_copied e.two))
-    c.items.rest.now _ c.in-len1-up-rest.len_at_least
+    (first_then_rest _ c.items.rest.now _ c.in-len1-up-rest.len_at_least
     c.item_or_filler-in-len1-up-rest.ensures) c.items.invariant
     (rw (c.unwrap_or-prefix.ensures
     ∙ sym (between_is (join_job e.job.now).separator)) at c.write_prefixed_field.ensures.wrote)
@@ -35,8 +27,7 @@ pub items-preserved : goal.items-preserved
 items-preserved g c =
     let e = c.args.entry.now in
     each_more (λ (l : List ℕ). output_separator (join_job e.job.now).separator ∷ l)
-    (first_then_rest (output_item (join_job e.job.now) e.key.now (option_copied e.one) (option_copied e.two))
-    c.items.rest.now _ c.in-len1-up-rest.len_at_least
+    (first_then_rest _ c.items.rest.now _ c.in-len1-up-rest.len_at_least
     c.item_or_filler-in-len1-up-rest.ensures) c.items.invariant
     (rw (c.unwrap_or-prefix.ensures
     ∙ sym (between_is (join_job e.job.now).separator)) at c.write_prefixed_field.ensures.wrote)

@@ -8,7 +8,7 @@ use Rattle.ptmerge.proofs.tools.join.output.write_other_words.Goals as goal
 pub returns-in_err-write_prefixed_field : goal.returns-in_err-write_prefixed_field
 returns-in_err-write_prefixed_field g c =
     each_fails (λ (l : List ℕ). 32 ∷ l)
-    (others_more (c.args.number - 1) c.loop-passed._passed
+    (others_more _ _
     (omega (arith, c.loop-passed-test.true, c.saturating_sub-passed-end.ensures)) c.in-Some.ensures.first)
     c.loop-passed.invariant
     c.write_prefixed_field.ensures.wrote c.in_err-write_prefixed_field.ensures.fault _ c.from_residual.ensures.1
