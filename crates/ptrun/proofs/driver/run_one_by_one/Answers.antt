@@ -9,7 +9,7 @@ use proofs.ToolRuns.{sequential_post, operand_pre, operand_post, decides_all}
 use Rattle.ptrun.proofs.driver.run_one_by_one.Goals.{then-is_refused, else-is_refused+in_ok-run_on}
 
 pub loop-input-init : goal.loop-input-init
-loop-input-init g c = done_nothing c.requires.ready.given.fresh c.requires.ready.writable c.requires.ready.not_denied c.requires.ready.empty
+loop-input-init g c = grind (arith, done_nothing)
 
 pub run_on-requires : goal.run_on-requires
 run_on-requires g c =
@@ -82,9 +82,4 @@ name_at-requires g c =
     omega (arith, low, names_counted c.args.names.now (length c.args.inputs.now) c.requires.ready.given.named)
 
 pub position_of-position-requires : goal.position_of-position-requires
-position_of-position-requires g c =
-    omega (
-      arith,
-      position_in_range c.args.order.now (length c.args.inputs.now) c.requires.ready.given.in_range c.loop-input.input-index Standard
-          c.loop-input-test.true,
-    )
+position_of-position-requires g c = grind (arith, position_in_range)
