@@ -6,7 +6,6 @@ use proofs.Common.{slice_index, nat_eq, add-one, drop-cons, arith, OnSome, eq-eq
 use proofs.Common.{takes_value, ParsedOption, flag, Token, Valid, value_token, tokens_in, tokens_of, takes_next}
 use proofs.Common.{Fault, token_fault, parse_fault, options_of_tokens, option_view, options_view, GroupPost}
 use Rattle.ptopts.specs.declared.parsing.ParsedOption as given
-use Rattle.std.proofs.Common.{rules}
 use Rattle.std.proofs.lemmas.Grind.{common_steps}
 
 -- the options so far and the tokens of the remaining letters are those of the word
@@ -40,17 +39,10 @@ valued_if_given : (tool : Tool) (word : List ℕ) (letter : ℕ) (rest : List �
 valued_if_given tool word letter rest next o given = grind arith
 
 module _ (tool : Tool) (word : List ℕ) (next : Option (List ℕ)) (before : List ParsedOption) where
-  pub ahead_first : GroupRead tool word next before before (drop 1 word)
-  ahead_first = record { gathered = refl; takes = refl; faults = λ tokens. refl }
-
   pub ahead_flag : (os : List ParsedOption) (letter : ℕ) (rest : List ℕ) → is_flag tool letter ≡ true
       → GroupRead tool word next before os (letter ∷ rest)
       → GroupRead tool word next before (os ++ flag letter ∷ []) rest
   ahead_flag os letter rest is a = grind (arith, common_steps)
-
-  pub ahead_end : (os : List ParsedOption) → GroupRead tool word next before os []
-      → GroupPost tool word next before os false
-  ahead_end os a = search rules
 
   pub ahead_value : (os : List ParsedOption) (letter : ℕ) (rest : List ℕ) (o : ParsedOption)
       → is_flag tool letter ≡ false → value_token tool word letter rest next ≡ Valid o

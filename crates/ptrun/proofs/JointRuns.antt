@@ -1,7 +1,7 @@
 -- Tools that read all their operands together.
 --
--- If an operand could not be opened, nothing but messages is required. Otherwise what the engine of such a tool has done
--- at the positions of its operands is what processing the inputs has to do.
+-- If an operand could not be opened, nothing but messages is required. Otherwise what the engine of such a tool has
+-- done at the positions of its operands is what processing the inputs has to do.
 use Rattle.ptrun.proofs
 use proofs.Common.{AreReadToEnd, ended_operands, IsDone, Disorder, cases_eq, ◌≡◌, ◌⊎◌, ⊎_elim, inl, inr, ℕ, zero, suc}
 use proofs.Common.{◌+◌, ◌<◌, ◌≤◌, ◌^◌, ◌||◌, Bool, true, false, cond, List, [], ◌∷◌, Option, Some, None, Result, Ok}
@@ -105,7 +105,8 @@ module _ (word : List ℕ) {t : JointTool} (names : List (List ℕ)) {positions 
   complete : (w : InputBytes) → AreInputsConsistent received w → has_unopened positions w ≡ false
   complete w agrees = grind (arith, any_same, unopened_agrees, came)
 
-  agree : (w : InputBytes) → AreInputsConsistent received w → AreAllConsistent (inputs_at positions) k.given (bytes_of w)
+  agree : (w : InputBytes) → AreInputsConsistent received w → AreAllConsistent (inputs_at positions) k.given
+      (bytes_of w)
   agree w agrees q named = grind (arith, consistent_bytes, k, at_listed)
 
   -- ---- the decided output
@@ -133,7 +134,8 @@ module _ (word : List ℕ) {t : JointTool} (names : List (List ℕ)) {positions 
   failed_is_in : (q : ℕ) → HasReadFailed old new q → is_in positions q ≡ true
   failed_is_in q failed = grind (arith, k)
 
-  none_failed : NoReadFailed (inputs_at positions) (run_state old was before) (run_state new is store) → (q : ℕ) → HasReadFailed old new q → ⊥
+  none_failed : NoReadFailed (inputs_at positions) (run_state old was before) (run_state new is store) → (q : ℕ)
+      → HasReadFailed old new q → ⊥
   none_failed none q failed = grind (arith, failed_is_in)
 
   none_long : ((q : ℕ) → is_in positions q ≡ true → (reader_at new q).pulled < 2 ^ 63) → (q : ℕ)

@@ -119,10 +119,6 @@ pub consistent_before : (g e : Received) (b : List ℕ) → (g.eof ≡ true → 
     → IsConsistent (record { bytes = g.bytes ++ e.bytes; eof = e.eof }) b → IsConsistent g b
 consistent_before g e b still a = grind (arith, common_steps)
 
--- all its bytes were received
-pub consistent_whole : (g : Received) (b : List ℕ) → g.eof ≡ true → IsConsistent g b → b ≡ g.bytes
-consistent_whole g b eof a = search rules
-
 -- ---- before the first operand, and after the last
 
 pub received_at : (old : List Reader) (q : ℕ) → at (map received_of old) q ≡ received_of (reader_at old q)

@@ -1,15 +1,16 @@
 -- The inputs and the positions of the operands of a command, one operand at a time. The facts follow by induction on
 -- the list of operands.
 use Rattle.ptrun.proofs
-use proofs.Common.{eqb-true, Any-from_list_any, or_left, or_right, or-false, ◌≡◌, ◌≢◌, ℕ, zero, suc, ◌==◌, ◌||◌, Bool}
-use proofs.Common.{true, false, cond, List, [], ◌∷◌, ◌++◌, Option, Some, None, ◌+◌, length, take, map, max, refl, sym}
-use proofs.Common.{◌∙◌, ap, subst, arith, append_assoc, All, flat_map, option_map, list_any, flat_map-append}
-use proofs.Common.{filter_map-append, false≢true, nat_tests, eqb_tells, Received, empty_input, InputBytes}
-use proofs.Common.{ReceivedInputs, at, is_in, input_of_operand, inputs_of_operands, opened_values, opened_inputs}
-use proofs.Common.{ToolSpec, maximum, up_to_unended, unopened_messages, unopened_message, name_of, HasSaid, SinkState}
-use proofs.Common.{update_at, ◌<◌, ◌≤◌, drop, get_or, take-append-drop, take_more, get_or-map, length-map, Reader}
-use proofs.Common.{reader_at, no_reader, IsNewOrUnopened, position, positions, Bor, words_view, file_names}
-use proofs.Common.{order_from, Input, DecidesAll, cases_lt}
+use proofs.Common.{eqb-true, or_left, or_right, or-false, ◌≡◌, ◌≢◌, ℕ, zero, suc, ◌==◌, ◌||◌, Bool, true, false, cond}
+use proofs.Common.{List, [], ◌∷◌, ◌++◌, Option, Some, None, ◌+◌, length, take, map, max, refl, sym, ◌∙◌, ap, arith}
+use proofs.Common.{append_assoc, All, flat_map, option_map, list_any, flat_map-append, filter_map-append, false≢true}
+use proofs.Common.{nat_tests, eqb_tells, Received, empty_input, InputBytes, ReceivedInputs, at, is_in}
+use proofs.Common.{input_of_operand, inputs_of_operands, opened_values, opened_inputs, ToolSpec, maximum}
+use proofs.Common.{up_to_unended, unopened_messages, unopened_message, name_of, HasSaid, SinkState, update_at, ◌<◌}
+use proofs.Common.{◌≤◌, drop, get_or, take-append-drop, take_more, get_or-map, length-map, Reader, reader_at}
+use proofs.Common.{no_reader, IsNewOrUnopened, position, positions, Bor, words_view, file_names, order_from, Input}
+use proofs.Common.{DecidesAll, cases_lt}
+use proofs.Common.{Any-from_list_any, subst}
 use Rattle.std.proofs.Math.ListN.{get_or-map as get_or-map_any}
 use proofs.MessageWrites.{said_trans}
 use Rattle.std.proofs.Common.{rules}
@@ -209,8 +210,7 @@ operand_step {p} {n} order i d in_range within is = record {
 }
   where
     next : take (i + 1) (positions order) ≡ take i (positions order) ++ p ∷ []
-    next = take_more (positions order) i 0 (omega (arith, within, length-map order position))
-        ∙ ap (λ n. take i (positions order) ++ n ∷ []) (get_or-map position order i d 0 within ∙ sym is)
+    next = grind (arith, take_more (positions order) i 0, get_or-map position order i d 0, length-map)
 
 pub positions_end : (order : List Input) (i : ℕ) → length order ≤ i → take i (positions order) ≡ positions order
 positions_end order i all = grind (arith, common_steps)

@@ -137,7 +137,8 @@ none_failed : (old : List Reader) (q : ℕ) → HasReadFailed old old q → ⊥
 none_failed old q failed = false≢true (sym failed.1 ∙ failed.2)
 
 -- There is nothing to read, the output is unchanged, and `text` is the only message.
-pub unread : (m : CommandSpec) {old : List Reader} {out messages_old messages_new : SinkState} {text : List ℕ} (status : ℕ)
+pub unread : (m : CommandSpec) {old : List Reader} {out messages_old messages_new : SinkState} {text : List ℕ}
+    (status : ℕ)
     → m.sequential ≡ None → m.reads_nothing (is_reader_unopened old) ≡ true
     → ((r : ReceivedInputs) → ((q : ℕ) → is_reader_unopened old q ≡ is_unopened r q) → m.decided r ≡ [])
     → All IsNewOrUnopened old → out.failed ≡ false → HasSaid messages_old messages_new text
@@ -195,15 +196,6 @@ fault_of (Err fault) = Some fault
 ended_after_all : (m : CommandSpec) (readers : List Reader) (n : ℕ) (r : Result Completion FlowFault)
     → AreReadToEnd readers (ended_operands m n (result_status r)) → AreReadToEnd readers (ended_operands m n 1)
 ended_after_all m readers n r ended = grind arith
-
--- the end of the inputs, unless a write failed after that
-end_of : (m : CommandSpec) (r : ReceivedInputs) (old new : List Reader) (pushed : List ℕ) (denied : Bool) (n : ℕ)
-    (run_result final_result : Result Completion FlowFault) (failed : Bool) → (failed ≡ true → final_result ≡ Err Write)
-    → (failed ≡ false → final_result ≡ run_result)
-    → (failed ≡ false → RunInputsEnd m r old new pushed false denied n run_result)
-    → RunInputsEnd m r old new pushed failed denied n final_result
-end_of m r old new pushed denied n run_result final_result true broken same k = rw (broken refl) refl
-end_of m r old new pushed denied n run_result final_result false broken same k = rw (same refl) (k refl)
 
 module _ {m : CommandSpec} {old new : List Reader} {was is : Output}
     {messages_first messages_old messages_new : SinkState} {before store : Slots}

@@ -230,32 +230,29 @@ module _ {word : List ℕ} {t : ToolSpec} {names : List (List ℕ)} {old : List 
         long = k.long;
         came = k.came;
         at_eof = holds_more (λ q. is_reader_unopened old q ≡ false → IsAtEof (reader_at now q)) done p k.at_eof
-            (λ opened. absurd (false≢true (sym opened ∙ old_unopened)));
-        unread = λ q unseen. let (differs, before) = not_more done p q unseen in k.unread q before;
-        unreceived = λ q unseen. let (differs, before) = not_more done p q unseen in k.unreceived q before;
+            (grind (arith, old_unopened));
+        unread = grind (arith, not_more);
+        unreceived = grind (arith, not_more);
         pushed = k.pushed;
         wrote = k.wrote;
         out = λ w agrees. rw (nothing w agrees) (k.out w agrees);
         has_said = said_more word names (is_reader_unopened old) done p k.has_said (rw old_unopened says);
-        so_far_is = sym (ap completion_with (any_now (is_reader_unopened old) done p old_unopened));
+        so_far_is = grind (arith, any_now, old_unopened);
         clean = k.clean;
         not_denied = k.not_denied;
         empty = k.empty;
         peak = λ w agrees. rw (nothing w agrees) (k.peak w agrees);
         slots = λ w agrees. rw (nothing w agrees) (k.slots w agrees);
         room = holds_more (λ q. is_reader_unopened old q ≡ false → t.slots ≤ length store.lines) done p k.room
-            (λ opened. absurd (false≢true (sym opened ∙ old_unopened)));
+            (grind (arith, old_unopened));
       }
         where
           old_unopened : (reader_at old p).refused ≡ true
-          old_unopened = was_unopened p ∙ ap (λ r. r.refused) (sym here) ∙ refused
+          old_unopened = grind (arith, was_unopened, here)
 
           nothing : (w : InputBytes) → AreInputsConsistent k.inputs_read w
               → opened_inputs [] w (done ++ p ∷ []) ≡ opened_inputs [] w done
-          nothing w agrees =
-              let none =
-              none_of (at w p) (sym (unopened_agrees old now k.inputs_read w k.came agrees p) ∙ old_unopened) in
-              opened_inputs_none [] w done p (rw none refl)
+          nothing w agrees = grind (arith, opened_inputs_none, none_of, unopened_agrees, old_unopened)
 
     -- ---- an operand that was opened
 
@@ -313,7 +310,8 @@ module _ {word : List ℕ} {t : ToolSpec} {names : List (List ℕ)} {old : List 
       read_other q differs = search rules
 
       receives_here : HasReceived (reader_at old p) new (given_now y.given)
-      receives_here = receives_trans (reader_at old p) (reader_at now p) new y.given given_here y.received came_here buffered
+      receives_here = receives_trans (reader_at old p) (reader_at now p) new y.given given_here y.received came_here
+          buffered
 
       received' : HaveReceived old now' inputs_read'
       received' = grind (
@@ -401,14 +399,9 @@ module _ {word : List ℕ} {t : ToolSpec} {names : List (List ℕ)} {old : List 
         same_length = length-set now p new ∙ k.same_length;
         long = length-set k.inputs_read p (Some (given_now y.given)) ∙ k.long;
         came = received';
-        at_eof =
-            λ q seen opened. ⊎_elim (λ same. subst (λ n. IsAtEof (reader_at now' n)) same (rw reader_here at_eof))
-            (λ other. rw (reader_other q other) (k.at_eof q (sym (is_in-other done p q other) ∙ seen) opened))
-            (cases_eq p q);
-        unread = λ q unseen. let (differs, before) = not_more done p q unseen in reader_other q differs
-            ∙ k.unread q before;
-        unreceived = λ q unseen. let (differs, before) = not_more done p q unseen in read_other q differs
-            ∙ k.unreceived q before;
+        at_eof = grind (arith, by_position, reader_here, at_eof, reader_other, is_in-other);
+        unread = grind (arith, not_more, reader_other);
+        unreceived = grind (arith, not_more, read_other);
         pushed = k.pushed ++ e.call.pushed;
         wrote = push_trans was is is' k.pushed e.call.pushed k.clean k.wrote e.call.wrote;
         out = λ w agrees. let f = operand_finds w agrees in
@@ -417,7 +410,7 @@ module _ {word : List ℕ} {t : ToolSpec} {names : List (List ℕ)} {old : List 
             ∙ sym (out_here w [] f);
         has_said =
             said_more word names (is_reader_unopened old) done p k.has_said (rw old_open (said_nothing messages_new));
-        so_far_is = k.so_far_is ∙ sym (ap completion_with (any_before (is_reader_unopened old) done p old_open));
+        so_far_is = grind (arith, any_before, old_open);
         clean = end.clean;
         not_denied = end.not_denied;
         empty = end.empty;
@@ -471,8 +464,8 @@ module _ {word : List ℕ} {t : ToolSpec} {names : List (List ℕ)} {old : List 
       memory_is Write is = is
       memory_is Memory is = refl
 
-      -- If no slot was missing, a line is left. A slot was missing only if no operand was read before: then its input is
-      -- unread.
+      -- If no slot was missing, a line is left. A slot was missing only if no operand was read before: then its input
+      -- is unread.
       input_left : result ≡ Err Memory → IsDone new → ⊥
       input_left memory ended = ⊎_elim
           (λ few.
@@ -548,7 +541,8 @@ module _ {word : List ℕ} {t : ToolSpec} {names : List (List ℕ)} {old : List 
             rw reader_here (came_here.refused ∙ sym (was_unopened p) ∙ old_open),
             rw reader_here (input_left (is_err ∙ ap (λ f. Err f) (memory_is fault same))),
           );
-          is_prefix = λ w agrees. let f = operand_finds w agrees in let b = e.call.is_prefix (λ u. f.bytes) (λ u read. f.agree) in let rest =
+          is_prefix = λ w agrees. let f = operand_finds w agrees in let b = e.call.is_prefix (λ u. f.bytes)
+              (λ u read. f.agree) in let rest =
               flat_map t.text (later w more) in record {
                 rest = b.rest ++ rest;
                 is = out_here w more f ∙ (λ i. sym (k.out w (back w agrees)) i ++ (b.is i ++ rest))
@@ -574,8 +568,7 @@ module _ {word : List ℕ} {t : ToolSpec} {names : List (List ℕ)} {old : List 
                     rw decided_here
                     (sends_after was is is' k.pushed (t.decided earlier) k.wrote k.clean one_keeps.buffering);
               }));
-          names_failed_read = λ q failed clean. ap (λ f. Err f)
-              ((failing fault end (fails_here q failed)).1 ∙ ap (λ n. Read n) (position_of q failed));
+          names_failed_read = grind (arith, failing fault end, fails_here, position_of);
           peak = λ w agrees. (bounds_here w more agrees).0;
           slots = λ w agrees. (bounds_here w more agrees).1;
         }

@@ -66,7 +66,8 @@ module _ (word : List ℕ) (names : List (List ℕ)) (positions : List ℕ) wher
 
   -- ---- processing the inputs
 
-  pub together_pre : (s : ToolInRun) (was : Output) (before : Slots) {inputs : List Reader} {messages_old messages_new : SinkState}
+  pub together_pre : (s : ToolInRun) (was : Output) (before : Slots) {inputs : List Reader}
+      {messages_old messages_new : SinkState}
       {any_unopened : Bool} → reads_together s ≡ true → InputsPre (spec_of_tool word s names positions) inputs
       → ReportUnopenedPost word names positions inputs messages_old messages_new any_unopened
       → any_unopened ≡ false → was.write_failed ≡ false → before.denied ≡ false → total_bytes before.lines ≡ 0
