@@ -34,8 +34,12 @@ module _ (tool : Tool) (words : List (List ℕ)) where
   pub reads_group : (os os' : List ParsedOption) (word : List ℕ) (more : List (List ℕ)) (taken : Bool)
       → is_end_of_options word ≡ false → is_option_arg word ≡ true → GroupPost tool word (slice_get more 0) os os' taken
       → ArgsRead tool words os (word ∷ more) → ArgsRead tool words os' (words_after_value taken more)
-  reads_group os os' word more taken ends dashed group r = grind (arith, common_steps, reading-group,
-      filter_map-append)
+  reads_group os os' word more taken ends dashed group r = grind (
+    arith,
+    common_steps,
+    reading-group,
+    filter_map-append,
+  )
 
   pub group_fails : (os : List ParsedOption) (word : List ℕ) (more : List (List ℕ)) (found : Option Fault)
       → is_end_of_options word ≡ false → is_option_arg word ≡ true

@@ -30,8 +30,12 @@ once_from : (tool : Tool) (first os : List ParsedOption) → parse_fault tool fi
 once_from tool first [] none [] after o is some = cc
 once_from tool first [] none (b ∷ before) after o is some = cc
 once_from tool first (x ∷ os) none [] after o is some = search (rules, option_or-none, unspent)
-once_from tool first (x ∷ os) none (b ∷ before) after o is some = grind (arith, option_or-none, append_assoc,
-    once_from tool (first ++ x ∷ []) os)
+once_from tool first (x ∷ os) none (b ∷ before) after o is some = grind (
+  arith,
+  option_or-none,
+  append_assoc,
+  once_from tool (first ++ x ∷ []) os,
+)
 
 fresh : (tool : Tool) (first : List ParsedOption) (o : ParsedOption)
     → (is_some o.value ≡ true → is_repeated tool first o.letter ≡ false) → token_fault tool first (Valid o) ≡ None

@@ -72,8 +72,14 @@ module _ (tool : Tool) (word : List ℕ) (next : Option (List ℕ)) (before : Li
       (value_token tool word (slice_index word index) (drop (index + 1) word) next) ≡ None
       → new ≡ items ++ o ∷ [] → GroupRead tool word next before (options_view items) (drop index word)
       → GroupPost tool word next before (options_view new) (nat_eq (index + 1) (length word))
-  value_read items new index o within none given fine pushed a = grind (arith, common_steps, is_empty-drop,
-      ahead_value, valued_if_given, letter_first)
+  value_read items new index o within none given fine pushed a = grind (
+    arith,
+    common_steps,
+    is_empty-drop,
+    ahead_value,
+    valued_if_given,
+    letter_first,
+  )
 
   pub fault_read : (items : List given.ParsedOption) (index : ℕ) (found : Option Fault) → index < length word
       → is_flag tool (slice_index word index) ≡ false

@@ -77,15 +77,25 @@ attached_spelled : (tool : Tool) (fs : List ℕ) (l b : ℕ) (bs : List ℕ) (ws
     → takes_value tool l ≡ true → IsSpelled tool ws false
     → GroupIsSpelled tool (45 ∷ fs ++ l ∷ b ∷ bs) ws (map Valid (map flag fs) ++ Valid (with_value l (b ∷ bs)) ∷ [])
     false
-attached_spelled tool fs l b bs ws a t more given = grind (arith, append_assoc, all_given-prefixed, options-prefixed,
-    ValueAttached)
+attached_spelled tool fs l b bs ws a t more given = grind (
+  arith,
+  append_assoc,
+  all_given-prefixed,
+  options-prefixed,
+  ValueAttached,
+)
 
 next_spelled : (tool : Tool) (fs : List ℕ) (l : ℕ) (value : List ℕ) (ws : List (List ℕ)) → AreFlags tool fs
     → takes_value tool l ≡ true → IsSpelled tool (value ∷ ws) true
     → GroupIsSpelled tool (45 ∷ fs ++ l ∷ []) (value ∷ ws) (map Valid (map flag fs) ++ Valid (with_value l value) ∷ [])
     true
-next_spelled tool fs l value ws a t more given = grind (arith, append_assoc, all_given-prefixed, options-prefixed,
-    ValueNext)
+next_spelled tool fs l value ws a t more given = grind (
+  arith,
+  append_assoc,
+  all_given-prefixed,
+  options-prefixed,
+  ValueNext,
+)
 
 -- one of the tokens is not an option
 not_all_given : (os : List ParsedOption) (token : Token) (tokens : List Token) → option_of_token token ≡ None
@@ -110,8 +120,12 @@ group_spelled tool ws some (AllFlags [] a) more = cc
 group_spelled tool ws some (AllFlags (f ∷ fs) a) more =
     rw (tokens_in-all_flags tool (45 ∷ f ∷ fs) (slice_get ws 0) (f ∷ fs) a, takes_next-all_flags tool (f ∷ fs) a)
     (flags_spelled tool f fs ws a (more false))
-group_spelled tool ws some (OneMore fs l rest a n) more = grind (arith, tokens_in-flags, takes_next-flags,
-    valued_spelled)
+group_spelled tool ws some (OneMore fs l rest a n) more = grind (
+  arith,
+  tokens_in-flags,
+  takes_next-flags,
+  valued_spelled,
+)
 
 -- a word that is not `--` and not a word of options is an operand
 operand_spelled : (tool : Tool) (word : List ℕ) (ws : List (List ℕ)) → is_end_of_options word ≡ false
@@ -161,8 +175,11 @@ option_or-none (Some x) p none = cc
 all_given_unless_faulty : (tool : Tool) (before : List ParsedOption) (tokens : List Token)
     → parse_fault tool before tokens ≡ None → all_given tokens ≡ true
 all_given_unless_faulty tool before [] none = refl
-all_given_unless_faulty tool before (Valid o ∷ tokens) none = grind (arith, option_or-none,
-    all_given_unless_faulty tool (before ++ o ∷ []) tokens)
+all_given_unless_faulty tool before (Valid o ∷ tokens) none = grind (
+  arith,
+  option_or-none,
+  all_given_unless_faulty tool (before ++ o ∷ []) tokens,
+)
 all_given_unless_faulty tool before (MissingValue letter ∷ tokens) none = grind (arith, option_or-none)
 all_given_unless_faulty tool before (UnknownLetter word ∷ tokens) none = cc
 

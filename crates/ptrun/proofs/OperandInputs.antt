@@ -9,8 +9,7 @@ use proofs.Common.{input_of_operand, inputs_of_operands, opened_values, opened_i
 use proofs.Common.{up_to_unended, unopened_messages, unopened_message, name_of, HasSaid, SinkState, update_at, ◌<◌}
 use proofs.Common.{◌≤◌, drop, get_or, take-append-drop, take_more, get_or-map, length-map, Reader, reader_at}
 use proofs.Common.{no_reader, IsNewOrUnopened, position, positions, Bor, words_view, file_names, order_from, Input}
-use proofs.Common.{DecidesAll, cases_lt}
-use proofs.Common.{Any-from_list_any, subst}
+use proofs.Common.{DecidesAll, cases_lt, Any-from_list_any, subst}
 use Rattle.std.proofs.Math.ListN.{get_or-map as get_or-map_any}
 use proofs.MessageWrites.{said_trans}
 use Rattle.std.proofs.Common.{rules}

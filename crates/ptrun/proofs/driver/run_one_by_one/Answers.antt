@@ -16,7 +16,7 @@ pub run_on-requires : goal.run_on-requires
 run_on-requires g c =
     let s = g.T.Tool.tool c.args.tool.now in
     let turn = operand_step c.args.order.now c.loop-input.input-index _ c.requires.ready.given.in_range
-        c.loop-input-test.true
+    c.loop-input-test.true
     c.position_of-position.ensures in
     operand_pre s c.loop-input.out c.requires.in_turn
     (operand_ready c.requires.ready.given.fresh c.loop-input.invariant turn.low c.index-inputs-position.result
@@ -28,7 +28,7 @@ loop-input-preserved g c =
     let k = c.loop-input.invariant in
     let d = c.index-inputs-position.result in
     let turn = operand_step c.args.order.now c.loop-input.input-index _ c.requires.ready.given.in_range
-        c.loop-input-test.true
+    c.loop-input-test.true
     c.position_of-position.ensures in
     elim c.if-is_refused.branch [
       | then-is_refused w ↦
@@ -51,7 +51,7 @@ returns-in_err-run_on g c =
     let i = c.loop-input.input-index in
     let in_turn = c.requires.in_turn in
     let turn = operand_step c.args.order.now i _ c.requires.ready.given.in_range c.loop-input-test.true
-        c.position_of-position.ensures in
+    c.position_of-position.ensures in
     let e = err_from_is_err_and c.from_residual.result c.from_residual.ensures.1 in
     rw (e.1, e.2) (sequential_post _ _ _ s in_turn
     (rw turn.split at (done_stopped c.requires.ready.given.fresh c.loop-input.invariant turn.low

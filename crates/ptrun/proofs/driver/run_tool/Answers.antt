@@ -59,7 +59,7 @@ returns g c =
     let ran = rw (c.deref-order.ensures.value, c.deref-names.ensures.value) at c.run_one_by_one-run_result.ensures in
     let in_turn = sym c.reads_together.ensures ∙ c.if-reads_together.false in
     let reads = reads_if _ _ _ (g.T.Tool.tool c.args.tool.now) _ (λ together. absurd (false≢true (sym in_turn ∙
-        together))) in
+    together))) in
     record {
       run = run_in_store (g.W.Sink.state c.args.out) (outcome (g.W.Sink.state) (g.E.Sink.state) c.end_run-2.result)
           (said_nothing c.args.messages) ran
