@@ -4,9 +4,8 @@ use Rattle.ptopts.proofs
 use proofs.Common.{◌≡◌, ℕ, List, [], ◌∷◌, ◌++◌, Bool, true, false, refl, Option, Some, None, drop, ◌<◌, ◌≤◌, length}
 use proofs.Common.{arith, slice_get, OnSome, Bor, Tool, is_option_arg, is_end_of_options, ParsedOption, Token}
 use proofs.Common.{tokens_of, takes_next, parsed_args, parsed_args_from, prepend_tokens, options, Fault, parse_fault}
-use proofs.Common.{words_view, words_after_value, GroupPost, ArgsPost}
+use proofs.Common.{words_view, words_after_value, GroupPost}
 use Rattle.std.proofs.lemmas.List.Elements.{filter_map-append}
-use Rattle.std.proofs.Common.{rules}
 use Rattle.std.proofs.lemmas.Grind.{common_steps}
 
 -- the options so far and the parse of the remaining words are the parse of all words
@@ -26,23 +25,6 @@ module _ (tool : Tool) (words : List (List ℕ)) where
   pub reads_first : ArgsRead tool words [] words
   reads_first = record { gathered = refl; operands = refl; faults = refl }
 
-  -- the options end: no word is left, an operand is next, or `--`
-  reads_end : (os : List ParsedOption) (left operands : List (List ℕ))
-      → parsed_args tool left ≡ record { tokens = []; operands = operands }
-      → ArgsRead tool words os left → ArgsPost tool words os operands
-  reads_end os left operands is r = search rules
-
-  pub reads_all : (os : List ParsedOption) → ArgsRead tool words os [] → ArgsPost tool words os []
-  reads_all os r = reads_end os [] [] refl r
-
-  pub reads_operand : (os : List ParsedOption) (word : List ℕ) (more : List (List ℕ)) → is_end_of_options word ≡ false
-      → is_option_arg word ≡ false → ArgsRead tool words os (word ∷ more) → ArgsPost tool words os (word ∷ more)
-  reads_operand os word more ends dashed r = search (rules, reads_end)
-
-  pub reads_end_of_options : (os : List ParsedOption) (word : List ℕ) (more : List (List ℕ))
-      → is_end_of_options word ≡ true → ArgsRead tool words os (word ∷ more) → ArgsPost tool words os more
-  reads_end_of_options os word more ends r = search (rules, reads_end)
-
   reading-group : (word : List ℕ) (more : List (List ℕ)) (taken : Bool) → is_end_of_options word ≡ false
       → is_option_arg word ≡ true → taken ≡ takes_next tool (drop 1 word)
       → parsed_args tool (word ∷ more) ≡ prepend_tokens (tokens_of tool word (slice_get more 0))
@@ -52,8 +34,12 @@ module _ (tool : Tool) (words : List (List ℕ)) where
   pub reads_group : (os os' : List ParsedOption) (word : List ℕ) (more : List (List ℕ)) (taken : Bool)
       → is_end_of_options word ≡ false → is_option_arg word ≡ true → GroupPost tool word (slice_get more 0) os os' taken
       → ArgsRead tool words os (word ∷ more) → ArgsRead tool words os' (words_after_value taken more)
-  reads_group os os' word more taken ends dashed group r = grind (arith, common_steps, reading-group,
-      filter_map-append)
+  reads_group os os' word more taken ends dashed group r = grind (
+    arith,
+    common_steps,
+    reading-group,
+    filter_map-append,
+  )
 
   pub group_fails : (os : List ParsedOption) (word : List ℕ) (more : List (List ℕ)) (found : Option Fault)
       → is_end_of_options word ≡ false → is_option_arg word ≡ true

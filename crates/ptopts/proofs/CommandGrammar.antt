@@ -1,12 +1,11 @@
 -- Words specify a command if and only if the grammar gives them options and operands that the tool allows: no fault of
 -- parsing means that no option is repeated, and the other four faults are the other four conditions.
 use Rattle.ptopts.proofs
-use proofs.Common.{◌≡◌, ℕ, List, [], ◌∷◌, ◌++◌, Bool, true, false, refl, ap, sym, subst, map, append_assoc}
-use proofs.Common.{append-nil, Option, Some, None, ◌&&◌, Ok, is_some, IsTrue, if◌then◌else◌, Tool, ParsedOption}
-use proofs.Common.{Valid, Spells, ParsedArgs, parsed_args, options, tool_of_name, Fault, first_some, is_repeated}
-use proofs.Common.{token_fault, parse_fault, constraints_fault, values_fault, operands_fault, strings_fault, Command}
-use proofs.Common.{command, ok_unless, first_fault, command_of_args, command_of_tool, AreAllowed, SpellsCommand}
-use proofs.Common.{Spelled, CommandsMatchGrammar}
+use proofs.Common.{◌≡◌, ℕ, List, [], ◌∷◌, ◌++◌, Bool, true, false, refl, ap, sym, map, append_assoc, append-nil}
+use proofs.Common.{Option, Some, None, ◌&&◌, Ok, is_some, IsTrue, if◌then◌else◌, Tool, ParsedOption, Valid, Spells}
+use proofs.Common.{ParsedArgs, parsed_args, options, tool_of_name, Fault, first_some, is_repeated, token_fault}
+use proofs.Common.{parse_fault, Command, command, ok_unless, first_fault, command_of_args, command_of_tool}
+use proofs.Common.{AreAllowed, SpellsCommand, Spelled, CommandsMatchGrammar}
 use proofs.SpelledIsParsed.{spelled}
 use proofs.ParsedIsSpelled.{options-map, option_or-none, spelled_unless_faulty}
 use Rattle.std.proofs.Common.{rules, arith}
@@ -31,14 +30,12 @@ once_from : (tool : Tool) (first os : List ParsedOption) → parse_fault tool fi
 once_from tool first [] none [] after o is some = cc
 once_from tool first [] none (b ∷ before) after o is some = cc
 once_from tool first (x ∷ os) none [] after o is some = search (rules, option_or-none, unspent)
-once_from tool first (x ∷ os) none (b ∷ before) after o is some =
-    let (_, later) =
-    option_or-none (token_fault tool first (Valid x)) (parse_fault tool (first ++ x ∷ []) (map Valid os)) none in
-    let same : x ≡ b = cc in
-    let rest : os ≡ before ++ o ∷ after = cc in
-    subst (λ (y : ParsedOption). is_repeated tool (first ++ y ∷ before) o.letter ≡ false) same
-    (subst (λ (ys : List ParsedOption). is_repeated tool ys o.letter ≡ false) (append_assoc first (x ∷ []) before)
-    (once_from tool (first ++ x ∷ []) os later before after o rest some))
+once_from tool first (x ∷ os) none (b ∷ before) after o is some = grind (
+  arith,
+  option_or-none,
+  append_assoc,
+  once_from tool (first ++ x ∷ []) os,
+)
 
 fresh : (tool : Tool) (first : List ParsedOption) (o : ParsedOption)
     → (is_some o.value ≡ true → is_repeated tool first o.letter ≡ false) → token_fault tool first (Valid o) ≡ None
@@ -48,12 +45,9 @@ once_to : (tool : Tool) (first os : List ParsedOption) → AreGivenOnceAfter too
     → parse_fault tool first (map Valid os) ≡ None
 once_to tool first [] once = refl
 once_to tool first (x ∷ os) once =
-    let here : token_fault tool first (Valid x) ≡ None =
-    fresh tool first x (λ some. subst (λ (ys : List ParsedOption). is_repeated tool ys x.letter ≡ false)
-    (append-nil first) (once [] os x refl some)) in
-    rw here (once_to tool (first ++ x ∷ []) os (λ before after o is some.
-    subst (λ (ys : List ParsedOption). is_repeated tool ys o.letter ≡ false) (sym (append_assoc first (x ∷ []) before))
-    (once (x ∷ before) after o (ap (λ (ys : List ParsedOption). x ∷ ys) is) some)))
+    let later = once_to tool (first ++ x ∷ []) os (λ before after o is some. rw append_assoc
+    (once (x ∷ before) after o (ap (λ ys. x ∷ ys) is) some)) in
+    grind (arith, append-nil, fresh, once [] os x refl, later)
 
 -- none of the five faults is present
 none_of : {A : Type 0} (a b c d e : Option A) → first_some (a ∷ b ∷ c ∷ d ∷ e ∷ []) ≡ None
@@ -73,35 +67,23 @@ spelled_if_meant : (name : List ℕ) (words : List (List ℕ)) (tool : Tool) (c 
     → command_of_tool (Some tool) words ≡ Ok c → SpellsCommand (name ∷ words) c
 spelled_if_meant name words tool c named is =
     let r : ParsedArgs = parsed_args tool words in
-    let os : List ParsedOption = options r in
-    let (faultless, same) = unless_ok (first_fault tool r) (command tool os r.operands) c is in
-    let (parses, together, values, inputs, strings) =
-    none_of (parse_fault tool [] r.tokens) (constraints_fault tool os) (values_fault tool os)
-    (operands_fault tool os r.operands) (strings_fault tool os r.operands) faultless in
-    let s : Spells tool words os r.operands = spelled_unless_faulty tool words parses in
-    let tokens : parse_fault tool [] (map Valid os) ≡ None =
-    subst (λ (q : ParsedArgs). parse_fault tool [] q.tokens ≡ None) (spelled tool s) parses in
-    subst (SpellsCommand (name ∷ words)) same
-    (Spelled name words tool os r.operands named s
-    (record {
-      once = once_from tool [] os tokens;
+    let (faultless, same) = unless_ok (first_fault tool r) (command tool (options r) r.operands) c is in
+    let (parses, together, values, inputs, strings) = none_of _ _ _ _ _ faultless in
+    let s : Spells tool words (options r) r.operands = spelled_unless_faulty tool words parses in
+    rw (sym same) (Spelled name words tool (options r) r.operands named s (record {
+      once = once_from tool [] (options r) (rw (spelled tool s) at parses);
       together = together;
       values = values;
       inputs = inputs;
       strings = strings;
     }))
 
-named_if_meant : (name : List ℕ) (words : List (List ℕ)) (c : Command) (found : Option Tool) → tool_of_name name ≡ found
-    → command_of_tool found words ≡ Ok c → SpellsCommand (name ∷ words) c
-named_if_meant name words c None named is = cc
-named_if_meant name words c (Some tool) named is = spelled_if_meant name words tool c named is
-
 meant_from : (words : List (List ℕ)) (c : Command) → SpellsCommand words c → command_of_args words ≡ Ok c
 meant_from words c (Spelled name rest tool os operands named s a) = grind (arith, meant_if_spelled)
 
 spelled_from : (words : List (List ℕ)) (c : Command) → command_of_args words ≡ Ok c → SpellsCommand words c
 spelled_from [] c is = cc
-spelled_from (name ∷ words) c is = grind (arith, named_if_meant)
+spelled_from (name ∷ words) c is = grind (arith, spelled_if_meant)
 
 pub meant_as_spelled : CommandsMatchGrammar
 meant_as_spelled words c = (meant_from words c, spelled_from words c)

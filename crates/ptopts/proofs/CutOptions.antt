@@ -1,8 +1,8 @@
 -- One of the three lists of `cut` is present, by `-b` (98), `-c` (99) or `-f` (102). They conflict, so the other two
 -- are absent and have no fault.
 use Rattle.ptopts.proofs
-use proofs.Common.{◌≡◌, ℕ, ◌==◌, List, [], ◌∷◌, Bool, true, false, ◌&&◌, refl, ⊎_elim, cases_Bool, Some, None, IsSome}
-use proofs.Common.{if◌then◌else◌, Cut, Fault, ParsedOption, constraints_fault, constraint_fault, has_option, value_of}
+use proofs.Common.{◌≡◌, ℕ, List, [], ◌∷◌, Bool, true, false, ◌&&◌, refl, Some, None, IsSome, if◌then◌else◌, Cut}
+use proofs.Common.{Fault, ParsedOption, constraints_fault, constraint_fault, has_option, value_of}
 use Rattle.ptopts.specs.declared.tool.Constraint.TheVariants.{Conflict}
 use Rattle.std.specs.Prelude.{All}
 use Rattle.ptopts.specs.Faults.{value_fault, is_cut_list}
@@ -11,8 +11,7 @@ use Rattle.std.proofs.Common.{arith}
 
 valueless : (letter : ℕ) (os : List ParsedOption) → has_option letter os ≡ false → value_of letter os ≡ None
 valueless letter [] none = refl
-valueless letter (o ∷ os) none = ⊎_elim (λ is. let no = rw is at none in cc)
-    (λ is. rw is (valueless letter os (rw is at none))) (cases_Bool (o.letter == letter))
+valueless letter (o ∷ os) none = grind (arith, valueless letter os)
 
 not_both : (one other : Bool) (fault : Fault) → (if one && other then Some fault else None) ≡ None → one ≡ true
     → other ≡ false

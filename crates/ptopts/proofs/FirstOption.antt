@@ -21,5 +21,9 @@ pub first_chosen : {R V S : Type 0} (view : R → S) (set : V → S) (b c f : Op
     → option_map view b ≡ option_map set vb → option_map view c ≡ option_map set vc
     → option_map view f ≡ option_map set vf → option_or (option_or b c) f ≡ Some r
     → view r ≡ unwrap_or (option_map set (option_or vb (option_or vc (option_or vf None)))) default
-first_chosen view set b c f vb vc vf default r eb ec ef is = grind (arith, option_or-assoc, option_or-nil,
-    option_map-or)
+first_chosen view set b c f vb vc vf default r eb ec ef is = grind (
+  arith,
+  option_or-assoc,
+  option_or-nil,
+  option_map-or,
+)

@@ -6,7 +6,6 @@ use proofs.Common.{slice_index, nat_eq, add-one, drop-cons, arith, OnSome, eq-eq
 use proofs.Common.{takes_value, ParsedOption, flag, Token, Valid, value_token, tokens_in, tokens_of, takes_next}
 use proofs.Common.{Fault, token_fault, parse_fault, options_of_tokens, option_view, options_view, GroupPost}
 use Rattle.ptopts.specs.declared.parsing.ParsedOption as given
-use Rattle.std.proofs.Common.{rules}
 use Rattle.std.proofs.lemmas.Grind.{common_steps}
 
 -- the options so far and the tokens of the remaining letters are those of the word
@@ -40,17 +39,10 @@ valued_if_given : (tool : Tool) (word : List ℕ) (letter : ℕ) (rest : List �
 valued_if_given tool word letter rest next o given = grind arith
 
 module _ (tool : Tool) (word : List ℕ) (next : Option (List ℕ)) (before : List ParsedOption) where
-  pub ahead_first : GroupRead tool word next before before (drop 1 word)
-  ahead_first = record { gathered = refl; takes = refl; faults = λ tokens. refl }
-
   pub ahead_flag : (os : List ParsedOption) (letter : ℕ) (rest : List ℕ) → is_flag tool letter ≡ true
       → GroupRead tool word next before os (letter ∷ rest)
       → GroupRead tool word next before (os ++ flag letter ∷ []) rest
   ahead_flag os letter rest is a = grind (arith, common_steps)
-
-  pub ahead_end : (os : List ParsedOption) → GroupRead tool word next before os []
-      → GroupPost tool word next before os false
-  ahead_end os a = search rules
 
   pub ahead_value : (os : List ParsedOption) (letter : ℕ) (rest : List ℕ) (o : ParsedOption)
       → is_flag tool letter ≡ false → value_token tool word letter rest next ≡ Valid o
@@ -80,8 +72,14 @@ module _ (tool : Tool) (word : List ℕ) (next : Option (List ℕ)) (before : Li
       (value_token tool word (slice_index word index) (drop (index + 1) word) next) ≡ None
       → new ≡ items ++ o ∷ [] → GroupRead tool word next before (options_view items) (drop index word)
       → GroupPost tool word next before (options_view new) (nat_eq (index + 1) (length word))
-  value_read items new index o within none given fine pushed a = grind (arith, common_steps, is_empty-drop,
-      ahead_value, valued_if_given, letter_first)
+  value_read items new index o within none given fine pushed a = grind (
+    arith,
+    common_steps,
+    is_empty-drop,
+    ahead_value,
+    valued_if_given,
+    letter_first,
+  )
 
   pub fault_read : (items : List given.ParsedOption) (index : ℕ) (found : Option Fault) → index < length word
       → is_flag tool (slice_index word index) ≡ false

@@ -1,23 +1,15 @@
 -- The number of inputs of a tool whose operands have no fault. Each operand is one input.
 use Rattle.ptopts.proofs
-use proofs.Common.{◌≡◌, ℕ, suc, ◌+◌, ◌&&◌, Bool, true, false, cond, List, [], ◌∷◌, Option, Some, None, length, take}
-use proofs.Common.{refl, ◌∙◌, arith, nat_le, list_all, Paste, Input, ParsedOption, Fault, Operands, StandardTwice}
-use proofs.Common.{is_within, is_standard, operands_fault, or_stdin, order_from}
+use proofs.Common.{◌≡◌, ℕ, ◌+◌, ◌&&◌, Bool, true, false, cond, List, [], ◌∷◌, Some, None, length, take, refl, ◌∙◌}
+use proofs.Common.{arith, nat_le, list_all, Paste, Input, ParsedOption, Operands, StandardTwice, is_within}
+use proofs.Common.{is_standard, operands_fault, or_stdin, order_from}
 use Rattle.std.specs.Prelude.{not}
 use Rattle.std.proofs.lemmas.Bool.Decides.{nat_tests}
 use Rattle.ptopts.specs.declared.inputs.Input.TheVariants.{Standard, File}
 
 order_length : (n : ℕ) (operands : List (List ℕ)) → length (order_from n operands) ≡ length operands
 order_length n [] = refl
-order_length n (operand ∷ operands) =
-    by_test (is_standard operand) (order_length n operands) (order_length (n + 1) operands)
-  where
-    by_test : (t : Bool) → length (order_from n operands) ≡ length operands
-        → length (order_from (n + 1) operands) ≡ length operands
-        → length (cond t (Standard ∷ order_from n operands) (File n ∷ order_from (n + 1) operands))
-        ≡ length (operand ∷ operands)
-    by_test true here later = omega (arith, here)
-    by_test false here later = omega (arith, later)
+order_length n (operand ∷ operands) = grind (arith, order_length n operands, order_length (n + 1) operands)
 
 one_of : (operands : List (List ℕ)) → length (take 1 (or_stdin operands)) ≡ 1
 one_of [] = refl
@@ -56,19 +48,5 @@ pub two_inputs : (operands : List (List ℕ)) → cond (not (is_within 2 2 (leng
     (cond (list_all is_standard operands) (Some StandardTwice) None) ≡ None → AreTwo (order_from 0 operands)
 two_inputs [] none = cc
 two_inputs (a ∷ []) none = cc
-two_inputs (a ∷ b ∷ []) none =
-    two_of (is_standard a) (is_standard b) (unblamed (is_standard a && (is_standard b && true)) none)
-  where
-    unblamed : (twice : Bool) → cond twice (Some StandardTwice) None ≡ None → twice ≡ false
-    unblamed true some = cc
-    unblamed false some = refl
-two_inputs (a ∷ b ∷ c ∷ more) none =
-    absurd (blamed (is_within 2 2 (length (a ∷ b ∷ c ∷ more))) _ (too_many (length more)) none)
-  where
-    too_many : (n : ℕ) → is_within 2 2 (suc (suc (suc n))) ≡ false
-    too_many n = grind (arith, nat_tests)
-
-    blamed : (fits : Bool) (other : Option Fault) → fits ≡ false
-        → cond (not (fits && true)) (Some Operands) other ≡ None → ⊥
-    blamed true other is some = cc
-    blamed false other is some = cc
+two_inputs (a ∷ b ∷ []) none = grind (arith, two_of)
+two_inputs (a ∷ b ∷ c ∷ more) none = grind (arith, nat_tests)

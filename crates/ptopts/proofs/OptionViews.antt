@@ -1,7 +1,8 @@
 -- Lookup of an option gives the same on the options of the code and on their views, option by option.
-use Rattle.ptopts.proofs.Common.{◌≡◌, ℕ, ◌==◌, List, [], ◌∷◌, refl, ap, ◌||◌, Bool, ⊎_elim, option_map, option_and_then}
-use Rattle.ptopts.proofs.Common.{find, cases_Bool, list_any, has_option, value_of, options_view}
+use Rattle.ptopts.proofs.Common.{◌≡◌, ℕ, ◌==◌, List, [], ◌∷◌, refl, ap, ◌||◌, Bool, option_map, option_and_then, find}
+use Rattle.ptopts.proofs.Common.{list_any, has_option, value_of, options_view}
 use Rattle.ptopts.specs.declared.parsing.ParsedOption.{ParsedOption}
+use Rattle.std.proofs.Common.{arith}
 
 pub has_option-view : (letter : ℕ) (os : List ParsedOption)
     → list_any (λ o. o.letter == letter) os ≡ has_option letter (options_view os)
@@ -12,5 +13,4 @@ pub value_of-view : (letter : ℕ) (os : List ParsedOption)
     → value_of letter (options_view os)
     ≡ option_and_then (λ o. option_map (λ v. v.now) o.value) (find (λ o. o.letter == letter) os)
 value_of-view letter [] = refl
-value_of-view letter (o ∷ os) = ⊎_elim (λ is. rw is refl) (λ none. rw none (value_of-view letter os))
-    (cases_Bool (o.letter == letter))
+value_of-view letter (o ∷ os) = grind (arith, value_of-view letter os)

@@ -1,13 +1,13 @@
 -- A parse without a faulty token is one of the grammar: each word of options is flags, perhaps with an option that
 -- takes the rest of the word or the next word as its value.
 use Rattle.ptopts.proofs
-use proofs.Common.{◌≡◌, ℕ, ◌==◌, List, [], ◌∷◌, ◌++◌, Bool, true, false, refl, ap, sym, ◌∙◌, subst, map, append_assoc}
+use proofs.Common.{◌≡◌, ℕ, ◌==◌, List, [], ◌∷◌, ◌++◌, Bool, true, false, refl, ap, sym, subst, map, append_assoc}
 use proofs.Common.{Option, Some, None, ◌&&◌, ⊎_elim, codes, slice_get, is_some, filter_map, list_all, option_or}
 use proofs.Common.{and_from, eqb-true, cases_Bool, not_from_false, Tool, is_empty, is_flag, takes_value}
 use proofs.Common.{is_option_arg, is_end_of_options, ParsedOption, flag, with_value, AreFlags, Spells, OperandsAlone}
 use proofs.Common.{EndOfOptions, Flags, ValueAttached, ValueNext, Token, Valid, MissingValue, UnknownLetter}
-use proofs.Common.{value_token, tokens_in, takes_next, parsed_args_from, option_of_token, options, token_fault}
-use proofs.Common.{parse_fault, ParseMatchesGrammar, GrammarIsUnambiguous, FaultlessIsSpelled}
+use proofs.Common.{value_token, tokens_in, takes_next, parsed_args_from, option_of_token, options, parse_fault}
+use proofs.Common.{ParseMatchesGrammar, GrammarIsUnambiguous, FaultlessIsSpelled}
 use Rattle.std.proofs.lemmas.Slice.Eq.{bytes_eq-Decides}
 use proofs.SpelledIsParsed.{spelled, tokens_in-flags, tokens_in-all_flags, takes_next-flags, takes_next-all_flags}
 use Rattle.std.proofs.Common.{rules, arith}
@@ -32,7 +32,7 @@ options-map (o ∷ os) = ap (λ (xs : List ParsedOption). o ∷ xs) (options-map
 options-prefixed : (os : List ParsedOption) (tokens : List Token)
     → filter_map option_of_token (map Valid os ++ tokens) ≡ os ++ filter_map option_of_token tokens
 options-prefixed [] tokens = refl
-options-prefixed (o ∷ os) tokens = ap (λ (xs : List ParsedOption). o ∷ xs) (options-prefixed os tokens)
+options-prefixed (o ∷ os) tokens = grind (arith, options-prefixed os tokens)
 
 -- the letters are all flags, or flags and then a letter that is not a flag
 data Split (tool : Tool) : List ℕ → Type 0 where
@@ -71,48 +71,31 @@ GroupIsSpelled tool word ws tokens taken =
 
 flags_spelled : (tool : Tool) (f : ℕ) (fs : List ℕ) (ws : List (List ℕ)) → AreFlags tool (f ∷ fs)
     → IsSpelled tool ws false → GroupIsSpelled tool (45 ∷ f ∷ fs) ws (map Valid (map flag (f ∷ fs))) false
-flags_spelled tool f fs ws a more given =
-    let r = parsed_args_from tool false ws in
-    let s : Spells tool ws (options r) r.operands =
-    more (sym (all_given-prefixed (map flag (f ∷ fs)) r.tokens) ∙ given) in
-    subst (λ (os : List ParsedOption). Spells tool ((45 ∷ f ∷ fs) ∷ ws) os r.operands)
-    (sym (options-prefixed (map flag (f ∷ fs)) r.tokens)) (Flags f fs ws (options r) r.operands a s)
+flags_spelled tool f fs ws a more given = grind (arith, all_given-prefixed, options-prefixed, Flags)
 
 attached_spelled : (tool : Tool) (fs : List ℕ) (l b : ℕ) (bs : List ℕ) (ws : List (List ℕ)) → AreFlags tool fs
     → takes_value tool l ≡ true → IsSpelled tool ws false
     → GroupIsSpelled tool (45 ∷ fs ++ l ∷ b ∷ bs) ws (map Valid (map flag fs) ++ Valid (with_value l (b ∷ bs)) ∷ [])
     false
-attached_spelled tool fs l b bs ws a t more given =
-    let r = parsed_args_from tool false ws in
-    let o : ParsedOption = with_value l (b ∷ bs) in
-    let e : (map Valid (map flag fs) ++ Valid o ∷ []) ++ r.tokens ≡ map Valid (map flag fs) ++ (Valid o ∷ r.tokens) =
-    append_assoc (map Valid (map flag fs)) (Valid o ∷ []) r.tokens in
-    let g : all_given (map Valid (map flag fs) ++ (Valid o ∷ r.tokens)) ≡ true =
-    subst (λ (es : List Token). all_given es ≡ true) e given in
-    let s : Spells tool ws (options r) r.operands =
-    more (sym (all_given-prefixed (map flag fs) (Valid o ∷ r.tokens)) ∙ g) in
-    subst (λ (os : List ParsedOption). Spells tool ((45 ∷ fs ++ l ∷ b ∷ bs) ∷ ws) os r.operands)
-    (sym (ap (λ (es : List Token). filter_map option_of_token es) e
-    ∙ options-prefixed (map flag fs) (Valid o ∷ r.tokens)))
-    (ValueAttached fs l b bs ws (options r) r.operands a t s)
+attached_spelled tool fs l b bs ws a t more given = grind (
+  arith,
+  append_assoc,
+  all_given-prefixed,
+  options-prefixed,
+  ValueAttached,
+)
 
 next_spelled : (tool : Tool) (fs : List ℕ) (l : ℕ) (value : List ℕ) (ws : List (List ℕ)) → AreFlags tool fs
     → takes_value tool l ≡ true → IsSpelled tool (value ∷ ws) true
     → GroupIsSpelled tool (45 ∷ fs ++ l ∷ []) (value ∷ ws) (map Valid (map flag fs) ++ Valid (with_value l value) ∷ [])
     true
-next_spelled tool fs l value ws a t more given =
-    let r = parsed_args_from tool false ws in
-    let o : ParsedOption = with_value l value in
-    let e : (map Valid (map flag fs) ++ Valid o ∷ []) ++ r.tokens ≡ map Valid (map flag fs) ++ (Valid o ∷ r.tokens) =
-    append_assoc (map Valid (map flag fs)) (Valid o ∷ []) r.tokens in
-    let g : all_given (map Valid (map flag fs) ++ (Valid o ∷ r.tokens)) ≡ true =
-    subst (λ (es : List Token). all_given es ≡ true) e given in
-    let s : Spells tool ws (options r) r.operands =
-    more (sym (all_given-prefixed (map flag fs) (Valid o ∷ r.tokens)) ∙ g) in
-    subst (λ (os : List ParsedOption). Spells tool ((45 ∷ fs ++ l ∷ []) ∷ value ∷ ws) os r.operands)
-    (sym (ap (λ (es : List Token). filter_map option_of_token es) e
-    ∙ options-prefixed (map flag fs) (Valid o ∷ r.tokens)))
-    (ValueNext fs l value ws (options r) r.operands a t s)
+next_spelled tool fs l value ws a t more given = grind (
+  arith,
+  append_assoc,
+  all_given-prefixed,
+  options-prefixed,
+  ValueNext,
+)
 
 -- one of the tokens is not an option
 not_all_given : (os : List ParsedOption) (token : Token) (tokens : List Token) → option_of_token token ≡ None
@@ -135,12 +118,14 @@ group_spelled : (tool : Tool) {letters : List ℕ} (ws : List (List ℕ)) → is
     (takes_next tool letters)
 group_spelled tool ws some (AllFlags [] a) more = cc
 group_spelled tool ws some (AllFlags (f ∷ fs) a) more =
-    subst (λ (es : List Token). GroupIsSpelled tool (45 ∷ f ∷ fs) ws es (takes_next tool (f ∷ fs)))
-    (sym (tokens_in-all_flags tool (45 ∷ f ∷ fs) (slice_get ws 0) (f ∷ fs) a))
-    (subst (λ (t : Bool). GroupIsSpelled tool (45 ∷ f ∷ fs) ws (map Valid (map flag (f ∷ fs))) t)
-    (sym (takes_next-all_flags tool (f ∷ fs) a)) (flags_spelled tool f fs ws a (more false)))
-group_spelled tool ws some (OneMore fs l rest a n) more = grind (arith, tokens_in-flags, takes_next-flags,
-    valued_spelled)
+    rw (tokens_in-all_flags tool (45 ∷ f ∷ fs) (slice_get ws 0) (f ∷ fs) a, takes_next-all_flags tool (f ∷ fs) a)
+    (flags_spelled tool f fs ws a (more false))
+group_spelled tool ws some (OneMore fs l rest a n) more = grind (
+  arith,
+  tokens_in-flags,
+  takes_next-flags,
+  valued_spelled,
+)
 
 -- a word that is not `--` and not a word of options is an operand
 operand_spelled : (tool : Tool) (word : List ℕ) (ws : List (List ℕ)) → is_end_of_options word ≡ false
@@ -151,11 +136,7 @@ operand_spelled tool word ws ends plain =
 dashed_spelled : (tool : Tool) (b l : ℕ) (ls : List ℕ) (ws : List (List ℕ)) → b ≡ 45
     → is_end_of_options (b ∷ l ∷ ls) ≡ false → ((taken : Bool) → IsSpelled tool ws taken)
     → IsSpelled tool ((b ∷ l ∷ ls) ∷ ws) false
-dashed_spelled tool b l ls ws dash ends more =
-    let at_dash : is_end_of_options (45 ∷ l ∷ ls) ≡ false =
-    subst (λ (d : ℕ). is_end_of_options (d ∷ l ∷ ls) ≡ false) dash ends in
-    subst (λ (d : ℕ). IsSpelled tool ((d ∷ l ∷ ls) ∷ ws) false) (sym dash)
-    (rw at_dash (group_spelled tool ws refl (split tool (l ∷ ls)) more))
+dashed_spelled tool b l ls ws dash ends more = grind (arith, group_spelled tool ws refl (split tool (l ∷ ls)) more)
 
 -- a word that is not `--` is an operand, or a dash and letters
 word_spelled : (tool : Tool) (word : List ℕ) (ws : List (List ℕ)) → is_end_of_options word ≡ false
@@ -164,9 +145,7 @@ word_spelled tool [] ws ends more = operand_spelled tool [] ws refl refl
 word_spelled tool (b ∷ []) ws ends more = operand_spelled tool (b ∷ []) ws ends ends
 word_spelled tool (b ∷ l ∷ ls) ws ends more =
     ⊎_elim (λ dash. dashed_spelled tool b l ls ws (eqb-true b 45 dash) ends more)
-    (λ none. let plain : is_option_arg (b ∷ l ∷ ls) ≡ false = rw none refl in operand_spelled tool (b ∷ l
-    ∷ ls) ws ends plain)
-    (cases_Bool (b == 45))
+    (λ none. operand_spelled tool (b ∷ l ∷ ls) ws ends (rw none refl)) (cases_Bool (b == 45))
 
 end_spelled : (tool : Tool) (word : List ℕ) (ws : List (List ℕ)) → is_end_of_options word ≡ true
     → IsSpelled tool (word ∷ ws) false
@@ -192,20 +171,16 @@ pub option_or-none : {A : Type 0} (o p : Option A) → option_or o p ≡ None �
 option_or-none None p none = (refl, none)
 option_or-none (Some x) p none = cc
 
-wanting_is_faulty : (tool : Tool) (before : List ParsedOption) (letter : ℕ)
-    → token_fault tool before (MissingValue letter) ≡ None → ⊥
-wanting_is_faulty tool before letter none = grind arith
-
 -- if no fault is found, each token is an option
 all_given_unless_faulty : (tool : Tool) (before : List ParsedOption) (tokens : List Token)
     → parse_fault tool before tokens ≡ None → all_given tokens ≡ true
 all_given_unless_faulty tool before [] none = refl
-all_given_unless_faulty tool before (Valid o ∷ tokens) none =
-    let (_, later) = option_or-none (token_fault tool before (Valid o)) (parse_fault tool (before ++ o ∷ []) tokens)
-    none in
-    all_given_unless_faulty tool (before ++ o ∷ []) tokens later
-all_given_unless_faulty tool before (MissingValue letter ∷ tokens) none = grind (arith, option_or-none,
-    wanting_is_faulty)
+all_given_unless_faulty tool before (Valid o ∷ tokens) none = grind (
+  arith,
+  option_or-none,
+  all_given_unless_faulty tool (before ++ o ∷ []) tokens,
+)
+all_given_unless_faulty tool before (MissingValue letter ∷ tokens) none = grind (arith, option_or-none)
 all_given_unless_faulty tool before (UnknownLetter word ∷ tokens) none = cc
 
 pub spelled_unless_faulty : FaultlessIsSpelled

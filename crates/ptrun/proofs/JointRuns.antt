@@ -1,18 +1,17 @@
 -- Tools that read all their operands together.
 --
--- If an operand could not be opened, nothing but messages is required. Otherwise what the engine of such a tool has done
--- at the positions of its operands is what processing the inputs has to do.
+-- If an operand could not be opened, nothing but messages is required. Otherwise what the engine of such a tool has
+-- done at the positions of its operands is what processing the inputs has to do.
 use Rattle.ptrun.proofs
 use proofs.Common.{AreReadToEnd, ended_operands, IsDone, Disorder, cases_eq, ◌≡◌, ◌⊎◌, ⊎_elim, inl, inr, ℕ, zero, suc}
-use proofs.Common.{◌+◌, ◌<◌, ◌≤◌, ◌^◌, ◌||◌, Bool, true, false, cond, List, [], ◌∷◌, ◌++◌, Option, Some, None, Result}
-use proofs.Common.{Ok, Err, length, take, drop, set, refl, sym, ◌∙◌, ap, subst, arith, take-append-drop, slice_get}
+use proofs.Common.{◌+◌, ◌<◌, ◌≤◌, ◌^◌, ◌||◌, Bool, true, false, cond, List, [], ◌∷◌, Option, Some, None, Result, Ok}
+use proofs.Common.{Err, length, take, drop, set, refl, sym, ◌∙◌, ap, subst, arith, take-append-drop, slice_get}
 use proofs.Common.{list_any, list_any-append, false≢true, eqb_tells, Reader, Output, Slots, SinkState, Received}
 use proofs.Common.{FlowFault, Read, Memory, Completion, AllWritten, InputBytes, ReceivedInputs, at, is_unopened}
 use proofs.Common.{AreInputsConsistent, is_in, reader_at, is_reader_unopened, HaveReceived, IsNewOrUnopened}
-use proofs.Common.{HasReadFailed, IsTooLong, unopened_messages, unopened_message, name_of, position, positions}
-use proofs.Common.{JointTool, bytes_of, received_in, has_unopened, disorder_text, disorder_status, joint_spec}
-use proofs.Common.{JointPre, HasIndexBelow, result_message, result_status, RunInputsEnd, RunInputsPost, JointPost}
-use proofs.Common.{run_state, result_of_end, update_at}
+use proofs.Common.{HasReadFailed, IsTooLong, unopened_messages, position, positions, JointTool, bytes_of, received_in}
+use proofs.Common.{has_unopened, disorder_text, disorder_status, joint_spec, JointPre, HasIndexBelow, result_message}
+use proofs.Common.{result_status, RunInputsEnd, RunInputsPost, JointPost, run_state, result_of_end, update_at}
 use Rattle.ptlines.specs.Calls.{CallEnd, Complete, OutOfOrder, ReadFault, WriteFault, MemoryFault, CallPost}
 use Rattle.ptlines.specs.Calls.{CallOutcome, AllPushed, AreAllConsistent, NoReadFailed, IsCallUnfinished, inputs_at}
 use Rattle.ptrun.specs.Engines.{in_run}
@@ -29,9 +28,7 @@ use Rattle.std.proofs.Common.{rules}
 pub none_unopened : (word : List ℕ) (names : List (List ℕ)) (test : ℕ → Bool) (positions : List ℕ)
     → list_any test positions ≡ false → unopened_messages word names test positions ≡ []
 none_unopened word names test [] none = refl
-none_unopened word names test (p ∷ positions) none = let both = neither (test p) (list_any test positions) none in
-    (λ i. cond (both.0 i) (unopened_message word (name_of names p)) []
-    ++ none_unopened word names test positions both.1 i)
+none_unopened word names test (p ∷ positions) none = grind (arith, none_unopened word names test positions)
 
 -- ---- the position of a failure, as that of the first operand with this input
 
@@ -53,9 +50,8 @@ received_from given n (r ∷ readers) = cond r.refused None (Some (given n)) ∷
 at_received : (given : ℕ → Received) (n : ℕ) (readers : List Reader) (q m : ℕ) → n + q ≡ m
     → at (received_from given n readers) q ≡ cond (is_reader_unopened readers q) None (Some (given m))
 at_received given n [] q m is = refl
-at_received given n (r ∷ readers) zero m is = let same : n ≡ m = omega (arith, is) in
-    ap (λ k. cond r.refused None (Some (given k))) same
-at_received given n (r ∷ readers) (suc q) m is = at_received given (n + 1) readers q m (omega (arith, is))
+at_received given n (r ∷ readers) zero m is = grind arith
+at_received given n (r ∷ readers) (suc q) m is = at_received given (n + 1) readers q m (omega arith)
 
 -- ---- processing the inputs
 
@@ -109,7 +105,8 @@ module _ (word : List ℕ) {t : JointTool} (names : List (List ℕ)) {positions 
   complete : (w : InputBytes) → AreInputsConsistent received w → has_unopened positions w ≡ false
   complete w agrees = grind (arith, any_same, unopened_agrees, came)
 
-  agree : (w : InputBytes) → AreInputsConsistent received w → AreAllConsistent (inputs_at positions) k.given (bytes_of w)
+  agree : (w : InputBytes) → AreInputsConsistent received w → AreAllConsistent (inputs_at positions) k.given
+      (bytes_of w)
   agree w agrees q named = grind (arith, consistent_bytes, k, at_listed)
 
   -- ---- the decided output
@@ -137,7 +134,8 @@ module _ (word : List ℕ) {t : JointTool} (names : List (List ℕ)) {positions 
   failed_is_in : (q : ℕ) → HasReadFailed old new q → is_in positions q ≡ true
   failed_is_in q failed = grind (arith, k)
 
-  none_failed : NoReadFailed (inputs_at positions) (run_state old was before) (run_state new is store) → (q : ℕ) → HasReadFailed old new q → ⊥
+  none_failed : NoReadFailed (inputs_at positions) (run_state old was before) (run_state new is store) → (q : ℕ)
+      → HasReadFailed old new q → ⊥
   none_failed none q failed = grind (arith, failed_is_in)
 
   none_long : ((q : ℕ) → is_in positions q ≡ true → (reader_at new q).pulled < 2 ^ 63) → (q : ℕ)
@@ -180,7 +178,7 @@ module _ (word : List ℕ) {t : JointTool} (names : List (List ℕ)) {positions 
       λ w agrees. rw (complete w agrees, e.disorder (bytes_of w) (agree w agrees)) (ends_with word names found),
     );
     position = below;
-    names_failed_read = λ q failed clean. absurd (none_failed e.unfailed q failed);
+    names_failed_read = grind (arith, none_failed);
     ended = ended_if_written found e.ended;
   }
 
@@ -231,9 +229,15 @@ module _ (word : List ℕ) {t : JointTool} (names : List (List ℕ)) {positions 
     within = e.within;
     message = [];
     has_said = said_nothing messages_old;
-    names = λ w agrees. sym (none_unopened word names (is_unopened w) (take e.operands_done positions) (neither _ _
-        (sym (list_any-append (is_unopened w) (take e.operands_done positions) (drop e.operands_done positions))
-        ∙ ap (list_any (is_unopened w)) (take-append-drop e.operands_done positions) ∙ complete w agrees)).0);
+    names = λ w agrees. sym (none_unopened word names (is_unopened w) (take e.operands_done positions)
+        (grind (
+          arith,
+          neither,
+          complete w agrees,
+          list_any-append (is_unopened w) (take e.operands_done positions)
+              (drop e.operands_done positions),
+          take-append-drop,
+        )));
     ends = e.ends;
     position = e.position;
     untouched = k.untouched;
@@ -245,8 +249,7 @@ module _ (word : List ℕ) {t : JointTool} (names : List (List ℕ)) {positions 
         )) (left_by post.end k.ends (sym post.result_is ∙ memory));
     is_prefix = λ w agrees. rw (complete w agrees) (k.is_prefix (bytes_of w) (agree w agrees));
     names_failed_read = e.names_failed_read;
-    decided_is_written = λ q failed clean. rw (decided_is received k.given (λ q. refl) given_listed)
-        (k.decided_is_written q (failed_is_in q failed) failed.2 clean);
+    decided_is_written = grind (arith, decided_is received k.given (λ q. refl) given_listed, failed_is_in, k);
     bounded_lag = λ q g named there. let up = lagged_output (λ e. (t.engine positions).decided (update_at q e k.given))
         (k.bounded_lag q named start.writable) in let e = up.0.earlier in
         rw (some_same (sym there ∙ at_listed q named)) (
@@ -254,6 +257,6 @@ module _ (word : List ℕ) {t : JointTool} (names : List (List ℕ)) {positions 
           rw (decided_is (set received q (Some e)) (update_at q e k.given) (opened_set received q g e there)
               (put_is q g e there)) up.1,
         );
-    peak = λ w agrees. rw (complete w agrees) (k.peak (bytes_of w) (agree w agrees));
-    slots = λ w agrees. rw (complete w agrees) (k.slots (bytes_of w) (agree w agrees));
+    peak = grind (arith, complete, agree, k);
+    slots = grind (arith, complete, agree, k);
   }

@@ -72,13 +72,14 @@ part_at parts i = (get_or parts i (record { ref_ptr = (0, 0); now = [] })).now
 
 pub joined_more : (parts : List (Bor (List ℕ))) (i : ℕ) → i < length parts
     → joined parts (i + 1) ≡ joined parts i ++ part_at parts i
-joined_more parts i within =
-    let inside : i < length (texts parts) = omega (arith, length-map parts (λ (p : Bor (List ℕ)). p.now)) in
-    ap (λ l. flat_map (λ p. p) l) (take_more (texts parts) i [] inside)
-    ∙ flat_map-append (λ (p : List ℕ). p) (take i (texts parts)) (get_or (texts parts) i [] ∷ [])
-    ∙ ap (λ l. joined parts i ++ l)
-    (append-nil (get_or (texts parts) i [])
-    ∙ get_or-map (λ (p : Bor (List ℕ)). p.now) parts i (record { ref_ptr = (0, 0); now = [] }) [] within)
+joined_more parts i within = grind (
+  arith,
+  take_more (texts parts) i [],
+  flat_map-append,
+  get_or-map,
+  length-map,
+  append-nil,
+)
 
 pub joined_all : (parts : List (Bor (List ℕ))) (i : ℕ) → length parts ≤ i
     → joined parts i ≡ flat_map (λ p. p) (texts parts)
@@ -86,16 +87,16 @@ joined_all parts i all = grind (arith, common_steps)
 
 pub line_split : (parts : List (Bor (List ℕ))) (i : ℕ) → i < length parts
     → (more : List ℕ) × (line_of (texts parts) ≡ (joined parts i ++ part_at parts i) ++ more)
-line_split parts i within =
-    let later = flat_map (λ (p : List ℕ). p) (drop (i + 1) (texts parts)) in
-    let all : flat_map (λ p. p) (texts parts) ≡ joined parts (i + 1) ++ later =
-    ap (λ l. flat_map (λ p. p) l)
-    (sym (take-append-drop (i + 1) (texts parts)))
-    ∙ flat_map-append (λ (p : List ℕ). p) (take (i + 1) (texts parts)) (drop (i + 1) (texts parts)) in (
-      later ++ 10 ∷ [],
-      ap (λ l. l ++ 10 ∷ []) all ∙ append_assoc (joined parts (i + 1)) later (10 ∷ [])
-          ∙ ap (λ l. l ++ (later ++ 10 ∷ [])) (joined_more parts i within),
-    )
+line_split parts i within = (
+  flat_map (λ p. p) (drop (i + 1) (texts parts)) ++ 10 ∷ [],
+  grind (
+    arith,
+    joined_more,
+    append_assoc,
+    take-append-drop (i + 1) (texts parts),
+    flat_map-append (λ p. p) (take (i + 1) (texts parts)) (drop (i + 1) (texts parts)),
+  ),
+)
 
 pub took_trans : (a b c : SinkState) (xs ys : List ℕ) → WriteOutOk a b xs → WriteOutOk b c ys
     → WriteOutOk a c (xs ++ ys)

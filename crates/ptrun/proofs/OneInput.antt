@@ -3,14 +3,14 @@
 -- output is buffered.
 use Rattle.ptrun.proofs
 use proofs.Common.{◌≡◌, ℕ, ◌<◌, ◌^◌, Bool, true, false, cond, List, [], ◌∷◌, ◌++◌, Option, Some, None, length, map}
-use proofs.Common.{refl, sym, ◌∙◌, ap, arith, length-append, is_none, slice_get, append-nil, nil_from_length}
-use proofs.Common.{false≢true, Reader, IsDone, prepend_known-append, Received, IsConsistent, HasReceived, InputBytes}
-use proofs.Common.{ReceivedInputs, at, is_unopened, IsConsistentAt, AreInputsConsistent, reader_at, no_reader}
-use proofs.Common.{HasReceivedAt, HaveReceived, IsNew, IsNewOrUnopened, IsTooLong, Completion, AllWritten, Unopened}
-use proofs.Common.{zero, suc, ◌+◌, ◌≤◌, set, take, drop, subst, length-drop, take-append-drop, append_known}
-use proofs.Common.{take-append_seam, IsPrefix, empty_input, LaggedInput, BufferLag, BoundedLag, Output, IsKnownPrefix}
-use proofs.Common.{PushEffect, append_known-append, ToolSpec, decided_in_order, CommandSpec, IsPushedUpToBlock}
-use proofs.Common.{IsWrittenUpToBlock, LagOfLast, LagOfAny, BoundedLagAs, HasBoundedLag}
+use proofs.Common.{refl, sym, ap, arith, length-append, is_none, slice_get, append-nil, false≢true, Reader, IsDone}
+use proofs.Common.{prepend_known-append, Received, IsConsistent, HasReceived, InputBytes, ReceivedInputs, at}
+use proofs.Common.{is_unopened, IsConsistentAt, AreInputsConsistent, reader_at, no_reader, HasReceivedAt}
+use proofs.Common.{HaveReceived, IsNew, IsNewOrUnopened, IsTooLong, Completion, AllWritten, Unopened, zero, suc, ◌+◌}
+use proofs.Common.{◌≤◌, set, take, drop, length-drop, append_known, IsPrefix, empty_input, LaggedInput, BufferLag}
+use proofs.Common.{BoundedLag, Output, IsKnownPrefix, PushEffect, append_known-append, ToolSpec, decided_in_order}
+use proofs.Common.{CommandSpec, IsPushedUpToBlock, IsWrittenUpToBlock, LagOfLast, LagOfAny, BoundedLagAs}
+use proofs.Common.{HasBoundedLag}
 use Rattle.std.proofs.Math.ListN.{get_or-map}
 use Rattle.ptlines.proofs.Refill.{remaining_of_empty}
 use Rattle.std.proofs.Common.{is_none, rules}
@@ -119,10 +119,6 @@ pub consistent_before : (g e : Received) (b : List ℕ) → (g.eof ≡ true → 
     → IsConsistent (record { bytes = g.bytes ++ e.bytes; eof = e.eof }) b → IsConsistent g b
 consistent_before g e b still a = grind (arith, common_steps)
 
--- all its bytes were received
-pub consistent_whole : (g : Received) (b : List ℕ) → g.eof ≡ true → IsConsistent g b → b ≡ g.bytes
-consistent_whole g b eof a = search rules
-
 -- ---- before the first operand, and after the last
 
 pub received_at : (old : List Reader) (q : ℕ) → at (map received_of old) q ≡ received_of (reader_at old q)
@@ -157,7 +153,7 @@ last_same xs ys x y is = grind (arith, common_steps, length-append)
 pub all_earlier : (t : ToolSpec) (came : List Received) (P : List ℕ → Type 0) → P (decided_in_order t came)
     → LagOfLast t came P
 all_earlier t came P holds done last is =
-    (same_before last, subst (λ l. P (decided_in_order t l)) is holds)
+    (same_before last, grind arith)
 
 -- less of the last operand was received earlier
 pub last_earlier : (t : ToolSpec) (came : List Received) (g : Received) (b : LaggedInput g) (P : List ℕ → Type 0)
@@ -170,7 +166,7 @@ pub lagged_output : (f : Received → List ℕ) {came : Received} {was is : Outp
     → BoundedLag {I = Unit {0}} (λ given. f (given tt)) (λ u. came) was is pushed
     → (cut : LaggedInput came) × IsPushedUpToBlock (f cut.earlier) was is pushed
 lagged_output f up =
-    (up.processing.before tt, record { begins = up.processing.begins; buffering = up.buffering })
+    (up.processing.before tt, grind arith)
 
 -- ---- less was received from one input
 
@@ -193,7 +189,7 @@ nothing_decided positions decided r failed none position came named is = (
   record {
     front = [];
     lost = [];
-    split = none (set r position (Some came)) (opened_set r position came came is);
+    split = grind (arith, opened_set);
     begins = record { rest = []; is = refl };
     few = omega arith;
     none = λ _. refl;
@@ -271,17 +267,4 @@ module _ (bytes : List ℕ) (was is is' : Output) (pushed front rest : List ℕ)
   pub kept_up : (failed : Bool) → (failed ≡ false → rest ≡ []) → IsWrittenUpToBlock bytes front failed
   kept_up failed whole =
       let (more, is) = take_front (length front) bytes k.begins.rest in
-      record {
-        front = take (length front) bytes;
-        lost = drop (length front) bytes;
-        split = sym (take-append-drop (length front) bytes);
-        begins =
-            record {
-              rest = more;
-              is = sym (take-append_seam front rest)
-                  ∙ ap (take (length front)) (sym split ∙ k.begins.is) ∙ is;
-            };
-        few = few;
-        none = λ clean. nil_from_length (drop (length front) bytes)
-            (omega (arith, all_lengths, ap length (whole clean), length-drop (length front) bytes));
-      }
+      grind (arith, common_steps, few, all_lengths)

@@ -59,7 +59,8 @@ module _ {j : JointTool} {positions : List ℕ} {old : List Reader} {was : Outpu
         (operand_completion p result)) (sym (only_operand_of positions d one)) (record {
           end = end_at (λ u. p) (pass_end result);
           result_is = refl;
-          call = placed_call (pass_engine t) (λ u. p) (one_placed p) old (set old p new) (λ q other. get_or-set_other old p q new no_reader
+          call = placed_call (pass_engine t) (λ u. p) (one_placed p) old (set old p new)
+              (λ q other. get_or-set_other old p q new no_reader
               (λ same. false≢true (sym other ∙ ap (is_in (p ∷ [])) same ∙ is_in-same [] p))) ready.writable
               (λ few. (tt, refl, new_here.eof))
               (rw here (rw (get_or_default old p e no_reader (only_operand_within d)) at pass).call);

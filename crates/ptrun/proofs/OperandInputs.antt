@@ -1,16 +1,15 @@
 -- The inputs and the positions of the operands of a command, one operand at a time. The facts follow by induction on
 -- the list of operands.
 use Rattle.ptrun.proofs
-use proofs.Common.{list_any_at, eqb-true, Any-from_list_any, or_left, or_right, or-false, cases_Bool, ◌≡◌, ◌≢◌}
-use proofs.Common.{⊎_elim, ℕ, zero, suc, ◌==◌, ◌||◌, Bool, true, false, cond, List, [], ◌∷◌, ◌++◌, Option, Some, None}
-use proofs.Common.{◌+◌, length, take, map, max, refl, sym, ◌∙◌, ap, subst, arith, append_assoc, All, flat_map}
-use proofs.Common.{option_map, list_any, flat_map-append, filter_map-append, false≢true, nat_tests, eqb_tells}
-use proofs.Common.{Received, empty_input, InputBytes, ReceivedInputs, at, is_in, input_of_operand, inputs_of_operands}
-use proofs.Common.{opened_values, opened_inputs, ToolSpec, maximum, up_to_unended, unopened_messages}
-use proofs.Common.{unopened_message, name_of, HasSaid, SinkState, update_at, ◌<◌, ◌≤◌, drop, get_or, take-append-drop}
-use proofs.Common.{take_more, get_or-map, length-map, Reader, reader_at, no_reader, IsNewOrUnopened, position}
-use proofs.Common.{positions, All-nil, All-cons, Bor, words_view, is_standard, file_names, order_from, Input}
-use proofs.Common.{Standard, File, DecidesAll}
+use proofs.Common.{eqb-true, or_left, or_right, or-false, ◌≡◌, ◌≢◌, ℕ, zero, suc, ◌==◌, ◌||◌, Bool, true, false, cond}
+use proofs.Common.{List, [], ◌∷◌, ◌++◌, Option, Some, None, ◌+◌, length, take, map, max, refl, sym, ◌∙◌, ap, arith}
+use proofs.Common.{append_assoc, All, flat_map, option_map, list_any, flat_map-append, filter_map-append, false≢true}
+use proofs.Common.{nat_tests, eqb_tells, Received, empty_input, InputBytes, ReceivedInputs, at, is_in}
+use proofs.Common.{input_of_operand, inputs_of_operands, opened_values, opened_inputs, ToolSpec, maximum}
+use proofs.Common.{up_to_unended, unopened_messages, unopened_message, name_of, HasSaid, SinkState, update_at, ◌<◌}
+use proofs.Common.{◌≤◌, drop, get_or, take-append-drop, take_more, get_or-map, length-map, Reader, reader_at}
+use proofs.Common.{no_reader, IsNewOrUnopened, position, positions, Bor, words_view, file_names, order_from, Input}
+use proofs.Common.{DecidesAll, cases_lt, Any-from_list_any, subst}
 use Rattle.std.proofs.Math.ListN.{get_or-map as get_or-map_any}
 use proofs.MessageWrites.{said_trans}
 use Rattle.std.proofs.Common.{rules}
@@ -40,11 +39,8 @@ each_listed P ps all q named = let a = Any-from_list_any (λ p. p == q) ps named
 -- if no position in a list passes a test, none that is in it does
 pub none_passes : (test : ℕ → Bool) (ps : List ℕ) → list_any test ps ≡ false → (q : ℕ) → is_in ps q ≡ true
     → test q ≡ false
-none_passes test ps none q named =
-    let a = Any-from_list_any (λ p. p == q) ps named in
-    ⊎_elim
-    (λ yes. absurd (false≢true (sym none ∙ list_any_at test ps a.0 a.1 a.2 (ap test (a.3 ∙ eqb-true a.1 q a.4) ∙ yes))))
-    (λ no. no) (cases_Bool (test q))
+none_passes test [] none q named = cc
+none_passes test (p ∷ ps) none q named = grind (arith, eqb-true, none_passes test ps)
 
 -- ---- functions of positions, updated at one
 
@@ -61,11 +57,11 @@ module _ {X : Type 0} (rest : X) (xs : List (Option X)) where
       → inputs_of_operands rest xs before (ps ++ qs) ≡ inputs_of_operands rest xs before ps
       ++ inputs_of_operands rest xs (before ++ ps) qs
   inputs_of_operands-append before [] qs = search rules
-  inputs_of_operands-append before (p ∷ ps) qs =
-      ap (λ l. input_of_operand rest xs before p ∷ l)
-      (inputs_of_operands-append (before ++ p ∷ []) ps qs
-      ∙ ap (λ l. inputs_of_operands rest xs (before ++ p ∷ []) ps ++ inputs_of_operands rest xs l qs)
-      (append_assoc before (p ∷ []) ps))
+  inputs_of_operands-append before (p ∷ ps) qs = grind (
+    arith,
+    append_assoc,
+    inputs_of_operands-append (before ++ p ∷ []) ps qs,
+  )
 
   -- the operands before one, this one, and those after it
   pub opened_inputs_at : (done : List ℕ) (p : ℕ) (more : List ℕ)
@@ -170,11 +166,11 @@ module _ (t : ToolSpec) (law : DecidesAll t) where
       ++ flat_map t.decided (up_to_unended later)
   decided_inputs r before [] later eof = refl
   decided_inputs r before (p ∷ ps) later eof =
-      let further = decided_inputs r (before ++ p ∷ []) ps later (λ q is. eof q (or_right (p == q) (is_in ps q) is)) in
+      let further = decided_inputs r (before ++ p ∷ []) ps later (grind (arith, or_right)) in
       rw (at-least_bytes r p) (decided_input (inputs_of_operands empty_input r (before ++ p ∷ []) ps)
       (inputs_of_operands [] (least_bytes r) (before ++ p ∷ []) ps) later (flat_map t.decided (up_to_unended later))
       further
-      (at r p) (eof p (or_left (p == p) (is_in ps p) (same_here p))) (is_in before p))
+      (at r p) (eof p (grind (arith, or_left, same_here))) (is_in before p))
 
 -- ---- the positions of the operands, in order
 
@@ -182,9 +178,7 @@ module _ (t : ToolSpec) (law : DecidesAll t) where
 pub fresh_all : (readers : List Reader)
     → ((k : ℕ) (d : Reader) → k < length readers → IsNewOrUnopened (get_or readers k d)) → (q : ℕ)
     → IsNewOrUnopened (reader_at readers q)
-fresh_all [] h q = λ opened. absurd (false≢true (sym opened))
-fresh_all (r ∷ readers) h zero = h zero no_reader (omega arith)
-fresh_all (r ∷ readers) h (suc q) = fresh_all readers (λ k d within. h (suc k) d (omega (arith, within))) q
+fresh_all readers h q = grind (arith, common_steps, h q no_reader, cases_lt q (length readers))
 
 pub position_in_range : (order : List Input) (n : ℕ) → All (λ p. p < n) (positions order)
     → All (λ o. position o < n) order
@@ -215,8 +209,7 @@ operand_step {p} {n} order i d in_range within is = record {
 }
   where
     next : take (i + 1) (positions order) ≡ take i (positions order) ++ p ∷ []
-    next = take_more (positions order) i 0 (omega (arith, within, length-map order position))
-        ∙ ap (λ n. take i (positions order) ++ n ∷ []) (get_or-map position order i d 0 within ∙ sym is)
+    next = grind (arith, take_more (positions order) i 0, get_or-map position order i d 0, length-map)
 
 pub positions_end : (order : List Input) (i : ℕ) → length order ≤ i → take i (positions order) ≡ positions order
 positions_end order i all = grind (arith, common_steps)
@@ -226,11 +219,10 @@ positions_end order i all = grind (arith, common_steps)
 -- each operand has a reader
 pub positions_within : (n : ℕ) (operands : List (List ℕ))
     → All (λ o. position o < n + length (file_names operands) + 1) (order_from n operands)
-positions_within n [] = All-nil (λ (o : Input). position o < n + 0 + 1)
-positions_within n (operand ∷ operands) = ⊎_elim
-    (λ is. rw is (All-cons (λ (o : Input). position o < n + length (file_names operands) + 1) Standard
-    (order_from n operands) (omega arith) (positions_within n operands)))
-    (λ is. rw is (All-cons (λ (o : Input). position o < n + length (operand ∷ file_names operands) + 1) (File n)
-    (order_from (n + 1) operands)
-    (omega arith) (λ k d within. omega (arith, positions_within (n + 1) operands k d within))))
-    (cases_Bool (is_standard operand))
+positions_within n [] k d within = absurd (omega arith)
+positions_within n (operand ∷ operands) zero d within = grind arith
+positions_within n (operand ∷ operands) (suc k) d within = grind (
+  arith,
+  positions_within n operands k d,
+  positions_within (n + 1) operands k d,
+)

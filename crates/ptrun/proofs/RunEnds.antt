@@ -7,7 +7,7 @@
 -- cause of a failure contradicts a premise.
 use Rattle.ptrun.proofs
 use proofs.Common.{AreReadToEnd, ended_operands, cases_Bool, ◌≡◌, ⊎_elim, ℕ, Bool, true, false, cond, List, [], ◌++◌}
-use proofs.Common.{Option, Some, None, Result, Ok, Err, length, map, refl, sym, ◌∙◌, ap, arith, append_assoc, subst}
+use proofs.Common.{Option, Some, None, Result, Ok, Err, length, map, refl, sym, ◌∙◌, ap, arith, append_assoc}
 use proofs.Common.{length-append, All, append_known, prepend_known, IsAtEnd, append-nil, append_cancel_left}
 use proofs.Common.{nil_from_length, false≢true, Reader, Output, PushEffect, Slots, SinkState, append_known-nil}
 use proofs.Common.{push_trans, Received, IsConsistent, IsPrefix, FlowFault, Read, Write, Memory, Completion}
@@ -15,12 +15,12 @@ use proofs.Common.{InputBytes, ReceivedInputs, at, IsConsistentAt, AreInputsCons
 use proofs.Common.{is_unopened, HasReceivedAt, IsNewOrUnopened, HasReadFailed, IsTooLong, HasBytesAt, HasSaid}
 use proofs.Common.{CommandSpec, messages, Sinks, sinks, Outcome, HasCause, RunEnd, IsRun, IsRunInStore, IsExact}
 use proofs.Common.{IsExactUnlessFailed, EndRunPost, RunInputsEnd, RunInputsPost, FinishPost, result_message}
-use proofs.Common.{result_status, IsPushedUpToBlock, IsWrittenUpToBlock, message_only, ◌+◌, ◌<◌, ◌==◌, is_none}
-use proofs.Common.{All-map, nat_tests, eqb_tells, Input, Standard, File, Fault, Command, Job, RunCut, RunPaste}
-use proofs.Common.{RunUniq, RunComm, RunJoin, RunTr, command_of_args, input_operands, fault_view, command_view}
-use proofs.Common.{CommandPost, usage_message, usage_status, position, positions, InputsPre, two_input_tool}
-use proofs.Common.{command_spec, tool_of_job, word_of_job, spec_of_tool, leb-true, ◌≤◌, spec_of_result, tool_name}
-use proofs.Common.{spec_of_args, spec_of_parsed, is_memory_fault, AreNewInputs}
+use proofs.Common.{result_status, IsWrittenUpToBlock, message_only, ◌+◌, ◌<◌, ◌==◌, is_none, All-map, nat_tests}
+use proofs.Common.{eqb_tells, Input, Standard, File, Fault, Command, Job, RunCut, RunPaste, RunUniq, RunComm, RunJoin}
+use proofs.Common.{RunTr, command_of_args, fault_view, command_view, CommandPost, usage_message, usage_status}
+use proofs.Common.{position, positions, InputsPre, two_input_tool, command_spec, tool_of_job, word_of_job}
+use proofs.Common.{spec_of_tool, leb-true, ◌≤◌, spec_of_result, tool_name, spec_of_args, spec_of_parsed}
+use proofs.Common.{is_memory_fault, AreNewInputs}
 use Rattle.std.specs.Prelude.{if◌then◌else◌}
 use Rattle.ptlines.specs.Sinks.{flushes_after}
 use Rattle.ptlangs.specs.Results.{IsFault}
@@ -137,7 +137,8 @@ none_failed : (old : List Reader) (q : ℕ) → HasReadFailed old old q → ⊥
 none_failed old q failed = false≢true (sym failed.1 ∙ failed.2)
 
 -- There is nothing to read, the output is unchanged, and `text` is the only message.
-pub unread : (m : CommandSpec) {old : List Reader} {out messages_old messages_new : SinkState} {text : List ℕ} (status : ℕ)
+pub unread : (m : CommandSpec) {old : List Reader} {out messages_old messages_new : SinkState} {text : List ℕ}
+    (status : ℕ)
     → m.sequential ≡ None → m.reads_nothing (is_reader_unopened old) ≡ true
     → ((r : ReceivedInputs) → ((q : ℕ) → is_reader_unopened old q ≡ is_unopened r q) → m.decided r ≡ [])
     → All IsNewOrUnopened old → out.failed ≡ false → HasSaid messages_old messages_new text
@@ -153,33 +154,21 @@ unread m {old} {out} {messages_old} {messages_new} {text} status at_once nothing
       written = [];
       output = sym (append_known-nil out.accepted);
       flushed = λ settled _. settled;
-      flushes = λ reads. absurd (false≢true (sym reads ∙ nothing));
+      flushes = grind arith;
       message = text;
       has_said = has_said;
       operands_done = length m.positions;
       fault = None;
-      ends = (
-        record {
-          all = refl;
-          out = λ w agrees. sym (says w agrees).0;
-          no_write_failed = fine;
-          not_denied = refl;
-          read = λ q. ⊎_elim (λ failed. none_failed old q failed)
-              (λ long. never_long (reader_at old q) (rw (received_at old q) at long));
-        },
-        λ w agrees. ((says w agrees).1, (says w agrees).2),
-      );
+      ends = grind (arith, none_failed, never_long, received_at);
       untouched = λ q other. refl;
       ended = ended;
       left = λ memory. cc;
-      is_prefix = λ w agrees. record { rest = m.out w; is = refl };
-      names_failed_read = λ q failed clean. absurd (none_failed old q failed);
-      decided_is_written = λ q failed clean. absurd (none_failed old q failed);
+      is_prefix = grind arith;
+      names_failed_read = grind (arith, none_failed);
+      decided_is_written = grind (arith, none_failed);
       bounded_lag = rw at_once
           (nothing_decided m.positions m.decided (map received_of old) out.failed
-          (λ r same. undecided r (λ q. unopened_received (reader_at old q) (reader_at old q)
-          (at (map received_of old) q)
-          (came q) ∙ sym (same q))));
+          (grind (arith, unopened_received)));
       bounded = λ w agrees. omega arith;
     }
 
@@ -208,15 +197,6 @@ ended_after_all : (m : CommandSpec) (readers : List Reader) (n : ℕ) (r : Resul
     → AreReadToEnd readers (ended_operands m n (result_status r)) → AreReadToEnd readers (ended_operands m n 1)
 ended_after_all m readers n r ended = grind arith
 
--- the end of the inputs, unless a write failed after that
-end_of : (m : CommandSpec) (r : ReceivedInputs) (old new : List Reader) (pushed : List ℕ) (denied : Bool) (n : ℕ)
-    (run_result final_result : Result Completion FlowFault) (failed : Bool) → (failed ≡ true → final_result ≡ Err Write)
-    → (failed ≡ false → final_result ≡ run_result)
-    → (failed ≡ false → RunInputsEnd m r old new pushed false denied n run_result)
-    → RunInputsEnd m r old new pushed failed denied n final_result
-end_of m r old new pushed denied n run_result final_result true broken same k = rw (broken refl) refl
-end_of m r old new pushed denied n run_result final_result false broken same k = rw (same refl) (k refl)
-
 module _ {m : CommandSpec} {old new : List Reader} {was is : Output}
     {messages_first messages_old messages_new : SinkState} {before store : Slots}
     {run_result : Result Completion FlowFault} (out : SinkState) (o : Outcome)
@@ -244,8 +224,7 @@ module _ {m : CommandSpec} {old new : List Reader} {was is : Output}
 
   wrote : PushEffect was sent k.pushed
   wrote =
-      ⊎_elim (λ write_failed. subst (λ b. PushEffect was b k.pushed) (sym (f.wrote.stays write_failed))
-      k.wrote)
+      ⊎_elim (grind (arith, f))
       (λ clean. rw (append-nil k.pushed) at (push_trans was is sent k.pushed [] clean k.wrote f.wrote))
       (cases_Bool is.write_failed)
 
@@ -286,43 +265,27 @@ module _ {m : CommandSpec} {old new : List Reader} {was is : Output}
     received = k.received;
     came = k.came;
     written = reached.front;
-    output = last.accepted ∙ reached.accepted
-        ∙ ap (λ t. append_known t reached.front) (ap (λ o. o.accepted) made);
-    flushed = λ _ fine. last.unflushed ∙ f.flushed (sym last.failed ∙ fine);
-    flushes = λ _. flushed_once;
+    output = grind (arith, reached);
+    flushed = grind (arith, f);
+    flushes = grind (arith, flushed_once);
     message = k.message ++ last_message;
     has_said = said_trans nothing_said (said_trans k.has_said last.has_said);
     operands_done = k.operands_done;
     fault = fault_of final_result;
-    ends = ends_as final_result refl (end_of m k.received old new k.pushed store.denied k.operands_done
-        run_result final_result is'.write_failed f.broken f.same_result
-        (λ clean. rw (f.was_clean clean) at k.ends));
+    ends = ends_as final_result refl (grind (arith, f, cases_Bool is'.write_failed));
     untouched = k.untouched;
-    ended =
-        rw last.status_is
-        (⊎_elim (λ write_failed. rw (f.broken write_failed)
-        (ended_after_all m new k.operands_done run_result k.ended))
-        (λ clean. rw (f.same_result clean) k.ended) (cases_Bool is'.write_failed));
-    left = λ memory. ⊎_elim (λ write_failed. absurd (not_memory (f.broken write_failed) memory))
-        (λ clean. rw (all_front clean) (k.left (sym (f.same_result clean) ∙ err_of final_result memory)))
-        (cases_Bool is'.write_failed);
+    ended = grind (arith, f, ended_after_all, cases_Bool is'.write_failed);
+    left = grind (arith, f, all_front, not_memory, err_of, cases_Bool is'.write_failed);
     is_prefix = begins;
-    names_failed_read = λ position failed fine. let clean = sym last.failed ∙ fine in
-        ap fault_of (f.same_result clean ∙ k.names_failed_read position failed (f.was_clean clean));
-    decided_is_written = λ position failed fine. let clean = sym last.failed ∙ fine in
-        let b = k.decided_is_written position failed (f.was_clean clean) in
-        record { rest = b.rest; is = all_front clean ∙ b.is };
-    bounded_lag = earlier_map m k.received k.operands_done (λ decided. IsPushedUpToBlock decided was is k.pushed)
-        (λ decided. IsWrittenUpToBlock decided reached.front o.out.failed) kept k.bounded_lag;
-    bounded = λ w agrees. omega (arith, k.peak w agrees, low, last.peak);
+    names_failed_read = grind (arith, f);
+    decided_is_written = grind (arith, f, all_front);
+    bounded_lag = earlier_map m k.received k.operands_done _
+        (λ decided. IsWrittenUpToBlock decided reached.front o.out.failed)
+        (λ bytes up. kept_up bytes was is is' k.pushed reached.front reached.rest up (ap (λ o. o.buffered) made)
+        reached.split reached.accepted f.wrote.kept reached.unknown o.out.failed (grind (arith, f, reached)))
+        k.bounded_lag;
+    bounded = grind arith;
   }
-    where
-      kept : (bytes : List ℕ) → IsPushedUpToBlock bytes was is k.pushed
-          → IsWrittenUpToBlock bytes reached.front o.out.failed
-      kept bytes up =
-          kept_up bytes was is is' k.pushed reached.front reached.rest up (ap (λ o. o.buffered) made)
-          reached.split reached.accepted f.wrote.kept reached.unknown o.out.failed
-          (λ fine. let clean = sym last.failed ∙ fine in reached.whole clean (f.emptied clean))
 
   pub run_in_store : IsRunInStore m old new (sinks out messages_first) o before store
   unfolding run_of
@@ -378,10 +341,10 @@ inputs_pre_of_spelled : (words : List (List ℕ)) (c : Command) (readers : List 
     → AreNewInputs (length c.names) readers → InputsPre (command_spec c) readers
 inputs_pre_of_spelled words c readers (Spelled name rest tool os operands named s allowed) fresh =
     let is = accepts_operands c.job (word_of_job c.job) c.names c.order
-    (are_inputs tool os operands allowed.inputs) in record {
+    (grind (arith, are_inputs)) in record {
       fresh = fresh.1;
       in_range = All-map (λ p. p < length readers) position c.order
-          (λ k d within. omega (arith, positions_within 0 (input_operands tool operands) k d within, fresh.0));
+          (grind (arith, positions_within));
       named = fresh.0;
       accepts_operands = is.accepts_operands;
       few = is.few;
@@ -393,7 +356,7 @@ pub inputs_pre_of_parsed : {A : Type 0} (command : Result (code.Command A) UseFa
     → command ≡ Ok c → CommandPost command (command_of_args words)
     → AreNewInputs (length (command_view c).names) readers → InputsPre (command_spec (command_view c)) readers
 inputs_pre_of_parsed command words c readers is m fresh =
-    inputs_pre_of_spelled words (command_view c) readers ((meant_as_spelled words (command_view c)).1 (rw is at m))
+    inputs_pre_of_spelled words (command_view c) readers (grind (arith, meant_as_spelled))
     fresh
 
 -- the main theorem for arguments, if parsing did not run out of memory

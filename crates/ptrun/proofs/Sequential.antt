@@ -5,26 +5,26 @@ use Rattle.ptrun.proofs
 use proofs.Common.{IsDone, cases_lt, sequential_slots, take-append-add, cases_eq, cases_Bool, ◌≡◌, ◌≢◌, ◌⊎◌, ⊎_elim}
 use proofs.Common.{inl, inr, ℕ, ◌<◌, ◌≤◌, Bool, true, false, cond, List, [], ◌∷◌, ◌++◌, Some, None, Result, Ok, Err}
 use proofs.Common.{◌+◌, length, take, map, set, max, refl, sym, ◌∙◌, ap, subst, arith, append_assoc, length-append}
-use proofs.Common.{length-set, flat_map, option_map, list_any, append-nil, take_all, map-append, get_or-set_same}
-use proofs.Common.{length-map, take-append_seam, take-length, flat_map-append, false≢true, Reader, IsSound}
-use proofs.Common.{HasReadCause, Output, PushEffect, Slots, total_bytes, SinkState, push_trans, push_nothing}
-use proofs.Common.{Received, empty_input, IsConsistent, IsPrefix, HasReceived, AllPushed, CallOutcome, PassPost}
-use proofs.Common.{ToolSpec, FlowFault, Read, Write, Memory, InputBytes, ReceivedInputs, at, is_unopened}
-use proofs.Common.{AreInputsConsistent, is_in, input_of_operand, inputs_of_operands, opened_values, opened_inputs}
-use proofs.Common.{reader_at, no_reader, is_reader_unopened, HaveReceived, IsNewOrUnopened, HasReadFailed, IsTooLong}
-use proofs.Common.{HasSaid, unopened_messages, unopened_message, name_of, BoundedLag, IsPushedUpToBlock}
-use proofs.Common.{decided_in_order, up_to_unended, sequential_output, sequential_bound, sequential_decided}
-use proofs.Common.{sequential_spec, Completion, AllWritten, Unopened, HasCause, fault_at, result_message}
-use proofs.Common.{result_status, HasIndexBelow, RunInputsPost, get_or, get_or_default, All, DecidesAll, OperandPre}
-use proofs.Common.{OperandPost, operand_completion, CallState, call_state, only_input, pass_engine, pass_end}
+use proofs.Common.{length-set, flat_map, list_any, append-nil, take_all, map-append, get_or-set_same, length-map}
+use proofs.Common.{take-append_seam, take-length, flat_map-append, false≢true, Reader, IsSound, HasReadCause, Output}
+use proofs.Common.{PushEffect, Slots, total_bytes, SinkState, push_trans, push_nothing, Received, empty_input}
+use proofs.Common.{IsConsistent, IsPrefix, HasReceived, AllPushed, CallOutcome, PassPost, ToolSpec, FlowFault, Read}
+use proofs.Common.{Write, Memory, InputBytes, ReceivedInputs, at, is_unopened, AreInputsConsistent, is_in}
+use proofs.Common.{input_of_operand, inputs_of_operands, opened_values, opened_inputs, reader_at, no_reader}
+use proofs.Common.{is_reader_unopened, HaveReceived, IsNewOrUnopened, HasReadFailed, IsTooLong, HasSaid}
+use proofs.Common.{unopened_messages, unopened_message, name_of, BoundedLag, IsPushedUpToBlock, decided_in_order}
+use proofs.Common.{up_to_unended, sequential_output, sequential_bound, sequential_decided, sequential_spec}
+use proofs.Common.{Completion, AllWritten, Unopened, HasCause, fault_at, result_message, result_status, HasIndexBelow}
+use proofs.Common.{RunInputsPost, get_or, get_or_default, All, DecidesAll, OperandPre, OperandPost}
+use proofs.Common.{operand_completion, CallState, call_state, only_input, pass_engine, pass_end}
 use proofs.OneInput.{all_earlier, last_earlier, sends_now, sends_after, IsAtEof, none_received, completion_with}
 use proofs.OneInput.{received_of, received_at, nothing_read, never_long, not_long, OpenedInput, opened_receives}
 use proofs.OneInput.{still_unopened, receives_trans, ended_gives_nothing, unopened_agrees, none_of, consistent_bytes}
 use proofs.OneInput.{consistent_before, least_consistent, ended_at, nth_here}
 use proofs.MessageWrites.{said_nothing}
-use proofs.OperandInputs.{least_bytes, some_same, holds_more, is_in-same, is_in-other, not_more, by_position, opened_inputs_some}
-use proofs.OperandInputs.{opened_inputs_none, unopened_same, any_same, any_now, any_before, said_more, maximum-append}
-use proofs.OperandInputs.{IsEndedAt, decided_inputs, fresh_all}
+use proofs.OperandInputs.{least_bytes, some_same, holds_more, is_in-same, is_in-other, not_more, by_position}
+use proofs.OperandInputs.{opened_inputs_some, opened_inputs_none, unopened_same, any_same, any_now, any_before}
+use proofs.OperandInputs.{said_more, maximum-append, IsEndedAt, decided_inputs, fresh_all}
 use Rattle.std.proofs.Common.{rules}
 use Rattle.std.proofs.lemmas.Grind.{common_steps}
 
@@ -64,10 +64,7 @@ done_as inputs kept out messages far positions k = grind arith
 
 ok_of : (p : ℕ) {all : Completion} (passed : Result (Unit {0}) FlowFault) → operand_completion p passed ≡ Ok all
     → passed ≡ Ok tt
-ok_of p (Ok u) same = refl
-ok_of p (Err (Read index)) same = cc
-ok_of p (Err Write) same = cc
-ok_of p (Err Memory) same = cc
+ok_of p passed same = grind arith
 
 -- the failure of the pass over the operand at `p`, from that of the tool
 record PassFault (p : ℕ) (passed : Result (Unit {0}) FlowFault) (fault : FlowFault) : Type 0 where
@@ -77,10 +74,7 @@ record PassFault (p : ℕ) (passed : Result (Unit {0}) FlowFault) (fault : FlowF
 
 err_of : {p : ℕ} {fault : FlowFault} (passed : Result (Unit {0}) FlowFault) → operand_completion p passed ≡ Err fault
     → PassFault p passed fault
-err_of (Ok u) same = cc
-err_of (Err (Read index)) same = grind arith
-err_of (Err Write) same = record { passed_fault = Write; failed = refl; is = cc }
-err_of (Err Memory) same = record { passed_fault = Memory; failed = refl; is = cc }
+err_of passed same = grind arith
 
 module _ {word : List ℕ} {t : ToolSpec} {names : List (List ℕ)} {old : List Reader} {was : Output}
     {messages_old : SinkState} {before : Slots} (fresh : All IsNewOrUnopened old) where
@@ -115,18 +109,14 @@ module _ {word : List ℕ} {t : ToolSpec} {names : List (List ℕ)} {old : List 
 
     not_failed_now : (q : ℕ) → is_reader_unopened old q ≡ false → (reader_at old q).failed ≡ false
         → (reader_at now q).failed ≡ false
-    not_failed_now q opened not_failed_before =
-        ⊎_elim (λ seen. (k.at_eof q seen opened).failed)
-        (λ unseen. ap (λ r. r.failed) (k.unread q unseen) ∙ not_failed_before) (cases_Bool (is_in done q))
+    not_failed_now q opened not_failed_before = grind (arith, k.at_eof q, k.unread q)
 
     ended_now : (q : ℕ) → is_in done q ≡ true → IsEndedAt (at k.inputs_read q)
     ended_now q seen = grind (arith, ended_at)
 
     can_read_now : (q : ℕ) → is_reader_unopened old q ≡ false
         → ((reader_at now q).buffered ≡ []) × ((reader_at now q).fault ≡ None)
-    can_read_now q opened = ⊎_elim (λ seen. let s = k.at_eof q seen opened in (s.done.buffered, s.fault))
-        (λ unseen. let new = fresh_all old fresh q opened in rw (k.unread q unseen) (new.buffered, new.fault))
-        (cases_Bool (is_in done q))
+    can_read_now q opened = grind (arith, k.at_eof q, k.unread q, fresh_all old fresh q)
 
     -- ---- all operands are done
 
@@ -182,13 +172,19 @@ module _ {word : List ℕ} {t : ToolSpec} {names : List (List ℕ)} {old : List 
         all_taken = take_all (length done + 1) done (omega arith)
 
         none : (q : ℕ) → HasReadFailed old now q → ⊥
-        none q (opened, before, failed) = false≢true (sym (not_failed_now q opened before) ∙ failed)
+        none q failed = grind (arith, not_failed_now)
 
         short : (q : ℕ) → IsTooLong (at k.inputs_read q) → ⊥
-        short q long =
-            ⊎_elim (λ seen. not_long (reader_at old q) (reader_at now q) (at k.inputs_read q) (fresh_all old fresh q)
-            (k.came q) (λ opened. (k.at_eof q seen opened).short) long)
-            (λ unseen. never_long (reader_at old q) (rw (k.unreceived q unseen) at long)) (cases_Bool (is_in done q))
+        short q long = grind (
+          arith,
+          not_long,
+          never_long,
+          fresh_all old fresh q,
+          k.came q,
+          k.at_eof q,
+          k.unreceived q,
+          was_unopened,
+        )
 
         ends_with : (b : Bool)
             → (result_message word names (Ok (completion_with b)) ≡ [])
@@ -218,7 +214,7 @@ module _ {word : List ℕ} {t : ToolSpec} {names : List (List ℕ)} {old : List 
 
       ready_here : (get_or now p d).refused ≡ false → (get_or now p d).fault ≡ None
       ready_here opened = let (buffered, fault) =
-          can_read_now p (was_unopened p ∙ ap (λ r. r.refused) (sym here) ∙ opened) in rw here fault
+          can_read_now p (grind (arith, was_unopened, here)) in rw here fault
 
       -- an opened operand can be passed to the tool
       pub operand_ready : (get_or now p d).refused ≡ false → OperandPre (p ∷ []) now store
@@ -234,32 +230,29 @@ module _ {word : List ℕ} {t : ToolSpec} {names : List (List ℕ)} {old : List 
         long = k.long;
         came = k.came;
         at_eof = holds_more (λ q. is_reader_unopened old q ≡ false → IsAtEof (reader_at now q)) done p k.at_eof
-            (λ opened. absurd (false≢true (sym opened ∙ old_unopened)));
-        unread = λ q unseen. let (differs, before) = not_more done p q unseen in k.unread q before;
-        unreceived = λ q unseen. let (differs, before) = not_more done p q unseen in k.unreceived q before;
+            (grind (arith, old_unopened));
+        unread = grind (arith, not_more);
+        unreceived = grind (arith, not_more);
         pushed = k.pushed;
         wrote = k.wrote;
         out = λ w agrees. rw (nothing w agrees) (k.out w agrees);
         has_said = said_more word names (is_reader_unopened old) done p k.has_said (rw old_unopened says);
-        so_far_is = sym (ap completion_with (any_now (is_reader_unopened old) done p old_unopened));
+        so_far_is = grind (arith, any_now, old_unopened);
         clean = k.clean;
         not_denied = k.not_denied;
         empty = k.empty;
         peak = λ w agrees. rw (nothing w agrees) (k.peak w agrees);
         slots = λ w agrees. rw (nothing w agrees) (k.slots w agrees);
         room = holds_more (λ q. is_reader_unopened old q ≡ false → t.slots ≤ length store.lines) done p k.room
-            (λ opened. absurd (false≢true (sym opened ∙ old_unopened)));
+            (grind (arith, old_unopened));
       }
         where
           old_unopened : (reader_at old p).refused ≡ true
-          old_unopened = was_unopened p ∙ ap (λ r. r.refused) (sym here) ∙ refused
+          old_unopened = grind (arith, was_unopened, here)
 
           nothing : (w : InputBytes) → AreInputsConsistent k.inputs_read w
               → opened_inputs [] w (done ++ p ∷ []) ≡ opened_inputs [] w done
-          nothing w agrees =
-              let none =
-              none_of (at w p) (sym (unopened_agrees old now k.inputs_read w k.came agrees p) ∙ old_unopened) in
-              opened_inputs_none [] w done p (rw none refl)
+          nothing w agrees = grind (arith, opened_inputs_none, none_of, unopened_agrees, old_unopened)
 
     -- ---- an operand that was opened
 
@@ -317,11 +310,20 @@ module _ {word : List ℕ} {t : ToolSpec} {names : List (List ℕ)} {old : List 
       read_other q differs = search rules
 
       receives_here : HasReceived (reader_at old p) new (given_now y.given)
-      receives_here = receives_trans (reader_at old p) (reader_at now p) new y.given given_here y.received came_here buffered
+      receives_here = receives_trans (reader_at old p) (reader_at now p) new y.given given_here y.received came_here
+          buffered
 
       received' : HaveReceived old now' inputs_read'
-      received' = grind (arith, by_position, reader_here, read_here, old_open, receives_here, reader_other,
-          read_other)
+      received' = grind (
+        arith,
+        by_position,
+        reader_here,
+        read_here,
+        old_open,
+        receives_here,
+        reader_other,
+        read_other,
+      )
 
       still : y.given.eof ≡ true → (given_here.bytes ≡ []) × (given_here.eof ≡ true)
       still eof = grind (arith, ended_gives_nothing, came_here, buffered)
@@ -330,15 +332,8 @@ module _ {word : List ℕ} {t : ToolSpec} {names : List (List ℕ)} {old : List 
       turn : ((is_in done p ≡ true) × (given_here ≡ empty_input) × IsAtEof (reader_at now p))
           ⊎ ((is_in done p ≡ false) × (y.given ≡ none_received))
       turn = ⊎_elim
-          (λ seen.
-          let s = k.at_eof p seen old_open in
-          let (none, at_eof) = still (y.received.eof ∙ s.done.eof) in
-          inl (seen, (λ i. record { bytes = none i; eof = at_eof i }), s))
-          (λ unseen. inr (
-            unseen,
-            some_same (sym y.is ∙ k.unreceived p unseen
-                ∙ ap (λ b. cond b None (Some none_received)) old_open),
-          )) (cases_Bool (is_in done p))
+          (grind (arith, old_open, still))
+          (λ unseen. grind (arith, unseen, some_same, old_open)) (cases_Bool (is_in done p))
 
       unseen : HasReadCause (reader_at now p) new → is_in done p ≡ false
       unseen cause = grind (arith, came_here, still, turn)
@@ -349,8 +344,16 @@ module _ {word : List ℕ} {t : ToolSpec} {names : List (List ℕ)} {old : List 
 
       -- the bytes are consistent with what was received before
       back : (w : InputBytes) → AreInputsConsistent inputs_read' w → AreInputsConsistent k.inputs_read w
-      back w agrees = grind (arith, here, consistent_bytes, read_here, by_position, consistent_before, still,
-          read_other)
+      back w agrees = grind (
+        arith,
+        here,
+        consistent_bytes,
+        read_here,
+        by_position,
+        consistent_before,
+        still,
+        read_other,
+      )
 
       -- the bytes that are left for the operand, consistent with what this call received
       record OperandFinds (w : InputBytes) : Type 0 where
@@ -363,7 +366,7 @@ module _ {word : List ℕ} {t : ToolSpec} {names : List (List ℕ)} {old : List 
           let here = consistent_bytes (at inputs_read' p) (at w p) (given_now y.given) read_here (agrees p) in
           record {
             bytes = cond (is_in done p) [] here.bytes;
-            are = ap (λ v. option_map (λ (b : List ℕ). cond (is_in done p) [] b) v) here.are;
+            are = grind (arith, here);
             agree = consistent_here here.bytes here.agree;
           }
 
@@ -375,39 +378,18 @@ module _ {word : List ℕ} {t : ToolSpec} {names : List (List ℕ)} {old : List 
           → sequential_output t w (done ++ p ∷ more) ≡ sequential_output t w done
           ++ (t.text f.bytes ++ flat_map t.text (later w more))
       out_here w more f =
-          ap (λ l. flat_map t.text l) (opened_inputs_some [] w done p more f.bytes f.are)
+          ap (λ l. flat_map t.text l) (grind (arith, opened_inputs_some))
           ∙ flat_map-append t.text (opened_inputs [] w done) (f.bytes ∷ later w more)
 
-      peak_here : (w : InputBytes) (more : List ℕ) → AreInputsConsistent inputs_read' w
-          → store'.peak ≤ max before.peak (sequential_bound t w (done ++ p ∷ more))
-      peak_here w more agrees =
+      bounds_here : (w : InputBytes) (more : List ℕ) → AreInputsConsistent inputs_read' w
+          → (store'.peak ≤ max before.peak (sequential_bound t w (done ++ p ∷ more)))
+          × (length store'.lines ≤ max (length before.lines) (sequential_slots t w (done ++ p ∷ more)))
+      bounds_here w more agrees =
           let f = operand_finds w agrees in
-          rw (
-            opened_inputs_some [] w done p more f.bytes f.are,
-            map-append t.size (opened_inputs [] w done) (f.bytes ∷ later w more),
+          rw (opened_inputs_some [] w done p more f.bytes f.are, map-append, map-append) (
+            omega (arith, maximum-append, e.call.peak (λ u. f.bytes) (λ u read. f.agree), k.peak w (back w agrees)),
+            omega (arith, maximum-append, e.call.slots (λ u. f.bytes) (λ u read. f.agree), k.slots w (back w agrees)),
           )
-          (omega (
-            arith,
-            maximum-append (map t.size (opened_inputs [] w done)) (map t.size (f.bytes ∷ later w more)),
-            e.call.peak (λ u. f.bytes) (λ u read. f.agree),
-            k.peak w (back w agrees),
-          ))
-
-      slots_here : (w : InputBytes) (more : List ℕ) → AreInputsConsistent inputs_read' w
-          → length store'.lines ≤ max (length before.lines) (sequential_slots t w (done ++ p ∷ more))
-      slots_here w more agrees =
-          let f = operand_finds w agrees in
-          let slots_of : List ℕ → ℕ = λ input. t.slots in
-          rw (
-            opened_inputs_some [] w done p more f.bytes f.are,
-            map-append slots_of (opened_inputs [] w done) (f.bytes ∷ later w more),
-          )
-          (omega (
-            arith,
-            maximum-append (map slots_of (opened_inputs [] w done)) (map slots_of (f.bytes ∷ later w more)),
-            e.call.slots (λ u. f.bytes) (λ u read. f.agree),
-            k.slots w (back w agrees),
-          ))
 
       -- it was read to its end
       passed_ok : result ≡ Ok tt
@@ -417,14 +399,9 @@ module _ {word : List ℕ} {t : ToolSpec} {names : List (List ℕ)} {old : List 
         same_length = length-set now p new ∙ k.same_length;
         long = length-set k.inputs_read p (Some (given_now y.given)) ∙ k.long;
         came = received';
-        at_eof =
-            λ q seen opened. ⊎_elim (λ same. subst (λ n. IsAtEof (reader_at now' n)) same (rw reader_here at_eof))
-            (λ other. rw (reader_other q other) (k.at_eof q (sym (is_in-other done p q other) ∙ seen) opened))
-            (cases_eq p q);
-        unread = λ q unseen. let (differs, before) = not_more done p q unseen in reader_other q differs
-            ∙ k.unread q before;
-        unreceived = λ q unseen. let (differs, before) = not_more done p q unseen in read_other q differs
-            ∙ k.unreceived q before;
+        at_eof = grind (arith, by_position, reader_here, at_eof, reader_other, is_in-other);
+        unread = grind (arith, not_more, reader_other);
+        unreceived = grind (arith, not_more, read_other);
         pushed = k.pushed ++ e.call.pushed;
         wrote = push_trans was is is' k.pushed e.call.pushed k.clean k.wrote e.call.wrote;
         out = λ w agrees. let f = operand_finds w agrees in
@@ -433,12 +410,12 @@ module _ {word : List ℕ} {t : ToolSpec} {names : List (List ℕ)} {old : List 
             ∙ sym (out_here w [] f);
         has_said =
             said_more word names (is_reader_unopened old) done p k.has_said (rw old_open (said_nothing messages_new));
-        so_far_is = k.so_far_is ∙ sym (ap completion_with (any_before (is_reader_unopened old) done p old_open));
+        so_far_is = grind (arith, any_before, old_open);
         clean = end.clean;
         not_denied = end.not_denied;
         empty = end.empty;
-        peak = λ w agrees. peak_here w [] agrees;
-        slots = λ w agrees. slots_here w [] agrees;
+        peak = λ w agrees. (bounds_here w [] agrees).0;
+        slots = λ w agrees. (bounds_here w [] agrees).1;
         room = λ q seen opened. omega (arith, (e.call.added k.clean).all end.not_denied);
       }
         where
@@ -460,17 +437,18 @@ module _ {word : List ℕ} {t : ToolSpec} {names : List (List ℕ)} {old : List 
           store'.denied (length done) (fault_at p fault)
       cause_of more (Read position) r = (
         nth_here done more p,
-        rw (take-append_seam done (p ∷ more)) (unseen r.cause),
-        ⊎_elim
-            (λ (failed, empty, going). inl (
-              old_open,
-              ap (λ r. r.failed) (sym (k.unread p (unseen r.cause)))
-                  ∙ not_failed_before,
-              ap (λ n. n.failed) reader_here ∙ failed,
-            ))
-            (λ (long, same). inr
-            (rw read_here (let first = fresh_all old fresh p old_open in
-            omega (arith, long, receives_here.count, ap length first.buffered, first.pulled)))) r.cause,
+        grind (arith, common_steps, unseen),
+        grind (
+          arith,
+          old_open,
+          unseen,
+          not_failed_before,
+          reader_here,
+          read_here,
+          fresh_all,
+          receives_here,
+          buffered,
+        ),
         r.clean,
         r.not_denied,
       )
@@ -486,18 +464,14 @@ module _ {word : List ℕ} {t : ToolSpec} {names : List (List ℕ)} {old : List 
       memory_is Write is = is
       memory_is Memory is = refl
 
-      -- If no slot was missing, a line is left. A slot was missing only if no operand was read before: then its input is
-      -- unread.
+      -- If no slot was missing, a line is left. A slot was missing only if no operand was read before: then its input
+      -- is unread.
       input_left : result ≡ Err Memory → IsDone new → ⊥
       input_left memory ended = ⊎_elim
           (λ few.
           let unread = (e.call.unread k.clean few).readers tt refl in
-          ⊎_elim (λ seen. omega (arith, few, k.room p seen old_open, (e.call.added k.clean).least))
-          (λ unseen. false≢true (sym (fresh_all old fresh p old_open).eof
-          ∙ ap (λ r. r.eof) (sym (k.unread p unseen))
-          ∙ ap (λ r. r.eof) (sym unread) ∙ ended.eof)) (cases_Bool (is_in done p)))
-          (λ enough. ⊎_elim (λ (u, read, unended). unended ended) (λ (keeps, missing). false≢true keeps)
-          ((subst EndedAs memory e.call.ends).left enough)) (cases_lt (length store'.lines) t.slots)
+          grind (arith, old_open, unseen, fresh_all))
+          (grind arith) (cases_lt (length store'.lines) t.slots)
 
       failing : (fault : FlowFault) → EndedAs (Err fault) → new.failed ≡ true
           → (new.eof ≡ false) × (fault_at p fault ≡ Read p)
@@ -528,13 +502,7 @@ module _ {word : List ℕ} {t : ToolSpec} {names : List (List ℕ)} {old : List 
         -- if its end was not reached, nothing after it is decided
         decided_open : (g : Received) (after : List Received) → (after ≡ []) ⊎ (g.eof ≡ false)
             → flat_map t.decided (up_to_unended (g ∷ after)) ≡ t.decided g
-        decided_open g after last = ap (λ l. t.decided g ++ flat_map t.decided l)
-            (none_after g.eof last) ∙ append-nil (t.decided g)
-          where
-            none_after : (b : Bool) → (after ≡ []) ⊎ (b ≡ false) → cond b (up_to_unended after) [] ≡ []
-            none_after true last =
-                ⊎_elim (λ none. ap up_to_unended none) (λ going. absurd (false≢true (sym going))) last
-            none_after false last = refl
+        decided_open g after last = grind (arith, append-nil)
 
         -- a prefix of what this operand pushed, after all that was pushed before it
         begins_after : (bytes : List ℕ) {all : List ℕ} → all ≡ k.pushed ++ bytes → IsPrefix bytes e.call.pushed
@@ -573,7 +541,8 @@ module _ {word : List ℕ} {t : ToolSpec} {names : List (List ℕ)} {old : List 
             rw reader_here (came_here.refused ∙ sym (was_unopened p) ∙ old_open),
             rw reader_here (input_left (is_err ∙ ap (λ f. Err f) (memory_is fault same))),
           );
-          is_prefix = λ w agrees. let f = operand_finds w agrees in let b = e.call.is_prefix (λ u. f.bytes) (λ u read. f.agree) in let rest =
+          is_prefix = λ w agrees. let f = operand_finds w agrees in let b = e.call.is_prefix (λ u. f.bytes)
+              (λ u read. f.agree) in let rest =
               flat_map t.text (later w more) in record {
                 rest = b.rest ++ rest;
                 is = out_here w more f ∙ (λ i. sym (k.out w (back w agrees)) i ++ (b.is i ++ rest))
@@ -599,25 +568,19 @@ module _ {word : List ℕ} {t : ToolSpec} {names : List (List ℕ)} {old : List 
                     rw decided_here
                     (sends_after was is is' k.pushed (t.decided earlier) k.wrote k.clean one_keeps.buffering);
               }));
-          names_failed_read = λ q failed clean. ap (λ f. Err f)
-              ((failing fault end (fails_here q failed)).1 ∙ ap (λ n. Read n) (position_of q failed));
-          peak = λ w agrees. peak_here w more agrees;
-          slots = λ w agrees. slots_here w more agrees;
+          names_failed_read = grind (arith, failing fault end, fails_here, position_of);
+          peak = λ w agrees. (bounds_here w more agrees).0;
+          slots = λ w agrees. (bounds_here w more agrees).1;
         }
           where
             end : EndedAs (Err fault)
-            end = subst EndedAs is_err e.call.ends
+            end = grind arith
 
             position_of : (q : ℕ) → HasReadFailed old now' q → p ≡ q
-            position_of q (opened, before, failed) = ⊎_elim (λ same. same)
-                (λ other. absurd
-                (false≢true (sym (not_failed_now q opened before)
-                ∙ ap (λ r. r.failed) (sym (reader_other q other)) ∙ failed))) (cases_eq p q)
+            position_of q failed = grind (arith, reader_other, not_failed_now, cases_eq p q)
 
             fails_here : (q : ℕ) → HasReadFailed old now' q → new.failed ≡ true
-            fails_here q fails = let (opened, before, failed) = fails in
-                ap (λ r. r.failed) (sym reader_here)
-                ∙ ap (λ n. (reader_at now' n).failed) (position_of q fails) ∙ failed
+            fails_here q failed = grind (arith, position_of, reader_here)
 
             index_within : (f : FlowFault) → HasIndexBelow (length old) (Err (fault_at p f))
             index_within (Read position) = within
@@ -635,4 +598,4 @@ module _ {word : List ℕ} {t : ToolSpec} {names : List (List ℕ)} {old : List 
           → RunInputsPost (sequential_spec word t names (done ++ p ∷ more)) old after was is' messages_old messages_new
           before store' (Err fault)
       done_stopped law more is_err = let f = err_of call.pass_result (sym call.result_is ∙ is_err) in
-          rw (call.inputs, f.is) (stopped within d open_here sound call.pass law more f.passed_fault f.failed)
+          grind (arith, stopped)

@@ -66,7 +66,8 @@ module _ (word : List ℕ) (names : List (List ℕ)) (positions : List ℕ) wher
 
   -- ---- processing the inputs
 
-  pub together_pre : (s : ToolInRun) (was : Output) (before : Slots) {inputs : List Reader} {messages_old messages_new : SinkState}
+  pub together_pre : (s : ToolInRun) (was : Output) (before : Slots) {inputs : List Reader}
+      {messages_old messages_new : SinkState}
       {any_unopened : Bool} → reads_together s ≡ true → InputsPre (spec_of_tool word s names positions) inputs
       → ReportUnopenedPost word names positions inputs messages_old messages_new any_unopened
       → any_unopened ≡ false → was.write_failed ≡ false → before.denied ≡ false → total_bytes before.lines ≡ 0
@@ -83,8 +84,11 @@ module _ (word : List ℕ) (names : List (List ℕ)) (positions : List ℕ) wher
           → RunOnPost s positions old new was is before store result
           → RunInputsPost (spec_of_tool word s names positions) old new was is messages messages before store result
       together_post (OneByOne t law) messages together given k none writable not_denied empty post = cc
-      together_post (Together t) messages together given k none writable not_denied empty post = grind (arith,
-          joint_post, together_pre)
+      together_post (Together t) messages together given k none writable not_denied empty post = grind (
+        arith,
+        joint_post,
+        together_pre,
+      )
 
       pub sequential_post : (s : ToolInRun) {messages_old messages_new : SinkState} → reads_together s ≡ false
           → RunInputsPost (sequential_spec word (one_tool s) names positions) old new was is messages_old messages_new
@@ -115,5 +119,7 @@ pub operand_passed : {t : ToolSpec} {operands : List ℕ} {old : List Reader} {n
     → PassPost t (get_or old (only_operand operands) d) new was is before store passed
     → result ≡ operand_completion (only_operand operands) passed
     → OperandPost t (only_operand operands) old (set old (only_operand operands) new) was is before store result
-operand_passed {operands = operands} {old} {new} {passed = passed} ready d pass result_is = grind (arith,
-    common_steps)
+operand_passed {operands = operands} {old} {new} {passed = passed} ready d pass result_is = grind (
+  arith,
+  common_steps,
+)

@@ -50,9 +50,6 @@ module _ (t : MergeTool) {old : List Reader} {was : Output} {before : Slots} {p 
   new_at : (side : Side) → IsNew (reader_at old (operand two side))
   new_at side = fresh_all old ready.fresh (operand two side) (open_at side)
 
-  pub within_at : (side : Side) → operand two side < length old
-  within_at side = grind (arith, each_listed, named)
-
   -- both can be read
   pub ready_at : MergePre (reader_at old p) (reader_at old q) before
   ready_at = grind (arith, open_at, new_at)
@@ -79,7 +76,8 @@ module _ (t : MergeTool) {old : List Reader} {was : Output} {before : Slots} {p 
       same Second First = not_same q p (λ is. apart (sym is))
       same Second Second = same_here q
 
-      placed_at : (f : Side → Received) (side : Side) → update_at p (f First) (λ k. f Second) (operand two side) ≡ f side
+      placed_at : (f : Side → Received) (side : Side) → update_at p (f First) (λ k. f Second) (operand two side)
+          ≡ f side
       placed_at f First = put_here p (f First) (λ k. f Second)
       placed_at f Second = put_other p q (f First) (λ k. f Second) apart
 
@@ -92,9 +90,6 @@ module _ (t : MergeTool) {old : List Reader} {was : Output} {before : Slots} {p 
   position_is : (side : Side) → both p q side ≡ operand two side
   position_is First = refl
   position_is Second = refl
-
-  not_failed : (side : Side) → (both (reader_at old p) (reader_at old q) side).failed ≡ false
-  not_failed side = grind (arith, by_side, named, open_at, new_at)
 
   pub two_inputs_post : {new : List Reader} {is : Output} {store : Slots} {result : Result (Unit {0}) MergeFault}
       → ((k : ℕ) → (p ≡ k → ⊥) → (q ≡ k → ⊥) → reader_at new k ≡ reader_at old k)

@@ -1,7 +1,7 @@
 -- Each iteration reports one more operand if it could not be opened.
 use Rattle.ptrun.proofs
-use proofs.Common.{scaled_Fits, ◌<◌, length, take, refl, sym, ◌∙◌, ap, arith, get_or_default, subst, words_view}
-use proofs.Common.{positions, no_reader, is_reader_unopened, Standard, false≢true, IsSound, reader_at}
+use proofs.Common.{scaled_Fits, ◌<◌, length, take, sym, ◌∙◌, ap, arith, get_or_default, subst, words_view, positions}
+use proofs.Common.{no_reader, is_reader_unopened, Standard, IsSound, reader_at}
 use Rattle.ptrun.proofs.driver.report_unopened.Goals as goal
 use proofs.OperandInputs.{names_counted, operand_low, operand_step, position_in_range, positions_end, said_more}
 use proofs.OperandInputs.{any_now, any_before, holds_more}
@@ -9,8 +9,7 @@ use proofs.MessageWrites.{said_nothing}
 use Rattle.ptrun.proofs.driver.report_unopened.Goals.{then-is_refused, else-is_refused}
 
 pub loop-input-init : goal.loop-input-init
-loop-input-init g c =
-    record { message = said_nothing c.args.messages.now; any_is = refl; sound = λ q seen. absurd (false≢true seen) }
+loop-input-init g c = grind (arith, said_nothing)
 
 pub loop-input-preserved : goal.loop-input-preserved
 loop-input-preserved g c =
@@ -48,11 +47,7 @@ bounds-inputs-position g c =
     c.position_of-position.ensures
 
 pub offset_bounds-inputs-position : goal.offset_bounds-inputs-position
-offset_bounds-inputs-position g c =
-    let low : c.position_of-position.result < length c.args.inputs.now =
-    operand_low c.args.order.now c.loop-input.input-index Standard c.requires.in_range c.loop-input-test.true
-    c.position_of-position.ensures in
-    search (scaled_Fits, low, arith)
+offset_bounds-inputs-position g c = let low = bounds-inputs-position g c in search (scaled_Fits, low, arith)
 
 pub name_at-requires : goal.name_at-requires
 name_at-requires g c =
@@ -62,15 +57,7 @@ name_at-requires g c =
     omega (arith, low, names_counted c.args.names.now (length c.args.inputs.now) c.requires.named)
 
 pub position_of-position-requires : goal.position_of-position-requires
-position_of-position-requires g c =
-    omega (
-      arith,
-      position_in_range c.args.order.now (length c.args.inputs.now) c.requires.in_range c.loop-input.input-index Standard
-          c.loop-input-test.true,
-    )
+position_of-position-requires g c = grind (arith, position_in_range)
 
 pub returns : goal.returns
-returns g c =
-    let k = c.loop-input.invariant in
-    let all = positions_end c.args.order.now c.loop-input.input-index c.loop-input-test.false in
-    record { is = rw all at k.any_is; has_said = rw all at k.message; sound = rw all at k.sound }
+returns g c = grind (arith, positions_end)

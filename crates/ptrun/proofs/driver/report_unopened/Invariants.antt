@@ -1,4 +1,5 @@
--- Of the operands so far, each that could not be opened was reported, in order, and the invariants of their readers hold.
+-- Of the operands so far, each that could not be opened was reported, in order, and the invariants of their readers
+-- hold.
 use Rattle.ptrun.proofs.Common.{◌≡◌, take, list_any, words_view, is_reader_unopened, unopened_messages, HasSaid}
 use Rattle.ptrun.proofs.Common.{positions, AreSoundAt}
 use Rattle.ptrun.proofs.driver.report_unopened.Given as goal

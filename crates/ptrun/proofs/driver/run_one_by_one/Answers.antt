@@ -1,4 +1,5 @@
--- Each iteration processes one more operand. If one fails, the run stops there, and the operands after it are unchanged.
+-- Each iteration processes one more operand. If one fails, the run stops there, and the operands after it are
+-- unchanged.
 use Rattle.ptrun.proofs
 use proofs.Common.{scaled_Fits, ◌<◌, ◌+◌, length, drop, sym, ◌∙◌, arith, positions, Standard}
 use Rattle.std.proofs.lemmas.Result.{err_from_is_err_and}
@@ -9,12 +10,13 @@ use proofs.ToolRuns.{sequential_post, operand_pre, operand_post, decides_all}
 use Rattle.ptrun.proofs.driver.run_one_by_one.Goals.{then-is_refused, else-is_refused+in_ok-run_on}
 
 pub loop-input-init : goal.loop-input-init
-loop-input-init g c = done_nothing c.requires.ready.given.fresh c.requires.ready.writable c.requires.ready.not_denied c.requires.ready.empty
+loop-input-init g c = grind (arith, done_nothing)
 
 pub run_on-requires : goal.run_on-requires
 run_on-requires g c =
     let s = g.T.Tool.tool c.args.tool.now in
-    let turn = operand_step c.args.order.now c.loop-input.input-index _ c.requires.ready.given.in_range c.loop-input-test.true
+    let turn = operand_step c.args.order.now c.loop-input.input-index _ c.requires.ready.given.in_range
+    c.loop-input-test.true
     c.position_of-position.ensures in
     operand_pre s c.loop-input.out c.requires.in_turn
     (operand_ready c.requires.ready.given.fresh c.loop-input.invariant turn.low c.index-inputs-position.result
@@ -25,16 +27,19 @@ loop-input-preserved g c =
     let s = g.T.Tool.tool c.args.tool.now in
     let k = c.loop-input.invariant in
     let d = c.index-inputs-position.result in
-    let turn = operand_step c.args.order.now c.loop-input.input-index _ c.requires.ready.given.in_range c.loop-input-test.true
+    let turn = operand_step c.args.order.now c.loop-input.input-index _ c.requires.ready.given.in_range
+    c.loop-input-test.true
     c.position_of-position.ensures in
     elim c.if-is_refused.branch [
       | then-is_refused w ↦
           done_as w.inputs-is w.store-is w.out-is w.messages-is w.done-is turn.next
-          (done_unopened c.requires.ready.given.fresh k turn.low d (sym c.is_refused.ensures.refused ∙ w.if-is_refused.true)
+          (done_unopened c.requires.ready.given.fresh k turn.low d (sym c.is_refused.ensures.refused
+          ∙ w.if-is_refused.true)
           (rw (w.name.ensures, w.name_at.ensures) at w.say_unopened.ensures))
       | else-is_refused+in_ok-run_on w ↦
           done_as w.inputs-is w.store-is w.out-is w.messages-is w.done-is turn.next
-          (done_operand c.requires.ready.given.fresh k turn.low d (sym c.is_refused.ensures.refused ∙ w.if-is_refused.false)
+          (done_operand c.requires.ready.given.fresh k turn.low d (sym c.is_refused.ensures.refused
+          ∙ w.if-is_refused.false)
           c.is_refused.ensures.sound
           (operand_post s c.requires.in_turn
           w.run_on.ensures) w.in_ok-run_on.was)
@@ -45,7 +50,8 @@ returns-in_err-run_on g c =
     let s = g.T.Tool.tool c.args.tool.now in
     let i = c.loop-input.input-index in
     let in_turn = c.requires.in_turn in
-    let turn = operand_step c.args.order.now i _ c.requires.ready.given.in_range c.loop-input-test.true c.position_of-position.ensures in
+    let turn = operand_step c.args.order.now i _ c.requires.ready.given.in_range c.loop-input-test.true
+    c.position_of-position.ensures in
     let e = err_from_is_err_and c.from_residual.result c.from_residual.ensures.1 in
     rw (e.1, e.2) (sequential_post _ _ _ s in_turn
     (rw turn.split at (done_stopped c.requires.ready.given.fresh c.loop-input.invariant turn.low
@@ -63,28 +69,26 @@ returns g c =
 pub bounds-inputs-position : goal.bounds-inputs-position
 bounds-inputs-position g c =
     let low : c.position_of-position.result < length c.args.inputs.now =
-    operand_low c.args.order.now c.loop-input.input-index Standard c.requires.ready.given.in_range c.loop-input-test.true
+    operand_low c.args.order.now c.loop-input.input-index Standard c.requires.ready.given.in_range
+    c.loop-input-test.true
     c.position_of-position.ensures in
     omega (arith, low, c.loop-input.auto.inputs)
 
 pub offset_bounds-inputs-position : goal.offset_bounds-inputs-position
 offset_bounds-inputs-position g c =
     let low : c.position_of-position.result < length c.args.inputs.now =
-    operand_low c.args.order.now c.loop-input.input-index Standard c.requires.ready.given.in_range c.loop-input-test.true
+    operand_low c.args.order.now c.loop-input.input-index Standard c.requires.ready.given.in_range
+    c.loop-input-test.true
     c.position_of-position.ensures in
     search (scaled_Fits, low, arith)
 
 pub name_at-requires : goal.name_at-requires
 name_at-requires g c =
     let low : c.position_of-position.result < length c.args.inputs.now =
-    operand_low c.args.order.now c.loop-input.input-index Standard c.requires.ready.given.in_range c.loop-input-test.true
+    operand_low c.args.order.now c.loop-input.input-index Standard c.requires.ready.given.in_range
+    c.loop-input-test.true
     c.position_of-position.ensures in
     omega (arith, low, names_counted c.args.names.now (length c.args.inputs.now) c.requires.ready.given.named)
 
 pub position_of-position-requires : goal.position_of-position-requires
-position_of-position-requires g c =
-    omega (
-      arith,
-      position_in_range c.args.order.now (length c.args.inputs.now) c.requires.ready.given.in_range c.loop-input.input-index Standard
-          c.loop-input-test.true,
-    )
+position_of-position-requires g c = grind (arith, position_in_range)

@@ -1,7 +1,7 @@
 -- A tool that reads its operands together reads nothing if one could not be opened. Otherwise, and if it reads one
 -- operand after another, its inputs are processed, and the end of the run follows from the result.
 use Rattle.ptrun.proofs
-use proofs.Common.{ℕ, arith, ap, false≢true, refl, sym, ◌∙◌, subst, HasIndexBelow, length, outcome, Output}
+use proofs.Common.{ℕ, arith, ap, false≢true, sym, ◌∙◌, subst, HasIndexBelow, length, outcome, Output}
 use proofs.RunEnds.{run_in_store}
 use proofs.OperandInputs.{names_counted, position_in_range}
 use proofs.MessageWrites.{said_nothing}
@@ -15,14 +15,7 @@ positions_of-requires-clause-in_range g c = rw c.deref-order.ensures.value (λ k
 ))
 
 pub run_on-run_result-requires : goal.run_on-run_result-requires
-run_on-run_result-requires g c =
-    let reported = rw (c.name.ensures, c.deref-order.ensures.value, c.deref-names.ensures.value) at
-    c.report_unopened.ensures in
-    rw (c.deref.ensures.0 ∙ c.positions_of.ensures, c.deref-order.ensures.value)
-    (together_pre _ _ _ (g.T.Tool.tool c.args.tool.now) c.new-out.result c.args.store.now
-    (sym c.reads_together.ensures ∙ c.if-reads_together.true) c.requires.given reported c.if-report_unopened.false
-    (ap (λ (o : Output). o.write_failed) c.new-out.ensures) c.requires.unused.store.not_denied
-    c.requires.unused.store.empty)
+run_on-run_result-requires g c = grind (arith, together_pre)
 
 pub end_run-requires : goal.end_run-requires
 end_run-requires g c =
@@ -38,19 +31,7 @@ end_run-requires g c =
     (names_counted c.args.operands.now.names.items (length c.args.inputs.now) c.requires.given.named)) post.position
 
 pub returns-then-report_unopened : goal.returns-then-report_unopened
-returns-then-report_unopened g c =
-    let reported = rw (c.name.ensures, c.deref-order.ensures.value, c.deref-names.ensures.value) at
-    c.report_unopened.ensures in
-    rw c.report_unread.ensures (record {
-      run = record {
-        run = unopened_run _ _ _ (g.T.Tool.tool c.args.tool.now)
-            (sym c.reads_together.ensures ∙ c.if-reads_together.true) c.requires.given.fresh c.requires.unused.writable
-            reported c.if-report_unopened.true;
-        slots = λ w agrees. omega arith;
-      };
-      reads_nothing = (λ reads_none. (refl, (refl, refl, refl)), λ reads_none. refl);
-      store = (sym c.requires.unused.store.never, sym c.requires.unused.store.not_denied);
-    })
+returns-then-report_unopened g c = grind (arith, unopened_run)
 
 pub returns-then-reads_together : goal.returns-then-reads_together
 returns-then-reads_together g c =
@@ -77,7 +58,8 @@ pub returns : goal.returns
 returns g c =
     let ran = rw (c.deref-order.ensures.value, c.deref-names.ensures.value) at c.run_one_by_one-run_result.ensures in
     let in_turn = sym c.reads_together.ensures ∙ c.if-reads_together.false in
-    let reads = reads_if _ _ _ (g.T.Tool.tool c.args.tool.now) _ (λ together. absurd (false≢true (sym in_turn ∙ together))) in
+    let reads = reads_if _ _ _ (g.T.Tool.tool c.args.tool.now) _ (λ together. absurd (false≢true (sym in_turn ∙
+    together))) in
     record {
       run = run_in_store (g.W.Sink.state c.args.out) (outcome (g.W.Sink.state) (g.E.Sink.state) c.end_run-2.result)
           (said_nothing c.args.messages) ran

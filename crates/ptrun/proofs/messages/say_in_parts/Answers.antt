@@ -1,6 +1,6 @@
 -- Each part that is taken extends the prefix of the message that the sink has taken; a part that fails ends it.
 use Rattle.ptrun.proofs
-use proofs.Common.{ℕ, List, [], ◌∷◌, ◌++◌, sym, ◌∙◌, ap, append-nil}
+use proofs.Common.{ℕ, List, [], ◌∷◌, ◌++◌, sym, ◌∙◌, ap, append-nil, arith}
 use Rattle.ptrun.proofs.messages.say_in_parts.Goals as goal
 use proofs.MessageWrites.{say_post_part, say_post_all, took_trans, joined, joined_more, joined_all, line_split}
 
@@ -20,11 +20,7 @@ loop-part-preserved g c =
     (joined parts i) c.as_bytes.result.now c.loop-part.invariant c.in-Ok.ensures))
 
 pub returns-in-Ok-write_out : goal.returns-in-Ok-write_out
-returns-in-Ok-write_out g c =
-    say_post_all c.requires (rw (joined_all c.args.parts.now c.loop-part.part-index c.loop-part-test.false) at
-    (took_trans (g.E.Sink.state c.args.messages.now) (g.E.Sink.state c.loop-part.messages)
-    (g.E.Sink.state c.write_out-2.new.sink)
-    (joined c.args.parts.now c.loop-part.part-index) (10 ∷ []) c.loop-part.invariant c.in-Ok-write_out.ensures))
+returns-in-Ok-write_out g c = grind (arith, joined_all, say_post_all, took_trans)
 
 pub returns-in-Err-write_out : goal.returns-in-Err-write_out
 returns-in-Err-write_out g c =

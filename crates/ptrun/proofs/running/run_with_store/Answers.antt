@@ -24,14 +24,10 @@ returns-in-Err-clause-run g c =
     })
 
 pub returns-in-Ok-clause-run : goal.returns-in-Ok-clause-run
-returns-in-Ok-clause-run g c =
-    rw (spec_of_ok c.args.command (words_view c.args.words.now) c.in-Ok.command c.in-Ok.is c.requires.meant)
-    (rw (c.new-messages.ensures) at c.run_command.ensures.run)
+returns-in-Ok-clause-run g c = grind (arith, spec_of_ok)
 
 pub returns-in-Ok-clause-reads_nothing : goal.returns-in-Ok-clause-reads_nothing
-returns-in-Ok-clause-reads_nothing g c =
-    rw (spec_of_ok c.args.command (words_view c.args.words.now) c.in-Ok.command c.in-Ok.is c.requires.meant)
-    c.run_command.ensures.reads_nothing
+returns-in-Ok-clause-reads_nothing g c = grind (arith, spec_of_ok)
 
 pub returns-in-Err-clause-is_exact : goal.returns-in-Err-clause-is_exact
 returns-in-Err-clause-is_exact g c =

@@ -9,19 +9,10 @@ below : (first second : ℕ) → second ≤ first → (first ≡ second → ⊥)
 below first second not_higher apart = omega (arith, not_higher, apart)
 
 pub merge-requires : goal.merge-requires
-merge-requires g c =
-    let s = c.split_at_mut-front in
-    let k = were s.result.0.now s.result.1.now s.ensures.value s.ensures.front_len c.if-first-second.true
-    c.requires.within.1 c.index-front-first.result c.index-back-0.result in
-    rw (k.0, k.1) c.requires.ready
+merge-requires g c = grind (arith, were)
 
 pub merge-requires-else-first-second : goal.merge-requires-else-first-second
-merge-requires-else-first-second g c =
-    let s = c.split_at_mut-front-else-first-second in
-    let lower = below c.args.first c.args.second c.if-first-second.false c.requires.apart in
-    let k = were s.result.0.now s.result.1.now s.ensures.value s.ensures.front_len lower c.requires.within.0
-    c.index-front-second.result c.index-back-0-else-first-second.result in
-    rw (k.0, k.1) c.requires.ready
+merge-requires-else-first-second g c = grind (arith, were)
 
 pub returns-then-first-second : goal.returns-then-first-second
 returns-then-first-second g c =
