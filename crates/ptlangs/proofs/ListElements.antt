@@ -64,7 +64,7 @@ pub each_more : {A B E : Type 0} (read : A → Result B E) (x : A) (y : B) {all 
     {r : Result (List B) E}
     → r ≡ append_ok xs (traverse read all) → all ≡ x ∷ rest → read x ≡ Ok y
     → r ≡ append_ok (xs ++ y ∷ []) (traverse read rest)
-each_more read x y xs e at ok = grind (arith, e, ok, append_ok-cons_ok)
+each_more read x y xs e at ok = grind (arith, append_ok-cons_ok)
 
 -- ---- the elements that are accepted are those of the grammar
 

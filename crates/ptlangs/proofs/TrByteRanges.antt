@@ -47,7 +47,7 @@ pub ruleset span_steps = (span_there, span_past, length-span)
 pub ranges_found : (rs : List (ℕ × ℕ)) (i left : ℕ) (d : ℕ × ℕ) (o : Option ℕ) → i < length rs
     → left < length (range_bytes (get_or rs i d)) → o ≡ slice_get (range_bytes (get_or rs i d)) left
     → o ≡ slice_get (flat_map range_bytes (drop i rs)) left
-ranges_found rs i left d o h under e = grind (arith, e, slice_get-left, drop_more)
+ranges_found rs i left d o h under e = grind (arith, slice_get-left, drop_more)
 
 pub ranges_next : (rs : List (ℕ × ℕ)) (i left count : ℕ) (d : ℕ × ℕ) → i < length rs
     → count ≡ length (range_bytes (get_or rs i d)) → count ≤ left

@@ -228,7 +228,7 @@ stands_here (m ∷ ms) at (suc i) k class e = by_class m.class (stands_here ms _
         → has_other_case_at (offset_of at o ++ offsets (suc at) ms) k class
         ≡ classes_match (class_here ms i) (Some class)
     by_class None later = later
-    by_class (Some c) later = rw (ne_eqb at k (λ z. omega (arith, e))) later
+    by_class (Some c) later = rw (ne_eqb at k (λ z. omega arith)) later
 
 -- one byte of the second array against the first array from the same index on
 pub all_paired-more : (i : ℕ) (from : List Member) (t : Member) (to : List Member)

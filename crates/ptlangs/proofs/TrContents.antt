@@ -189,7 +189,7 @@ pub is_kept : (first : Contents) (bytes : List ℕ) (b i : ℕ) (t : Bool) → i
 is_kept first bytes b i t j low h e =
     let is = has_byte-complement bytes b low in
     let has = get_or-has first _ b false low e in
-    grind (arith, is, j, h)
+    grind (arith, is, j)
 
 -- ---- the image of a byte
 

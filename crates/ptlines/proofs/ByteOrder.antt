@@ -19,7 +19,7 @@ number p (x ∷ xs) = number (p * 256 + x) xs
 number_lt : (p q : ℕ) (xs ys : List ℕ) → length xs ≡ length ys → Each1 (Fits w8) xs → p < q → number p xs < number q ys
 number_lt p q [] [] long fit less = less
 number_lt p q (x ∷ xs) (y ∷ ys) long (first, fit) less =
-    number_lt (p * 256 + x) (q * 256 + y) xs ys (omega arith) fit (omega (arith, first.fits))
+    number_lt (p * 256 + x) (q * 256 + y) xs ys (omega arith) fit (omega arith)
 number_lt p q _ _ long fit less = absurd (omega arith)
 
 nat_cmp_less : (x y : ℕ) → x < y → nat_cmp x y ≡ Less

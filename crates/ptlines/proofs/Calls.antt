@@ -152,7 +152,7 @@ module _ {I : Type 0} (names : InputNames I) (engine : EngineSpec I) where
         peak = p.peak;
         slots = p.slots;
         added = λ clean. record { least = p.least; all = λ allowed. p.room };
-        unread = λ clean few. absurd (omega (arith, few, p.room));
+        unread = λ clean few. absurd (omega (arith, few));
         unchanged_if_failed = λ fault. cc (p.writable);
       }
 

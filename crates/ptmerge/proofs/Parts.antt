@@ -60,8 +60,8 @@ module _ (p : List ℕ → Bool) where
   kept_parts : (key : Key) (xs ys : Lines) → EachKey (λ k. p k ≡ true) key xs → EachKey (λ k. p k ≡ false) key ys
       → (kept key (xs ++ ys) ≡ xs) × (filter (λ line. not (p (key line))) (xs ++ ys) ≡ ys)
   kept_parts key [] [] e f = (refl, refl)
-  kept_parts key [] (y ∷ ys) e (here, more) = let ih = kept_parts key [] ys tt more in grind (arith, here, ih)
-  kept_parts key (x ∷ xs) ys (here, more) f = let ih = kept_parts key xs ys more f in grind (arith, here, ih)
+  kept_parts key [] (y ∷ ys) e (here, more) = let ih = kept_parts key [] ys tt more in grind (arith, here)
+  kept_parts key (x ∷ xs) ys (here, more) f = let ih = kept_parts key xs ys more f in grind (arith, here)
 
   -- all lines of a key pass the test if the key does
   with_key_kept : (key : Key) (k : List ℕ) (ls : Lines) → p k ≡ true
@@ -121,7 +121,7 @@ module _ (cmp : Cmp) (o : IsKeyOrder cmp) where
 
   none_under : (ls : Lines) → Each (λ l. is_under cmp ls l ≡ false) ls
   none_under [] = tt
-  none_under (x ∷ ls) = (rw (tied_itself o.total x) refl, Each-weaker _ _ (λ l h. grind (arith, h)) ls (none_under ls))
+  none_under (x ∷ ls) = (rw (tied_itself o.total x) refl, Each-weaker _ _ (λ l h. grind arith) ls (none_under ls))
 
 -- ---- lists in order
 
@@ -163,7 +163,7 @@ module _ (cmp : Cmp) (o : IsKeyOrder cmp) (key : Key) where
   appended last n (x ∷ xs) ys e h (below, below_all) =
       let (calm, later) = no_disorder (is_disordered cmp last (key x)) (disorder_at last n)
       (disorder_after cmp key (Some (key x)) (n + 1) xs) e in
-      let ih = appended (Some (key x)) (n + 1) xs ys later below below_all in grind (arith, calm, ih)
+      let ih = appended (Some (key x)) (n + 1) xs ys later below below_all in grind arith
 
   together : (xs ys : Lines) → first_disorder cmp key xs ≡ None → EachKey (λ k. EachKey (AtMost cmp k) key ys) key xs
       → (sorted_prefix cmp key (xs ++ ys) ≡ xs ++ sorted_prefix cmp key ys)
@@ -199,9 +199,9 @@ module _ (cmp : Cmp) (o : IsKeyOrder cmp) (key : Key) where
       let (calm, later) = no_disorder (is_disordered cmp last (key x)) (disorder_at last n)
       (disorder_after cmp key (Some (key x)) (n + 1) xs) e in
       let rise = up (key x) calm in
-      let left_out = kept_after p (Some (key x)) from (n + 1) m xs (λ k g. grind (arith, at_most_trans, rise, g))
+      let left_out = kept_after p (Some (key x)) from (n + 1) m xs (λ k g. grind (arith, at_most_trans, g))
       later in
-      grind (arith, rise, left_out, kept_after p (Some (key x)) (Some (key x)) (n + 1) (m + 1) xs (λ k g. g) later)
+      grind (arith, kept_after p (Some (key x)) (Some (key x)) (n + 1) (m + 1) xs (λ k g. g) later)
 
   -- a sublist of a sorted list is sorted
   in_order_kept : (p : List ℕ → Bool) (xs : Lines) → first_disorder cmp key xs ≡ None

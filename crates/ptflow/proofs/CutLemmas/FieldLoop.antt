@@ -93,7 +93,7 @@ module _ (d : ℕ) (all : List Interval) (line : List ℕ) (cursor : FieldCursor
           rest = drop from line
 
           sep_fits : min cursor.index 1 ≤ from
-          sep_fits = omega (arith, s.some, not_past)
+          sep_fits = omega (arith, not_past)
 
           -- the start of the interval, with or without the delimiter before it
           sep_drop : drop (from - min cursor.index 1) line ≡ drop (1 - min cursor.index 1) (d ∷ rest)
@@ -117,7 +117,7 @@ module _ (d : ℕ) (all : List Interval) (line : List ℕ) (cursor : FieldCursor
                 rw (is, last) at (offset_add d line starts begun p)
 
             some : 0 < at - from
-            some = omega (arith, p.some)
+            some = omega arith
 
             -- the fields in the interval, and those that the others select
             selected : select_from (is_selected (r ∷ rs)) (cursor.passed + 1) here ≡ take size (fields d rest)

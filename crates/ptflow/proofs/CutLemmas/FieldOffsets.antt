@@ -62,7 +62,7 @@ module _ (d : ℕ) where
 
     module _ {n at : ℕ} (o : IsFieldOffset d n line at) where
       pub rest_at : at ≤ length line → drop at (d ∷ line) ≡ d ∷ drop at line
-      rest_at fits = cc (o.back, o.later fits, prefixed_of_fields (drop at line))
+      rest_at fits = cc (o.later fits, prefixed_of_fields (drop at line))
 
       -- after the line no field is left
       pub none_left : length line < at → drop n (fields d line) ≡ []

@@ -86,7 +86,7 @@ module _ (selected : ℕ → Bool) where
     counted = λ k upto. ⊎_elim
         (λ same. cc (get_or-set_same counts (index + 1) (count + one) 0 (omega arith), whole))
         (λ other. cc (
-          get_or-set_other counts (index + 1) k (count + one) 0 (λ e. other (omega (arith, e))),
+          get_or-set_other counts (index + 1) k (count + one) 0 (λ e. other (omega arith)),
           begun.counted k (omega (arith, other)),
         )) (cases_eq k (index + 1));
   }
@@ -151,7 +151,7 @@ module _ (selected : ℕ → Bool) where
         let n = length indices in
         ap (λ k. take k (swz_l w8 16 v 0 piece.row)) (is.counts count short)
         ∙ ap (take n)
-        (shuffle_result v 0 piece.row (omega (arith, is.long))
+        (shuffle_result v 0 piece.row (omega arith)
         (Each1-from_get_or (λ index. index < 16) piece.row 0 (λ i low. is.lanes i 0 low)))
         ∙ take-map (λ k. get_or v k 0) n piece.row ∙ ap (pick_l 0 v) (prefix_indices short)
         ∙ map_select (λ k. get_or v k 0) 1 (range_with_len 0 count)

@@ -94,7 +94,7 @@ module _ {X : Type 0} {rest_from : X → List ℕ → List ℕ} {IsUnchanged : X
             earlier = record { bytes = run.given; eof = false };
             last = new.buffered;
             split = cc (append-nil run.given);
-            short = omega (arith, is_sound.buffered);
+            short = omega arith;
             eof = λ never. cc;
           };
           begins = decided_so;

@@ -145,9 +145,9 @@ module _ {X : Type 0} {rest_from : X → List ℕ → List ℕ} {start now : X} 
       is_prefix = grind (arith, common_steps, text_of, append_assoc);
       bounded_lag = search (rules, bounded_lag_after);
       peak = grind arith;
-      slots = λ texts a. omega (arith, p.stored.size);
-      least = omega (arith, p.stored.size);
-      room = omega (arith, p.stored.size);
+      slots = λ texts a. omega arith;
+      least = omega arith;
+      room = omega arith;
     }
 
     pass : (result : Result (Unit {0}) FlowFault)

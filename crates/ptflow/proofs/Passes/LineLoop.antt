@@ -43,7 +43,7 @@ pub same_room : {width before after : ℕ} → after ≡ before → width ≤ be
 same_room same room = omega arith
 
 pub short_block : {shown : Reader} {block : List ℕ} → shown.buffered ≡ block → IsSound shown → length block ≤ 8192
-short_block same sound = omega (arith, ap length same, sound.buffered)
+short_block same sound = omega (arith, ap length same)
 
 pub some_line : 0 < 1
 some_line = omega arith
@@ -116,7 +116,7 @@ module _ {S X E : Type 0} {tool : ToolSpec} {state : S → Slots → X} {rest_fr
       }
 
       pub run_room : width ≤ length store.lines
-      run_room = omega (arith, run.keeps.size)
+      run_room = omega arith
 
       -- the lines with no output yet are at most the lines that were read
       pub run_count : IsSound old → IsSound reader → counted now ≤ 2 ^ 63
@@ -206,7 +206,7 @@ module _ {S X E : Type 0} {tool : ToolSpec} {state : S → Slots → X} {rest_fr
           → SlotBounds width (max (max_length run.ls) (length bytes)) before after
       keeps_last bytes told =
           let most = max (max_length run.ls) (length bytes) in
-          bounds_line _ (width - 1) bytes (bounds_weaker most run.keeps (omega arith)) (omega (arith, line_filter.some))
+          bounds_line _ (width - 1) bytes (bounds_weaker most run.keeps (omega arith)) (omega arith)
           (omega arith) told
 
       -- a write failed at some lines, which come before the continuation

@@ -62,13 +62,7 @@ bounds_line {width} {most} {store} new slot bytes bounds within fits is = record
   short = short;
   others = others;
   peak =
-      omega (
-        arith,
-        ap (λ s. s.peak) is,
-        bounds.peak,
-        ap (λ s. total_bytes s.lines) is,
-        bounded_total width most new.lines short others,
-      );
+      omega (arith, ap (λ s. s.peak) is, ap (λ s. total_bytes s.lines) is, bounded_total width most new.lines short others, );
 }
   where
     same_length : length new.lines ≡ length store.lines
@@ -133,14 +127,7 @@ bounds_cleared {width} {most} {store} {new} bounds some last cleared = (
     none : total_bytes new.lines ≡ 0
     none =
         let one : width - 1 + 1 ≡ width = omega arith in
-        let more = drop_more store.lines (width - 1) [] (omega (arith, bounds.size)) in
+        let more = drop_more store.lines (width - 1) [] (omega arith) in
         let behind = ap total_bytes more ∙ sum_by-cons length (get_or store.lines (width - 1) [])
         (drop (width - 1 + 1) store.lines) in
-        omega (
-          arith,
-          cleared.left,
-          behind,
-          ap length last,
-          ap (λ n. total_bytes (drop n store.lines)) one,
-          bounds.others,
-        )
+        omega (arith, behind, ap length last, ap (λ n. total_bytes (drop n store.lines)) one, )

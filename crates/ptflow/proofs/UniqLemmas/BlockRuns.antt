@@ -48,7 +48,7 @@ module _ {end : ℕ} {block rest : List ℕ} {front : List (List ℕ)} (lies : B
     module _ (from to : ℕ) (from_is : from ≡ to - at - 1)
         (to_is : to ≡ length block - length (drop (at + 1) rest)) where
       starts : (from ≡ length block - length rest) × (to ≡ from + at + 1)
-      starts = omega (arith, front_size, length-drop (at + 1) rest, first.0.high)
+      starts = omega (arith, front_size, length-drop (at + 1) rest)
 
       next_is : slice_range block from (to - 1) ≡ take at rest
       next_is = grind (arith, common_steps, starts, front_drop)
@@ -186,7 +186,7 @@ module _ {job : Uniq} {first block rest : List ℕ} {start count : ℕ} {line : 
   runs_loop_left = omega (arith, front_few so_far.lies)
 
   pub runs_loop_few : count + length rest ≤ start + length block
-  runs_loop_few = omega (arith, so_far.steps.count, front_few so_far.lies)
+  runs_loop_few = omega (arith, front_few so_far.lies)
 
   module _ {at : ℕ} (found : IsFirstByte (is_byte job.terminator) rest (Some at)) {next : List ℕ} {same : Bool}
       (key_is : next ≡ key job (take at rest)) (tested : same ≡ bytes_eq run_key next) where

@@ -111,7 +111,7 @@ module _ (test : ℕ → Bool) where
           ap (λ (n : ℕ). 2 ^ n) (sym (length-chunk k 16 bytes room)) in
           let flags_long = pairs_long (λ a b. is_not_repeat test (a, b)) before bytes paired k room in
           let low : mask_l (flags_at k) < 2 ^ 16 = rw flags_long at (mask_l-lt (flags_at k)) in
-          all_kept (chunk k 16 before) (chunk k 16 bytes) (same_length k 16 room) (omega (arith, is, full, low, long))
+          all_kept (chunk k 16 before) (chunk k 16 bytes) (same_length k 16 room) (omega (arith, is, low, long))
 
       -- two pieces, one after another
       kept_two : (at n m : ℕ) → at + n + m ≤ length bytes → kept_at at (n + m) ≡ kept_at at n ++ kept_at (at + n) m
@@ -160,16 +160,8 @@ module _ (test : ℕ → Bool) where
         is =
             let before_rest = drop (at + n) before in
             let rest = drop (at + n) bytes in
-            cc (
-              append_assoc (take count into) (kept_at at n) (kept_bytes test before_rest rest),
-              take-append-drop n (drop at before),
-              take-append-drop n (drop at bytes),
-              drop-drop n at before,
-              drop-drop n at bytes,
-              kept_append (chunk at n before) (chunk at n bytes) before_rest rest (same_length at n room),
-              k.is,
-            );
-        pre = record { within = room; room = omega (arith, k.pre.room) };
+            cc (append_assoc (take count into) (kept_at at n) (kept_bytes test before_rest rest), take-append-drop n (drop at before), take-append-drop n (drop at bytes), drop-drop n at before, drop-drop n at bytes, kept_append (chunk at n before) (chunk at n bytes) before_rest rest (same_length at n room), );
+        pre = record { within = room; room = omega arith };
       }
 
 -- ---- masks of lanes

@@ -238,7 +238,7 @@ module _ {d : ℕ} {block : List ℕ} {from all marked : ℕ} (n start : ℕ) (h
       let nth : IsNth p 0 n v bit = after_set p v n (omega (arith, length-chunk from 64 block room))
       (grind (arith, ones-mask_l)) bits in
       let close : bit < 64 = near p block 64 from n bit room nth in
-      let fits : from + bit < length block = omega (arith, close, room) in
+      let fits : from + bit < length block = omega (arith, room) in
       let (_, passes, _) = nth in
       let is : p (get_or block (from + bit) 0) ≡ true = cc (get_or-chunk from 64 block bit 0 close, passes) in
       let as_many : count_by p (take (from + bit) block) ≡ count_by p (take start block) =

@@ -118,7 +118,7 @@ one_range_more ranges i default v room before is =
     more b =
         let sums : range_sum (take (i + 1) ranges) b ≡ range_sum (take i ranges) b + range_delta last b =
         cc (take_more ranges i default room, range_added (take i ranges) last b) in
-        omega (arith, sums)
+        omega arith
 
 -- ---- masks of lanes
 

@@ -195,7 +195,7 @@ module _ {all : List Interval} {before count end : ℕ} (bytes : List ℕ) {was 
     long = length-take-le end bytes in_bytes
 
     piece_long : length piece ≡ count
-    piece_long = length-take-le count (take end bytes) (omega (arith, long, in_piece))
+    piece_long = length-take-le count (take end bytes) (omega (arith, long))
 
     pub copied_done : {is' : List ℕ} → length all ≤ i → is' ≡ is ++ take (end - count) (drop count bytes) → is' ≡ was
         ++ (select_from (is_selected all) (before + 1) piece ++ tail)
@@ -212,7 +212,7 @@ module _ {all : List Interval} {before count end : ℕ} (bytes : List ℕ) {was 
       copied_ends {from} from_is reaches copied =
           cc (
             rest_of from end bytes,
-            rest_is at_i before count (take end bytes) (omega (arith, long, in_piece)) reaches,
+            rest_is at_i before count (take end bytes) (omega (arith, long)) reaches,
             copy_ends k within (omega (arith, piece_long)),
           )
 

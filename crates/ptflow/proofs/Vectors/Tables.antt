@@ -132,7 +132,7 @@ module _ (first n : ℕ) (table : List (List ℕ)) (within : first + 16 * n ≤ 
             let is : get_or offsets lane 0 ≡ offset b =
             ap (λ l. get_or l lane 0) offsets_are ∙ get_or-map offset v lane 0 0 (omega arith) in
             let offsets_long : length offsets ≡ 16 = ap length offsets_are ∙ length-map v offset ∙ long in
-            selected lane low (omega (arith, row, inside)) ∙ ap (λ k. get_or (get_or found_in_rows k []) lane 0) row
+            selected lane low (omega (arith, inside)) ∙ ap (λ k. get_or (get_or found_in_rows k []) lane 0) row
             ∙ ap (λ l. get_or l lane 0) (looked_up (offset b / 16) inside)
             ∙ get_or-map (λ o. get_or (get_or table (offset b / 16) []) (o % 16) 0) offsets lane 0 0 (omega arith)
             ∙ ap (λ o. get_or (get_or table (offset b / 16) []) (o % 16) 0) is
@@ -145,7 +145,7 @@ module _ (first n : ℕ) (table : List (List ℕ)) (within : first + 16 * n ≤ 
             let sizes = length-sel_l flags found v (omega arith) (omega arith) in
             ext_get_or 0 (sel_l flags found v) (map (image_from first table) v)
             (sizes ∙ flags_long ∙ sym (length-map v (image_from first table) ∙ long)) (λ lane low.
-            let few : lane < 16 = omega (arith, low, sizes) in
+            let few : lane < 16 = omega (arith, low) in
             let b = get_or v lane 0 in
             let byte = (Each1-get_or (Fits w8) v lane 0 (omega arith) fit).fits in
             let image = get_or-map (image_from first table) v lane 0 0 (omega arith) in

@@ -124,7 +124,7 @@ skip_empty_word None bytes field (Some left) none empty first = grind (arith, em
 -- a separator and then the line is each of its fields after a separator
 pub prefixed_fields : (c : ℕ) (bytes : List ℕ) → with_prefix c (slice_split (λ b. b == c) bytes) ≡ c ∷ bytes
 prefixed_fields c [] = refl
-prefixed_fields c (x ∷ xs) = let ih = prefixed_fields c xs in grind (arith, ih, eqb-true x c)
+prefixed_fields c (x ∷ xs) = let ih = prefixed_fields c xs in grind (arith, eqb-true x c)
 
 join_is_prefixed : (byte : ℕ) (f : List ℕ) (fs : Lines) → join_with_byte byte (f ∷ fs) ≡ f ++ with_prefix byte fs
 join_is_prefixed byte f [] = sym (append-nil f)
@@ -156,7 +156,7 @@ between_is separator = grind arith
 pub first_then_rest : (f : OutField → List ℕ) (items : List OutField) (d : OutField) → 1 ≤ length items
     → {bytes : List ℕ} → bytes ≡ f (get_or items 0 d)
     → map f items ≡ bytes ∷ map f (take (length items - 1) (drop 1 items))
-first_then_rest f [] d s e = absurd (omega (arith, s))
+first_then_rest f [] d s e = absurd (omega arith)
 first_then_rest f (x ∷ l) d s e = cc (take_all (length (x ∷ l) - 1) l (omega arith))
 
 -- the output for one item
@@ -189,13 +189,13 @@ pub single_spaced_words : (blank : Bool) (bytes : List ℕ) → is_single_spaced
 single_spaced_words true [] tidy = cc
 single_spaced_words true (b ∷ bytes) tidy =
     let ih = λ (h : is_single_spaced false bytes ≡ true). single_spaced_words false bytes h b in
-    grind (arith, tidy, ih)
+    grind arith
 single_spaced_words false [] tidy = λ c. refl
 single_spaced_words false (b ∷ bytes) tidy =
     λ c.
     let more = λ (h : is_single_spaced false bytes ≡ true). word_more c b _
     (single_spaced_words false bytes h b) in
-    grind (arith, tidy, more, single_spaced_words true bytes, eqb-true b 32)
+    grind (arith, more, single_spaced_words true bytes, eqb-true b 32)
 
 -- ---- canonical lines
 
@@ -270,7 +270,7 @@ space_is blank b v here spaced = grind (arith, here, spaced, eqb-true b 32)
 spaced_suffix : (blank : Bool) (xs : List ℕ) (b : ℕ) (ys : List ℕ) → is_single_spaced blank (xs ++ b ∷ ys) ≡ true
     → is_blank b ≡ true → (b ≡ 32) × (is_single_spaced true ys ≡ true)
 spaced_suffix blank [] b ys s here = space_is blank b ys here s
-spaced_suffix blank (x ∷ xs) b ys s here = grind (arith, s, here, spaced_suffix (x == 32) xs b ys)
+spaced_suffix blank (x ∷ xs) b ys s here = grind (arith, here, spaced_suffix (x == 32) xs b ys)
 
 -- ---- the bytes before a field and after it
 
@@ -334,16 +334,7 @@ around_is separator number line (Some span) f even =
     let line_is : before ++ (c ∷ (word ++ rest)) ≡ c ∷ line =
     let all = rw (← take-append-drop (number - 1) fs, f.is, flat_map-append) at (even_prefixed separator line even) in
     cc (f.after even, all) in
-    let long : length before ≡ span.start = omega (
-      arith,
-      ap length line_is,
-      length-append before (c ∷ (word ++ rest)),
-      length-append word rest,
-      length-drop span.end line,
-      length-take-le (span.end - span.start) (drop span.start line)
-          (omega (arith, length-drop span.start line, f.within)),
-      f.ordered,
-      f.within,
-    ) in
+    let long : length before ≡ span.start = omega (arith, ap length line_is, length-append before (c ∷ (word ++ rest)), length-append word rest, length-drop span.end line, length-take-le (span.end - span.start) (drop span.start line)
+          (omega (arith, length-drop span.start line)), ) in
     let cut = rw long at (cut_before c before (word ++ rest) line line_is rest) in
     rw (remove_at fs (number - 1) word f.more f.is, flat_map-append, f.after even) cut

@@ -255,7 +255,7 @@ module _ (call : JoinCall) {mid : Output} {p g : Side → Lines} {d : Side → B
 
   some_entries : tool.keeps_groups ≡ true → (f s : Lines) → 0 < length f → 0 < length s → 0 < length (entries k f s)
   some_entries keeps (a ∷ f) (b ∷ s) some1 some2 = rw (laws.whole k a b f s) (laws.written keeps k a b f s)
-  some_entries keeps f s some1 some2 = absurd (omega (arith, some1, some2))
+  some_entries keeps f s some1 some2 = absurd (omega arith)
 
   -- the entries of a group of lines of both inputs
   pub has_entries : tool.keeps_groups ≡ true → ((side : Side) → 0 < length (g side)) → HasEntries tool g d k
@@ -273,7 +273,7 @@ module _ (call : JoinCall) {mid : Output} {p g : Side → Lines} {d : Side → B
 
   own_entries : (f s : Lines) → 0 < length f → 0 < length s → entries k f s ≡ pairs k f s
   own_entries (a ∷ f) (b ∷ s) some1 some2 = laws.whole k a b f s
-  own_entries f s some1 some2 = absurd (omega (arith, some1, some2))
+  own_entries f s some1 some2 = absurd (omega arith)
 
   -- a group is complete if only greater keys follow
   pub closes : {is : Output} → ((side : Side) → 0 < length (g side))
@@ -351,7 +351,7 @@ module _ {call : JoinCall} {now : MergeState} {cursor : Side → Sorted} {end : 
       by : (t : CursorStatus) → MatchesStatus cmp (key s) t (cursor s) now.store (now.reader s) (q.ls s) (q.p s ++ g s)
           (q.d s) → (t ≡ Head → ¬ (key s (head_of now cursor s) ≡ k))
           → PrecedesInput cmp k t (key s (head_of now cursor s)) (key s (line now.store (cursor s).previous_slot))
-      by Head at_line other = grind (arith, other, least_or_above, q.within.under s, at_line.bound)
+      by Head at_line other = grind (arith, other, least_or_above, q.within.under s)
       by Ended st other = tt
       by (Disorder n) st other = rw st at (q.within.under s)
 

@@ -57,17 +57,17 @@ pub clears_more : (a s t : Slots) (slot : ℕ) → 4 ≤ slot → slot < length 
 clears_more a s t slot from within c is =
     let rest = drop 4 s.lines in
     let back : 4 + (slot - 4) ≡ slot = omega arith in
-    let all = total_bytes_set s.lines slot [] (omega (arith, c.slots)) in
+    let all = total_bytes_set s.lines slot [] (omega arith) in
     let at : get_or rest (slot - 4) [] ≡ line a slot = grind (arith, common_steps, back) in
     let d : drop 4 (set s.lines slot []) ≡ set rest (slot - 4) [] = cc (back, drop-set-add 4 s.lines (slot - 4) []) in
-    let here = total_bytes_set rest (slot - 4) [] (omega (arith, c.slots, length-drop 4 s.lines)) in
+    let here = total_bytes_set rest (slot - 4) [] (omega (arith, length-drop 4 s.lines)) in
     let grows = ap total_bytes (group_more a 4 slot from within) ∙ sum_by_push length (group a 4 slot) (line a slot) in
     rw is (record {
       slots = length-set s.lines slot [] ∙ c.slots;
       others = λ i far. grind (arith, line_other);
-      emptied = omega (arith, here, ap total_bytes d, ap length at, c.emptied, grows);
+      emptied = omega (arith, here, ap total_bytes d, ap length at, grows);
       less = omega (arith, all);
-      peak = omega (arith, all, c.peak);
+      peak = omega (arith, all);
       denied = c.denied;
     })
 
@@ -84,8 +84,8 @@ record EnsuredSlot (before made : Slots) (slot : ℕ) : Type 0 where
 
 ensured_slot : (before made : Slots) (slot : ℕ) → EnsureSlotPost before made slot → EnsuredSlot before made slot
 ensured_slot before made slot g =
-    ⊎_elim (λ e. let more : Lines = [] in grind (arith, common_steps, e, more))
-    (λ e. let more : Lines = [] ∷ [] in grind (arith, common_steps, e, more, g.there)) g.grown
+    ⊎_elim (λ e. let more : Lines = [] in grind (arith, common_steps, more))
+    (λ e. let more : Lines = [] ∷ [] in grind (arith, common_steps, more)) g.grown
 
 pub failed_copy : (before made : Slots) (to : ℕ) → EnsureSlotPost before made to
     → CopyToGroupErrPost before (with_denied (with_line made to [])) to
@@ -103,14 +103,14 @@ module _ (m : Lines → ℕ) (laws : IsLineMeasure m) (key : Key) where
   -- lines of one key are at most all lines with this key
   group_measure_max : (k : List ℕ) (p g c : Lines) → EachKey (λ x. x ≡ k) key g
       → m g ≤ m (lines_with_key key (p ++ (g ++ c)) k)
-  group_measure_max k [] [] c e = omega (arith, laws.none)
+  group_measure_max k [] [] c e = omega arith
   group_measure_max k [] (x ∷ g) c (here, more) = rw (same_bytes here)
       (omega (arith, laws.more x g, laws.more x (lines_with_key key (g ++ c) k), group_measure_max k [] g c more))
   group_measure_max k (x ∷ p) g c e =
       let ih = group_measure_max k p g c e in
       let ls : Lines = lines_with_key key _ k in
       elim (bytes_eq (key x) k) as (λ t. m g ≤ m (cond t (x ∷ ls) ls))
-      [ true ↦ omega (arith, ih, laws.more x ls) | false ↦ ih ]
+      [ true ↦ omega (arith, laws.more x ls) | false ↦ ih ]
 
   greatest_has : (ls p : Lines) (y : List ℕ) (w : Lines)
       → m (lines_with_key key ls (key y)) ≤ max_over_keys m key ls (p ++ y ∷ w)
@@ -211,17 +211,10 @@ group_store_line {store = store} {after} {ls} {now} {g} s cursor slots x k up fi
       split = drop-set-lt 4 store.lines cursor.previous_slot x (low_slot s cursor slots).previous ∙ k.split;
       empty = k.empty;
       lines = inside;
-      bounds = λ all more e. omega (
-        arith,
-        k.bounds all (continues_key.more ++ more)
-            (cc (continues_key.is, append_assoc (ls Second) continues_key.more more)),
-        up First,
-        up Second,
-        sum,
-        size,
-      );
-      least = omega (arith, k.least, size);
-      four = omega (arith, k.four, size);
+      bounds = λ all more e. omega (arith, k.bounds all (continues_key.more ++ more)
+            (cc (append_assoc (ls Second) continues_key.more more)), up First, up Second, size, );
+      least = omega (arith, size);
+      four = omega (arith, size);
       denied = k.denied;
     })
 
@@ -251,12 +244,12 @@ module _ {most : GroupBounds} {before store : Slots} {ls : Side → Lines} {g : 
 
   module _ {made : Slots} {to : ℕ} (w : EnsuredSlot store made to) where
     made_same : (i : ℕ) → i < 4 → line made i ≡ line store i
-    made_same i low = cc (w.lines, get_or-append store.lines w.more [] i (omega (arith, k.four, low)))
+    made_same i low = cc (get_or-append store.lines w.more [] i (omega (arith, low)))
 
     module _ (y : List ℕ) (at : to ≡ 4 + length g) (within : to < length made.lines)
         (largest : (l : Lines) → InGroup most (g ++ y ∷ []) (ls Second ++ l)) where
       first_same : (i : ℕ) → i < 4 → get_or (set made.lines to y) i [] ≡ get_or store.lines i []
-      first_same i low = line_other made to i y (λ e. absurd (omega (arith, at, e))) ∙ made_same i low
+      first_same i low = line_other made to i y (λ e. absurd (omega (arith, at))) ∙ made_same i low
 
       by_tail : (t : Lines) → total_bytes t ≡ 0 → length g + 1 ≤ length (g ++ t)
           → drop 4 (set made.lines to y) ≡ set (g ++ t) (length g) y
@@ -287,9 +280,9 @@ module _ {most : GroupBounds} {before store : Slots} {ls : Side → Lines} {g : 
       → GroupStore most before after ls []
   group_store_cleared {after} at c =
       let none : total_bytes (drop 4 after.lines) ≡ 0 = omega
-      (arith, c.emptied, ap total_bytes (group_is at), ap total_bytes k.split, sum_by-append length g k.tail, k.empty)
+      (arith, ap total_bytes (group_is at), ap total_bytes k.split, sum_by-append length g k.tail)
       in
-      let four : 4 ≤ length after.lines = omega (arith, k.four, c.slots) in
+      let four : 4 ≤ length after.lines = omega arith in
       let lines = same_lines store.lines after.lines (λ side. max_length (ls side)) (total_bytes g) 0 k.lines four
       (λ i low. c.others i (inl low)) none in
       let total = has_lines_total store.lines (λ side. max_length (ls side)) (total_bytes g) k.lines in
@@ -298,8 +291,8 @@ module _ {most : GroupBounds} {before store : Slots} {ls : Side → Lines} {g : 
         split = refl;
         empty = none;
         lines = lines;
-        bounds = λ all more e. omega (arith, c, k.bounds all more e, total);
-        least = omega (arith, k.least, c.slots);
+        bounds = λ all more e. omega (arith, k.bounds all more e, total);
+        least = omega arith;
         four = four;
         denied = c.denied ∙ k.denied;
       }

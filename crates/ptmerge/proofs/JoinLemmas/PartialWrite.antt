@@ -13,7 +13,7 @@ use Rattle.std.proofs.Common.{arith}
 pub wrote_then : {a b c : Output} {xs ys : List ℕ} → (a.write_failed ≡ false → b.write_failed ≡ false)
     → PushEffect a b xs → PushEffect b c ys → PushEffect a c (xs ++ ys)
 wrote_then {a} {b} {c} {xs} {ys} clean p q =
-    ⊎_elim (λ fault. grind (arith, fault, p.stays, q.stays, push_after_failure a (xs ++ ys)))
+    ⊎_elim (λ fault. grind (arith, fault, push_after_failure a (xs ++ ys)))
     (λ fine. push_trans a b c xs ys (clean fine) p q) (cases_Bool a.write_failed)
 
 pub then_pushes : {E : Type 0} {a b c : Output} {xs ys : List ℕ} {r : Result (Unit {0}) E}

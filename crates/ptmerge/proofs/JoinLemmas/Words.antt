@@ -47,7 +47,7 @@ or_ends : (last n : ℕ) (bits : List Bool) → last ≤ n
     → bit_or (mask_l (take n bits)) (2 ^ last * mask_l (drop last bits)) ≡ mask_l bits
 or_ends zero n bits le = let one : 2 ^ 0 * mask_l bits ≡ mask_l bits = omega arith in
     ap (bit_or _) one ∙ or_prefix n bits
-or_ends (suc last) zero bits le = absurd (omega (arith, le))
+or_ends (suc last) zero bits le = absurd (omega arith)
 or_ends (suc last) (suc n) [] le = grind (arith, or_zero_l)
 or_ends (suc last) (suc n) (b ∷ bits) le =
     let double : 2 ^ suc last ≡ 2 * 2 ^ last = omega (arith, two-pow-succ last) in
@@ -55,7 +55,7 @@ or_ends (suc last) (suc n) (b ∷ bits) le =
     ap (λ (p : ℕ). p * mask_l (drop last bits)) double ∙ mul_assoc 2 (2 ^ last) (mask_l (drop last bits))
     ∙ omega arith in
     ap (bit_or (mask_l (b ∷ take n bits))) twice ∙ or_bits b false (mask_l (take n bits))
-    (2 ^ last * mask_l (drop last bits)) ∙ grind (arith, or_ends last n bits (omega (arith, le)))
+    (2 ^ last * mask_l (drop last bits)) ∙ grind (arith, or_ends last n bits (omega arith))
 
 -- the mask of n to 2 n bytes, from those of the first n and of the last n
 pub ends_mask : (test : ℕ → Bool) (bytes : List ℕ) (n : ℕ) → n ≤ length bytes → length bytes ≤ n + n → n ≤ 32
@@ -92,7 +92,7 @@ no_misplaced blank (b ∷ bytes) =
     let m = mask_l (map is_blank bytes) in
     let t = mask_l (map (is_byte 9) bytes) in
     rw (and_bits (is_blank b) blank m (bit (is_blank b) + 2 * m), or_bits (b == 9), zero_bits)
-    (let ih = no_misplaced (is_blank b) bytes in grind (arith, ih))
+    (let ih = no_misplaced (is_blank b) bytes in grind arith)
 
 pub single_spaces_is : (any before : ℕ) (bytes : List ℕ) → before ≤ 1 → length bytes ≤ 64
     → any ≡ mask_l (map is_blank bytes)
@@ -101,7 +101,7 @@ pub single_spaces_is : (any before : ℕ) (bytes : List ℕ) → before ≤ 1 �
 single_spaces_is any before bytes low few is =
     let wide : 2 ^ length (map is_blank bytes) ≤ 2 ^ 64 =
     pow_mono {j = 64} (omega (arith, length-map bytes is_blank)) in
-    let small : any < 2 ^ 64 = omega (arith, mask_l-lt (map is_blank bytes), wide) in
+    let small : any < 2 ^ 64 = omega (arith, mask_l-lt (map is_blank bytes)) in
     let sum : any * 2 + before ≡ bit (before == 1) + 2 * any = omega (arith, of_bit before low) in
     rw (or_even any before low, and_low any (any * 2 + before) small, sum, is) (no_misplaced (before == 1) bytes)
   where
@@ -112,7 +112,7 @@ single_spaces_is any before bytes low few is =
     or_even any before low =
         let half = any % 2 ^ 63 in
         let even : any * 2 % 2 ^ 64 ≡ 2 * half = omega arith in
-        grind (arith, even, of_bit, or_bits false (before == 1) half 0, or_zero_r half)
+        grind (arith, of_bit, or_bits false (before == 1) half 0, or_zero_r half)
 
     and_low : (x y : ℕ) → x < 2 ^ 64 → bit_and x (y % 2 ^ 64) ≡ bit_and x y
     and_low x y low =
@@ -153,7 +153,7 @@ last_blank blank (b ∷ bytes) = last_blank (b == 32) bytes
 pub spaced_append : (blank : Bool) (v back : List ℕ) → is_single_spaced blank (v ++ back) ≡ cond
     (has_single_spaces blank v) (is_single_spaced (last_blank blank v) back) false
 spaced_append blank [] back = refl
-spaced_append blank (b ∷ v) back = let ih = spaced_append (b == 32) v back in grind (arith, ih)
+spaced_append blank (b ∷ v) back = let ih = spaced_append (b == 32) v back in grind arith
 
 -- the highest bit says whether the last byte is a blank
 pub top_bit : (n : ℕ) (blank : Bool) (v : List ℕ) → length v ≡ suc n → has_single_spaces blank v ≡ true
@@ -189,7 +189,7 @@ is_word b = not (is_blank b)
 
 pub word_mask : (bytes : List ℕ) → mask_l (map is_word bytes) + mask_l (map is_blank bytes) + 1 ≡ 2 ^ length bytes
 word_mask [] = refl
-word_mask (b ∷ bytes) = let ih = word_mask bytes in grind (arith, ih, two-pow-succ (length bytes))
+word_mask (b ∷ bytes) = let ih = word_mask bytes in grind (arith, two-pow-succ (length bytes))
 
 -- ---- the first run of set bits
 
@@ -235,7 +235,7 @@ and_ones [] = and_zero_l 1
 and_ones (b ∷ bits) =
     let ih = and_ones bits in
     let m = mask_l bits in
-    grind (arith, ih, and_self m, and_bits true false m (mask_l (after_ones bits)), and_bits false true m m)
+    grind (arith, and_self m, and_bits true false m (mask_l (after_ones bits)), and_bits false true m m)
 
 and_run : (bits : List Bool) → bit_and (mask_l bits) (mask_l (after_run bits)) ≡ mask_l (clear_run bits)
 and_run [] = and_zero_l 1
@@ -333,8 +333,8 @@ word_at zero (b ∷ v) low some = by (word_at 0 v (omega arith)) (is_blank b) re
         let size : suc n - 0 ≡ suc n = omega arith in
         rw one_more (record {
           low = omega arith;
-          high = omega (arith, w.high);
-          is = cc (split_byte b v e, w.split, w.words, size);
+          high = omega arith;
+          is = cc (split_byte b v e, size);
           rest = cc w.rest;
           spaced = λ blank s. w.spaced (letter_is blank b v e s);
         })
@@ -343,7 +343,7 @@ no_words : (at : ℕ) (v : List ℕ) → mask_l (from at v) ≡ 0 → join_field
 no_words zero [] none = refl
 no_words (suc at) [] none = refl
 no_words (suc at) (b ∷ v) none = no_words at v (omega (arith, none))
-no_words zero (b ∷ v) none = let ih = no_words 0 v in grind (arith, none, ih)
+no_words zero (b ∷ v) none = let ih = no_words 0 v in grind (arith, none)
 
 -- `passed` words of the line have been passed, and `words` is the mask of those from the index `at` on
 pub record WordsLeft (line : List ℕ) (passed words : ℕ) : Type 0 where
@@ -377,7 +377,7 @@ module _ {line : List ℕ} {passed words : ℕ} (short : length line < 64) (left
 
   module _ (some : words ≢ 0) where
     some_bits : 0 < mask_l bits
-    some_bits = omega (arith, left.mask, λ (none : mask_l bits ≡ 0). some (left.mask ∙ none))
+    some_bits = omega (arith, λ (none : mask_l bits ≡ 0). some (left.mask ∙ none))
 
     first_word : WordAt left.at line (prefix_len not bits) (prefix_len not (after_run bits)) (clear_run bits)
     first_word = word_at left.at line left.within some_bits
@@ -386,7 +386,7 @@ module _ {line : List ℕ} {passed words : ℕ} (short : length line < 64) (left
     after = bit_or words (words - 1) + 1
 
     after_is : after ≡ mask_l (after_run bits)
-    after_is = cc (left.mask, or_less bits some_bits)
+    after_is = cc (or_less bits some_bits)
 
     start_is : count_trailing_zeros 64 words ≡ prefix_len not bits
     start_is = grind (arith, lowest, bits_long, some_bits)
@@ -400,8 +400,8 @@ module _ {line : List ℕ} {passed words : ℕ} (short : length line < 64) (left
         record {
           at = prefix_len not (after_run bits);
           within = w.high;
-          mask = cc (left.mask, after_is, and_run bits, w.rest);
-          fields = cc (drop-drop 1 passed (join_fields None line), left.fields, w.is);
+          mask = cc (after_is, and_run bits);
+          fields = cc (drop-drop 1 passed (join_fields None line));
           spaced = λ s. (false, (w.spaced (left.spaced s).0 (left.spaced s).1).0);
         }
 

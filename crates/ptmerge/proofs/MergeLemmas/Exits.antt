@@ -79,7 +79,7 @@ module _ {end : ℕ} {cmp : Cmp} {key : Key} {old now : Reader} {cursor : Sorted
 
   -- the current line is processed
   pub read_facts_after_line : IsKeyOrder cmp → cursor.status ≡ Head → ReadFacts end cmp key old now now [] ls ls b
-  read_facts_after_line o head = let h = at_current_line head in grind (arith, processed_to_line, s.facts)
+  read_facts_after_line o head = let h = at_current_line head in grind (arith, processed_to_line)
 
 -- the bound of an input after the last key, or before any line
 abbrev pub bound_after : Option (List ℕ) → Bound
@@ -180,7 +180,7 @@ module _ (end : ℕ) (cmp : Cmp) (o : IsKeyOrder cmp) (key : Key) (old now new :
         at_next (Some k) (e.line ∷ []) e.line (next_cursor (Disorder (cursor.number + 1)) (cursor.number + 1) same)
         (AfterDisorder (record { last_key = k; line = length ls + 1 }))
         (lines_read_more lines_read e) (inr (omega (arith, length_push ls e.line))) sound (inr (e.line, refl, refl))
-        (omega (arith, number, length_push ls e.line)) (grind (arith, common_steps, sorted_up_to, falls_now))
+        (omega (arith, number, length_push ls e.line)) (grind (arith, common_steps, sorted_up_to))
         (λ ended. cc)
         (grind (arith, line_other, is)) (nothing_follows cmp key (Some k)) (λ j u. u) e.stored
         (omega (arith, max_length-append ls (e.line ∷ [])))
@@ -214,7 +214,7 @@ pub next_same_key : (cmp : Cmp) (o : IsKeyOrder cmp) (key : Key) (cursor next : 
     → NextOkPost key cmp cursor next now new before after
     → next.same ≡ (is_head next.status && bytes_eq (key (line before cursor.current_slot))
     (key (line after next.current_slot)))
-next_same_key cmp o key cursor next now new before after some within e = grind (arith, line_of_with_line, equal_is, e)
+next_same_key cmp o key cursor next now new before after some within e = grind (arith, line_of_with_line, equal_is)
 
 -- ---- an exit
 
@@ -376,7 +376,7 @@ module _ {tool : MergeTool} {old : MergeState} (w : IsOpenMerge tool old) (new :
         let begins = subst (λ (all : Side → Received). IsPrefix (decided_output tool all)
         (output_of tool front)) (λ i t. with_own side given t i)
         (decided_at tool w.o given front _ tail _ lag.split lag.under_bound future side point) in
-        search (rules, begins, lag, append_assoc)
+        search (rules, begins, append_assoc)
 
     progress : Fits tool old.store now ls piece new.store
         → CallProgress both_sides (merge_engine tool) old new took (unlines tool.terminator done)
@@ -387,7 +387,7 @@ module _ {tool : MergeTool} {old : MergeState} (w : IsOpenMerge tool old) (new :
       writable = w.writable;
       wrote = rw lag.all at (push_trans _ _ _ _ _ lag.clean lag.wrote lag.more);
       is_prefix = λ texts agree. (let come = first (lines_of tool texts) (continues texts agree) in search
-          (rules, come, unlines-append));
+          (rules, unlines-append));
       -- everything was written that was decided two blocks of an input earlier
       bounded_lag = λ of read. rw lag.all at (bounded_lag_after _ _ old.out lag.mid (output_of tool front)
           (lag_bound tool w.o given front _ tail _ lag.split lag.under_bound future of (backs of)) lag.wrote lag.clean
@@ -449,7 +449,7 @@ unfolding call_set
 merge_set {tool} {old} {new} {set} clean is m = record {
   call = call_set both_sides _ old _ new clean refl refl (λ side read. is side) (λ side none. cc) m.call;
   stops_at_disorder = m.stops_at_disorder;
-  first_reads = grind (arith, is Second, m.first_reads);
+  first_reads = grind (arith, is Second);
 }
 
 -- the output had failed, and nothing was done
@@ -481,5 +481,5 @@ merge_without_slots {tool} {old} w {new} same_output unread slots =
         },
         unread_decides_no_disorder tool w.o (given_before old) side,
       );
-      first_reads = search (rules, set, w.sound);
+      first_reads = search (rules, set);
     }

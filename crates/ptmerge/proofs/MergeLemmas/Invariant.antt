@@ -37,7 +37,7 @@ disorder_after cmp key last n (x ∷ w) =
 pub sorted_prefix_is : (cmp : Cmp) (key : Key) (ls : Lines) → sorted_prefix cmp key ls ≡ sorted_after cmp key None ls
 sorted_prefix_is cmp key [] = refl
 sorted_prefix_is cmp key (x ∷ []) = refl
-sorted_prefix_is cmp key (x ∷ y ∷ more) = let ih = sorted_prefix_is cmp key (y ∷ more) in grind (arith, ih)
+sorted_prefix_is cmp key (x ∷ y ∷ more) = let ih = sorted_prefix_is cmp key (y ∷ more) in grind arith
 
 -- the first disorder, by the length of the sorted prefix
 abbrev by_length : Cmp → Key → Option (List ℕ) → ℕ → Lines → Lines → Option FirstDisorder
@@ -48,7 +48,7 @@ by_length_is : (cmp : Cmp) (key : Key) (last : Option (List ℕ)) (n : ℕ) (ls 
     → by_length cmp key last n (sorted_after cmp key last ls) ls ≡ disorder_after cmp key last n ls
 by_length_is cmp key last n [] = refl
 by_length_is cmp key last n (x ∷ w) = let ih = by_length_is cmp key (Some (key x)) (n + 1) w in
-    grind (arith, nat_tests, ih)
+    grind (arith, nat_tests)
 
 pub first_disorder_is : (cmp : Cmp) (key : Key) (ls : Lines)
     → first_disorder cmp key ls ≡ disorder_after cmp key None 0 ls
@@ -81,7 +81,7 @@ after_from cmp o key k n (x ∷ w) =
     let (more, _) = ih in
     let weaker : is_gt _ ≡ false → EachKey (AtMost cmp k) key _ =
     λ h. EachKey-weaker _ _ (λ y a. at_most_trans cmp o k (key x) y h a) _ _ more in
-    grind (arith, ih, weaker, at_most_trans, self_at_most cmp o k)
+    grind (arith, weaker, at_most_trans, self_at_most cmp o k)
 
 -- The lines that may follow in an input: any lines; lines with keys of at least k; none, since the input is out of
 -- order; none, since it has ended.
@@ -168,7 +168,7 @@ module _ (cmp : Cmp) (o : IsKeyOrder cmp) where
   ascends_insert k [] a = (tt, tt)
   ascends_insert k (x ∷ xs) (above, more) =
       let ih = ascends_insert k xs more in
-      grind (arith, ih, Each-weaker, above_trans, Each-insert, less_flips)
+      grind (arith, Each-weaker, above_trans, Each-insert, less_flips)
 
   pub ascends_distinct : (ks : Lines) → Ascends cmp (distinct_keys cmp ks)
   ascends_distinct [] = tt
@@ -182,7 +182,7 @@ module _ (cmp : Cmp) (o : IsKeyOrder cmp) where
       let ih = downward_first w p down ks more in
       let none : p k ≡ false → filter (λ k. w k && p k) ks ≡ [] = λ h. filter_none _ ks
       (Each-weaker _ _ (λ y g. (let d = down k y g in grind arith)) _ above) in
-      grind (arith, ih, none)
+      grind (arith, none)
 
   -- the disorder comes after a key that is at least k
   pub under_fall : (b : Bound) (k : List ℕ) (f : Option FirstDisorder) → IsUnder cmp b k → MayDisorder cmp b f
@@ -451,8 +451,8 @@ module _ (tool : MergeTool) (o : IsKeyOrder tool.cmp) (eof : Side → Bool) (ls 
   -- no key is decided unless it is past in this input
   pub not_decided : (side : Side) (k : List ℕ) → is_past cmp (tool.key side) (eof side) (ls side) k ≡ false
       → is_decided tool eof ls k ≡ false
-  not_decided First k e = grind (arith, e)
-  not_decided Second k e = grind (arith, e)
+  not_decided First k e = grind arith
+  not_decided Second k e = grind arith
 
 -- the entries of the processed lines come first, for all lists that continue those read so far
 pub input_split : {tool : MergeTool} (o : IsKeyOrder tool.cmp) {b : Side → Bound} {p ls : Side → Lines}

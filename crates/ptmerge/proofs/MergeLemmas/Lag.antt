@@ -32,7 +32,7 @@ IsSortedFrom cmp key last (x ∷ xs) = (is_disordered cmp last (key x) ≡ false
 sorted_from_after : (cmp : Cmp) (key : Key) (last : Option (List ℕ)) (ls : Lines)
     → IsSortedFrom cmp key last (sorted_after cmp key last ls)
 sorted_from_after cmp key last [] = tt
-sorted_from_after cmp key last (x ∷ ls) = let ih = sorted_from_after cmp key (Some (key x)) ls in grind (arith, ih)
+sorted_from_after cmp key last (x ∷ ls) = let ih = sorted_from_after cmp key (Some (key x)) ls in grind arith
 
 sorted_from_prefix : (cmp : Cmp) (key : Key) (ls : Lines) → IsSortedFrom cmp key None (sorted_prefix cmp key ls)
 sorted_from_prefix cmp key ls = rw (sorted_prefix_is cmp key ls) (sorted_from_after cmp key None ls)
@@ -49,7 +49,7 @@ sorted_from_whole : (cmp : Cmp) (key : Key) (last : Option (List ℕ)) (n : ℕ)
     → (sorted_after cmp key last ls ≡ ls) × (disorder_after cmp key last n ls ≡ None)
 sorted_from_whole cmp key last n [] r = (refl, refl)
 sorted_from_whole cmp key last n (x ∷ ls) (here, more) =
-    let ih = sorted_from_whole cmp key (Some (key x)) (n + 1) ls more in grind (arith, here, ih)
+    let ih = sorted_from_whole cmp key (Some (key x)) (n + 1) ls more in grind (arith, here)
 
 sorted_from_start : (cmp : Cmp) (key : Key) (ls : Lines) → IsSortedFrom cmp key None ls
     → (sorted_prefix cmp key ls ≡ ls) × (first_disorder cmp key ls ≡ None)
@@ -178,8 +178,8 @@ of_other : (cmp : Cmp) (s : Side) (f : Side → Option FirstDisorder) (test : Op
     → test None ≡ false
     → ((d : FirstDisorder) → f (other s) ≡ Some d → test (Some (record { file = other s; first_disorder = d })) ≡ false)
     → test (earlier_disorder cmp (f First) (f Second)) ≡ false
-of_other cmp First f test none calm some = grind (arith, none, calm, some)
-of_other cmp Second f test none calm some = grind (arith, none, calm, some)
+of_other cmp First f test none calm some = grind (arith, none, some)
+of_other cmp Second f test none calm some = grind (arith, none, some)
 
 -- one input is in order, and has not ended
 module _ (tool : MergeTool) (o : IsKeyOrder tool.cmp) (eof : Side → Bool) (ls : Side → Lines) (of : Side)

@@ -122,7 +122,7 @@ EachKey-append P key xs ys e h = rw (map-append key xs ys) (Each-append P _ _ e 
 pub Each-insert : (cmp : Cmp) (P : List ℕ → Type 0) (k : List ℕ) (xs : Lines) → P k → Each P xs
     → Each P (insert_key cmp k xs)
 Each-insert cmp P k [] h e = (h, tt)
-Each-insert cmp P k (x ∷ xs) h (here, more) = let ih = Each-insert cmp P k xs h more in grind (arith, ih)
+Each-insert cmp P k (x ∷ xs) h (here, more) = let ih = Each-insert cmp P k xs h more in grind arith
 
 pub Each-distinct : (cmp : Cmp) (P : List ℕ → Type 0) (xs : Lines) → Each P xs → Each P (distinct_keys cmp xs)
 Each-distinct cmp P [] e = tt
@@ -147,7 +147,7 @@ module _ (cmp : Cmp) (o : IsKeyOrder cmp) where
   others_above : (k : List ℕ) (ks : Lines) → Each (AtMost cmp k) ks → Each (Above cmp k) (others k ks)
   others_above k [] e = tt
   others_above k (y ∷ ks) (here, more) =
-      let ih = others_above k ks more in grind (arith, ih, least_or_above cmp o k y here)
+      let ih = others_above k ks more in grind (arith, least_or_above cmp o k y here)
 
   -- the least key, if it occurs, comes first
   distinct_least : (k : List ℕ) (ks : Lines) → Each (AtMost cmp k) ks
@@ -167,8 +167,8 @@ module _ (cmp : Cmp) (o : IsKeyOrder cmp) where
 others-keys : (key1 key2 : Key) (k : List ℕ) (xs ys : Lines)
     → others k (map key1 xs ++ map key2 ys) ≡ map key1 (without key1 k xs) ++ map key2 (without key2 k ys)
 others-keys key1 key2 k [] [] = refl
-others-keys key1 key2 k [] (y ∷ ys) = let ih = others-keys key1 key2 k [] ys in grind (arith, ih)
-others-keys key1 key2 k (x ∷ xs) ys = let ih = others-keys key1 key2 k xs ys in grind (arith, ih)
+others-keys key1 key2 k [] (y ∷ ys) = let ih = others-keys key1 key2 k [] ys in grind arith
+others-keys key1 key2 k (x ∷ xs) ys = let ih = others-keys key1 key2 k xs ys in grind arith
 
 -- a test that no key passes keeps no line
 pub kept_none : (w : List ℕ → Bool) (key : Key) (ls : Lines) → EachKey (λ k. w k ≡ false) key ls
@@ -182,7 +182,7 @@ with_key_without : (key : Key) (k q : List ℕ) (xs : Lines) → bytes_eq q k �
 with_key_without key k q [] n = refl
 with_key_without key k q (x ∷ xs) n =
     let ih = with_key_without key k q xs n in
-    grind (arith, ih, not_same, same_bytes, bytes_decides (key x) k)
+    grind (arith, not_same, same_bytes, bytes_decides (key x) k)
 
 module _ (tool : MergeTool) (o : IsKeyOrder tool.cmp) where
   open tool use {cmp}
@@ -199,7 +199,7 @@ module _ (tool : MergeTool) (o : IsKeyOrder tool.cmp) where
   over_others w k ls [] e = refl
   over_others w k ls (q ∷ ks) (here, more) =
       let ih = over_others w k ls ks more in
-      grind (arith, ih, above_not_same, with_key_without)
+      grind (arith, above_not_same, with_key_without)
 
   -- The entries of a key that is at most all others come first, followed by those of the lines with other keys.
   pub least_first : (w : List ℕ → Bool) (k : List ℕ) (ls : Side → Lines)
@@ -230,7 +230,7 @@ module _ (tool : MergeTool) (o : IsKeyOrder tool.cmp) where
   lines_with_key-front key k [] r e = (refl, refl)
   lines_with_key-front key k (x ∷ f) r (here, more) =
       let ih = lines_with_key-front key k f r more in
-      grind (arith, ih, same_bytes here)
+      grind (arith, same_bytes here)
 
   pub at_most-same : (key : Key) (k : List ℕ) (f r : Lines) → EachKey (λ x. x ≡ k) key f → EachKey (AtMost cmp k) key r
       → EachKey (AtMost cmp k) key (f ++ r)

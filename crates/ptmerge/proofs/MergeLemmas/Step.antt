@@ -234,13 +234,13 @@ module _ {tool : MergeTool} {old : MergeState} (w : IsOpenMerge tool old) {now :
   advance_fails {out} {done} lag first new after fault e =
       let f = failed_advance s cursor (now.reader s) new now.store after out fault (a.facts s).sound e in
       let facts = put_both (ReadFactsOf tool old now.reader ls p b) s new now.reader f.piece (λ side. [])
-      (grind (arith, a.facts s, a.all, f)) (a.facts (other s)) in
+      (grind (arith, a.facts s, f)) (a.facts (other s)) in
       let is = state_by_side (with_side s new now.reader) out after in
       exit_is_merge_post w is facts lag
       (first is (with_side s f.piece (λ side. [])) facts)
-      (λ all holds. omega (arith, f.peak, f.count, a.fits f.piece all holds)) (a.order new f.piece f.line)
+      (λ all holds. omega (arith, a.fits f.piece all holds)) (a.order new f.piece f.line)
       (put_each (λ side (r : Reader). r.failed ≡ true → IsFailedRead r (ls side) (p side)) s new now.reader
-      (grind (arith, f, none_failed_yet s, w.unfailed s, a.all))
+      (grind (arith, f, none_failed_yet s, w.unfailed s))
       (λ side fail. cc (none_failed_yet side, w.unfailed side)))
       (Err fault) (advance_ends new after out _ _ fault e)
 
@@ -303,7 +303,7 @@ pub record CursorsInvariant (tool : MergeTool) (old : MergeState) (reader : Side
 
 pub slots_on : {key : Key} {cmp : Cmp} {cursor next : Sorted} {was is : Reader} {before after : Slots} (s : Side)
     → HasSlots s cursor → NextOkPost key cmp cursor next was is before after → HasSlots s next
-slots_on s h e = grind (arith, e)
+slots_on s h e = grind arith
 
 module _ {tool : MergeTool} {old : MergeState} (w : IsOpenMerge tool old) {reader : Side → Reader}
     {cursor : Side → Sorted} {store : Slots} {ls p : Side → Lines} {b : Side → Bound}
@@ -395,11 +395,7 @@ module _ {tool : MergeTool} {old : MergeState} (w : IsOpenMerge tool old) {reade
           unfailed = λ side read. none_failed side;
           clean = clean;
           not_denied = clear.denied ∙ a.holds.denied;
-          empty = omega (
-            arith,
-            clear.emptied,
-            (has_lines_total store.lines (λ side. max_length (ls side)) 0 a.holds.lines).is,
-          );
+          empty = omega (arith, (has_lines_total store.lines (λ side. max_length (ls side)) 0 a.holds.lines).is, );
         }
 
     concludes : (result : Result (Unit {0}) MergeFault)
@@ -563,7 +559,7 @@ module _ {tool : MergeTool} {old : MergeState} (w : IsOpenMerge tool old) where
       (s : StartFirstPost key cmp first unstarted new Then) where
     began : SideAfterNext terminator cmp (key First) (old.reader First) (new.reader First) first (base_slot First)
         s.made s.mid [] None
-    began = first_line First (omega (arith, s.four.slots)) s.came
+    began = first_line First (omega arith) s.came
 
     half_store : StoreOfLines old.store s.mid (λ side. max_length (both began.now_ls [] side))
     half_store = store_with_line First (initial_cursor First) _ began.bytes (fresh_slots First)
@@ -594,7 +590,7 @@ module _ {tool : MergeTool} {old : MergeState} (w : IsOpenMerge tool old) where
         p = no_lines;
         b = both f.bound k.bound;
         sides = elim [
-          | First ↦ grind (arith, side_invariant_kept, k.stored, line_other, apart)
+          | First ↦ grind (arith, side_invariant_kept, line_other, apart)
           | Second
               ↦ k.side_invariant
         ];
@@ -644,11 +640,11 @@ module _ {tool : MergeTool} {old : MergeState} (w : IsOpenMerge tool old) where
         let g = began s in
         first_read_fails Second (state_by_side (both new1 (old.reader Second)) old.out s.mid)
         (elim [ First ↦ g.side_invariant.facts | Second ↦ unread Second ]) refl
-        (λ r piece free. grind (arith, g.side_invariant, first_line_only s))
+        (λ r piece free. grind (arith, first_line_only s))
         (half_store s) (half_invariant s) _ _ _ (inr (w.writable, s.later))
 
 -- the terminator of both readers was set
 pub set_is : (first second set1 set2 : Reader) (zero : Bool) → set1 ≡ record first { terminator = cond zero 0 10 }
     → set2 ≡ record second { terminator = cond zero 0 10 } → (side : Side)
     → both set1 set2 side ≡ record (both first second side) { terminator = terminator zero }
-set_is first second set1 set2 zero is1 is2 side = grind (arith, is1, is2)
+set_is first second set1 set2 zero is1 is2 side = grind arith

@@ -16,4 +16,4 @@ returns-in_err-value c =
     rw c.from_residual-in_err-value.ensures
     (too_large_at c.args.text.now c.loop-byte.byte-index c.loop-byte.value
     (omega arith) c.loop-byte.invariant.number
-    (omega (arith, d, c.in_err-value.ensures)))
+    (omega (arith, d)))

@@ -4,12 +4,12 @@ use Rattle.ptlines.proofs.cmp.compare.Goals as goal
 
 pub returns-then-x-y : goal.returns-then-x-y
 returns-then-x-y c =
-    c.cmp.ensures ∙ words_differ word_8 0 c.args.a.now c.args.b.now (omega (arith, c.if-min-lt8.false, c.min.ensures))
+    c.cmp.ensures ∙ words_differ word_8 0 c.args.a.now c.args.b.now (omega arith)
     c.type_inv.a c.type_inv.b refl c.read_u64-x.ensures c.read_u64-y.ensures c.if-x-y.true
 
 pub compare_tail-requires : goal.compare_tail-requires
 compare_tail-requires c = record {
-  long = omega (arith, c.if-min-lt8.false, c.min.ensures);
-  same = words_same word_8 0 c.args.a.now c.args.b.now (omega (arith, c.if-min-lt8.false, c.min.ensures))
+  long = omega arith;
+  same = words_same word_8 0 c.args.a.now c.args.b.now (omega arith)
       c.type_inv.a c.type_inv.b refl c.read_u64-x.ensures c.read_u64-y.ensures c.if-x-y.false;
 }

@@ -9,7 +9,7 @@ returns-then-a-at c =
     let at = c.loop-at.at in
     let a = c.args.a.now in
     let b = c.args.b.now in
-    c.cmp.ensures ∙ words_differ word_1 at a b (omega (arith, c.loop-at-test.true, c.min-least.ensures))
+    c.cmp.ensures ∙ words_differ word_1 at a b (omega arith)
     c.type_inv.a c.type_inv.b c.loop-at.invariant (byte_at at a) (byte_at at b) c.if-a-at.true
 
 pub returns : goal.returns

@@ -7,7 +7,7 @@ use Rattle.ptlines.proofs.cmp.compare_short.Goals as goal
 pub returns-then-x-y : goal.returns-then-x-y
 returns-then-x-y c =
     c.cmp.ensures ∙ words_differ word_4 0 c.args.a.now c.args.b.now
-    (omega (arith, c.if-least-lt4.false, c.min-least.ensures))
+    (omega arith)
     c.type_inv.a c.type_inv.b refl c.read_u32-x.ensures c.read_u32-y.ensures c.if-x-y.true
 
 pub returns-then-x-y-2 : goal.returns-then-x-y-2
@@ -15,11 +15,11 @@ returns-then-x-y-2 c =
     let least = c.min-least.result in
     let a = c.args.a.now in
     let b = c.args.b.now in
-    let first = words_same word_4 0 a b (omega (arith, c.if-least-lt4.false, c.min-least.ensures))
+    let first = words_same word_4 0 a b (omega arith)
     c.type_inv.a c.type_inv.b refl c.read_u32-x.ensures c.read_u32-y.ensures c.if-x-y.false in
-    let same = shorter_prefix_same (least - 4) 4 a b (omega (arith, c.requires, c.min-least.ensures)) first in
+    let same = shorter_prefix_same (least - 4) 4 a b (omega arith) first in
     c.cmp-then-x-y-2.ensures ∙ words_differ word_4 (least - 4) a b
-    (omega (arith, c.if-least-lt4.false, c.min-least.ensures))
+    (omega arith)
     c.type_inv.a c.type_inv.b same c.read_u32-x-2.ensures c.read_u32-y-2.ensures c.if-x-y-2.true
 
 pub returns : goal.returns
@@ -27,10 +27,10 @@ returns c =
     let least = c.min-least.result in
     let a = c.args.a.now in
     let b = c.args.b.now in
-    let first = words_same word_4 0 a b (omega (arith, c.if-least-lt4.false, c.min-least.ensures))
+    let first = words_same word_4 0 a b (omega arith)
     c.type_inv.a c.type_inv.b refl c.read_u32-x.ensures c.read_u32-y.ensures c.if-x-y.false in
-    let same = shorter_prefix_same (least - 4) 4 a b (omega (arith, c.requires, c.min-least.ensures)) first in
-    let all = words_same word_4 (least - 4) a b (omega (arith, c.if-least-lt4.false, c.min-least.ensures))
+    let same = shorter_prefix_same (least - 4) 4 a b (omega arith) first in
+    let all = words_same word_4 (least - 4) a b (omega arith)
     c.type_inv.a c.type_inv.b same c.read_u32-x-2.ensures c.read_u32-y-2.ensures c.if-x-y-2.false in
-    let whole : (least - 4) + 4 ≡ least = omega (arith, c.if-least-lt4.false) in
+    let whole : (least - 4) + 4 ≡ least = omega arith in
     c.cmp-2.ensures ∙ cmp_by_length least a b c.min-least.ensures (subst (λ n. take n a ≡ take n b) whole all)

@@ -7,14 +7,14 @@ use Rattle.ptlines.proofs.cmp.compare_tail.Goals as goal
 pub returns-then-x-y : goal.returns-then-x-y
 returns-then-x-y c =
     c.cmp.ensures ∙ words_differ word_8 c.loop-at.at c.args.a.now c.args.b.now
-    (omega (arith, c.loop-at-test.true, c.min-least.ensures))
+    (omega arith)
     c.type_inv.a c.type_inv.b c.loop-at.invariant.same c.read_u64-x.ensures c.read_u64-y.ensures c.if-x-y.true
 
 pub loop-at-preserved : goal.loop-at-preserved
 loop-at-preserved c = record {
-  within = omega (arith, c.loop-at-test.true);
+  within = omega arith;
   same = words_same word_8 c.loop-at.at c.args.a.now c.args.b.now
-      (omega (arith, c.loop-at-test.true, c.min-least.ensures))
+      (omega arith)
       c.type_inv.a c.type_inv.b c.loop-at.invariant.same c.read_u64-x.ensures c.read_u64-y.ensures c.if-x-y.false;
 }
 
@@ -23,9 +23,9 @@ returns-then-x-y-2 c =
     let least = c.min-least.result in
     let a = c.args.a.now in
     let b = c.args.b.now in
-    let same = shorter_prefix_same (least - 8) c.loop-at.at a b (omega (arith, c.loop-at-test.false))
+    let same = shorter_prefix_same (least - 8) c.loop-at.at a b (omega arith)
     c.loop-at.invariant.same in
-    c.cmp-then-x-y-2.ensures ∙ words_differ word_8 (least - 8) a b (omega (arith, c.requires.long, c.min-least.ensures))
+    c.cmp-then-x-y-2.ensures ∙ words_differ word_8 (least - 8) a b (omega arith)
     c.type_inv.a c.type_inv.b same c.read_u64-x-2.ensures c.read_u64-y-2.ensures c.if-x-y-2.true
 
 pub returns : goal.returns
@@ -33,9 +33,9 @@ returns c =
     let least = c.min-least.result in
     let a = c.args.a.now in
     let b = c.args.b.now in
-    let same = shorter_prefix_same (least - 8) c.loop-at.at a b (omega (arith, c.loop-at-test.false))
+    let same = shorter_prefix_same (least - 8) c.loop-at.at a b (omega arith)
     c.loop-at.invariant.same in
-    let all = words_same word_8 (least - 8) a b (omega (arith, c.requires.long, c.min-least.ensures))
+    let all = words_same word_8 (least - 8) a b (omega arith)
     c.type_inv.a c.type_inv.b same c.read_u64-x-2.ensures c.read_u64-y-2.ensures c.if-x-y-2.false in
-    let whole : (least - 8) + 8 ≡ least = omega (arith, c.requires.long, c.min-least.ensures) in
+    let whole : (least - 8) + 8 ≡ least = omega arith in
     c.cmp-2.ensures ∙ cmp_by_length least a b c.min-least.ensures (subst (λ n. take n a ≡ take n b) whole all)

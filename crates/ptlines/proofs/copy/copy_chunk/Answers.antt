@@ -6,4 +6,4 @@ returns-clause-copied g c =
     let lanes = chunk c.args.from g.row.N c.args.bytes.now in
     let long = length-chunk c.args.from g.row.N c.args.bytes.now c.requires.within in
     take_more_put_chunk c.args.at c.args.into.now lanes (c.args.at + g.row.N) (omega (arith, long))
-    (omega (arith, c.requires.room))
+    (omega arith)

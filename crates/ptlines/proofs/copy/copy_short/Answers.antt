@@ -6,4 +6,4 @@ pub returns-then-bytes-from-ge16-clause-copied : goal.returns-then-bytes-from-ge
 returns-then-bytes-from-ge16-clause-copied c =
     copied_prefix c.args.at (c.args.to - c.args.from) 16 c.args.into.now c.copy_chunk.new.into
     (drop c.args.from c.args.bytes.now)
-    (omega (arith, c.requires.room)) c.if-to-from-le16.true c.copy_chunk.ensures.copied
+    (omega arith) c.if-to-from-le16.true c.copy_chunk.ensures.copied

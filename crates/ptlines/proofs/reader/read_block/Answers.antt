@@ -13,11 +13,11 @@ in_front old new into rest r long =
 
 pub returns-in-Standard-clause-pulled : goal.returns-in-Standard-clause-pulled
 returns-in-Standard-clause-pulled g c =
-    let long : length c.pull.new.into ≡ 8192 = omega (arith, c.pull.auto.into, length-take 8192 c.args.block.now) in
+    let long : length c.pull.new.into ≡ 8192 = omega (arith, length-take 8192 c.args.block.now) in
     rw c.in-Standard.is (in_front _ _ c.pull.new.into _ c.pull.result long c.pull.ensures.pulled)
 
 pub returns-in-File-clause-pulled : goal.returns-in-File-clause-pulled
 returns-in-File-clause-pulled g c =
     let long : length c.pull-in-File.new.into ≡ 8192 =
-    omega (arith, c.pull-in-File.auto.into, length-take 8192 c.args.block.now) in
+    omega (arith, length-take 8192 c.args.block.now) in
     rw c.in-File.is (in_front _ _ c.pull-in-File.new.into _ c.pull-in-File.result long c.pull-in-File.ensures.pulled)

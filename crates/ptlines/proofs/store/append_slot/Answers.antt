@@ -34,7 +34,7 @@ returns-else-from-to-clause-short g c = grind (arith, bounded_front)
 
 pub returns-else-from-to-clause-buffers : goal.returns-else-from-to-clause-buffers
 returns-else-from-to-clause-buffers g c =
-    let near : c.args.to < c.args.from = omega (arith, c.if-from-to.false, c.requires.differ) in
+    let near : c.args.to < c.args.from = omega arith in
     buffers_front c.args.slots.now _ _ c.args.from c.args.to _ c.index-front-to.result c.append-else-from-to.new.self
     c.line-else-from-to.result.now near
     c.requires.from_in c.split_at_mut-front-else-from-to.ensures.front c.split_at_mut-front-else-from-to.ensures.back

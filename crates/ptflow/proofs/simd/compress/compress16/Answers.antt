@@ -23,5 +23,5 @@ returns-clause-packed c flags long masked =
     c.compress8.ensures.packed back others
     (ap (λ (m : ℕ). bit_and (m / 256) 255) (masked ∙ ap mask_l parts) ∙ high_half front back few others) in
     let last = take-map (λ k. get_or (v ++ v) k 0) 8 (range_with_len 8 8 ++ range_with_len 0 8)
-    ∙ pick_l-range_with_len 0 (v ++ v) 8 8 (omega (arith, length-append v v, c.fits-v.0)) in
+    ∙ pick_l-range_with_len 0 (v ++ v) 8 8 (omega (arith, length-append v v)) in
     cc (select_by_halves front back before v turned few others c.fits-v.0 last)

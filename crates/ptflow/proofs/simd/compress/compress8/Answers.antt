@@ -27,6 +27,6 @@ returns-clause-packed c flags long masked =
     let lanes = swz_l w8 16 v 0 row in
     cc (
       selected_stored at (count_ones c.args.keep) into lanes (length-swz_l w8 16 v 0 row ∙ is.long)
-          (omega (arith, ones-le 8 c.args.keep c.ranges.keep.fits)) (omega (arith, c.requires)),
+          (omega (arith, ones-le 8 c.args.keep c.ranges.keep.fits)) (omega arith),
       row_selects v (omega (arith, long, size)) is,
     )

@@ -8,7 +8,7 @@ loop-at-preserved c =
     record {
       kept = filter_piece (set_has c.args.by.set) c.args.pairs.before.now c.args.pairs.bytes.now c.args.pairs.paired
           c.loop-at.invariant.kept 64 (omega arith) made.end made.kept;
-      few = omega (arith, made.end, c.loop-at.invariant.few);
+      few = omega arith;
     }
 
 pub returns-clause-kept : goal.returns-clause-kept

@@ -11,8 +11,8 @@ returns-then-mask-ne0 c =
     let a = c.args in
     let at : 0 + count_trailing_zeros 64 a.mask ≡ count_trailing_zeros 64 a.mask = omega arith in
     let (first, found) = rw at at (first_at_lowest_bit (is_byte a.byte) a.bytes.now 0 a.size a.mask c.requires.few
-    (omega (arith, c.requires.within)) c.requires.is c.if-mask-ne0.true) in
-    (record { low = first.low; high = omega (arith, first.high, c.requires.within); before = first.before }, found)
+    (omega arith) c.requires.is c.if-mask-ne0.true) in
+    (record { low = first.low; high = omega arith; before = first.before }, found)
 
 -- no match is among the first bytes
 front : (byte : ℕ) (bytes : List ℕ) (size : ℕ) {mask : ℕ} → size ≤ length bytes

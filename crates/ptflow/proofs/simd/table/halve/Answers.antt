@@ -8,7 +8,7 @@ loop-index-preserved g c =
     let rows = c.args.rows in
     let found = c.args.found in
     let count = c.args.count in
-    let few : count ≤ length found = omega (arith, loop.invariant.size) in
+    let few : count ≤ length found = omega arith in
     record {
       size = loop.invariant.size;
       filled = filled_next loop.invariant.filled (omega arith)
@@ -21,5 +21,5 @@ returns-clause-kept g c lane low within =
     let inv = c.loop-index.invariant in
     let rows = c.args.rows in
     ap (λ v. get_or v lane 0) (inv.filled.made (get_or rows lane 0 / 2) (omega arith))
-    ∙ halved_lane rows c.args.found c.args.count c.fits-rows.0 c.requires.lanes (omega (arith, inv.size)) lane
+    ∙ halved_lane rows c.args.found c.args.count c.fits-rows.0 c.requires.lanes (omega arith) lane
     low within

@@ -22,4 +22,4 @@ loop-count-preserved g c =
 pub returns-clause-lanes : goal.returns-clause-lanes
 returns-clause-lanes g c =
     let inv = c.loop-count.invariant in
-    inv.long 0 [] (omega (arith, inv.some, inv.few, inv.size))
+    inv.long 0 [] (omega arith)

@@ -16,7 +16,7 @@ pub returns-then-not-prepend-clause-found : goal.returns-then-not-prepend-clause
 returns-then-not-prepend-clause-found c =
     let images = c.args.images.now in
     let n = c.loop-index.index in
-    let one = moved_one n images c.loop-index-test.true (omega (arith, c.told-images))
+    let one = moved_one n images c.loop-index-test.true (omega arith)
     c.if-by-ne0.true in
     let kept = ap (λ (l : List Stretch). length (prepend_shift (n - 1) (shift_of (n - 1) (get_or images (n - 1) 0)) l))
     c.loop-index.invariant.stretches in

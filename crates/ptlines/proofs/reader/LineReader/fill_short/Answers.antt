@@ -10,14 +10,14 @@ pub returns-clause-line : goal.returns-clause-line
 returns-clause-line g c given =
     let r = c.self.inside in
     let buffered = ap (λ r. r.buffered) c.self.view_is in
-    let fits : r.end ≤ length r.block = omega (arith, c.self.invariant.within, c.self.told) in
-    let high : r.start + c.in-Some.size < r.end = omega (arith, c.if-at-self.false) in
+    let fits : r.end ≤ length r.block = omega arith in
+    let high : r.start + c.in-Some.size < r.end = omega arith in
     let clean = ap (λ r. r.fault) c.self.view_is ∙ c.requires.clean in
     let short : c.args.self.now.pulled < 2 ^ 63 =
     omega (arith, c.self.invariant.sound.long clean, ap (λ r. r.pulled) c.self.view_is) in
     let front = take (8256 - r.start) (drop r.start r.block) in
     let is_front : take (r.end - r.start) front ≡ c.args.self.now.buffered =
-    take-take (r.end - r.start) (8256 - r.start) (drop r.start r.block) (omega (arith, c.self.invariant.within))
+    take-take (r.end - r.start) (8256 - r.start) (drop r.start r.block) (omega arith)
     ∙ buffered in
     let first = subst (λ b. IsFirst (Passes (is_byte b) front) 0 64 (Some c.in-Some.size))
     (ap (λ r. r.terminator) c.self.view_is) c.in-Some.ensures in

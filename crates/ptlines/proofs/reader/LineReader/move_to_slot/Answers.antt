@@ -8,7 +8,7 @@ returns-in-Ok-clause-moves g c =
     let n = c.args.count in
     let buffered = ap (λ r. r.buffered) c.self.view_is in
     let order = c.self.invariant.order in
-    let fits : r.end ≤ length r.block = omega (arith, c.self.invariant.within, c.self.told) in (
+    let fits : r.end ≤ length r.block = omega arith in (
       λ i. record (c.self.view_is i) {
         buffered = rest_of_range r.block r.start r.end n c.args.self.now.buffered order
             fits buffered c.requires.within i;

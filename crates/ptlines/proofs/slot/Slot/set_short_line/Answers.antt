@@ -15,8 +15,8 @@ returns g c =
     → take size (with_items buffer (put_chunk 0 was (take n bytes))).items ≡ take size bytes =
     λ n was len few lanes.
     ap (take size) (with_items_is buffer (put_chunk 0 was (take n bytes)) (length-put_chunk 0 was (take n bytes) ∙ len))
-    ∙ copied_vector_prefix size n was bytes few (omega (arith, lanes, c.self.invariant.least, len))
-    (omega (arith, lanes, c.args.near.front.long)) in
+    ∙ copied_vector_prefix size n was bytes few (omega (arith, lanes, len))
+    (omega (arith, lanes)) in
     elim c.if-size-lt16.branch [
       | then-size-lt16 w ↦
           (λ i. record {
@@ -25,7 +25,7 @@ returns g c =
           })
           ∙ (λ i. record {
             line = stored 16 w.deref_mut.result.now w.deref_mut.ensures.len
-                (omega (arith, w.if-size-lt16.true)) (omega arith) i;
+                (omega arith) (omega arith) i;
             buffer_size = (c.self.view_is i).buffer_size;
           })
       | else-size-lt16 w ↦
@@ -35,7 +35,7 @@ returns g c =
           })
           ∙ (λ i. record {
             line = stored 64 w.deref_mut-else-size-lt16.result.now w.deref_mut-else-size-lt16.ensures.len
-                (omega (arith, c.args.near.near)) (omega arith) i;
+                (omega arith) (omega arith) i;
             buffer_size = (c.self.view_is i).buffer_size;
           })
     ]

@@ -10,12 +10,8 @@ use Rattle.std.proofs.lemmas.Grind.{common_steps}
 pub overflow_add-self : goal.overflow_add-self
 overflow_add-self g c =
     let s = c.self.inside.slots in
-    let few : length (slot_lines s.items) < 2 ^ 63 = omega (arith, s.ok, s.small, length-map s.items line_of) in
-    omega (
-      arith,
-      total_fits (slot_lines s.items) (length c.args.bytes.now) c.self.invariant.lines few (omega arith),
-      c.self.invariant.total,
-    )
+    let few : length (slot_lines s.items) < 2 ^ 63 = omega (arith, length-map s.items line_of) in
+    omega (arith, total_fits (slot_lines s.items) (length c.args.bytes.now) c.self.invariant.lines few (omega arith), )
 
 pub invariant_of-self : goal.invariant_of-self
 invariant_of-self g c =
@@ -25,7 +21,7 @@ invariant_of-self g c =
     counted_after_set s.slots.items c.args.slot had low c.index_mut.ensures.value c.self.invariant
     c.append.new.self c.append.ensures.short c.append.ensures.buffer
     (omega (arith, ap length c.in-Ok.ensures.ok, length-append had.line c.args.bytes.now))
-    (omega (arith, c.max-self-inside.ensures)) (omega (arith, c.max-self-inside.ensures))
+    (omega arith) (omega arith)
 
 pub invariant_of-self-in-Err : goal.invariant_of-self-in-Err
 invariant_of-self-in-Err g c = grind (arith, common_steps, slot_in_range, counted_after_set)

@@ -10,7 +10,7 @@ overflow_sub-self g c =
     let s = c.self.inside in
     let low = slot_in_range s.slots.items c.args.slot c.self.view_is c.requires in
     let few = line_le_total s.slots.items c.args.slot c.index.result.now low c.index.ensures c.self.invariant in
-    omega (arith, few, c.size-count.ensures.size)
+    omega (arith, few)
 
 pub invariant_of-self : goal.invariant_of-self
 invariant_of-self g c =
@@ -23,14 +23,14 @@ invariant_of-self g c =
     let none = ap (λ t. length (line_of t)) c.clear.ensures in
     counted_after_set slots c.args.slot had low there c.self.invariant c.clear.new.self
     (omega (arith, none)) (omega (arith, ap (λ t. t.buffer_size) c.clear.ensures))
-    (omega (arith, few, none, c.size-count.ensures.size, ap (λ t. length (line_of t)) same))
-    (omega (arith, c.self.invariant.below_peak)) (omega arith)
+    (omega (arith, few, none, ap (λ t. length (line_of t)) same))
+    (omega arith) (omega arith)
 
 pub returns : goal.returns
 returns g c =
     let counted = invariant_of-self g c in
     store_after_set c.self.inside.slots.items c.args.slot c.self.view_is c.clear.new.self (ap line_of c.clear.ensures)
-    counted.total (omega (arith, counted.below_peak))
+    counted.total (omega arith)
 
 pub index-requires : goal.index-requires
 index-requires g c = grind (arith, common_steps, slot_in_range)

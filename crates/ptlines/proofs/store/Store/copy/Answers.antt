@@ -32,10 +32,10 @@ copied lines cleared after from to byte_count size v differ from_in to_in cleare
 pub overflow_add-self : goal.overflow_add-self
 overflow_add-self g c =
     let s = c.self.inside.slots in
-    let few : length (slot_lines s.items) < 2 ^ 63 = omega (arith, s.ok, s.small, length-map s.items line_of) in
+    let few : length (slot_lines s.items) < 2 ^ 63 = omega (arith, length-map s.items line_of) in
     let fits = total_fits (slot_lines s.items) c.size.result c.self.invariant.lines few
-    (omega (arith, c.size.ensures.short)) in
-    omega (arith, fits, c.self.invariant.total)
+    (omega arith) in
+    omega (arith, fits)
 
 pub invariant_of-self : goal.invariant_of-self
 invariant_of-self g c =
@@ -53,13 +53,13 @@ invariant_of-self g c =
     c.self.invariant.total c.index.ensures c.size.ensures.size in
     let peak = c.max-self-inside.result in
     let below : total_bytes (slot_lines c.append_slot.new.slots) ≤ peak =
-    omega (arith, total, ap (λ l. total_bytes (slot_lines l)) whole, c.max-self-inside.ensures) in
+    omega (arith, total, ap (λ l. total_bytes (slot_lines l)) whole) in
     let fit : AreBuffersBounded peak s.slots.items =
-    λ k d lt. omega (arith, c.self.invariant.buffers k d lt, c.max-self-inside.ensures) in
+    λ k d lt. omega (arith, c.self.invariant.buffers k d lt) in
     let short = subst (λ l. LengthsAreBounded (slot_lines l)) (sym lent) c.self.invariant.lines in
     record {
       total = total;
-      below_peak = omega (arith, c.max-self-inside.ensures);
+      below_peak = omega arith;
       lines = subst (λ l. LengthsAreBounded (slot_lines l)) (sym whole) (c.append_slot.ensures.short short);
       buffers = subst (AreBuffersBounded peak) (sym whole)
           (c.append_slot.ensures.buffers peak below (subst (AreBuffersBounded peak) (sym lent) fit));
@@ -82,7 +82,7 @@ returns-in-Ok-clause-ok g c =
     c.self.invariant.total c.index.ensures c.size.ensures.size in
     let peak : c.max-self-inside.result
     ≡ max c.args.self.now.peak (total_bytes (set was c.args.to (get_or was c.args.from []))) =
-    omega (arith, c.max-self-inside.ensures, emptied_total, total, ap (λ t. t.peak) emptied) in
+    omega (arith, total, ap (λ t. t.peak) emptied) in
     let denied = ap (λ t. t.denied) emptied in
     λ i. record { lines = (ap slot_lines whole ∙ lines) i; peak = peak i; denied = denied i }
 

@@ -20,22 +20,22 @@ put_counted slots slot had low is counted was was_is bytes size near within new 
     let long : length new.line ≡ size =
     ap (λ t. length t.line) new_is ∙ length-take-le size bytes (omega (arith, near, within)) in
     counted_after_set slots slot had low is counted new (omega (arith, long, near))
-    (omega (arith, ap (λ t. t.buffer_size) new_is)) (omega (arith, few, long, was_is)) less more
+    (omega (arith, ap (λ t. t.buffer_size) new_is)) (omega (arith, few, long)) less more
 
 pub overflow_sub-self : goal.overflow_sub-self
 overflow_sub-self g c =
     let s = c.self.inside in
     let low = slot_in_range s.slots.items c.args.slot c.self.view_is c.requires in
     let few = line_le_total s.slots.items c.args.slot c.index.result.now low c.index.ensures c.self.invariant in
-    omega (arith, few, c.size-was.ensures.size)
+    omega (arith, few)
 
 pub overflow_add-self : goal.overflow_add-self
 overflow_add-self g c =
     let s = c.self.inside.slots in
-    let few : length (slot_lines s.items) < 2 ^ 63 = omega (arith, s.ok, s.small, length-map s.items line_of) in
+    let few : length (slot_lines s.items) < 2 ^ 63 = omega (arith, length-map s.items line_of) in
     let fits = total_fits (slot_lines s.items) c.args.near.size c.self.invariant.lines few
-    (omega (arith, c.args.near.near)) in
-    omega (arith, fits, c.self.invariant.total)
+    (omega arith) in
+    omega (arith, fits)
 
 -- the new peak is the total, or the old peak
 pub invariant_of-self : goal.invariant_of-self
@@ -47,7 +47,7 @@ invariant_of-self g c =
     c.size-was.result (c.size-was.ensures.size ∙ ap (λ t. length (line_of t)) same)
     c.args.near.front.bytes.now c.args.near.size c.args.near.near c.args.near.front.long c.set_short_line.new.self
     c.set_short_line.ensures _ (omega arith)
-    (omega (arith, c.self.invariant.below_peak, c.if-self.true))
+    (omega arith)
 
 pub invariant_of-self-else-self : goal.invariant_of-self-else-self
 invariant_of-self-else-self g c =
@@ -57,20 +57,20 @@ invariant_of-self-else-self g c =
     put_counted s.slots.items c.args.slot c.index_mut.result.now low c.index_mut.ensures.value c.self.invariant
     c.size-was.result (c.size-was.ensures.size ∙ ap (λ t. length (line_of t)) same)
     c.args.near.front.bytes.now c.args.near.size c.args.near.near c.args.near.front.long c.set_short_line.new.self
-    c.set_short_line.ensures s.peak (omega (arith, c.if-self.false))
+    c.set_short_line.ensures s.peak (omega arith)
     (omega arith)
 
 pub returns-then-self : goal.returns-then-self
 returns-then-self g c =
     store_after_set c.self.inside.slots.items c.args.slot c.self.view_is c.set_short_line.new.self
     (ap line_of c.set_short_line.ensures) (invariant_of-self g c).total
-    (omega (arith, c.self.invariant.below_peak, c.if-self.true))
+    (omega arith)
 
 pub returns-else-self : goal.returns-else-self
 returns-else-self g c =
     store_after_set c.self.inside.slots.items c.args.slot c.self.view_is c.set_short_line.new.self
     (ap line_of c.set_short_line.ensures) (invariant_of-self-else-self g c).total
-    (omega (arith, c.self.invariant.below_peak, c.if-self.false))
+    (omega arith)
 
 pub index-requires : goal.index-requires
 index-requires g c = grind (arith, common_steps, slot_in_range)

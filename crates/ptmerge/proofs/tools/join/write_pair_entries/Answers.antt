@@ -22,7 +22,7 @@ loop-slot-preserved g c = record {
       (group_from c.args.store.now c.args.end c.loop-slot.slot c.requires.group.within c.loop-slot-test.true))
       c.loop-slot.invariant.amid
       (rw (sym c.line-other.ensures) c.write_entry.ensures.wrote) c.in_ok-write_entry.ensures.clean;
-  from = omega (arith, c.loop-slot.invariant.from);
+  from = omega arith;
 }
 
 pub returns : goal.returns

@@ -19,13 +19,8 @@ here c =
     let is = mask_from p m.size c.args.from m.bytes.now m.is in
     let counted = ap count_ones is ∙ ones-mask_l p v in
     c.nth_bit-at.ensures p v
-    (omega (
-      arith,
-      m.few,
-      m.within,
-      length-take-le (m.size - c.args.from) (drop c.args.from m.bytes.now)
-          (omega (arith, m.within, length-drop c.args.from m.bytes.now)),
-    )) is (omega (arith, counted))
+    (omega (arith, length-take-le (m.size - c.args.from) (drop c.args.from m.bytes.now)
+          (omega (arith, length-drop c.args.from m.bytes.now)), )) is (omega (arith, counted))
 
 pub returns-in_err-at : goal.returns-in_err-at
 returns-in_err-at c =
@@ -44,7 +39,7 @@ returns-then-before-eq0 c =
           (first_is_nth m.byte m.bytes.now c.args.to c.requires.1 c.in_ok-at.at first w.if-at-to.true)
       | else-at-to w ↦ rw w.result-is
           (no_nth_before_first m.byte m.bytes.now c.args.to c.requires.1 c.in_ok-at.at first
-          (omega (arith, w.if-at-to.false)))
+          (omega arith))
     ])
 
 pub returns-then-at-len : goal.returns-then-at-len
@@ -55,9 +50,9 @@ returns-then-at-len c =
     let start : 0 + at ≡ at = omega arith in
     let none : count_by (is_byte m.byte) (take 0 rest) + c.args.before ≡ c.args.before = omega arith in
     let all : length rest ≡ length m.bytes.now - c.args.from = length-drop c.args.from m.bytes.now in
-    let near : 0 + at < c.args.to - c.args.from = omega (arith, c.if-at-len.true) in
+    let near : 0 + at < c.args.to - c.args.from = omega arith in
     rw start at (rw none at (nth_in_prefix (is_byte m.byte) rest (m.size - c.args.from) 0 c.args.before at
-    (omega (arith, all, m.within)) (here (goal.at.returns-then-at-len c).After-nth_bit-at)
+    (omega (arith, all)) (here (goal.at.returns-then-at-len c).After-nth_bit-at)
     near (omega (arith, all))))
 
 pub returns-else-at-len : goal.returns-else-at-len
@@ -66,12 +61,12 @@ returns-else-at-len c =
     let rest = drop c.args.from m.bytes.now in
     let all : length rest ≡ length m.bytes.now - c.args.from = length-drop c.args.from m.bytes.now in
     let counted = count_in_prefix (is_byte m.byte) rest (m.size - c.args.from) 0 c.args.before c.nth_bit-at.result
-    (omega (arith, all, m.within)) (here (goal.at.returns-else-at-len c).After-nth_bit-at) in
+    (omega (arith, all)) (here (goal.at.returns-else-at-len c).After-nth_bit-at) in
     omega (
       arith,
       counted,
       count_up_to (is_byte m.byte) rest (c.args.to - c.args.from) (0 + c.nth_bit-at.result)
-          (omega (arith, c.if-at-len.false)),
+          (omega arith),
     )
 
 pub returns-then-before-len : goal.returns-then-before-len

@@ -19,7 +19,7 @@ returns-clause-copied c =
       | else-is_short w ↦ cc (w.copy_pieces-end.ensures.copied)
     ] in
     let near : end ≤ c.args.at + part.count = elim c.if-is_short.branch [
-      | then-is_short w ↦ omega (arith, w.end-is)
-      | else-is_short w ↦ omega (arith, w.end-is)
+      | then-is_short w ↦ omega arith
+      | else-is_short w ↦ omega arith
     ] in
     line_copied list end part.bytes.now was c.if-is_short.into (omega arith) (omega arith) (omega arith) copied

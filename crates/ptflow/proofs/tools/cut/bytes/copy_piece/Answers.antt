@@ -8,7 +8,7 @@ pub swizzle : goal.swizzle
 swizzle c =
     let by = c.args.by.now in
     let is = by.are_shuffles.pieces c.args.index (omega arith) in
-    SwzOk-from_below w8 16 1 16 0 (piece_at by.shuffles.pieces c.args.index).row refl (omega (arith, is.long))
+    SwzOk-from_below w8 16 1 16 0 (piece_at by.shuffles.pieces c.args.index).row refl (omega arith)
     (shuffle_lanes _ is)
 
 pub returns-clause-copied : goal.returns-clause-copied
@@ -22,4 +22,4 @@ pub returns-clause-near : goal.returns-clause-near
 returns-clause-near c =
     let is = c.args.by.now.are_shuffles.pieces c.args.index (omega arith) in
     let few = shuffle_few _ is c.args.count (omega arith) in
-    (omega arith, omega (arith, few, c.from.ensures))
+    (omega arith, omega (arith, few))

@@ -9,5 +9,5 @@ returns-clause-copied c =
     let loop = c.loop-index in
     loop.invariant.copied
     ∙ ap (◌++◌ (take c.args.at c.args.into.now)) (none_later (is_selected by.selected.now) c.args.line.now
-    (λ k later upto. by.are_shuffles.max_len k (omega (arith, later, c.loop-index-test.false, loop.auto)) upto)
+    (λ k later upto. by.are_shuffles.max_len k (omega (arith, later)) upto)
     loop.invariant.within c.requires.few (omega arith))

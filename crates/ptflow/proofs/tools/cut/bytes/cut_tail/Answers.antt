@@ -18,8 +18,8 @@ lines-preserved c =
           (take loop.at loop.into) (cut_piece list loop.line_offset count (take (count + 1) rest))
           loop.invariant.cut c.copy_selected-at.ensures.copied
           (line_on c.args.by.now.terminator rest count c.in-Some.ensures (is_selected list) loop.line_offset);
-      near = omega (arith, length-drop (count + 1) rest, first.high);
-      bound = omega (arith, length-drop (count + 1) rest, first.high);
+      near = omega (arith, length-drop (count + 1) rest);
+      bound = omega (arith, length-drop (count + 1) rest);
     })
 
 pub returns-clause-cut : goal.returns-clause-cut

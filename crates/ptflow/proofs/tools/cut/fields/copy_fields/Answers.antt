@@ -33,7 +33,7 @@ slice_near g c =
     let part = take (slice.end - slice.start) (drop slice.start line) in
     let long : length line ≡ c.args.to = length-take-le c.args.to c.args.delimiters.now.bytes.now (omega arith) in
     let size : length part ≡ slice.end - slice.start = length-take-le (slice.end - slice.start) (drop slice.start line)
-    (omega (arith, next.within, next.order, length-drop slice.start line)) in
+    (omega (arith, length-drop slice.start line)) in
     let rest = output_from_cursor c.args.delimiters.now.byte c.intervals-selected.result.now line slice.next in
     let near = output_is_near c.args.start loop.end c.args.room.now loop.room (cut_fields job line) part rest
     (cc (loop.invariant.copied, next.output)) (omega arith) (omega arith) in
@@ -48,18 +48,12 @@ slices-preserved g c =
     let loop = c.slices in
     let size = slice.end - slice.start in
     let long : length (take to bytes) ≡ to = length-take-le to bytes (omega arith) in
-    let within : slice.start + size ≤ to = omega (arith, long, next.within, next.order) in
+    let within : slice.start + size ≤ to = omega (arith, long) in
     let rest = output_from_cursor c.args.delimiters.now.byte c.intervals-selected.result.now (take to bytes) slice.next
     in
     record {
       copied =
-          cc (
-            loop.invariant.copied,
-            next.output,
-            slice_of slice.start size bytes within,
-            c.copy_short.ensures.copied,
-            append_assoc (take loop.end loop.room) (take size (drop slice.start bytes)) rest,
-          );
+          cc (slice_of slice.start size bytes within, append_assoc (take loop.end loop.room) (take size (drop slice.start bytes)) rest, );
       cursor = next.next;
       low = omega arith;
       high = slice_near g (goal.at.slices-preserved g c).In-Some;

@@ -37,6 +37,6 @@ returns-clause-continues g c =
     let next = line c.args.store.now 1 in
     subst (λ l. RunsWritten (uniq_job c.args.self.now.job.now) (current_run_of c.args.run.now c.args.store.now)
     (run_of l 1) (next ∷ []) c.args.out.now c.write_current.new.out)
-    (sym (swapped_first c.args.store.now (omega (arith, c.requires.room)) c.swap.ensures))
+    (sym (swapped_first c.args.store.now (omega arith) c.swap.ensures))
     (steps_written (steps_next (before g at) next (cc (test g at))) c.write_current.ensures.wrote refl
     (λ _. c.in_ok-write_current.ensures.clean))

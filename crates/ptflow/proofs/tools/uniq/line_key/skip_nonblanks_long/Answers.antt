@@ -9,11 +9,11 @@ returns-then-at g c =
     let line = c.args.line.now in
     let space = c.find_or_n.ensures in
     let tab = c.find_or_n-2.ensures in
-    let near : min c.find_or_n.result c.find_or_n-2.result < g.row.N = omega (arith, c.min-at.ensures, c.if-at.true) in
+    let near : min c.find_or_n.result c.find_or_n-2.result < g.row.N = omega arith in
     cc (
       take_rest line c.min-at.result,
       both_near line c.find_or_n.result c.find_or_n-2.result space.before tab.before space.found tab.found
-          (omega (arith, c.requires.within)) near,
+          (omega arith) near,
     )
 
 pub returns : goal.returns
@@ -22,7 +22,7 @@ returns g c =
     let space = c.find_or_n.ensures in
     let tab = c.find_or_n-2.ensures in
     let all : min c.find_or_n.result c.find_or_n-2.result ≡ g.row.N =
-    omega (arith, c.min-at.ensures, c.if-at.false, space.within, tab.within) in
+    omega arith in
     c.skip_nonblanks_cold.ensures ∙ ap after_nonblanks (take_rest line g.row.N ∙ ap (λ at. drop at line) (sym all))
     ∙ sym (both_later line c.find_or_n.result c.find_or_n-2.result space.before tab.before
-    (omega (arith, all, c.requires.within)))
+    (omega (arith, all)))

@@ -14,7 +14,7 @@ returns-clause-passed c =
     let members = marked_members s.fill s.segment in
     let later = member_results s.fill (segments s.role s.has_fill (set_elements (chars (drop s.at s.text.now)))) in
     let count = c.repeats_of-count.result in
-    let passed : c.saturating_sub-passed.result ≡ count - s.index = omega (arith, c.saturating_sub-passed.ensures) in
+    let passed : c.saturating_sub-passed.result ≡ count - s.index = omega arith in
     let copies = plain_members (replicate (count - s.index) b) in
     rw passed (ap (λ ms. map {B = Result Member SetFaultKind} Ok ms ++ later)
     (copies-passed count s.index b members c.repeats_of-count.ensures)

@@ -42,7 +42,7 @@ loop-member-preserved c =
           (m ∷ plain_members copies)
           (step ∙ ap (λ rs. Ok m ∷ rs) c.skip_repeats-more.ensures.passed)
           (λ h. c.push.ensures.is _ h ∙ ap contents_of (sym bytes));
-      most = omega (arith, c.push.ensures.length, fewer, c.loop-member.invariant.most);
+      most = omega arith;
     }
 
 pub returns-clause-is : goal.returns-clause-is

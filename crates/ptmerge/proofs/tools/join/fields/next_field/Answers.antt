@@ -27,7 +27,7 @@ pieces-preserved c =
       | Some b ↦ λ m. skip_empty_word c.args.separator c.in-Some.bytes.now field (Some b.now) none empty m
     ] in
     record {
-      same = cc (word c.first_piece.ensures.first, c.in-Some.is, c.pieces.invariant.same);
+      same = cc (word c.first_piece.ensures.first);
       ends = remaining_after c.args.separator (option_copied c.args.line) (Some c.in-Some.bytes.now) field
           (option_copied c.first_piece.result.1) ends c.first_piece.ensures.is_piece;
     }

@@ -7,6 +7,6 @@ loop-slot-preserved g c =
     let i = c.loop-slot.invariant in
     record {
       cleared = clears_more c.args.store.now c.loop-slot.store c.clear.new.self c.loop-slot.slot i.from
-          (omega (arith, c.requires.1, c.loop-slot-test.true)) i.cleared c.clear.ensures;
-      from = omega (arith, i.from);
+          (omega arith) i.cleared c.clear.ensures;
+      from = omega arith;
     }

@@ -9,7 +9,7 @@ pub returns-in_err-write_prefixed_field : goal.returns-in_err-write_prefixed_fie
 returns-in_err-write_prefixed_field g c =
     each_fails (λ (l : List ℕ). 32 ∷ l)
     (others_more _ _
-    (omega (arith, c.loop-passed-test.true, c.saturating_sub-passed-end.ensures)) c.in-Some.ensures.first)
+    (omega arith) c.in-Some.ensures.first)
     c.loop-passed.invariant
     c.write_prefixed_field.ensures.wrote c.in_err-write_prefixed_field.ensures.fault _ c.from_residual.ensures.1
 
@@ -17,12 +17,12 @@ pub loop-passed-preserved : goal.loop-passed-preserved
 loop-passed-preserved g c =
     each_more (λ (l : List ℕ). 32 ∷ l)
     (others_more (c.args.number - 1) c.loop-passed._passed
-    (omega (arith, c.loop-passed-test.true, c.saturating_sub-passed-end.ensures)) c.in-Some.ensures.first)
+    (omega arith) c.in-Some.ensures.first)
     c.loop-passed.invariant
     c.write_prefixed_field.ensures.wrote c.in_ok-write_prefixed_field.ensures.clean
 
 pub returns-in-Some-next_field : goal.returns-in-Some-next_field
 returns-in-Some-next_field g c =
     partial_ends (ap (with_prefix 32) (others_rest ((c.args.number - 1) - c.loop-passed._passed)
-    (omega (arith, c.loop-passed-test.false, c.saturating_sub-passed-end.ensures)) c.in-Some-next_field.ensures.first))
+    (omega arith) c.in-Some-next_field.ensures.first))
     c.loop-passed.invariant c.write_words.ensures

@@ -4,4 +4,4 @@ use Rattle.ptmerge.proofs.tools.join.words.after_first_run.Goals as goal
 
 pub overflow_add-result : goal.overflow_add-result
 overflow_add-result c =
-    record { fits = omega (arith, or_lt 63 c.args.mask (c.args.mask - 1) c.requires.1 (omega (arith, c.requires.1))) }
+    record { fits = omega (arith, or_lt 63 c.args.mask (c.args.mask - 1) c.requires.1 (omega arith)) }

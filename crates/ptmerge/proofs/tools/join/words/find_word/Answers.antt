@@ -7,7 +7,7 @@ use Rattle.ptmerge.proofs.tools.join.words.find_word.Goals as goal
 
 pub returns-then-words-eq0 : goal.returns-then-words-eq0
 returns-then-words-eq0 c = none_left c.requires.short c.loop-passed.invariant c.args.number c.if-words-eq0.true
-    (omega (arith, c.loop-passed-test.true, c.saturating_sub-passed-end.ensures))
+    (omega arith)
 
 pub after_first_run-words-requires : goal.after_first_run-words-requires
 after_first_run-words-requires c = search (rules, words_small)

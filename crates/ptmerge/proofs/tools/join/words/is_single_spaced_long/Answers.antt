@@ -12,7 +12,7 @@ returns-then-not-are_single_spaces c =
     let at = c.loop-at.at in
     let blank = c.loop-at.before == 1 in
     let v = chunk at 64 bytes in
-    let room : at + 64 ≤ length bytes = omega (arith, c.loop-at.invariant.within, c.loop-at-test.true) in
+    let room : at + 64 ≤ length bytes = omega arith in
     let few : length v ≤ 64 = omega (arith, length-chunk at 64 bytes room) in
     let misplaced = sym (c.are_single_spaces.ensures v few c.blanks_in-blanks.ensures)
     ∙ c.if-not-are_single_spaces.true in
@@ -24,7 +24,7 @@ loop-at-preserved c =
     let at = c.loop-at.at in
     let blank = c.loop-at.before == 1 in
     let v = chunk at 64 bytes in
-    let room : at + 64 ≤ length bytes = omega (arith, c.loop-at.invariant.within, c.loop-at-test.true) in
+    let room : at + 64 ≤ length bytes = omega arith in
     let few : length v ≤ 64 = omega (arith, length-chunk at 64 bytes room) in
     let spaced = sym (c.are_single_spaces.ensures v few c.blanks_in-blanks.ensures)
     ∙ c.if-not-are_single_spaces.false in

@@ -10,7 +10,7 @@ loop-index-preserved g c =
     let selected = is_selected c.args.list.now in
     let start = c.args.start in
     let loop = c.loop-index in
-    let position : start + c.from.result + 1 ≡ start + (loop.index + 1) = omega (arith, c.from.ensures) in
+    let position : start + c.from.result + 1 ≡ start + (loop.index + 1) = omega arith in
     shuffle_next (selected_after selected start) (omega arith) loop.invariant
     (c.from-count.ensures ∙ ap bool_byte c.contains.ensures ∙ ap (λ n. bool_byte (selected n)) position)
     (ap (λ n. set loop.counts (n + 1) (loop.count + c.from-count.result)) c.from-in-loop-index.ensures)
