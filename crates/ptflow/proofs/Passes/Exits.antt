@@ -25,7 +25,7 @@ pub record Progress (old reader : Reader) (was is : Output) (given pushed : List
 
 pub progress_none : (old : Reader) (was : Output) → old.fault ≡ None → was.write_failed ≡ false
     → Progress old old was was [] []
-progress_none old was readable clean = grind (arith, common_steps)
+progress_none = grind (arith, common_steps)
 
 -- the buffered output was written
 abbrev pub progress_flushed : {old reader : Reader} {was is is' : Output} {given pushed : List ℕ}
@@ -65,12 +65,12 @@ pub by_write : {A : Type 0} {tool : ToolSpec} {old new : Reader} {was is : Outpu
     {result : Result (Unit {0}) FlowFault}
     → A × IsErrAnd result (λ fault. fault ≡ Write)
     → PassPost tool old new was is before store (Err Write) → PassPost tool old new was is before store result
-by_write {result} returned post = grind arith
+by_write = grind arith
 
 -- on an output that has failed, nothing is done
 pub pass_unchanged : (tool : ToolSpec) (old : Reader) (was : Output) (before : Slots) → PassPre old before
     → was.write_failed ≡ true → PassPost tool old old was was before before (Err Write)
-pass_unchanged tool old was before ready fault = grind (arith, call_on_failed_output)
+pass_unchanged = grind (arith, call_on_failed_output)
 
 -- the terminator of the reader was set before the call
 module _ (old : Reader) {set : Reader} {end : ℕ} where
@@ -81,7 +81,7 @@ module _ (old : Reader) {set : Reader} {end : ℕ} where
       {result : Result (Unit {0}) FlowFault} → PassPost tool set new was is before store result
       → set ≡ record old { terminator = end } → end ≡ tool.end → was.write_failed ≡ false
       → PassPost tool old new was is before store result
-  pass_set {tool} {new} {was} {is} {before} {store} post same ends clean = grind (arith, call_set)
+  pass_set = grind (arith, call_set)
 
 -- a slot could not be allocated
 pub pass_unslotted : (tool : ToolSpec) {old : Reader} (was : Output) {before store : Slots} → PassPre old before
@@ -89,14 +89,13 @@ pub pass_unslotted : (tool : ToolSpec) {old : Reader} (was : Output) {before sto
     → store.peak ≡ before.peak → store.denied ≡ true → old.terminator ≡ tool.end
     → IsPrefix (tool.decided (record { bytes = []; eof = false })) []
     → PassPost tool old old was was before store (Err Memory)
-pass_unslotted tool {old} was {before} {store} ready sound clean adds few same denied ends decided =
-    grind (arith, call_without_slots)
+pass_unslotted = grind (arith, call_without_slots)
 
 -- a tool that is given a store that is not denied, and leaves it unchanged, never returns `Memory`
 pub never_memory : {tool : ToolSpec} {old new : Reader} {was is : Output} {store : Slots}
     {result : Result (Unit {0}) FlowFault}
     → store.denied ≡ false → PassPost tool old new was is store store result → result ≡ Err Memory → ⊥
-never_memory not_denied post is_memory = grind arith
+never_memory = grind arith
 
 -- After the last step, a call reads a piece, and then it ends.
 pub record PassEnding {X : Type 0} {rest_from : X → List ℕ → List ℕ} {start now : X} {old reader : Reader}

@@ -120,7 +120,7 @@ module _ {S X E : Type 0} {tool : ToolSpec} {state : S → Slots → X} {rest_fr
 
       -- the lines with no output yet are at most the lines that were read
       pub run_count : IsSound old → IsSound reader → counted now ≤ 2 ^ 63
-      run_count sound is_sound = omega (arith, lines_few)
+      run_count = omega (arith, lines_few)
 
       -- some lines more were read
       run_more : {new : Reader} {bytes : List ℕ} (ls : List (List ℕ)) → AdvanceOk reader new bytes
@@ -194,13 +194,13 @@ module _ {S X E : Type 0} {tool : ToolSpec} {state : S → Slots → X} {rest_fr
 
       works_piece : {new : Reader} {piece : List ℕ} → ReaderAdvance reader new piece → IsLine end piece → IsSound new
           → LaggedOutput tool (received piece new) (written run.passed)
-      works_piece {new} {piece} reads free is_sound = grind (arith, works_line)
+      works_piece = grind (arith, works_line)
 
       -- the slots hold at most the maximum length of a line, for each consistent input
       kept : {after : Slots} {most : ℕ} (given : Received) → SlotBounds width most before after
           → ((input : List ℕ) → IsConsistent given input → most ≤ max_line_length end input)
           → StoreBounds tool before after given
-      kept given bounds short = grind arith
+      kept = grind arith
 
       keeps_last : {after : Slots} (bytes : List ℕ) → after ≡ with_line store (width - 1) bytes
           → SlotBounds width (max (max_length run.ls) (length bytes)) before after
@@ -227,7 +227,7 @@ module _ {S X E : Type 0} {tool : ToolSpec} {state : S → Slots → X} {rest_fr
             → LaggedOutput tool (received piece new) (written run.passed)
             → PassEnding tool midway new before after piece
         unfolding midway
-        ending reads stored processing = grind arith
+        ending = grind arith
 
         -- the first part of a line was read
         module _ {new : Reader} {piece : List ℕ} (reads : ReaderAdvance reader new piece) (free : IsLine end piece)

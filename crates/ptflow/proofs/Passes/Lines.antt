@@ -35,7 +35,7 @@ line_split end (b ∷ bytes) =
 -- the complete lines come before those of the continuation
 pub complete_prefix : (end : ℕ) (bytes rest : List ℕ)
     → lines end (bytes ++ rest) ≡ complete_lines end bytes ++ lines end ((line_split end bytes).piece ++ rest)
-complete_prefix end bytes rest = grind (arith, common_steps, line_split, append_assoc, lines_of_unlines)
+complete_prefix = grind (arith, common_steps, line_split, append_assoc, lines_of_unlines)
 
 -- the bytes before the first terminator, and those after it
 module _ (end : ℕ) (bytes : List ℕ) (at : ℕ) (first : IsFirstByte (is_byte end) bytes (Some at)) where
@@ -78,5 +78,4 @@ module _ (end : ℕ) where
   -- no complete line is left
   pub taken_all : {block rest : List ℕ} → IsLine end rest → TakenLines end block rest
       → take (length block - length rest) block ≡ unlines end (complete_lines end block)
-  taken_all {block} {rest} none taken =
-      grind (arith, common_steps, length-append, take_at, complete_lines_none, append-nil)
+  taken_all = grind (arith, common_steps, length-append, take_at, complete_lines_none, append-nil)

@@ -23,7 +23,7 @@ push_then p q = record { wrote = wrote_then _ _ _ p q.wrote; clean = q.clean; fa
 -- a push failed, and so did the call
 pub push_failed : {E : Type 0} {a b : Output} {xs : List ℕ} {r : Result (Unit {0}) E} {e : E} → r ≡ Err e
     → PushEffect a b xs → b.write_failed ≡ true → PushPost a b xs r
-push_failed {a = a} {b = b} {xs = xs} failed wrote fault = grind (arith, common_steps)
+push_failed = grind (arith, common_steps)
 
 pub record WrittenPrefix (whole rest : List ℕ) (was is : Output) : Type 0 where
   pub pushed : List ℕ

@@ -50,7 +50,7 @@ bounds_start {width} {store} adds denied empty peak = record {
 
 pub bounds_weaker : {width most : ℕ} (more : ℕ) {before store : Slots} → SlotBounds width most before store
     → most ≤ more → SlotBounds width more before store
-bounds_weaker {width} more bounds high = grind arith
+bounds_weaker = grind arith
 
 -- a line was put into a slot
 pub bounds_line : {width most : ℕ} {before store : Slots} (new : Slots) (slot : ℕ) (bytes : List ℕ)
@@ -62,7 +62,7 @@ bounds_line {width} {most} {store} new slot bytes bounds within fits is = record
   short = short;
   others = others;
   peak =
-      omega (arith, ap (λ s. s.peak) is, ap (λ s. total_bytes s.lines) is, bounded_total width most new.lines short others, );
+      omega (arith, ap (λ s. s.peak) is, ap (λ s. total_bytes s.lines) is, bounded_total width most new.lines short others);
 }
   where
     same_length : length new.lines ≡ length store.lines
@@ -77,7 +77,7 @@ bounds_line {width} {most} {store} new slot bytes bounds within fits is = record
 -- the first and the last slot may have been swapped
 pub swapped_room : {width : ℕ} {before after : Slots} → IsSwapped width before after → 0 < width
     → width ≤ length before.lines → width ≤ length after.lines
-swapped_room {width} {before} either some room = grind (arith, common_steps, swap_is, length-set)
+swapped_room = grind (arith, common_steps, swap_is, length-set)
 
 pub bounds_swapped : {width most : ℕ} {before store : Slots} (new : Slots) → 0 < width
     → SlotBounds width most before store → IsSwapped width store new → SlotBounds width most before new
@@ -130,4 +130,4 @@ bounds_cleared {width} {most} {store} {new} bounds some last cleared = (
         let more = drop_more store.lines (width - 1) [] (omega arith) in
         let behind = ap total_bytes more ∙ sum_by-cons length (get_or store.lines (width - 1) [])
         (drop (width - 1 + 1) store.lines) in
-        omega (arith, behind, ap length last, ap (λ n. total_bytes (drop n store.lines)) one, )
+        omega (arith, behind, ap length last, ap (λ n. total_bytes (drop n store.lines)) one)

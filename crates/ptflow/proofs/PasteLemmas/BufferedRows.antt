@@ -73,7 +73,7 @@ both_consumed {a} p q = grind (arith, common_steps)
 
 pub consumed_more : {old now : List Reader} {input : ℕ} {b r : Reader} → AreConsumed old now → input < length now
     → b ≡ reader_at now input → IsConsumed b r → AreConsumed old (set now input r)
-consumed_more {old} {now} {input} {b} {r} c low is_read step = search (rules, each_reader, both_consumed)
+consumed_more = search (rules, each_reader, both_consumed)
 
 pub consumed_trans : {a b c : List Reader} → AreConsumed a b → AreConsumed b c → AreConsumed a c
 consumed_trans p q = grind (arith, both_consumed)

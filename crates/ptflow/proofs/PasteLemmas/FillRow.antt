@@ -122,7 +122,7 @@ module _ {cells : List ℕ} {fields : List (List ℕ)} {before store : Slots} (s
         → CellsTaken cells n old new fields input_lines → (first : Slots) (top : ℕ → ℕ)
         → SlotsBound cells top first before
         → ((input : ℕ) → max_length (input_lines input) ≤ top input) → SlotsBound cells top first store
-    slots_kept_by_lines {input_lines = input_lines} t first top k high = grind (arith, line_le_max_length)
+    slots_kept_by_lines = grind (arith, line_le_max_length)
 
 -- ---- readers by their indices
 
@@ -137,7 +137,7 @@ at_other readers input other r differ = get_or-set_other readers input other r n
 -- A fact of each reader, after one of them was set.
 pub each_reader : (P : ℕ → Reader → Type 0) (readers : List Reader) {input : ℕ} {r : Reader} → input < length readers
     → P input r → ((q : ℕ) → q ≢ input → P q (reader_at readers q)) → (q : ℕ) → P q (reader_at (set readers input r) q)
-each_reader P readers {input} {r} low here other q = grind (arith, at_same, at_other)
+each_reader = grind (arith, at_same, at_other)
 
 -- The reader that an index expression read.
 pub at_index : (readers : List Reader) (input : ℕ) (r : Reader) → input < length readers
@@ -172,21 +172,13 @@ pub set_terminator_more : (end : ℕ) (cells : List ℕ) (i : ℕ) (old now : Li
     → get_or cells i 0 < length now → SetTerminatorsPost end (take i cells) old now
     → r ≡ record (reader_at now (get_or cells i 0)) { terminator = end } → IsSound r
     → SetTerminatorsPost end (take (i + 1) cells) old (set now (get_or cells i 0) r)
-set_terminator_more end cells i old now r low within a told sound = grind (
-  arith,
-  common_steps,
-  each_reader,
-  uses_here,
-  uses_other,
-)
+set_terminator_more = grind (arith, common_steps, each_reader, uses_here, uses_other)
 
 or-true : (t : Bool) → (t || true) ≡ true
-or-true true = refl
-or-true false = refl
+or-true = grind arith
 
 or-false : (t : Bool) → (t || false) ≡ t
-or-false true = refl
-or-false false = refl
+or-false = grind arith
 
 -- ---- the lines of a row
 
@@ -382,7 +374,7 @@ module _ {row : RowShape} where
   pub amid_starts : {mid : List Reader} {begun : BegunText} {store : Slots} {fields : List (List ℕ)}
       → CellsFilled row.cells begun.count mid begun.readers fields begun.any_line
       → begun.text ≡ cells_text row 0 fields → RowAmid row begun.count mid store begun store
-  amid_starts {begun = begun} {fields = fields} f is = grind (arith, common_steps, slots_kept_start)
+  amid_starts = grind (arith, common_steps, slots_kept_start)
 
   module _ {n : ℕ} {from : List Reader} {first store : Slots} {now : BegunText} (a : RowAmid row n from first now store)
       {b : Reader} (x : IsNextReader row now.readers n b) where
@@ -425,7 +417,7 @@ module _ {row : RowShape} where
   amid_copied : {n : ℕ} {from : List Reader} {first store : Slots} {now : BegunText}
       → RowAmid row (n + 1) from first now store → now.count ≡ n
       → RowAmid row (n + 1) from first (with_slot row n store now) store
-  amid_copied {n} {store = store} {now = now} a here = grind (arith, common_steps, cells_text-push, length-take-le)
+  amid_copied = grind (arith, common_steps, cells_text-push, length-take-le)
 
   -- More fields were copied from the buffers.
   amid_columns : {from : List Reader} {first store : Slots} {now next : BegunText}
@@ -477,10 +469,9 @@ module _ {row : RowShape} where
 
 after_fill : (b r : Reader) (before after : Slots) (slot : ℕ) (has : Bool) → FillPost b r before after slot (Ok has)
     → (r.fault ≡ None) × (r.terminator ≡ b.terminator)
-after_fill b r before after slot true e = (e.advance_ok.fault, e.advance_ok.reads.terminator)
-after_fill b r before after slot false (advance_ok, done, kept) = grind arith
+after_fill = grind arith
 
 pub readable_after : {row : RowShape} {now : List Reader} {n : ℕ} {b : Reader} → IsNextReader row now n b → (r : Reader)
     → BufferedRowsPre row now → (before after : Slots) (slot : ℕ) (has : Bool)
     → FillPost b r before after slot (Ok has) → BufferedRowsPre row (set now (get_or row.cells n 0) r)
-readable_after x r ready before after slot has e = search (rules, same_end, after_fill, each_reader)
+readable_after = search (rules, same_end, after_fill, each_reader)

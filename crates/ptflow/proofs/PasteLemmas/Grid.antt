@@ -38,8 +38,12 @@ module _ {k j : ℕ} (low : j < k) where
   chosen_after : (n b : ℕ) (xs : Column) → n + b ≡ k → j < n → select_from (is_kth k j) n xs ≡ every_kth k j (drop b xs)
   chosen_after n zero xs all past = let same : n ≡ k + 0 = omega arith in cc (chosen_apart 0 xs)
   chosen_after n (suc b) [] all past = refl
-  chosen_after n (suc b) (x ∷ xs) all past = rw (is_kth_not n (omega arith) (omega arith)) (chosen_after (n + 1) b xs
-      (omega arith) (omega arith))
+  chosen_after n (suc b) (x ∷ xs) all past = grind (
+    arith,
+    is_kth_not,
+    chosen_after (n + 1) b xs (omega arith) (omega
+        arith),
+  )
 
   -- Up to the j-th of the first k, with the line there if there is one.
   chosen_before : (n a b : ℕ) (xs : Column) → n + a ≡ j → n + b ≡ k
@@ -48,8 +52,12 @@ module _ {k j : ℕ} (low : j < k) where
   chosen_before n a zero xs here all = absurd (omega arith)
   chosen_before n a (suc b) [] here all = inr (refl, omega arith, refl)
   chosen_before n zero (suc b) (x ∷ xs) here all = grind (arith, is_kth_here, chosen_after)
-  chosen_before n (suc a) (suc b) (x ∷ xs) here all =
-      grind (arith, is_kth_not n (omega arith) (omega arith), chosen_before (n + 1) a b xs (omega arith) (omega arith))
+  chosen_before n (suc a) (suc b) (x ∷ xs) here all = grind (
+    arith,
+    is_kth_not,
+    chosen_before (n + 1) a b xs (omega
+        arith) (omega arith),
+  )
 
   -- The first line of a column, and then the rest of it.
   every_kth_first : (ls : Column) → slice_index_or (every_kth k j ls) 0 [] ≡ slice_index_or ls j []
@@ -258,7 +266,7 @@ module _ (cells : List ℕ) where
 pub rows_text-append : (end : ℕ) (delims : List (Option ℕ)) (xs ys : List Column)
     → unlines end (map (join_with_cycle delims 0) (xs ++ ys)) ≡ unlines end (map (join_with_cycle delims 0) xs)
     ++ unlines end (map (join_with_cycle delims 0) ys)
-rows_text-append end delims xs ys = grind (arith, common_steps, unlines-append)
+rows_text-append = grind (arith, common_steps, unlines-append)
 
 -- ---- the rows that are determined
 
@@ -268,8 +276,11 @@ pub is_row_unknown : (cols : List Column) (eof : List Bool) (r c : ℕ) → c < 
 is_row_unknown [] eof r c low within going few = absurd (omega arith)
 is_row_unknown (col ∷ cols) [] r c low within going few = absurd (omega arith)
 is_row_unknown (col ∷ cols) (e ∷ eof) r zero low within going few = grind (arith, le-ltb)
-is_row_unknown (col ∷ cols) (e ∷ eof) r (suc c) low within going few =
-    grind (arith, nat_tests, is_row_unknown cols eof r c (omega arith) (omega arith) going few)
+is_row_unknown (col ∷ cols) (e ∷ eof) r (suc c) low within going few = grind (
+  arith,
+  is_row_unknown cols eof r c
+      (omega arith) (omega arith) going few,
+)
 
 -- ---- a function that is changed at one index
 

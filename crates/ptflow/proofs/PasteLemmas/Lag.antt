@@ -62,7 +62,7 @@ are_split end (x ∷ xs) l (first, are) = let (more, last) = are_split end xs l 
 
 -- If there are no lines, nothing was given.
 pub none_received : {end : ℕ} {reader : Reader} {given : List ℕ} → AreReceivedLines end reader given [] → given ≡ []
-none_received {end} {reader} {given} k = grind (arith, common_steps, the_lines, length-append)
+none_received = grind (arith, common_steps, the_lines, length-append)
 
 module _ (end : ℕ) (reader : Reader) (given : List ℕ) (buffered : length reader.buffered ≤ 8192) where
   module _ (most : ℕ) (xs : Column) (l : List ℕ) (few : length xs < most) where
@@ -115,11 +115,12 @@ module _ (end : ℕ) (reader : Reader) (given : List ℕ) (buffered : length rea
 pub ended_more : (end : ℕ) (ls : Column) (bytes : List ℕ) → AreLines end ls
     → complete_lines end (unlines end ls ++ bytes) ≡ ls ++ complete_lines end bytes
 ended_more end [] bytes w = refl
-ended_more end (line ∷ ls) bytes (whole, more) = cc (
-  append_assoc (line ++ end ∷ []) (unlines end ls) bytes,
-  append_assoc line (end ∷ []) (unlines end ls ++ bytes),
-  complete_lines_cons end line (unlines end ls ++ bytes) whole,
-  ended_more end ls bytes more,
+ended_more end (line ∷ ls) bytes (whole, more) = grind (
+  arith,
+  common_steps,
+  complete_lines_cons,
+  ended_more end ls
+      bytes more,
 )
 
 -- The complete lines of a prefix come first.
@@ -199,7 +200,7 @@ same_rows f g a (suc m) same = λ i. same a (omega arith) i ∷ same_rows f g (a
 -- A column keeps its lines if more follow.
 every_kth_more : (k j r : ℕ) (xs more : Column) → r < length (every_kth k j xs)
     → slice_index_or (every_kth k j xs) r [] ≡ slice_index_or (every_kth k j (xs ++ more)) r []
-every_kth_more k j r xs more low = grind (arith, common_steps, select_append)
+every_kth_more = grind (arith, common_steps, select_append)
 
 -- ---- the lag
 
@@ -216,7 +217,7 @@ module _ (job : Paste) (cells : List ℕ) (came : ℕ → Received) where
   grid given = columns cells (known_of given)
 
   update_same : (here : ℕ) (x : Received) → x ≡ came here → update_at here x came ≡ came
-  update_same here x same = grind (arith, update_here, update_there)
+  update_same = grind (arith, update_here, update_there)
 
   -- The rows that were taken, if the input `here` without its last bytes has fewer lines than one more row takes. That
   -- input is then not known to end, so each row that is determined has all its lines of that input, and is a row of the

@@ -1,11 +1,11 @@
 -- The inputs that columns name. Only their texts, and what was received from them, decide the output.
 use Rattle.ptflow.proofs
 use proofs.Common.{◌≡◌, ℕ, ◌<◌, ◌==◌, true, false, cond, List, [], ◌∷◌, length, get_or, map, refl, sym, ap, subst}
-use proofs.Common.{arith, append-nil, eq-eqb, nat_tests, list_any_at, sum_by-cons, Received, IsConsistent}
-use proofs.Common.{max_line_length, Paste, AreAllConsistent, inputs_at, is_in, uses_of, paste, paste_size}
-use proofs.Common.{paste_decided}
+use proofs.Common.{arith, append-nil, eq-eqb, nat_tests, list_any_at, Received, IsConsistent, max_line_length, Paste}
+use proofs.Common.{AreAllConsistent, inputs_at, is_in, uses_of, paste, paste_size, paste_decided}
 use Rattle.std.proofs.lemmas.List.Sums.{sum-map}
 use proofs.PasteLemmas.Grid.{columns_same, last_use}
+use Rattle.std.proofs.lemmas.Grind.{common_steps}
 
 module _ (cells : List ℕ) where
   pub cell_in : (c : ℕ) → c < length cells → is_in cells (get_or cells c 0) ≡ true
@@ -17,11 +17,10 @@ module _ (cells : List ℕ) where
 
 pub is_in_used : (cells : List ℕ) (p : ℕ) → is_in cells p ≡ true → 0 < uses_of cells p
 is_in_used [] p named = cc
-is_in_used (x ∷ cells) p named =
-    grind (arith, nat_tests, sum_by-cons (λ y. cond (y == p) 1 0) x cells, is_in_used cells p)
+is_in_used (x ∷ cells) p named = grind (arith, common_steps, is_in_used cells p)
 
 pub not_in : (cells : List ℕ) (p : ℕ) → is_in cells p ≡ false → uses_of cells p ≡ 0
-not_in cells p other = grind (arith, used_is_in)
+not_in = grind (arith, used_is_in)
 
 -- ---- functions that are equal at these inputs
 

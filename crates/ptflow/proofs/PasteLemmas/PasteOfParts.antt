@@ -56,10 +56,10 @@ module _ (cells : List ℕ) where
 
   more_is_empty : (n : ℕ) (ins more : ℕ → Column) → TakesAll (suc n) ins more → (p : ℕ)
       → length (ins p) < uses_of cells p → more p ≡ []
-  more_is_empty n ins more reach p few = grind arith
+  more_is_empty = grind arith
 
   later : (n : ℕ) (ins more : ℕ → Column) → TakesAll (suc n) ins more → TakesAll n (rest ins) more
-  later n ins more reach p some = grind (arith, common_steps)
+  later = grind (arith, common_steps)
 
   abbrev Append : (ℕ → Column) → (ℕ → Column) → Type 0
   Append ins more = rows (columns cells (λ p. ins p ++ more p)) ≡ rows (columns cells ins) ++ rows (columns cells more)

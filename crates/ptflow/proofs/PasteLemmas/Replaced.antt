@@ -2,10 +2,10 @@
 -- the bits of a mask, and then byte by byte.
 use Rattle.ptflow.proofs
 use proofs.Common.{◌≡◌, ◌≢◌, ℕ, zero, suc, ◌+◌, ◌-◌, ◌%◌, ◌^◌, ◌==◌, ◌<◌, ◌≤◌, Bool, cond, List, [], ◌∷◌, ◌++◌}
-use proofs.Common.{length, map, take, drop, get_or, slice_set, refl, sym, ◌∙◌, ap, arith, append_assoc, bit_and}
-use proofs.Common.{count_by, count_ones, mask_l, chunk, mod-add-mod, mod-eq_of_lt, take-add, take_at}
-use proofs.Common.{take-append-drop, take-set-lt, eq-eqb, set-append_right, drop_more, take_more_set, take-set}
-use proofs.Common.{length-set, sum_by-append, is_byte, byte_eq, byte_ne, IsLine, IsNth, length-take-le, length-chunk}
+use proofs.Common.{length, map, take, drop, get_or, slice_set, refl, sym, ◌∙◌, ap, arith, bit_and, count_by}
+use proofs.Common.{count_ones, mask_l, chunk, mod-add-mod, mod-eq_of_lt, take-add, take_at, take-append-drop}
+use proofs.Common.{take-set-lt, eq-eqb, set-append_right, drop_more, take_more_set, take-set, length-set}
+use proofs.Common.{sum_by-append, is_byte, byte_eq, byte_ne, IsLine, IsNth, length-take-le, length-chunk}
 use proofs.Common.{length-put_chunk, take_more_put_chunk, put_chunk, ones-mask_l, with_replacements, cycle_byte}
 use proofs.Common.{IsReplacedTo}
 use lib.Count.{count_trailing_zeros}
@@ -23,8 +23,13 @@ module _ (end : ℕ) where
         ≡ with_replacements end text_of number xs
         ++ with_replacements end text_of (number + count_by (is_byte end) xs) ys
     replaced-append number [] ys = grind arith
-    replaced-append number (b ∷ xs) ys =
-        grind (arith, append_assoc, counted b xs, replaced-append (number + 1) xs ys, replaced-append number xs ys)
+    replaced-append number (b ∷ xs) ys = grind (
+      arith,
+      common_steps,
+      counted,
+      replaced-append (number + 1) xs ys,
+      replaced-append number xs ys,
+    )
 
     -- A line contains no terminator, so its bytes stay.
     pub replaced_line : (number : ℕ) (line rest : List ℕ) → IsLine end line
@@ -62,8 +67,11 @@ module _ (end : ℕ) where
     pub replaced_by_map : (b : ℕ) → ((n : ℕ) → byte n ≡ b) → (number : ℕ) (bytes : List ℕ)
         → all number bytes ≡ map (λ x. cond (x == end) b x) bytes
     replaced_by_map b same number [] = refl
-    replaced_by_map b same number (x ∷ bytes) =
-        grind (arith, same number, replaced_by_map b same (number + 1) bytes, replaced_by_map b same number bytes)
+    replaced_by_map b same number (x ∷ bytes) = grind (
+      arith,
+      replaced_by_map b same (number + 1) bytes,
+      replaced_by_map b same number bytes,
+    )
 
     pub take-replaced : (at number : ℕ) (bytes : List ℕ) → at ≤ length bytes
         → take at (all number bytes) ≡ all number (take at bytes)
@@ -115,8 +123,13 @@ module _ (end : ℕ) where
     all_replaced number [] zero e = refl
     all_replaced number [] (suc n) e = refl
     all_replaced number (b ∷ bytes) zero e = grind (arith, counted b bytes, all_replaced number bytes zero)
-    all_replaced number (b ∷ bytes) (suc m) e =
-        grind (arith, counted b bytes, all_replaced (number + 1) bytes m, all_replaced number bytes (suc m))
+    all_replaced number (b ∷ bytes) (suc m) e = grind (
+      arith,
+      counted,
+      all_replaced (number + 1) bytes m,
+      all_replaced
+          number bytes (suc m),
+    )
 
 -- ---- the terminators of a chunk, replaced one after another
 

@@ -4,7 +4,7 @@
 use Rattle.ptflow.proofs
 use proofs.Common.{◌≡◌, ◌⊎◌, inl, ℕ, ◌+◌, ◌≤◌, List, [], ◌∷◌, ◌++◌, None, length, refl, sym, ◌∙◌, ap, arith}
 use proofs.Common.{length-append, AreLines, Reader, ReaderAdvance, AdvanceOk, IsDone, IsSound, Slots, FillLine}
-use proofs.Common.{advance_trans, unlines-append, lines_of_unlines, AreReceivedLines, LinesTaken, suc, ◌*◌, ◌<◌, true}
+use proofs.Common.{advance_trans, unlines-append, lines_of_unlines, AreReceivedLines, LinesTaken, ◌*◌, ◌<◌, true}
 use proofs.Common.{take, subst, append_assoc, eq-eqb, ne_eqb, take_all, reader_at, map, unlines, join_with_cycle}
 use proofs.Common.{uses_of, columns, rows, CellsTaken, CellsFilled, RowShape, after_cell, cells_text, AreFirstRows}
 use proofs.Common.{RowsTaken}
@@ -30,7 +30,7 @@ none_received {end} {b} {c} {bytes} {ls} done reads k =
 pub lines_trans : {end : ℕ} {b c : Reader} {bs cs : List ℕ} {xs ys : List (List ℕ)} → AreReceivedLines end b bs xs
     → ReaderAdvance b c cs → AreReceivedLines end c cs ys
     → AreReceivedLines end c (bs ++ cs) (xs ++ ys)
-lines_trans {end} {b} {c} {bs} {cs} {xs} {ys} p reads q = search (
+lines_trans = search (
   rules,
   unlines-append,
   AreLines-append,
@@ -49,7 +49,7 @@ pub none_at_eof : {end : ℕ} {b c : Reader} {n : ℕ} {ys : List (List ℕ)} �
 none_at_eof t done = none_received done t.reads t.came
 
 pub nothing_taken : {end : ℕ} {r : Reader} {n : ℕ} → n ≡ 0 → LinesTaken end r r n []
-nothing_taken {end} {r} {n} zero = grind (arith, lines_none)
+nothing_taken = grind (arith, lines_none)
 
 abbrev pub taken_more : {end : ℕ} {a b c : Reader} {k m n : ℕ} {xs ys : List (List ℕ)} → k ≡ m + n
     → LinesTaken end a b m xs → LinesTaken end b c n ys → LinesTaken end a c k (xs ++ ys)
@@ -69,7 +69,7 @@ taken_more {end} {a} {b} {c} {k} {m} {n} {xs} {ys} all p q = record {
 taken_one : {end : ℕ} {b c : Reader} {bytes : List ℕ} {ls : List (List ℕ)} → AdvanceOk b c bytes → b.fault ≡ None
     → IsSound c → AreReceivedLines end c bytes ls
     → (length ls ≡ 1) ⊎ (IsDone c × (length ls ≤ 1)) → LinesTaken end b c 1 ls
-taken_one {end} {b} {c} {bytes} advance_ok clean sound came enough = grind arith
+taken_one = grind arith
 
 -- A line was read into a slot.
 pub taken_line : {end : ℕ} {b c : Reader} {before after : Slots} {slot : ℕ} (e : FillLine b c before after slot)
@@ -81,7 +81,7 @@ taken_line {end} {b} {c} {before} {after} {slot} e same clean sound = taken_one 
 -- No line was left.
 pub taken_eof : {end : ℕ} {b c : Reader} → AdvanceOk b c [] → IsDone c → b.fault ≡ None → IsSound c
     → LinesTaken end b c 1 []
-taken_eof {end} {b} {c} advance_ok done clean sound = grind (arith, taken_one, lines_none)
+taken_eof = grind (arith, taken_one, lines_none)
 
 -- ---- the text of a row, column by column
 
@@ -89,42 +89,38 @@ module _ (row : RowShape) where
   pub cells_text-append : (c : ℕ) (xs ys : List (List ℕ))
       → cells_text row c (xs ++ ys) ≡ cells_text row c xs ++ cells_text row (c + length xs) ys
   cells_text-append c [] ys = let none : c ≡ c + 0 = omega arith in ap (λ (k : ℕ). cells_text row k ys) none
-  cells_text-append c (x ∷ xs) ys =
-      let next : c + 1 + length xs ≡ c + suc (length xs) = omega arith in
-      let cell = x ++ after_cell row c in
-      cc (
-        cells_text-append (c + 1) xs ys,
-        append_assoc cell (cells_text row (c + 1) xs) (cells_text row (c + suc (length xs)) ys),
-      )
+  cells_text-append c (x ∷ xs) ys = grind (arith, common_steps, cells_text-append (c + 1) xs ys)
 
   -- One more field.
   pub cells_text-push : (c : ℕ) (xs : List (List ℕ)) (x : List ℕ) {k : ℕ} → c + length xs ≡ k
       → cells_text row c (xs ++ x ∷ []) ≡ cells_text row c xs ++ (x ++ after_cell row k)
-  cells_text-push c xs x {k} here = search (rules, cells_text-append)
+  cells_text-push = search (rules, cells_text-append)
 
   -- The columns from c to the last one.
   pub row_text : (c : ℕ) (xs : List (List ℕ)) → c + length xs ≡ length row.cells → 0 < length xs
       → cells_text row c xs ≡ join_with_cycle row.delims c xs ++ row.terminator ∷ []
   row_text c [] all some = absurd (omega arith)
   row_text c (x ∷ []) all some = search (rules, eq-eqb)
-  row_text c (x ∷ y ∷ more) all some =
-      rw (
-        ne_eqb (c + 1) (length row.cells) (λ same. absurd (omega arith)),
-        row_text (c + 1) (y ∷ more) (omega arith) (omega arith),
-      ) (simp append_assoc)
+  row_text c (x ∷ y ∷ more) all some = grind (
+    arith,
+    common_steps,
+    ne_eqb,
+    row_text (c + 1) (y ∷ more) (omega arith)
+        (omega arith),
+  )
 
   -- The text of a filled row.
   pub filled_row_text : {old new : List Reader} {fields : List (List ℕ)}
       → CellsFilled row.cells (length row.cells) old new fields true
       → cells_text row 0 fields ≡ unlines row.terminator (map (join_with_cycle row.delims 0) (fields ∷ []))
-  filled_row_text {fields = fields} f = search (rules, row_text)
+  filled_row_text = search (rules, row_text)
 
 -- ---- rows that were taken
 
 -- If no line is taken from a reader, its terminator does not matter.
 retarget_terminator : {end : ℕ} {b c : Reader} {n : ℕ} {ys : Column} → (0 < n → b.terminator ≡ end)
     → LinesTaken b.terminator b c n ys → LinesTaken end b c n ys
-retarget_terminator {end} {b} {c} {n} {ys} same t = grind (arith, common_steps, taken_at_most, nothing_taken)
+retarget_terminator = grind (arith, common_steps, taken_at_most, nothing_taken)
 
 module _ {row : RowShape} where
   -- Rows are taken, and then more.

@@ -1,12 +1,12 @@
 -- The output of `paste -s` from a position on: the bytes with their terminators replaced, as long as more bytes follow.
 -- So the terminator of a line that is the last byte so far is held back.
 use Rattle.ptflow.proofs
-use proofs.Common.{◌≡◌, ⊎_elim, ℕ, ◌+◌, ◌%◌, ◌==◌, ◌<◌, Bool, true, false, cond, List, [], ◌∷◌, ◌++◌, Option, length}
-use proofs.Common.{length-append, refl, sym, ◌∙◌, ap, arith, append_assoc, onto_first, count_by, cases_Bool, append-nil}
+use proofs.Common.{◌≡◌, ℕ, ◌+◌, ◌%◌, ◌==◌, ◌<◌, Bool, true, false, cond, List, [], ◌∷◌, ◌++◌, Option, length}
+use proofs.Common.{length-append, refl, sym, ◌∙◌, ap, arith, append_assoc, onto_first, count_by, append-nil}
 use proofs.Common.{append_cancel_right, is_byte, lines, complete_lines, IsPrefix, lines_of_unlines, Paste, delimiter}
 use proofs.Common.{join_with_cycle, mod-add-mod, paste_serial_decided, with_replacements, row_rest, mod-eq_of_lt}
-use proofs.Common.{byte_eq, option_to_list, None, Some, IsFirstByte, take, drop, line_before_terminator, sum_by-append}
-use proofs.Common.{mod-lt}
+use proofs.Common.{byte_eq, option_to_list, None, Some, IsFirstByte, take, drop, line_before_terminator}
+use proofs.Common.{sum_by-append, mod-lt}
 use proofs.Vectors.FindNth.{none_counted}
 use Rattle.std.specs.Prelude.{slice_index_or}
 use proofs.Passes.Lines.{line_split, split_of}
@@ -17,13 +17,7 @@ module _ (end : ℕ) (delims : List (Option ℕ)) where
   -- A byte of a line.
   pub row_byte : (number b : ℕ) (bytes : List ℕ) → (b == end) ≡ false
       → row_rest end delims number (b ∷ bytes) ≡ b ∷ row_rest end delims number bytes
-  row_byte number b bytes other = rw other (onto (lines end bytes))
-    where
-      onto : (ls : List (List ℕ)) → join_with_cycle delims number (onto_first b ls) ++ end ∷ []
-          ≡ b ∷ (join_with_cycle delims number ls ++ end ∷ [])
-      onto [] = refl
-      onto (l ∷ []) = refl
-      onto (l ∷ m ∷ ls) = refl
+  row_byte = grind arith
 
   -- A terminator, if more bytes follow.
   row_next : (number b : ℕ) (bytes : List ℕ) → (b == end) ≡ true → 0 < length bytes
@@ -42,21 +36,15 @@ module _ (end : ℕ) (delims : List (Option ℕ)) where
       → row_rest end delims number (bytes ++ more) ≡ with_replacements end (delimiter delims) number bytes
       ++ row_rest end delims (number + count_by (is_byte end) bytes) more
   row_rest_on number [] more some = grind arith
-  row_rest_on number (b ∷ bytes) more some = ⊎_elim
-      (λ is. grind (
-        arith,
-        append_assoc,
-        counted end b bytes is,
-        row_rest_on (number + 1) bytes more some,
-        row_next number b (bytes ++ more) is (omega (arith, length-append bytes more)),
-      ))
-      (λ is. grind (
-        arith,
-        counted end b bytes is,
-        row_rest_on number bytes more some,
-        row_byte number b (bytes ++ more) is,
-      ))
-      (cases_Bool (b == end))
+  row_rest_on number (b ∷ bytes) more some = grind (
+    arith,
+    common_steps,
+    row_next,
+    length-append,
+    row_byte,
+    row_rest_on (number + 1) bytes more some,
+    row_rest_on number bytes more some,
+  )
 
   -- Only the index of the delimiter matters.
   row_rest_mod : (m n : ℕ) → m % length delims ≡ n % length delims → (bytes : List ℕ)
@@ -128,10 +116,7 @@ module _ (end : ℕ) (delims : List (Option ℕ)) where
   joined_begins number [] ys = record { rest = join_with_cycle delims number ys; is = refl }
   joined_begins number (x ∷ []) [] = record { rest = []; is = sym (append-nil x) }
   joined_begins number (x ∷ []) (y ∷ ys) = grind (arith, common_steps)
-  joined_begins number (x ∷ z ∷ xs) ys = let b = joined_begins (number + 1) (z ∷ xs) ys in record {
-    rest = b.rest;
-    is = rw b.is (simp append_assoc);
-  }
+  joined_begins number (x ∷ z ∷ xs) ys = grind (arith, common_steps, joined_begins (number + 1) (z ∷ xs) ys)
 
 -- The output for the received bytes begins with their complete lines.
 pub serial_is_decided : (job : Paste) (given pushed : List ℕ) (index : ℕ) (held : Bool)

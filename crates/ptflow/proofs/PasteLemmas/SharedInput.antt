@@ -4,12 +4,11 @@
 use Rattle.ptflow.proofs
 use proofs.Common.{◌≡◌, ◌≢◌, ℕ, zero, suc, ◌+◌, ◌-◌, ◌*◌, ◌%◌, ◌<◌, ◌≤◌, List, [], ◌∷◌, ◌++◌, length, map, take, drop}
 use proofs.Common.{set, get_or, refl, sym, ◌∙◌, ap, arith, append_assoc, length-drop, take-append-drop, inl, count_by}
-use proofs.Common.{cases_eq, mod-mul-add, take_more, take_all, nil_from_length, length-take-le, length-set}
-use proofs.Common.{sum_by-append, sum_by-set, is_byte, unlines, lines, AreLines, EndsWithByte, Output, PushEffect}
-use proofs.Common.{push_nothing, Reader, IsSound, budget, advance_ok_take, byte_eq, unlines-append, lines_are}
-use proofs.Common.{the_lines, no_reader, reader_at, update_at, join_with_cycle, uses_of, columns, rows, IsSharedCycle}
-use proofs.Common.{IsWholeRows, LinesTaken, with_replacements, cycle_byte, after_cell, cells_text, mod-eq_of_lt}
-use proofs.Common.{RowShape, RowsTaken, RowsWritten, nat_tests}
+use proofs.Common.{cases_eq, mod-mul-add, nil_from_length, length-take-le, length-set, sum_by-set, is_byte, unlines}
+use proofs.Common.{lines, AreLines, EndsWithByte, Output, PushEffect, push_nothing, Reader, IsSound, budget}
+use proofs.Common.{advance_ok_take, byte_eq, unlines-append, lines_are, the_lines, no_reader, reader_at, update_at}
+use proofs.Common.{join_with_cycle, uses_of, columns, rows, IsSharedCycle, IsWholeRows, LinesTaken, with_replacements}
+use proofs.Common.{cycle_byte, after_cell, cells_text, mod-eq_of_lt, RowShape, RowsTaken, RowsWritten, nat_tests}
 use proofs.Vectors.FindNth.{none_counted}
 use proofs.PasteLemmas.Grid.{Column, for_each_cell_unique, top_of, grid_step, uses_here, last_use, update_here}
 use proofs.PasteLemmas.Grid.{update_there}
@@ -26,18 +25,18 @@ use Rattle.std.proofs.lemmas.Grind.{common_steps}
 -- A text of complete lines has one terminator for each line.
 ends_of_lines : (end : ℕ) (ls : List (List ℕ)) → AreLines end ls → count_by (is_byte end) (unlines end ls) ≡ length ls
 ends_of_lines end [] are_lines = refl
-ends_of_lines end (line ∷ ls) (free, are_lines) =
-    grind (arith, sum_by-append, counted, byte_eq, none_counted, ends_of_lines end ls are_lines)
+ends_of_lines end (line ∷ ls) (free, are_lines) = grind (
+  arith,
+  common_steps,
+  byte_eq,
+  none_counted,
+  ends_of_lines end
+      ls are_lines,
+)
 
 ends_with : (end : ℕ) (bytes : List ℕ) → bytes ≢ [] → (0 < length bytes → get_or bytes (length bytes - 1) 0 ≡ end)
     → EndsWithByte end bytes
-ends_with end [] some last = absurd (some refl)
-ends_with end (b ∷ bs) some last =
-    let n = length bs in
-    let there : length (b ∷ bs) - 1 ≡ n = omega arith in (
-      take n (b ∷ bs),
-      cc (take_all (n + 1) (b ∷ bs) (omega arith), take_more (b ∷ bs) n 0 (omega arith), last (omega arith)),
-    )
+ends_with = grind (arith, common_steps)
 
 -- Bytes that end with a terminator and have count * n terminators are `count` complete rows.
 pub whole_rows_counted : (end n count : ℕ) (bytes : List ℕ)
@@ -58,9 +57,7 @@ whole_rows_counted end n count bytes last counted =
 -- ---- the text of rows
 
 are_parts : (end n : ℕ) (ls : List (List ℕ)) → AreLines end ls → AreLines end (take n ls) × AreLines end (drop n ls)
-are_parts end zero ls are_lines = (tt, are_lines)
-are_parts end (suc n) [] are_lines = (tt, tt)
-are_parts end (suc n) (line ∷ ls) (free, are_lines) = grind (arith, common_steps)
+are_parts = grind (arith, common_steps)
 
 -- The lines `ls` in rows of n.
 abbrev pub rows_in : ℕ → ℕ → List (List ℕ) → List (List (List ℕ))
@@ -130,7 +127,7 @@ lines_of_input input ls = update_at input ls (λ q. [])
 
 lines_of_input-append : (input : ℕ) (xs ys : Column) (q : ℕ)
     → lines_of_input input (xs ++ ys) q ≡ lines_of_input input xs q ++ lines_of_input input ys q
-lines_of_input-append input xs ys q = grind (arith, nat_tests)
+lines_of_input-append = grind (arith, nat_tests)
 
 module _ (cells : List ℕ) (input : ℕ) (same : (c : ℕ) → c < length cells → get_or cells c 0 ≡ input) where
   uses_before_column : (c : ℕ) → c ≤ length cells → uses_of (take c cells) input ≡ c
@@ -267,4 +264,4 @@ module _ {row : RowShape} {cycle : Cycle} (t : IsSharedCycle row cycle) {old : L
 
 -- Nothing is in the buffer, or the columns share no reader.
 pub no_rows_written : {row : RowShape} {old : List Reader} {out : Output} → RowsWritten row old old out out
-no_rows_written {out = out} = search (rules, rows_taken_none, consumed_none, push_nothing)
+no_rows_written = search (rules, rows_taken_none, consumed_none, push_nothing)

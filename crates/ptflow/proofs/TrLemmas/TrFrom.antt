@@ -1,26 +1,25 @@
 -- The output of `tr` for the rest of a text, and for a text that is cut anywhere. A byte is kept or removed by the last
 -- output byte alone, so that byte is the only state, from block to block and within a block.
 use Rattle.ptflow.proofs
-use proofs.Common.{common_steps, ◌≡◌, ℕ, ◌-◌, ◌==◌, ◌&&◌, not, eqb, Bool, true, false, cond, List, [], ◌∷◌, ◌++◌}
-use proofs.Common.{Option, None, Some, map, length, refl, ap, arith, filter, slice_get, last_or, option_eq, option_or}
+use proofs.Common.{common_steps, ◌≡◌, ℕ, ◌-◌, ◌&&◌, not, eqb, Bool, true, false, cond, List, [], ◌∷◌, ◌++◌, Option}
+use proofs.Common.{None, Some, map, length, refl, ap, arith, filter, slice_get, last_or, option_eq, option_or}
 use proofs.Common.{append-nil, map-append, filter-append, IsPrefix, Tables, deletes, image, squeezes, is_not_repeat}
-use proofs.Common.{squeeze_after, translation, tr, tr_decided, squeeze_from, tr_from, ⊎_elim, sym, cases_Bool, eq-eqb}
-use proofs.Common.{eqb-true, squeeze, BeginsWith, Each1, Fits, w8, suc, ◌<◌, drop, from_bool, get_or, kept_bytes, set}
-use proofs.Common.{take, take_more_set, EndsWith, TrOfAnyParts, TrOfParts, TrAfterByte, TrMeetsTwice, and_right}
+use proofs.Common.{squeeze_after, translation, tr, tr_decided, squeeze_from, tr_from, eq-eqb, eqb-true, squeeze}
+use proofs.Common.{BeginsWith, Each1, Fits, w8, suc, ◌<◌, drop, from_bool, get_or, kept_bytes, set, take, EndsWith}
+use proofs.Common.{TrOfAnyParts, TrOfParts, TrAfterByte, TrMeetsTwice, and_right}
 use proofs.Vectors.Lanes.{bytes_fit}
 
 module _ (squeezed : ℕ → Bool) where
   pub after_one_byte : (last b : ℕ) (bytes : List ℕ)
       → squeeze_after squeezed last (b ∷ bytes)
       ≡ cond (is_not_repeat squeezed (last, b)) (b ∷ squeeze_after squeezed b bytes) (squeeze_after squeezed b bytes)
-  after_one_byte last b bytes = grind arith
+  after_one_byte = grind arith
 
   pub from_one : (last : Option ℕ) (b : ℕ) (bytes : List ℕ)
       → squeeze_from squeezed last (b ∷ bytes)
       ≡ cond (not (option_eq eqb last (Some b) && squeezed b)) (b ∷ squeeze_after squeezed b bytes)
       (squeeze_after squeezed b bytes)
-  from_one None b bytes = refl
-  from_one (Some last) b bytes = after_one_byte last b bytes
+  from_one = grind (arith, after_one_byte)
 
   -- a byte that is removed is equal to the last one
   repeats : (last b : ℕ) → is_not_repeat squeezed (last, b) ≡ false → last ≡ b
@@ -34,9 +33,7 @@ module _ (squeezed : ℕ → Bool) where
   from_append : (last : Option ℕ) (xs ys : List ℕ)
       → squeeze_from squeezed last (xs ++ ys) ≡ squeeze_from squeezed last xs
       ++ squeeze_from squeezed (last_or last (squeeze_from squeezed last xs)) ys
-  from_append None [] ys = refl
-  from_append None (b ∷ xs) ys = ap (◌∷◌ b) (after_split b xs ys)
-  from_append (Some last) xs ys = after_split last xs ys
+  from_append = grind (arith, after_split)
 
 -- ---- the last output byte
 
@@ -59,8 +56,7 @@ last_is last (b ∷ bytes) =
 
 module _ (t : Tables) where
   pub rest_nothing : (last : Option ℕ) → tr_from t last [] ≡ []
-  rest_nothing None = refl
-  rest_nothing (Some last) = refl
+  rest_nothing = grind arith
 
   translated_append : (xs ys : List ℕ) → translation t (xs ++ ys) ≡ translation t xs ++ translation t ys
   translated_append xs ys = simp (filter-append, deletes, map-append)
@@ -84,7 +80,7 @@ module _ (t : Tables) where
 
   pub block_begins : (last : Option ℕ) (block : List ℕ) {written : List ℕ} (rest : List ℕ)
       → written ≡ tr_from t last block → IsPrefix written (tr_from t last (block ++ rest))
-  block_begins last block rest made = grind (arith, front_on)
+  block_begins = grind (arith, front_on)
 
   pub rest_decided : (given pushed : List ℕ) (now : Option ℕ)
       → ((rest : List ℕ) → tr_from t None (given ++ rest) ≡ pushed ++ tr_from t now rest)
@@ -103,9 +99,7 @@ after_all squeezed none last (b ∷ bytes) = grind (arith, after_all squeezed no
 
 pub from_all : (squeezed : ℕ → Bool) → ((b : ℕ) → squeezed b ≡ false) → (last : Option ℕ) (bytes : List ℕ)
     → squeeze_from squeezed last bytes ≡ bytes
-from_all squeezed none None [] = refl
-from_all squeezed none None (b ∷ bytes) = ap (◌∷◌ b) (after_all squeezed none b bytes)
-from_all squeezed none (Some last) bytes = after_all squeezed none last bytes
+from_all = grind (arith, after_all)
 
 pub filter_all : (test : ℕ → Bool) → ((b : ℕ) → test b ≡ false) → (bytes : List ℕ)
     → filter (λ b. not (test b)) bytes ≡ bytes
@@ -125,18 +119,7 @@ last_of x (y ∷ xs) =
 after_two_parts : (squeezed : ℕ → Bool) (last : ℕ) (bytes : List ℕ)
     → (BeginsWith last (squeeze squeezed bytes) → squeezed last ≡ false)
     → squeeze_after squeezed last bytes ≡ squeeze squeezed bytes
-after_two_parts squeezed last [] apart = refl
-after_two_parts squeezed last (b ∷ bytes) apart =
-    let rest = squeeze_after squeezed b bytes in
-    cc (after_one_byte squeezed last b bytes, ⊎_elim same other (cases_Bool (last == b)))
-  where
-    same : (last == b) ≡ true → ((last == b) && squeezed b) ≡ false
-    same e =
-        let is : last ≡ b = eqb-true last b e in
-        rw e (cc (apart (squeeze_after squeezed b bytes, cc)))
-
-    other : (last == b) ≡ false → ((last == b) && squeezed b) ≡ false
-    other e = rw e refl
+after_two_parts = grind (arith, after_one_byte, eqb-true)
 
 -- bytes after some output
 from_two_parts : (squeezed : ℕ → Bool) (written bytes : List ℕ)
@@ -167,15 +150,7 @@ same_last x y xs (front, ends) (others, other_ends) = cc (last_after None front 
 -- one byte that is not deleted and whose image is not squeezed
 one_byte : (tables : Tables) (last : Option ℕ) (byte : ℕ) → deletes tables byte ≡ false
     → squeezes tables (image tables byte) ≡ false → tr_from tables last (byte ∷ []) ≡ image tables byte ∷ []
-one_byte tables last byte is_not_repeat stays_too =
-    cc (
-      is_not_repeat,
-      from_one (squeezes tables) last (image tables byte) [],
-      by_test (option_eq eqb last (Some (image tables byte))),
-    )
-  where
-    by_test : (t : Bool) → cond (not (t && false)) (image tables byte ∷ []) [] ≡ image tables byte ∷ []
-    by_test t = grind arith
+one_byte = grind (arith, from_one)
 
 pub tr_after_byte : TrAfterByte
 tr_after_byte tables byte a b (front, ends) kept unsqueezed =
@@ -192,13 +167,7 @@ tr_after_byte tables byte a b (front, ends) kept unsqueezed =
 -- bytes that begin with the byte before them, which is squeezed
 after_same : (squeezed : ℕ → Bool) (last : ℕ) (bytes rest : List ℕ) → squeezed last ≡ true
     → squeeze squeezed bytes ≡ last ∷ rest → squeeze_after squeezed last bytes ≡ rest
-after_same squeezed last [] rest is begins = cc
-after_same squeezed last (b ∷ bytes) rest is begins =
-    let same : b ≡ last = cc in
-    cc (after_one_byte squeezed last b bytes, again same)
-  where
-    again : b ≡ last → ((last == b) && squeezed b) ≡ true
-    again same = rw (eq-eqb last b (sym same)) (cc (same))
+after_same = grind (arith, after_one_byte, eq-eqb)
 
 pub tr_meets_twice : TrMeetsTwice
 tr_meets_twice tables byte a b rest is (front, ends) begins =
@@ -216,10 +185,7 @@ pub first_squeezed : (squeezed : ℕ → Bool) (last : Option ℕ) (from into : 
     → count ≡ from_bool (not repeats)
     → take count (set into 0 (get_or from 0 0)) ++ kept_bytes squeezed from (drop 1 from)
     ≡ squeeze_from squeezed last from
-first_squeezed squeezed last [] into some room is count_is = absurd (omega arith)
-first_squeezed squeezed last (b ∷ from) into {repeats = true} some room is count_is = grind (arith, from_one)
-first_squeezed squeezed last (b ∷ from) into {repeats = false} some room is count_is =
-    grind (arith, common_steps, from_one, take_more_set)
+first_squeezed = grind (arith, common_steps, repeats, from_one)
 
 -- ---- tests that agree on bytes
 

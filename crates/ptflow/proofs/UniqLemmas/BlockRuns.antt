@@ -80,7 +80,7 @@ module _ (job : Uniq) (first : List ℕ) (count : ℕ) {block : List ℕ} {line 
   pub pending_joined : {out : Output} → pending.to ≡ l.from → count_prefix job.show count ≡ []
       → IsPending (span_of block pending ++ run_text job (run_of (first_of first block line) count)) block
       (record { from = pending.from; to = l.to }) out out
-  pending_joined {out} touch none = search (rules, line_in, push_nothing, span_join, due_is)
+  pending_joined = search (rules, line_in, push_nothing, span_join, due_is)
 
 module _ {bytes block : List ℕ} {pending : Span} {was is : Output} (waits : IsPending bytes block pending was is)
     (more : List ℕ) {is' : Output} where

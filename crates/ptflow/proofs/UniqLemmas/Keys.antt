@@ -1,10 +1,10 @@
 -- The key of a line, in one pass. Skipping a field is skipping blanks and then other bytes; doing so n times leads to
 -- the byte after the n-th field end.
 use Rattle.ptflow.proofs
-use proofs.Common.{◌≡◌, ℕ, zero, suc, ◌+◌, ◌<◌, ◌≤◌, Bool, true, false, cond, min, ltb, List, [], ◌∷◌, None, Some}
-use proofs.Common.{length, drop, get_or, refl, sym, ◌∙◌, arith, common_steps, slice_get, option_map_or, drop-drop}
-use proofs.Common.{nat_tests, IsFirstByte, Nowhere, Passes, is_byte, is_byte2, is_blank, ends_word, word_ends}
-use proofs.Common.{after_fields, after_nonblanks}
+use proofs.Common.{◌≡◌, ℕ, zero, suc, ◌+◌, ◌<◌, ◌≤◌, Bool, true, false, cond, min, List, [], ◌∷◌, None, Some, length}
+use proofs.Common.{drop, get_or, refl, sym, ◌∙◌, arith, common_steps, slice_get, option_map_or, drop-drop}
+use proofs.Common.{IsFirstByte, Nowhere, Passes, is_byte, is_byte2, is_blank, ends_word, word_ends, after_fields}
+use proofs.Common.{after_nonblanks}
 use Rattle.std.specs.Prelude.{◌==◌}
 use Rattle.std.proofs.Common.{rules}
 
@@ -15,8 +15,7 @@ suffix_at zero (b ∷ bytes) = b ∷ bytes
 suffix_at (suc n) (b ∷ bytes) = cond (ends_word b bytes) (suffix_at n bytes) (suffix_at (suc n) bytes)
 
 pub suffix_none : (n : ℕ) → suffix_at n [] ≡ []
-suffix_none zero = refl
-suffix_none (suc n) = refl
+suffix_none = grind arith
 
 pub suffix_zero : (bytes : List ℕ) → suffix_at 0 bytes ≡ bytes
 suffix_zero [] = refl
@@ -44,8 +43,7 @@ from_end_is line (b ∷ bytes) i n is = by_test (ends_word b bytes) n (λ m. fro
 
 pub suffix_is : (n : ℕ) (line : List ℕ) → suffix_at n line ≡ after_fields n line
 unfolding from_end
-suffix_is zero line = suffix_zero line
-suffix_is (suc n) line = sym (from_end_is line line 0 n refl)
+suffix_is = grind (arith, suffix_zero, from_end_is)
 
 -- ---- field by field
 
@@ -69,15 +67,14 @@ suffix_step n m rest is =
 
 pub other_first : (rest : List ℕ) → 0 < length rest → is_blank (get_or rest 0 0) ≡ false
     → suffix_at 1 rest ≡ after_nonblanks rest
-other_first [] long other = absurd (omega arith)
-other_first (b ∷ bytes) long other = cc (suffix_other b bytes other)
+other_first = grind (arith, common_steps, suffix_other)
 
 -- by a search for the first blank
 blank_here : (b : ℕ) (bytes : List ℕ) → is_blank b ≡ true → after_nonblanks (b ∷ bytes) ≡ b ∷ bytes
 blank_here b bytes blank = cc
 
 other_here : (b : ℕ) (bytes : List ℕ) → (is_blank b ≡ true → ⊥) → after_nonblanks (b ∷ bytes) ≡ after_nonblanks bytes
-other_here b bytes other = grind arith
+other_here = grind arith
 
 after_at : (line : List ℕ) (at : ℕ) → at < length line → ((k : ℕ) → k < at → is_blank (get_or line k 0) ≡ true → ⊥)
     → is_blank (get_or line at 0) ≡ true → after_nonblanks line ≡ drop at line
@@ -94,7 +91,7 @@ after_none (b ∷ bytes) none = other_here b bytes (none 0 (omega arith))
 
 pub after_found : (line : List ℕ) (at : ℕ) → IsFirstByte (is_byte2 32 9) line (Some at)
     → after_nonblanks line ≡ drop at line
-after_found line at first = grind (arith, after_at)
+after_found = grind (arith, after_at)
 
 pub after_not_found : (line : List ℕ) → IsFirstByte (is_byte2 32 9) line None → after_nonblanks line ≡ []
 after_not_found line none = after_none line (λ k lt. none k (omega arith) lt)
@@ -124,10 +121,4 @@ module _ (line : List ℕ) (a b : ℕ) (no_space : Nowhere (Passes (is_byte 32) 
 
   pub both_near : {n : ℕ} → (a < n → Passes (is_byte 32) line a) → (b < n → Passes (is_byte 9) line b) → n ≤ length line
       → min a b < n → after_nonblanks line ≡ drop (min a b) line
-  both_near space tab high near = after_at line (min a b) (omega arith) none_here (by (ltb b a) refl)
-    where
-      by : (u : Bool) → ltb b a ≡ u → is_blank (get_or line (min a b) 0) ≡ true
-      by true e = let is : min a b ≡ b = grind (arith, nat_tests) in
-          is_tab (get_or line (min a b) 0) (cc (tab (omega arith)))
-      by false e = let is : min a b ≡ a = grind (arith, nat_tests) in
-          is_space (get_or line (min a b) 0) (cc (space (omega arith)))
+  both_near = grind (arith, after_at, none_here, is_tab, is_space)

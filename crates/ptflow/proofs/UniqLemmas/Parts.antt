@@ -2,7 +2,7 @@
 -- keys are in different runs, so no run is cut or merged.
 use Rattle.ptflow.proofs
 use proofs.Common.{common_steps, arith, ◌≡◌, ◌⊎◌, inl, inr, ⊎_elim, ℕ, ◌+◌, Bool, true, false, cond, List, [], ◌∷◌}
-use proofs.Common.{◌++◌, refl, sym, ◌∙◌, ap, filter, AllByRecursion, cases_Bool, bytes_eq-Decides, the_lines_of_parts}
+use proofs.Common.{◌++◌, refl, ap, filter, AllByRecursion, cases_Bool, bytes_eq-Decides, the_lines_of_parts}
 use proofs.Common.{lines-unlines, lines_are, Uniq, Run, key, is_same, cons_run, runs, BeginsWith, EndsWith}
 use proofs.Common.{HasGroupedKeys, UniqOfParts, UniqByKey, run_of}
 use Rattle.std.specs.Prelude.{◌≢◌}
@@ -27,13 +27,7 @@ module _ (job : Uniq) where
   -- runs followed by other runs
   onto_front : (line : List ℕ) (run : Run) (rs others : List Run)
       → cons_run job line ((run ∷ rs) ++ others) ≡ cons_run job line (run ∷ rs) ++ others
-  onto_front line run rs others = by_test (is_same job line run.line)
-    where
-      by_test : (t : Bool)
-          → cond t (run_of line (run.count + 1) ∷ (rs ++ others)) (run_of line 1 ∷ run ∷ (rs ++ others))
-          ≡ cond t (run_of line (run.count + 1) ∷ rs) (run_of line 1 ∷ run ∷ rs) ++ others
-      by_test true = refl
-      by_test false = refl
+  onto_front = grind arith
 
   -- the runs of lines, and of lines after them that begin with another key
   runs-append : (xs ys : List (List ℕ))
@@ -42,13 +36,13 @@ module _ (job : Uniq) where
   runs-append [] ys change = refl
   runs-append (x ∷ []) [] change = refl
   runs-append (x ∷ []) (y ∷ ys) change = grind (arith, onto_is, other_key)
-  runs-append (x ∷ z ∷ xs) ys change =
-      let (count, more, is) = onto_is z (runs job xs) in
-      ap (cons_run job x) (runs-append (z ∷ xs) ys (λ last first (front, ends) begins.
-      change last first (x ∷ front, ap (λ l. x ∷ l) ends) begins)
-      ∙ ap (λ rs. rs ++ runs job ys) is)
-      ∙ onto_front x (run_of z count) more (runs job ys)
-      ∙ ap (λ rs. cons_run job x rs ++ runs job ys) (sym is)
+  runs-append (x ∷ z ∷ xs) ys change = grind (
+    arith,
+    onto_is,
+    onto_front,
+    runs-append (z ∷ xs) ys (λ last first
+        (front, ends) begins. change last first (x ∷ front, ap (λ l. x ∷ l) ends) begins),
+  )
 
 pub uniq_of_parts : UniqOfParts
 uniq_of_parts job a b whole change = simp (the_lines_of_parts, runs-append, entries-append)
@@ -59,11 +53,7 @@ uniq_of_parts job a b whole change = simp (the_lines_of_parts, runs-append, entr
 all_filter : {X : Type 0} (P : X → Type 0) (test : X → Bool) (xs : List X) → AllByRecursion P xs
     → AllByRecursion P (filter test xs)
 all_filter P test [] all = tt
-all_filter {X} P test (x ∷ xs) (first, others) = by_test (test x) (filter test xs) (all_filter P test xs others)
-  where
-    by_test : (t : Bool) (ys : List X) → AllByRecursion P ys → AllByRecursion P (cond t (x ∷ ys) ys)
-    by_test true ys rest = (first, rest)
-    by_test false ys rest = rest
+all_filter {X} P test (x ∷ xs) (first, others) = grind (arith, all_filter P test xs others)
 
 module _ (job : Uniq) (taken : List ℕ → Bool) where
   abbrev line_taken : List ℕ → Bool
@@ -76,39 +66,27 @@ module _ (job : Uniq) (taken : List ℕ → Bool) where
   all_runs : (P : List ℕ → Type 0) (ls : List (List ℕ)) → AllByRecursion P ls
       → AllByRecursion (λ run. P run.line) (runs job ls)
   all_runs P [] all = tt
-  all_runs P (x ∷ ls) (first, others) = put (runs job ls) (all_runs P ls others)
-    where
-      put : (rs : List Run) → AllByRecursion (λ run. P run.line) rs
-          → AllByRecursion (λ run. P run.line) (cons_run job x rs)
-      put [] rest = (first, tt)
-      put (r ∷ rs) (run, later) = by_test (is_same job x r.line)
-        where
-          by_test : (t : Bool)
-              → AllByRecursion (λ run. P run.line) (cond t (run_of x (r.count + 1) ∷ rs) (run_of x 1 ∷ r ∷ rs))
-          by_test true = (first, later)
-          by_test false = (first, (run, later))
+  all_runs P (x ∷ ls) (first, others) = grind (arith, all_runs P ls others)
 
   -- a line whose key is not in the part
   onto_dropped : (x : List ℕ) (rs : List Run) → line_taken x ≡ false
       → filter run_taken (cons_run job x rs) ≡ filter run_taken rs
-  onto_dropped x [] is = rw is refl
-  onto_dropped x (r ∷ rs) is = grind (arith, bytes_eq-Decides)
+  onto_dropped = grind (arith, bytes_eq-Decides)
 
   -- a line of the part before a run of its key
   onto_same : (x : List ℕ) (r : Run) (rs : List Run) → line_taken x ≡ true → key job x ≡ key job r.line
       → cons_run job x (filter run_taken (r ∷ rs)) ≡ filter run_taken (cons_run job x (r ∷ rs))
-  onto_same x r rs is same = grind (arith, common_steps)
+  onto_same = grind (arith, common_steps)
 
   -- a line before runs of other keys
   onto_other : (x : List ℕ) (rs : List Run) → AllByRecursion (λ run. key job x ≢ key job run.line) rs
       → cons_run job x rs ≡ run_of x 1 ∷ rs
-  onto_other x [] others = refl
-  onto_other x (r ∷ rs) (differs, _) = rw (other_key job x r.line differs) refl
+  onto_other = grind (arith, other_key)
 
   onto_apart : (x : List ℕ) (rs : List Run) → line_taken x ≡ true
       → AllByRecursion (λ run. key job x ≢ key job run.line) rs
       → cons_run job x (filter run_taken rs) ≡ filter run_taken (cons_run job x rs)
-  onto_apart x rs is others = grind (arith, onto_other, all_filter)
+  onto_apart = grind (arith, onto_other, all_filter)
 
   runs_taken : (ls : List (List ℕ)) → HasGroupedKeys job ls
       → runs job (filter line_taken ls) ≡ filter run_taken (runs job ls)
@@ -127,4 +105,4 @@ module _ (job : Uniq) (taken : List ℕ → Bool) where
       kept is (inr others) = onto_apart x (runs job ls) is (all_runs (λ other. key job x ≢ key job other) ls others)
 
 pub uniq_by_key : UniqByKey
-uniq_by_key job taken bytes grouped = grind (arith, lines-unlines, all_filter, lines_are, runs_taken)
+uniq_by_key = grind (arith, lines-unlines, all_filter, lines_are, runs_taken)

@@ -35,13 +35,12 @@ module _ (job : Uniq) where
 
   onto_first_run : (line : List ℕ) {l : List ℕ} {ls : List (List ℕ)} (t : Bool) → is_same job line l ≡ t → First l 1 ls
       → cons_run job line (runs_from job (run_of l 1) ls) ≡ chosen l ls line 1 t
-  onto_first_run line {l} true e f = grind (arith, bytes_eq-Decides)
-  onto_first_run line false e f = cc
+  onto_first_run = grind (arith, bytes_eq-Decides)
 
   -- the runs of a list of lines, from its first line
   pub runs_are : (line : List ℕ) (ls : List (List ℕ)) → runs job (line ∷ ls) ≡ runs_from job (run_of line 1) ls
   runs_are line [] = refl
-  runs_are line (l ∷ ls) = cc (runs_are l ls, onto_first_run line (is_same job line l) refl (first l 1 ls))
+  runs_are line (l ∷ ls) = grind (arith, onto_first_run, first, runs_are l ls)
 
   -- ---- one line more
 

@@ -10,5 +10,8 @@ some (suc n) h = omega arith
 pub returns : goal.returns
 returns c =
     let from = c.args.from.now in
-    cc (take_rest from 1, first_squeezed (set_has c.args.by.set) c.args.last from c.args.into.now
-          (some (length from) c.if-is_empty.ensures) (omega arith) (cc) c.from.ensures, )
+    cc (
+      take_rest from 1,
+      first_squeezed (set_has c.args.by.set) c.args.last from c.args.into.now
+          (some (length from) c.if-is_empty.ensures) (omega arith) (cc) c.from.ensures,
+    )

@@ -19,8 +19,11 @@ here c =
     let is = mask_from p m.size c.args.from m.bytes.now m.is in
     let counted = ap count_ones is ∙ ones-mask_l p v in
     c.nth_bit-at.ensures p v
-    (omega (arith, length-take-le (m.size - c.args.from) (drop c.args.from m.bytes.now)
-          (omega (arith, length-drop c.args.from m.bytes.now)), )) is (omega (arith, counted))
+    (omega (
+      arith,
+      length-take-le (m.size - c.args.from) (drop c.args.from m.bytes.now)
+          (omega (arith, length-drop c.args.from m.bytes.now)),
+    )) is (omega (arith, counted))
 
 pub returns-in_err-at : goal.returns-in_err-at
 returns-in_err-at c =
