@@ -7,12 +7,12 @@ use Rattle.ptmerge.proofs
 use proofs.Common.{nil_from_length, drop_more, length-drop, length-append, ◌≡◌, ℕ, suc, ◌+◌, ◌-◌, ◌≤◌, Bool, true}
 use proofs.Common.{false, List, [], ◌∷◌, Option, None, Some, length, drop, get_or, refl, sym, ap, arith, zero, ◌<◌}
 use proofs.Common.{◌==◌, cond, ◌++◌, take, append_assoc, position, IfSome, MatchOption, filter, is_some, slice_split}
-use proofs.Common.{nat_tests, drop-drop, take-append-drop, take_all, position_or_len_is, IsFirstByte, nth_field}
-use proofs.Common.{is_nonempty, is_blank, Lines, split_around, split_whole, IsFirstPieceEnd, IsFieldIn, IsPiece}
-use proofs.Common.{is_separator, entry_with_list, remaining_fields, IsKeySpan, IsFieldFound, is_evenly_separated}
-use proofs.Common.{around, ◌||◌, map, remove, unwrap_or, onto_first, join_with_byte, eqb-true, append-nil}
-use proofs.Common.{flat_map-append, Join, output_separator, entry, join_fields, or_filler, field_named, other_fields}
-use proofs.Common.{IsCanonical, is_single_spaced, with_prefix, ◌%◌, ◌^◌, eqb, replicate, bit_or, length-map}
+use proofs.Common.{nat_tests, drop-drop, take-append-drop, position_or_len_is, IsFirstByte, nth_field, is_nonempty}
+use proofs.Common.{is_blank, Lines, split_around, split_whole, IsFirstPieceEnd, IsFieldIn, IsPiece, is_separator}
+use proofs.Common.{entry_with_list, remaining_fields, IsKeySpan, IsFieldFound, is_evenly_separated, around, ◌||◌, map}
+use proofs.Common.{remove, unwrap_or, onto_first, join_with_byte, eqb-true, append-nil, flat_map-append, Join}
+use proofs.Common.{output_separator, entry, join_fields, or_filler, field_named, other_fields, IsCanonical}
+use proofs.Common.{is_single_spaced, with_prefix, ◌%◌, ◌^◌, eqb, replicate, bit_or, length-map}
 use Rattle.std.proofs.lemmas.List.{length-take-le}
 use Rattle.std.proofs.lemmas.List.Quantifiers.{position-Some}
 use Rattle.ptlangs.specs.declared.outlist.OutField.{OutField}
@@ -94,16 +94,16 @@ ends_at separator bytes at end first some =
 
 pub ends_whole : (separator : Option ℕ) (bytes : List ℕ) (end : Option ℕ)
     → end ≡ position (is_separator separator) bytes → end ≡ None → IsFirstPieceEnd separator bytes (length bytes)
-ends_whole separator bytes end first is_none = grind (arith, common_steps, split_whole)
+ends_whole = grind (arith, common_steps, split_whole)
 
 -- the first field begins at index 0
 front_span : (line bytes : List ℕ) (end : ℕ) → end ≤ length line → take end line ≡ bytes
     → IsKeySpan line bytes (record { start = 0; end = end })
-front_span line bytes end within is = grind arith
+front_span = grind arith
 
 pub first_piece_span : (c number end : ℕ) (line : List ℕ) → number ≤ 1 → IsFirstPieceEnd (Some c) line end
     → IsKeySpan line (nth_field number (remaining_fields (Some c) (Some line))) (record { start = 0; end = end })
-first_piece_span c number end line low e = grind (arith, front_span)
+first_piece_span = grind (arith, front_span)
 
 -- ---- an empty word is skipped
 
@@ -115,9 +115,7 @@ pub skip_empty_word : (separator : Option ℕ) (bytes field : List ℕ) (remaind
     → MatchOption remainder (slice_split (is_separator separator) bytes ≡ field ∷ [])
     (λ left. slice_split (is_separator separator) bytes ≡ field ∷ slice_split (is_separator separator) left)
     → remaining_fields separator remainder ≡ remaining_fields separator (Some bytes)
-skip_empty_word (Some c) bytes field remainder none empty first = cc
-skip_empty_word None bytes field None none empty first = grind (arith, empty_word)
-skip_empty_word None bytes field (Some left) none empty first = grind (arith, empty_word)
+skip_empty_word = grind (arith, empty_word)
 
 -- ---- writing lines field by field
 
@@ -147,7 +145,7 @@ pub entry_plain : (job : Join) (k : List ℕ) (one two : Option (List ℕ)) → 
     → entry job k (remaining_fields job.separator one) (remaining_fields job.separator two) ≡ k
     ++ (with_prefix (output_separator job.separator) (other_fields job.field1 (remaining_fields job.separator one))
     ++ with_prefix (output_separator job.separator) (other_fields job.field2 (remaining_fields job.separator two)))
-entry_plain job k one two none = grind (arith, join_is_prefixed, flat_map-append)
+entry_plain = grind (arith, join_is_prefixed, flat_map-append)
 
 pub between_is : (separator : Option ℕ) → output_separator separator ≡ unwrap_or separator 32
 between_is separator = grind arith
@@ -156,8 +154,7 @@ between_is separator = grind arith
 pub first_then_rest : (f : OutField → List ℕ) (items : List OutField) (d : OutField) → 1 ≤ length items
     → {bytes : List ℕ} → bytes ≡ f (get_or items 0 d)
     → map f items ≡ bytes ∷ map f (take (length items - 1) (drop 1 items))
-first_then_rest f [] d s e = absurd (omega arith)
-first_then_rest f (x ∷ l) d s e = cc (take_all (length (x ∷ l) - 1) l (omega arith))
+first_then_rest = grind (arith, common_steps)
 
 -- the output for one item
 abbrev pub output_item : Join → List ℕ → Option (List ℕ) → Option (List ℕ) → OutField → List ℕ
@@ -169,7 +166,7 @@ pub entry_listed : (job : Join) (k : List ℕ) (one two : Option (List ℕ)) (it
     → 1 ≤ length items → {bytes : List ℕ} → bytes ≡ output_item job k one two (get_or items 0 d)
     → entry_with_list job (Some items) k one two ≡ bytes ++ with_prefix (output_separator job.separator)
     (map (output_item job k one two) (take (length items - 1) (drop 1 items)))
-entry_listed job k one two items d some {bytes} first = grind (arith, first_then_rest, join_is_prefixed)
+entry_listed = grind (arith, first_then_rest, join_is_prefixed)
 
 -- ---- words with single spaces are written unchanged
 
@@ -202,13 +199,12 @@ single_spaced_words false (b ∷ bytes) tidy =
 -- a canonical line is its field with this number, followed by the other fields
 line_is : (b n : ℕ) (fs : Lines) (line key : List ℕ) → with_prefix b fs ≡ b ∷ line → n - 1 ≡ 0 → nth_field n fs ≡ key
     → line ≡ key ++ with_prefix b (other_fields n fs)
-line_is b n [] line key is first keyed = cc
-line_is b n (f ∷ fs) line key is first keyed = cc
+line_is = grind arith
 
 -- the rest of a line after its first field
 after_key : (key rest line : List ℕ) → line ≡ key ++ rest
     → take (length line - length key) (drop (length key) line) ≡ rest
-after_key key rest line is = grind (arith, common_steps, length-append)
+after_key = grind (arith, common_steps, length-append)
 
 module _ (job : Join) (key : List ℕ) (none : job.list ≡ None) where
   abbrev prefix : ℕ
@@ -287,11 +283,7 @@ pub after_piece : (separator : Option ℕ) (line field : List ℕ) (remainder : 
     → is_evenly_separated separator line ≡ true
     → with_prefix (output_separator separator) (remaining_fields separator remainder) ≡ drop end line
 after_piece separator line field None end p e even = grind (arith, common_steps)
-after_piece separator line field (Some bytes) end p e even =
-    let (byte, ends, test) = p.ends in
-    let front = p.front ++ field in
-    let split : line ≡ front ++ byte ∷ bytes = rw (p.is, ends) (simp append_assoc) in
-    grind (arith, common_steps, split, by separator byte test)
+after_piece separator line field (Some bytes) end p e even = grind (arith, common_steps, by)
   where
     by : (separator : Option ℕ) (byte : ℕ) → is_separator separator byte ≡ true
         → is_evenly_separated separator ((p.front ++ field) ++ byte ∷ bytes) ≡ true
@@ -334,7 +326,14 @@ around_is separator number line (Some span) f even =
     let line_is : before ++ (c ∷ (word ++ rest)) ≡ c ∷ line =
     let all = rw (← take-append-drop (number - 1) fs, f.is, flat_map-append) at (even_prefixed separator line even) in
     cc (f.after even, all) in
-    let long : length before ≡ span.start = omega (arith, ap length line_is, length-append before (c ∷ (word ++ rest)), length-append word rest, length-drop span.end line, length-take-le (span.end - span.start) (drop span.start line)
-          (omega (arith, length-drop span.start line)), ) in
+    let long : length before ≡ span.start = omega (
+      arith,
+      ap length line_is,
+      length-append before (c ∷ (word ++ rest)),
+      length-append word rest,
+      length-drop span.end line,
+      length-take-le (span.end - span.start) (drop span.start line)
+          (omega (arith, length-drop span.start line)),
+    ) in
     let cut = rw long at (cut_before c before (word ++ rest) line line_is rest) in
     rw (remove_at fs (number - 1) word f.more f.is, flat_map-append, f.after even) cut

@@ -33,7 +33,7 @@ use Rattle.std.proofs.lemmas.Grind.{common_steps}
 -- a key up to k is at most all keys that may follow, if k is
 pub under_lower : {cmp : Cmp} (o : IsKeyOrder cmp) (b : Bound) (x k : List ℕ) → AtMost cmp x k → IsUnder cmp b k
     → IsUnder cmp b x
-under_lower o b x k h u = grind (arith, at_most_trans)
+under_lower = grind (arith, at_most_trans)
 
 -- a property of k holds for the keys of all lines of its group
 pub all_own_keys : (P : List ℕ → Type 0) (key : Key) (k : List ℕ) (g : Lines) → P k → EachKey (λ x. x ≡ k) key g
@@ -195,20 +195,20 @@ pub size_of : (call : JoinCall) {store : Slots} {ls : Side → Lines} {g : Lines
     → (store.peak ≤ max call.old.store.peak (call.size all))
     × (length store.lines ≤ max (length call.old.store.lines) (call.slots all))
     × (max (length call.old.store.lines) 4 ≤ length store.lines) × (total_bytes store.lines ≤ call.size all)
-size_of call {store} {ls} {g} h all up more = grind (arith, has_lines_total)
+size_of = grind (arith, has_lines_total)
 
 module _ (call : JoinCall) {store : Slots} {ls : Side → Lines} {g : Lines}
     (h : GroupStore call.most call.old.store store ls g) {now : Side → Reader} where
   -- a piece of a further line stays within the measure
   pub peak_line : (s : Side) (cursor : Sorted) → HasSlots s cursor → (piece : List ℕ)
       → Fits call.tool call.old.store now ls (with_side s piece (λ t. [])) (with_line store cursor.previous_slot piece)
-  peak_line s cursor slots piece all w = grind (arith, common_steps, group_store_line, put_same, extends, size_of)
+  peak_line = grind (arith, common_steps, group_store_line, put_same, extends, size_of)
 
   -- a store with no more bytes and no more slots stays within the measure
   pub fits_kept : (after : Slots) → after.peak ≤ max store.peak (total_bytes store.lines)
       → length after.lines ≡ length store.lines → {piece : Side → List ℕ}
       → Fits call.tool call.old.store now ls piece after
-  fits_kept after peak same all w = grind (arith, common_steps, size_of, extends)
+  fits_kept = grind (arith, common_steps, size_of, extends)
 
 pub store_between_groups : (call : JoinCall) {reader : Side → Reader} {cursor : Side → Sorted} {store : Slots}
     {ls : Side → Lines} → GroupStore call.most call.old.store store ls [] → AllSlots cursor
@@ -220,11 +220,7 @@ pub same_cursors : (tool : MergeTool) {old now : Side → Reader} {cursor : Side
     {ls p : Side → Lines} {b : Side → Bound} → SidesInvariant tool old now cursor before ls p b
     → AllSlots cursor → ((i : ℕ) → i < 4 → line after i ≡ line before i)
     → SidesInvariant tool old now cursor after ls p b
-same_cursors tool {old} {now} {cursor} {before} {after} {ls} {p} {b} sides slots same side = grind (
-  arith,
-  low_slot,
-  side_invariant_kept,
-)
+same_cursors = grind (arith, low_slot, side_invariant_kept)
 
 -- ---- the output of a group
 
@@ -372,7 +368,7 @@ module _ {call : JoinCall} {now : MergeState} {cursor : Side → Sorted} {end : 
   pub group_kept : AllSlots cursor → {after : Slots} → ((i : ℕ) → i < 4 → line after i ≡ line now.store i)
       → {lines : Lines} → GroupStore call.most old.store after q.ls lines → {to : ℕ} → to ≡ 4 + length lines
       → GroupState call (record now { store = after }) cursor to k g lines
-  group_kept slots same keeps at = search (rules, same_cursors)
+  group_kept = search (rules, same_cursors)
 
   -- the input `s` is at a further line of the group
   pub record IsAtGroupLine (s : Side) : Type 0 where

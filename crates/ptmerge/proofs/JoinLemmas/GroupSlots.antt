@@ -3,19 +3,20 @@
 -- of one key, so it is bounded by the largest group.
 use Rattle.ptmerge.proofs
 use proofs.Common.{◌≡◌, ⊎_elim, inl, ℕ, ◌+◌, ◌-◌, ◌≤◌, ◌<◌, suc, true, false, length-drop, List, [], ◌∷◌, ◌++◌}
-use proofs.Common.{length, map, drop, get_or, set, max, refl, sym, ap, ◌∙◌, arith, ◌*◌, cond, Option, append_assoc}
+use proofs.Common.{length, map, drop, get_or, set, max, refl, ap, ◌∙◌, arith, ◌*◌, Option, append_assoc}
 use proofs.Common.{length-append, append-nil, length-set, drop_more, drop-set-add, take_more, drop-set-lt, set_at}
-use proofs.Common.{take_at, bytes_eq, sum_by_push, sum_by-append, sum_by-cons, Slots, line, total_bytes, with_line}
-use proofs.Common.{with_denied, unlines, max_length, total_bytes_set, Join, ClearGroupPost, EnsureSlotPost}
-use proofs.Common.{CopyToGroupErrPost, group, CopyToGroupPost, entry, join_fields, pair_entries, max_over_keys}
-use proofs.Common.{max_group_bytes, max_group_lines, Lines, lines_with_key, Reader, Side, First, Second, Sorted, Cmp}
-use proofs.Common.{Key, HasSlots, with_side}
+use proofs.Common.{take_at, sum_by_push, sum_by-append, sum_by-cons, Slots, line, total_bytes, with_line, with_denied}
+use proofs.Common.{unlines, max_length, total_bytes_set, Join, ClearGroupPost, EnsureSlotPost, CopyToGroupErrPost}
+use proofs.Common.{group, CopyToGroupPost, entry, join_fields, pair_entries, max_over_keys, max_group_bytes}
+use proofs.Common.{max_group_lines, Lines, lines_with_key, Reader, Side, First, Second, Sorted, Cmp, Key, HasSlots}
+use proofs.Common.{with_side}
 use proofs.MergeLemmas.Slots.{line_other, HasLines, StoreOfLines, has_lines_total, set_line, put_each, put_same}
 use proofs.MergeLemmas.Orders.{EachKey, same_bytes}
 use proofs.MergeLemmas.Exits.{SideAfterNext}
 use proofs.MergeLemmas.Step.{own_slots, slot_low}
 use Rattle.std.proofs.Math.ListN.{get_or-append}
 use Rattle.std.proofs.lemmas.Grind.{common_steps}
+use Rattle.std.proofs.Common.{rules}
 
 -- the lines of the group, from a slot on
 pub group_from : (store : Slots) (end slot : ℕ) → end ≤ length store.lines → slot < end
@@ -35,7 +36,7 @@ group_more store from end least within =
 -- the lines of one slot
 pub group_one : (store : Slots) (slot : ℕ) → slot < length store.lines
     → group store slot (slot + 1) ≡ line store slot ∷ []
-group_one store slot within = grind (arith, group_more, group_end)
+group_one = grind (arith, group_more, group_end)
 
 -- ---- the output
 
@@ -89,7 +90,7 @@ ensured_slot before made slot g =
 
 pub failed_copy : (before made : Slots) (to : ℕ) → EnsureSlotPost before made to
     → CopyToGroupErrPost before (with_denied (with_line made to [])) to
-failed_copy before made to g = grind (arith, common_steps, ensured_slot, total_bytes_set)
+failed_copy = grind (arith, common_steps, ensured_slot, total_bytes_set)
 
 -- ---- the largest group
 
@@ -104,13 +105,8 @@ module _ (m : Lines → ℕ) (laws : IsLineMeasure m) (key : Key) where
   group_measure_max : (k : List ℕ) (p g c : Lines) → EachKey (λ x. x ≡ k) key g
       → m g ≤ m (lines_with_key key (p ++ (g ++ c)) k)
   group_measure_max k [] [] c e = omega arith
-  group_measure_max k [] (x ∷ g) c (here, more) = rw (same_bytes here)
-      (omega (arith, laws.more x g, laws.more x (lines_with_key key (g ++ c) k), group_measure_max k [] g c more))
-  group_measure_max k (x ∷ p) g c e =
-      let ih = group_measure_max k p g c e in
-      let ls : Lines = lines_with_key key _ k in
-      elim (bytes_eq (key x) k) as (λ t. m g ≤ m (cond t (x ∷ ls) ls))
-      [ true ↦ omega (arith, laws.more x ls) | false ↦ ih ]
+  group_measure_max k [] (x ∷ g) c (here, more) = grind (arith, same_bytes, group_measure_max k [] g c more)
+  group_measure_max k (x ∷ p) g c e = grind (arith, group_measure_max k p g c e)
 
   greatest_has : (ls p : Lines) (y : List ℕ) (w : Lines)
       → m (lines_with_key key ls (key y)) ≤ max_over_keys m key ls (p ++ y ∷ w)
@@ -121,7 +117,7 @@ module _ (m : Lines → ℕ) (laws : IsLineMeasure m) (key : Key) where
   measure_in : (k : List ℕ) (p g : Lines) (y : List ℕ) (w : Lines) → EachKey (λ x. x ≡ k) key (g ++ y ∷ []) → key y ≡ k
       → m (g ++ y ∷ [])
       ≤ max_over_keys m key (((p ++ g) ++ y ∷ []) ++ w) (((p ++ g) ++ y ∷ []) ++ w)
-  measure_in k p g y w own is = grind (arith, common_steps, group_measure_max, greatest_has)
+  measure_in = grind (arith, common_steps, group_measure_max, greatest_has)
 
 -- the most bytes and the most lines of a group, by the lines of the second input
 pub record GroupBounds : Type 0 where
@@ -148,16 +144,12 @@ group_in key k p g y w own is = (
 -- ---- the content of the slots
 
 drop_total : (xs : Lines) (m : Side → ℕ) (more : ℕ) → HasLines m more xs → total_bytes (drop 4 xs) ≡ more
-drop_total (a ∷ b ∷ c ∷ d ∷ rest) m more h = h.4
-drop_total xs m more h = absurd h
+drop_total = grind arith
 
 -- the first four slots are unchanged, and the others hold `now` bytes
 same_lines : (xs ys : Lines) (m : Side → ℕ) (more now : ℕ) → HasLines m more xs → 4 ≤ length ys
     → ((i : ℕ) → i < 4 → get_or ys i [] ≡ get_or xs i []) → total_bytes (drop 4 ys) ≡ now → HasLines m now ys
-same_lines (a ∷ b ∷ c ∷ d ∷ rest) (s ∷ t ∷ u ∷ v ∷ end) m more now h four same is =
-    grind (arith, same 0, same 1, same 2, same 3)
-same_lines (a ∷ b ∷ c ∷ d ∷ rest) ys m more now h four same is = absurd (omega (arith, four))
-same_lines xs ys m more now h four same is = absurd h
+same_lines = grind arith
 
 -- The invariant of the store of `join`: two lines of each input, and then the lines of the group.
 pub record GroupStore (most : GroupBounds) (before store : Slots) (ls : Side → Lines) (g : Lines) : Type 0 where
@@ -175,7 +167,7 @@ pub record GroupStore (most : GroupBounds) (before store : Slots) (ls : Side →
 
 pub group_store_starts : {most : GroupBounds} {before store : Slots} {ls : Side → Lines}
     → StoreOfLines before store (λ side. max_length (ls side)) → GroupStore most before store ls []
-group_store_starts {before = before} {store} {ls} k = grind (arith, drop_total)
+group_store_starts = grind (arith, drop_total)
 
 -- each input uses its own two slots
 abbrev pub AllSlots : (Side → Sorted) → Type 0
@@ -211,8 +203,14 @@ group_store_line {store = store} {after} {ls} {now} {g} s cursor slots x k up fi
       split = drop-set-lt 4 store.lines cursor.previous_slot x (low_slot s cursor slots).previous ∙ k.split;
       empty = k.empty;
       lines = inside;
-      bounds = λ all more e. omega (arith, k.bounds all (continues_key.more ++ more)
-            (cc (append_assoc (ls Second) continues_key.more more)), up First, up Second, size, );
+      bounds = λ all more e. omega (
+        arith,
+        k.bounds all (continues_key.more ++ more)
+            (cc (append_assoc (ls Second) continues_key.more more)),
+        up First,
+        up Second,
+        size,
+      );
       least = omega (arith, size);
       four = omega (arith, size);
       denied = k.denied;
@@ -221,8 +219,7 @@ group_store_line {store = store} {after} {ls} {now} {g} s cursor slots x k up fi
 -- the lines that an input continues with, after one input advanced
 pub put_more : (s : Side) (ls : Side → Lines) (now more : Lines) → now ≡ ls s ++ more
     → Extends (ls Second) (with_side s now ls Second)
-put_more First ls now more e = record { more = []; is = sym (append-nil (ls Second)) }
-put_more Second ls now more e = record { more = more; is = e }
+put_more = search rules
 
 -- an input advances
 pub group_store_next : {most : GroupBounds} {own : Key} {before store after : Slots} {ls : Side → Lines} {g : Lines}
@@ -263,11 +260,11 @@ module _ {most : GroupBounds} {before store : Slots} {ls : Side → Lines} {g : 
   pub group_store_copied : {after : Slots} {from to : ℕ} → to ≡ 4 + length g → from < 4
       → CopyToGroupPost store after from to → {y : List ℕ} → line store from ≡ y
       → ((l : Lines) → InGroup most (g ++ y ∷ []) (ls Second ++ l)) → CopiedLine after y
-  group_store_copied {after} {from} {to} at low e {y} is largest = grind (arith, ensured_slot, made_same, kept)
+  group_store_copied = grind (arith, ensured_slot, made_same, kept)
 
   -- the lines of the group are in its slots
   pub kept_line : (slot : ℕ) → 4 ≤ slot → slot < 4 + length g → line store slot ≡ get_or g (slot - 4) []
-  kept_line slot from low = grind (arith, common_steps)
+  kept_line = grind (arith, common_steps)
 
   pub group_is : {end : ℕ} → end ≡ 4 + length g → group store 4 end ≡ g
   group_is at = rw k.split (take_at g k.tail _ (omega (arith, at)))

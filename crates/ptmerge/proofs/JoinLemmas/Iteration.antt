@@ -441,16 +441,7 @@ module _ {job : Join} {cmp : Cmp} {key : Side → Key} {old : MergeState} {phase
 
         -- the previous line stands for the group, if none is copied
         one_for_all : a.kept ≡ [] → IsOneForAll call a.k (line made two2.previous_slot) a.kept (a.g ++ y ∷ [])
-        one_for_all none = record {
-          none = none;
-          own = rw (last_stays at_second comes) (a.heads Second).is;
-          same_pairs = rw (last_stays at_second comes) (by call.keeps_groups refl);
-        }
-          where
-            by : (t : Bool) → call.keeps_groups ≡ t → (f : Lines)
-                → call.pairs a.k f (y ∷ []) ≡ call.pairs a.k f (a.g ++ y ∷ [])
-            by true keeps f = cc (all_copied keeps)
-            by false without f = grind (arith, call.laws.unwritten without)
+        one_for_all = grind (arith, last_stays, at_second, a, all_copied)
 
         -- the previous line was copied, too
         module _ {after : Slots} (keeps : call.keeps_groups ≡ true)
@@ -515,7 +506,7 @@ module _ {job : Join} {cmp : Cmp} {key : Side → Key} {old : MergeState} {phase
           rw e.memory (exit_is_merge_post call.w _ (group_read_facts q) lag first (λ all more.
           let size = size_of call q.keeps all (λ side. omega (arith, (more side).longest)) (extends (more Second)) in
           let (_, many) = call.laws.largest e.keeps _ _ (inside e.came (more Second).continues.more) in
-          omega (arith, ap length (all_copied e.keeps), size, ap call.most.lines (more Second).continues.is, call.laws.slots all, length_push a.g y, )) (both_begun (group_begun q)) (λ side fail. cc (none_failed q side, call.w.unfailed side)) (Err Memory)
+          omega (arith, ap length (all_copied e.keeps), size, ap call.most.lines (more Second).continues.is, call.laws.slots all, length_push a.g y)) (both_begun (group_begun q)) (λ side fail. cc (none_failed q side, call.w.unfailed side)) (Err Memory)
           (record {
             denied = e.copy_failed.denied;
             unfailed = λ side read. none_failed q side;

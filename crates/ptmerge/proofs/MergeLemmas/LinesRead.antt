@@ -139,7 +139,7 @@ module _ {end : ℕ} {old now new : Reader} {ls : List (List ℕ)} {piece : List
   pub begun_gives_line : HasBegun now ls → ¬ HasNoLine end came
   begun_gives_line begun none =
       let known = lines_read_known.known in
-      grind (arith, common_steps, complete_lines_none end _ none.unterminated, done_gives_nothing, length-append ls known.more, )
+      grind (arith, common_steps, complete_lines_none end _ none.unterminated, done_gives_nothing, length-append ls known.more)
 
   -- at most one line was read, or a part of it
   pub one_line_and_block : IsSound new → length ls + length (lines end piece) ≤ 1

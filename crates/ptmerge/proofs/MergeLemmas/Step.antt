@@ -395,7 +395,7 @@ module _ {tool : MergeTool} {old : MergeState} (w : IsOpenMerge tool old) {reade
           unfailed = λ side read. none_failed side;
           clean = clean;
           not_denied = clear.denied ∙ a.holds.denied;
-          empty = omega (arith, (has_lines_total store.lines (λ side. max_length (ls side)) 0 a.holds.lines).is, );
+          empty = omega (arith, (has_lines_total store.lines (λ side. max_length (ls side)) 0 a.holds.lines).is);
         }
 
     concludes : (result : Result (Unit {0}) MergeFault)
