@@ -355,7 +355,10 @@ module _ (role : SetRole) where
     first_set_element-StartsElement,
   )
   fault_is has_fill us (LaterFault f vs rest p x j b e later) =
-      cc (set_elements-first vs p rest (first_set_element-StartsElement vs p rest b), fault_is (f || is_fill (Ok x)) rest later, )
+      cc (
+        set_elements-first vs p rest (first_set_element-StartsElement vs p rest b),
+        fault_is (f || is_fill (Ok x)) rest later,
+      )
 
   is_fault : (xs : List (Result SetElement SetFaultKind)) (has_fill : Bool) (us : List SetChar) (k : SetFaultKind)
       → set_elements us ≡ xs → sequence (segments role has_fill xs) ≡ Err k → FirstFault role has_fill us k

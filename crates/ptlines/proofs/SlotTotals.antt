@@ -116,7 +116,11 @@ module _ (slots : List SlotBuffer) (slot : ℕ) {byte_count before : ℕ} (had :
   pub line_le_total : length had.line ≤ byte_count
   line_le_total =
       let same = sym (set-get_or slots slot had) ∙ ap (set slots slot) (sym was) in
-      omega (arith, total_bytes_set (slot_lines slots) slot [] (grind (arith, low)), ap length (line_was slots slots slot had had had within same was), )
+      omega (
+        arith,
+        total_bytes_set (slot_lines slots) slot [] (grind (arith, low)),
+        ap length (line_was slots slots slot had had had within same was),
+      )
 
   pub counted_after_set : (new : SlotBuffer) {now peak : ℕ} → length new.line ≤ 2 ^ 63
       → new.buffer_size ≤ max had.buffer_size (2 * length new.line + 64)
@@ -124,7 +128,13 @@ module _ (slots : List SlotBuffer) (slot : ℕ) {byte_count before : ℕ} (had :
       → AreCounted now peak (set slots slot new)
   counted_after_set new {now} {peak} few room moves less more =
       let after = set slots slot new in
-      let total : now ≡ total_bytes (slot_lines after) = omega (arith, ap total_bytes (lines_are slots after slot had new had within refl was), total_bytes_set (slot_lines slots) slot new.line (grind (arith, common_steps, low)), ap length (line_was slots after slot had new had within refl was), ) in
+      let total : now ≡ total_bytes (slot_lines after) =
+      omega (
+        arith,
+        ap total_bytes (lines_are slots after slot had new had within refl was),
+        total_bytes_set (slot_lines slots) slot new.line (grind (arith, common_steps, low)),
+        ap length (line_was slots after slot had new had within refl was),
+      ) in
       record {
         total = total;
         below_peak = less;

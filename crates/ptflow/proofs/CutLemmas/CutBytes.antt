@@ -126,7 +126,11 @@ module _ (job : Cut) (by_bytes : job.fields ≡ false) where
       let ls = complete_lines end given in
       -- with one terminator more, the piece is a line too
       let all_lines : lines end (given ++ end ∷ []) ≡ ls ++ p.piece ∷ [] =
-      cc (append_assoc (unlines end ls) p.piece (end ∷ []), lines_of_unlines end ls (p.piece ++ end ∷ []) p.whole, lines_cons end p.piece [] p.line) in
+      cc (
+        append_assoc (unlines end ls) p.piece (end ∷ []),
+        lines_of_unlines end ls (p.piece ++ end ∷ []) p.whole,
+        lines_cons end p.piece [] p.line,
+      ) in
       record {
         rest = select_from job.selected 1 p.piece;
         is = grind (arith, common_steps, rest_line, rest_of_all, unlines-append, made_is);

@@ -62,7 +62,12 @@ bounds_line {width} {most} {store} new slot bytes bounds within fits is = record
   short = short;
   others = others;
   peak =
-      omega (arith, ap (λ s. s.peak) is, ap (λ s. total_bytes s.lines) is, bounded_total width most new.lines short others);
+      omega (
+        arith,
+        ap (λ s. s.peak) is,
+        ap (λ s. total_bytes s.lines) is,
+        bounded_total width most new.lines short others,
+      );
 }
   where
     same_length : length new.lines ≡ length store.lines

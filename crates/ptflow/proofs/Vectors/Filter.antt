@@ -160,7 +160,14 @@ module _ (test : ℕ → Bool) where
         is =
             let before_rest = drop (at + n) before in
             let rest = drop (at + n) bytes in
-            cc (append_assoc (take count into) (kept_at at n) (kept_bytes test before_rest rest), take-append-drop n (drop at before), take-append-drop n (drop at bytes), drop-drop n at before, drop-drop n at bytes, kept_append (chunk at n before) (chunk at n bytes) before_rest rest (same_length at n room));
+            cc (
+              append_assoc (take count into) (kept_at at n) (kept_bytes test before_rest rest),
+              take-append-drop n (drop at before),
+              take-append-drop n (drop at bytes),
+              drop-drop n at before,
+              drop-drop n at bytes,
+              kept_append (chunk at n before) (chunk at n bytes) before_rest rest (same_length at n room),
+            );
         pre = record { within = room; room = omega arith };
       }
 

@@ -506,7 +506,15 @@ module _ {job : Join} {cmp : Cmp} {key : Side → Key} {old : MergeState} {phase
           rw e.memory (exit_is_merge_post call.w _ (group_read_facts q) lag first (λ all more.
           let size = size_of call q.keeps all (λ side. omega (arith, (more side).longest)) (extends (more Second)) in
           let (_, many) = call.laws.largest e.keeps _ _ (inside e.came (more Second).continues.more) in
-          omega (arith, ap length (all_copied e.keeps), size, ap call.most.lines (more Second).continues.is, call.laws.slots all, length_push a.g y)) (both_begun (group_begun q)) (λ side fail. cc (none_failed q side, call.w.unfailed side)) (Err Memory)
+          omega (
+            arith,
+            ap length (all_copied e.keeps),
+            size,
+            ap call.most.lines (more Second).continues.is,
+            call.laws.slots all,
+            length_push a.g y,
+          ))
+          (both_begun (group_begun q)) (λ side fail. cc (none_failed q side, call.w.unfailed side)) (Err Memory)
           (record {
             denied = e.copy_failed.denied;
             unfailed = λ side read. none_failed q side;

@@ -71,7 +71,7 @@ module _ {end : ℕ} {cmp : Cmp} {key : Key} {old now : Reader} {cursor : Sorted
   pub side_invariant_kept : {after : Slots} → line after cursor.current_slot ≡ line store cursor.current_slot
       → line after cursor.previous_slot ≡ line store cursor.previous_slot
       → SideInvariant end cmp key old now cursor after ls p b
-  side_invariant_kept {after} same1 same2 = grind (arith, common_steps)
+  side_invariant_kept = grind (arith, common_steps)
 
   pub at_current_line : cursor.status ≡ Head
       → IsAtCurrentLine cmp key cursor.number (line store cursor.current_slot) ls p b
@@ -116,12 +116,12 @@ status_after_next : (cmp : Cmp) (key : Key) (last : Option (List ℕ)) (cursor :
     → IsLastKey key last cursor store
     → status_at key cmp cursor.number (line store cursor.current_slot) next
     ≡ cond (is_disordered cmp last (key next)) (Disorder (cursor.number + 1)) Head
-status_after_next cmp key last cursor store next l = grind (arith, nat_tests)
+status_after_next = grind (arith, nat_tests)
 
 -- nothing follows
 nothing_follows : (cmp : Cmp) (key : Key) (last : Option (List ℕ)) (r : Lines) → r ≡ []
     → MayFollow cmp key (bound_after last) r
-nothing_follows cmp key last r none = grind arith
+nothing_follows = grind arith
 
 from_next : {cmp : Cmp} (o : IsKeyOrder cmp) (key : Key) (last : Option (List ℕ)) (x : List ℕ)
     → is_disordered cmp last (key x) ≡ false
@@ -154,8 +154,7 @@ module _ (end : ℕ) (cmp : Cmp) (o : IsKeyOrder cmp) (key : Key) (old now new :
       → ((r : Lines) → MayFollow cmp key b r → MayFollow cmp key (bound_after last) r)
       → ((k : List ℕ) → IsUnder cmp (bound_after last) k → IsUnder cmp b k)
       → after ≡ with_line before cursor.previous_slot bytes → length bytes ≤ max_length (ls ++ more) → Goal last q
-  at_next last more bytes q b lines_read begun sound processed_nearly number processed_prefix ended status_is may_follow
-      under stored fits = grind (arith, max_length-append, reads_nothing)
+  at_next = grind (arith, max_length-append, reads_nothing)
 
   -- a line was read
   module _ (e : FillLine now new before after cursor.previous_slot) (sound : IsSound new)
@@ -189,7 +188,7 @@ module _ (end : ℕ) (cmp : Cmp) (o : IsKeyOrder cmp) (key : Key) (old now new :
         → cursor.current_slot ≢ cursor.previous_slot → IsSortedUpTo cmp key ls last → IsLastKey key last cursor before
         → (t : Bool) → is_disordered cmp last (key e.line) ≡ t
         → Goal last (next_cursor (cond t (Disorder (cursor.number + 1)) Head) (cursor.number + 1) same)
-    at_line last within apart sorted_up_to is t h = search (rules, at_fall, at_head)
+    at_line = search (rules, at_fall, at_head)
 
   pub next_invariant : {last : Option (List ℕ)} → cursor.previous_slot < length before.lines
       → cursor.current_slot ≢ cursor.previous_slot → LinesRead end old now ls → cursor.number ≡ length ls
@@ -214,7 +213,7 @@ pub next_same_key : (cmp : Cmp) (o : IsKeyOrder cmp) (key : Key) (cursor next : 
     → NextOkPost key cmp cursor next now new before after
     → next.same ≡ (is_head next.status && bytes_eq (key (line before cursor.current_slot))
     (key (line after next.current_slot)))
-next_same_key cmp o key cursor next now new before after some within e = grind (arith, line_of_with_line, equal_is)
+next_same_key = grind (arith, line_of_with_line, equal_is)
 
 -- ---- an exit
 
@@ -455,7 +454,7 @@ merge_set {tool} {old} {new} {set} clean is m = record {
 -- the output had failed, and nothing was done
 pub merge_halted : (tool : MergeTool) (old : MergeState) → old.store.denied ≡ false → old.out.write_failed ≡ true
     → MergePost tool old old (Err Write)
-merge_halted tool old allowed fault = grind (arith, call_on_failed_output)
+merge_halted = grind (arith, call_on_failed_output)
 
 -- one of the first slots could not be added
 pub merge_without_slots : {tool : MergeTool} {old : MergeState} → IsOpenMerge tool old → {new : MergeState}

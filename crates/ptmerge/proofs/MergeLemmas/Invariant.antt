@@ -2,13 +2,13 @@
 -- key than a processed line. So the output for the processed lines is a prefix of the output for all inputs that begin
 -- with the lines read so far.
 use Rattle.ptmerge.proofs
-use proofs.Common.{nat_tests, ◌≡◌, ℕ, ◌+◌, List, [], ◌∷◌, ◌++◌, Bool, true, false, cond, Option, Some, None, length}
-use proofs.Common.{refl, ◌∙◌, map, append_assoc, arith, nat_lt, unwrap_or, if◌then◌else◌, last_or, is_gt, Lines}
-use proofs.Common.{sorted_prefix, first_disorder, FirstDisorder, Cmp, Key, ◌&&◌, not, ap, sym, append-nil}
-use proofs.Common.{flat_map-append, filter, flat_map, Greater, Side, First, Second, MergeTool, insert_key}
-use proofs.Common.{distinct_keys, keys, entries_of_key, entries_by_key, earlier_disorder, is_up_to, subst, is_lt}
-use proofs.Common.{Output, PushEffect, unlines, push_trans, push_nothing, unlines-append, disorder, is_below}
-use proofs.Common.{is_decided, is_past, merged_entries, lines_with_key, option_map, with_side, disordered_line}
+use proofs.Common.{◌≡◌, ℕ, ◌+◌, List, [], ◌∷◌, ◌++◌, Bool, true, false, cond, Option, Some, None, length, refl, ◌∙◌}
+use proofs.Common.{map, append_assoc, arith, nat_lt, unwrap_or, if◌then◌else◌, last_or, is_gt, Lines, sorted_prefix}
+use proofs.Common.{first_disorder, FirstDisorder, Cmp, Key, ◌&&◌, not, ap, sym, append-nil, flat_map-append, filter}
+use proofs.Common.{flat_map, Greater, Side, First, Second, MergeTool, insert_key, distinct_keys, keys, entries_of_key}
+use proofs.Common.{entries_by_key, earlier_disorder, is_up_to, subst, is_lt, Output, PushEffect, unlines, push_trans}
+use proofs.Common.{push_nothing, unlines-append, disorder, is_below, is_decided, is_past, merged_entries}
+use proofs.Common.{lines_with_key, option_map, with_side, disordered_line}
 use proofs.MergeLemmas.Orders.{IsKeyOrder, AtMost, at_most_trans, self_at_most, EachKey, EachKey-weaker, Above}
 use proofs.MergeLemmas.Orders.{at_most_is_le, above_trans, less_flips, Each, Each-weaker, Each-insert, Each-distinct}
 use proofs.MergeLemmas.Orders.{Each-append, Each-all, EachKey-append, front_first, greater_flips}
@@ -47,8 +47,7 @@ by_length cmp key last n part ls = if nat_lt (length part) (length ls) then Some
 by_length_is : (cmp : Cmp) (key : Key) (last : Option (List ℕ)) (n : ℕ) (ls : Lines)
     → by_length cmp key last n (sorted_after cmp key last ls) ls ≡ disorder_after cmp key last n ls
 by_length_is cmp key last n [] = refl
-by_length_is cmp key last n (x ∷ w) = let ih = by_length_is cmp key (Some (key x)) (n + 1) w in
-    grind (arith, nat_tests)
+by_length_is cmp key last n (x ∷ w) = grind (arith, by_length_is cmp key (Some (key x)) (n + 1) w)
 
 pub first_disorder_is : (cmp : Cmp) (key : Key) (ls : Lines)
     → first_disorder cmp key ls ≡ disorder_after cmp key None 0 ls
@@ -60,12 +59,12 @@ pub record IsSortedUpTo (cmp : Cmp) (key : Key) (q : Lines) (last : Option (List
   pub may_disorder : (w : Lines) → first_disorder cmp key (q ++ w) ≡ disorder_after cmp key last (length q) w
 
 pub sorted_up_to_none : {cmp : Cmp} {key : Key} → IsSortedUpTo cmp key [] None
-sorted_up_to_none {cmp} {key} = grind (arith, sorted_prefix_is, first_disorder_is)
+sorted_up_to_none = grind (arith, sorted_prefix_is, first_disorder_is)
 
 pub sorted_up_to_more : {cmp : Cmp} {key : Key} {q : Lines} {last : Option (List ℕ)} (x : List ℕ)
     → IsSortedUpTo cmp key q last → is_disordered cmp last (key x) ≡ false
     → IsSortedUpTo cmp key (q ++ x ∷ []) (Some (key x))
-sorted_up_to_more {q = q} x b no_disorder = grind (arith, common_steps)
+sorted_up_to_more = grind (arith, common_steps)
 
 -- the disorder, if there is one, comes after a key that is at least k
 abbrev pub IsDisorderFrom : Cmp → List ℕ → Option FirstDisorder → Type 0
@@ -130,7 +129,7 @@ pub record IsProcessedPrefix (cmp : Cmp) (key : Key) (ls p : Lines) (b : Bound) 
 -- all lines read are processed
 pub processed_to_line : {cmp : Cmp} (o : IsKeyOrder cmp) {key : Key} {ls : Lines} {k : List ℕ}
     → IsSortedUpTo cmp key ls (Some k) → IsProcessedPrefix cmp key ls ls (AtLeast k)
-processed_to_line {cmp} o {key} {ls} {k} g = grind (arith, after_from)
+processed_to_line = grind (arith, after_from)
 
 pub processed_all : {cmp : Cmp} {key : Key} {ls : Lines} {last : Option (List ℕ)} → IsSortedUpTo cmp key ls last
     → IsProcessedPrefix cmp key ls ls NothingMore
@@ -139,7 +138,7 @@ processed_all g = grind arith
 -- the current line is not yet processed
 pub processed_before_line : {cmp : Cmp} (o : IsKeyOrder cmp) {key : Key} {p : Lines} {x : List ℕ}
     → IsSortedUpTo cmp key (p ++ x ∷ []) (Some (key x)) → IsProcessedPrefix cmp key (p ++ x ∷ []) p (AtLeast (key x))
-processed_before_line {cmp} o {key} {p} {x} g = grind (arith, common_steps, after_from, self_at_most)
+processed_before_line = grind (arith, common_steps, after_from, self_at_most)
 
 -- ---- the output
 
@@ -166,9 +165,14 @@ IsDownwardClosed cmp w = (a b : List ℕ) → cmp b a ≡ Greater → w b ≡ tr
 module _ (cmp : Cmp) (o : IsKeyOrder cmp) where
   ascends_insert : (k : List ℕ) (ks : Lines) → Ascends cmp ks → Ascends cmp (insert_key cmp k ks)
   ascends_insert k [] a = (tt, tt)
-  ascends_insert k (x ∷ xs) (above, more) =
-      let ih = ascends_insert k xs more in
-      grind (arith, Each-weaker, above_trans, Each-insert, less_flips)
+  ascends_insert k (x ∷ xs) (above, more) = grind (
+    arith,
+    Each-weaker,
+    above_trans,
+    Each-insert,
+    less_flips,
+    ascends_insert k xs more,
+  )
 
   pub ascends_distinct : (ks : Lines) → Ascends cmp (distinct_keys cmp ks)
   ascends_distinct [] = tt
@@ -178,11 +182,13 @@ module _ (cmp : Cmp) (o : IsKeyOrder cmp) where
   downward_first : (w p : List ℕ → Bool) → IsDownwardClosed cmp p → (ks : Lines) → Ascends cmp ks
       → filter w ks ≡ filter (λ k. w k && p k) ks ++ filter (λ k. w k && not (p k)) ks
   downward_first w p down [] a = refl
-  downward_first w p down (k ∷ ks) (above, more) =
-      let ih = downward_first w p down ks more in
-      let none : p k ≡ false → filter (λ k. w k && p k) ks ≡ [] = λ h. filter_none _ ks
-      (Each-weaker _ _ (λ y g. (let d = down k y g in grind arith)) _ above) in
-      grind (arith, none)
+  downward_first w p down (k ∷ ks) (above, more) = search (
+    rules,
+    filter_none,
+    Each-weaker,
+    downward_first w p down ks
+        more,
+  )
 
   -- the disorder comes after a key that is at least k
   pub under_fall : (b : Bound) (k : List ℕ) (f : Option FirstDisorder) → IsUnder cmp b k → MayDisorder cmp b f
@@ -191,11 +197,11 @@ module _ (cmp : Cmp) (o : IsKeyOrder cmp) where
 
   pub up_to_from : (k : List ℕ) (f1 f2 : Option FirstDisorder) → IsDisorderFrom cmp k f1 → IsDisorderFrom cmp k f2
       → is_up_to cmp (earlier_disorder cmp f1 f2) k ≡ true
-  up_to_from k f1 f2 h1 h2 = grind (arith, at_most_is_le)
+  up_to_from = grind (arith, at_most_is_le)
 
   pub written_is_wanted : (b1 b2 : Bound) (f1 f2 : Option FirstDisorder) (k : List ℕ) → MayDisorder cmp b1 f1
       → MayDisorder cmp b2 f2 → IsUnder cmp b1 k → IsUnder cmp b2 k → is_up_to cmp (earlier_disorder cmp f1 f2) k ≡ true
-  written_is_wanted b1 b2 f1 f2 k h1 h2 u1 u2 = grind (arith, at_most_is_le, at_most_trans)
+  written_is_wanted = grind (arith, at_most_is_le, at_most_trans)
 
 -- the output for these lines, of all keys
 abbrev pub output_of : MergeTool → (Side → Lines) → List ℕ
@@ -314,7 +320,7 @@ pub record IsLeastKeyRun (cmp : Cmp) (key : Key) (b : Bound) (k : List ℕ) (f :
 -- the current line, or no line
 pub line_is_least_run : {cmp : Cmp} (o : IsKeyOrder cmp) {key : Key} {b : Bound} {k x : List ℕ} → b ≡ AtLeast (key x)
     → key x ≡ k → IsLeastKeyRun cmp key b k (x ∷ [])
-line_is_least_run {cmp} o {key} {x = x} is same = grind (arith, self_at_most)
+line_is_least_run = grind (arith, self_at_most)
 
 -- such lines are processed
 pub write_least_run : {tool : MergeTool} (o : IsKeyOrder tool.cmp) (k : List ℕ) (q f : Side → Lines)
@@ -389,7 +395,7 @@ IsExactStop tool b found = (ls r : Side → Lines) → ((s : Side) → MayFollow
 -- both inputs are at their ends
 pub exact_at_end : (tool : MergeTool) {b : Side → Bound} → ((side : Side) → b side ≡ NothingMore)
     → IsExactStop tool b None
-exact_at_end tool ended ls r follow disorder_at = grind arith
+exact_at_end = grind arith
 
 -- ---- the decided output
 
@@ -432,15 +438,14 @@ module _ (cmp : Cmp) (o : IsKeyOrder cmp) where
   downward_lt l a b g h = grind (arith, greater_flips, less_flips, above_trans)
 
   downward_up_to : (d : Option MergeDisorder) → IsDownwardClosed cmp (is_up_to cmp d)
-  downward_up_to None a b g h = refl
-  downward_up_to (Some d) a b g h = search (rules, at_most_trans, greater_flips)
+  downward_up_to = grind (arith, at_most_trans, greater_flips)
 
   downward_past : (key : Key) (eof : Bool) (ls : Lines) → IsDownwardClosed cmp (is_past cmp key eof ls)
-  downward_past key eof ls a b g h = grind (arith, downward_lt)
+  downward_past = grind (arith, downward_lt)
 
 all_three : (x y z u v w : Bool) → (x ≡ true → u ≡ true) → (y ≡ true → v ≡ true) → (z ≡ true → w ≡ true)
     → (x && y && z) ≡ true → (u && v && w) ≡ true
-all_three x y z u v w f g h e = grind arith
+all_three = grind arith
 
 module _ (tool : MergeTool) (o : IsKeyOrder tool.cmp) (eof : Side → Bool) (ls : Side → Lines) where
   open tool use {cmp}

@@ -41,15 +41,21 @@ sorted_from_parts : (cmp : Cmp) (key : Key) (last : Option (List ℕ)) (xs ys : 
     → IsSortedFrom cmp key last (xs ++ ys) → IsSortedFrom cmp key last xs
     × IsSortedFrom cmp key (last_or last (map key xs)) ys
 sorted_from_parts cmp key last [] ys r = (tt, r)
-sorted_from_parts cmp key last (x ∷ xs) ys (here, more) =
-    let (front, rest) = sorted_from_parts cmp key (Some (key x)) xs ys more in ((here, front), rest)
+sorted_from_parts cmp key last (x ∷ xs) ys (here, more) = grind (
+  arith,
+  sorted_from_parts cmp key (Some (key x)) xs ys
+      more,
+)
 
 -- such lines are their own sorted prefix, without a disorder
 sorted_from_whole : (cmp : Cmp) (key : Key) (last : Option (List ℕ)) (n : ℕ) (ls : Lines) → IsSortedFrom cmp key last ls
     → (sorted_after cmp key last ls ≡ ls) × (disorder_after cmp key last n ls ≡ None)
 sorted_from_whole cmp key last n [] r = (refl, refl)
-sorted_from_whole cmp key last n (x ∷ ls) (here, more) =
-    let ih = sorted_from_whole cmp key (Some (key x)) (n + 1) ls more in grind (arith, here)
+sorted_from_whole cmp key last n (x ∷ ls) (here, more) = grind (
+  arith,
+  sorted_from_whole cmp key (Some (key x)) (n +
+      1) ls more,
+)
 
 sorted_from_start : (cmp : Cmp) (key : Key) (ls : Lines) → IsSortedFrom cmp key None ls
     → (sorted_prefix cmp key ls ≡ ls) × (first_disorder cmp key ls ≡ None)
@@ -79,7 +85,7 @@ abbrev Shape : ℕ → List ℕ → Lines → Type 0
 Shape end given ls = AreLines end ls × ((given ≡ unlines end ls) ⊎ (given ++ end ∷ [] ≡ unlines end ls))
 
 shape_of : (end : ℕ) (given : List ℕ) (ls : Lines) (now : Reader) → IsReadAs end given ls now → Shape end given ls
-shape_of end given ls now far = grind (arith, the_lines)
+shape_of = grind (arith, the_lines)
 
 last_of : {A : Type 0} (xs : List A) → (xs ≡ []) ⊎ ((front : List A) × (x : A) × (xs ≡ front ++ x ∷ []))
 last_of [] = inl refl

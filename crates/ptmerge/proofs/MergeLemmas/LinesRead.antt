@@ -14,11 +14,13 @@ use Rattle.std.proofs.lemmas.Grind.{common_steps}
 ended_more : (end : ℕ) (ls : List (List ℕ)) (bytes : List ℕ) → AreLines end ls
     → complete_lines end (unlines end ls ++ bytes) ≡ ls ++ complete_lines end bytes
 ended_more end [] bytes w = refl
-ended_more end (line ∷ ls) bytes (free, more) = cc (
-  append_assoc _ _ bytes,
-  append_assoc line (end ∷ []) (unlines end ls ++ bytes),
-  complete_lines_cons end line (unlines end ls ++ bytes) free,
-  ended_more end ls bytes more,
+ended_more end (line ∷ ls) bytes (free, more) = grind (
+  arith,
+  common_steps,
+  complete_lines_cons,
+  free,
+  ended_more end
+      ls bytes more,
 )
 
 -- `ls` are the lines of the bytes `given`: all of them have their terminator, or the last one lacks it at the end of
@@ -34,7 +36,7 @@ pub record LinesRead (end : ℕ) (old now : Reader) (ls : List (List ℕ)) : Typ
   pub terminator : now.terminator ≡ end
 
 pub lines_read_none : {end : ℕ} {old : Reader} → old.fault ≡ None → old.terminator ≡ end → LinesRead end old old []
-lines_read_none {old = old} clean terminator = grind arith
+lines_read_none = grind arith
 
 -- nothing was read, and the end of the source was reached
 pub record GivesNothing (new : Reader) (bytes : List ℕ) : Type 0 where
@@ -45,7 +47,7 @@ pub record GivesNothing (new : Reader) (bytes : List ℕ) : Type 0 where
 -- at the end of a source nothing more is read
 pub done_gives_nothing : {now new : Reader} {bytes : List ℕ} → IsDone now → ReaderAdvance now new bytes
     → GivesNothing new bytes
-done_gives_nothing {now} {new} {bytes} done reads = grind (arith, common_steps)
+done_gives_nothing = grind (arith, common_steps)
 
 -- a line was read, or the end of the source
 abbrev pub HasBegun : Reader → List (List ℕ) → Type 0
@@ -79,7 +81,7 @@ lines_read_more {end} {old} {now} {new} {ls} c e =
 
 pub lines_read_eof : {end : ℕ} {old now new : Reader} {ls : List (List ℕ)} → LinesRead end old now ls
     → AdvanceOk now new [] → IsDone new → LinesRead end old new ls
-lines_read_eof {end} {old} {now} {new} c g done = grind (arith, advance_ok_trans)
+lines_read_eof = grind (arith, advance_ok_trans)
 
 -- the list `all` continues the lines `ls`
 pub record Continues (now : Reader) (ls all : List (List ℕ)) : Type 0 where
@@ -108,7 +110,7 @@ module _ {end : ℕ} {old now new : Reader} {ls : List (List ℕ)} {piece : List
   -- the lines of an input that is consistent with the bytes received
   pub lines_read_of_input : (input : List ℕ) → IsConsistent came input
       → HoldsLines now ls piece (lines end input)
-  lines_read_of_input input a = search (
+  lines_read_of_input = search (
     rules,
     front_of,
     lines_of_unlines,
@@ -139,7 +141,13 @@ module _ {end : ℕ} {old now new : Reader} {ls : List (List ℕ)} {piece : List
   pub begun_gives_line : HasBegun now ls → ¬ HasNoLine end came
   begun_gives_line begun none =
       let known = lines_read_known.known in
-      grind (arith, common_steps, complete_lines_none end _ none.unterminated, done_gives_nothing, length-append ls known.more)
+      grind (
+        arith,
+        common_steps,
+        complete_lines_none end _ none.unterminated,
+        done_gives_nothing,
+        length-append ls known.more,
+      )
 
   -- at most one line was read, or a part of it
   pub one_line_and_block : IsSound new → length ls + length (lines end piece) ≤ 1

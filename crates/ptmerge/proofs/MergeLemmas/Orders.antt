@@ -146,8 +146,7 @@ module _ (cmp : Cmp) (o : IsKeyOrder cmp) where
 
   others_above : (k : List ℕ) (ks : Lines) → Each (AtMost cmp k) ks → Each (Above cmp k) (others k ks)
   others_above k [] e = tt
-  others_above k (y ∷ ks) (here, more) =
-      let ih = others_above k ks more in grind (arith, least_or_above cmp o k y here)
+  others_above k (y ∷ ks) (here, more) = grind (arith, least_or_above, others_above k ks more)
 
   -- the least key, if it occurs, comes first
   distinct_least : (k : List ℕ) (ks : Lines) → Each (AtMost cmp k) ks
@@ -156,12 +155,11 @@ module _ (cmp : Cmp) (o : IsKeyOrder cmp) where
   distinct_least k [] e = inr (refl, tt)
   distinct_least k (y ∷ ks) (here, more) = grind (
     arith,
-    distinct_least k ks more,
-    least_or_above cmp o k y here,
-    tied_itself o.total k,
+    least_or_above,
     insert_least,
     Each-distinct,
     others_above,
+    distinct_least k ks more,
   )
 
 others-keys : (key1 key2 : Key) (k : List ℕ) (xs ys : Lines)
@@ -180,9 +178,14 @@ kept_none w key (x ∷ ls) (here, more) = rw here (kept_none w key ls more)
 with_key_without : (key : Key) (k q : List ℕ) (xs : Lines) → bytes_eq q k ≡ false
     → lines_with_key key (without key k xs) q ≡ lines_with_key key xs q
 with_key_without key k q [] n = refl
-with_key_without key k q (x ∷ xs) n =
-    let ih = with_key_without key k q xs n in
-    grind (arith, not_same, same_bytes, bytes_decides (key x) k)
+with_key_without key k q (x ∷ xs) n = grind (
+  arith,
+  not_same,
+  same_bytes,
+  bytes_decides,
+  with_key_without key k q xs
+      n,
+)
 
 module _ (tool : MergeTool) (o : IsKeyOrder tool.cmp) where
   open tool use {cmp}
@@ -197,9 +200,13 @@ module _ (tool : MergeTool) (o : IsKeyOrder tool.cmp) where
   over_others : (w : List ℕ → Bool) (k : List ℕ) (ls : Side → Lines) (ks : Lines) → Each (Above cmp k) ks
       → nothing_follows w ls ks ≡ nothing_follows w (others_of k ls) ks
   over_others w k ls [] e = refl
-  over_others w k ls (q ∷ ks) (here, more) =
-      let ih = over_others w k ls ks more in
-      grind (arith, above_not_same, with_key_without)
+  over_others w k ls (q ∷ ks) (here, more) = grind (
+    arith,
+    above_not_same,
+    with_key_without,
+    over_others w k ls ks
+        more,
+  )
 
   -- The entries of a key that is at most all others come first, followed by those of the lines with other keys.
   pub least_first : (w : List ℕ → Bool) (k : List ℕ) (ls : Side → Lines)
@@ -228,9 +235,7 @@ module _ (tool : MergeTool) (o : IsKeyOrder tool.cmp) where
   pub lines_with_key-front : (key : Key) (k : List ℕ) (f r : Lines) → EachKey (λ x. x ≡ k) key f
       → (lines_with_key key (f ++ r) k ≡ f ++ lines_with_key key r k) × (without key k (f ++ r) ≡ without key k r)
   lines_with_key-front key k [] r e = (refl, refl)
-  lines_with_key-front key k (x ∷ f) r (here, more) =
-      let ih = lines_with_key-front key k f r more in
-      grind (arith, same_bytes here)
+  lines_with_key-front key k (x ∷ f) r (here, more) = grind (arith, same_bytes, lines_with_key-front key k f r more)
 
   pub at_most-same : (key : Key) (k : List ℕ) (f r : Lines) → EachKey (λ x. x ≡ k) key f → EachKey (AtMost cmp k) key r
       → EachKey (AtMost cmp k) key (f ++ r)

@@ -63,10 +63,10 @@ HasLines m more few = ⊥
 
 four_total : (a b c d : List ℕ) (rest : List (List ℕ))
     → total_bytes (a ∷ b ∷ c ∷ d ∷ rest) ≡ ((length a + length b) + length c) + length d + total_bytes rest
-four_total a b c d rest = grind (arith, common_steps)
+four_total = grind (arith, common_steps)
 
 pub has_lines_none : (xs : List (List ℕ)) → 4 ≤ length xs → total_bytes xs ≡ 0 → HasLines (λ side. 0) 0 xs
-has_lines_none xs four none = grind (arith, four_total)
+has_lines_none = grind (arith, four_total)
 
 -- the number of slots, and the bytes in all of them
 pub record LinesTotal (xs : List (List ℕ)) (m : Side → ℕ) (more : ℕ) : Type 0 where
@@ -77,13 +77,13 @@ pub record LinesTotal (xs : List (List ℕ)) (m : Side → ℕ) (more : ℕ) : T
 
 pub has_lines_total : (xs : List (List ℕ)) (m : Side → ℕ) (more : ℕ) → HasLines m more xs
     → LinesTotal xs m more
-has_lines_total xs m more h = grind (arith, four_total)
+has_lines_total = grind (arith, four_total)
 
 -- the next line of an input replaces its previous line
 pub set_line : (s : Side) (cursor : Sorted) (xs : List (List ℕ)) (m k : Side → ℕ) (more : ℕ) (x : List ℕ)
     → HasSlots s cursor → HasLines m more xs → ((side : Side) → m side ≤ k side) → length x ≤ k s
     → HasLines k more (set xs cursor.previous_slot x)
-set_line s cursor xs m k more x slots h up l = search rules
+set_line = search rules
 
 -- The invariant of the store of a merge: two lines of each input, of at most `m` bytes each.
 pub record StoreOfLines (before store : Slots) (m : Side → ℕ) : Type 0 where
@@ -94,18 +94,13 @@ pub record StoreOfLines (before store : Slots) (m : Side → ℕ) : Type 0 where
 
 pub store_of_no_lines : {before store : Slots} → EnsureFourSlotsPost before store → before.denied ≡ false
     → total_bytes before.lines ≡ 0 → StoreOfLines before store (λ side. 0)
-store_of_no_lines {store = store} four allowed empty = grind (arith, has_lines_none)
+store_of_no_lines = grind (arith, has_lines_none)
 
 pub store_with_line : {before store after : Slots} (s : Side) (cursor : Sorted) {m : Side → ℕ} (k : Side → ℕ)
     (x : List ℕ)
     → HasSlots s cursor → StoreOfLines before store m → ((side : Side) → m side ≤ k side) → length x ≤ k s
     → after ≡ with_line store cursor.previous_slot x → StoreOfLines before after k
-store_with_line {store = store} s cursor {m} k x slots kept up fits is = grind (
-  arith,
-  common_steps,
-  set_line,
-  has_lines_total,
-)
+store_with_line = grind (arith, common_steps, set_line, has_lines_total)
 
 -- the first four slots were emptied
 cleared : (lines : List (List ℕ)) (peak : ℕ) (denied : Bool) → 4 ≤ length lines

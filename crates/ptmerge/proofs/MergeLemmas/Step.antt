@@ -131,7 +131,7 @@ IsReportedOver cmp s d (Some e) = Precedes cmp s d.last_key e.last_key
 named_is : (cmp : Cmp) (s : Side) (f : Side → Option FirstDisorder) (d : FirstDisorder) → f s ≡ Some d
     → IsReportedOver cmp s d (f (other s)) → earlier_disorder cmp (f First) (f Second) ≡ Some
     (record { file = s; first_disorder = d })
-named_is cmp s f d e u = grind arith
+named_is = grind arith
 
 module _ (cmp : Cmp) (o : IsKeyOrder cmp) where
   -- the disorder of the other input is not the one to report
@@ -141,12 +141,11 @@ module _ (cmp : Cmp) (o : IsKeyOrder cmp) where
       (key (line store cursor.previous_slot))
       → MatchesStatus cmp key status cursor store now ls p b → (f : Option FirstDisorder) → MayDisorder cmp b f
       → IsReportedOver cmp s d f
-  reported_over key s d status cursor store now ls p b named st f is_disordered = grind
-      (arith, above_up, is_greater, not_below, greater_flips)
+  reported_over = grind (arith, above_up, is_greater, not_below, greater_flips)
 
   reportable_precedes : (s : Side) (l : List ℕ) (status : CursorStatus) (head last : List ℕ)
       → IsReportable cmp s l status head last → PrecedesInput cmp l status head last
-  reportable_precedes s l status head last named = grind (arith, greater_flips, is_greater)
+  reportable_precedes = grind (arith, greater_flips, is_greater)
 
 -- an input is out of order, and no key that may follow is up to its last key
 pub stops_at : (tool : MergeTool) (o : IsKeyOrder tool.cmp) (old now : Side → Reader) (cursor : Side → Sorted)
@@ -197,7 +196,7 @@ record FailedAdvance (cursor : Sorted) (was is : Reader) (before after : Slots) 
 failed_advance : (s : Side) (cursor : Sorted) (was is : Reader) (before after : Slots) (out : Output)
     (fault : MergeFault) → IsSound was → AdvanceErrPost s cursor was is before after out fault
     → FailedAdvance cursor was is before after
-failed_advance s cursor was is before after out fault sound e = search rules
+failed_advance = search rules
 
 -- the input `s` is to advance, and all its lines are processed
 pub record IsAdvancing (tool : MergeTool) (old now : MergeState) (s : Side) (cursor : Sorted) (ls p : Side → Lines)
@@ -222,8 +221,7 @@ module _ {tool : MergeTool} {old : MergeState} (w : IsOpenMerge tool old) {now :
       (fault : MergeFault) → AdvanceErrPost s cursor (now.reader s) new now.store after out fault
       → CallOutcome both_sides (merge_engine tool) old (state_by_side (with_side s new now.reader) out after) given
       pushed (merge_end (Err fault))
-  advance_ends new after out given pushed fault e =
-      grind (arith, put_same, none_failed_yet, side_case, put_other, buffered_not_done)
+  advance_ends = grind (arith, put_same, none_failed_yet, side_case, put_other, buffered_not_done)
 
   -- the merge ends with this fault
   pub advance_fails : {out : Output} {done : Lines} → LagInvariant tool b p old.out out done
@@ -271,7 +269,7 @@ next_keeps_slot_count e = grind (arith, length-set)
 pub open_merge : {tool : MergeTool} {first second : Reader} {out : Output} {store : Slots} → IsKeyOrder tool.cmp
     → HoldsTwoLines tool → MergeRunPre tool.terminator first second out store
     → IsOpenMerge tool (merge_state first second out store)
-open_merge {tool} {first} {second} {store = store} o fits b = grind (arith, both_each)
+open_merge = grind (arith, both_each)
 
 -- The store between two steps: it holds two lines of each input, and is within the measure for all lists that continue
 -- these lines, also when it is emptied and when it holds a piece of a further line.
@@ -291,8 +289,7 @@ StoreHoldsTwoLines before store ls = StoreOfLines before store (λ side. max_len
 pub holds_two : {tool : MergeTool} (fits : HoldsTwoLines tool) {before store : Slots} {reader : Side → Reader}
     {cursor : Side → Sorted} {ls : Side → Lines} → StoreHoldsTwoLines before store ls
     → ((side : Side) → HasSlots side (cursor side)) → StoreInvariant tool before reader cursor store ls
-holds_two {tool} fits {store = store} {cursor = cursor} {ls} k slots = grind
-    (arith, common_steps, has_lines_total, store_with_line, put_same)
+holds_two = grind (arith, common_steps, has_lines_total, store_with_line, put_same)
 
 -- the cursors between two steps, for any output
 pub record CursorsInvariant (tool : MergeTool) (old : MergeState) (reader : Side → Reader) (cursor : Side → Sorted)
@@ -509,22 +506,22 @@ pub later_status : (key : Key) (cmp : Cmp) (number : ℕ) (last next : List ℕ)
     → r ≡ cmp (key last) (key next)
     → (cond (is_gt r) (Disorder (number + 1)) Head ≡ status_at key cmp number last next)
     × (is_eq r ≡ same_key_at key cmp number last next)
-later_status key cmp number last next r some is = grind arith
+later_status = grind arith
 
 -- the slots after the first four may change
 pub valid_cursors_kept : (key : Side → Key) (one two : Sorted) (before after : Slots)
     → AreValidCursors key one two before → length before.lines ≤ length after.lines
     → ((slot : ℕ) → slot < 4 → line after slot ≡ line before slot) → AreValidCursors key one two after
-valid_cursors_kept key one two before after p least same = grind (arith, own_slots)
+valid_cursors_kept = grind (arith, own_slots)
 
 -- copying a line changes one slot, or adds one
 pub kept_line : (before after : Slots) (from to slot : ℕ) → slot < to → CopyToGroupPost before after from to
     → line after slot ≡ line before slot
-kept_line before after from to slot low e = grind (arith, line_added, line_other)
+kept_line = grind (arith, line_added, line_other)
 
 pub kept_least : (before after : Slots) (from to : ℕ) → CopyToGroupPost before after from to
     → length before.lines ≤ length after.lines
-kept_least before after from to e = search rules
+kept_least = search rules
 
 -- ---- the start
 
@@ -647,4 +644,4 @@ module _ {tool : MergeTool} {old : MergeState} (w : IsOpenMerge tool old) where
 pub set_is : (first second set1 set2 : Reader) (zero : Bool) → set1 ≡ record first { terminator = cond zero 0 10 }
     → set2 ≡ record second { terminator = cond zero 0 10 } → (side : Side)
     → both set1 set2 side ≡ record (both first second side) { terminator = terminator zero }
-set_is first second set1 set2 zero is1 is2 side = grind arith
+set_is = grind arith

@@ -1,4 +1,5 @@
--- Each turn adds one new reader, opened or not, so in the end there is one more reader than names, and none was read. The
+-- Each turn adds one new reader, opened or not, so in the end there is one more reader than names, and none was read.
+-- The
 -- first one stays that of standard input.
 use Rattle.std.proofs.Common.{◌≡◌, ◌≤◌, ◌+◌, ℕ, List, [], ◌∷◌, length, arith, ap, sym, refl, ◌∙◌}
 use Rattle.std.specs.Borrow.{Bor}

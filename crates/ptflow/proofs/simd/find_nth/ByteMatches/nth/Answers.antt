@@ -1,4 +1,5 @@
--- The first match is known. Another one is found by the mask of the first bytes: shifted, it is that of the bytes from an
+-- The first match is known. Another one is found by the mask of the first bytes: shifted, it is that of the bytes from
+-- an
 -- index on.
 use Rattle.ptflow.proofs
 use proofs.Common.{◌≡◌, ◌+◌, ◌-◌, ◌<◌, take, drop, length, ◌∙◌, ap, arith, count_ones, count_by, ones-mask_l}

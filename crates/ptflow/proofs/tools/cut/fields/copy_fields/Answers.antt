@@ -53,7 +53,10 @@ slices-preserved g c =
     in
     record {
       copied =
-          cc (slice_of slice.start size bytes within, append_assoc (take loop.end loop.room) (take size (drop slice.start bytes)) rest);
+          cc (
+            slice_of slice.start size bytes within,
+            append_assoc (take loop.end loop.room) (take size (drop slice.start bytes)) rest,
+          );
       cursor = next.next;
       low = omega arith;
       high = slice_near g (goal.at.slices-preserved g c).In-Some;

@@ -14,7 +14,8 @@ returns-then-first-to-clause-put g c =
     let first = first_within d bytes c.first.result c.args.to (rw (of.byte, of.bytes) at c.first.ensures) (omega arith)
     (omega arith) in
     puts_line job c.args.by.now.by_fields c.args.by.now.ends bytes c.args.to c.requires.first (cut_fields job line)
-    (of_fields job c.args.by.now.by_fields line (found d line (Some _) first)) (rw of.bytes at c.copy_fields.ensures.put)
+    (of_fields job c.args.by.now.by_fields line (found d line (Some _) first))
+    (rw of.bytes at c.copy_fields.ensures.put)
 
 pub returns-then-job-clause-put : goal.returns-then-job-clause-put
 returns-then-job-clause-put g c =

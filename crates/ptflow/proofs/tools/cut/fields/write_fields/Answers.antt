@@ -37,7 +37,8 @@ next g c =
     let within : slice.start + (slice.end - slice.start) ≤ length line =
     omega (arith, all, c.in-Some.ensures.within, c.in-Some.ensures.order) in
     c.in-Some.ensures.output
-    ∙ ap (λ bytes. bytes ++ output_from_cursor c.args.delimiters.now.byte c.intervals-selected.result.now whole slice.next)
+    ∙ ap (λ bytes. bytes
+    ++ output_from_cursor c.args.delimiters.now.byte c.intervals-selected.result.now whole slice.next)
     (slice_of slice.start (slice.end - slice.start) line within)
 
 pub returns-in_err-push-clause-wrote : goal.returns-in_err-push-clause-wrote

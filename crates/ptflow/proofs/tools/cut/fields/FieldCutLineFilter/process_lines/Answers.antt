@@ -47,7 +47,8 @@ pub returns-clause-continues : goal.returns-clause-continues
 returns-clause-continues g c =
     let l = c.lines in
     let job = cut_job c.args.self.now.job.now in
-    let none = complete_lines_none _ l.rest.now (none_left g (goal.at.returns-clause-continues g c).In_default) in record {
+    let none = complete_lines_none _ l.rest.now
+    (none_left g (goal.at.returns-clause-continues g c).In_default) in record {
       passed = take l.end l.room;
       wrote = c.in_ok-push.ensures.pushed.wrote;
       clean = λ was_clean. c.in_ok-push.ensures.pushed.clean;
