@@ -40,9 +40,6 @@ module _ (b by : ℕ) where
   abbrev goes_on : Stretch → Bool
   goes_on s = (s.by == by) && (s.first == b + 1)
 
-  joined : (s : Stretch) → goes_on s ≡ true → (s.by ≡ by) × (s.first ≡ b + 1)
-  joined s is = (grind arith, grind arith)
-
   front_from : (ss : List Stretch) → AreFrom (b + 1) ss → AreFrom b (prepend_shift b by ss)
   front_from = grind (arith, weaker)
 
@@ -57,9 +54,6 @@ module _ (b by : ℕ) where
       let ((above, ascending), others) = from in
       cond_both (goes_on s) _ _ (λ (all : List Stretch). moved all b ≡ by)
       (λ is. alone s.last ss (omega (arith, above)) others) (λ is. alone b (s ∷ ss) (omega arith) from)
-
-  past : (x : ℕ) → b < x → shift_at (record { first = b; last = b; by = by }) x ≡ 0
-  past x high = grind (arith, high)
 
   -- prepending does not change the sum for the bytes above
   past_front : (ss : List Stretch) (x : ℕ) → b < x → moved (prepend_shift b by ss) x ≡ moved ss x

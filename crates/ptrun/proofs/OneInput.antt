@@ -13,7 +13,7 @@ use proofs.Common.{CommandSpec, IsPushedUpToBlock, IsWrittenUpToBlock, LagOfLast
 use proofs.Common.{HasBoundedLag}
 use Rattle.std.proofs.Math.ListN.{get_or-map}
 use Rattle.ptlines.proofs.Refill.{remaining_of_empty}
-use Rattle.std.proofs.Common.{is_none, rules}
+use Rattle.std.proofs.Common.{rules}
 use Rattle.ptlines.proofs.Lag.{known_length, bounded_lag_now}
 use proofs.OperandInputs.{IsEndedAt, least_bytes, at-least_bytes, bytes_at, by_position}
 use Rattle.std.proofs.lemmas.Grind.{common_steps}

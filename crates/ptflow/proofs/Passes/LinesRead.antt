@@ -64,10 +64,6 @@ module _ (end : ℕ) (now : Reader) (given : List ℕ) (ls : List (List ℕ))
         (ls ++ next_line.line ∷ [])
     lines_more = grind (arith, common_steps, lines_of_unlines, lines_of_last)
 
-are_append : (end : ℕ) (xs ys : List (List ℕ)) → AreLines end xs → AreLines end ys → AreLines end (xs ++ ys)
-are_append end [] ys a b = b
-are_append end (x ∷ xs) ys (first, others) b = (first, are_append end xs ys others b)
-
 -- some complete lines were read after those
 pub lines_block : {end : ℕ} {reader : Reader} {given : List ℕ} {ls : List (List ℕ)}
     → AreReceivedLines end reader given ls → {new : Reader} (more : List (List ℕ))

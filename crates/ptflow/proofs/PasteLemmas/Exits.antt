@@ -1,7 +1,7 @@
 -- The exits of `paste`: success, or a failed read, write or growth, between rows or within one. In each case the rows
 -- so far were pushed, and the readers have given the lines of these rows and perhaps some bytes more.
 use Rattle.ptflow.proofs
-use proofs.Common.{cond, ◌==◌, eq-eqb, ne_eqb, nat_tests}
+use proofs.Common.{cond, ◌==◌, ne_eqb, nat_tests}
 use proofs.Common.{◌≡◌, ◌≢◌, ◌⊎◌, ⊎_elim, inl, inr, ℕ, ◌+◌, ◌*◌, ◌<◌, ◌≤◌, true, false, List, [], ◌∷◌, ◌++◌, Result, Ok}
 use proofs.Common.{Err, length, take, get_or, max, refl, sym, ◌∙◌, ap, arith, append_assoc, length-append, cases_eq}
 use proofs.Common.{append-nil, lines, IsLine, max_length, max_line_length, Received, IsPrefix, IsConsistent}

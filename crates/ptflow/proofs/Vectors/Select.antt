@@ -97,15 +97,6 @@ pub record CopyInvariant (all : List Interval) (i before : ℕ) (piece tail was 
   pub near : at ≤ start + (low - (before + 1))
   pub within : at ≤ start + length piece
 
-pub copy_starts : {all : List Interval} {before : ℕ} {piece tail was : List ℕ} {start : ℕ} → AreSeparated 0 all
-    → CopyInvariant all 0 before piece tail was was start start
-copy_starts apart = grind arith
-
-pub copy_order : {all : List Interval} {i before : ℕ} {piece tail was is : List ℕ} {start at : ℕ}
-    → CopyInvariant all i before piece tail was is start at → i < length all
-    → (get_or all i (record { first = 0; last = 0 })).first ≤ (get_or all i (record { first = 0; last = 0 })).last
-copy_order {all} {i} k within = (rw (drop_more all i (record { first = 0; last = 0 }) within) at k.apart).1
-
 module _ {all : List Interval} {before : ℕ} {piece tail was : List ℕ} {start : ℕ} where
   module _ {i : ℕ} {is : List ℕ} {at : ℕ} (k : CopyInvariant all i before piece tail was is start at) where
     -- all intervals were processed

@@ -1,5 +1,5 @@
 -- Each iteration processes one block, and the contract of `process_block` preserves the invariant. Each exit is a lemma
--- of `Exits`. The budget decreases, since a block that is not empty is consumed.
+-- of `Exits` or `BlockLoop`. The budget decreases, since a block that is not empty is consumed.
 use Rattle.ptflow.proofs
 use proofs.Common.{◌≡◌, [], length, refl, sym, ◌∙◌, arith, eqb-true, nil_from_length, reads_nothing}
 use proofs.Passes.BlockLoop.{BlockLoopState, blocks_start, block_sent, block_taken, counted_more, block_read, ending}
