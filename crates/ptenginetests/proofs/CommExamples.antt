@@ -24,7 +24,8 @@ abbrev disorder_of : Comm → List ℕ → List ℕ → Option MergeDisorder
 disorder_of job f g = disorder (comm_tool job) (lines_of (comm_tool job) (both f g))
 
 abbrev decided_of : Comm → List ℕ → Bool → List ℕ → Bool → List ℕ
-decided_of job f ended1 g ended2 = decided_output (comm_tool job) (both (record { bytes = f; eof = ended1 }) (record { bytes = g; eof = ended2 }))
+decided_of job f ended1 g ended2 = decided_output (comm_tool job)
+    (both (record { bytes = f; eof = ended1 }) (record { bytes = g; eof = ended2 }))
 
 -- ---- columns
 
@@ -54,37 +55,43 @@ a_beginning_comes_first = refl
 first_out_of_order : writes default_comm (codes "b\na\nc\n") (codes "a\nb\nb\nd\n") ≡ codes "\ta\n\t\tb\n\tb\n"
 first_out_of_order = refl
 
-first_out_of_order_at : disorder_of default_comm (codes "b\na\nc\n") (codes "a\nb\nb\nd\n") ≡ Some (record { file = First; first_disorder = record { last_key = codes "b"; line = 2 } })
+first_out_of_order_at : disorder_of default_comm (codes "b\na\nc\n") (codes "a\nb\nb\nd\n")
+    ≡ Some (record { file = First; first_disorder = record { last_key = codes "b"; line = 2 } })
 first_out_of_order_at = refl
 
 lesser_last_line_first : writes default_comm (codes "b\na\n") (codes "c\nb\n") ≡ codes "b\n"
 lesser_last_line_first = refl
 
-lesser_last_line_first_at : disorder_of default_comm (codes "b\na\n") (codes "c\nb\n") ≡ Some (record { file = First; first_disorder = record { last_key = codes "b"; line = 2 } })
+lesser_last_line_first_at : disorder_of default_comm (codes "b\na\n") (codes "c\nb\n")
+    ≡ Some (record { file = First; first_disorder = record { last_key = codes "b"; line = 2 } })
 lesser_last_line_first_at = refl
 
 lesser_last_line_second : writes default_comm (codes "c\nb\n") (codes "b\na\n") ≡ codes "\tb\n"
 lesser_last_line_second = refl
 
-lesser_last_line_second_at : disorder_of default_comm (codes "c\nb\n") (codes "b\na\n") ≡ Some (record { file = Second; first_disorder = record { last_key = codes "b"; line = 2 } })
+lesser_last_line_second_at : disorder_of default_comm (codes "c\nb\n") (codes "b\na\n")
+    ≡ Some (record { file = Second; first_disorder = record { last_key = codes "b"; line = 2 } })
 lesser_last_line_second_at = refl
 
 second_is_longer : writes default_comm (codes "b\na\n") (codes "b\nb\na\n") ≡ codes "\t\tb\n\tb\n"
 second_is_longer = refl
 
-first_is_named_at_a_tie : disorder_of default_comm (codes "b\na\n") (codes "b\nb\na\n") ≡ Some (record { file = First; first_disorder = record { last_key = codes "b"; line = 2 } })
+first_is_named_at_a_tie : disorder_of default_comm (codes "b\na\n") (codes "b\nb\na\n")
+    ≡ Some (record { file = First; first_disorder = record { last_key = codes "b"; line = 2 } })
 first_is_named_at_a_tie = refl
 
 first_is_longer : writes default_comm (codes "b\nb\na\n") (codes "b\na\n") ≡ codes "\t\tb\nb\n"
 first_is_longer = refl
 
-first_is_longer_at : disorder_of default_comm (codes "b\nb\na\n") (codes "b\na\n") ≡ Some (record { file = First; first_disorder = record { last_key = codes "b"; line = 3 } })
+first_is_longer_at : disorder_of default_comm (codes "b\nb\na\n") (codes "b\na\n")
+    ≡ Some (record { file = First; first_disorder = record { last_key = codes "b"; line = 3 } })
 first_is_longer_at = refl
 
 second_out_of_order : writes default_comm (codes "a\nab\n") (codes "ab\na\n") ≡ codes "a\n\t\tab\n"
 second_out_of_order = refl
 
-second_out_of_order_at : disorder_of default_comm (codes "a\nab\n") (codes "ab\na\n") ≡ Some (record { file = Second; first_disorder = record { last_key = codes "ab"; line = 2 } })
+second_out_of_order_at : disorder_of default_comm (codes "a\nab\n") (codes "ab\na\n")
+    ≡ Some (record { file = Second; first_disorder = record { last_key = codes "ab"; line = 2 } })
 second_out_of_order_at = refl
 
 -- ---- lines that end with byte 0
@@ -103,13 +110,15 @@ descending_lines = refl
 longer_before_its_beginning : writes descending (codes "a\nab\n") (codes "") ≡ codes "a\n"
 longer_before_its_beginning = refl
 
-longer_before_its_beginning_at : disorder_of descending (codes "a\nab\n") (codes "") ≡ Some (record { file = First; first_disorder = record { last_key = codes "a"; line = 2 } })
+longer_before_its_beginning_at : disorder_of descending (codes "a\nab\n") (codes "")
+    ≡ Some (record { file = First; first_disorder = record { last_key = codes "a"; line = 2 } })
 longer_before_its_beginning_at = refl
 
 rises_in_descending_order : writes descending (codes "b\nc\n") (codes "a\nb\n") ≡ codes "b\n"
 rises_in_descending_order = refl
 
-first_is_named_in_descending_order : disorder_of descending (codes "b\nc\n") (codes "a\nb\n") ≡ Some (record { file = First; first_disorder = record { last_key = codes "b"; line = 2 } })
+first_is_named_in_descending_order : disorder_of descending (codes "b\nc\n") (codes "a\nb\n")
+    ≡ Some (record { file = First; first_disorder = record { last_key = codes "b"; line = 2 } })
 first_is_named_in_descending_order = refl
 
 -- ---- the part of the output that is determined

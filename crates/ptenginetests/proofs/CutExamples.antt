@@ -12,11 +12,23 @@ abbrev from_to : ℕ → ℕ → Interval
 from_to n m = record { first = n; last = m }
 
 abbrev by_bytes : ℕ → List Interval → Cut
-by_bytes end list = record { fields = false; selected = is_selected list; delimiter = byte "\t"; only = false; terminator = end }
+by_bytes end list = record {
+  fields = false;
+  selected = is_selected list;
+  delimiter = byte "\t";
+  only = false;
+  terminator = end;
+}
 
 -- With a delimiter, and with `-s` or without.
 abbrev cut_by : Bool → ℕ → ℕ → List Interval → Cut
-cut_by only end delimiter list = record { fields = true; selected = is_selected list; delimiter = delimiter; only = only; terminator = end }
+cut_by only end delimiter list = record {
+  fields = true;
+  selected = is_selected list;
+  delimiter = delimiter;
+  only = only;
+  terminator = end;
+}
 
 record CutExamples : Type 0 where
   in_input_order : cut (by_bytes 10 (from_to 3 max_u64 ∷ from_to 1 1 ∷ [])) (codes "abcd\n") ≡ codes "acd\n"
@@ -26,16 +38,20 @@ record CutExamples : Type 0 where
   far_byte : cut (by_bytes 10 (from_to max_u64 max_u64 ∷ [])) (codes "abc\n") ≡ codes "\n"
   no_bytes : cut (by_bytes 10 (from_to 1 1 ∷ [])) [] ≡ []
   lines_end_with_zero : cut (by_bytes 0 (from_to 1 1 ∷ [])) (codes "ab\0\ncd") ≡ codes "a\0\n\0"
-  repeated_field_once : cut (cut_by false 10 (byte ":") (from_to 2 2 ∷ from_to 2 2 ∷ from_to 1 1 ∷ [])) (codes "a:b:c\nxyz\n") ≡ codes "a:b\nxyz\n"
+  repeated_field_once : cut (cut_by false 10 (byte ":") (from_to 2 2 ∷ from_to 2 2 ∷ from_to 1 1 ∷ []))
+      (codes "a:b:c\nxyz\n") ≡ codes "a:b\nxyz\n"
   no_field_selected : cut (cut_by true 10 (byte ":") (from_to 5 5 ∷ [])) (codes "a:b\nxyz\n") ≡ codes "\n"
   to_the_last_field : cut (cut_by false 10 (byte ",") (from_to 2 max_u64 ∷ [])) (codes "a,b,c\n") ≡ codes "b,c\n"
   no_delimiter : cut (cut_by false 10 (byte ",") (from_to 2 max_u64 ∷ [])) (codes "x\n") ≡ codes "x\n"
   empty_fields : cut (cut_by false 10 (byte ",") (from_to 2 max_u64 ∷ [])) (codes ",\n") ≡ codes "\n"
   tab_between : cut (cut_by false 10 (byte "\t") (from_to 1 1 ∷ [])) (codes "a\tb") ≡ codes "a\n"
-  fields_apart : cut (cut_by false 10 (byte ",") (from_to 1 1 ∷ from_to 3 3 ∷ [])) (codes "a,b,c,d\n,,\n\n") ≡ codes "a,c\n,\n\n"
+  fields_apart : cut (cut_by false 10 (byte ",") (from_to 1 1 ∷ from_to 3 3 ∷ [])) (codes "a,b,c,d\n,,\n\n")
+      ≡ codes "a,c\n,\n\n"
   newline_between : cut (cut_by false 0 10 (from_to 2 2 ∷ [])) (codes "a\nb\0") ≡ codes "b\0"
-  amid_a_line : cut_decided (cut_by false 10 (byte ":") (from_to 1 1 ∷ [])) (record { bytes = codes "a:b\nc:d"; eof = false }) ≡ codes "a\n"
-  at_the_end : cut_decided (cut_by false 10 (byte ":") (from_to 1 1 ∷ [])) (record { bytes = codes "a:b\nc:d"; eof = true }) ≡ codes "a\nc\n"
+  amid_a_line : cut_decided (cut_by false 10 (byte ":") (from_to 1 1 ∷ []))
+      (record { bytes = codes "a:b\nc:d"; eof = false }) ≡ codes "a\n"
+  at_the_end : cut_decided (cut_by false 10 (byte ":") (from_to 1 1 ∷ []))
+      (record { bytes = codes "a:b\nc:d"; eof = true }) ≡ codes "a\nc\n"
 
 examples : CutExamples
 examples = record {

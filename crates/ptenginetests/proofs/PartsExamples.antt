@@ -1,5 +1,6 @@
 -- Worked examples of inputs in parts: results of the laws, and counterexamples if a condition is not met.
-use Rattle.std.proofs.Common.{◌≡◌, ◌==◌, cond, inl, inr, ℕ, List, [], ◌∷◌, ◌++◌, Bool, true, false, length, refl, ap, arith, codes, Option, Some, None, Result, Ok, Err, ◌<◌, ◌∙◌, sym, zero, suc}
+use Rattle.std.proofs.Common.{◌≡◌, ◌==◌, cond, inl, inr, ℕ, List, [], ◌∷◌, ◌++◌, Bool, true, false, length, refl, ap}
+use Rattle.std.proofs.Common.{arith, codes, Option, Some, None, Result, Ok, Err, ◌<◌, ◌∙◌, sym, zero, suc}
 use Rattle.std.specs.Prelude.{slice_index_or, unwrap_or, filter, bytes_eq}
 use Rattle.std.specs.Fmt.{digits}
 use Rattle.std.specs.Str.{byte}
@@ -28,12 +29,20 @@ use Rattle.ptflow.proofs.TrLemmas.TrFrom.{tr_after_byte, tr_meets_twice, same_la
 
 -- Selects the first byte of each line, or the first field.
 abbrev first_of : Bool → ℕ → Cut
-first_of fields end = record { fields = fields; selected = is_selected (record { first = 1; last = 1 } ∷ []); delimiter = byte ":"; only = false; terminator = end }
+first_of fields end = record {
+  fields = fields;
+  selected = is_selected (record { first = 1; last = 1 } ∷ []);
+  delimiter = byte ":";
+  only = false;
+  terminator = end;
+}
 
-cut_after_a_line : cut (first_of true 10) (codes "a:b\nc:d") ≡ cut (first_of true 10) (codes "a:b\n") ++ cut (first_of true 10) (codes "c:d")
+cut_after_a_line : cut (first_of true 10) (codes "a:b\nc:d")
+    ≡ cut (first_of true 10) (codes "a:b\n") ++ cut (first_of true 10) (codes "c:d")
 cut_after_a_line = cut_of_parts (first_of true 10) (codes "a:b\n") (codes "c:d") (inr (codes "a:b", refl))
 
-cut_after_zero : cut (first_of false 0) (codes "a\nb\0cd\0") ≡ cut (first_of false 0) (codes "a\nb\0") ++ cut (first_of false 0) (codes "cd\0")
+cut_after_zero : cut (first_of false 0) (codes "a\nb\0cd\0")
+    ≡ cut (first_of false 0) (codes "a\nb\0") ++ cut (first_of false 0) (codes "cd\0")
 cut_after_zero = cut_of_parts (first_of false 0) (codes "a\nb\0") (codes "cd\0") (inr (codes "a\nb", refl))
 
 line_of_both : cut (first_of false 10) (codes "ab\n") ≡ codes "a\n"
@@ -55,7 +64,8 @@ of_plan (Err fault) = record { deleted = []; images = []; squeezed = [] }
 abbrev squeezing : List ℕ → Tables
 squeezing bytes = of_plan (plan Squeeze false bytes None)
 
-tr_after_a_newline : tr (squeezing (codes "a")) (codes "ba\naab") ≡ tr (squeezing (codes "a")) (codes "ba\n") ++ tr (squeezing (codes "a")) (codes "aab")
+tr_after_a_newline : tr (squeezing (codes "a")) (codes "ba\naab")
+    ≡ tr (squeezing (codes "a")) (codes "ba\n") ++ tr (squeezing (codes "a")) (codes "aab")
 unfolding all_bytes
 tr_after_a_newline = tr_after_byte (squeezing (codes "a")) 10 (codes "ba\n") (codes "aab") (codes "ba", refl) refl refl
 
@@ -69,7 +79,8 @@ cut_inside_a_repeat = refl
 
 one_is_taken_away : tr (squeezing (codes "a")) (codes "baab") ≡ tr (squeezing (codes "a")) (codes "ba") ++ codes "b"
 unfolding all_bytes
-one_is_taken_away = tr_meets_twice (squeezing (codes "a")) (byte "a") (codes "ba") (codes "ab") (codes "b") refl (codes "b", refl) refl
+one_is_taken_away = tr_meets_twice (squeezing (codes "a")) (byte "a") (codes "ba") (codes "ab") (codes "b") refl
+    (codes "b", refl) refl
 
 not_tr_of_any_parts : ((t : Tables) (a b : List ℕ) → tr t (a ++ b) ≡ tr t a ++ tr t b) → ⊥
 unfolding all_bytes
@@ -93,7 +104,8 @@ by_the_law_of_uniq = uniq_of_parts counting (codes "a\na\n") (codes "b\n") (inr 
   where
     change : KeysChange counting (codes "a\na\n") (codes "b\n")
     change last first ends begins same =
-        let a : last ≡ codes "a" = ap (λ (o : Option (List ℕ)). unwrap_or o []) (same_last last (codes "a") (codes "a" ∷ codes "a" ∷ []) ends (codes "a" ∷ [], refl)) in
+        let a : last ≡ codes "a" = ap (λ (o : Option (List ℕ)). unwrap_or o [])
+        (same_last last (codes "a") (codes "a" ∷ codes "a" ∷ []) ends (codes "a" ∷ [], refl)) in
         let b : codes "b" ≡ first = ap (λ (ls : List (List ℕ)). slice_index_or ls 0 []) begins.1 in
         omega (arith, ap (λ (l : List ℕ). slice_index_or l 0 0) (sym a ∙ same ∙ sym b))
 
@@ -101,18 +113,22 @@ cut_inside_a_run : uniq counting (codes "a\n") ++ uniq counting (codes "a\nb\n")
 unfolding digits
 cut_inside_a_run = refl
 
-not_uniq_of_any_parts : ((job : Uniq) (a b : List ℕ) → HasOnlyCompleteLines job.terminator a → uniq job (a ++ b) ≡ uniq job a ++ uniq job b) → ⊥
+not_uniq_of_any_parts : ((job : Uniq) (a b : List ℕ) → HasOnlyCompleteLines job.terminator a → uniq job (a ++ b)
+    ≡ uniq job a ++ uniq job b) → ⊥
 unfolding digits
-not_uniq_of_any_parts law = omega (arith, ap length (law counting (codes "a\n") (codes "a\nb\n") (inr (codes "a", refl))))
+not_uniq_of_any_parts law =
+    omega (arith, ap length (law counting (codes "a\n") (codes "a\nb\n") (inr (codes "a", refl))))
 
 -- A split inside a line: `ab` is one line, and its parts are two.
-not_uniq_within_lines : ((job : Uniq) (a b : List ℕ) → KeysChange job a b → uniq job (a ++ b) ≡ uniq job a ++ uniq job b) → ⊥
+not_uniq_within_lines : ((job : Uniq) (a b : List ℕ) → KeysChange job a b → uniq job (a ++ b)
+    ≡ uniq job a ++ uniq job b) → ⊥
 unfolding digits
 not_uniq_within_lines law = omega (arith, ap length (law counting (codes "a") (codes "b\n") change))
   where
     change : KeysChange counting (codes "a") (codes "b\n")
     change last first ends begins same =
-        let a : last ≡ codes "a" = ap (λ (o : Option (List ℕ)). unwrap_or o []) (same_last last (codes "a") (codes "a" ∷ []) ends ([], refl)) in
+        let a : last ≡ codes "a" = ap (λ (o : Option (List ℕ)). unwrap_or o [])
+        (same_last last (codes "a") (codes "a" ∷ []) ends ([], refl)) in
         let b : codes "b" ≡ first = ap (λ (ls : List (List ℕ)). slice_index_or ls 0 []) begins.1 in
         omega (arith, ap (λ (l : List ℕ). slice_index_or l 0 0) (sym a ∙ same ∙ sym b))
 
@@ -122,7 +138,9 @@ unfolding digits
 key_comes_again = refl
 
 not_uniq_by_any_key : ((job : Uniq) (accepted : List ℕ → Bool) (bytes : List ℕ)
-    → uniq job (unlines job.terminator (filter (λ line. accepted (key job line)) (lines job.terminator bytes))) ≡ output_of job (filter (λ (run : Run). accepted (key job run.line)) (runs job (lines job.terminator bytes)))) → ⊥
+    → uniq job (unlines job.terminator (filter (λ line. accepted (key job line)) (lines job.terminator bytes)))
+    ≡ output_of job (filter (λ (run : Run). accepted (key job run.line)) (runs job (lines job.terminator bytes))))
+    → ⊥
 unfolding digits
 not_uniq_by_any_key law = omega (arith, ap length (law counting (λ k. bytes_eq k (codes "a")) (codes "a\nb\na\n")))
 
@@ -135,10 +153,12 @@ tabs serial = record { serial = serial; delimiters = Some 9 ∷ []; terminator =
 abbrev at : List (List ℕ) → ℕ → List ℕ
 at texts input = slice_index_or texts input []
 
-rows_of_both : paste (tabs false) (0 ∷ 1 ∷ []) (at (codes "1\n2\n3\n" ∷ codes "x\ny\nz\n" ∷ [])) ≡ codes "1\tx\n2\ty\n3\tz\n"
+rows_of_both : paste (tabs false) (0 ∷ 1 ∷ []) (at (codes "1\n2\n3\n" ∷ codes "x\ny\nz\n" ∷ []))
+    ≡ codes "1\tx\n2\ty\n3\tz\n"
 rows_of_both = refl
 
-cut_after_a_row : paste (tabs false) (0 ∷ 1 ∷ []) (at (codes "1\n2\n" ∷ codes "x\ny\n" ∷ [])) ++ paste (tabs false) (0 ∷ 1 ∷ []) (at (codes "3\n" ∷ codes "z\n" ∷ [])) ≡ codes "1\tx\n2\ty\n3\tz\n"
+cut_after_a_row : paste (tabs false) (0 ∷ 1 ∷ []) (at (codes "1\n2\n" ∷ codes "x\ny\n" ∷ []))
+    ++ paste (tabs false) (0 ∷ 1 ∷ []) (at (codes "3\n" ∷ codes "z\n" ∷ [])) ≡ codes "1\tx\n2\ty\n3\tz\n"
 cut_after_a_row = refl
 
 cut_after_other_rows : paste (tabs false) (0 ∷ 1 ∷ []) (at (codes "1\n2\n" ∷ codes "x\n" ∷ []))
@@ -149,32 +169,51 @@ cut_after_other_rows = refl
 shared_rows_of_both : paste (tabs false) (0 ∷ 0 ∷ []) (at (codes "1\n2\n3\n4\n" ∷ [])) ≡ codes "1\t2\n3\t4\n"
 shared_rows_of_both = refl
 
-shared_after_a_row : paste (tabs false) (0 ∷ 0 ∷ []) (at (codes "1\n2\n" ∷ [])) ++ paste (tabs false) (0 ∷ 0 ∷ []) (at (codes "3\n4\n" ∷ [])) ≡ codes "1\t2\n3\t4\n"
+shared_after_a_row : paste (tabs false) (0 ∷ 0 ∷ []) (at (codes "1\n2\n" ∷ []))
+    ++ paste (tabs false) (0 ∷ 0 ∷ []) (at (codes "3\n4\n" ∷ [])) ≡ codes "1\t2\n3\t4\n"
 shared_after_a_row = refl
 
-shared_inside_a_row : paste (tabs false) (0 ∷ 0 ∷ []) (at (codes "1\n" ∷ [])) ++ paste (tabs false) (0 ∷ 0 ∷ []) (at (codes "2\n3\n4\n" ∷ [])) ≡ codes "1\t\n2\t3\n4\t\n"
+shared_inside_a_row : paste (tabs false) (0 ∷ 0 ∷ []) (at (codes "1\n" ∷ []))
+    ++ paste (tabs false) (0 ∷ 0 ∷ []) (at (codes "2\n3\n4\n" ∷ [])) ≡ codes "1\t\n2\t3\n4\t\n"
 shared_inside_a_row = refl
 
 -- One input ends before the row after which all are split.
-ends_before_the_row : paste (tabs false) (0 ∷ 1 ∷ []) (at (codes "1\n2\n" ∷ codes "x" ∷ [])) ++ paste (tabs false) (0 ∷ 1 ∷ []) (at (codes "3\n" ∷ [] ∷ []))
+ends_before_the_row : paste (tabs false) (0 ∷ 1 ∷ []) (at (codes "1\n2\n" ∷ codes "x" ∷ []))
+    ++ paste (tabs false) (0 ∷ 1 ∷ []) (at (codes "3\n" ∷ [] ∷ []))
     ≡ paste (tabs false) (0 ∷ 1 ∷ []) (at (codes "1\n2\n3\n" ∷ codes "x" ∷ []))
 ends_before_the_row = refl
 
-by_the_law_of_paste : paste (tabs false) (0 ∷ 1 ∷ []) (λ input. at (codes "1\n2\n" ∷ codes "x" ∷ []) input ++ at (codes "3\n" ∷ [] ∷ []) input)
-    ≡ paste (tabs false) (0 ∷ 1 ∷ []) (at (codes "1\n2\n" ∷ codes "x" ∷ [])) ++ paste (tabs false) (0 ∷ 1 ∷ []) (at (codes "3\n" ∷ [] ∷ []))
-by_the_law_of_paste = paste_of_parts (tabs false) (0 ∷ 1 ∷ []) 2 (at (codes "1\n2\n" ∷ codes "x" ∷ [])) (at (codes "3\n" ∷ [] ∷ [])) cut_there
+by_the_law_of_paste : paste (tabs false) (0 ∷ 1 ∷ []) (λ input. at (codes "1\n2\n" ∷ codes "x" ∷ []) input
+    ++ at (codes "3\n" ∷ [] ∷ []) input)
+    ≡ paste (tabs false) (0 ∷ 1 ∷ []) (at (codes "1\n2\n" ∷ codes "x" ∷ []))
+    ++ paste (tabs false) (0 ∷ 1 ∷ []) (at (codes "3\n" ∷ [] ∷ []))
+by_the_law_of_paste = paste_of_parts (tabs false) (0 ∷ 1 ∷ []) 2 (at (codes "1\n2\n" ∷ codes "x" ∷ []))
+    (at (codes "3\n" ∷ [] ∷ [])) cut_there
   where
-    cut_there : (input : ℕ) → 0 < uses_of (0 ∷ 1 ∷ []) input → IsRowSplit 10 2 (uses_of (0 ∷ 1 ∷ []) input) (at (codes "1\n2\n" ∷ codes "x" ∷ []) input) (at (codes "3\n" ∷ [] ∷ []) input)
+    cut_there : (input : ℕ) → 0 < uses_of (0 ∷ 1 ∷ []) input
+        → IsRowSplit 10 2 (uses_of (0 ∷ 1 ∷ []) input) (at (codes "1\n2\n" ∷ codes "x" ∷ []) input)
+        (at (codes "3\n" ∷ [] ∷ []) input)
     cut_there zero named = inl (inr (codes "1\n2", refl), refl)
     cut_there (suc zero) named = inr (refl, omega arith)
     cut_there (suc (suc n)) named =
         let not_first : (0 == suc (suc n)) ≡ false = grind (arith, nat_tests) in
         let not_second : (1 == suc (suc n)) ≡ false = grind (arith, nat_tests) in
-        absurd (omega (arith, named, ap {B = ℕ} (λ (t : Bool). cond t 1 0) not_first, ap {B = ℕ} (λ (t : Bool). cond t 1 0) not_second))
+        absurd (omega (
+          arith,
+          named,
+          ap {B = ℕ} (λ (t : Bool). cond t 1 0) not_first,
+          ap {B = ℕ} (λ (t : Bool). cond t 1 0) not_second,
+        ))
 
-not_paste_of_any_parts : ((job : Paste) (cells : List ℕ) (a b : ℕ → List ℕ) → ((input : ℕ) → HasOnlyCompleteLines job.terminator (a input))
+not_paste_of_any_parts : ((job : Paste) (cells : List ℕ) (a b : ℕ → List ℕ)
+    → ((input : ℕ) → HasOnlyCompleteLines job.terminator (a input))
     → paste job cells (λ input. a input ++ b input) ≡ paste job cells a ++ paste job cells b) → ⊥
-not_paste_of_any_parts law = omega (arith, ap length (law (tabs false) (0 ∷ 1 ∷ []) (at (codes "1\n2\n" ∷ codes "x\n" ∷ [])) (at (codes "3\n" ∷ codes "y\nz\n" ∷ [])) whole))
+not_paste_of_any_parts law =
+    omega (
+      arith,
+      ap length (law (tabs false) (0 ∷ 1 ∷ []) (at (codes "1\n2\n" ∷ codes "x\n" ∷ []))
+          (at (codes "3\n" ∷ codes "y\nz\n" ∷ [])) whole),
+    )
   where
     whole : (input : ℕ) → HasOnlyCompleteLines 10 (at (codes "1\n2\n" ∷ codes "x\n" ∷ []) input)
     whole zero = inr (codes "1\n2", refl)
@@ -182,8 +221,10 @@ not_paste_of_any_parts law = omega (arith, ap length (law (tabs false) (0 ∷ 1 
     whole (suc (suc n)) = inl refl
 
 -- A split inside a line, although each part has one line.
-not_paste_within_lines : ((job : Paste) (a b : ℕ → List ℕ) → length (lines job.terminator (a 0)) ≡ 1 → paste job (0 ∷ []) (λ input. a input ++ b input) ≡ paste job (0 ∷ []) a ++ paste job (0 ∷ []) b) → ⊥
-not_paste_within_lines law = omega (arith, ap length (law (tabs false) (at (codes "1" ∷ [])) (at (codes "2\n" ∷ [])) refl))
+not_paste_within_lines : ((job : Paste) (a b : ℕ → List ℕ) → length (lines job.terminator (a 0)) ≡ 1
+    → paste job (0 ∷ []) (λ input. a input ++ b input) ≡ paste job (0 ∷ []) a ++ paste job (0 ∷ []) b) → ⊥
+not_paste_within_lines law =
+    omega (arith, ap length (law (tabs false) (at (codes "1" ∷ [])) (at (codes "2\n" ∷ [])) refl))
 
 -- ---- `paste -s`
 
@@ -194,7 +235,8 @@ row_apart : paste_serial (tabs true) (codes "a\n") ++ paste_serial (tabs true) (
 row_apart = refl
 
 -- The law does not hold for `-s`, not even after a complete line.
-not_paste_serial_of_parts : ((job : Paste) (a b : List ℕ) → HasOnlyCompleteLines job.terminator a → paste_serial job (a ++ b) ≡ paste_serial job a ++ paste_serial job b) → ⊥
+not_paste_serial_of_parts : ((job : Paste) (a b : List ℕ) → HasOnlyCompleteLines job.terminator a
+    → paste_serial job (a ++ b) ≡ paste_serial job a ++ paste_serial job b) → ⊥
 not_paste_serial_of_parts law = differ (law (tabs true) (codes "a\n") (codes "b\n") (inr (codes "a", refl)))
   where
     differ : codes "a\tb\n" ≡ codes "a\nb\n" → ⊥

@@ -41,12 +41,14 @@ single_only = refl
 nothing_of_nothing : uniq (job Counts 0 0) [] ≡ []
 nothing_of_nothing = refl
 
-zero_ends_lines : uniq (record { show = Counts; fields = 0; chars = 0; terminator = 0 }) (codes "a\0a\0b") ≡ codes "2 a\01 b\0"
+zero_ends_lines : uniq (record { show = Counts; fields = 0; chars = 0; terminator = 0 }) (codes "a\0a\0b")
+    ≡ codes "2 a\01 b\0"
 unfolding digits
 zero_ends_lines = refl
 
 -- With `-z` a newline is not a blank.
-newline_is_in_a_word : uniq (record { show = All; fields = 1; chars = 0; terminator = 0 }) (codes "a\nx y\0b y\0b\nz y\0") ≡ codes "a\nx y\0"
+newline_is_in_a_word : uniq (record { show = All; fields = 1; chars = 0; terminator = 0 })
+    (codes "a\nx y\0b y\0b\nz y\0") ≡ codes "a\nx y\0"
 newline_is_in_a_word = refl
 
 -- ---- the part of the output that is determined

@@ -56,20 +56,25 @@ module _ (Z : Al) where
   left_at p = (p.0, p.1 + up 8 (up (align (α Z)) 0 + size (α Z)))
 
   pub parts : {M : Type 1} {𝓤 : Ura M} (𝓛 : Logic 𝓤) (κs : Lfts 2) (r : Bor (refusing.the_row Z.row).Denot)
-      → ent 𝓤 (sem 𝓛 ((lent.row κs).own_val r (shr_vals r))) (sep 𝓤 (sem 𝓛 (seen Z κs.0 (inner_at r.ref_ptr) r.now.inner)) (sem 𝓛 (shown_at κs.0 (left_at r.ref_ptr))))
+      → ent 𝓤 (sem 𝓛 ((lent.row κs).own_val r (shr_vals r)))
+      (sep 𝓤 (sem 𝓛 (seen Z κs.0 (inner_at r.ref_ptr) r.now.inner)) (sem 𝓛 (shown_at κs.0 (left_at r.ref_ptr))))
   parts {𝓤 = 𝓤} 𝓛 κs r =
-      qed 𝓛 (‵ ((lent.row κs).own_val r (shr_vals r)) ∷ []) ∵ fsplit ! $ move ! (1 ∷ []) $ unhide ! $ fsplit ! $ fsplit !
+      qed 𝓛 (‵ ((lent.row κs).own_val r (shr_vals r)) ∷ []) ∵ fsplit ! $ move !
+      (1 ∷ []) $ unhide ! $ fsplit ! $ fsplit !
       $ move ! (1 ∷ []) $ fsplit ! $ keep ! (2 ∷ 0 ∷ []) $ done !
 
 -- the call that counts down, for a counter at the address p
-module _ {M : Type 1} {𝓤 : Ura M} (𝓛 : Logic 𝓤) (at_mem : Memory → SProp 𝓤) (run : Routine → Fun 𝓤) (κ : Lft) (q : Share) (p : ℕ × ℕ) where
+module _ {M : Type 1} {𝓤 : Ura M} (𝓛 : Logic 𝓤) (at_mem : Memory → SProp 𝓤) (run : Routine
+    → Fun 𝓤) (κ : Lft) (q : Share) (p : ℕ × ℕ) where
   abbrev pub Asks : Contract 𝓤
   Asks = triple_of 𝓛 next_fails.signature (next_fails.spec 𝓛 at_mem run)
 
   abbrev pub question : Asks.Ghost
-  question = (((κ, tt), (q, tt), tt, (record { ref_ptr = p; now = record { value = tt } }, tt), (vptr p.0 p.1 ∷ [], tt)), tt)
+  question =
+      (((κ, tt), (q, tt), tt, (record { ref_ptr = p; now = record { value = tt } }, tt), (vptr p.0 p.1 ∷ [], tt)), tt)
 
   pub asks : ent 𝓤 (sep 𝓤 (sem 𝓛 (shown_at κ p)) (𝓛.A.lft κ q)) (Asks.pre question)
   asks =
-      qed 𝓛 (‵ (shown_at κ p) ∷ ‵ (flft κ q) ∷ []) ∵ nothing ! $ move ! (1 ∷ 0 ∷ []) $ feq_i ! _ (vptr p.0 p.1 ∷ []) _ refl $ fjoin ! $ fjoin !
+      qed 𝓛 (‵ (shown_at κ p) ∷ ‵ (flft κ q) ∷ []) ∵ nothing ! $ move ! (1 ∷ 0 ∷ []) $ feq_i ! _
+      (vptr p.0 p.1 ∷ []) _ refl $ fjoin ! $ fjoin !
       $ nothing ! $ move ! (2 ∷ 0 ∷ []) $ join ! $ join ! $ nothing ! $ move ! (1 ∷ []) $ done !

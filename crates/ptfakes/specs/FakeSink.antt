@@ -1,11 +1,13 @@
 -- The model of the sinks of the tests, which know the bytes that they have accepted.
-use Rattle.std.specs.Prelude.{◌≡◌, ℕ, ◌-◌, ◌==◌, ◌<◌, ◌≤◌, ◌||◌, Bool, true, false, List, [], ◌++◌, Some, Result, Ok, Err, length, take, min}
+use Rattle.std.specs.Prelude.{◌≡◌, ℕ, ◌-◌, ◌==◌, ◌<◌, ◌≤◌, ◌||◌, Bool, true, false, List, [], ◌++◌, Some, Result, Ok}
+use Rattle.std.specs.Prelude.{Err, length, take, min}
 use Rattle.ptlines.specs.Sinks.{SinkState, unflushed_after, flushes_after}
 use Rattle.ptlines.specs.declared.sink.Failed.{Failed}
 use Rattle.ptfakes.specs.Calls.{count_after}
 
 -- the accepted bytes, the most bytes that one call and all calls accept, how many calls succeed before every later one
--- fails, the number of calls, how many of them were flushes that succeeded, whether one has failed, and whether bytes are
+-- fails, the number of calls, how many of them were flushes that succeeded, whether one has failed, and whether bytes
+-- are
 -- unflushed
 pub record FakeSink : Type 0 where
   pub accepted : List ℕ
@@ -53,5 +55,7 @@ FakePutPost old new bytes (Err e) = new ≡ record old { calls = count_after old
 
 -- the effect of one flush
 abbrev pub FakeFlushPost : FakeSink → FakeSink → Result (Unit {0}) Failed → Type 0
-FakeFlushPost old new (Ok u) = (old.calls < old.ok_calls) × (new ≡ record old { calls = count_after old.calls; flushes = flushes_after old.flushes; unflushed = false })
-FakeFlushPost old new (Err e) = (old.ok_calls ≤ old.calls) × (new ≡ record old { calls = count_after old.calls; failed = true })
+FakeFlushPost old new (Ok u) = (old.calls < old.ok_calls)
+    × (new ≡ record old { calls = count_after old.calls; flushes = flushes_after old.flushes; unflushed = false })
+FakeFlushPost old new (Err e) = (old.ok_calls ≤ old.calls)
+    × (new ≡ record old { calls = count_after old.calls; failed = true })

@@ -1,5 +1,6 @@
 -- The model of the sources of the tests, which know the bytes that they have left.
-use Rattle.std.specs.Prelude.{◌≡◌, ℕ, ◌==◌, ◌<◌, ◌≤◌, ◌||◌, Bool, true, false, List, Some, Result, Ok, Err, length, take, drop, min, max}
+use Rattle.std.specs.Prelude.{◌≡◌, ℕ, ◌==◌, ◌<◌, ◌≤◌, ◌||◌, Bool, true, false, List, Some, Result, Ok, Err, length}
+use Rattle.std.specs.Prelude.{take, drop, min, max}
 use Rattle.ptlines.specs.Sources.{SourceState}
 use Rattle.ptlines.specs.declared.sink.Failed.{Failed}
 use Rattle.ptfakes.specs.Calls.{count_after}
@@ -40,4 +41,5 @@ pub record FakePullOk (old new : FakeSource) (into : List ℕ) (n : ℕ) : Type 
 -- the effect of one read
 abbrev pub FakePullPost : FakeSource → FakeSource → List ℕ → Result ℕ Failed → Type 0
 FakePullPost old new into (Ok n) = FakePullOk old new into n
-FakePullPost old new into (Err e) = (old.ok_calls ≤ old.pulls) × (new ≡ record old { pulls = count_after old.pulls; failed = true })
+FakePullPost old new into (Err e) = (old.ok_calls ≤ old.pulls)
+    × (new ≡ record old { pulls = count_after old.pulls; failed = true })

@@ -9,7 +9,8 @@ use Rattle.ptlines.specs.Lag.{BoundedLag}
 use Rattle.ptlines.proofs.Lag.{known_length}
 
 -- nothing was pushed although 20,000 bytes of decided output were received
-nothing_pushed : (was is : Output) → BoundedLag {I = Unit {0}} (λ given. (given tt).bytes) (λ u. record { bytes = replicate 20000 120; eof = false }) was is [] → ⊥
+nothing_pushed : (was is : Output) → BoundedLag {I = Unit {0}} (λ given. (given tt).bytes)
+    (λ u. record { bytes = replicate 20000 120; eof = false }) was is [] → ⊥
 nothing_pushed was is k = omega (
   arith,
   (k.processing.before tt).short,
@@ -22,7 +23,8 @@ nothing_pushed was is k = omega (
 
 -- all of 30,000 bytes were pushed, and none was written to the sink
 nothing_sent : (was is : Output) (t : List ℕ) → was.accepted ≡ Some t → is.accepted ≡ Some t → was.buffered ≡ []
-    → BoundedLag {I = Unit {0}} (λ given. (given tt).bytes) (λ u. record { bytes = replicate 30000 120; eof = false }) was is (replicate 30000 120) → ⊥
+    → BoundedLag {I = Unit {0}} (λ given. (given tt).bytes)
+    (λ u. record { bytes = replicate 30000 120; eof = false }) was is (replicate 30000 120) → ⊥
 unfolding known_length
 nothing_sent was is t took takes empty k = omega (
   arith,
@@ -32,6 +34,7 @@ nothing_sent was is t took takes empty k = omega (
   length-append (k.processing.before tt).earlier.bytes (k.processing.before tt).last,
   length-replicate {A = ℕ} 30000 120,
   ap length empty,
-  ap known_length (sym takes ∙ k.buffering.accepted ∙ ap (λ (b : Option (List ℕ)). append_known b k.buffering.written_out) took),
+  ap known_length (sym takes ∙ k.buffering.accepted
+      ∙ ap (λ (b : Option (List ℕ)). append_known b k.buffering.written_out) took),
   length-append t k.buffering.written_out,
 )

@@ -11,7 +11,8 @@ first_is_complete = inr (codes "a\nb", refl)
 by_the_law : lines 10 (codes "a\nb\nc\nd") ≡ lines 10 (codes "a\nb\n") ++ lines 10 (codes "c\nd")
 by_the_law = the_lines_of_parts 10 (codes "a\nb\n") (codes "c\nd") first_is_complete
 
-lines_of_both : lines 10 (codes "a\nb\n") ++ lines 10 (codes "c\nd") ≡ codes "a" ∷ codes "b" ∷ codes "c" ∷ codes "d" ∷ []
+lines_of_both : lines 10 (codes "a\nb\n") ++ lines 10 (codes "c\nd")
+    ≡ codes "a" ∷ codes "b" ∷ codes "c" ∷ codes "d" ∷ []
 lines_of_both = refl
 
 zero_ends_lines : lines 0 (codes "a\nb\0c") ≡ lines 0 (codes "a\nb\0") ++ lines 0 (codes "c")

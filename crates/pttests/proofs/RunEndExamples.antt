@@ -19,7 +19,8 @@ use Rattle.ptrun.specs.SpecOfArgs.{spec_of_args}
 one_of_two : (P : ℕ → Type 0) (p : ℕ) → ((1 == p) || ((2 == p) || false)) ≡ true → P 1 → P 2 → P p
 one_of_two P p named first second = ⊎_elim (λ (is, same). subst P same first)
     (λ (not_first, differs). ⊎_elim (λ (is, same). subst P same second)
-    (λ (not_second, differ). absurd (false≢true (sym (λ i. not_first i || (not_second i || false)) ∙ named))) (eqb_tells 2 p)) (eqb_tells 1 p)
+    (λ (not_second, differ). absurd (false≢true (sym (λ i. not_first i || (not_second i || false)) ∙ named)))
+    (eqb_tells 2 p)) (eqb_tells 1 p)
 
 module _ {old new : List Reader} {before : Sinks} {o : Outcome} where
   -- The end of `f` was not reached, for example because a write failed. Then no operand is done: no message is about
@@ -89,7 +90,8 @@ module _ {old new : List Reader} {before : Sinks} {o : Outcome} where
       (λ (p, named, opened, unended). unended (one_of_two (λ q. IsDone (reader_at new q)) p named first second))
       (λ (keeps, unwritten). false≢true keeps) (k.left memory)
 
-  -- Any other `join` may run out of memory then, but not once its output is written, for example if it has nothing to write.
+  -- Any other `join` may run out of memory then, but not once its output is written, for example if it has nothing to
+  -- write.
   join_needs_no_memory_for_nothing : (k : IsRun (spec_of_args (words "join f g")) old new before o)
       → IsDone (reader_at new 1) → IsDone (reader_at new 2)
       → (w : InputBytes) → AreInputsConsistent k.received w → k.written ≡ (spec_of_args (words "join f g")).out w

@@ -13,7 +13,11 @@ record Outcome : Type 0 where
   status : ℕ
 
 abbrev outcome : List (List ℕ) → InputBytes → Outcome
-outcome words w = record { out = (spec_of_args words).out w; messages = messages (spec_of_args words) w; status = (spec_of_args words).status w }
+outcome words w = record {
+  out = (spec_of_args words).out w;
+  messages = messages (spec_of_args words) w;
+  status = (spec_of_args words).status w;
+}
 
 abbrev writes : List ℕ → Outcome
 writes out = record { out = out; messages = []; status = 0 }
@@ -29,29 +33,53 @@ examples =
     (words "cut -c 3-,1", input (codes "abcd\n"), writes (codes "acd\n"))
     ∷ (words "cut -b -2", input (codes "abc"), writes (codes "ab\n"))
     ∷ (words "cut -b 18446744073709551615-", input (codes "abc\n"), writes (codes "\n"))
-    ∷ (words "cut -b 18446744073709551616", input [], refuses (codes "cut: wrong value for option -b: 18446744073709551616\n"))
+    ∷ (
+      words "cut -b 18446744073709551616",
+      input [],
+      refuses (codes "cut: wrong value for option -b: 18446744073709551616\n"),
+    )
     ∷ (words "cut -c 1", input [], writes [])
     ∷ (words "cut -c 1", input (codes "\n"), writes (codes "\n"))
     ∷ (words "cut -b" ++ codes "2 4,1" ∷ [], input (codes "abcd\n"), writes (codes "abd\n"))
     ∷ (words "cut -b 2-", input (codes "a\nbcd"), writes (codes "\ncd\n"))
     ∷ (words "cut -b 1,3-2", input (codes "abc\n"), refuses (codes "cut: wrong value for option -b: 1,3-2\n"))
     ∷ (words "cut -b 1,,2", input (codes "abc\n"), refuses (codes "cut: wrong value for option -b: 1,,2\n"))
-    ∷ (words "cut -c 1 f g h", Some [] ∷ Some (codes "ab\n") ∷ None ∷ Some (codes "cd\n") ∷ [], record { out = codes "a\nc\n"; messages = codes "cut: g: cannot be opened\n"; status = 1 })
+    ∷ (
+      words "cut -c 1 f g h",
+      Some [] ∷ Some (codes "ab\n") ∷ None ∷ Some (codes "cd\n") ∷ [],
+      record { out = codes "a\nc\n"; messages = codes "cut: g: cannot be opened\n"; status = 1 },
+    )
     ∷ (words "cut", input [], refuses (codes "cut: one of -b, -c and -f is needed\n"))
     ∷ (words "cut -xb", input [], refuses (codes "cut: unknown option in -xb\n"))
     ∷ (words "cut -b 1 -b 2", input [], refuses (codes "cut: option -b is given twice\n"))
     ∷ (words "cut -b 1 -f 1", input [], refuses (codes "cut: options -b and -f do not go together\n"))
     ∷ (words "cut -d : -f 2,2,1", input (codes "a:b:c\nxyz\n"), writes (codes "a:b\nxyz\n"))
     ∷ (words "cut -s -d : -f 5", input (codes "a:b\nxyz\n"), writes (codes "\n"))
-    ∷ (words "cut -d , -f 2- f - g", Some (codes "x\n") ∷ Some (codes "a,b,c\n") ∷ Some (codes ",\n") ∷ [], writes (codes "b,c\nx\n\n"))
+    ∷ (
+      words "cut -d , -f 2- f - g",
+      Some (codes "x\n") ∷ Some (codes "a,b,c\n") ∷ Some (codes ",\n") ∷ [],
+      writes (codes "b,c\nx\n\n"),
+    )
     ∷ (words "cut -f 1 - -", input (codes "a\tb"), writes (codes "a\n"))
     ∷ (words "cut -f 1", input (codes "\n\n"), writes (codes "\n\n"))
     ∷ (words "cut -s -f 1", input (codes "\n\n"), writes [])
     ∷ (words "cut -z -c 1", input (codes "ab" ++ 0 ∷ codes "\ncd"), writes (codes "a" ++ 0 ∷ codes "\n" ++ 0 ∷ []))
     ∷ (words "cut -d \n -f 2 -z", input (codes "a\nb" ++ 0 ∷ []), writes (codes "b" ++ 0 ∷ []))
     ∷ (words "cut -d \n -f 2", input [], refuses (codes "cut: wrong value for option -d: \n\n"))
-    ∷ ((words "cut -z -f 2 -d" ++ (0 ∷ []) ∷ []), input [], refuses (codes "cut: wrong value for option -d: " ++ 0 ∷ codes "\n"))
-    ∷ (words "cut -zf1 - - f", Some (codes "a\tb" ++ 0 ∷ codes "c") ∷ None ∷ [], record { out = codes "a" ++ 0 ∷ codes "c" ++ 0 ∷ []; messages = codes "cut: f: cannot be opened\n"; status = 1 })
+    ∷ (
+      (words "cut -z -f 2 -d" ++ (0 ∷ []) ∷ []),
+      input [],
+      refuses (codes "cut: wrong value for option -d: " ++ 0 ∷ codes "\n"),
+    )
+    ∷ (
+      words "cut -zf1 - - f",
+      Some (codes "a\tb" ++ 0 ∷ codes "c") ∷ None ∷ [],
+      record {
+        out = codes "a" ++ 0 ∷ codes "c" ++ 0 ∷ [];
+        messages = codes "cut: f: cannot be opened\n";
+        status = 1;
+      },
+    )
     ∷ (words "tr -z a b", input [], refuses (codes "tr: unknown option in -z\n"))
     ∷ (words "uniq -c", input (codes "a\na\nb\na"), writes (codes "2 a\n1 b\n1 a\n"))
     ∷ (words "uniq -f 1 -s 1", input (codes " x 1a\ny 1a\n"), writes (codes " x 1a\n"))
@@ -61,34 +89,48 @@ examples =
     ∷ (words "uniq -s 18446744073709551615", input (codes "a\nb\n"), writes (codes "a\n"))
     ∷ (words "uniq -d", input (codes "a\na\nb\n"), writes (codes "a\n"))
     ∷ (words "uniq -u", input (codes "a\na\nb\n"), writes (codes "b\n"))
-    ∷ (words "uniq g out", Some (codes "a\n") ∷ None ∷ [], record { out = []; messages = codes "uniq: g: cannot be opened\n"; status = 1 })
+    ∷ (
+      words "uniq g out",
+      Some (codes "a\n") ∷ None ∷ [],
+      record { out = []; messages = codes "uniq: g: cannot be opened\n"; status = 1 },
+    )
     ∷ (words "uniq f -", Some (codes "x\n") ∷ Some (codes "a\na\n") ∷ [], writes (codes "a\n"))
-    ∷ (words "uniq -zc", input (codes "a" ++ 0 ∷ codes "a" ++ 0 ∷ codes "b"), writes (codes "2 a" ++ 0 ∷ codes "1 b" ++ 0 ∷ []))
+    ∷ (
+      words "uniq -zc",
+      input (codes "a" ++ 0 ∷ codes "a" ++ 0 ∷ codes "b"),
+      writes (codes "2 a" ++ 0 ∷ codes "1 b" ++ 0 ∷ []),
+    )
     ∷ []
 
-outcomes_match : map (λ (example : List (List ℕ) × InputBytes × Outcome). outcome example.0 example.1) examples ≡ map (λ (example : List (List ℕ) × InputBytes × Outcome). example.2) examples
+outcomes_match : map (λ (example : List (List ℕ) × InputBytes × Outcome). outcome example.0 example.1) examples
+    ≡ map (λ (example : List (List ℕ) × InputBytes × Outcome). example.2) examples
 unfolding lib.Utf8.encode digits
 outcomes_match = refl
 
 -- a read fails after the first line: this line is decided, and what was received of the second is not
-decided_before_a_failed_read : (spec_of_args (codes "cut" ∷ codes "-c" ∷ codes "1-3" ∷ [])).decided (Some (record { bytes = codes "abcd\nab"; eof = false }) ∷ []) ≡ codes "abc\n"
+decided_before_a_failed_read : (spec_of_args (codes "cut" ∷ codes "-c" ∷ codes "1-3" ∷ [])).decided
+    (Some (record { bytes = codes "abcd\nab"; eof = false }) ∷ []) ≡ codes "abc\n"
 decided_before_a_failed_read = refl
 
-fields_decided_before_a_failed_read : (spec_of_args (codes "cut" ∷ codes "-d" ∷ codes ":" ∷ codes "-f" ∷ codes "1" ∷ [])).decided
+fields_decided_before_a_failed_read :
+    (spec_of_args (codes "cut" ∷ codes "-d" ∷ codes ":" ∷ codes "-f" ∷ codes "1" ∷ [])).decided
     (Some (record { bytes = codes "a:b\nc:d"; eof = false }) ∷ []) ≡ codes "a\n"
 fields_decided_before_a_failed_read = refl
 
 -- the message about the first operand, which could not be opened
-message_of_first_operand : operand_messages (spec_of_args (codes "cut" ∷ codes "-c" ∷ codes "1" ∷ codes "g" ∷ codes "f" ∷ codes "h" ∷ []))
+message_of_first_operand : operand_messages
+    (spec_of_args (codes "cut" ∷ codes "-c" ∷ codes "1" ∷ codes "g" ∷ codes "f" ∷ codes "h" ∷ []))
     (Some [] ∷ None ∷ Some (codes "x") ∷ None ∷ []) 1 ≡ codes "cut: g: cannot be opened\n"
 message_of_first_operand = refl
 
 -- a read fails after the first line, which byte 0 terminates
-decided_of_nul_terminated_lines : (spec_of_args (words "cut -z -c 1")).decided (Some (record { bytes = codes "ab" ++ 0 ∷ codes "\nc"; eof = false }) ∷ []) ≡ codes "a" ++ 0 ∷ []
+decided_of_nul_terminated_lines : (spec_of_args (words "cut -z -c 1")).decided (Some
+    (record { bytes = codes "ab" ++ 0 ∷ codes "\nc"; eof = false }) ∷ []) ≡ codes "a" ++ 0 ∷ []
 decided_of_nul_terminated_lines = refl
 
 -- a read fails, and nothing of the last run of equal lines is decided
-last_run_is_undecided : map (λ (example : List (List ℕ) × List ℕ). (spec_of_args example.0).decided (Some (record { bytes = example.1; eof = false }) ∷ []))
+last_run_is_undecided : map (λ (example : List (List ℕ)
+    × List ℕ). (spec_of_args example.0).decided (Some (record { bytes = example.1; eof = false }) ∷ []))
     ((words "uniq", codes "a\na\nb") ∷ (words "uniq -c", codes "a\nb\nc") ∷ []) ≡ [] ∷ codes "1 a\n" ∷ []
 unfolding digits
 last_run_is_undecided = refl

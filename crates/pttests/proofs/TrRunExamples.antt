@@ -34,11 +34,14 @@ examples =
 abbrev outcome : List (List ℕ) → InputBytes → List ℕ × List ℕ × ℕ
 outcome tr w = ((spec_of_args tr).out w, messages (spec_of_args tr) w, (spec_of_args tr).status w)
 
-outputs_match : map (λ (example : List (List ℕ) × List ℕ × List ℕ). outcome (codes "tr" ∷ example.0) (Some example.1 ∷ [])) examples ≡ map (λ (example : List (List ℕ) × List ℕ × List ℕ). (example.2, [], 0)) examples
+outputs_match : map (λ (example : List (List ℕ) × List ℕ
+    × List ℕ). outcome (codes "tr" ∷ example.0) (Some example.1 ∷ [])) examples
+    ≡ map (λ (example : List (List ℕ) × List ℕ × List ℕ). (example.2, [], 0)) examples
 unfolding all_bytes
 outputs_match = refl
 
 -- a read fails, and the output for all bytes received is decided
-decided_of_received : (spec_of_args (codes "tr" ∷ codes "-d" ∷ codes "b" ∷ [])).decided (Some (record { bytes = codes "ab\nb"; eof = false }) ∷ []) ≡ codes "a\n"
+decided_of_received : (spec_of_args (codes "tr" ∷ codes "-d" ∷ codes "b" ∷ [])).decided
+    (Some (record { bytes = codes "ab\nb"; eof = false }) ∷ []) ≡ codes "a\n"
 unfolding all_bytes
 decided_of_received = refl

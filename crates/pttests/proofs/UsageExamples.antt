@@ -74,6 +74,7 @@ examples =
     ∷ (words "tr -d \\400 b", codes "tr: wrong number of operands")
     ∷ []
 
-messages_match : map (λ (example : List (List ℕ) × List ℕ). spec_of_args example.0) examples ≡ map (λ (example : List (List ℕ) × List ℕ). message_only (example.1 ++ 10 ∷ []) 2) examples
+messages_match : map (λ (example : List (List ℕ) × List ℕ). spec_of_args example.0) examples
+    ≡ map (λ (example : List (List ℕ) × List ℕ). message_only (example.1 ++ 10 ∷ []) 2) examples
 unfolding lib.Utf8.encode
 messages_match = refl

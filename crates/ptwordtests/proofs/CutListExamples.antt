@@ -13,7 +13,11 @@ examples =
     (codes "3-,1", Ok (from_to 3 18446744073709551615 ∷ from_to 1 1 ∷ []))
     ∷ (codes "2 4,1", Ok (from_to 2 2 ∷ from_to 4 4 ∷ from_to 1 1 ∷ []))
     ∷ (codes "-2", Ok (from_to 1 2 ∷ []))
-    ∷ (codes "00012-0000000000000000000000000000000000000000000000013\t7-", Ok (from_to 12 13 ∷ from_to 7 18446744073709551615 ∷ []))
+    ∷ (
+      codes "00012-0000000000000000000000000000000000000000000000013\t7-",
+      Ok
+          (from_to 12 13 ∷ from_to 7 18446744073709551615 ∷ []),
+    )
     ∷ (codes "1,3-2", Err Descending)
     ∷ (codes "1,,2", Err Empty)
     ∷ ([], Err Empty)
@@ -24,5 +28,6 @@ examples =
     ∷ (codes "1,3-2,0", Err Descending)
     ∷ []
 
-are_read : map (λ (row : List ℕ × Result (List Interval) ListFault). cut_list row.0) examples ≡ map (λ (row : List ℕ × Result (List Interval) ListFault). row.1) examples
+are_read : map (λ (row : List ℕ × Result (List Interval) ListFault). cut_list row.0) examples
+    ≡ map (λ (row : List ℕ × Result (List Interval) ListFault). row.1) examples
 are_read = refl

@@ -16,7 +16,8 @@ examples =
     ∷ ([], Err Empty)
     ∷ []
 
-are_read : map (λ (row : List ℕ × Result (List (Option ℕ)) DelimFault). delim_list row.0) examples ≡ map (λ (row : List ℕ × Result (List (Option ℕ)) DelimFault). row.1) examples
+are_read : map (λ (row : List ℕ × Result (List (Option ℕ)) DelimFault). delim_list row.0) examples
+    ≡ map (λ (row : List ℕ × Result (List (Option ℕ)) DelimFault). row.1) examples
 are_read = refl
 
 -- after the last delimiter comes the first one again

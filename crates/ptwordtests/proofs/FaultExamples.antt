@@ -2,10 +2,13 @@
 use Rattle.std.proofs.Common.{◌≡◌, ℕ, List, [], ◌∷◌, ◌++◌, Err, refl, codes, map, replicate}
 use Rattle.std.specs.Str.{byte}
 use Rattle.ptlangs.specs.declared.faults.SetFaultKind.{SetFaultKind}
-use Rattle.ptlangs.specs.declared.faults.SetFaultKind.TheVariants.{Empty, Octal, Escape, Descending, UnknownClass, ClassPlace, EquivPlace, RepeatPlace, RepeatSize, SecondFill}
+use Rattle.ptlangs.specs.declared.faults.SetFaultKind.TheVariants.{Empty, Octal, Escape, Descending, UnknownClass}
+use Rattle.ptlangs.specs.declared.faults.SetFaultKind.TheVariants.{ClassPlace, EquivPlace, RepeatPlace, RepeatSize}
+use Rattle.ptlangs.specs.declared.faults.SetFaultKind.TheVariants.{SecondFill}
 use Rattle.ptlangs.specs.declared.faults.SetString.{SetString}
 use Rattle.ptlangs.specs.declared.faults.SetString.TheVariants.{First, Second}
-use Rattle.ptopts.specs.Faults.{Fault, NoTool, Unknown, NeedsValue, Twice, Together, Value, Operands, StandardTwice, NeedsList, InString}
+use Rattle.ptopts.specs.Faults.{Fault, NoTool, Unknown, NeedsValue, Twice, Together, Value, Operands, StandardTwice}
+use Rattle.ptopts.specs.Faults.{NeedsList, InString}
 use Rattle.ptopts.specs.Commands.{command_of_args}
 use Rattle.ptfakes.proofs.SplitWords.{words}
 
@@ -184,5 +187,6 @@ examples =
     ∷ (words "paste" ++ replicate 513 (codes "-"), Operands)
     ∷ []
 
-are_rejected : map (λ (row : List (List ℕ) × Fault). command_of_args row.0) examples ≡ map (λ (row : List (List ℕ) × Fault). Err row.1) examples
+are_rejected : map (λ (row : List (List ℕ) × Fault). command_of_args row.0) examples
+    ≡ map (λ (row : List (List ℕ) × Fault). Err row.1) examples
 are_rejected = refl

@@ -23,8 +23,10 @@ examples =
     ∷ (codes "1.x,1.0", Err Malformed)
     ∷ []
 
-are_read : map (λ (row : List ℕ × Result (List OutField) OutFault). out_list row.0) examples ≡ map (λ (row : List ℕ × Result (List OutField) OutFault). row.1) examples
+are_read : map (λ (row : List ℕ × Result (List OutField) OutFault). out_list row.0) examples
+    ≡ map (λ (row : List ℕ × Result (List OutField) OutFault). row.1) examples
 are_read = refl
 
-fields_by_index : map (field_at (Join ∷ Field First 2 ∷ Field Second 3 ∷ [])) (0 ∷ 2 ∷ 3 ∷ []) ≡ Some (0, 0) ∷ Some (2, 3) ∷ None ∷ []
+fields_by_index : map (field_at (Join ∷ Field First 2 ∷ Field Second 3 ∷ [])) (0 ∷ 2 ∷ 3 ∷ [])
+    ≡ Some (0, 0) ∷ Some (2, 3) ∷ None ∷ []
 fields_by_index = refl

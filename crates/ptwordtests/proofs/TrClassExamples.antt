@@ -3,7 +3,8 @@
 use Rattle.std.proofs.Common.{◌≡◌, ◌||◌, ℕ, Bool, List, [], ◌∷◌, Some, refl, eqb, codes, map}
 use Rattle.std.specs.Prelude.{filter, option_map}
 use Rattle.std.specs.Int.{is_in_range}
-use Rattle.std.specs.Char.{is_ascii_alphanumeric, is_ascii_alphabetic, is_ascii_control, is_ascii_digit, is_ascii_graphic, is_ascii_lowercase}
+use Rattle.std.specs.Char.{is_ascii_alphanumeric, is_ascii_alphabetic, is_ascii_control, is_ascii_digit}
+use Rattle.std.specs.Char.{is_ascii_graphic, is_ascii_lowercase}
 use Rattle.std.specs.Char.{is_ascii_punctuation, is_ascii_uppercase, is_ascii_hexdigit}
 use Rattle.ptlangs.specs.TrClasses.{span, class_bytes, class_named}
 
@@ -36,5 +37,6 @@ examples =
     ∷ []
 
 -- a class contains exactly the bytes that pass the test
-are_classes : map (λ (row : List ℕ × (ℕ → Bool)). option_map class_bytes (class_named row.0)) examples ≡ map (λ (row : List ℕ × (ℕ → Bool)). Some (filter row.1 (span 0 255))) examples
+are_classes : map (λ (row : List ℕ × (ℕ → Bool)). option_map class_bytes (class_named row.0)) examples
+    ≡ map (λ (row : List ℕ × (ℕ → Bool)). Some (filter row.1 (span 0 255))) examples
 are_classes = refl

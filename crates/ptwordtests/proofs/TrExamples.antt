@@ -1,6 +1,7 @@
 -- Examples of strings of `tr`, with some input and the output. They hold by computation.
 use Prim.Native.String.{String}
-use Rattle.std.proofs.Common.{◌≡◌, ℕ, List, [], ◌∷◌, Bool, true, false, not, refl, codes, Some, None, Ok, Err, Option, Result, map}
+use Rattle.std.proofs.Common.{◌≡◌, ℕ, List, [], ◌∷◌, Bool, true, false, not, refl, codes, Some, None, Ok, Err, Option}
+use Rattle.std.proofs.Common.{Result, map}
 use Rattle.std.specs.Prelude.{filter, zip, ◌==◌, ◌&&◌}
 use Rattle.ptlangs.specs.declared.faults.SetFault.{SetFault}
 use Rattle.ptlangs.specs.declared.tr.plan.Form.{Form}
@@ -66,6 +67,7 @@ examples =
     ∷ (plan_of_two Translate false "123[:lower:]" "[x*][:upper:]", codes "12a", codes "xxA")
     ∷ []
 
-are_written : map (λ (row : Result Plan SetFault × List ℕ × List ℕ). output_of row.0 row.1) examples ≡ map (λ (row : Result Plan SetFault × List ℕ × List ℕ). Some row.2) examples
+are_written : map (λ (row : Result Plan SetFault × List ℕ × List ℕ). output_of row.0 row.1) examples
+    ≡ map (λ (row : Result Plan SetFault × List ℕ × List ℕ). Some row.2) examples
 unfolding all_bytes
 are_written = refl

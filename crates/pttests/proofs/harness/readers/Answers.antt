@@ -6,5 +6,7 @@ use Rattle.pttests.proofs.harness.readers.Goals as goal
 pub loop-position-preserved : goal.loop-position-preserved
 loop-position-preserved c = record {
   count = omega (arith, c.in_ok-push-2.ensures.len, c.loop-position.invariant.count);
-  fresh = rw (c.in_ok-push-2.ensures.items) (All-push IsNewOrUnopened c.loop-position.inputs.items c.file_at.result c.loop-position.invariant.fresh c.file_at.ensures);
+  fresh = rw (c.in_ok-push-2.ensures.items)
+      (All-push IsNewOrUnopened c.loop-position.inputs.items c.file_at.result
+      c.loop-position.invariant.fresh c.file_at.ensures);
 }

@@ -9,7 +9,8 @@ pub returns-clause-pulled : goal.returns-clause-pulled
 returns-clause-pulled c =
     let r = c.self.inside in
     let count : c.min-count.result ≡ min (min r.left r.size) (length c.fill.new.self) = cc in
-    let some : 0 < c.args.self.now.size = omega (arith, c.self.invariant, ap (λ (f : FakeSource). f.size) c.self.view_is) in
+    let some : 0 < c.args.self.now.size =
+    omega (arith, c.self.invariant, ap (λ (f : FakeSource). f.size) c.self.view_is) in
     fake_pull_is_pull c.args.self.now
     (record {
       left = replicate (r.left - c.min-count.result) r.byte;
@@ -21,7 +22,8 @@ returns-clause-pulled c =
     })
     c.fill.new.self c.min-count.result
     (rw (← c.self.view_is, c.next_succeeds.ensures.counted)
-    (pull_of_repeated r.byte r.left r.size _ r.calls.ok_calls r.calls.made c.min-count.result r.eof r.failed c.fill.new.self (c.fill.ensures.after (λ y e. e)) count (search rules)))
+    (pull_of_repeated r.byte r.left r.size _ r.calls.ok_calls r.calls.made c.min-count.result r.eof
+    r.failed c.fill.new.self (c.fill.ensures.after (λ y e. e)) count (search rules)))
     some (omega (arith, c.fill.ensures.len, c.requires))
 
 pub returns-clause-fed : goal.returns-clause-fed
@@ -29,4 +31,5 @@ returns-clause-fed c =
     let r = c.self.inside in
     let count : c.min-count.result ≡ min (min r.left r.size) (length c.fill.new.self) = cc in
     rw (← c.self.view_is, c.next_succeeds.ensures.counted)
-    (pull_of_repeated r.byte r.left r.size _ r.calls.ok_calls r.calls.made c.min-count.result r.eof r.failed c.fill.new.self (c.fill.ensures.after (λ y e. e)) count (search rules))
+    (pull_of_repeated r.byte r.left r.size _ r.calls.ok_calls r.calls.made c.min-count.result r.eof
+    r.failed c.fill.new.self (c.fill.ensures.after (λ y e. e)) count (search rules))
