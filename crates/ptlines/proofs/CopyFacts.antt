@@ -1,6 +1,6 @@
 -- A copy of a whole vector copies its first bytes too; the bytes after them do not matter. Two vectors that overlap
 -- copy all bytes.
-use Rattle.ptlines.proofs.Common.{◌≡◌, ℕ, ◌+◌, ◌-◌, ◌≤◌, List, length, take, drop, ◌++◌, sym, ◌∙◌, ap, arith}
+use Rattle.ptlines.proofs.Common.{◌≡◌, ℕ, ◌+◌, ◌≤◌, List, length, take, drop, ◌++◌, sym, ◌∙◌, ap, arith}
 use Rattle.ptlines.proofs.Common.{length-take-le, take-take, take_more_put_chunk, put_chunk, take-append-add}
 use Rattle.std.proofs.lemmas.Grind.{common_steps}
 

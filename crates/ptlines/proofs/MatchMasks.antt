@@ -1,6 +1,6 @@
 -- The number of trailing zeros of a match mask is the index of the first match, and a mask of zero means that there is
 -- none. Masks of adjacent chunks are combined by shifting and adding.
-use Rattle.ptlines.proofs.Common.{◌≡◌, ℕ, ◌+◌, ◌*◌, ◌^◌, ◌%◌, ◌<◌, ◌≤◌, Bool, true, false, not, List, [], ◌∷◌, ◌++◌}
+use Rattle.ptlines.proofs.Common.{◌≡◌, ℕ, ◌+◌, ◌*◌, ◌^◌, ◌%◌, ◌<◌, ◌≤◌, Bool, not, List, [], ◌∷◌, ◌++◌, rules}
 use Rattle.ptlines.proofs.Common.{Option, Some, length, take, drop, map, refl, sym, ◌∙◌, ap, subst, arith, bit_or}
 use Rattle.ptlines.proofs.Common.{take-add, drop-drop, length-map, none_from_empty_mask, trailing_mask_l}
 use Rattle.ptlines.proofs.Common.{run_in_chunk_fails, run_in_chunk_stops, length-chunk, mask_l-lt, false≢true}
@@ -8,7 +8,6 @@ use Rattle.ptlines.proofs.Common.{prefix_len, mask_l, chunk, Nowhere, NoneBefore
 use Rattle.std.proofs.Math.Nat.{pow-succ', mul_assoc}
 use Rattle.std.proofs.lemmas.Grind.{or_before_shift, common_steps}
 use lib.Count.{count_trailing_zeros}
-use Rattle.std.proofs.Common.{rules}
 
 pub none_if_zero_mask_at : (test : ℕ → Bool) (hay : List ℕ) (i n : ℕ) → i + n ≤ length hay
     → mask_l (map test (chunk i n hay)) ≡ 0 → Nowhere (Passes test hay) i (i + n)
@@ -136,9 +135,11 @@ module _ (test : ℕ → Bool) (hay : List ℕ) where
       → far * 65536 % 18446744073709551616 ≡ mask_l (map test (chunk 0 64 hay))
   mask_64 near far room is none rest =
       let all : mask_l (map test (chunk 0 64 hay)) ≡ mask_l (map test (chunk 0 16 hay))
-      + 65536 * mask_l (map test (chunk 16 48 hay)) = grind (arith, mask_16_append) in
+      + 65536 * mask_l (map test (chunk 16 48 hay)) = mask_16_append test hay 0 48 (omega (arith, room)) in
       let flags = map test (chunk 16 48 hay) in
       let few : far < 2 ^ 48 = subst (λ m. m < 2 ^ 48) (sym rest)
       (subst (λ n. mask_l flags < 2 ^ n)
       (length-map (chunk 16 48 hay) test ∙ length-chunk 16 48 hay (omega (arith, room))) (mask_l-lt flags)) in
       omega (arith, all, is, none, rest, few)
+
+pub ruleset first_match_steps = (first_after, none_if_zero_mask, first_at_lowest_bit)

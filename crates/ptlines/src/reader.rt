@@ -1,6 +1,7 @@
 //! `LineReader`, which reads an input line by line or block by block. All tools read through it.
 
-ghost use Rattle.std.specs.Prelude.{◌≡◌, ◌<◌, ◌≤◌, ℕ, true, false, None, [], IfSome, IfOk, OnOk, OnErr, length, take, drop, if◌then◌else◌};
+ghost use Rattle.std.specs.Prelude.{◌≡◌, ◌<◌, ◌≤◌, ℕ, true, false, None, [], IfSome, IfOk, OnOk, OnErr, length, take};
+ghost use Rattle.std.specs.Prelude.{drop, if◌then◌else◌};
 ghost use Rattle.memchr.specs.Find.{IsFirstByte, is_byte};
 ghost use Rattle.ptlines.specs.Outputs.{IsSameOrWrittenOut, PushPost};
 ghost use Rattle.std.specs.Borrow.{sem};
@@ -10,7 +11,8 @@ ghost use Rattle.ptlines.specs.InputSource.{input_state};
 ghost use Rattle.ptlines.specs.InputSource.{is_unopened_source};
 ghost use Rattle.ptlines.specs.Sources.{IsFresh, PullPost, unopened_state};
 ghost use Rattle.ptlines.specs.Readers.{RefillPre, RefillPost, IsSound, new_reader};
-ghost use Rattle.ptlines.specs.ReadLine.{FillPre, MoveToSlotPre, MoveToSlotPost, PiecePost, FillLine, FillPost, BlockPost};
+ghost use Rattle.ptlines.specs.ReadLine.{FillPre, MoveToSlotPre, MoveToSlotPost, PiecePost, FillLine, FillPost};
+ghost use Rattle.ptlines.specs.ReadLine.{BlockPost};
 ghost use Rattle.ptlines.specs.contracts.reader.LineReader.{the_row};
 
 use crate::find::{Padded64, ShortLine, find_byte, find_in_64};

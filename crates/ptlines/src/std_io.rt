@@ -67,8 +67,8 @@ impl<R: Read + Drop> Source for FromRead<R> {
 }
 
 /// A writer of the standard library as a sink. It records whether a call has failed, whether bytes were written and not
-/// flushed yet, and how many flushes succeeded. The contract of the trait says nothing of the bytes that are written; the clauses `bytes` of `put`
-/// and `flush` pass on what the contract of the standard library says of them.
+/// flushed yet, and how many flushes succeeded. The contract of the trait says nothing of the bytes that are written;
+/// the clauses `bytes` of `put` and `flush` pass on what the contract of the standard library says of them.
 #[derive(Drop)]
 pub struct FromWrite<W: Write> {
     writer: W,

@@ -1,8 +1,10 @@
 //! `Store`: numbered slots, each of which holds a line. A store counts the bytes of all its lines. The tools keep all
 //! lines that they need in it.
 
-ghost use Rattle.std.specs.Prelude.{◌≡◌, ℕ, ◌<◌, ◌≤◌, ◌≢◌, true, false, [], ◌∷◌, ◌++◌, length, take, ◌+◌, replicate, swap, slice_set, slice_index_or, IfOk, OnOk, OnErr};
-ghost use Rattle.ptlines.specs.Slots.{SwapPre, CopyPre, LengthsAreBounded, AreBuffersBounded, slot_lines, line, total_bytes, with_line, with_new_slot, with_denied};
+ghost use Rattle.std.specs.Prelude.{◌≡◌, ℕ, ◌<◌, ◌≤◌, ◌≢◌, true, false, [], ◌∷◌, ◌++◌, length, take, ◌+◌, replicate};
+ghost use Rattle.std.specs.Prelude.{swap, slice_set, slice_index_or, IfOk, OnOk, OnErr};
+ghost use Rattle.ptlines.specs.Slots.{SwapPre, CopyPre, LengthsAreBounded, AreBuffersBounded, slot_lines, line};
+ghost use Rattle.ptlines.specs.Slots.{total_bytes, with_line, with_new_slot, with_denied};
 
 use crate::find::ShortLine;
 use crate::slot::Slot;

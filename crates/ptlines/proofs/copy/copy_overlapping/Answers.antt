@@ -1,4 +1,4 @@
-use Rattle.std.proofs.Common.{◌-◌, arith}
+use Rattle.std.proofs.Common.{arith}
 use Rattle.ptlines.proofs.CopyFacts.{copied_ends}
 use Rattle.ptlines.proofs.copy.copy_overlapping.Goals as goal
 

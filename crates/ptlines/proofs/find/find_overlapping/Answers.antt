@@ -1,4 +1,4 @@
-use Rattle.ptlines.proofs.Common.{◌-◌, arith}
+use Rattle.ptlines.proofs.Common.{arith}
 use Rattle.ptlines.proofs.MatchMasks.{first_after}
 use Rattle.ptlines.proofs.find.find_overlapping.Goals as goal
 

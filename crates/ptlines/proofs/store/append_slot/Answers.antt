@@ -1,10 +1,11 @@
 -- The list of slots is split at the greater of the two numbers, so source and target lie in different parts. Setting
 -- the target in its part sets it in the whole list.
-use Rattle.std.proofs.Common.{◌<◌, Result, Ok, Err, OnOk, OnErr, arith, rules}
+use Rattle.std.proofs.Common.{◌<◌, Result, Ok, Err, OnOk, OnErr, arith, rules, subst, sym}
 use Rattle.ptlines.proofs.SlotTotals.{append_to_back, bounded_back, buffers_back, append_to_front}
 use Rattle.ptlines.proofs.SlotTotals.{bounded_front, buffers_front, set_after_split, set_before_split}
 use Rattle.ptlines.proofs.store.append_slot.Goals as goal
 use Rattle.std.proofs.lemmas.Grind.{common_steps}
+use borrow.Author.Rules.{scaled_Fits}
 
 on_ok : {E : Type 0} (r : Result (Unit {0}) E) (P Q : Type 0) → (P → Q) → OnOk r P → OnOk r Q
 on_ok (Ok u) P Q f p = f p
@@ -42,3 +43,11 @@ returns-else-from-to-clause-buffers g c =
 
 pub returns-then-from-to-clause-err : goal.returns-then-from-to-clause-err
 returns-then-from-to-clause-err g c = grind (arith, common_steps, on_err, set_after_split)
+
+pub offset_bounds-front-from : goal.offset_bounds-front-from
+offset_bounds-front-from g c =
+    let low = subst (λ n. c.args.from < n) (sym c.split_at_mut-front.ensures.front_len) c.if-from-to.true in
+    search (scaled_Fits, low)
+
+pub offset_bounds-front-to : goal.offset_bounds-front-to
+offset_bounds-front-to g c = grind (arith, common_steps)

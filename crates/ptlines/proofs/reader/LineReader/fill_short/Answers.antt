@@ -1,5 +1,6 @@
 -- The terminator that was found among the 64 bytes lies before the end of the buffered bytes, so it is the first one of
 -- them. The line before it is copied at once.
+use Rattle.std.proofs.lemmas.Grind.{common_steps}
 use Rattle.ptlines.proofs.Common.{◌≡◌, ◌+◌, ◌-◌, Some, subst, ◌<◌, ◌≤◌, ◌^◌, length, take, drop, ◌∙◌, ap, arith}
 use Rattle.ptlines.proofs.Common.{take-take, slice_range, IsFirst, Passes, is_byte}
 use Rattle.ptlines.proofs.ReadLine.{fill_short_line}
@@ -28,3 +29,6 @@ returns-clause-line g c given =
 
 pub returns-clause-sound : goal.returns-clause-sound
 returns-clause-sound g c = grind (arith, length_range, sound_shorter)
+
+pub invariant_of-self : goal.invariant_of-self
+invariant_of-self g c = grind (arith, common_steps)

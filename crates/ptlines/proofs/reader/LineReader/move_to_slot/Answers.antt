@@ -1,3 +1,4 @@
+use Rattle.std.proofs.lemmas.Grind.{common_steps}
 use Rattle.ptlines.proofs.Common.{◌≤◌, length, ◌++◌, ◌∙◌, ap, arith, line, with_line}
 use Rattle.ptlines.proofs.Consume.{rest_of_range, front_of_range}
 use Rattle.ptlines.proofs.reader.LineReader.move_to_slot.Goals as goal
@@ -17,3 +18,6 @@ returns-in-Ok-clause-moves g c =
           ∙ ap (λ b. with_line c.args.store.now c.args.slot (line c.args.store.now c.args.slot ++ b))
           (front_of_range r.block r.start r.end n c.args.self.now.buffered order fits buffered c.requires.within),
     )
+
+pub returns-in-Ok-clause-sound : goal.returns-in-Ok-clause-sound
+returns-in-Ok-clause-sound g c = grind (arith, common_steps)

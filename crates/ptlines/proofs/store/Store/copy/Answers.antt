@@ -91,3 +91,9 @@ append_slot-requires g c = grind (arith, common_steps, slots_after_clear)
 
 pub index-requires : goal.index-requires
 index-requires g c = grind (arith, common_steps, slots_after_clear)
+
+pub invariant_of-self-in-Err : goal.invariant_of-self-in-Err
+invariant_of-self-in-Err g c = grind (arith, common_steps)
+
+pub returns-in-Err-clause-err : goal.returns-in-Err-clause-err
+returns-in-Err-clause-err g c = grind (arith, common_steps)

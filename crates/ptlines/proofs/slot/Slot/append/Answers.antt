@@ -1,0 +1,9 @@
+use Rattle.std.proofs.lemmas.Grind.{common_steps}
+use Rattle.ptlines.proofs.Common.{arith}
+use Rattle.ptlines.proofs.slot.Slot.append.Goals as goal
+
+pub returns-clause-buffer : goal.returns-clause-buffer
+returns-clause-buffer c = grind (arith, common_steps)
+
+pub returns-clause-short : goal.returns-clause-short
+returns-clause-short c = grind (arith, common_steps)
