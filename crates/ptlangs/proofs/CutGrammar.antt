@@ -2,12 +2,12 @@
 -- bounds back; this makes `cut_list` agree with the grammar in both directions. Merging sorted intervals keeps the set
 -- that they select.
 use Rattle.ptlangs.proofs
-use proofs.Common.{Result, ◌≡◌, Bool, List, None, Ok, Option, Some, [], ap, arith, cond, drop, false, inl, inr}
+use proofs.Common.{Result, ◌≡◌, Bool, List, None, Ok, Option, Some, [], ap, arith, cond, drop, false, inl, inr, rules}
 use proofs.Common.{length, refl, subst, suc, sym, take, true, ℕ, ◌&&◌, ◌++◌, ◌+◌, ◌-◌, ◌<◌, ◌||◌, ◌∙◌, ◌∷◌, and_parts}
 use proofs.Common.{cases_Bool, eqb-true, All-cons, slice_split_at, slice_split_none, AllPass-from_list_all}
 use proofs.Common.{is_ascii_digit, All, position, slice_split, IsValidInterval, cut_list, element_interval, is_dash}
-use proofs.Common.{and_then, traverse, is_empty, is_number, value, Interval, ◌≤◌}
-use Rattle.std.proofs.Common.{leb, max, rules}
+use proofs.Common.{traverse, is_empty, is_number, value, Interval, ◌≤◌}
+use Rattle.std.proofs.Common.{leb, max}
 use Rattle.std.proofs.lemmas.List.Sorted.{list_any-IsPermutation}
 use Rattle.std.proofs.lemmas.List.Splits.{join_with_byte-slice_split, length-slice_split}
 use Rattle.std.specs.List.{join_with_byte}
@@ -98,7 +98,7 @@ pub in_order : (xs : List Interval) → All IsValidInterval xs → IsNonDecreasi
 in_order [] proper up = tt
 in_order (x ∷ xs) proper up =
     let p = proper 0 x (omega arith) in
-    (p.positive, p.ascending, sorted_after x xs proper up)
+    search (rules, sorted_after)
 
 -- the set does not depend on the order of the intervals
 pub selection_is_kept : (bs : List ℕ) (listed sorted kept : List Interval) → cut_list bs ≡ Ok listed
@@ -106,7 +106,7 @@ pub selection_is_kept : (bs : List ℕ) (listed sorted kept : List Interval) →
 selection_is_kept bs listed sorted kept e p same =
     let moved : is_selected listed ≡ is_selected sorted =
     λ i n. list_any-IsPermutation (λ (r : Interval). leb r.first n && leb n r.last) listed sorted p i in
-    ap (λ v. and_then v (λ rs. Ok (is_selected rs))) e ∙ ap Ok (moved ∙ sym same)
+    search rules
 
 -- ---- from the grammar to `cut_list`
 

@@ -1,8 +1,8 @@
 -- Lists of elements between separators, and decimal numbers. An element contains no separator, so splitting at
 -- separators gives the elements of the grammar back. A number that is too large stays so with further digits.
 use Rattle.ptlangs.proofs
-use proofs.Common.{◌≡◌, Bool, Err, List, None, Ok, Result, Some, [], ap, arith, cond, drop, false, get_or, length}
-use proofs.Common.{refl, subst, take, true, ℕ, ◌++◌, ◌+◌, ◌-◌, ◌∙◌, ◌∷◌, ltb-false, ltb-true, length-drop, take_all}
+use proofs.Common.{◌≡◌, Bool, Err, List, None, Ok, Result, Some, [], arith, cond, drop, false, get_or, length, rules}
+use proofs.Common.{refl, subst, take, true, ℕ, ◌++◌, ◌+◌, ◌-◌, ◌∷◌, ltb-false, ltb-true, length-drop, take_all}
 use proofs.Common.{slice_split_at, slice_split_none, is_ascii_digit, All, position, slice_split, and_then, traverse}
 use proofs.Common.{elements, is_number, is_list_separator, cons_ok, eqb, ◌*◌, ◌<◌, ◌≤◌, All-cons, digit_value}
 use proofs.Common.{digits_value_after, max_u64, is_empty, value}
@@ -11,7 +11,6 @@ use Rattle.std.proofs.lemmas.List.Sums.{fails_before_first}
 use Rattle.std.specs.List.{onto_first}
 use Rattle.std.proofs.lemmas.Bool.{cond_both}
 use Rattle.ptlangs.specs.Numbers.{IsListOf, number, Last, More}
-use Rattle.std.proofs.Common.{rules}
 use Rattle.std.proofs.lemmas.Grind.{common_steps}
 
 -- ---- splitting at the first separator
@@ -39,7 +38,7 @@ split_around p (x ∷ xs) i h =
     let rest =
     take_all (length (x ∷ xs) - (i + 1)) (drop (i + 1) (x ∷ xs))
     (omega (arith, length-drop (i + 1) (x ∷ xs))) in
-    rw rest (first ∙ ap (λ k. take k (x ∷ xs) ∷ slice_split p (drop (k + 1) (x ∷ xs))) at)
+    search rules
 
 -- ---- reading the elements from left to right
 

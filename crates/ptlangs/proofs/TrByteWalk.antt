@@ -1,7 +1,7 @@
 -- The bytes of a string of `tr`, read one after another: the bytes so far and those that are left are together all
 -- bytes of the string. And the classes that start in two arrays, compared byte by byte as the arrays are paired.
 use Rattle.ptlangs.proofs
-use proofs.Common.{◌≡◌, Bool, Err, List, None, Ok, Option, Result, Some, [], ap, arith, cond, drop, eqb, false}
+use proofs.Common.{◌≡◌, Bool, Err, List, None, Ok, Option, Result, Some, [], ap, arith, cond, drop, eqb, false, rules}
 use proofs.Common.{length, map, refl, suc, sym, true, zero, ℕ, ◌&&◌, ◌++◌, ◌+◌, ◌||◌, ◌∙◌, ◌∷◌, ◌≤◌, ◌<◌, ◌-◌}
 use proofs.Common.{append-nil, length-map, length-replicate, map-append, slice_get, array, class_offsets, sequence}
 use proofs.Common.{is_fill, segment, result_map_both, CharClass, SetFaultKind, SetElement, Segment, SetRole, eq-eqb}
@@ -111,7 +111,7 @@ copies-passed (suc n) i b ms h =
     let all : length copies ≤ i + (suc n - i) =
     grind (arith, common_steps) in
     rw (h (omega arith), drop_all _ copies all, append-nil _)
-    (drop-map _ i _ ∙ ap plain_members (drop-replicate i _ b))
+    (search (rules, drop-map, drop-replicate))
 
 -- ---- the string of the segments
 
@@ -259,7 +259,7 @@ paired-arrays = grind (arith, class_offsets-are, paired_from)
 pub paired-plain : (n : ℕ) (bytes : List ℕ) (seconds : List Segment)
     → are_paired [] (class_offsets n 0 seconds) ≡ all_paired (plain_members bytes) (marked_array n seconds)
 paired-plain n bytes seconds =
-    let none = sym (ap (offsets 0) (append-nil (plain_members bytes)))
+    let none = sym (search (rules, offsets))
     ∙ offsets-plain 0 bytes [] in
     (λ i. are_paired (sym none i) (class_offsets-are n seconds 0 i))
     ∙ paired_from (plain_members bytes) _ 0

@@ -37,9 +37,7 @@ pub number_step : (base : ℕ) (ds : List ℕ) (i value digit : ℕ) → i < len
     → digit_value (get_or ds i 0) < base → value ≡ digits_value base (take i ds) → digit ≡ get_or ds i 0 - 48
     → value * base + digit ≡ digits_value base (take (i + 1) ds)
 number_step base ds i value digit h ten below v d =
-    let digits = digit_from_value _ (omega arith) in
-    let same : digit ≡ digit_value (get_or ds i 0) = omega (arith, digit_value_digit (get_or ds i 0) digits) in
-    rw (digits_value_more base ds i h, v, same) refl
+    search (rules, digit_from_value, digit_value_digit, digits_value_more)
 
 pub length-octal_run : (bs : List ℕ) → length (octal_run bs) ≤ length bs
 length-octal_run bs =
@@ -110,9 +108,9 @@ pub ruleset octal_steps = (length-octal_run, take-octal_run, octal_digits)
 run_is : (digits rest : List ℕ) → IsOctalRun digits rest
     → after_backslash (digits ++ rest) ≡ (octal (digits_value 8 digits), length digits)
 run_is digits rest (OneDigit a [] ha n) = rw ha refl
-run_is digits rest (OneDigit a (b ∷ more) ha n) = cc
-run_is digits rest (TwoDigits a b [] ha hb n) = cc
-run_is digits rest (TwoDigits a b (c ∷ more) ha hb n) = cc
+run_is digits rest (OneDigit a (b ∷ more) ha n) = rw (ha, n) refl
+run_is digits rest (TwoDigits a b [] ha hb n) = rw (ha, hb) refl
+run_is digits rest (TwoDigits a b (c ∷ more) ha hb n) = rw (ha, hb, n) refl
 run_is digits rest (ThreeDigits a b c more ha hb hc) = rw (ha, hb, hc) refl
 
 escape_is : (digits rest : List ℕ) {u : SetChar} → IsOctalRun digits rest → octal (digits_value 8 digits) ≡ u

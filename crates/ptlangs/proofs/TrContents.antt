@@ -5,8 +5,8 @@ use Rattle.ptlangs.proofs
 use proofs.Common.{eqb-true, ◌≡◌, ◌≢◌, inl, inr, ◌<◌, ◌≤◌, ◌+◌, ◌-◌, ℕ, zero, suc, Bool, true, false, cond, List, []}
 use proofs.Common.{◌∷◌, ◌++◌, length, take, map, replicate, arith, refl, sym, ap, ◌∙◌, Option, Some, None, flat_map}
 use proofs.Common.{set, cases_eq, eq-eqb, ne_eqb, append_assoc, length-replicate, get_or-replicate, length-append}
-use proofs.Common.{not, ◌&&◌, last_or, slice_get, option_and_then, unwrap_or, complement_of, image_by}
-use Rattle.std.proofs.Common.{◌⊎◌, min, rules}
+use proofs.Common.{not, ◌&&◌, last_or, slice_get, option_and_then, unwrap_or, complement_of, image_by, rules}
+use Rattle.std.proofs.Common.{◌⊎◌, min}
 use Rattle.std.specs.List.{range_with_len}
 use Rattle.std.specs.Option.{option_to_list}
 use Rattle.std.proofs.Math.ListN.{get_or}
@@ -17,8 +17,7 @@ use Rattle.ptlangs.specs.TrClasses.{all_bytes}
 use Rattle.ptlangs.specs.TrParsing.{contents_of}
 use Rattle.ptlangs.specs.declared.tr.contents.Contents.{Contents}
 use Rattle.ptlangs.specs.TrPlan.{padded_to, has_byte, last_position, next_index_or}
-use Rattle.std.proofs.lemmas.List.FromFn.{get_or-map-range_with_len, length-map-range_with_len}
-use Rattle.std.proofs.lemmas.List.FromFn.{map-range_with_len_more}
+use Rattle.std.proofs.lemmas.List.FromFn.{get_or-map-range_with_len, length-map-range_with_len, map-range_with_len_more}
 use Rattle.std.proofs.lemmas.List.{get_or_default, length-set, map-id, same_lists}
 use Rattle.std.proofs.lemmas.Grind.{common_steps}
 use proofs.TrByteRanges.{slice_get-left, slice_get-right, slice_get-none, repeat_there}
@@ -35,10 +34,7 @@ get_or-table f i d h = get_or-map-range_with_len f 0 256 i i d h (omega arith)
 -- a list of 256 entries that agrees with a function at each byte is the table of that function
 pub same_table : {X : Type 0} (xs : List X) (f : ℕ → X) (d : X) → length xs ≡ 256
     → ((i : ℕ) → i < 256 → get_or xs i d ≡ f i) → xs ≡ map f all_bytes
-same_table xs f d n h =
-    same_lists xs _ (n ∙ sym (length-table f))
-    (λ k e below. let under : k < 256 = omega arith in get_or_default xs k e d below ∙ h k under ∙ sym (get_or-table f k
-    e under))
+same_table xs f d n h = search (rules, same_lists, length-table, get_or_default, get_or-table)
 
 -- the table of a constant function
 replicate-table : {X : Type 0} (x : X) → replicate 256 x ≡ map (λ (b : ℕ). x) all_bytes
@@ -282,4 +278,4 @@ pub images-push : (from to : List ℕ) (b : ℕ) (last : Option ℕ) → b < 256
     → set (map (image_by from to) all_bytes) b (unwrap_or last b) ≡ map (image_by (from ++ b ∷ []) to) all_bytes
 images-push from to b last h e =
     set-table _ _ b _ h
-    (image-same from to b ∙ ap (λ o. unwrap_or o b) (sym e)) (λ k n. image-other from to b k n)
+    (search (rules, image-same)) (λ k n. image-other from to b k n)

@@ -2,7 +2,7 @@
 -- and single character is one case of both. The code finds the elements that the definition computes, and a string is
 -- rejected with the fault of its first faulty element.
 use Rattle.ptlangs.proofs
-use proofs.Common.{◌≡◌, ◌<◌, ◌-◌, ℕ, zero, suc, Bool, true, false, List, [], ◌∷◌, ◌++◌, length, drop, map, arith}
+use proofs.Common.{◌≡◌, ◌<◌, ◌-◌, ℕ, zero, suc, Bool, true, false, List, [], ◌∷◌, ◌++◌, length, drop, map, arith, rules}
 use proofs.Common.{refl, sym, ap, subst, ◌∙◌, Option, Some, None, Result, Ok, Err, list_all, option_and_then}
 use proofs.Common.{is_ascii_digit, is_ascii_lowercase, ltb-false, ne_eqb, length-append, drop_all, SetFaultKind}
 use proofs.Common.{SetChar, Plain, Escaped, Invalid, SetElement, StartsElement, after_plain, plain_run, after_run}
@@ -16,7 +16,7 @@ use Rattle.ptlangs.specs.TrElements.{DenotesByte, HasBracketed, after_two, class
 use Rattle.ptlangs.specs.TrElements.{equivalence_after_equals, first_set_element, bracketed_at, single_or_range}
 use Rattle.ptlangs.specs.TrElements.{char_or_range, or_char, elements_after, range_to, repeat_at, repeat_count}
 use Rattle.ptlangs.specs.TrElements.{repeat_after_star, with_rest}
-use Rattle.std.proofs.Common.{nat_lt, rules}
+use Rattle.std.proofs.Common.{nat_lt}
 use Rattle.std.specs.Option.{option_or}
 use Rattle.ptlangs.specs.TrChars.{byte_of}
 use Rattle.ptlangs.specs.TrClasses.{class_named}
@@ -127,7 +127,10 @@ bracketed_at-StartsBracketed us p rest (ARepeat u v digits more m t) = grind (
   after_run-map,
   plain_run-map,
 )
-bracketed_at-StartsBracketed us p rest (AClass c name more t) = search (rules, ne_eqb, after_run-map, plain_run-map)
+bracketed_at-StartsBracketed us p rest (AClass c name more t) =
+    let (lower, _) = and_parts (is_ascii_lowercase c) _ t in
+    let no_star = ne_eqb c 42 (λ e. cc) in
+    rw (no_star, after_run-map is_ascii_lowercase _ 58 _ t refl, plain_run-map is_ascii_lowercase _ 58 _ t refl) refl
 bracketed_at-StartsBracketed us p rest (AnEquivalence u v more m) = grind (arith, byte_of-DenotesByte)
 
 pub bracketed_at-none : (us : List SetChar) → bracketed_at us ≡ None → ¬ HasBracketed us
@@ -282,14 +285,15 @@ set_elements-AreElements us (p ∷ ps) (rest, begins, more) = grind (
 pub AreElements-set_elements : (ps : List SetElement) (us : List SetChar) → set_elements us ≡ map Ok ps
     → AreElements us ps
 AreElements-set_elements [] [] e = refl
-AreElements-set_elements [] (u ∷ us) e = search (rules, by_first)
+AreElements-set_elements [] (u ∷ us) e =
+    by_first u us (λ p rest b is. let never = sym is ∙ e in cc) (λ k b is. let never = sym is ∙ e in cc)
 AreElements-set_elements (p ∷ ps) [] e = absurd (cc)
 AreElements-set_elements (p ∷ ps) (u ∷ us) e = by_first u us
     (λ q rest b is.
     let all = sym is ∙ e in
     let same : q ≡ p = cc in
-    (rest, grind arith, AreElements-set_elements ps rest (cc)))
-    (grind arith)
+    (rest, subst (λ (x : SetElement). StartsElement (u ∷ us) x rest) same b, AreElements-set_elements ps rest (cc)))
+    (λ k b is. let all = sym is ∙ e in absurd (cc))
 
 -- ---- the bracketed forms and the first element, as the code finds them
 
@@ -303,7 +307,9 @@ pub class_at-found : (us : List SetChar) {inside : List SetChar} (after : List S
     → Some inside ≡ after_plain 58 us → name ≡ plain_run is_ascii_lowercase inside
     → after ≡ after_run is_ascii_lowercase inside → 0 < length name → Some rest ≡ after_two 58 93 after
     → found ≡ class_named name → Some (Class found, rest) ≡ class_at us
-class_at-found = search (rules, class_with_name-named)
+class_at-found us after name found e n a h r f =
+    let named = class_with_name-named name after h in
+    rw (← e, ← a, ← n, named, ← r, f) refl
 
 pub chars-some : (bs : List ℕ) (i : ℕ) → i < length bs → 0 < length (chars (drop i bs))
 chars-some bs i h = rw (drop_more bs i 0 h) (omega arith)

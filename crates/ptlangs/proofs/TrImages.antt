@@ -3,7 +3,7 @@
 use Rattle.ptlangs.proofs
 use proofs.Common.{◌≡◌, ◌<◌, ℕ, zero, suc, Bool, true, false, List, [], ◌∷◌, ◌++◌, Option, Some, None, Result, Ok}
 use proofs.Common.{Err, length, map, take, drop, arith, refl, sym, ap, ◌∙◌, unwrap_or, set, last_or, length-append}
-use proofs.Common.{map-append, SetFaultKind, CharClass, sequence, image_by, not, ClassPlace, Segment, cond}
+use proofs.Common.{map-append, SetFaultKind, CharClass, sequence, image_by, not, ClassPlace, Segment, cond, rules}
 use proofs.Common.{first_array}
 use Rattle.std.specs.Prelude.{is_some}
 use Rattle.ptlangs.specs.TrClasses.{all_bytes}
@@ -48,7 +48,7 @@ takes_next o (suc n) (x ∷ to) t after e = takes_next _ n to t after e
 pub next_taken : (n : ℕ) (to : List Member) (t : Member) (after : List (Result Member SetFaultKind))
     → AllOk (drop n to) ≡ Ok t ∷ after → TakesNext n to t after
 next_taken n to t after e = let (at, left, last) = takes_next None n to t after e in
-    record { at = at; left = left; last = last }
+    search rules
 
 -- no byte of the second array is left
 pub record HasEnded (n : ℕ) (to : List Member) : Type 0 where
@@ -143,7 +143,7 @@ plain-passed [] rest after e = (rest, sym e, refl)
 plain-passed (b ∷ bytes) rest after e =
     let (next, is, left) = split_ok rest _ _ e in
     let (more, end, decides) = plain-passed bytes next after (sym left) in
-    (more, end, ap (all_paired []) is ∙ decides)
+    search rules
 
 module _ {from to : List Member} {old : Images} (p : IsPassing from to old) where
   pub passing-next : (second : Bytes) (t : Member) → bytes_left old.second ≡ Ok t ∷ bytes_left second

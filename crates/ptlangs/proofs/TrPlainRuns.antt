@@ -2,7 +2,7 @@
 -- look at the bytes where the definition looks at characters.
 use Rattle.ptlangs.proofs
 use proofs.Common.{◌≡◌, ◌≢◌, ◌≤◌, ◌<◌, ◌+◌, ◌-◌, ℕ, suc, Bool, true, false, List, [], ◌∷◌, length, take, drop, get_or}
-use proofs.Common.{arith, refl, Some, None, prefix_len, list_all, eq-eqb, ne_eqb, drop_all, take_rest}
+use proofs.Common.{arith, refl, Some, None, prefix_len, list_all, eq-eqb, ne_eqb, drop_all, take_rest, rules}
 use proofs.Common.{length-prefix_len, AllPass-from_list_all, SetChar, Plain, Escaped, Invalid, chars, after_backslash}
 use proofs.Common.{after_plain, plain_run, after_run}
 use Rattle.std.proofs.lemmas.Bool.{and_from, cond_both}
@@ -44,7 +44,7 @@ pub ruleset after_plain_steps = (after_plain-here, after_plain-other, after_plai
 -- ---- a run of plain bytes
 
 pub chars-plain : (b : ℕ) (bs : List ℕ) → b ≢ 92 → chars (b ∷ bs) ≡ Plain b ∷ chars bs
-chars-plain b bs n = rw (chars-cons b bs, ne_eqb b 92 n) refl
+chars-plain b bs n = search (rules, chars-cons)
 
 pub plain_run-chars : (test : ℕ → Bool) → test 92 ≡ false → (bs : List ℕ)
     → plain_run test (chars bs) ≡ take_while test bs

@@ -1,7 +1,7 @@
 -- The stretches of a table of images give these images. A prepended byte is below all stretches after it, so none of
 -- these contains it, and its own stretch adds its shift to it and nothing to the bytes above.
 use Rattle.ptlangs.proofs
-use proofs.Common.{◌≡◌, ℕ, zero, suc, ◌+◌, ◌<◌, ◌≤◌, ◌%◌, ◌&&◌, Bool, true, cond, List, [], ◌∷◌, length, drop, get_or}
+use proofs.Common.{◌≡◌, ℕ, zero, suc, ◌+◌, ◌<◌, ◌≤◌, ◌%◌, ◌&&◌, Bool, cond, List, [], ◌∷◌, length, drop, get_or}
 use proofs.Common.{refl, ◌∙◌, ap, arith, sum_by, Stretch, shift_of, prepend_shift, stretches_from, shift_at}
 use proofs.Common.{image_of_shifts, eqb-true, ne_eqb, ◌-◌}
 use Rattle.std.proofs.Common.{◌==◌, reverse}

@@ -2,7 +2,8 @@
 ghost use Rattle.std.specs.Prelude.{◌≡◌, ◌<◌, [], ◌∷◌, length, None, Err, IfOk, MatchResult};
 ghost use Rattle.std.specs.Result.{result_err};
 ghost use Rattle.ptlangs.specs.Results.{ValidatedParsePost};
-ghost use Rattle.ptlangs.specs.DelimLists.{DelimListMatchesGrammar, delim_list_fault, escape, delims, delim_list, delim_at};
+ghost use Rattle.ptlangs.specs.DelimLists.{DelimListMatchesGrammar, delim_list_fault, escape, delims, delim_list};
+ghost use Rattle.ptlangs.specs.DelimLists.{delim_at};
 ghost use Rattle.ptlangs.specs.Numbers.{cons_ok};
 
 use std::alloc::{AllocError, AllocFailed, Allocator, Global};

@@ -2,7 +2,8 @@
 ghost use Rattle.std.specs.Prelude.{◌≡◌, None, MatchResult};
 ghost use Rattle.std.specs.Result.{result_err};
 ghost use Rattle.ptlangs.specs.Results.{ValidatedParsePost};
-ghost use Rattle.ptlangs.specs.OutLists.{OutListMatchesGrammar, out_list_fault, field_of, element_field, out_list, field_at};
+ghost use Rattle.ptlangs.specs.OutLists.{OutListMatchesGrammar, out_list_fault, field_of, element_field, out_list};
+ghost use Rattle.ptlangs.specs.OutLists.{field_at};
 
 use crate::numbers::{decimal, first_element, is_decimal};
 use std::alloc::{AllocFailed, Allocator, Global};

@@ -2,7 +2,9 @@
 ghost use Rattle.std.specs.Prelude.{◌≡◌, ◌≤◌, ◌<◌, None, IfErr, IfOk, IsTrue, MatchResult};
 ghost use Rattle.std.specs.Result.{result_err};
 ghost use Rattle.ptlangs.specs.Results.{ParsePost, ValidatedParsePost};
-ghost use Rattle.ptlangs.specs.CutLists.{CutListMatchesGrammar, cut_list_fault, is_bound, value_or, interval_of_bounds, checked_interval, element_interval, cut_list, is_selected, selection, AreSeparated, AreSortedFrom};
+ghost use Rattle.ptlangs.specs.CutLists.{CutListMatchesGrammar, cut_list_fault, is_bound, value_or, interval_of_bounds};
+ghost use Rattle.ptlangs.specs.CutLists.{checked_interval, element_interval, cut_list, is_selected, selection};
+ghost use Rattle.ptlangs.specs.CutLists.{AreSeparated, AreSortedFrom};
 ghost use Rattle.ptlangs.specs.Numbers.{max_u64};
 
 use crate::numbers::{decimal, first_element, is_decimal};

@@ -2,7 +2,8 @@
 //! added. A plan has `Shifts` if at most four stretches are enough; `ptflow` then translates many bytes at once with
 //! them.
 
-ghost use Rattle.std.specs.Prelude.{◌≡◌, ◌<◌, ◌≤◌, ◌-◌, ℕ, length, true, false, IfSome, MatchOption, slice_get, slice_index, option_map, []};
+ghost use Rattle.std.specs.Prelude.{◌≡◌, ◌<◌, ◌≤◌, ◌-◌, ℕ, length, true, false, IfSome, MatchOption, slice_get};
+ghost use Rattle.std.specs.Prelude.{slice_index, option_map, []};
 ghost use Rattle.ptlangs.specs.TrShifts.{prepend_shift, stretches_from, image_of_shifts};
 
 use std::marker::Model;

@@ -1,15 +1,12 @@
-use Rattle.ptlangs.proofs.Common.{◌<◌, length, arith, rules}
+use Rattle.ptlangs.proofs.Common.{rules}
 use Rattle.ptlangs.proofs.DelimGrammar.{left_fault, left_without_fault}
 use Rattle.ptlangs.proofs.delims.check.Goals as goal
 
 pub returns-in_err-rest : goal.returns-in_err-rest
 returns-in_err-rest c =
-    let fault = left_fault c.args.text.now c.loop-rest.left.now c.loop-rest.invariant c.in_err-rest.field-0.0
+    let fault = left_fault c.args.text.now c.loop-rest.left.now c.loop-rest.invariant _
     c.in_err-rest.ensures.first in
     search rules
 
 pub loop-rest-preserved : goal.loop-rest-preserved
-loop-rest-preserved c =
-    let some : 0 < length c.in_ok-rest.rest.now = grind arith in
-    left_without_fault c.args.text.now c.loop-rest.left.now c.loop-rest.invariant _ c.in_ok-rest.rest.now some
-    c.in_ok-rest.ensures.first
+loop-rest-preserved c = search (rules, left_without_fault)

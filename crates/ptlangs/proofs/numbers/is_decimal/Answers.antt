@@ -5,7 +5,7 @@ use Rattle.ptlangs.proofs.numbers.is_decimal.Goals as goal
 
 pub returns-then-not-is_empty : goal.returns-then-not-is_empty
 returns-then-not-is_empty c =
-    let some = is_empty_by_length c.args.text.now ∙ sym c.is_empty.ensures
+    let some = is_empty_by_length _ ∙ sym c.is_empty.ensures
     ∙ c.if-not-is_empty.true in
     rw some (all_from_yields_List is_ascii_digit _ _ c.all.result c.all.ensures.ran
     (YieldsList-from_slice c.args.text.now cc) (λ x b q k. search rules))

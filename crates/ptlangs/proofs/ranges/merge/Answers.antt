@@ -1,6 +1,7 @@
 -- The next interval extends the current one if they overlap or are adjacent; otherwise the current one is complete, and
 -- there is a gap before the next. Both keep the selected set.
-use Rattle.ptlangs.proofs.Common.{refl, drop_more, drop_all}
+use Rattle.std.proofs.lemmas.Grind.{common_steps}
+use Rattle.ptlangs.proofs.Common.{refl, drop_more, drop_all, rules, arith}
 use Rattle.ptlangs.proofs.CutGrammar.{absorbs, starts_next}
 use Rattle.ptlangs.proofs.ranges.merge.Goals as goal
 use Rattle.ptlangs.proofs.ranges.merge.Goals.{then-next-current, else-next-current+in_ok-push}
@@ -21,4 +22,7 @@ pub returns-clause-same : goal.returns-clause-same
 returns-clause-same g c =
     let before =
     rw (drop_all c.loop-next.next-index c.in-Some.others.now c.loop-next-test.false) at c.loop-next.invariant in
-    rw c.in_ok-push-2.ensures.items (λ i n. before.same n i)
+    search rules
+
+pub overflow_sub-next : goal.overflow_sub-next
+overflow_sub-next g c = grind (arith, common_steps)

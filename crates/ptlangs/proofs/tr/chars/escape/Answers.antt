@@ -1,4 +1,6 @@
-use Rattle.std.proofs.Common.{Some, None, rules}
+use Rattle.std.proofs.lemmas.Grind.{common_steps}
+use Rattle.ptlangs.proofs.Common.{arith, rules}
+use Rattle.std.proofs.Common.{Some, None}
 use Rattle.ptlangs.proofs.TrCharGrammar.{octal_char}
 use Rattle.ptlangs.proofs.tr.chars.escape.Goals as goal
 
@@ -11,3 +13,6 @@ pub returns-in-None-clause-denoted : goal.returns-in-None-clause-denoted
 returns-in-None-clause-denoted c =
     octal_char c.args.bytes.now c.in-Some.first c.octal_len-count.result None (search rules) (search rules)
     (search rules) (search rules)
+
+pub number-requires-clause-digits : goal.number-requires-clause-digits
+number-requires-clause-digits c = grind (arith, common_steps)

@@ -1,9 +1,9 @@
-use Rattle.ptlangs.proofs.Common.{refl, is_ascii_digit}
 use Rattle.ptlangs.proofs.TrPlainRuns.{run_range, run_rest}
 use Rattle.ptlangs.proofs.tr.elements.after_digits.Goals as goal
+use Rattle.std.proofs.Common.{rules}
 
 pub returns-clause-run : goal.returns-clause-run
-returns-clause-run c = run_range is_ascii_digit refl c.args.text.now c.args.at c.digits_len.result c.digits_len.ensures
+returns-clause-run c = search (rules, run_range)
 
 pub returns-clause-reads : goal.returns-clause-reads
-returns-clause-reads c = run_rest is_ascii_digit refl c.args.text.now c.args.at c.digits_len.result c.digits_len.ensures
+returns-clause-reads c = search (rules, run_rest)

@@ -1,5 +1,5 @@
-use Rattle.ptlangs.proofs.Common.{◌≡◌, get_or}
-use Rattle.std.proofs.Common.{rules, tests}
+use Rattle.ptlangs.proofs.Common.{◌≡◌, get_or, rules}
+use Rattle.std.proofs.Common.{tests}
 use Rattle.ptlangs.proofs.TrContents.{same_table}
 use Rattle.ptlangs.proofs.tr.images.identity.Goals as goal
 

@@ -1,5 +1,5 @@
 -- The first array is the complement or that of the string, and its bytes are paired either way.
-use Rattle.ptlangs.proofs.Common.{◌∙◌, Bool, ap, first_array, image_by, map, ◌≡◌, [], List, None, Ok, refl}
+use Rattle.ptlangs.proofs.Common.{◌∙◌, Bool, ap, first_array, image_by, map, ◌≡◌, [], List, None, Ok, rules}
 use Rattle.ptlangs.specs.TrClasses.{all_bytes}
 use Rattle.ptlangs.specs.TrParsing.{HasPaired, all_paired, member_bytes, contents_of, first_members, bytes_left}
 use Rattle.ptlangs.proofs.TrImages.{answer_of, first-bytes, paired_same, unpaired_answer}
@@ -11,17 +11,14 @@ use Rattle.ptlangs.proofs.tr.images.read_images.Goals as goal
 -- before the first pair
 unpaired : (c : After-identity) (to : List Member) → bytes_left c.args.second ≡ map Ok to
     → HasPaired [] to (record { table = c.identity.result; second = c.args.second; last = None })
-unpaired c to l = record { left = l; last = refl; table = c.identity.ensures (member_bytes to); decides = λ more. refl }
+unpaired c to l = search rules
 
 pub returns-in_err-push_ascending : goal.returns-in_err-push_ascending
 returns-in_err-push_ascending c = λ ps to e f l.
-    let b = c.args.complement in
     let bytes = f ∙ ap (λ (t : Bool). contents_of (first_array t ps)) c.if-complement.true in
-    let (kind, wrong) = c.in_err-push_ascending.ensures _ to bytes
-    (unpaired (goal.at.returns-in_err-push_ascending c).After-identity to l) in
+    let (kind, wrong) = c.in_err-push_ascending.ensures _ to bytes (search (rules, unpaired)) in
     let (_, fault) = c.from_residual.ensures in
-    unpaired_answer _ _ c.from_residual.result _ fault kind
-    (ap (λ (t : Bool). all_paired (first_members t ps) to) c.if-complement.true ∙ wrong)
+    unpaired_answer _ _ _ _ fault kind (search rules)
 
 pub returns : goal.returns
 returns c = λ ps to e f l.

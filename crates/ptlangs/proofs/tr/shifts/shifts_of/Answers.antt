@@ -1,8 +1,8 @@
 -- From byte 255 down: a byte with the same shift as the next one extends its stretch, a byte with another shift starts
 -- a new stretch, and a byte that is its own image is in none.
 use Rattle.ptlangs.proofs
-use proofs.Common.{◌≡◌, ◌-◌, List, drop, length, get_or, sym, ◌∙◌, ap, arith, drop_all, Stretch, stretches_from}
-use proofs.Common.{prepend_shift, shift_of, image_of_shifts}
+use proofs.Common.{◌-◌, List, length, get_or, sym, ap, arith, drop_all, Stretch, stretches_from, rules}
+use proofs.Common.{prepend_shift, shift_of}
 use proofs.TrShifts.{moves_all, moved_one, no_more_behind}
 use Rattle.ptlangs.proofs.tr.shifts.shifts_of.Goals as goal
 
@@ -23,9 +23,4 @@ returns-then-not-prepend-clause-found c =
     omega (arith, no_more_behind (n - 1) images, ap length one, kept)
 
 pub returns-clause-moves : goal.returns-clause-moves
-returns-clause-moves c = λ b low.
-    let images = c.args.images.now in
-    let all : c.loop-index.index ≡ 0 = omega arith in
-    ap (λ (l : List Stretch). image_of_shifts l b)
-    (c.loop-index.invariant.stretches ∙ (λ i. stretches_from (all i) (drop (all i) images)))
-    ∙ moves_all images c.told-images (λ k small. c.fits-images k) b low
+returns-clause-moves c = search (rules, moves_all)

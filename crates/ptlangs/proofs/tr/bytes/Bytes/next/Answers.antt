@@ -1,65 +1,35 @@
 -- A segment without a byte at the index is passed: what is left is what the text gives from the index on.
 use Rattle.ptlangs.proofs
-use proofs.Common.{◌≡◌, ◌∷◌, ◌++◌, ◌+◌, ◌*◌, ◌≤◌, cond, ◌||◌, ◌∙◌, [], Ok, List, Result, length, map, drop, ap, sym}
-use proofs.Common.{refl, arith, drop_all, sequence, segments, chars, set_elements, is_fill, Segment, SetFaultKind}
-use Rattle.ptlangs.specs.declared.tr.segments.Member.{Member}
-use Rattle.ptlangs.specs.TrParsing.{NextItemPost, member_results, most_left}
+use proofs.Common.{◌≡◌, ◌∷◌, ◌+◌, ◌*◌, ◌≤◌, cond, ◌||◌, ◌∙◌, Ok, List, Result, length, drop, ap, sym, rules}
+use proofs.Common.{refl, arith, segments, chars, set_elements, is_fill, Segment, SetFaultKind}
+use Rattle.ptlangs.specs.TrParsing.{member_results, most_left}
 use proofs.TrElementGrammar.{segments-element, segments-fault}
 use Rattle.std.proofs.Math.Nat.{le_trans}
 use proofs.TrByteWalk.{drop-found, fill_step, length-marked, on_fault, segment-passed}
 use Rattle.ptlangs.proofs.tr.bytes.Bytes.next.Goals as goal
 use Rattle.ptlangs.proofs.tr.bytes.Bytes.next.Goals.{then-self-2, else-self-2}
 use Rattle.ptlangs.specs.declared.tr.bytes.Bytes.{Bytes}
+use Rattle.std.proofs.lemmas.Grind.{common_steps}
 
 -- the segments that are left, or their faults
 abbrev segments_left : Bytes → List (Result Segment SetFaultKind)
 segments_left s = segments s.role s.has_fill (set_elements (chars (drop s.at s.text.now)))
 
 pub returns-in-Some-clause-steps : goal.returns-in-Some-clause-steps
-returns-in-Some-clause-steps c =
-    let s = c.loop-member.self in
-    sym c.loop-member.invariant.left
-    ∙ ap (λ (ms : List Member). map {B = Result Member SetFaultKind} Ok ms ++ member_results s.fill (segments_left s))
-    (drop-found _ s.index c.in-Some.member c.in-Some.ensures.found)
+returns-in-Some-clause-steps c = search (rules, drop-found)
 
 pub returns-in-Some-clause-fewer : goal.returns-in-Some-clause-fewer
-returns-in-Some-clause-fewer c =
-    let s = c.loop-member.self in
-    omega (arith, ap length (drop-found _ s.index c.in-Some.member c.in-Some.ensures.found))
+returns-in-Some-clause-fewer c = search (rules, drop-found)
 
 pub returns-then-self-clause-steps : goal.returns-then-self-clause-steps
-returns-then-self-clause-steps c =
-    let s = c.loop-member.self in
-    let none : segments_left s ≡ [] = rw (drop_all s.at s.text.now c.if-self.true) refl in
-    let end = segment-passed s.fill s.segment s.index (segments_left s) c.in_default.ensures.found
-    ∙ ap (member_results s.fill) none in
-    (sym c.loop-member.invariant.left ∙ end, end)
+returns-then-self-clause-steps c = grind (arith, common_steps, segment-passed)
 
 pub returns-in_err-element-clause-steps : goal.returns-in_err-element-clause-steps
-returns-in_err-element-clause-steps c =
-    let s = c.loop-member.self in
-    let k = c.in_err-element.field-0.0 in
-    let first = segments-fault s.role s.has_fill s.text.now s.at (length s.text.now) k c.if-self.false
-    (omega arith) c.in_err-element.ensures.reads in
-    let passed = segment-passed s.fill s.segment s.index (segments_left s) c.in_default.ensures.found in
-    let fault = ap sequence (passed ∙ ap (member_results s.fill) first) in
-    let (_, is) = c.from_residual.ensures in
-    on_fault (NextItemPost _ _) c.from_residual.result k is
-    (ap sequence (sym c.loop-member.invariant.left) ∙ fault)
+returns-in_err-element-clause-steps c = search (rules, segments-fault, segment-passed, on_fault)
 
 -- what is left begins with the segment of the element
 pub returns-in_err-self-clause-steps : goal.returns-in_err-self-clause-steps
-returns-in_err-self-clause-steps c =
-    let s = c.loop-member.self in
-    let k = c.in_err-self.field-0.0 in
-    let first = segments-element s.role s.has_fill (chars (drop s.at s.text.now))
-    _ c.in_ok-element.element
-    c.in_ok-element.ensures.reads c.in_err-self.ensures.is in
-    let passed = segment-passed s.fill s.segment s.index (segments_left s) c.in_default.ensures.found in
-    let fault = ap sequence (passed ∙ ap (member_results s.fill) first) in
-    let (_, is) = c.from_residual-in_err-self.ensures in
-    on_fault (NextItemPost _ _) c.from_residual-in_err-self.result k is
-    (ap sequence (sym c.loop-member.invariant.left) ∙ fault)
+returns-in_err-self-clause-steps c = search (rules, segments-element, segment-passed, on_fault)
 
 pub loop-member-preserved : goal.loop-member-preserved
 loop-member-preserved c =

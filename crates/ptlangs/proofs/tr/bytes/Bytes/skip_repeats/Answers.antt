@@ -3,19 +3,19 @@ use Rattle.ptlangs.proofs
 use proofs.Common.{◌≡◌, ◌-◌, ◌∙◌, ◌++◌, Ok, Result, ap, arith, map, replicate, chars, drop, append_assoc, map-append}
 use proofs.Common.{segments, set_elements, SetFaultKind}
 use Rattle.ptlangs.specs.declared.tr.segments.Member.{Member}
-use Rattle.ptlangs.specs.TrParsing.{marked_members, member_results, plain_members}
+use Rattle.ptlangs.specs.TrParsing.{member_results, plain_members}
 use proofs.TrByteWalk.{copies-passed}
 use Rattle.ptlangs.proofs.tr.bytes.Bytes.skip_repeats.Goals as goal
+use Rattle.std.proofs.lemmas.Grind.{common_steps}
 
 pub returns-clause-passed : goal.returns-clause-passed
 returns-clause-passed c =
     let s = c.args.self.now in
     let b = c.args.byte in
-    let members = marked_members s.fill s.segment in
     let later = member_results s.fill (segments s.role s.has_fill (set_elements (chars (drop s.at s.text.now)))) in
     let count = c.repeats_of-count.result in
     let passed : c.saturating_sub-passed.result ≡ count - s.index = omega arith in
     let copies = plain_members (replicate (count - s.index) b) in
     rw passed (ap (λ ms. map {B = Result Member SetFaultKind} Ok ms ++ later)
-    (copies-passed count s.index b members c.repeats_of-count.ensures)
+    (grind (arith, common_steps, copies-passed))
     ∙ ap (λ rs. rs ++ later) (map-append Ok copies _) ∙ append_assoc (map Ok copies) _ later)

@@ -8,7 +8,7 @@ use Rattle.ptlangs.proofs.tr.contents.Contents.complement.Goals as goal
 pub returns-clause-is : goal.returns-clause-is
 returns-clause-is c = λ bytes e.
     let count : c.count.result ≡ count_by not c.args.self.now.has = search rules in
-    complement-is c.args.self.now bytes c.map.result c.count.result e c.map.ensures.items.long (λ k h.
+    complement-is _ bytes _ _ e c.map.ensures.items.long (λ k h.
     let (p, q, called) = c.map.ensures.items.at k false false h in
     let same : get_or c.map.result k false ≡ not _ = search (rules, tests) in
     same) count

@@ -1,17 +1,18 @@
 -- The fault of a byte is the fault of the string. At the end all bytes are read.
 use Rattle.ptlangs.proofs
 use proofs.Common.{◌≡◌, ◌∙◌, ◌∷◌, ◌++◌, List, Ok, ap, sym, refl, arith, array, map-append, string_segments, replicate}
-use proofs.Common.{Segment, []}
+use proofs.Common.{Segment}
 use Rattle.ptlangs.specs.TrParsing.{member_bytes, contents_of, ok_map, plain_members}
 use proofs.TrByteWalk.{member_bytes-array, member_bytes-plain, items_end, items_fault, items_more, on_fault}
 use proofs.TrByteWalk.{string-fault, string-read}
 use proofs.TrContents.{contents-new}
 use Rattle.ptlangs.proofs.tr.contents.Contents.read.Goals as goal
+use Rattle.std.proofs.lemmas.Grind.{common_steps}
 
 pub returns-in_err-member-clause-is : goal.returns-in_err-member-clause-is
 returns-in_err-member-clause-is c =
     let k = c.in_err-member.field-0.0 in
-    let fault = string-fault c.args.role c.args.text.now c.args.fill k c.if-is_empty.ensures
+    let fault = string-fault _ _ c.args.fill k c.if-is_empty.ensures
     (items_fault c.loop-member.invariant.read c.in_err-member.ensures.steps) in
     let (_, is) = c.from_residual.ensures in
     on_fault
@@ -19,10 +20,7 @@ returns-in_err-member-clause-is c =
     (string_segments c.args.role c.args.text.now)) c.from_residual.result k is (rw fault refl)
 
 pub loop-member-init : goal.loop-member-init
-loop-member-init c = record {
-  read = record { done = []; so_far = sym c.new-bytes.ensures.all; holds = contents-new };
-  most = omega arith;
-}
+loop-member-init c = grind (arith, common_steps, contents-new)
 
 pub loop-member-preserved : goal.loop-member-preserved
 loop-member-preserved c =

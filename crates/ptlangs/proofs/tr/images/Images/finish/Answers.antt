@@ -1,5 +1,5 @@
 -- A class that starts after the end of the first array has no other case.
-use Rattle.ptlangs.proofs.Common.{◌∙◌, ap, sym, refl, Ok}
+use Rattle.ptlangs.proofs.Common.{◌∙◌, sym, rules}
 use Rattle.ptlangs.proofs.TrImages.{never_fault, passing-copies, passing-end, passing-next, passing-unpaired}
 use Rattle.ptlangs.proofs.tr.images.Images.finish.Goals as goal
 
@@ -9,11 +9,7 @@ returns-in_err-member c = λ from to h.
     never_fault p.rest _ p.left c.in_err-member.ensures.steps
 
 pub returns-then-is_some : goal.returns-then-is_some
-returns-then-is_some c = λ from to h.
-    let step = rw c.in-Some.is at c.in_ok-member.ensures.steps in
-    let unpaired = passing-unpaired (c.loop-member.invariant from to h) _
-    c.in-Some.member step (sym c.is_some.ensures ∙ c.if-is_some.true) in
-    rw unpaired refl
+returns-then-is_some c = search (rules, passing-unpaired)
 
 pub loop-member-preserved : goal.loop-member-preserved
 loop-member-preserved c = λ from to h.
@@ -24,7 +20,4 @@ loop-member-preserved c = λ from to h.
     c.skip_repeats.ensures.passed
 
 pub returns : goal.returns
-returns c = λ from to h.
-    let p = c.loop-member.invariant from to h in
-    let (end, _) = rw c.in_default.is at c.in_ok-member.ensures.steps in
-    rw (passing-end p end) (ap Ok p.table)
+returns c = search (rules, passing-end)

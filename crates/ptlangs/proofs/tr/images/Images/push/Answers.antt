@@ -1,5 +1,5 @@
 -- The next byte of the second array becomes the last one; if none is left, the last one stays.
-use Rattle.ptlangs.proofs.Common.{◌∙◌, sym, refl, arith}
+use Rattle.ptlangs.proofs.Common.{◌∙◌, sym, arith, rules}
 use Rattle.ptlangs.proofs.TrImages.{never_fault, push-last, push-next, push-unpaired, written}
 use Rattle.ptlangs.proofs.tr.images.Images.push.Goals as goal
 use Rattle.ptlangs.proofs.tr.images.Images.push.Goals.{in-Some+else-not-classes_match, in_default}
@@ -8,13 +8,7 @@ pub returns-in_err-to : goal.returns-in_err-to
 returns-in_err-to c = λ before to h. never_fault _ _ h.left c.in_err-to.ensures.steps
 
 pub returns-then-not-classes_match : goal.returns-then-not-classes_match
-returns-then-not-classes_match c = λ before to h.
-    let old = c.args.self.now in
-    let step = rw c.in-Some.is at c.in_ok-to.ensures.steps in (
-      refl,
-      push-unpaired before to old c.args.from h (omega arith) _ c.in-Some.to step
-          (sym c.classes_match.ensures ∙ c.if-not-classes_match.true),
-    )
+returns-then-not-classes_match c = search (rules, push-unpaired)
 
 pub returns : goal.returns
 returns c = λ before to h.

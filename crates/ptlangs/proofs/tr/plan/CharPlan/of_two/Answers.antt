@@ -1,7 +1,7 @@
 -- The second string is read without a fill, to find the number of bytes that a fill has, and then with it. The segments
 -- are the same each time, so the plan is that of the definition.
 use Rattle.ptlangs.proofs
-use proofs.Common.{◌≡◌, false, arith, ap, sym, [], ◌∙◌, Ok, Err, Form, List, Segment, Translate, TranslateSqueeze}
+use proofs.Common.{◌≡◌, false, ap, sym, [], ◌∙◌, Ok, Err, Form, List, Segment, Translate, TranslateSqueeze, rules}
 use proofs.Common.{DeleteSqueeze, array, class_offsets, first_array, has_valid_classes, image_by, map, plan_of}
 use proofs.Common.{second_plan, string_segments, tables}
 use Rattle.ptlangs.specs.TrClasses.{all_bytes}
@@ -18,17 +18,13 @@ seen : (c : After-saturating_sub-fill) (firsts : List Segment)
     → c.args.first.now ≡ contents_of (first_array c.args.complement firsts)
     → SecondRead c.args.form c.args.complement firsts c.args.s2.now c.second_role-role.result
     c.saturating_sub-fill.result
-seen c firsts f = second_read c.args.form c.args.complement firsts c.args.s2.now c.second_role-role.result
-    c.saturating_sub-fill.result c.args.first.now c.in_ok-unfilled.unfilled c.second_role-role.ensures
-    (sym c.in_ok-unfilled.was ∙ c.read.ensures.is) (omega arith) f
+seen c firsts f = search (rules, second_read)
 
 -- which bytes the second array contains
 squeezed : (c : In_ok-second) (ps : List Segment)
     → string_segments c.second_role-role.result c.args.s2.now ≡ Ok ps
     → c.in_ok-second.second.has ≡ (contents_of (array c.saturating_sub-fill.result ps)).has
-squeezed c ps read = ap (λ (q : Contents). q.has) (mapped_at _
-    _ c.in_ok-second.second ps
-    (sym c.in_ok-second.was ∙ c.read-2.ensures.is) read)
+squeezed c ps read = search (rules, mapped_at)
 
 pub returns-in-DeleteSqueeze : goal.returns-in-DeleteSqueeze
 returns-in-DeleteSqueeze c = λ firsts e f.

@@ -1,7 +1,10 @@
 use Rattle.ptlangs.proofs.Common.{arith}
-use Rattle.ptlangs.proofs.TrByteRanges.{room, length-span}
+use Rattle.ptlangs.proofs.TrByteRanges.{room, length-span, class_bytes-short}
 use Rattle.ptlangs.proofs.tr.segments.Segment.byte.Goals as goal
 
 pub returns-in-Range-clause-room : goal.returns-in-Range-clause-room
-returns-in-Range-clause-room c = room _ c.args.index c.span_get.result c.span_get.ensures
+returns-in-Range-clause-room c = room _ c.args.index _ c.span_get.ensures
     (omega (arith, length-span c.in-Range.first c.in-Range.last))
+
+pub returns-in-Class-clause-room : goal.returns-in-Class-clause-room
+returns-in-Class-clause-room c = room _ c.args.index _ c.get.ensures (omega (arith, class_bytes-short c.in-Class.class))

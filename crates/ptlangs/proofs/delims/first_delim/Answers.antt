@@ -1,0 +1,9 @@
+use Rattle.std.proofs.lemmas.Grind.{common_steps}
+use Rattle.ptlangs.proofs.Common.{arith}
+use Rattle.ptlangs.proofs.delims.first_delim.Goals as goal
+
+pub returns-in-len1-up-clause-first : goal.returns-in-len1-up-clause-first
+returns-in-len1-up-clause-first c = grind (arith, common_steps)
+
+pub returns-in_ok-escape-in-92-2-clause-first : goal.returns-in_ok-escape-in-92-2-clause-first
+returns-in_ok-escape-in-92-2-clause-first c = grind (arith, common_steps)

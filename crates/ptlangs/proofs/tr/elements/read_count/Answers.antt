@@ -1,0 +1,6 @@
+use Rattle.std.proofs.lemmas.Grind.{common_steps}
+use Rattle.ptlangs.proofs.Common.{arith}
+use Rattle.ptlangs.proofs.tr.elements.read_count.Goals as goal
+
+pub number-requires-clause-digits : goal.number-requires-clause-digits
+number-requires-clause-digits c = grind (arith, common_steps)
