@@ -1,11 +1,11 @@
 -- A flag is appended and the loop continues. The first letter that is not a flag ends the word: it is an option with
 -- its value, or its fault is returned, which is then the first of the word.
+use Rattle.std.proofs.lemmas.Grind.{common_steps}
 use Rattle.ptopts.proofs
-use proofs.Common.{◌≡◌, ◌<◌, ◌∙◌, ℕ, List, true, false, slice_index, length, refl, subst, sym, err_from_is_err_and}
+use proofs.Common.{◌≡◌, ◌<◌, ◌∙◌, ℕ, List, true, slice_index, length, refl, subst, sym, err_from_is_err_and, arith}
 use proofs.Common.{is_flag}
 use proofs.GroupInvariant.{flag_read, value_read, fault_read}
 use Rattle.ptopts.proofs.parsing.read_group.Goals as goal
-use Rattle.std.proofs.Common.{arith}
 
 pub returns-in_err-option-clause-err : goal.returns-in_err-option-clause-err
 returns-in_err-option-clause-err g c = grind (arith, fault_read, err_from_is_err_and)
@@ -24,3 +24,6 @@ loop-index-preserved g c =
     flag_read c.args.tool word _ _ c.loop-index.options.items c.push-in-loop-index.new.self.items c.loop-index.index _
     within is
     (rw c.as_bytes-letters.ensures.value refl) c.in_ok-push-2.ensures.items c.loop-index.invariant
+
+pub returns-clause-ok : goal.returns-clause-ok
+returns-clause-ok g c = grind (arith, common_steps)

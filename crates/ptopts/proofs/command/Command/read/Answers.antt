@@ -1,10 +1,9 @@
 -- Each step of the code is one step of `command_of_args`: the tool, the parse, the constraints, and `checked_command`
 -- for the rest. A step that fails returns the first fault.
 use Rattle.ptopts.proofs
-use proofs.Common.{err_from_is_err_and, Command}
+use proofs.Common.{err_from_is_err_and, arith}
 use proofs.CheckedCommand.{meaning_read, meaning_refused}
 use Rattle.ptopts.proofs.command.Command.read.Goals as goal
-use Rattle.std.proofs.Common.{arith}
 
 pub returns-in_err-check_constraints-clause-parsed : goal.returns-in_err-check_constraints-clause-parsed
 returns-in_err-check_constraints-clause-parsed g c = grind (arith, meaning_refused, err_from_is_err_and)

@@ -1,0 +1,6 @@
+use Rattle.std.proofs.lemmas.Grind.{common_steps}
+use Rattle.ptopts.proofs.Common.{arith}
+use Rattle.ptopts.proofs.command.join.selected_files.Goals as goal
+
+pub returns-in-Some-clause-fault : goal.returns-in-Some-clause-fault
+returns-in-Some-clause-fault c = grind (arith, common_steps)
