@@ -1,6 +1,7 @@
 //! Theorems on inputs that are cut into parts: when the output for the whole is the outputs for the parts, one after
 //! another. Callers that work in parallel rely on them; the functions do nothing.
-ghost use Rattle.ptflow.specs.Parts.{CutOfParts, TrOfAnyParts, TrOfParts, TrAfterByte, TrMeetsTwice, UniqOfParts, UniqByKey, PasteOfParts};
+ghost use Rattle.ptflow.specs.Parts.{CutOfParts, TrOfAnyParts, TrOfParts, TrAfterByte, TrMeetsTwice, UniqOfParts};
+ghost use Rattle.ptflow.specs.Parts.{UniqByKey, PasteOfParts};
 
 /// `cut` can be run on parts of a file, by bytes and by fields, if each part but the last ends with the line
 /// terminator: the output for the file is the outputs for the parts, in order.
@@ -15,7 +16,7 @@ pub fn parts_of_cut()
 /// A file can be cut after any byte that is not deleted and whose image is not squeezed, which in most commands is the
 /// case for a newline. If a squeezed byte is at both sides of a cut, drop one of the two.
 /// This function does nothing at run time. Its contract states the theorem.
-#[tactic(auto, using(crate::proofs::TrLemmas::TrFrom::tr_of_any_parts, crate::proofs::TrLemmas::TrFrom::tr_of_parts, crate::proofs::TrLemmas::TrFrom::tr_after_byte, crate::proofs::TrLemmas::TrFrom::tr_meets_twice))]
+#[tactic(auto, using(crate::proofs::TrLemmas::TrFrom::tr_laws))]
 pub fn parts_of_tr()
     ensures any { TrOfAnyParts }
     ensures apart { TrOfParts }

@@ -7,7 +7,8 @@ ghost use Rattle.ptlines.specs.Slots.{Slots, line};
 ghost use Rattle.ptlines.specs.Text.{complete_lines};
 ghost use Rattle.ptflow.specs.ToolSpec.{ToolSpec};
 ghost use Rattle.ptflow.specs.Passes.{PassPost};
-ghost use Rattle.ptflow.specs.Private.Passes.LineLoop.{LinesWritten, LinesFailed, RunLinesPre, ProcessLinesPre, IsLinesLength};
+ghost use Rattle.ptflow.specs.Private.Passes.LineLoop.{LinesWritten, LinesFailed, RunLinesPre, ProcessLinesPre};
+ghost use Rattle.ptflow.specs.Private.Passes.LineLoop.{IsLinesLength};
 ghost use Rattle.ptflow.specs.Private.Passes.LineLoop.{IsSwapped, SlotsCleared, IsLineFilter};
 
 use crate::faults::FlowFault;
@@ -90,7 +91,8 @@ pub(crate) trait LineFilter {
         ensures same { OnErr result (store.new ≡ store.old) };
 }
 
-/// Runs a tool that uses `slots` slots over the lines of a reader. The output is written out before each read that may block.
+/// Runs a tool that uses `slots` slots over the lines of a reader. The output is written out before each read that may
+/// block.
 pub(crate) fn run_lines<T: LineFilter, A: Allocator + Copy, S: Source, R: Source, W: Sink>(
     tool: &T,
     slots: usize,

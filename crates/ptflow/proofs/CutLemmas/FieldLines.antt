@@ -60,8 +60,7 @@ module _ (job : Cut) where
 eof-append : (end : ℕ) (ls : List (List ℕ)) (bytes : List ℕ) → AreLines end ls
     → complete_lines end (unlines end ls ++ bytes) ≡ ls ++ complete_lines end bytes
 eof-append end [] bytes whole = refl
-eof-append end (l ∷ ls) bytes whole =
-    grind (arith, common_steps, eof-append end ls bytes whole.1, complete_lines_cons)
+eof-append end (l ∷ ls) bytes whole = grind (arith, common_steps, eof-append end ls bytes whole.1, complete_lines_cons)
 
 -- bytes that end with a terminator are the text of their lines
 text_of_ended : (end : ℕ) (front : List ℕ) → unlines end (complete_lines end (front ++ end ∷ [])) ≡ front ++ end ∷ []
@@ -123,7 +122,7 @@ module _ (job : Cut) (by_fields : job.fields ≡ true) {end : ℕ} (same : end �
 
     are_free : ((size ≡ to + 1) ⊎ (size ≤ up_to)) → AreLines job.delimiter front
     are_free (inl one) = grind (arith, common_steps, complete_lines_cons, line_before_terminator, free_up_to)
-    are_free (inr le) = free_lines job.delimiter end (take size bytes) (free_up_to le)
+    are_free (inr le) = free_lines _ end (take size bytes) (free_up_to le)
 
     pub puts_kept : {old new : List ℕ} → job.only ≡ false → new ≡ old ++ take size bytes
         → CopyLinesPost job end bytes size old new

@@ -76,7 +76,7 @@ module _ (d : ℕ) (all : List Interval) (line : List ℕ) (cursor : FieldCursor
             rw is at (offset_add d line w.offset fits s)
 
         left : drop skip here ≡ drop (cursor.passed + skip) (fields d line)
-        left = drop-drop skip cursor.passed (fields d line)
+        left = drop-drop skip _ (fields d line)
 
         -- the line ends before the interval
         pub ends_before : length line < from → output_from_cursor d all line cursor ≡ []
@@ -134,7 +134,7 @@ module _ (d : ℕ) (all : List Interval) (line : List ℕ) (cursor : FieldCursor
                   starts.later begun,
                   select_skip (is_selected rs) (cursor.passed + 1) (skip + size) here
                       (grind (arith, not_selected, apart)),
-                  drop-drop (skip + size) cursor.passed (fields d line),
+                  drop-drop (skip + size) _ (fields d line),
                 )
 
             -- the slice, and then the output that is left

@@ -138,7 +138,7 @@ module _ (selected : ℕ → Bool) where
         let few : length (selected_indices selected count) ≤ length (selected_indices selected 16) = omega
         (arith, ap length parts, length-append (selected_indices selected count) later) in
         cc (
-          take-take (length (selected_indices selected count)) (length (selected_indices selected 16)) piece.row few,
+          take-take (length (selected_indices selected count)) (length (selected_indices selected 16)) _ few,
           take-append-le (length (selected_indices selected count)) (selected_indices selected count) later
               (omega arith),
           take_all (length (selected_indices selected count)) (selected_indices selected count) (omega arith),
@@ -161,7 +161,7 @@ module _ (selected : ℕ → Bool) where
     shuffle_few count short = omega (arith, is.counts count short, few_indices count)
 
     pub shuffle_lanes : Each1 (λ index. index < 16) piece.row
-    shuffle_lanes = Each1-from_get_or (λ index. index < 16) piece.row 0 (λ i low. is.lanes i 0 low)
+    shuffle_lanes = Each1-from_get_or (λ index. index < 16) _ 0 (λ i low. is.lanes i 0 low)
 
 -- positions after a limit, if no interval includes them
 pub none_after : (rs : List Interval) {limit index : ℕ} → list_all (λ r. nat_le r.last limit) rs ≡ true → limit < index

@@ -93,7 +93,7 @@ module _ {X : Type 0} {rest_from : X → List ℕ → List ℕ} {IsUnchanged : X
           before = λ u. record {
             earlier = record { bytes = run.given; eof = false };
             last = new.buffered;
-            split = cc (append-nil run.given);
+            split = cc (append-nil _);
             short = omega arith;
             eof = λ never. cc;
           };

@@ -328,7 +328,7 @@ module _ {S X E : Type 0} {tool : ToolSpec} {state : S → Slots → X} {rest_fr
             let came = next_line.line ++ next_line.terminator in
             let ends = run.reached.advance_ok.reads.terminator ∙ run.terminator in
             let more = lines_more _ _ _ _ run.came _ _ _ _ next_line ends in
-            let bounds = keeps_last run next_line.line next_line.stored in
+            let bounds = keeps_last run _ next_line.stored in
             halts run
             (ending run ready sound next_line.advance_ok.reads (kept run (received run came new)
             (grind (arith, bounds_weaker, bounds, max_length-append))

@@ -4,7 +4,7 @@ use Rattle.ptflow.proofs
 use proofs.Common.{◌≡◌, inl, ℕ, ◌+◌, ◌<◌, ◌≤◌, ◌^◌, ◌||◌, Bool, true, false, List, [], ◌∷◌, ◌++◌, ◌%◌, eq-eqb, ne_eqb}
 use proofs.Common.{option_to_list, slice_index_or, None, Some, Ok, length, take, drop, set, get_or, refl, sym, ap}
 use proofs.Common.{arith, append_assoc, length-append, length-drop, take-take, take-append-le, length-take-le}
-use proofs.Common.{drop_at, IsFirstByte, is_byte, Reader, IsSound, Slots, with_line, FillLine, FillPost}
+use proofs.Common.{drop_at, IsFirstByte, is_byte, Reader, IsSound, Slots, with_line, FillLine, FillPost, common_steps}
 use proofs.Common.{line_before_terminator, take_with_terminator, advance_ok_take, reader_at, CellsFilled, after_cell}
 use proofs.Common.{cells_text, RowShape, BegunText, BufferedRowsPre, IsConsumed, AreConsumed, IsFieldCopied}
 use proofs.Common.{CopyColumnsPost, CopyRowsPost, RowsTaken, put_chunk, chunk, length-chunk, length-put_chunk}
@@ -17,7 +17,6 @@ use Rattle.ptflow.specs.Private.Paste.BufferedRows.{LineCopied}
 use proofs.PasteLemmas.RowsTaken.{cells_text-push, rows_taken_trans, row_taken}
 use proofs.PasteLemmas.FillRow.{IsNextReader, next_reader, each_reader, fill_starts, fill_next}
 use Rattle.std.proofs.Common.{rules}
-use Rattle.std.proofs.lemmas.Grind.{common_steps}
 
 -- A line that is complete in a buffer is the line that `fill` would return.
 buffered_line : (b r : Reader) (at : ℕ) (store : Slots) (slot : ℕ) → b.fault ≡ None → b.pulled < 2 ^ 63

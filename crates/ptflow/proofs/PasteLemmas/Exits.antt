@@ -2,7 +2,7 @@
 -- so far were pushed, and the readers have given the lines of these rows and perhaps some bytes more.
 use Rattle.ptflow.proofs
 use proofs.Common.{cond, ◌==◌, ne_eqb, nat_tests}
-use proofs.Common.{◌≡◌, ◌≢◌, ◌⊎◌, ⊎_elim, inl, inr, ℕ, ◌+◌, ◌*◌, ◌<◌, ◌≤◌, true, false, List, [], ◌∷◌, ◌++◌, Result, Ok}
+use proofs.Common.{◌≡◌, ◌⊎◌, ⊎_elim, inl, inr, ℕ, ◌+◌, ◌*◌, ◌<◌, ◌≤◌, true, false, List, [], ◌∷◌, ◌++◌, Result, Ok}
 use proofs.Common.{Err, length, take, get_or, max, refl, sym, ◌∙◌, ap, arith, append_assoc, length-append, cases_eq}
 use proofs.Common.{append-nil, lines, IsLine, max_length, max_line_length, Received, IsPrefix, IsConsistent}
 use proofs.Common.{known_lines, Output, PushEffect, Reader, ReaderAdvance, IsDone, HasReadCause, Slots, with_line}

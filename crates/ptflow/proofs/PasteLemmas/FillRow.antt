@@ -5,7 +5,7 @@
 use Rattle.ptflow.proofs
 use proofs.Common.{nat_tests, ◌≡◌, ℕ, zero, suc, ◌+◌, ◌<◌, ◌≤◌, false, List, [], ◌∷◌, ◌++◌, length, length-append}
 use proofs.Common.{get_or_append_left, get_or_push, max_length, take, drop, set, get_or, refl, sym, ◌∙◌, ap, arith}
-use proofs.Common.{⊎_elim, take-append-drop, sum_by, cases_eq, length-set, drop-set-lt, get_or-set_same}
+use proofs.Common.{⊎_elim, take-append-drop, sum_by, cases_eq, length-set, drop-set-lt, get_or-set_same, common_steps}
 use proofs.Common.{get_or-set_other, sum_by-cons, sum_by-append, get_or-le-sum_by, Slots, total_bytes, with_line}
 use proofs.Common.{AddedSlots, SlotsBound, SlotsKept, CellsTaken, Reader, uses_of, ◌≢◌, ◌==◌, ◌||◌, Bool, true, cond}
 use proofs.Common.{None, Ok, eq-eqb, ne_eqb, append-nil, take-take, get_or_past, get_or_at, get_or_default}
@@ -20,7 +20,6 @@ use proofs.PasteLemmas.RowsTaken.{nothing_taken, taken_more, taken_line, taken_e
 use proofs.PasteLemmas.RowsTaken.{cells_text-append, cells_text-push}
 use Rattle.std.proofs.lemmas.List.{get_or-take}
 use Rattle.std.proofs.Common.{rules}
-use Rattle.std.proofs.lemmas.Grind.{common_steps}
 
 pub cells_total : (cells : List ℕ) (top : ℕ → ℕ) (ls : List (List ℕ)) → ((c : ℕ) → c < length cells
     → length (get_or ls c []) ≤ top (get_or cells c 0))
@@ -108,7 +107,7 @@ module _ {cells : List ℕ} {fields : List (List ℕ)} {before store : Slots} (s
     pub slots_kept_line : {n : ℕ} (field : List ℕ) → length fields ≡ n → n < length cells
         → SlotsKept cells (fields ++ field ∷ []) before (with_line store n field)
     slots_kept_line {n} field width low = record {
-      same = length-set store.lines n field ∙ s.same;
+      same = length-set _ n field ∙ s.same;
       kept = λ first top k high. slots_bound_line ((slots_kept_more (field ∷ [])).kept first top k high) n field low
           (omega (
             arith,
@@ -455,11 +454,11 @@ module _ {row : RowShape} where
       let front = take k a.fields in
       let slots = take n store.lines in
       let long = length-take-le k a.fields (omega arith) in
-      let size = length-take-le n store.lines room in
+      let size = length-take-le n _ room in
       let same = ext_get_or [] (drop k slots) (drop k a.fields)
       (omega (arith, length-drop k slots, length-drop k a.fields))
       (λ i low. get_or-drop k slots i []
-      ∙ get_or-take n store.lines (k + i) [] (omega (arith, length-drop k slots))
+      ∙ get_or-take n _ (k + i) [] (omega (arith, length-drop k slots))
       ∙ a.held (k + i) (omega arith) (omega (arith, length-drop k slots))
       ∙ sym (get_or-drop k a.fields i [])) in
       let here : k ≡ 0 + length front = omega arith in

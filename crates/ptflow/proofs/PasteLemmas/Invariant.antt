@@ -9,7 +9,7 @@ use proofs.Common.{push_nothing, push_trans, Paste, AddedSlots, reader_at, IsRea
 use proofs.Common.{rows, rows_text, paste, paste_decided, SetTerminatorsPost, SlotsBound, SlotsKept, CellsTaken}
 use proofs.Common.{CellsFilled, AreReceivedLines, AreFirstRows, RowsTaken, RowsWritten, cells_text, job_shape}
 use proofs.Common.{BufferedRowsPre, CallState, CallEnd, CallPost, call_state, inputs_at, is_in, paste_engine}
-use proofs.Common.{LinesTaken}
+use proofs.Common.{LinesTaken, common_steps}
 use proofs.PasteLemmas.FillRow.{slots_bound_start, slots_kept_by_lines}
 use proofs.PasteLemmas.RowsTaken.{no_rows, first_rows_trans, filled_row_is_first, filled_row_text}
 use proofs.PasteLemmas.Grid.{Column, last_use, rows_text-append}
@@ -19,7 +19,6 @@ use proofs.PasteLemmas.Lag.{EarlierPart, LagsAt, ended_more, lags_here, decided_
 use proofs.Passes.Readers.{eof_gives_nothing, may_follow}
 use proofs.PasteLemmas.Named.{is_in_used, not_in}
 use Rattle.ptlines.specs.Received.{empty_input}
-use Rattle.std.proofs.lemmas.Grind.{common_steps}
 
 -- ---- inputs that columns use
 

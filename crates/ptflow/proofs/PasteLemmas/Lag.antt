@@ -9,7 +9,7 @@ use proofs.Common.{get_or-map, length-map, take-map-range_with_len, length-map-r
 use proofs.Common.{lines, complete_lines, IsLine, AreLines, Received, IsPrefix, known_lines, ProcessLag, Reader}
 use proofs.Common.{ReaderAdvance, IsDone, received_with, unlines_push, complete_lines_of_unlines, the_lines, Paste}
 use proofs.Common.{update_at, every_kth, uses_of, columns, row_count, row_at, rows, rows_text, is_row_known}
-use proofs.Common.{known_rows, paste_decided, AreReceivedLines, complete_lines_cons}
+use proofs.Common.{known_rows, paste_decided, AreReceivedLines, complete_lines_cons, common_steps}
 use Rattle.std.specs.Prelude.{slice_index_or}
 use proofs.CutLemmas.ShortLines.{select_append}
 use proofs.PasteLemmas.Grid.{Column, for_each_cell, for_each_cell_same, column_of, uses_before_lt, column_at}
@@ -17,7 +17,6 @@ use proofs.PasteLemmas.Grid.{length-columns, every_kth_short, is_row_unknown, up
 use proofs.PasteLemmas.Grid.{rows_text-append}
 use proofs.Passes.Lines.{complete_prefix, line_split}
 use proofs.Passes.LinesRead.{line_take, lines_are_given}
-use Rattle.std.proofs.lemmas.Grind.{common_steps}
 
 -- ---- one input without its last bytes
 

@@ -2,10 +2,9 @@
 use Rattle.ptflow.proofs
 use proofs.Common.{◌≡◌, ℕ, ◌<◌, ◌==◌, true, false, cond, List, [], ◌∷◌, length, get_or, map, refl, sym, ap, subst}
 use proofs.Common.{arith, append-nil, eq-eqb, nat_tests, list_any_at, Received, IsConsistent, max_line_length, Paste}
-use proofs.Common.{AreAllConsistent, inputs_at, is_in, uses_of, paste, paste_size, paste_decided}
+use proofs.Common.{AreAllConsistent, inputs_at, is_in, uses_of, paste, paste_size, paste_decided, common_steps}
 use Rattle.std.proofs.lemmas.List.Sums.{sum-map}
 use proofs.PasteLemmas.Grid.{columns_same, last_use}
-use Rattle.std.proofs.lemmas.Grind.{common_steps}
 
 module _ (cells : List ℕ) where
   pub cell_in : (c : ℕ) → c < length cells → is_in cells (get_or cells c 0) ≡ true
@@ -32,7 +31,7 @@ map_same f g (c ∷ cells) same = λ i.
 
 -- The received bytes may be the whole input.
 pub consistent_itself : (given : Received) → IsConsistent given given.bytes
-consistent_itself given = record { rest = []; is = sym (append-nil given.bytes); whole = λ eof. refl }
+consistent_itself given = record { rest = []; is = sym (append-nil _); whole = λ eof. refl }
 
 module _ (job : Paste) (cells : List ℕ) where
   pub decided_same : (f g : ℕ → Received) → ((p : ℕ) → is_in cells p ≡ true → f p ≡ g p)

@@ -1,14 +1,13 @@
 -- `paste` of inputs that are split after the same row, by induction over the number of rows: the first row of the whole
 -- is the first row of the first parts.
 use Rattle.ptflow.proofs
-use proofs.Common.{◌≡◌, ◌⊎◌, inl, inr, ⊎_elim, ℕ, zero, suc, ◌+◌, ◌*◌, ◌<◌, ◌≤◌, List, [], ◌∷◌, ◌++◌, length, take}
+use proofs.Common.{◌≡◌, ◌⊎◌, inl, inr, ⊎_elim, ℕ, zero, suc, ◌*◌, ◌<◌, ◌≤◌, List, [], ◌∷◌, ◌++◌, length, take}
 use proofs.Common.{drop, get_or, refl, sym, ◌∙◌, ap, arith, append_assoc, take-append-drop, cases_lt, append-nil}
 use proofs.Common.{nil_from_length, length-take-le, drop_all, lines, the_lines_of_parts, uses_of, columns, rows}
-use proofs.Common.{IsRowSplit, PasteOfParts}
+use proofs.Common.{IsRowSplit, PasteOfParts, common_steps}
 use Rattle.std.proofs.lemmas.List.{length-take}
 use proofs.PasteLemmas.Grid.{Column, IsOneRow, for_each_cell, top_of, columns_same, uses_before_lt, last_use}
 use proofs.PasteLemmas.Grid.{grid_none, grid_step, rows_text-append}
-use Rattle.std.proofs.lemmas.Grind.{common_steps}
 
 module _ (cells : List ℕ) where
   -- Some column has a line in the first row, or none has.

@@ -4,14 +4,13 @@ use Rattle.ptflow.proofs
 use proofs.Common.{◌≡◌, ◌≢◌, ℕ, zero, suc, ◌+◌, ◌-◌, ◌%◌, ◌^◌, ◌==◌, ◌<◌, ◌≤◌, Bool, cond, List, [], ◌∷◌, ◌++◌}
 use proofs.Common.{length, map, take, drop, get_or, slice_set, refl, sym, ◌∙◌, ap, arith, bit_and, count_by}
 use proofs.Common.{count_ones, mask_l, chunk, mod-add-mod, mod-eq_of_lt, take-add, take_at, take-append-drop}
-use proofs.Common.{take-set-lt, eq-eqb, set-append_right, drop_more, take_more_set, take-set, length-set}
+use proofs.Common.{take-set-lt, eq-eqb, set-append_right, drop_more, take_more_set, take-set, length-set, common_steps}
 use proofs.Common.{sum_by-append, is_byte, byte_eq, byte_ne, IsLine, IsNth, length-take-le, length-chunk}
 use proofs.Common.{length-put_chunk, take_more_put_chunk, put_chunk, ones-mask_l, with_replacements, cycle_byte}
 use proofs.Common.{IsReplacedTo}
 use lib.Count.{count_trailing_zeros}
 use proofs.Vectors.FindNth.{after_set, cleared, without}
 use Rattle.ptflow.specs.declared.simd.replace.Cycle.{Cycle}
-use Rattle.std.proofs.lemmas.Grind.{common_steps}
 
 module _ (end : ℕ) where
   pub counted : (b : ℕ) (bytes : List ℕ) {t : Bool} → (b == end) ≡ t
@@ -60,8 +59,7 @@ module _ (end : ℕ) where
 
     pub length-replaced : (number : ℕ) (bytes : List ℕ) → length (all number bytes) ≡ length bytes
     length-replaced number [] = refl
-    length-replaced number (b ∷ bytes) =
-        grind (arith, length-replaced (number + 1) bytes, length-replaced number bytes)
+    length-replaced number (b ∷ bytes) = grind (arith, length-replaced (number + 1) bytes, length-replaced number bytes)
 
     -- One byte for all terminators.
     pub replaced_by_map : (b : ℕ) → ((n : ℕ) → byte n ≡ b) → (number : ℕ) (bytes : List ℕ)
@@ -243,7 +241,7 @@ module _ {cycle : Cycle} {first index at : ℕ} {from to to' : List ℕ} (long :
         same = long;
         next = cc (mod-add-mod so_far cycle.len (ends_in cycle here));
         is = cc (
-          replaced_mod cycle.terminator (λ k. get_or cycle.unrolled k 0 ∷ []) cycle.len index so_far index_is
+          replaced_mod _ (λ k. get_or cycle.unrolled k 0 ∷ []) _ index so_far index_is
               here,
           replaced-append cycle.terminator (cycle_byte cycle) first front here,
         );
@@ -255,7 +253,7 @@ module _ {cycle : Cycle} {first index at : ℕ} {from to to' : List ℕ} (long :
         → IsReplacedTo cycle first next (at + 1) from to'
     replaced_terminator {next} {v} is_end is later set =
         let x = get_or from at 0 in
-        let test = eq-eqb x cycle.terminator is_end in
+        let test = eq-eqb x _ is_end in
         let one = one_byte at from room in
         replaced_more 1 (omega (arith, room)) (cc)
         (cc (take_more_set (slice_set to at x) at v (omega (arith, room, length-set to at x)), take-set to at x))
@@ -264,7 +262,7 @@ module _ {cycle : Cycle} {first index at : ℕ} {from to to' : List ℕ} (long :
         → index < cycle.len → IsReplacedTo cycle first index (at + 1) from to'
     replaced_other other set less =
         let x = get_or from at 0 in
-        let test = byte_ne cycle.terminator x other in
+        let test = byte_ne _ x other in
         let one = one_byte at from room in
         let number : index + ends_in cycle (take 1 (drop at from)) ≡ index =
         omega (arith, ap (ends_in cycle) one, counted cycle.terminator x [] test) in

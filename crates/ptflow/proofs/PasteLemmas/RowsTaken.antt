@@ -7,13 +7,12 @@ use proofs.Common.{length-append, AreLines, Reader, ReaderAdvance, AdvanceOk, Is
 use proofs.Common.{advance_trans, unlines-append, lines_of_unlines, AreReceivedLines, LinesTaken, ◌*◌, ◌<◌, true}
 use proofs.Common.{take, subst, append_assoc, eq-eqb, ne_eqb, take_all, reader_at, map, unlines, join_with_cycle}
 use proofs.Common.{uses_of, columns, rows, CellsTaken, CellsFilled, RowShape, after_cell, cells_text, AreFirstRows}
-use proofs.Common.{RowsTaken}
+use proofs.Common.{RowsTaken, common_steps}
 use proofs.Passes.LinesRead.{lines_none, lines_are_given, lines_more}
 use proofs.Passes.Readers.{eof_gives_nothing, stays_at_eof}
 use Rattle.std.specs.Prelude.{slice_index_or}
 use proofs.PasteLemmas.Grid.{Column, for_each_cell_unique, uses_before, grid_step, rows_text-append}
 use Rattle.std.proofs.Common.{rules}
-use Rattle.std.proofs.lemmas.Grind.{common_steps}
 
 AreLines-append : (end : ℕ) (xs ys : List (List ℕ)) → AreLines end xs → AreLines end ys → AreLines end (xs ++ ys)
 AreLines-append end [] ys p q = q

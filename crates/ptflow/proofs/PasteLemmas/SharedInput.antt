@@ -9,6 +9,7 @@ use proofs.Common.{lines, AreLines, EndsWithByte, Output, PushEffect, push_nothi
 use proofs.Common.{advance_ok_take, byte_eq, unlines-append, lines_are, the_lines, no_reader, reader_at, update_at}
 use proofs.Common.{join_with_cycle, uses_of, columns, rows, IsSharedCycle, IsWholeRows, LinesTaken, with_replacements}
 use proofs.Common.{cycle_byte, after_cell, cells_text, mod-eq_of_lt, RowShape, RowsTaken, RowsWritten, nat_tests}
+use proofs.Common.{common_steps}
 use proofs.Vectors.FindNth.{none_counted}
 use proofs.PasteLemmas.Grid.{Column, for_each_cell_unique, top_of, grid_step, uses_here, last_use, update_here}
 use proofs.PasteLemmas.Grid.{update_there}
@@ -18,7 +19,6 @@ use proofs.PasteLemmas.BufferedRows.{consumed_none, consumed_more}
 use proofs.PasteLemmas.Replaced.{counted, replaced-append, replaced_line}
 use Rattle.ptflow.specs.declared.simd.replace.Cycle.{Cycle}
 use Rattle.std.proofs.Common.{rules}
-use Rattle.std.proofs.lemmas.Grind.{common_steps}
 
 -- ---- complete rows are known by the number of terminators
 

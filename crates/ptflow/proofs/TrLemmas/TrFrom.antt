@@ -192,11 +192,12 @@ first_squeezed = grind (arith, common_steps, repeats, from_one)
 same_after : (p q : ℕ → Bool) → ((b : ℕ) → b < 256 → p b ≡ q b) → (last : ℕ) (bytes : List ℕ) → Each1 (Fits w8) bytes
     → squeeze_after p last bytes ≡ squeeze_after q last bytes
 same_after p q same last [] fit = refl
-same_after p q same last (b ∷ bytes) (first, others) =
-    grind (arith, same_after p q same b bytes others, after_one_byte)
+same_after p q same last (b ∷ bytes) (first, others) = grind (arith, same_after p q same b bytes others, after_one_byte)
 
 pub same_from : (p q : ℕ → Bool) → ((b : ℕ) → b < 256 → p b ≡ q b) → (last : Option ℕ) (bytes : List ℕ)
     → ((k : ℕ) → Fits w8 (get_or bytes k 0)) → squeeze_from p last bytes ≡ squeeze_from q last bytes
 same_from p q same None [] fit = refl
 same_from p q same None (b ∷ bytes) fit = ap (◌∷◌ b) (same_after p q same b bytes (bytes_fit bytes (λ k. fit (suc k))))
 same_from p q same (Some last) bytes fit = same_after p q same last bytes (bytes_fit bytes fit)
+
+pub ruleset tr_laws = (tr_of_any_parts, tr_of_parts, tr_after_byte, tr_meets_twice)

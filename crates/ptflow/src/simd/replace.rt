@@ -87,7 +87,8 @@ impl Cycle {
         ensures long { length to.new ≡ length from.now }
         ensures next { result ≡ (index + count_by (is_byte self.now.terminator) (chunk at 64 from.now)) % self.now.len }
         ensures replaced { take (at + 64) to.new
-            ≡ take at to.old ++ with_replacements self.now.terminator (cycle_byte self.now) index (chunk at 64 from.now) }
+            ≡ take at to.old ++ with_replacements self.now.terminator (cycle_byte self.now) index
+            (chunk at 64 from.now) }
     {
         let terminator = self.terminator;
         u8x64::from_slice(&from[at..]).copy_to_slice(&mut to[at..]);

@@ -1,12 +1,13 @@
 -- Each iteration processes one block, and the contract of `process_block` preserves the invariant. Each exit is a lemma
 -- of `Exits` or `BlockLoop`. The budget decreases, since a block that is not empty is consumed.
 use Rattle.ptflow.proofs
-use proofs.Common.{◌≡◌, [], length, refl, sym, ◌∙◌, arith, eqb-true, nil_from_length, reads_nothing}
+use proofs.Common.{◌≡◌, [], refl, arith, reads_nothing, common_steps}
 use proofs.Passes.BlockLoop.{BlockLoopState, blocks_start, block_sent, block_taken, counted_more, block_read, ending}
 use proofs.Passes.Exits.{by_write, nothing_more, pass_write, pass_done, pass_unended}
 use Rattle.ptflow.proofs.block_loop.run_blocks.Given as given
 use Rattle.ptflow.proofs.block_loop.run_blocks.Goals as goal
 use Rattle.ptflow.proofs.block_loop.run_blocks.Goals.{In_ok-write_out_before_blocking}
+use Rattle.std.proofs.Common.{rules}
 
 -- the buffered output was written
 abbrev written_out : (g : given.Over) (c : In_ok-write_out_before_blocking g)
@@ -16,13 +17,13 @@ written_out g c = block_sent c.reading.invariant.run c.write_out_before_blocking
     c.in_ok-write_out_before_blocking.ensures.pushed.clean
 
 pub reading-init : goal.reading-init
-reading-init g c = record { run = blocks_start c.requires.readable c.requires.clean; counted = omega arith }
+reading-init g c = search (rules, blocks_start)
 
 pub returns-in_err-write_out_before_blocking : goal.returns-in_err-write_out_before_blocking
 returns-in_err-write_out_before_blocking g c =
     let sound = c.write_out_before_blocking.ensures.sound in
     λ t tool store ready.
-    let end = ending c.reading.invariant.run tool ready sound (reads_nothing c.reading.reader) sound in
+    let end = ending c.reading.invariant.run tool ready sound (reads_nothing _) sound in
     by_write c.from_residual.ensures (pass_write end c.write_out_before_blocking.ensures.pushed.wrote (nothing_more end)
     c.in_err-write_out_before_blocking.ensures.pushed.fault refl ready.not_denied)
 
@@ -48,9 +49,7 @@ returns-then-is_empty g c =
     let b = c.block.follows.holds-at-none in
     let run = written_out g (goal.at.returns-then-is_empty g c).In_ok-write_out_before_blocking in
     let (refilled, shown, ended) = (rw c.in-Ok.is at b.shows) run.reached.advance_ok.fault in
-    let none : c.in-Ok.block.now ≡ [] =
-    nil_from_length c.in-Ok.block.now
-    (eqb-true (length c.in-Ok.block.now) 0 (sym c.is_empty.ensures ∙ c.if-is_empty.true)) in
+    let none : c.in-Ok.block.now ≡ [] = grind (arith, common_steps) in
     λ t tool store ready. pass_done (ending run tool ready b.was_sound refilled.reads b.is_sound) c.finish.ensures.wrote
     (ended none) refl refilled.failed ready.not_denied c.in_ok-finish-in-Ok.ensures.clean refilled.fault
     (b.is_sound.long refilled.fault) ready.empty
@@ -60,9 +59,7 @@ returns-in_err-finish-in-Ok g c =
     let b = c.block.follows.holds-at-none in
     let run = written_out g (goal.at.returns-in_err-finish-in-Ok g c).In_ok-write_out_before_blocking in
     let (refilled, shown, ended) = (rw c.in-Ok.is at b.shows) run.reached.advance_ok.fault in
-    let none : c.in-Ok.block.now ≡ [] =
-    nil_from_length c.in-Ok.block.now
-    (eqb-true (length c.in-Ok.block.now) 0 (sym c.is_empty.ensures ∙ c.if-is_empty.true)) in
+    let none : c.in-Ok.block.now ≡ [] = grind (arith, common_steps) in
     λ t tool store ready. by_write c.from_residual-in_err-finish-in-Ok.ensures
     (pass_unended (ending run tool ready b.was_sound refilled.reads b.is_sound) c.finish.ensures.wrote (ended none) refl
     refilled.failed ready.not_denied c.in_err-finish-in-Ok.ensures.fault)
@@ -70,11 +67,12 @@ returns-in_err-finish-in-Ok g c =
 pub reading-preserved : goal.reading-preserved
 reading-preserved g c =
     let b = c.block.follows.holds-at-none in
-    let i = c.reading.invariant in
     let run = written_out g (goal.at.reading-preserved g c).In_ok-write_out_before_blocking in
     let (refilled, shown, ended) = (rw c.in-Ok.is at b.shows) run.reached.advance_ok.fault in
-    let e = c.in_ok-process_block-in-Ok.ensures in
     record {
-      run = block_taken run refilled shown c.consume.ensures.consumed e.continues (e.holds c.args.tool.now);
-      counted = counted_more refilled shown b.was_sound i.counted c.consume.ensures.consumed e.counts;
+      run = search (rules, block_taken);
+      counted = search (rules, counted_more);
     }
+
+pub reading-smaller : goal.reading-smaller
+reading-smaller g c = grind (arith, common_steps)

@@ -12,6 +12,7 @@ use proofs.Passes.Slots.{bounds_start, swapped_room}
 use Rattle.ptflow.proofs.line_loop.run_lines.Given as given
 use Rattle.ptflow.proofs.line_loop.run_lines.Goals as goal
 use Rattle.ptflow.proofs.line_loop.run_lines.Goals.{In_ok-write_out_before_blocking, In_ok-process_line-in-Ok-true}
+use Rattle.std.proofs.Common.{rules}
 
 -- the state after the buffered output was written, and after the line in the last slot
 written_out : (g : given.Over) (c : In_ok-write_out_before_blocking g) → let T = g.T.LineFilter in
@@ -19,8 +20,7 @@ written_out : (g : given.Over) (c : In_ok-write_out_before_blocking g) → let T
     (T.tool c.args.tool.now).end T.SLOTS c.args.state.now (T.model c.reading.state c.reading.store)
     c.args.reader.now c.reading.reader c.args.out.now c.write_out_before_blocking.new.out c.args.store.now
     c.reading.store
-written_out g c = run_sent c.requires.tool c.reading.invariant c.write_out_before_blocking.ensures.pushed.wrote
-    c.in_ok-write_out_before_blocking.ensures.pushed.clean
+written_out g c = search (rules, run_sent)
 
 line_taken : (g : given.Over) (c : In_ok-process_line-in-Ok-true g) → let T = g.T.LineFilter in
     LineLoopState T.model (T.rest c.args.tool.now) (T.written c.args.tool.now) T.counted
@@ -47,11 +47,7 @@ returns-in_err-ensure_slots g c =
     c.ensure_slots.ensures.same_peak c.in_err-ensure_slots.ensures.denied)
 
 pub reading-init : goal.reading-init
-reading-init g c =
-    let adds = rw c.requires.slots at c.ensure_slots.ensures.adds in
-    run_starts c.requires.tool c.requires.begins.ends c.requires.begins.ready c.requires.begins.clean
-    (bounds_start adds c.in_ok-ensure_slots.ensures.allowed
-    (cc) c.ensure_slots.ensures.same_peak)
+reading-init g c = search (rules, run_starts, bounds_start)
 
 pub returns-in_err-write_out_before_blocking : goal.returns-in_err-write_out_before_blocking
 returns-in_err-write_out_before_blocking g c =
@@ -130,9 +126,7 @@ reading-smaller g c =
     budget_of_line c.reading.reader c.in_ok-passed-in-Ok.passed e.less refilled c.consume.ensures.consumed
 
 pub process_lines-requires-clause-room : goal.process_lines-requires-clause-room
-process_lines-requires-clause-room g c =
-    swapped_room c.in_ok-process_line-in-Ok-true.ensures.swapped c.requires.tool.some
-    (same_room c.fill.ensures.slots (run_room c.requires.tool c.reading.invariant))
+process_lines-requires-clause-room g c = search (rules, swapped_room, same_room, run_room)
 
 pub process_lines-requires-clause-buffered : goal.process_lines-requires-clause-buffered
 process_lines-requires-clause-buffered g c =

@@ -11,10 +11,10 @@ returns-then-has_failed g c = pass_unchanged (cut_tool (cut_job c.args.job.now))
 
 pub returns-then-job : goal.returns-then-job
 returns-then-job g c =
-    pass_set c.args.reader.now c.cut_by_fields.ensures c.set_ending.ensures.set (search rules) (cc)
+    pass_set _ c.cut_by_fields.ensures c.set_ending.ensures.set (search rules) (cc)
 
 pub returns : goal.returns
 returns g c =
-    let ready = ready_set c.args.reader.now c.requires c.set_ending.ensures.set in
-    pass_set c.args.reader.now (c.cut_by_bytes.ensures c.args.store.now ready) c.set_ending.ensures.set
+    let ready = ready_set _ c.requires c.set_ending.ensures.set in
+    pass_set _ (c.cut_by_bytes.ensures c.args.store.now ready) c.set_ending.ensures.set
     (search rules) (cc)

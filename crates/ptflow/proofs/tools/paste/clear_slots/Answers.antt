@@ -10,5 +10,5 @@ loop-column-preserved g c =
       kept = λ first top before. slots_bound_line (inv.kept first top before) c.loop-column.column []
           c.loop-column-test.true
           (omega arith);
-      same = length-set c.loop-column.store.lines c.loop-column.column [] ∙ inv.same;
+      same = length-set _ _ [] ∙ inv.same;
     })

@@ -11,6 +11,7 @@ use proofs.PasteLemmas.BufferedRows.{still_readable}
 use Rattle.ptflow.proofs.tools.paste.fill_row.Goals.{After-fill_cell, In_ok-has_line}
 use Rattle.ptflow.proofs.tools.paste.fill_row.Given as given
 use Rattle.ptflow.proofs.tools.paste.fill_row.Goals as goal
+use Rattle.std.proofs.Common.{rules}
 
 pub cells-init : goal.cells-init
 cells-init g c = record {
@@ -18,7 +19,7 @@ cells-init g c = record {
   readable = c.requires.readable;
   slots = c.requires.slots;
   within = (omega arith, c.requires.within);
-  wrote = push_nothing c.args.out.now;
+  wrote = push_nothing _;
   clean = c.requires.clean;
 }
 
@@ -26,23 +27,25 @@ pub offset_bounds-readers-input : goal.offset_bounds-readers-input
 offset_bounds-readers-input g c =
     let low = c.requires.readable.within c.cells.column 0 c.cells-test.true in search scaled_Fits
 
+pub bounds-readers-input : goal.bounds-readers-input
+bounds-readers-input g c = let low = c.requires.readable.within c.cells.column 0 c.cells-test.true in omega arith
+
 pub fill_cell-requires-clause-readable : goal.fill_cell-requires-clause-readable
 fill_cell-requires-clause-readable g c =
-    (next_reader c.cells.invariant.readable c.cells-test.true c.index-readers-input.result).clean
+    (next_reader c.cells.invariant.readable c.cells-test.true _).clean
 
 pub returns-in_err-has_line-clause-fills : goal.returns-in_err-has_line-clause-fills
 returns-in_err-has_line-clause-fills g c =
     let (fault, same, is) = err_from_is_err_and c.from_residual.result c.from_residual.ensures.1 in
-    rw (same, is) (λ from first a. amid_failed (c.cells.invariant.amid from first a)
-    (next_reader c.cells.invariant.readable c.cells-test.true c.index-readers-input.result) c.fill_cell.new.reader
-    c.fill_cell.new.store c.cells.into c.in_err-has_line.field-0.0 c.in_err-has_line.ensures.fills)
+    rw (same, is) (λ from first a. amid_failed (c.cells.invariant.amid from first a) (search (rules, next_reader)) _ _
+    c.cells.into c.in_err-has_line.field-0.0 c.in_err-has_line.ensures.fills)
 
 -- Nothing was pushed.
 sent : (g : given.Over) (c : After-fill_cell g) → PushEffect c.args.out.now c.fill_cell.new.out []
 sent g c = push_trans _ _ _ _ _ c.cells.invariant.clean c.cells.invariant.wrote c.fill_cell.ensures.wrote
 
 pub returns-in_err-has_line-clause-wrote : goal.returns-in_err-has_line-clause-wrote
-returns-in_err-has_line-clause-wrote g c = sent g (goal.at.returns-in_err-has_line-clause-wrote g c).After-fill_cell
+returns-in_err-has_line-clause-wrote g c = search (rules, sent)
 
 module _ (g : given.Over) (c : In_ok-has_line g) where
   -- The row after the line was read into its slot.
@@ -58,18 +61,14 @@ module _ (g : given.Over) (c : In_ok-has_line g) where
       → RowAmid (shape_of c.args.row) (c.cells.column + 1) from first filled c.fill_cell.new.store
   amid from first a =
       let (fills, sound) = c.in_ok-has_line.ensures.fills in
-      amid_next (c.cells.invariant.amid from first a)
-      (next_reader c.cells.invariant.readable c.cells-test.true c.index-readers-input.result) c.fill_cell.new.reader
-      c.fill_cell.new.store (omega arith) sound c.in_ok-has_line.has_line fills
+      amid_next (c.cells.invariant.amid from first a) (search (rules, next_reader)) _ _ (omega arith) sound _ fills
 
   ready : BufferedRowsPre (shape_of c.args.row) filled.readers
-  ready = readable_after (next_reader c.cells.invariant.readable c.cells-test.true c.index-readers-input.result)
-      c.fill_cell.new.reader c.cells.invariant.readable c.cells.store c.fill_cell.new.store c.cells.column
-      c.in_ok-has_line.has_line c.in_ok-has_line.ensures.fills.0
+  ready = readable_after (search (rules, next_reader)) c.fill_cell.new.reader c.cells.invariant.readable _ _
+      c.cells.column c.in_ok-has_line.has_line c.in_ok-has_line.ensures.fills.0
 
 pub copy_columns-begun-requires-clause-readable : goal.copy_columns-begun-requires-clause-readable
-copy_columns-begun-requires-clause-readable g c = ready g (goal.at.copy_columns-begun-requires-clause-readable g
-    c).In_ok-has_line
+copy_columns-begun-requires-clause-readable g c = search (rules, ready)
 
 pub cells-preserved-in-Some : goal.cells-preserved-in-Some
 cells-preserved-in-Some g c =

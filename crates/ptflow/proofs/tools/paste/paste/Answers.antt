@@ -119,7 +119,7 @@ module _ (g : given.Over) (c : After-fill_row g) where
 
   amid_begun : RowAmid shape begun.count rows.mid c.rows.store begun c.rows.store
   amid_begun = subst (λ b. RowAmid shape b.count rows.mid c.rows.store b c.rows.store)
-      (sym (c.move_to_front-begun.ensures c.copy_rows-copied.new.readers)) (amid_starts rows.filled rows.is)
+      (sym (c.move_to_front-begun.ensures _)) (amid_starts rows.filled rows.is)
 
   abbrev Fills : RowShape → Result BegunRow FlowFault → Type 0
   Fills row = FillRowPost row begun c.rows.store c.fill_row.new.readers c.fill_row.new.store c.fill_row.new.into

@@ -1,11 +1,11 @@
 -- Each step sets the terminator of one more reader. Setting it twice, for a reader that several columns use, has no
 -- further effect.
 use Rattle.ptflow.proofs
-use proofs.Common.{◌≡◌, ◌<◌, subst, Bool, true, false, cond, length, get_or, refl, ◌∙◌, arith, take_all, terminator}
-use proofs.Common.{SetTerminatorsPost}
+use proofs.Common.{◌≡◌, ◌<◌, Bool, true, false, cond, length, get_or, refl, arith, terminator, common_steps}
 use borrow.Author.Rules.{scaled_Fits}
 use proofs.PasteLemmas.FillRow.{at_index, set_terminator_more}
 use Rattle.ptflow.proofs.tools.paste.set_terminators.Goals as goal
+use Rattle.std.proofs.Common.{rules}
 
 ending_is : (zero : Bool) → cond zero 0 10 ≡ terminator zero
 ending_is true = refl
@@ -17,10 +17,9 @@ loop-input-preserved g c =
     let i = c.loop-input.input-index in
     let now = c.loop-input.readers in
     let within : get_or cells i 0 < length now = omega (arith, c.requires i 0 c.loop-input-test.true) in
-    set_terminator_more (terminator c.args.zero) cells i c.args.readers.now now c.set_ending.new.self
+    set_terminator_more (terminator _) cells i _ now _
     c.loop-input-test.true within c.loop-input.invariant
-    (c.set_ending.ensures.set ∙ (λ j. record (at_index now (get_or cells i 0) c.index-readers-input.result within j)
-    { terminator = ending_is c.args.zero j })) c.set_ending.ensures.is_sound
+    (search (rules, at_index, ending_is)) c.set_ending.ensures.is_sound
 
 pub bounds-readers-input : goal.bounds-readers-input
 bounds-readers-input g c =
@@ -31,6 +30,4 @@ offset_bounds-readers-input g c =
     let low = c.requires c.loop-input.input-index 0 c.loop-input-test.true in search scaled_Fits
 
 pub returns : goal.returns
-returns g c =
-    subst (λ l. SetTerminatorsPost (terminator c.args.zero) l c.args.readers.now c.loop-input.readers)
-    (take_all c.loop-input.input-index c.args.cells.now c.loop-input-test.false) c.loop-input.invariant
+returns g c = grind (arith, common_steps)

@@ -1,7 +1,7 @@
 -- Each step writes the field of one more column. A failed write leaves a prefix of the row.
 use Rattle.ptflow.proofs
-use proofs.Common.{◌≡◌, ℕ, ◌+◌, ◌<◌, ◌≤◌, List, [], ◌∷◌, ◌++◌, length, take, drop, get_or, sym, subst, arith}
-use proofs.Common.{length-take-le, length-drop, take_more, take-append-drop, take-take, drop_all, append-nil}
+use proofs.Common.{◌≡◌, ℕ, ◌+◌, ◌<◌, ◌≤◌, List, [], ◌++◌, length, take, drop, get_or, arith, common_steps}
+use proofs.Common.{length-take-le, take-append-drop, take-take, drop_all}
 use proofs.Common.{append_assoc, drop-append-le, err_from_is_err_and, PushEffect, push_past_failure, push_trans}
 use proofs.Common.{RowShape, after_cell, cells_text, shape_of}
 use Rattle.std.proofs.lemmas.List.{length-take}
@@ -10,6 +10,7 @@ use proofs.PasteLemmas.RowsTaken.{cells_text-append, cells_text-push}
 use Rattle.ptflow.proofs.tools.paste.write_row.Goals.{After-write_slot}
 use Rattle.ptflow.proofs.tools.paste.write_row.Given as given
 use Rattle.ptflow.proofs.tools.paste.write_row.Goals as goal
+use Rattle.std.proofs.Common.{rules}
 
 module _ (row : RowShape) (first : ℕ) (lines : List (List ℕ)) where
   -- The text of the fields in the slots before this column.
@@ -21,15 +22,7 @@ module _ (row : RowShape) (first : ℕ) (lines : List (List ℕ)) where
 
   text_more : (k : ℕ) → first ≤ k → k < length lines
       → text_to (k + 1) ≡ text_to k ++ (get_or lines k [] ++ after_cell row k)
-  text_more k over low =
-      let front = take k lines in
-      let long = length-take-le k lines (omega arith) in
-      cc (
-        take_more lines k [] low,
-        drop-append-le first front (get_or lines k [] ∷ []) (omega arith),
-        cells_text-push row first (drop first front) (get_or lines k []) {k = k}
-            (omega (arith, length-drop first front)),
-      )
+  text_more k over low = grind (arith, common_steps, cells_text-push)
 
   -- The text of further fields.
   text_rest : (k all : ℕ) → first ≤ k → k ≤ all → all ≤ length lines
@@ -48,23 +41,10 @@ module _ (row : RowShape) (first : ℕ) (lines : List (List ℕ)) where
       )
 
 pub returns-in_err-push : goal.returns-in_err-push
-returns-in_err-push g c =
-    let (fault, same, is) = err_from_is_err_and c.from_residual.result c.from_residual.ensures.1 in
-    let row = shape_of c.args.row in
-    let all = text_to row c.args.begun.count c.args.store.now.lines (length row.cells) in
-    push_failed same (push_past_failure c.args.out.now c.push.new.self (take c.args.begun.end c.args.into.now) all
-    c.in_err-push.ensures.pushed.fault c.push.ensures.pushed.wrote) c.in_err-push.ensures.pushed.fault
+returns-in_err-push g c = search (rules, shape_of, push_failed, push_past_failure)
 
 pub loop-column-init : goal.loop-column-init
-loop-column-init g c =
-    let front = take c.args.begun.end c.args.into.now in
-    let none = text_start (shape_of c.args.row) c.args.begun.count c.args.store.now.lines in
-    record {
-      wrote = subst (PushEffect c.args.out.now c.push.new.self)
-          (sym (cc (append-nil front))) c.push.ensures.pushed.wrote;
-      clean = c.in_ok-push.ensures.pushed.clean;
-      within = c.requires.within;
-    }
+loop-column-init g c = search (rules, text_start, shape_of)
 
 module _ (g : given.Over) (c : After-write_slot g) where
   -- The text before this column.
@@ -82,11 +62,10 @@ module _ (g : given.Over) (c : After-write_slot g) where
       let k = c.loop-column.column in
       let piece = get_or lines k [] ++ after_cell row k in
       let more : text (k + 1) ≡ text k ++ piece = cc (
-        text_more row c.args.begun.count lines k over (omega arith),
+        text_more row _ lines k over (omega arith),
         append_assoc (take c.args.begun.end c.args.into.now) (text_to row c.args.begun.count lines k) piece,
       ) in
-      rw more (push_trans _ _ _ _ _
-      c.loop-column.invariant.clean c.loop-column.invariant.wrote c.write_slot.ensures.wrote)
+      rw more (search (rules, push_trans))
 
 pub returns-in_err-write_slot : goal.returns-in_err-write_slot
 returns-in_err-write_slot g c =
@@ -101,12 +80,15 @@ returns-in_err-write_slot g c =
     c.requires.slots in
     let split : text g here (length row.cells) ≡ text g here next ++ rest =
     cc (append_assoc (take c.args.begun.end c.args.into.now) (text_to row first lines next) rest) in
-    push_failed same (rw split (push_past_failure c.args.out.now c.write_slot.new.out (text g here next) rest
+    push_failed same (rw split (push_past_failure _ _ (text g here next) rest
     c.in_err-write_slot.ensures.fault (wrote_more g here))) c.in_err-write_slot.ensures.fault
 
 pub loop-column-preserved : goal.loop-column-preserved
 loop-column-preserved g c = record {
-  wrote = wrote_more g (goal.at.loop-column-preserved g c).After-write_slot;
+  wrote = search (rules, wrote_more);
   clean = c.in_ok-write_slot.ensures.clean;
   within = omega arith;
 }
+
+pub returns : goal.returns
+returns g c = grind arith

@@ -1,7 +1,7 @@
 -- Whole chunks come first, and then the bytes after them, one by one.
 use Rattle.ptflow.proofs
 use proofs.Common.{◌≡◌, ◌+◌, ◌%◌, ◌<◌, ℕ, [], ◌∷◌, refl, sym, ap, arith, length, length-set, slice_index_or, mod-lt}
-use proofs.Common.{mod-eq_of_lt, count_by, is_byte, take}
+use proofs.Common.{mod-eq_of_lt, count_by, is_byte, take, ◌∙◌}
 use proofs.PasteLemmas.Replaced.{replaced_by_map, replaced_terminator, replaced_other}
 use Rattle.ptflow.proofs.simd.replace.Cycle.replace.Goals.{then-from-at, else-from-at}
 use Rattle.ptflow.proofs.simd.replace.Cycle.replace.Goals as goal
@@ -19,17 +19,19 @@ loop-at-preserved c =
     let loop = c.loop-at in
     let cycle = c.args.self.now in
     let from = c.args.from.now in
-    let room : loop.at < length from = omega arith in
+    let room : loop.at < length from = omega (arith, c.loop-at-test.true) in
     let low : loop.index < cycle.len = omega (
       arith,
-      mod-lt (c.args.index + count_by (is_byte cycle.terminator) (take loop.at from)) cycle.is_unrolled.some,
+      mod-lt (c.args.index + count_by (is_byte cycle.terminator)
+          (take loop.at from)) cycle.is_unrolled.some,
+      loop.invariant.next,
     ) in
     elim c.if-from-at.branch [
       | then-from-at w ↦
-          rw (w.index-is, w.to-is) (replaced_terminator (cc (length-set _ loop.at _, length-set loop.to loop.at _))
-          loop.invariant room w.if-from-at.true (ap
+          rw (w.index-is, w.to-is) (replaced_terminator (length-set _ loop.at _ ∙ length-set loop.to loop.at _
+          ∙ loop.invariant.same) loop.invariant room w.if-from-at.true (ap
           (λ k. slice_index_or cycle.unrolled k 0 ∷ []) (sym (mod-eq_of_lt low))) w.after-index.ensures refl)
       | else-from-at w ↦
-          rw (w.index-is, w.to-is) (replaced_other (cc (length-set loop.to loop.at _)) loop.invariant room
-          w.if-from-at.false refl low)
+          rw (w.index-is, w.to-is) (replaced_other (length-set loop.to loop.at _
+          ∙ loop.invariant.same) loop.invariant room w.if-from-at.false refl low)
     ]

@@ -8,15 +8,15 @@ pub swizzle : goal.swizzle
 swizzle c =
     let by = c.args.by.now in
     let is = by.are_shuffles.pieces c.args.index (omega arith) in
-    SwzOk-from_below w8 16 1 16 0 (piece_at by.shuffles.pieces c.args.index).row refl (omega arith)
+    SwzOk-from_below w8 16 1 16 0 (piece_at _ c.args.index).row refl (omega arith)
     (shuffle_lanes _ is)
 
 pub returns-clause-copied : goal.returns-clause-copied
 returns-clause-copied c = λ was before.
     let by = c.args.by.now in
     let is = by.are_shuffles.pieces c.args.index (omega arith) in
-    piece_copied (is_selected by.selected.now) (16 * c.args.index) c.args.count c.args.at c.args.line.now was
-    c.args.into.now is c.from.ensures (omega arith) (omega arith) (omega arith) before
+    piece_copied (is_selected by.selected.now) (16 * c.args.index) _ _ _ was _ is c.from.ensures (omega arith)
+    (omega arith) (omega arith) before
 
 pub returns-clause-near : goal.returns-clause-near
 returns-clause-near c =

@@ -1,6 +1,6 @@
 -- `cut` by bytes is a block tool: at line offset 0 the output for the rest is that for a text, and the pushed bytes
 -- include the output that is decided.
-use Rattle.ptflow.proofs.Common.{◌++◌, refl, sym, ◌∙◌, ap, cond, cut_job, cut_tool, cut_list_from}
+use Rattle.ptflow.proofs.Common.{common_steps, ◌++◌, refl, sym, ◌∙◌, ap, cond, cut_job, cut_tool, cut_list_from, arith}
 use Rattle.ptflow.proofs.CutLemmas.CutBytes.{rest_is_cut, rest_is_decided}
 use Rattle.ptflow.proofs.tools.cut.bytes.cut_by_bytes.Goals as goal
 
@@ -21,3 +21,6 @@ returns g c =
       slots = ap (λ b. cond b 1 0) c.requires.by_bytes;
     })
     store ready
+
+pub invariant_of-tool : goal.invariant_of-tool
+invariant_of-tool g c = grind (arith, common_steps)

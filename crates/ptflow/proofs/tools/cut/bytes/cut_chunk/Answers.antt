@@ -17,7 +17,7 @@ returns-then-cursor-eq0-clause-on c =
     let cursor = c.args.cursor in
     let ends = chunk cursor.start 64 block in
     record {
-      cut = cut_next end list _ cursor.line_offset cursor.line_offset _ (drop cursor.start block)
+      cut = cut_next end list _ _ _ _ (drop cursor.start block)
           (drop (cursor.start + 64) block) _ (take cursor.at c.args.into.now)
           ends (λ start bytes so_far. so_far)
           (take_more_put_chunk cursor.at c.args.into.now ends (cursor.at + 64)
@@ -30,7 +30,7 @@ returns-then-cursor-eq0-clause-on c =
 
 next : (c : In-loop-end) → NextTerminator c.args.by.now.terminator c.args.block.now c.args.from c.loop-end._end
     (count_trailing_zeros 64 c.loop-end.mask) c.loop-end.cursor.start
-next c = next_terminator c.loop-end._end c.loop-end.cursor.start c.requires.ends (omega arith) c.loop-end.invariant.bits
+next c = next_terminator _ _ c.requires.ends (omega arith) c.loop-end.invariant.bits
     c.loop-end.invariant.ends
 
 pub overflow_sub-part : goal.overflow_sub-part
@@ -53,12 +53,12 @@ loop-end-preserved c =
       within = omega arith;
       ends = e.counted;
       on = record {
-        cut = cut_next c.args.by.now.terminator list _ l.cursor.line_offset 0 _ (drop s block) (drop (at + 1) block) _
+        cut = cut_next _ list _ _ 0 _ (drop s block) (drop (at + 1) block) _
             (take l.cursor.at l.into)
             (cut_piece list l.cursor.line_offset (at - s) (take (at - s + 1) (drop s block))) l.invariant.on.cut
             (rw take_rest at c.copy_line.ensures.copied)
-            (rw (← left) (line_on c.args.by.now.terminator (drop s block) (at - s) e.first (is_selected list)
-            l.cursor.line_offset));
+            (rw (← left) (line_on _ (drop s block) (at - s) e.first (is_selected list)
+            _));
         bound = omega arith;
         near = omega arith;
       };

@@ -15,7 +15,7 @@ slices-init g c =
     let kept = ap is_selected c.intervals-selected.ensures.kept in record {
       copied = ap (◌++◌ (take c.args.start c.args.room.now))
           (selected_remaining (cut_job c.args.job.now) list line c.requires.delimiter kept);
-      cursor = cursor_starts c.args.delimiters.now.byte line c.intervals-selected.ensures.separated;
+      cursor = cursor_starts _ line c.intervals-selected.ensures.separated;
       low = omega arith;
       high = omega arith;
       long = refl;

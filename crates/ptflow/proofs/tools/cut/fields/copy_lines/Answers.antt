@@ -11,7 +11,7 @@ returns-then-first-to-clause-put g c =
     let bytes = c.args.bytes.now in
     let line = take c.args.to bytes in
     let of = c.new-delimiters.ensures in
-    let first = first_within d bytes c.first.result c.args.to (rw (of.byte, of.bytes) at c.first.ensures) (omega arith)
+    let first = first_within d bytes _ c.args.to (rw (of.byte, of.bytes) at c.first.ensures) (omega arith)
     (omega arith) in
     puts_line job c.args.by.now.by_fields c.args.by.now.ends bytes c.args.to c.requires.first (cut_fields job line)
     (of_fields job c.args.by.now.by_fields line (found d line (Some _) first))
@@ -23,7 +23,7 @@ returns-then-job-clause-put g c =
     let size = c.whole_lines_len-size in
     let of = c.new-delimiters.ensures in
     let free = rw (← c.unwrap_or-first.ensures)
-    at (free_before c.args.by.now.job.now.delim bytes c.first.result (rw (of.byte, of.bytes) at c.first.ensures)) in
+    at (free_before _ bytes c.first.result (rw (of.byte, of.bytes) at c.first.ensures)) in
     puts_dropped (cut_job c.args.by.now.job.now) c.args.by.now.by_fields c.args.by.now.ends bytes _ c.requires.first
     size.ensures.within.0 size.ensures.within.1 size.ensures.eof size.ensures.up_to c.if-first-to.false free
     c.if-job.true
@@ -34,7 +34,7 @@ returns-clause-put g c =
     let size = c.whole_lines_len-size in
     let of = c.new-delimiters.ensures in
     let free = rw (← c.unwrap_or-first.ensures)
-    at (free_before c.args.by.now.job.now.delim bytes c.first.result (rw (of.byte, of.bytes) at c.first.ensures)) in
+    at (free_before _ bytes c.first.result (rw (of.byte, of.bytes) at c.first.ensures)) in
     let whole : size.result - 0 ≡ size.result = omega arith in
     let copied = rw whole at c.copy_short.ensures.copied in
     puts_kept (cut_job c.args.by.now.job.now) c.args.by.now.by_fields c.args.by.now.ends bytes _ c.requires.first

@@ -13,7 +13,7 @@ pub returns-in-Some-clause-offset : goal.returns-in-Some-clause-offset
 returns-in-Some-clause-offset c =
     let d = c.args.delimiters.now in
     let passed : c.args.from + c.in-Some.at + 1 - c.args.from ≡ c.in-Some.at + 1 = omega arith in
-    rw passed (offset_after_nth d.byte (drop c.args.from (take c.args.to d.bytes.now)) c.in-Some.at (omega arith)
+    rw passed (offset_after_nth d.byte (drop c.args.from (take c.args.to d.bytes.now)) _ (omega arith)
     (rw (← (rest_of c.args.from c.args.to d.bytes.now)) at c.in-Some.ensures))
 
 pub returns-in-None-clause-offset : goal.returns-in-None-clause-offset

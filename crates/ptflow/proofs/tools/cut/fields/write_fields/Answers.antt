@@ -17,7 +17,7 @@ slices-init g c =
     let kept = ap is_selected c.intervals-selected.ensures.kept in
     let all : take (length line) line ≡ line = take_all (length line) line (omega arith) in record {
       front = prefix_starts (rw all (selected_remaining job list line c.requires kept));
-      cursor = cursor_starts c.args.delimiters.now.byte (take (length line) line)
+      cursor = cursor_starts _ (take (length line) line)
           c.intervals-selected.ensures.separated;
       clean = λ clean. clean;
     }
@@ -39,7 +39,7 @@ next g c =
     c.in-Some.ensures.output
     ∙ ap (λ bytes. bytes
     ++ output_from_cursor c.args.delimiters.now.byte c.intervals-selected.result.now whole slice.next)
-    (slice_of slice.start (slice.end - slice.start) line within)
+    (slice_of _ (slice.end - slice.start) line within)
 
 pub returns-in_err-push-clause-wrote : goal.returns-in_err-push-clause-wrote
 returns-in_err-push-clause-wrote g c =

@@ -6,15 +6,10 @@ use proofs.PasteLemmas.FillRow.{fill_starts}
 use proofs.PasteLemmas.RowsTaken.{rows_taken_none}
 use proofs.PasteLemmas.BufferedRows.{consumed_none, consumed_trans, still_readable, rows_and_begun, rows_more}
 use Rattle.ptflow.proofs.tools.paste.buffered_rows.copy_rows.Goals as goal
+use Rattle.std.proofs.Common.{rules}
 
 pub rows-init : goal.rows-init
-rows-init g c = record {
-  rows = rows_taken_none;
-  consumed = consumed_none;
-  size_bound = omega arith;
-  buffer_size
-      = c.told-into;
-}
+rows-init g c = search (rules, rows_taken_none, consumed_none)
 
 pub copy_columns-begun-requires-clause-readable : goal.copy_columns-begun-requires-clause-readable
 copy_columns-begun-requires-clause-readable g c = still_readable
@@ -22,12 +17,12 @@ copy_columns-begun-requires-clause-readable g c = still_readable
 
 pub returns-then-begun-row-clause-rows : goal.returns-then-begun-row-clause-rows
 returns-then-begun-row-clause-rows g c =
-    rows_and_begun c.rows.into c.copy_columns-begun.new.into c.rows.invariant.rows c.rows.invariant.consumed
+    rows_and_begun _ _ c.rows.invariant.rows c.rows.invariant.consumed
     c.copy_columns-begun.ensures.cells
     c.copy_columns-begun.ensures.within.1 (omega arith)
 
 pub rows-smaller : goal.rows-smaller
-rows-smaller g c = (c.copy_columns-begun.ensures.cells.filled c.rows.readers [] fill_starts).less
+rows-smaller g c = (c.copy_columns-begun.ensures.cells.filled _ [] fill_starts).less
     (sym (not-not _) ∙ ap not c.if-not-begun.false)
 
 pub rows-preserved : goal.rows-preserved

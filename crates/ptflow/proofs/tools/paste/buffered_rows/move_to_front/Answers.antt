@@ -1,8 +1,8 @@
-use Rattle.ptflow.proofs.Common.{◌≡◌, ◌+◌, ◌-◌, ◌≤◌, ℕ, List, length, take, drop, ap, arith, length-drop, drop-take}
-use Rattle.ptflow.proofs.Common.{begun_in}
+use Rattle.ptflow.proofs.Common.{◌≡◌, ◌+◌, ◌-◌, ◌≤◌, ℕ, List, length, take, drop, arith, length-drop, drop-take}
 use lib.Seq.{paste}
 use Rattle.std.proofs.lemmas.List.Edits.{take-paste}
 use Rattle.ptflow.proofs.tools.paste.buffered_rows.move_to_front.Goals as goal
+use Rattle.std.proofs.Common.{rules}
 
 moved : (at to : ℕ) (bytes : List ℕ) → at ≤ to → to ≤ length bytes
     → take (to - at) (paste bytes 0 (drop at bytes) (to - at)) ≡ drop at (take to bytes)
@@ -15,7 +15,4 @@ moved at to bytes further fits =
     )
 
 pub returns : goal.returns
-returns c = λ readers.
-    let rows = c.args.copied in
-    ap (λ text. record (begun_in readers rows.begun c.args.into.now) { text = text })
-    (cc (moved rows.end rows.begun.end c.args.into.now rows.order (omega arith)))
+returns c = search (rules, moved)

@@ -8,15 +8,14 @@ use proofs.PasteLemmas.SerialRest.{serial_is_decided}
 use Rattle.ptflow.proofs.tools.paste.serial.paste_serial.Goals as goal
 
 pub returns-then-has_failed : goal.returns-then-has_failed
-returns-then-has_failed g c = pass_unchanged (paste_serial_tool (paste_job c.args.job.now)) c.args.reader.now
-    c.args.out.now c.args._store.now c.requires (cc)
+returns-then-has_failed g c = search (rules, pass_unchanged)
 
 pub returns : goal.returns
 returns g c =
     let job = paste_job c.args.job.now in
     let end : c.terminator-terminator.result ≡ job.terminator = search rules in
     let delims = c.as_slice-delims.ensures.all in
-    pass_set c.args.reader.now
+    pass_set _
     (c.run_blocks.ensures (paste_serial_tool job)
     (record {
       text = λ bytes i. row_rest (end i) (delims i) 0 bytes;

@@ -6,6 +6,7 @@ use proofs.Common.{count_by, is_byte}
 use proofs.PasteLemmas.SharedInput.{whole_rows_counted}
 use proofs.PasteLemmas.Replaced.{length-replaced, take-replaced}
 use Rattle.ptflow.proofs.tools.paste.shared_input.copy_shared_rows.Goals as goal
+use Rattle.std.proofs.Common.{rules}
 
 pub returns-clause-rows : goal.returns-clause-rows
 returns-clause-rows g c =
@@ -14,7 +15,7 @@ returns-clause-rows g c =
     let at = c.rows_end.result in
     let long = length-take-le at bytes c.rows_end.ensures.within in
     rw (← c.buffered-bytes.ensures.buffered)
-    (whole_rows_counted cycle.terminator cycle.len
+    (whole_rows_counted _ _
     ((0 + count_by (is_byte cycle.terminator) bytes) / cycle.len) (take at bytes)
     (λ some. cc (
       get_or-take at bytes (length (take at bytes) - 1) 0 (omega arith),
@@ -28,8 +29,7 @@ returns-clause-copied g c =
     let bytes = c.buffered-bytes.result.now in
     let at = c.rows_end.result in
     let made = c.replace-extra in
-    let long : length made.new.to ≡ length bytes =
-    ap length made.ensures.replaced ∙ length-replaced cycle.terminator _ 0 bytes in
+    let long : length made.new.to ≡ length bytes = search (rules, length-replaced) in
     rw (← c.buffered-bytes.ensures.buffered)
     (take-append-le at made.new.to _ (omega arith)
-    ∙ ap (take at) made.ensures.replaced ∙ take-replaced cycle.terminator _ at 0 bytes c.rows_end.ensures.within)
+    ∙ ap (take at) made.ensures.replaced ∙ take-replaced _ _ at 0 bytes c.rows_end.ensures.within)

@@ -15,7 +15,7 @@ returns c =
     omega (arith, ap length items, length-append c.in_ok-bytes.bytes.items (row.terminator ∷ [])) in
     record {
       some = some;
-      same = All-from_get_or (λ p. p ≡ get_or row.cells 0 0) row.cells 0
+      same = All-from_get_or (λ p. p ≡ get_or row.cells 0 0) _ 0
           (λ k low. c.loop-input.invariant.same k (omega arith));
       terminator = c.new.ensures.terminator;
       len = cc;

@@ -6,4 +6,4 @@ use Rattle.ptflow.proofs.tools.tr.Translation.kept.Goals as goal
 pub returns-in-None-clause-kept : goal.returns-in-None-clause-kept
 returns-in-None-clause-kept c =
     let tables = c.args.self.now.plan.now in
-    sym (filter_all (deletes tables) (rw c.in-None.is at c.args.self.now.is_deleting) c.args.block.now)
+    sym (filter_all (deletes tables) (rw c.in-None.is at c.args.self.now.is_deleting) _)

@@ -1,10 +1,10 @@
 -- The three passes make the output of the block, and its last byte is the state for the next block. The output is
 -- pushed at once, so a failed push leaves a prefix of it.
 use Rattle.ptflow.proofs
-use proofs.Common.{◌∙◌, ap, option_or}
 use proofs.Passes.StepOutput.{on_err}
 use proofs.TrLemmas.TrFrom.{passes_make, block_on, block_begins}
 use Rattle.ptflow.proofs.tools.tr.TranslatorBlockFilter.process_block.Goals as goal
+use Rattle.std.proofs.Common.{rules}
 
 pub returns-in_err-push-clause-halts : goal.returns-in_err-push-clause-halts
 returns-in_err-push-clause-halts g c =
@@ -12,7 +12,7 @@ returns-in_err-push-clause-halts g c =
     let block = c.args.block.now in
     let written = c.squeezed-written.result.now in
     let made =
-    passes_make t.by.plan.now t.last block c.kept-kept.ensures.kept c.mapped-mapped.ensures
+    passes_make _ t.last block c.kept-kept.ensures.kept c.mapped-mapped.ensures
     c.squeezed-written.ensures in
     on_err c.from_residual.result
     (record {
@@ -23,17 +23,4 @@ returns-in_err-push-clause-halts g c =
     })
 
 pub returns-clause-continues : goal.returns-clause-continues
-returns-clause-continues g c =
-    let t = c.args.self.now in
-    let block = c.args.block.now in
-    let written = c.squeezed-written.result.now in
-    let made =
-    passes_make t.by.plan.now t.last block c.kept-kept.ensures.kept c.mapped-mapped.ensures
-    c.squeezed-written.ensures in
-    record {
-      pushed = written;
-      wrote = c.push.ensures.pushed.wrote;
-      clean = c.in_ok-push.ensures.pushed.clean;
-      on = λ rest. block_on t.by.plan.now t.last block rest made
-          (c.or-self.ensures ∙ ap (λ o. option_or o t.last) (c.copied.ensures ∙ c.last.ensures.value));
-    }
+returns-clause-continues g c = search (rules, passes_make, block_on)

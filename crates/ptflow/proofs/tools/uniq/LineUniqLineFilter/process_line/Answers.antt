@@ -9,26 +9,27 @@ use proofs.UniqLemmas.FirstLine.{swapped_first}
 use Rattle.ptflow.proofs.tools.uniq.LineUniqLineFilter.process_line.Given as given
 use Rattle.ptflow.proofs.tools.uniq.LineUniqLineFilter.process_line.Goals as goal
 use Rattle.ptflow.proofs.tools.uniq.LineUniqLineFilter.process_line.Goals.{After-is_same_run}
+use Rattle.std.proofs.Common.{rules}
 
 -- whether the line belongs to the run
 test : (g : given.Over) (c : After-is_same_run g)
     → (nat_lt 0 c.args.run.now.count && is_same (uniq_job c.args.self.now.job.now)
     (first_line c.args.run.now c.args.store.now) (line c.args.store.now 1)) ≡ c.is_same_run.result
-test g c = rw (← c.first_line.ensures, ← c.line.ensures) (sym c.is_same_run.ensures)
+test g c = search rules
 
 before : (g : given.Over) (c : After-is_same_run g) → let run = current_run_of c.args.run.now c.args.store.now in
     RunSteps (uniq_job c.args.self.now.job.now) run run [] []
-before g c = steps_none (uniq_job c.args.self.now.job.now) (current_run_of c.args.run.now c.args.store.now)
+before g c = search (rules, steps_none)
 
 pub returns-then-is_same_run-clause-continues : goal.returns-then-is_same_run-clause-continues
 returns-then-is_same_run-clause-continues g c =
     let at = (goal.at.returns-then-is_same_run-clause-continues g c).After-is_same_run in
-    steps_written (steps_more (before g at) _ (cc (test g at))) (push_nothing c.args.out.now) refl (λ clean. clean)
+    steps_written (steps_more (before g at) _ (cc (test g at))) (push_nothing _) refl (λ clean. clean)
 
 pub returns-in_err-write_current-clause-halts : goal.returns-in_err-write_current-clause-halts
 returns-in_err-write_current-clause-halts g c =
     let at = (goal.at.returns-in_err-write_current-clause-halts g c).After-is_same_run in
-    on_err c.from_residual.result (steps_failed (steps_next (before g at) (line c.args.store.now 1) (cc (test g at)))
+    on_err _ (steps_failed (steps_next (before g at) (line c.args.store.now 1) (cc (test g at)))
     c.write_current.ensures.wrote [] refl c.in_err-write_current.ensures.fault)
 
 pub returns-clause-continues : goal.returns-clause-continues

@@ -1,6 +1,7 @@
 -- The runs that end in the block are written (`write_runs`), and the last run becomes the current one.
+use Rattle.std.proofs.Common.{rules}
 use Rattle.ptflow.proofs
-use proofs.Common.{[], ◌≡◌, sym, ap, arith, unlines, complete_lines, uniq_job, current_run_of, push_nothing}
+use proofs.Common.{[], ◌≡◌, complete_lines, uniq_job, current_run_of, push_nothing}
 use proofs.UniqLemmas.BlockRuns.{steps_none, steps_written}
 use proofs.UniqLemmas.FirstLine.{not_found}
 use Rattle.ptflow.proofs.tools.uniq.LineUniqLineFilter.process_lines.Given as given
@@ -9,8 +10,7 @@ use Rattle.ptflow.proofs.tools.uniq.LineUniqLineFilter.process_lines.Goals.{Then
 
 none : (g : given.Over) (c : Then-is_none g)
     → complete_lines (uniq_job c.args.self.now.job.now).terminator c.args.block.now ≡ []
-none g c = not_found _ c.args.block.now c.find_byte.result (rw c.args.self.now.ends at c.find_byte.ensures)
-    c.if-is_none.ensures
+none g c = search (rules, not_found)
 
 pub returns-then-is_none-clause-continues : goal.returns-then-is_none-clause-continues
 returns-then-is_none-clause-continues g c =
@@ -19,8 +19,7 @@ returns-then-is_none-clause-continues g c =
     (λ clean. clean)
 
 pub returns-then-is_none-clause-passed : goal.returns-then-is_none-clause-passed
-returns-then-is_none-clause-passed g c = (
-  omega arith,
-  sym (ap (unlines (uniq_job c.args.self.now.job.now).terminator)
-      (none g (goal.at.returns-then-is_none-clause-passed g c).Then-is_none)),
-)
+returns-then-is_none-clause-passed g c = search (rules, none)
+
+pub returns-clause-continues : goal.returns-clause-continues
+returns-clause-continues g c = search rules

@@ -2,7 +2,7 @@
 -- leaves a prefix of both.
 use Rattle.ptflow.proofs
 use proofs.Common.{ℕ, true, not, ◌≡◌, [], refl, sym, ◌∙◌, subst, PushEffect, push_past_failure, append_assoc, span_of}
-use proofs.Common.{uniq_job}
+use proofs.Common.{uniq_job, arith, common_steps}
 use Rattle.ptflow.specs.Private.Uniq.RunsFrom.{count_prefix}
 use proofs.Passes.StepOutput.{on_err}
 use proofs.UniqLemmas.BlockRuns.{due_is, pending_joined}
@@ -21,9 +21,9 @@ no_count Single differs count = refl
 pub returns-then-pending-line-clause-waits : goal.returns-then-pending-line-clause-waits
 returns-then-pending-line-clause-waits g c =
     let job = uniq_job c.args.by.now.job.now in
-    pending_joined job c.args.first.now c.args.count c.requires c.in-Some.is
+    pending_joined job _ _ c.requires c.in-Some.is
     (sym c.has_output.ensures ∙ c.if-not-has_output.false) c.if-pending-line.true
-    (no_count job.show c.if-ne.ensures c.args.count)
+    (no_count job.show c.if-ne.ensures _)
 
 pub returns-in_err-flush_with_count-clause-wrote : goal.returns-in_err-flush_with_count-clause-wrote
 returns-in_err-flush_with_count-clause-wrote g c =
@@ -36,3 +36,6 @@ returns-in_err-flush_with_count-clause-wrote g c =
     (subst (PushEffect c.args.out.now c.flush_with_count.new.out)
     (append_assoc (span_of block c.args.pending) (count_prefix job.show c.args.count) line)
     (push_past_failure _ _ _ line c.in_err-flush_with_count.ensures.fault c.flush_with_count.ensures.wrote)))
+
+pub returns-clause-waits : goal.returns-clause-waits
+returns-clause-waits g c = grind (arith, common_steps)

@@ -3,6 +3,7 @@
 use Rattle.ptflow.proofs.Common.{◌≡◌, ◌<◌, drop, min, sym, ◌∙◌, ap, arith, take_rest, after_nonblanks}
 use Rattle.ptflow.proofs.UniqLemmas.Keys.{both_later, both_near}
 use Rattle.ptflow.proofs.tools.uniq.line_key.skip_nonblanks_long.Goals as goal
+use Rattle.std.proofs.Common.{rules}
 
 pub returns-then-at : goal.returns-then-at
 returns-then-at g c =
@@ -12,7 +13,7 @@ returns-then-at g c =
     let near : min c.find_or_n.result c.find_or_n-2.result < g.row.N = omega arith in
     cc (
       take_rest line c.min-at.result,
-      both_near line c.find_or_n.result c.find_or_n-2.result space.before tab.before space.found tab.found
+      both_near line _ _ space.before tab.before space.found tab.found
           (omega arith) near,
     )
 
@@ -24,5 +25,4 @@ returns g c =
     let all : min c.find_or_n.result c.find_or_n-2.result ≡ g.row.N =
     omega arith in
     c.skip_nonblanks_cold.ensures ∙ ap after_nonblanks (take_rest line g.row.N ∙ ap (λ at. drop at line) (sym all))
-    ∙ sym (both_later line c.find_or_n.result c.find_or_n-2.result space.before tab.before
-    (omega (arith, all)))
+    ∙ sym (search (rules, both_later))

@@ -1,6 +1,6 @@
 -- The output of one line is all that is pushed, since no state is carried from line to line.
 use Rattle.ptflow.proofs
-use proofs.Common.{◌∷◌, [], line, cut_job, cut_lines}
+use proofs.Common.{◌∷◌, [], line, cut_job, cut_lines, arith, common_steps}
 use proofs.CutLemmas.FieldLines.{cut_lines-append}
 use proofs.Passes.StepOutput.{on_err}
 use Rattle.ptflow.proofs.tools.cut.fields.FieldCutLineFilter.process_line.Goals as goal
@@ -16,3 +16,6 @@ returns-in_err-write_line-clause-halts g c =
       fault = c.in_err-write_line.ensures.fault;
       is_prefix = λ more. (cut_lines job more, cut_lines-append job ls more);
     })
+
+pub returns-clause-continues : goal.returns-clause-continues
+returns-clause-continues g c = grind (arith, common_steps)

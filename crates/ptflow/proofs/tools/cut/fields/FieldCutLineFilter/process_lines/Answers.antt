@@ -17,9 +17,9 @@ lines-preserved g c =
     let l = c.lines in
     let put = rw c.args.self.now.ends at c.copy_lines-size.ensures.put in
     rw take_rest (record {
-      taken = taken_more _ c.copy_lines-size.result.0 put.taken l.invariant.taken;
+      taken = taken_more _ _ put.taken l.invariant.taken;
       on = λ more. l.invariant.on more ∙ put.on more;
-      space = less_left _ _ l.rest.now put.fits c.copy_lines-size.ensures.end.1 l.invariant.space;
+      space = less_left _ _ _ put.fits c.copy_lines-size.ensures.end.1 l.invariant.space;
       long = c.copy_lines-size.ensures.long ∙ l.invariant.long;
     })
 
@@ -40,14 +40,14 @@ returns-in_err-push-clause-halts g c =
 
 -- no complete line is left
 none_left : (g : given.Over) (c : In_default g) → IsLine (cut_job c.args.self.now.job.now).terminator c.lines.rest.now
-none_left g c = line_if_not_found _ c.lines.rest.now
+none_left g c = line_if_not_found _ _
     (rw (c.new.ensures.byte, c.new.ensures.bytes, c.args.self.now.ends) at c.in_default.ensures)
 
 pub returns-clause-continues : goal.returns-clause-continues
 returns-clause-continues g c =
     let l = c.lines in
     let job = cut_job c.args.self.now.job.now in
-    let none = complete_lines_none _ l.rest.now
+    let none = complete_lines_none _ _
     (none_left g (goal.at.returns-clause-continues g c).In_default) in record {
       passed = take l.end l.room;
       wrote = c.in_ok-push.ensures.pushed.wrote;

@@ -1,0 +1,5 @@
+use Rattle.ptflow.proofs.Common.{arith, common_steps}
+use Rattle.ptflow.proofs.tools.uniq.LineUniqLineFilter.finish.Goals as goal
+
+pub returns-clause-emptied : goal.returns-clause-emptied
+returns-clause-emptied c = grind (arith, common_steps)
