@@ -7,10 +7,10 @@ use Rattle.ptmerge.proofs
 use proofs.Common.{arith, append-nil, ◌≡◌, ℕ, ◌+◌, List, [], ◌∷◌, ◌++◌, Bool, true, false, cond, Option, Some, None}
 use proofs.Common.{refl, ap, sym, ◌∙◌, filter, Less, Side, First, Second, Lines, MergeTool, FirstDisorder}
 use proofs.Common.{entries_by_key, disorder, earlier_disorder, first_disorder, keys, merged_entries, sorted_prefixes}
-use proofs.Common.{sorted_prefix, is_up_to, lines_of, Cmp, Key, unlines, the_lines_of_parts, unlines-append, comm_tool}
-use proofs.Common.{join_tool, IsConcatOfParts, CommOfParts, JoinOfParts, ◌&&◌, not, map, tied_itself, bytes_eq}
-use proofs.Common.{flat_map, is_gt, is_lt, Equal, bytes_decides, insert_key, distinct_keys, lines_with_key}
-use proofs.Common.{entries_of_key, filter-append, IsLine, zero, suc, ◌<◌, ◌==◌, nat_lt, append_assoc, inr, nat_tests}
+use proofs.Common.{sorted_prefix, is_up_to, lines_of, Cmp, Key, unlines, the_lines_of_parts, unlines-append}
+use proofs.Common.{IsConcatOfParts, CommOfParts, JoinOfParts, ◌&&◌, not, map, tied_itself}
+use proofs.Common.{flat_map, is_gt, is_lt, Equal, insert_key, distinct_keys, lines_with_key}
+use proofs.Common.{entries_of_key, filter-append, IsLine, zero, suc, ◌<◌, ◌==◌, nat_lt, append_assoc, nat_tests}
 use proofs.Common.{range_with_len, lines, CommByKey, IsSplittableByKey, JoinByKey, text_of_part, output_lines}
 use proofs.MergeLemmas.Invariant.{IsDisorderFrom, after_from, disorder_after, disorder_at, first_disorder_is}
 use proofs.MergeLemmas.Invariant.{is_disordered, sorted_after, sorted_prefix_is, Ascends, IsDownwardClosed, all_keys}
@@ -60,15 +60,14 @@ module _ (p : List ℕ → Bool) where
   kept_parts : (key : Key) (xs ys : Lines) → EachKey (λ k. p k ≡ true) key xs → EachKey (λ k. p k ≡ false) key ys
       → (kept key (xs ++ ys) ≡ xs) × (filter (λ line. not (p (key line))) (xs ++ ys) ≡ ys)
   kept_parts key [] [] e f = (refl, refl)
-  kept_parts key [] (y ∷ ys) e (here, more) = let ih = kept_parts key [] ys tt more in grind (arith, here)
-  kept_parts key (x ∷ xs) ys (here, more) f = let ih = kept_parts key xs ys more f in grind (arith, here)
+  kept_parts key [] (y ∷ ys) e (here, more) = search (rules, kept_parts key [] ys tt more)
+  kept_parts key (x ∷ xs) ys (here, more) f = search (rules, kept_parts key xs ys more f)
 
   -- all lines of a key pass the test if the key does
   with_key_kept : (key : Key) (k : List ℕ) (ls : Lines) → p k ≡ true
       → lines_with_key key (kept key ls) k ≡ lines_with_key key ls k
   with_key_kept key k [] h = refl
-  with_key_kept key k (x ∷ ls) h = let same : bytes_eq (key x) k ≡ true → p (key x) ≡ true =
-      λ e. ap p ((bytes_decides (key x) k).0 e) ∙ h in grind (arith, with_key_kept key k ls h, same)
+  with_key_kept key k (x ∷ ls) h = search (rules, with_key_kept key k ls h)
 
   module _ (tool : MergeTool) (o : IsKeyOrder tool.cmp) (ls : Side → Lines) where
     open tool use {cmp, entries, key}
@@ -116,8 +115,7 @@ module _ (cmp : Cmp) (o : IsKeyOrder cmp) where
 
   downward_under : (ls : Lines) → IsDownwardClosed cmp (is_under cmp ls)
   downward_under [] a b g h = refl
-  downward_under (x ∷ ls) a b g h = let less : cmp b x ≡ Less → cmp a x ≡ Less =
-      λ l. o.total.trans a b x (greater_flips cmp o b a g) l in grind (arith, downward_under ls a b g, less)
+  downward_under (x ∷ ls) a b g h = search (rules, greater_flips, downward_under ls a b g)
 
   none_under : (ls : Lines) → Each (λ l. is_under cmp ls l ≡ false) ls
   none_under [] = tt
@@ -278,13 +276,13 @@ of_parts tool o first second cut =
     ((λ i. merged_entries tool (λ side. the_lines_of_parts tool.terminator (first side) (second side)
     (cut.whole side) i))
     ∙ entries_together tool o p (downward_under tool.cmp o (keys tool b)) a b cut.in_order low high)
-    ∙ unlines-append tool.terminator (merged_entries tool a) (merged_entries tool b)
+    ∙ unlines-append _ (merged_entries tool a) (merged_entries tool b)
 
 pub comm_of_parts : CommOfParts
-comm_of_parts job = of_parts (comm_tool job) (line_order job.descending)
+comm_of_parts job = search (rules, of_parts, line_order)
 
 pub join_of_parts : JoinOfParts
-join_of_parts job = of_parts (join_tool job) (line_order job.descending)
+join_of_parts job = search (rules, of_parts, line_order)
 
 -- ---- permutations
 
@@ -327,8 +325,7 @@ lines_of_each : (end : ℕ) (f : List ℕ → Lines) (ks es : Lines)
     (λ k. flat_map (λ e. lines end (e ++ end ∷ [])) (f k)) ks
 lines_of_each end f [] [] = refl
 lines_of_each end f (k ∷ ks) [] = lines_of_each end f ks (f k)
-lines_of_each end f ks (e ∷ es) = the_lines_of_parts end (e ++ end ∷ []) (unlines end (es ++ flat_map f ks))
-    (inr (e, refl)) ∙ rw (lines_of_each end f ks es, append_assoc) refl
+lines_of_each end f ks (e ∷ es) = search (rules, the_lines_of_parts, lines_of_each end f ks es, append_assoc)
 
 -- a text made of lines of another text has these lines
 lines_dealt : (end : ℕ) (q : List ℕ → Bool) (bytes : List ℕ)
@@ -367,7 +364,7 @@ split_by_key tool o inputs part_of parts in_order below = simp (whole, of_part)
         ∙ lines_of_each tool.terminator (entries_of_key tool ls) (filter all_keys ds) []
 
 pub comm_of_keys : CommByKey
-comm_of_keys job = split_by_key (comm_tool job) (line_order job.descending)
+comm_of_keys job = search (rules, split_by_key, line_order)
 
 pub join_of_keys : JoinByKey
-join_of_keys job = split_by_key (join_tool job) (line_order job.descending)
+join_of_keys job = search (rules, split_by_key, line_order)

@@ -9,7 +9,8 @@ ghost use Rattle.ptlines.specs.Slots.{line};
 ghost use Rattle.ptmerge.specs.WriteAndAdvance.{WriteThenAdvancePost, AdvancePre};
 ghost use Rattle.ptmerge.specs.Cursor.{NextPost};
 ghost use Rattle.ptmerge.specs.Sides.{both, other};
-ghost use Rattle.ptmerge.specs.MergeSteps.{merge_inputs, AreValidCursors, IsReaderOf, StepPost, StartOkPost, StartErrPost, previous_key};
+ghost use Rattle.ptmerge.specs.MergeSteps.{merge_inputs, AreValidCursors, IsReaderOf, StepPost, StartOkPost};
+ghost use Rattle.ptmerge.specs.MergeSteps.{StartErrPost, previous_key};
 
 pub(crate) mod cursor;
 pub(crate) mod four_slots;

@@ -3,10 +3,10 @@
 -- over.
 use Rattle.ptmerge.proofs
 use proofs.Common.{◌≡◌, ℕ, ◌<◌, List, [], ◌∷◌, ◌++◌, Ok, Err, refl, sym, arith, Comm, Output, PushEffect, Reader}
-use proofs.Common.{Slots, line, unlines, MergeFault, Side, First, Second, Sorted, Ended, comm_with, column_entries}
+use proofs.Common.{Slots, line, unlines, Side, First, Second, Sorted, Ended, comm_with, column_entries}
 use proofs.Common.{tab_if_shown, Lines, MergeTool, entries_by_key, AdvanceOkPost, AdvancePre, MergeState, MergePost}
 use proofs.Common.{merge_state, Cmp, Key, both, with_side, HaveEqualKeys, HasOnlyLeastKey, IsDisorderDecided}
-use proofs.Common.{IsReaderOf, AreValidCursors, StartOkPost, merge_inputs, ClearFourSlotsPost, suc, ◌-◌, append-nil}
+use proofs.Common.{IsReaderOf, AreValidCursors, StartOkPost, merge_inputs, ClearFourSlotsPost, suc, append-nil}
 use proofs.Common.{entries, Bool}
 use proofs.MergeLemmas.Step.{BetweenSteps, between_next, advance_pre, reads_less, EndsIfFails, CursorsInvariant}
 use proofs.MergeLemmas.Step.{LoopInvariant, advance_ok, goes_merging, passing_now, runs_on, slots_of}
@@ -121,13 +121,13 @@ module _ {job : Comm} {cmp : Cmp} {key : Side → Key} {old now : MergeState} {o
     pub alone_decreases : {one2 two2 : Sorted} {reader : Reader} {after : Slots} {new : Output}
         → Advances s one2 two2 reader after new → reads_ahead (with_side s reader now.reader) one2 two2 < reads_ahead
         now.reader one two
-    alone_decreases h = reads_less between s h.continues step.status_is h.came
+    alone_decreases h = search (rules, reads_less)
 
     module _ {new : Output} {tabs : List ℕ} (led : tabs ≡ tabs_of job s) (pushed : PushEffect now.out new
         (unlines (now.reader s).terminator (column_entries (hidden_of job s) tabs 1 (head s)))) where
       wrote_line : PushEffect now.out new (unlines (now.reader s).terminator (entries_by_key tool all_keys
           (alone s (head s))))
-      wrote_line = rw (entries_alone job cmp key s (head s) (whole_line_keys s (head s))) (rw led at pushed)
+      wrote_line = search (rules, entries_alone)
 
       pub alone_continues : {one2 two2 : Sorted} {reader : Reader} {after : Slots}
           → Advances s one2 two2 reader after new
@@ -142,8 +142,7 @@ module _ {job : Comm} {cmp : Cmp} {key : Side → Key} {old now : MergeState} {o
       }
 
       pub alone_fails : EndsIfFails tool old now s (both one two s) new
-      alone_fails =
-          alone_breaks w lines_before (is_line_by_line job cmp key) step between.clean merge_invariant wrote_line
+      alone_fails = search (rules, alone_breaks, lines_before, is_line_by_line, wrote_line)
 
   -- a step for a line of both inputs, after the first input advanced: the second one is still at the line
   pub second_advance_pre : HaveEqualKeys cmp key (both one two) now.store
@@ -225,4 +224,4 @@ module _ {job : Comm} {cmp : Cmp} {key : Side → Key} {old now : MergeState} {o
 
     pub disordered : {s : Side} {n : ℕ} → IsDisorderDecided cmp key (both one two) now.store s n
         → MergePost tool old (state_by_side now.reader now.out after) (Err (faults.Disorder s n))
-    disordered step = ends_fallen w lines_before merge_invariant between.clean clear step
+    disordered step = search (rules, ends_fallen, lines_before)

@@ -4,7 +4,7 @@
 -- after a field are the bytes after it.
 use Rattle.std.proofs.lemmas.Bool.{false_from_ne_true}
 use Rattle.ptmerge.proofs
-use proofs.Common.{nil_from_length, drop_more, length-drop, length-append, ◌≡◌, ℕ, suc, ◌+◌, ◌-◌, ◌≤◌, Bool, true}
+use proofs.Common.{drop_more, length-drop, length-append, ◌≡◌, ℕ, suc, ◌+◌, ◌-◌, ◌≤◌, Bool, true}
 use proofs.Common.{false, List, [], ◌∷◌, Option, None, Some, length, drop, get_or, refl, sym, ap, arith, zero, ◌<◌}
 use proofs.Common.{◌==◌, cond, ◌++◌, take, append_assoc, position, IfSome, MatchOption, filter, is_some, slice_split}
 use proofs.Common.{nat_tests, drop-drop, take-append-drop, position_or_len_is, IsFirstByte, nth_field, is_nonempty}
@@ -13,6 +13,7 @@ use proofs.Common.{entry_with_list, remaining_fields, IsKeySpan, IsFieldFound, i
 use proofs.Common.{remove, unwrap_or, onto_first, join_with_byte, eqb-true, append-nil, flat_map-append, Join}
 use proofs.Common.{output_separator, entry, join_fields, or_filler, field_named, other_fields, IsCanonical}
 use proofs.Common.{is_single_spaced, with_prefix, ◌%◌, ◌^◌, eqb, replicate, bit_or, length-map}
+use proofs.JoinLemmas.PartialWrite.{first_fails, push_is_write}
 use Rattle.std.proofs.lemmas.List.{length-take-le}
 use Rattle.std.proofs.lemmas.List.Quantifiers.{position-Some}
 use Rattle.ptlangs.specs.declared.outlist.OutField.{OutField}
@@ -21,6 +22,7 @@ use Rattle.std.proofs.lemmas.Simd.{length-chunk, mask_l-mod}
 use Rattle.std.specs.List.{slice_range}
 use Rattle.std.specs.Simd.Lanes.{chunk, mask_l, top, zip2}
 use Rattle.std.proofs.lemmas.Grind.{common_steps}
+use Rattle.std.proofs.Common.{rules}
 
 -- ---- the end of a field
 
@@ -34,8 +36,7 @@ first_is_position test bytes (Some at) (range, found) = grind (arith, position_o
 
 -- no fields are left after more fields than there are
 pub none_past : (fs : Lines) (i n : ℕ) → drop i fs ≡ [] → i ≤ n → drop n fs ≡ []
-none_past fs i n none le =
-    grind (arith, drop-drop (n - i) i fs)
+none_past fs i n none le = grind (arith, drop-drop (n - i) i fs)
 
 pub drop_next : (fs more : Lines) (f : List ℕ) (i : ℕ) → drop i fs ≡ f ∷ more → drop (i + 1) fs ≡ more
 drop_next fs more f i some = rw (← drop-drop 1 i fs, some) refl
@@ -108,7 +109,7 @@ first_piece_span = grind (arith, front_span)
 -- ---- an empty word is skipped
 
 empty_word : (field : List ℕ) → (length field == 0) ≡ true → is_nonempty field ≡ false
-empty_word field empty = rw (nil_from_length field (eqb-true (length field) 0 empty)) refl
+empty_word field empty = search rules
 
 pub skip_empty_word : (separator : Option ℕ) (bytes field : List ℕ) (remainder : Option (List ℕ))
     → is_some separator ≡ false → (length field == 0) ≡ true
@@ -122,7 +123,7 @@ skip_empty_word = grind (arith, empty_word)
 -- a separator and then the line is each of its fields after a separator
 pub prefixed_fields : (c : ℕ) (bytes : List ℕ) → with_prefix c (slice_split (λ b. b == c) bytes) ≡ c ∷ bytes
 prefixed_fields c [] = refl
-prefixed_fields c (x ∷ xs) = let ih = prefixed_fields c xs in grind (arith, eqb-true x c)
+prefixed_fields c (x ∷ xs) = search (rules, prefixed_fields c xs)
 
 join_is_prefixed : (byte : ℕ) (f : List ℕ) (fs : Lines) → join_with_byte byte (f ∷ fs) ≡ f ++ with_prefix byte fs
 join_is_prefixed byte f [] = sym (append-nil f)
@@ -135,7 +136,7 @@ others_none byte n = grind arith
 
 pub others_more : (count i : ℕ) {fs more : Lines} {f : List ℕ} → i < count → fs ≡ f ∷ more
     → remove fs (count - i) ≡ f ∷ remove more (count - (i + 1))
-others_more count i low is = let at : count - i ≡ suc _ = omega arith in rw (is, at) refl
+others_more count i low is = search rules
 
 pub others_rest : (n : ℕ) {fs more : Lines} {f : List ℕ} → n ≡ 0 → fs ≡ f ∷ more → remove fs n ≡ more
 others_rest n last is = rw (is, last) refl
@@ -216,7 +217,7 @@ module _ (job : Join) (key : List ℕ) (none : job.list ≡ None) where
   -- a canonical line, whose field with this number is the key
   canonical_is : {n : ℕ} {line : List ℕ} → IsCanonical job.separator n line → nth_field n (of line) ≡ key
       → line ≡ key ++ with_prefix prefix (other_fields n (of line))
-  canonical_is {n} {line} w keyed = line_is prefix n (of line) line key w.is w.first keyed
+  canonical_is {n} {line} w keyed = search (rules, line_is)
 
   -- the output line for a pair of canonical lines
   pub pair_is : {one two : List ℕ} (end : ℕ) → IsCanonical job.separator job.field1 one
@@ -336,4 +337,16 @@ around_is separator number line (Some span) f even =
           (omega (arith, length-drop span.start line)),
     ) in
     let cut = rw long at (cut_before c before (word ++ rest) line line_is rest) in
-    rw (remove_at fs (number - 1) word f.more f.is, flat_map-append, f.after even) cut
+    grind (arith, common_steps, remove_at)
+
+-- ---- what the functions of `join` name on themselves
+
+pub ruleset first_piece_steps = (split_whole, split_around, piece_at)
+
+pub ruleset remaining_steps = (none_past, drop_next, remaining_after)
+
+pub ruleset other_fields_steps = (around_is, between_is, push_is_write)
+
+pub ruleset listed_entry_steps = (first_fails, entry_listed)
+
+pub ruleset plain_entry_steps = (first_fails, entry_plain)

@@ -4,12 +4,13 @@
 use Rattle.ptmerge.proofs
 use proofs.Common.{◌≡◌, ⊎_elim, inl, ℕ, ◌+◌, ◌-◌, ◌≤◌, ◌<◌, suc, true, false, length-drop, List, [], ◌∷◌, ◌++◌}
 use proofs.Common.{length, map, drop, get_or, set, max, refl, ap, ◌∙◌, arith, ◌*◌, Option, append_assoc}
-use proofs.Common.{length-append, append-nil, length-set, drop_more, drop-set-add, take_more, drop-set-lt, set_at}
+use proofs.Common.{length-append, length-set, drop_more, drop-set-add, take_more, drop-set-lt, set_at}
 use proofs.Common.{take_at, sum_by_push, sum_by-append, sum_by-cons, Slots, line, total_bytes, with_line, with_denied}
 use proofs.Common.{unlines, max_length, total_bytes_set, Join, ClearGroupPost, EnsureSlotPost, CopyToGroupErrPost}
 use proofs.Common.{group, CopyToGroupPost, entry, join_fields, pair_entries, max_over_keys, max_group_bytes}
 use proofs.Common.{max_group_lines, Lines, lines_with_key, Reader, Side, First, Second, Sorted, Cmp, Key, HasSlots}
 use proofs.Common.{with_side}
+use proofs.JoinLemmas.PartialWrite.{partial_starts}
 use proofs.MergeLemmas.Slots.{line_other, HasLines, StoreOfLines, has_lines_total, set_line, put_each, put_same}
 use proofs.MergeLemmas.Orders.{EachKey, same_bytes}
 use proofs.MergeLemmas.Exits.{SideAfterNext}
@@ -46,7 +47,7 @@ pair_of job k first second = entry job k (join_fields job.separator first) (join
 
 pub pairs_text : (job : Join) (end : ℕ) (x k : List ℕ) (g : Lines) → job.pairs ≡ true
     → unlines end (pair_entries job k (x ∷ []) g) ≡ unlines end (map (pair_of job k x) g)
-pairs_text job end x k g asked = rw (asked, append-nil (map (pair_of job k x) g)) refl
+pairs_text job end x k g asked = search (rules, pair_of)
 
 -- ---- emptying the group
 
@@ -260,7 +261,8 @@ module _ {most : GroupBounds} {before store : Slots} {ls : Side → Lines} {g : 
   pub group_store_copied : {after : Slots} {from to : ℕ} → to ≡ 4 + length g → from < 4
       → CopyToGroupPost store after from to → {y : List ℕ} → line store from ≡ y
       → ((l : Lines) → InGroup most (g ++ y ∷ []) (ls Second ++ l)) → CopiedLine after y
-  group_store_copied = grind (arith, ensured_slot, made_same, kept)
+  group_store_copied {after} {from} {to} at low e {y} is largest = let w = ensured_slot store e.made to e.grown in
+      rw (e.copied, made_same w from low, is) (kept w y at e.grown.within largest)
 
   -- the lines of the group are in its slots
   pub kept_line : (slot : ℕ) → 4 ≤ slot → slot < 4 + length g → line store slot ≡ get_or g (slot - 4) []
@@ -280,9 +282,9 @@ module _ {most : GroupBounds} {before store : Slots} {ls : Side → Lines} {g : 
       (arith, ap total_bytes (group_is at), ap total_bytes k.split, sum_by-append length g k.tail)
       in
       let four : 4 ≤ length after.lines = omega arith in
-      let lines = same_lines store.lines after.lines (λ side. max_length (ls side)) (total_bytes g) 0 k.lines four
+      let lines = same_lines _ _ (λ side. max_length (ls side)) (total_bytes g) 0 k.lines four
       (λ i low. c.others i (inl low)) none in
-      let total = has_lines_total store.lines (λ side. max_length (ls side)) (total_bytes g) k.lines in
+      let total = has_lines_total _ (λ side. max_length (ls side)) (total_bytes g) k.lines in
       record {
         tail = drop 4 after.lines;
         split = refl;
@@ -293,3 +295,5 @@ module _ {most : GroupBounds} {before store : Slots} {ls : Side → Lines} {g : 
         four = four;
         denied = c.denied ∙ k.denied;
       }
+
+pub ruleset pair_steps = (partial_starts, pairs_text)

@@ -298,7 +298,7 @@ module _ {job : Join} {cmp : Cmp} {key : Side → Key} {old : MergeState} {phase
             k = k;
             g = [];
             kept = [];
-            copied = sym (cond_of_empty job.pairs);
+            copied = sym (cond_of_empty _);
             q = record {
               ls = r.ls;
               p = r.p;
@@ -392,7 +392,7 @@ module _ {job : Join} {cmp : Cmp} {key : Side → Key} {old : MergeState} {phase
               rw (same one.current_slot (low_slot First one (slots First)).current, stays) (a.heads First).is
 
           stays : line after two2.current_slot ≡ line made two2.current_slot
-          stays = same two2.current_slot (low_slot Second two2 (next_slots at_second comes Second)).current
+          stays = same _ (low_slot Second two2 (next_slots at_second comes Second)).current
 
           pairs_by : {to : ℕ} {kept : Lines} → GroupState call (later after) cursors to a.k (both [] (a.g ++ y ∷ []))
               kept → two2.same ≡ false
@@ -447,7 +447,7 @@ module _ {job : Join} {cmp : Cmp} {key : Side → Key} {old : MergeState} {phase
         module _ {after : Slots} (keeps : call.keeps_groups ≡ true)
             (kept : CopyToGroupPost made after two2.previous_slot end) where
           kept_too : CopiedLine on_second.group.keeps after y
-          kept_too = group_store_copied on_second.group.keeps
+          kept_too = group_store_copied _
               on_second.group.at (low_slot Second two2 (next_slots at_second comes Second)).previous kept
               (last_stays at_second comes)
               (λ l. rw (all_copied keeps) (call.laws.largest keeps _ _ (inside l)))

@@ -3,12 +3,13 @@
 -- fails leaves a prefix, and the last call completes them.
 use Rattle.ptmerge.proofs
 use proofs.Common.{◌≡◌, ⊎_elim, false, ℕ, List, ◌++◌, Result, Ok, Err, IsErrAnd, true, Output, PushPost, PushEffect}
-use proofs.Common.{push_trans, WriteBytesPost, [], ◌∷◌, refl, sym, ◌∙◌, append_assoc, append-nil, push_past_failure}
+use proofs.Common.{push_trans, WriteBytesPost, [], ◌∷◌, refl, append_assoc, push_past_failure, arith}
 use proofs.Common.{push_nothing}
 use Rattle.std.proofs.lemmas.Bool.{cases_Bool}
 use Rattle.ptlines.proofs.Push.{push_after_failure}
 use Rattle.std.specs.List.{flat_map}
-use Rattle.std.proofs.Common.{arith}
+use Rattle.std.proofs.Common.{rules}
+use Rattle.std.proofs.lemmas.Grind.{common_steps}
 
 pub wrote_then : {a b c : Output} {xs ys : List ℕ} → (a.write_failed ≡ false → b.write_failed ≡ false)
     → PushEffect a b xs → PushEffect b c ys → PushEffect a c (xs ++ ys)
@@ -19,17 +20,17 @@ wrote_then {a} {b} {c} {xs} {ys} clean p q =
 pub then_pushes : {E : Type 0} {a b c : Output} {xs ys : List ℕ} {r : Result (Unit {0}) E}
     → (a.write_failed ≡ false → b.write_failed ≡ false) → PushEffect a b xs → PushPost b c ys r
     → PushPost a c (xs ++ ys) r
-then_pushes clean p q = record { wrote = wrote_then clean p q.wrote; clean = q.clean; fault = q.fault }
+then_pushes clean p q = search (rules, wrote_then)
 
 -- a push is a write of its bytes
 pub push_is_write : {E : Type 0} {a b : Output} {xs : List ℕ} {r : Result (Unit {0}) E} → PushPost a b xs r
     → WriteBytesPost a b xs r
-push_is_write p = record { wrote = p.wrote; clean = λ _. p.clean; fault = p.fault }
+push_is_write p = search rules
 
 -- the fault of a push is the fault of the call
 pub push_fails : {E : Type 0} {a b : Output} {xs : List ℕ} {r : Result (Unit {0}) E} (P : E → Type 0) → IsErrAnd r P
     → b.write_failed ≡ true → PushEffect a b xs → PushPost a b xs r
-push_fails {r = Err e} P err_is fault wrote = record { wrote = wrote; clean = tt; fault = fault }
+push_fails {r = Err e} P err_is fault wrote = search rules
 push_fails {r = Ok u} P err_is fault wrote = absurd err_is
 
 -- of the bytes `all`, the bytes `left` are still to be written
@@ -40,7 +41,7 @@ pub record PartialWrite (was is : Output) (all left : List ℕ) : Type 0 where
   pub clean : was.write_failed ≡ false → is.write_failed ≡ false
 
 pub partial_starts : {was : Output} {all left : List ℕ} → all ≡ left → PartialWrite was was all left
-partial_starts {was} is = record { done = []; split = is; wrote = push_nothing was; clean = λ fine. fine }
+partial_starts {was} is = search (rules, push_nothing)
 
 -- the first call succeeded
 pub partial_first : {was is : Output} {all bytes left : List ℕ} → all ≡ bytes ++ left → PushEffect was is bytes
@@ -62,7 +63,7 @@ module _ {E : Type 0} {r : Result (Unit {0}) E} (P : E → Type 0) (err_is : IsE
 
 pub partial_more : {was is new : Output} {all bytes now left : List ℕ} → now ≡ bytes ++ left
     → PartialWrite was is all now → PushEffect is new bytes → new.write_failed ≡ false → PartialWrite was new all left
-partial_more {left = left} e a wrote clean = partial_first (rw e at a.split ∙ sym (append_assoc a.done _ left))
+partial_more {left = left} e a wrote clean = partial_first (grind (arith, common_steps))
     (wrote_then a.clean a.wrote wrote) clean
 
 -- the last call succeeded or failed
@@ -87,4 +88,4 @@ module _ {X : Type 0} (f : X → List ℕ) {xs more : List X} {x : X} (is : xs �
 
 pub each_done : {E : Type 0} {X : Type 0} (f : X → List ℕ) {xs : List X} → xs ≡ [] → {was is : Output} {all : List ℕ}
     → PartialWrite was is all (flat_map f xs) → WriteBytesPost {E = E} was is all (Ok tt)
-each_done f e a = record { wrote = rw (a.split, e, append-nil) a.wrote; clean = a.clean; fault = tt }
+each_done f e a = search rules

@@ -40,8 +40,7 @@ and_bits b c x y = grind (arith, halves b x, halves c y, and_step (bit b + 2 * x
 or_prefix : (n : ℕ) (bits : List Bool) → bit_or (mask_l (take n bits)) (mask_l bits) ≡ mask_l bits
 or_prefix zero bits = or_zero_l (mask_l bits)
 or_prefix (suc n) [] = or_zero_l 0
-or_prefix (suc n) (b ∷ bits) =
-    grind (arith, or_bits b b (mask_l (take n bits)) (mask_l bits), or_prefix n bits)
+or_prefix (suc n) (b ∷ bits) = grind (arith, or_bits b b (mask_l (take n bits)) (mask_l bits), or_prefix n bits)
 
 or_ends : (last n : ℕ) (bits : List Bool) → last ≤ n
     → bit_or (mask_l (take n bits)) (2 ^ last * mask_l (drop last bits)) ≡ mask_l bits
@@ -52,8 +51,7 @@ or_ends (suc last) (suc n) [] le = grind (arith, or_zero_l)
 or_ends (suc last) (suc n) (b ∷ bits) le =
     let double : 2 ^ suc last ≡ 2 * 2 ^ last = omega (arith, two-pow-succ last) in
     let twice : 2 ^ suc last * mask_l (drop last bits) ≡ bit false + 2 * (2 ^ last * mask_l _) =
-    ap (λ (p : ℕ). p * mask_l (drop last bits)) double ∙ mul_assoc 2 (2 ^ last) (mask_l (drop last bits))
-    ∙ omega arith in
+    search (rules, mul_assoc) in
     ap (bit_or (mask_l (b ∷ take n bits))) twice ∙ or_bits b false (mask_l (take n bits))
     (2 ^ last * mask_l (drop last bits)) ∙ grind (arith, or_ends last n bits (omega arith))
 
@@ -88,11 +86,7 @@ no_misplaced : (blank : Bool) (bytes : List ℕ)
     → eqb (bit_or (mask_l (map (is_byte 9) bytes)) (bit_and (mask_l (map is_blank bytes))
     (bit blank + 2 * mask_l (map is_blank bytes)))) 0 ≡ has_single_spaces blank bytes
 no_misplaced blank [] = cc
-no_misplaced blank (b ∷ bytes) =
-    let m = mask_l (map is_blank bytes) in
-    let t = mask_l (map (is_byte 9) bytes) in
-    rw (and_bits (is_blank b) blank m (bit (is_blank b) + 2 * m), or_bits (b == 9), zero_bits)
-    (let ih = no_misplaced (is_blank b) bytes in grind arith)
+no_misplaced blank (b ∷ bytes) = search (rules, and_bits, or_bits, zero_bits, no_misplaced (is_blank b) bytes)
 
 pub single_spaces_is : (any before : ℕ) (bytes : List ℕ) → before ≤ 1 → length bytes ≤ 64
     → any ≡ mask_l (map is_blank bytes)
@@ -115,11 +109,10 @@ single_spaces_is any before bytes low few is =
         grind (arith, of_bit, or_bits false (before == 1) half 0, or_zero_r half)
 
     and_low : (x y : ℕ) → x < 2 ^ 64 → bit_and x (y % 2 ^ 64) ≡ bit_and x y
-    and_low x y low =
-        grind (arith, and_le_l x y, and_mod x y 64)
+    and_low x y low = grind (arith, and_le_l x y, and_mod x y 64)
 
 power_fits : (v : List ℕ) → length v < 64 → 1 * 2 ^ length v % 2 ^ 64 ≡ 1 * 2 ^ length v
-power_fits v short = mod-eq_of_lt (omega (arith, pow-lt {j = 64} short))
+power_fits v short = search (rules, mod-eq_of_lt, pow-lt)
 
 -- a line that ends after these bytes, as if a space followed it
 pub with_end : (bytes : List ℕ) (any tabs : ℕ) → length bytes < 64 → any ≡ mask_l (map is_blank bytes)
@@ -189,7 +182,7 @@ is_word b = not (is_blank b)
 
 pub word_mask : (bytes : List ℕ) → mask_l (map is_word bytes) + mask_l (map is_blank bytes) + 1 ≡ 2 ^ length bytes
 word_mask [] = refl
-word_mask (b ∷ bytes) = let ih = word_mask bytes in grind (arith, two-pow-succ (length bytes))
+word_mask (b ∷ bytes) = search (rules, two-pow-succ, word_mask bytes)
 
 -- ---- the first run of set bits
 
@@ -239,8 +232,7 @@ and_ones (b ∷ bits) =
 
 and_run : (bits : List Bool) → bit_and (mask_l bits) (mask_l (after_run bits)) ≡ mask_l (clear_run bits)
 and_run [] = and_zero_l 1
-and_run (b ∷ bits) =
-    grind (arith, and_run bits, and_ones bits, and_bits b false (mask_l bits))
+and_run (b ∷ bits) = grind (arith, and_run bits, and_ones bits, and_bits b false (mask_l bits))
 
 length-after_ones : (bits : List Bool) → length (after_ones bits) ≤ suc (length bits)
 length-after_ones [] = omega arith
@@ -309,8 +301,7 @@ byte_before : {at to start end : ℕ} {v : List ℕ} {cleared : List Bool} (b : 
     → ((blank : Bool) → is_single_spaced blank (drop to (b ∷ v)) ≡ true
     → (left : Bool) × (is_single_spaced left (drop at v) ≡ true))
     → WordAt to (b ∷ v) (1 + start) (1 + end) (false ∷ cleared)
-byte_before {start = start} {end} b w same spaced = rw (one_more start, one_more end)
-    (let size : suc end - suc start ≡ end - start = omega arith in grind (arith, size, same, spaced))
+byte_before {start = start} {end} b w same spaced = search (rules, one_more)
 
 word_at : (at : ℕ) (v : List ℕ) → at ≤ length v → 0 < mask_l (from at v)
     → WordAt at v (prefix_len not (from at v)) (prefix_len not (after_run (from at v))) (clear_run (from at v))
@@ -343,7 +334,7 @@ no_words : (at : ℕ) (v : List ℕ) → mask_l (from at v) ≡ 0 → join_field
 no_words zero [] none = refl
 no_words (suc at) [] none = refl
 no_words (suc at) (b ∷ v) none = no_words at v (omega (arith, none))
-no_words zero (b ∷ v) none = let ih = no_words 0 v in grind (arith, none)
+no_words zero (b ∷ v) none = search (rules, no_words 0 v)
 
 -- `passed` words of the line have been passed, and `words` is the mask of those from the index `at` on
 pub record WordsLeft (line : List ℕ) (passed words : ℕ) : Type 0 where
@@ -377,7 +368,7 @@ module _ {line : List ℕ} {passed words : ℕ} (short : length line < 64) (left
 
   module _ (some : words ≢ 0) where
     some_bits : 0 < mask_l bits
-    some_bits = omega (arith, λ (none : mask_l bits ≡ 0). some (left.mask ∙ none))
+    some_bits = search rules
 
     first_word : WordAt left.at line (prefix_len not bits) (prefix_len not (after_run bits)) (clear_run bits)
     first_word = word_at left.at line left.within some_bits
@@ -416,3 +407,5 @@ module _ {line : List ℕ} {passed words : ℕ} (short : length line < 64) (left
           within = w.high;
           after = λ s. (w.spaced (left.spaced s).0 (left.spaced s).1).1;
         })
+
+pub ruleset word_steps = (any_fits, words_start, word_passed, none_left, word_found)

@@ -346,7 +346,7 @@ module _ {tool : MergeTool} {old : MergeState} (w : IsOpenMerge tool old) (new :
         → unlines tool.terminator done ≡ merge_output tool texts → merged_entries tool (lines_of tool texts) ≡ done
     none_missing texts agree same =
         let (rest, is) = first (lines_of tool texts) (continues texts agree) in
-        cc (is, append-nil done, no_lines_left tool.terminator done rest (same ∙ ap (unlines tool.terminator) is))
+        cc (is, append-nil done, no_lines_left _ done rest (same ∙ ap (unlines tool.terminator) is))
 
     future : (side : Side) → LinesToCome tool side (known_lines tool.terminator (given side)) (p side) (tail side)
         (bound side)

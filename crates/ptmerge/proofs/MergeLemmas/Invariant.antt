@@ -339,7 +339,7 @@ write_least_run {tool} o k q f {b} {p} {was} {is} {new} front all none law clean
     λ (side : Side). rw append-nil at
     ((front side).may_follow [] (may_follow_none tool.cmp (tool.key side) (b side))) in
     let texts = ap (unlines tool.terminator) (m.splits.split all_keys f nothing)
-    ∙ unlines-append tool.terminator (entries_by_key tool all_keys p) (entries_by_key tool all_keys f) in
+    ∙ unlines-append _ (entries_by_key tool all_keys p) (entries_by_key tool all_keys f) in
     let under : (of side : Side) → EachKey (IsUnder tool.cmp (b of)) (tool.key side) (p side ++ f side) =
     λ of side. EachKey-append _ (tool.key side) _ _ (m.under of side)
     (EachKey-weaker _ _ (λ y e. rw e (front of).under) _ _ (front side).own) in

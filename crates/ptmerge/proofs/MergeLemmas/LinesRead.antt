@@ -56,7 +56,7 @@ HasBegun now ls = IsDone now ⊎ (0 < length ls)
 -- a part of a line is at most one line
 pub one_line_at_most : (end : ℕ) (piece : List ℕ) → IsLine end piece → length (lines end piece) ≤ 1
 one_line_at_most end [] free = omega arith
-one_line_at_most end (b ∷ piece) free = rw (lines_of_last end (b ∷ piece) free (omega arith)) (omega arith)
+one_line_at_most end (b ∷ piece) free = grind (arith, common_steps, lines_of_last)
 
 pub lines_read_more : {end : ℕ} {old now new : Reader} {ls : List (List ℕ)} {before after : Slots} {slot : ℕ}
     → LinesRead end old now ls → (e : FillLine now new before after slot) → LinesRead end old new (ls ++ e.line ∷ [])

@@ -2,13 +2,14 @@
 -- followed by the entries of the lines with other keys.
 use Rattle.ptmerge.proofs
 use proofs.Common.{◌≡◌, ◌⊎◌, inr, ℕ, List, Bool, true, false, refl, ◌∙◌, ap, arith, bytes_eq, Ordering, Less, Equal}
-use proofs.Common.{Greater, is_eq, is_gt, is_le, ordering_reverse, bytes_decides, back_total, nat_list_cmp_total}
+use proofs.Common.{Greater, is_eq, is_gt, is_le, bytes_decides, back_total, nat_list_cmp_total}
 use proofs.Common.{tied_itself, upto, Cmp, byte_cmp, line_cmp, ◌<◌, length, get_or, suc, zero, [], ◌∷◌, ◌++◌, cond}
 use proofs.Common.{map, append_assoc, append-nil, filter, flat_map, Side, First, Second, Lines, MergeTool, insert_key}
-use proofs.Common.{distinct_keys, keys, lines_with_key, entries_of_key, entries_by_key, Key, map-append}
+use proofs.Common.{distinct_keys, keys, lines_with_key, entries_of_key, entries_by_key, Key}
 use Rattle.std.specs.Cmp.{IsTotalOrder}
 use Rattle.ptmerge.specs.OrderLaws.{reversed_same_bytes, byte_cmp_equal}
 use Rattle.std.proofs.Common.{rules}
+use Rattle.std.proofs.lemmas.Grind.{common_steps}
 
 pub record IsKeyOrder (cmp : Cmp) : Type 0 where
   pub total : IsTotalOrder cmp
@@ -27,7 +28,7 @@ is_greater r h = grind arith
 
 -- equal keys have the same bytes
 pub same_bytes : {a b : List ℕ} → a ≡ b → bytes_eq a b ≡ true
-same_bytes {a} {b} e = let (_, same) = bytes_decides a b in same e
+same_bytes {a} {b} e = search rules
 
 pub not_same : (a b : List ℕ) → (a ≡ b → ⊥) → bytes_eq a b ≡ false
 not_same a b n = grind (arith, bytes_decides a b)
@@ -38,7 +39,7 @@ module _ (cmp : Cmp) (o : IsKeyOrder cmp) where
 
   -- keys that differ in the order differ in their bytes
   not_equal : (a b : List ℕ) → is_eq (cmp a b) ≡ false → bytes_eq a b ≡ false
-  not_equal a b n = not_same a b (λ e. cc (tied_itself o.total a))
+  not_equal a b n = search (rules, not_same)
 
   pub equal_is : (a b : List ℕ) → is_eq (cmp a b) ≡ bytes_eq a b
   equal_is a b = grind (arith, not_same a b, tied_itself o.total a, o.exact a b, bytes_decides a b)
@@ -47,10 +48,10 @@ module _ (cmp : Cmp) (o : IsKeyOrder cmp) where
   at_most_trans a b c p q = upto o.total a b c p q
 
   pub greater_flips : (a b : List ℕ) → cmp a b ≡ Greater → cmp b a ≡ Less
-  greater_flips a b g = o.total.antisymm b a ∙ ap ordering_reverse g
+  greater_flips a b g = search rules
 
   pub less_flips : (a b : List ℕ) → cmp a b ≡ Less → cmp b a ≡ Greater
-  less_flips a b l = o.total.antisymm b a ∙ ap ordering_reverse l
+  less_flips a b l = search rules
 
   pub above_at_most : (k y : List ℕ) → cmp y k ≡ Greater → AtMost cmp k y
   above_at_most k y g = ap is_gt (greater_flips y k g)
@@ -113,11 +114,11 @@ Each-append P (x ∷ xs) ys (here, more) h = (here, Each-append P xs ys more h)
 
 pub Each-parts : (P : List ℕ → Type 0) (xs ys : Lines) → Each P (xs ++ ys) → Each P xs × Each P ys
 Each-parts P [] ys e = (tt, e)
-Each-parts P (x ∷ xs) ys (here, more) = let (front, rest) = Each-parts P xs ys more in ((here, front), rest)
+Each-parts P (x ∷ xs) ys (here, more) = search (rules, Each-parts P xs ys more)
 
 pub EachKey-append : (P : List ℕ → Type 0) (key : Key) (xs ys : Lines) → EachKey P key xs → EachKey P key ys
     → EachKey P key (xs ++ ys)
-EachKey-append P key xs ys e h = rw (map-append key xs ys) (Each-append P _ _ e h)
+EachKey-append P key xs ys e h = grind (arith, common_steps)
 
 pub Each-insert : (cmp : Cmp) (P : List ℕ → Type 0) (k : List ℕ) (xs : Lines) → P k → Each P xs
     → Each P (insert_key cmp k xs)

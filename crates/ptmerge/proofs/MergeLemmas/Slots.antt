@@ -1,8 +1,8 @@
 -- Lines in the slots of a store. A slot changes only if its own input reads, so two lines of each input, none longer
 -- than its longest line, bound the bytes stored.
 use Rattle.ptmerge.proofs
-use proofs.Common.{◌≡◌, ◌≢◌, ℕ, zero, suc, ◌+◌, ◌*◌, ◌≤◌, false, List, [], ◌∷◌, ◌++◌, length, max, refl, sym, arith}
-use proofs.Common.{get_or, set, get_or-set_other, Slots, line, total_bytes, with_new_slot, with_line, Side, First}
+use proofs.Common.{◌≡◌, ◌≢◌, ℕ, zero, suc, ◌+◌, ◌*◌, ◌≤◌, false, List, [], ◌∷◌, ◌++◌, length, max, refl, arith}
+use proofs.Common.{get_or, set, Slots, line, total_bytes, with_new_slot, with_line, Side, First}
 use proofs.Common.{Second, Sorted, HasSlots, EnsureFourSlotsPost, ClearFourSlotsPost, Bool, both, with_side, other}
 use proofs.Common.{with_input, both_sides}
 use Rattle.std.proofs.Common.{rules}
@@ -21,7 +21,7 @@ module _ {X : Type 0} (P : Side → X → Type 0) where
   -- one function of the side, changed at one side
   pub put_each : (s : Side) (x : X) (f : Side → X) → P s x → ((side : Side) → P side (f side)) → (side : Side)
       → P side (with_side s x f side)
-  put_each s x f p q = put_both {Y = Unit {0}} (λ side z u. P side z) s x f tt (λ side. tt) p (q (other s))
+  put_each s x f p q = search (rules, put_both)
 
 pub put_same : {X : Type 0} (s : Side) (x : X) (f : Side → X) → with_side s x f s ≡ x
 put_same s x f = grind arith
@@ -44,7 +44,7 @@ side_case Q s p q = grind (arith, put_both)
 -- ---- the slots
 
 pub line_other : (s : Slots) (a b : ℕ) (bytes : List ℕ) → a ≢ b → line (with_line s a bytes) b ≡ line s b
-line_other s a b bytes n = get_or-set_other s.lines a b bytes [] (λ e. n (sym e))
+line_other s a b bytes n = search rules
 
 added_same : (xs : List (List ℕ)) (i : ℕ) → get_or (xs ++ [] ∷ []) i [] ≡ get_or xs i []
 added_same [] i = grind arith

@@ -13,7 +13,7 @@ use proofs.Common.{Write, MergeRunPre, merge_state, WriteFaultPost, both, AreVal
 use proofs.Common.{push_trans, cond, Ordering, is_eq, is_gt, CopyToGroupPost, same_key_at, status_at, ◌<◌, Result}
 use proofs.Common.{ClearFourSlotsPost, Ok, Bool, terminator, initial_cursor, MergeInputs, StartErrPost, StartOkPost}
 use proofs.Common.{StartFirstPost, CallOutcome, AllPushed, Received, both_sides, reads_nothing, merge_engine}
-use proofs.Common.{merge_end, IsErrAnd, err_from_is_err_and, HasOnlyLeastKey}
+use proofs.Common.{merge_end, IsErrAnd, HasOnlyLeastKey}
 use proofs.MergeLemmas.Invariant.{output_of, Bound, AfterDisorder, NothingMore, MayFollow, MayDisorder, IsUnder}
 use proofs.MergeLemmas.Invariant.{LagInvariant, MergeInvariant, IsExactStop, line_is_least_run, lag_invariant_starts}
 use proofs.MergeLemmas.Invariant.{not_below, write_least_run, bound_changes, all_keys, none_wanted, NoBound}
@@ -25,7 +25,7 @@ use proofs.MergeLemmas.Slots.{has_lines_total, store_with_line, line_added, HasL
 use proofs.MergeLemmas.Exits.{SideInvariant, MatchesStatus, SideAfterNext, IsAtCurrentLine, next_invariant}
 use proofs.MergeLemmas.Exits.{at_current_line, side_invariant_kept, IsFailedRead, Fits, state_by_side}
 use proofs.MergeLemmas.Exits.{exit_is_merge_post, read_facts_after_line, reads_left, FirstReads, both_begun}
-use proofs.MergeLemmas.Exits.{ComeFirst, bound_after, HoldsTwoLines, IsOpenMerge, ReadFactsOf, processed_come_first}
+use proofs.MergeLemmas.Exits.{ComeFirst, HoldsTwoLines, IsOpenMerge, ReadFactsOf, processed_come_first}
 use proofs.MergeLemmas.Exits.{exact_output, merge_without_slots, given}
 use proofs.MergeLemmas.LinesRead.{HasBegun, LinesRead, lines_read_none, one_line_at_most}
 use Rattle.ptmerge.specs.declared.faults.MergeFault.TheVariants as faults
@@ -156,8 +156,8 @@ stops_at tool o old now cursor store ls p b sides s n dec l r c f =
     let d : FirstDisorder = record { last_key = previous_key tool.key cursor store s; line = n } in
     let disordered : b s ≡ AfterDisorder d = rw dec.status_is at (sides s).status_is in
     let st = (sides (other s)).status_is in
-    let (above, _) = current_key_is_above _ o _ d.last_key _ _ _ _ _ _ _
-    (reportable_precedes _ o s d.last_key _ _ _ dec.named) st in
+    let (above, _) = current_key_is_above _ o _ _ _ _ _ _ _ _ _
+    (reportable_precedes _ o s _ _ _ _ dec.named) st in
     rw (named_is tool.cmp s (λ side. first_disorder tool.cmp (tool.key side) (l side)) d (rw disordered at (f s))
     (reported_over _ o _ s d _ _ _ _ _ _ _ dec.named st _ (f (other s)))) (
       none_wanted tool (λ k. is_le (tool.cmp k d.last_key)) r
@@ -230,14 +230,14 @@ module _ {tool : MergeTool} {old : MergeState} (w : IsOpenMerge tool old) {now :
       → ComeFirst tool now.reader ls done)
       → EndsIfFails tool old now s cursor out
   advance_fails {out} {done} lag first new after fault e =
-      let f = failed_advance s cursor (now.reader s) new now.store after out fault (a.facts s).sound e in
-      let facts = put_both (ReadFactsOf tool old now.reader ls p b) s new now.reader f.piece (λ side. [])
+      let f = failed_advance s cursor (now.reader s) new _ after out fault (a.facts s).sound e in
+      let facts = put_both (ReadFactsOf tool old now.reader ls p b) s new _ f.piece (λ side. [])
       (grind (arith, a.facts s, f)) (a.facts (other s)) in
       let is = state_by_side (with_side s new now.reader) out after in
       exit_is_merge_post w is facts lag
       (first is (with_side s f.piece (λ side. [])) facts)
       (λ all holds. omega (arith, a.fits f.piece all holds)) (a.order new f.piece f.line)
-      (put_each (λ side (r : Reader). r.failed ≡ true → IsFailedRead r (ls side) (p side)) s new now.reader
+      (put_each (λ side (r : Reader). r.failed ≡ true → IsFailedRead r (ls side) (p side)) s new _
       (grind (arith, f, none_failed_yet s, w.unfailed s))
       (λ side fail. cc (none_failed_yet side, w.unfailed side)))
       (Err fault) (advance_ends new after out _ _ fault e)
@@ -457,7 +457,7 @@ module _ {tool : MergeTool} {old : MergeState} (w : IsOpenMerge tool old) {reade
 
 -- the fault of a call is returned
 pub err_is : {r : Result (Unit {0}) MergeFault} {fault : MergeFault} → IsErrAnd r (λ y. y ≡ fault) → r ≡ Err fault
-err_is {r} returned = let (_, is, same) = err_from_is_err_and r returned in is ∙ ap (λ y. Err y) same
+err_is {r} returned = search rules
 
 -- the remaining work
 abbrev pub reads_ahead : (Side → Reader) → Sorted → Sorted → ℕ
@@ -480,7 +480,7 @@ module _ {key : Side → Key} {now : MergeState} {one two : Sorted} (t : Between
   slots_of = elim [ First ↦ t.valid_cursors.first | Second ↦ t.valid_cursors.second ]
 
   pub advance_pre : (s : Side) → (both one two s).status ≡ Head → AdvancePre key s one two (now.reader s) now.store
-  advance_pre s head = record { valid_cursors = t.valid_cursors; head = head; own_reader = t.own_reader s }
+  advance_pre s head = search rules
 
   -- the input `s` advanced
   module _ (s : Side) {one2 two2 : Sorted} {reader : Reader} {after : Slots} {new : Output}

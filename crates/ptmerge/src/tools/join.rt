@@ -8,7 +8,8 @@ ghost use Rattle.ptlangs.specs.Jobs.{join_job};
 ghost use Rattle.ptlines.specs.Outputs.{PushEffect};
 ghost use Rattle.ptlines.specs.Slots.{line};
 ghost use Rattle.ptlines.specs.Text.{unlines};
-ghost use Rattle.ptmerge.specs.JoinGroup.{SlotsHaveKey, IsGroup, JoinStepPre, JoinLinePre, group_end_slot, group_first_slot, group};
+ghost use Rattle.ptmerge.specs.JoinGroup.{SlotsHaveKey, IsGroup, JoinStepPre, JoinLinePre, group_end_slot};
+ghost use Rattle.ptmerge.specs.JoinGroup.{group_first_slot, group};
 ghost use Rattle.ptmerge.specs.MergeCall.{MergeRunPre, MergePost, MergePre, merge_state};
 ghost use Rattle.ptmerge.specs.declared.key_order.Side.{Side as SideType};
 ghost use Rattle.ptmerge.specs.Join.{unpaired_entry, join_with, join_key, join_tool, pair_entries};
@@ -57,7 +58,7 @@ fn write_unpaired_entry<B: Allocator, W: Sink>(
 // Writes the output line of `line` with each line of the group, which is in the slots from `from` to before `end`.
 // Not inlined, so that the loop of the merge stays short.
 #[inline(never)]
-#[tactic(auto, using(crate::proofs::JoinLemmas::PartialWrite::partial_starts, crate::proofs::JoinLemmas::GroupSlots::pairs_text))]
+#[tactic(auto, using(crate::proofs::JoinLemmas::GroupSlots::pair_steps))]
 fn write_pair_entries<A: Allocator + Copy, B: Allocator, W: Sink>(
     job: &JoinJob<B>,
     key: &[u8],

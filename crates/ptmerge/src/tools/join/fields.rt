@@ -1,10 +1,12 @@
 //! Fields of a line of `join`, between separators (`-t`) or else between blanks. `output` finds fields in a `SplitLine`
 //! or one after another (`next_field`), and `key_order` finds the span of the join field (`field_span`).
 
-ghost use Rattle.std.specs.Prelude.{◌≡◌, ◌∷◌, [], None, Some, ◌<◌, ◌+◌, length, position, option_copied, IfSome, MatchOption};
+ghost use Rattle.std.specs.Prelude.{◌≡◌, ◌∷◌, [], None, Some, ◌<◌, ◌+◌, length, position, option_copied, IfSome};
+ghost use Rattle.std.specs.Prelude.{MatchOption};
 ghost use Rattle.std.specs.List.{slice_split};
 ghost use Rattle.ptmerge.specs.Join.{nth_field};
-ghost use Rattle.ptmerge.specs.JoinFields.{AreBlanks, IsFieldFound, IsFirstPieceEnd, IsFieldIn, IsPiece, is_evenly_separated, is_separator, remaining_fields};
+ghost use Rattle.ptmerge.specs.JoinFields.{AreBlanks, IsFieldFound, IsFirstPieceEnd, IsFieldIn, IsPiece};
+ghost use Rattle.ptmerge.specs.JoinFields.{is_evenly_separated, is_separator, remaining_fields};
 ghost use Rattle.ptmerge.specs.KeySpan.{IsKeySpan};
 
 use crate::key_order::Span;
@@ -26,7 +28,7 @@ fn field_end(separator: Option<u8>, bytes: &[u8]) -> Option<usize>
 // Splits `bytes` at the first separator or blank, which is dropped: the bytes before it and, if there is one, those
 // after it.
 #[inline(always)]
-#[tactic(auto, using(ptlangs::proofs::ListElements::split_whole, ptlangs::proofs::ListElements::split_around, crate::proofs::JoinLemmas::Fields::piece_at))]
+#[tactic(auto, using(crate::proofs::JoinLemmas::Fields::first_piece_steps))]
 fn first_piece(separator: Option<u8>, bytes: &[u8]) -> (&[u8], Option<&[u8]>)
     ensures first { MatchOption result.1
         (slice_split (is_separator separator) bytes.now ≡ result.0.now ∷ [])
@@ -85,7 +87,7 @@ fn span_of_field(separator: Option<u8>, line: &[u8], field: &[u8], remainder: Op
 // Returns the span of the field with this number, counted from 1, or `None` if there is none. Not inlined, so that
 // finding a word of a short line stays small.
 #[inline(never)]
-#[tactic(auto, using(crate::proofs::JoinLemmas::Fields::none_past, crate::proofs::JoinLemmas::Fields::drop_next, crate::proofs::JoinLemmas::Fields::remaining_after))]
+#[tactic(auto, using(crate::proofs::JoinLemmas::Fields::remaining_steps))]
 fn find_by_pieces(separator: Option<u8>, number: u64, line: &[u8]) -> Option<Span>
     ensures { IsFieldFound separator number line.now result }
 {

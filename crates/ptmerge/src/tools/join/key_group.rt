@@ -4,7 +4,8 @@ ghost use Rattle.std.specs.Prelude.{◌≡◌, ◌≤◌, ◌<◌, ◌+◌, ◌-
 ghost use Rattle.ptlines.specs.Outputs.{PushEffect};
 ghost use Rattle.ptlines.specs.Slots.{with_denied};
 ghost use Rattle.ptmerge.specs.declared.key_order.Side.TheVariants as sides;
-ghost use Rattle.ptmerge.specs.JoinGroup.{ReadGroupLinePost, ClearGroupPost, EnsureSlotPost, CopyToGroupPost, CopyToGroupErrPost, group_end_slot, group_first_slot};
+ghost use Rattle.ptmerge.specs.JoinGroup.{ReadGroupLinePost, ClearGroupPost, EnsureSlotPost, CopyToGroupPost};
+ghost use Rattle.ptmerge.specs.JoinGroup.{CopyToGroupErrPost, group_end_slot, group_first_slot};
 ghost use Rattle.ptmerge.specs.WriteAndAdvance.{IsReadyToContinue, AdvancePre};
 
 use crate::faults::MergeFault;
@@ -62,8 +63,8 @@ pub(crate) fn read_group_line<K: KeyOrder, A: Allocator + Copy, S: Source, R: So
     ensures reads_line { let key = K.key_of merge.old.order sides.Second in
         ReadGroupLinePost keep key (K.order merge.old.order)
         merge.old.second merge.new.second reader.old reader.new store.old store.new out.new end result }
-    ensures continues { OnOk result (IsReadyToContinue (K.key_of merge.old.order) sides.Second merge.old.first merge.old.second
-        merge.new.first merge.new.second reader.new store.new out.new) }
+    ensures continues { OnOk result (IsReadyToContinue (K.key_of merge.old.order) sides.Second merge.old.first
+        merge.old.second merge.new.first merge.new.second reader.new store.new out.new) }
     ensures order { merge.new.order ≡ merge.old.order }
 {
     merge.write_out_and_advance(Side::Second, reader, store, out)?;

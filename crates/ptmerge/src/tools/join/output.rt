@@ -5,7 +5,8 @@ ghost use Rattle.std.proofs.Props.{props};
 ghost use Rattle.ptlines.specs.Outputs.{PushPost};
 ghost use Rattle.ptlangs.specs.Jobs.{join_job};
 ghost use Rattle.ptmerge.specs.Join.{join_fields, other_fields, output_separator, or_filler, field_named};
-ghost use Rattle.ptmerge.specs.JoinFields.{IsCanonical, IsKeyOf, IsSplit, around, entry_with_list, remaining_fields, with_prefix};
+ghost use Rattle.ptmerge.specs.JoinFields.{IsCanonical, IsKeyOf, IsSplit, around, entry_with_list, remaining_fields};
+ghost use Rattle.ptmerge.specs.JoinFields.{with_prefix};
 ghost use Rattle.ptmerge.specs.Write.{WriteBytesPost};
 ghost use Rattle.ptmerge.specs.declared.key_order.Side.TheVariants.{First, Second};
 
@@ -27,7 +28,8 @@ fn write_prefixed_field<W: Sink>(byte: u8, field: &[u8], out: &mut Out<W>) -> Re
 // Writes the words in the rest of a line, each with a space before it.
 #[tactic(auto, using(crate::proofs::JoinLemmas::PartialWrite::partial_starts))]
 fn write_words<W: Sink>(line: Option<&[u8]>, out: &mut Out<W>) -> Result<(), WriteFault>
-    ensures { WriteBytesPost out.old out.new (with_prefix 32 (remaining_fields None (option_copied line.entry))) result }
+    ensures { WriteBytesPost out.old out.new (with_prefix 32 (remaining_fields None (option_copied line.entry)))
+        result }
 {
     let mut left = line;
     'words: while let Some((word, remainder)) = next_field(None, left) {
@@ -78,7 +80,7 @@ fn write_around<W: Sink>(
 
 // Writes all fields of a line except the one with this number, each with the output separator before it.
 #[inline(always)]
-#[tactic(auto, using(crate::proofs::JoinLemmas::Fields::around_is, crate::proofs::JoinLemmas::Fields::between_is, crate::proofs::JoinLemmas::PartialWrite::push_is_write))]
+#[tactic(auto, using(crate::proofs::JoinLemmas::Fields::other_fields_steps))]
 fn write_other_fields<W: Sink>(
     separator: Option<u8>,
     number: u64,
@@ -86,7 +88,8 @@ fn write_other_fields<W: Sink>(
     out: &mut Out<W>,
 ) -> Result<(), WriteFault>
     ensures { let join_fields = remaining_fields separator (option_copied line.entry) in
-        WriteBytesPost out.old out.new (with_prefix (output_separator separator) (other_fields number join_fields)) result }
+        WriteBytesPost out.old out.new (with_prefix (output_separator separator) (other_fields number join_fields))
+        result }
 {
     let Some(bytes) = line else {
         return Ok(());
@@ -118,8 +121,10 @@ fn item_field<'a, A: Allocator>(
     two: SplitLine<'a>,
     item: OutField,
 ) -> &'a [u8]
-    requires one { IsSplit (join_job entry.now.job.now).separator (option_copied entry.now.one) one.separator one.line.now }
-    requires two { IsSplit (join_job entry.now.job.now).separator (option_copied entry.now.two) two.separator two.line.now }
+    requires one { IsSplit (join_job entry.now.job.now).separator (option_copied entry.now.one)
+        one.separator one.line.now }
+    requires two { IsSplit (join_job entry.now.job.now).separator (option_copied entry.now.two)
+        two.separator two.line.now }
     ensures { result.now ≡ field_named item entry.now.key.now
         (remaining_fields (join_job entry.now.job.now).separator (option_copied entry.now.one))
         (remaining_fields (join_job entry.now.job.now).separator (option_copied entry.now.two)) }
@@ -143,8 +148,10 @@ fn item_or_filler<'a, A: Allocator>(
     two: SplitLine<'a>,
     item: OutField,
 ) -> &'a [u8]
-    requires one { IsSplit (join_job entry.now.job.now).separator (option_copied entry.now.one) one.separator one.line.now }
-    requires two { IsSplit (join_job entry.now.job.now).separator (option_copied entry.now.two) two.separator two.line.now }
+    requires one { IsSplit (join_job entry.now.job.now).separator (option_copied entry.now.one)
+        one.separator one.line.now }
+    requires two { IsSplit (join_job entry.now.job.now).separator (option_copied entry.now.two)
+        two.separator two.line.now }
     ensures { result.now ≡ or_filler (join_job entry.now.job.now).empty (field_named item entry.now.key.now
         (remaining_fields (join_job entry.now.job.now).separator (option_copied entry.now.one))
         (remaining_fields (join_job entry.now.job.now).separator (option_copied entry.now.two))) }
@@ -157,7 +164,7 @@ fn item_or_filler<'a, A: Allocator>(
 }
 
 // Writes an output line by an output list, without its terminator.
-#[tactic(auto, using(crate::proofs::JoinLemmas::PartialWrite::first_fails, crate::proofs::JoinLemmas::Fields::entry_listed))]
+#[tactic(auto, using(crate::proofs::JoinLemmas::Fields::listed_entry_steps))]
 fn write_listed_fields<A: Allocator, W: Sink>(
     entry: &Entry<'_, A>,
     items: &[OutField],
@@ -186,7 +193,7 @@ fn write_listed_fields<A: Allocator, W: Sink>(
 // Writes an output line field by field, without its terminator. Not inlined, so that the code for canonical lines stays
 // short.
 #[inline(never)]
-#[tactic(auto, using(crate::proofs::JoinLemmas::PartialWrite::first_fails, crate::proofs::JoinLemmas::Fields::entry_plain))]
+#[tactic(auto, using(crate::proofs::JoinLemmas::Fields::plain_entry_steps))]
 fn write_fields<A: Allocator, W: Sink>(
     entry: &Entry<'_, A>,
     out: &mut Out<W>,

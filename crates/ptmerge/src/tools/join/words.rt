@@ -82,7 +82,7 @@ fn find_blank_in<const N: usize>(bytes: &[u8], at: usize) -> Option<usize>
 // Returns the index of the first blank, 64 bytes at a time. Not inlined, so that the common case of `find_blank` is
 // small.
 #[inline(never)]
-#[tactic(auto, using(ptlines::proofs::MatchMasks::first_after, ptlines::proofs::MatchMasks::none_if_zero_mask, ptlines::proofs::MatchMasks::first_at_lowest_bit))]
+#[tactic(auto, using(ptlines::proofs::MatchMasks::first_match_steps))]
 fn find_blank_long(bytes: &[u8]) -> Option<usize>
     ensures { IsFirstByte is_blank bytes.now result }
 {
@@ -187,7 +187,7 @@ fn after_first_run(mask: u64) -> u64
 // Returns the span of the word with this number, counted from 1, in a line of fewer than 64 bytes with these blanks, or
 // `None` if there is none.
 #[inline(always)]
-#[tactic(auto, using(crate::proofs::JoinLemmas::Words::any_fits, crate::proofs::JoinLemmas::Words::words_start, crate::proofs::JoinLemmas::Words::word_passed, crate::proofs::JoinLemmas::Words::none_left, crate::proofs::JoinLemmas::Words::word_found))]
+#[tactic(auto, using(crate::proofs::JoinLemmas::Words::word_steps))]
 pub(crate) fn find_word(number: u64, line: &[u8], blanks: Blanks) -> Option<Span>
     requires short { length line.now < 64 }
     requires blanks { AreBlanks line.now blanks }

@@ -6,7 +6,6 @@ use proofs.MergeLemmas.Step.{advance_pre, open_merge, err_is, start_fault}
 use proofs.CommLemmas.Iteration.{alone_decreases, alone_continues, alone_fails, eof, disordered, pair_decreases}
 use proofs.CommLemmas.Iteration.{pair_continues, pair_fails, second_advance_pre, second_fails, starts}
 use Rattle.ptmerge.proofs.tools.comm.comm_with_order.Goals.{After-start}
-use Rattle.ptmerge.specs.declared.key_order.Side.TheVariants as sides
 use Rattle.ptmerge.proofs.tools.comm.comm_with_order.Given as given
 use Rattle.ptmerge.proofs.tools.comm.comm_with_order.Goals as goal
 
@@ -33,15 +32,15 @@ steps-init g c =
 
 pub write_head-requires-clause-status_is : goal.write_head-requires-clause-status_is
 write_head-requires-clause-status_is g c =
-    advance_pre c.steps.invariant.iteration.between sides.First c.in-First.ensures.status_is
+    advance_pre c.steps.invariant.iteration.between _ c.in-First.ensures.status_is
 
 pub write_head-requires-in-Second-clause-status_is : goal.write_head-requires-in-Second-clause-status_is
 write_head-requires-in-Second-clause-status_is g c =
-    advance_pre c.steps.invariant.iteration.between sides.Second c.in-Second.ensures.status_is
+    advance_pre c.steps.invariant.iteration.between _ c.in-Second.ensures.status_is
 
 pub write_head-requires-in-Both-clause-status_is : goal.write_head-requires-in-Both-clause-status_is
 write_head-requires-in-Both-clause-status_is g c =
-    advance_pre c.steps.invariant.iteration.between sides.First c.in-Both.ensures.first
+    advance_pre c.steps.invariant.iteration.between _ c.in-Both.ensures.first
 
 pub write_out_and_advance-requires-clause-status_is : goal.write_out_and_advance-requires-clause-status_is
 write_out_and_advance-requires-clause-status_is g c = rw c.write_head-in-Both.ensures.order
@@ -83,10 +82,13 @@ pub steps-smaller-in-Continue-branch-2 : goal.steps-smaller-in-Continue-branch-2
 steps-smaller-in-Continue-branch-2 g c = grind (arith, alone_decreases)
 
 pub steps-smaller-in-Continue-branch-3 : goal.steps-smaller-in-Continue-branch-3
-steps-smaller-in-Continue-branch-3 g c = grind (arith, alone_decreases)
+steps-smaller-in-Continue-branch-3 g c =
+    alone_decreases c.steps.invariant.iteration c.in-Second.ensures c.in_ok-write_head-in-Second.ensures.advances
 
 pub steps-smaller : goal.steps-smaller
-steps-smaller g c = grind (arith, pair_decreases)
+steps-smaller g c = pair_decreases c.steps.invariant.iteration c.in-Both.ensures
+    c.in_ok-write_head-in-Both.ensures.advances
+    (rw c.write_head-in-Both.ensures.order at c.in_ok-write_out_and_advance-in-Both.ensures.advances)
 
 pub returns-in_err-write_head-in-First : goal.returns-in_err-write_head-in-First
 returns-in_err-write_head-in-First g c =

@@ -1,8 +1,9 @@
 -- Each iteration preserves the invariant by one lemma of `Iteration`, and each exit has the
 -- postconditions by another.
+use Rattle.std.proofs.lemmas.Grind.{common_steps}
 use Rattle.std.proofs.Common.{rules}
 use Rattle.ptmerge.proofs
-use proofs.Common.{refl, sym, ◌∙◌, join_job}
+use proofs.Common.{refl, sym, ◌∙◌, join_job, arith}
 use proofs.JoinLemmas.Iteration.{read_group_pre, read_group_fails, read_group_continues, group_closed, group_there}
 use proofs.JoinLemmas.Iteration.{write_pairs_group, write_pairs_pre, pair_fails, write_pairs_next}
 use proofs.JoinLemmas.Iteration.{write_pairs_continues, alone_continues, alone_fails, begins, end_in, eof, disordered}
@@ -29,11 +30,11 @@ steps-init g c =
 
 pub write_unpaired-requires-clause-status_is : goal.write_unpaired-requires-clause-status_is
 write_unpaired-requires-clause-status_is g c =
-    advance_pre c.steps.invariant.iteration.between sides.First c.in-First.ensures.status_is
+    advance_pre c.steps.invariant.iteration.between _ c.in-First.ensures.status_is
 
 pub write_unpaired-requires-in-Second-clause-status_is : goal.write_unpaired-requires-in-Second-clause-status_is
 write_unpaired-requires-in-Second-clause-status_is g c =
-    advance_pre c.steps.invariant.iteration.between sides.Second c.in-Second.ensures.status_is
+    advance_pre c.steps.invariant.iteration.between _ c.in-Second.ensures.status_is
 
 pub steps-preserved-in-Continue-branch-2 : goal.steps-preserved-in-Continue-branch-2
 steps-preserved-in-Continue-branch-2 g c =
@@ -140,7 +141,10 @@ steps-smaller-then-not-has_same_key g c =
     (read_group_pre c.steps.invariant.iteration c.in-ReadGroup.is).head ok.reads_line.came ok.continues
 
 pub steps-smaller-then-not-has_same_key-2 : goal.steps-smaller-then-not-has_same_key-2
-steps-smaller-then-not-has_same_key-2 g c = search (rules, measure_decreases, write_pairs_pre)
+steps-smaller-then-not-has_same_key-2 g c =
+    let h = c.in_ok-write_pairs-in-WritePairs.ensures.advances in
+    measure_decreases c.steps.invariant.iteration sides.First phases.BetweenGroups
+    (write_pairs_pre c.steps.invariant.iteration c.in-WritePairs.is).status_is.head h.came h.continues
 
 pub steps-smaller : goal.steps-smaller
 steps-smaller g c = search (rules, measure_decreases, write_pairs_pre)
@@ -186,3 +190,6 @@ steps-preserved g c =
           c.if-not-has_same_key-2.false);
       order = i.order;
     })
+
+pub steps-smaller-in-Both : goal.steps-smaller-in-Both
+steps-smaller-in-Both g c = grind (arith, common_steps)

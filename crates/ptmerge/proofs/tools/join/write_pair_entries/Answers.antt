@@ -1,7 +1,7 @@
 -- Each iteration writes the output line of one line of the group. A write that fails leaves a prefix of the pairs.
 use Rattle.std.proofs.Common.{rules}
 use Rattle.ptmerge.proofs
-use proofs.Common.{◌++◌, [], ◌∷◌, List, ℕ, ap, arith, sym, map, join_job, group}
+use proofs.Common.{◌++◌, [], ◌∷◌, List, ℕ, ap, arith, sym, map, join_job}
 use proofs.JoinLemmas.PartialWrite.{each_done, each_fails, each_more}
 use proofs.JoinLemmas.GroupSlots.{pair_of, group_from, group_end}
 use Rattle.ptmerge.proofs.tools.join.write_pair_entries.Goals as goal
@@ -10,7 +10,7 @@ pub returns-in_err-write_entry : goal.returns-in_err-write_entry
 returns-in_err-write_entry g c =
     each_fails (λ (l : List ℕ). l ++ c.args.terminator ∷ [])
     (ap (map (pair_of (join_job c.args.job.now) c.args.key.now c.args.line.now))
-    (group_from c.args.store.now c.args.end c.loop-slot.slot c.requires.group.within c.loop-slot-test.true))
+    (group_from c.args.store.now _ _ c.requires.group.within c.loop-slot-test.true))
     c.loop-slot.invariant.amid
     (rw (sym c.line-other.ensures) c.write_entry.ensures.wrote) c.in_err-write_entry.ensures.fault _
     c.from_residual.ensures.1

@@ -1,5 +1,6 @@
 -- The stored span of the current line becomes the span of the previous line, since that line keeps its slot. So the two
 -- keys that are compared are the keys of both lines.
+use Rattle.std.proofs.lemmas.Grind.{common_steps}
 use Rattle.ptmerge.proofs
 use proofs.Common.{◌≡◌, ◌<◌, ◌+◌, sym, ap, ◌∙◌, inl, arith, if◌then◌else◌, nat_tests, line, line_of_with_line, Head}
 use proofs.Common.{Disorder}
@@ -19,12 +20,12 @@ returns-clause-moves g c =
     let swap = c.swap.ensures in
     let e = rw (c.in-Ok-true.field-0-test, swap.x_after) at (c.in-Ok-true.ensures.fills c.requires.own_reader.clean) in
     let last_is : line after c.swap.new.y ≡ line before old.current_slot = rw (swap.y_after, e.stored)
-    (line_other before old.previous_slot old.current_slot e.line (λ is. c.requires.distinct_slots.apart (sym is))) in
+    (line_other before _ _ e.line (λ is. c.requires.distinct_slots.apart (sym is))) in
     let next_is : line after c.swap.new.x ≡ e.line = rw (swap.x_after, e.stored)
-    (line_of_with_line before old.previous_slot e.line c.requires.distinct_slots.previous_slot) in
+    (line_of_with_line before _ e.line c.requires.distinct_slots.previous_slot) in
     let is : c.cmp-ordering.result ≡ cmp (key (line before old.current_slot)) (key e.line) = cc in
     let status_is =
-    later_status key cmp old.number (line before old.current_slot) e.line c.cmp-ordering.result some is in
+    later_status key cmp _ (line before _) e.line _ some is in
     let status = c.status_at-self.ensures ∙ ap (λ t. if t then Disorder (old.number + 1) else Head) c.is_gt.ensures
     ∙ status_is.0 in
     let same = c.is_eq-self.ensures ∙ status_is.1 in
@@ -40,3 +41,6 @@ returns-clause-moves g c =
       };
       sound = c.fill.ensures.is_sound;
     })
+
+pub returns-in-Err-Read-clause-moves : goal.returns-in-Err-Read-clause-moves
+returns-in-Err-Read-clause-moves g c = grind (arith, common_steps)

@@ -9,7 +9,7 @@ use Rattle.ptmerge.proofs.tools.join.fields.next_field.Goals as goal
 pub returns-then-is_some-clause-is_piece : goal.returns-then-is_some-clause-is_piece
 returns-then-is_some-clause-is_piece c =
     let ends = rw c.in-Some.is at c.pieces.invariant.ends in
-    field_in c.args.separator (option_copied c.args.line) (Some c.in-Some.bytes.now) c.first_piece.result.0.now
+    field_in _ (option_copied c.args.line) (Some c.in-Some.bytes.now) _
     (option_copied c.first_piece.result.1) ends c.first_piece.ensures.is_piece
 
 pub pieces-preserved : goal.pieces-preserved

@@ -6,7 +6,7 @@ pub loop-slot-preserved : goal.loop-slot-preserved
 loop-slot-preserved g c =
     let i = c.loop-slot.invariant in
     record {
-      cleared = clears_more c.args.store.now c.loop-slot.store c.clear.new.self c.loop-slot.slot i.from
+      cleared = clears_more _ _ _ _ i.from
           (omega arith) i.cleared c.clear.ensures;
       from = omega arith;
     }

@@ -14,7 +14,7 @@ returns-in-Ok-clause-continues g c =
       clean = continues.clean;
       others = continues.others;
       valid_cursors = valid_cursors_kept (g.K.KeyOrder.key_of c.args.merge.now.order) m.first m.second before after
-          continues.valid_cursors (kept_least before after c.previous_slot_of.result c.args.end kept)
+          continues.valid_cursors (kept_least before after _ _ kept)
           (λ slot low. kept_line before after c.previous_slot_of.result c.args.end slot
           (omega (arith, low)) kept);
       own_reader = continues.own_reader;

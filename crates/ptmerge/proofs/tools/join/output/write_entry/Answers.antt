@@ -1,7 +1,7 @@
 -- A canonical line is its key and its other fields, so it is written unchanged.
-use Rattle.std.proofs.Common.{arith}
+use Rattle.std.proofs.lemmas.Grind.{common_steps}
 use Rattle.ptmerge.proofs
-use proofs.Common.{◌≡◌, List, [], ◌∷◌, ◌++◌, ℕ, Option, Result, append-nil, ap, refl, subst, First, Join, Output}
+use proofs.Common.{◌≡◌, List, [], ◌∷◌, ◌++◌, ℕ, Option, Result, append-nil, ap, refl, subst, First, Join, Output, arith}
 use proofs.Common.{PushPost, Second, entry_with_list, join_job, option_copied}
 use proofs.JoinLemmas.PartialWrite.{then_pushes}
 use proofs.JoinLemmas.Fields.{first_is, pair_is, second_is}
@@ -22,7 +22,7 @@ returns-in-None-Some-Some g c =
     let at = c.in-None-Some-Some in
     let one = ap option_copied at.is-1 in
     let two = ap option_copied at.is-2 in
-    pushes_entry job key c.args.terminator one two (pair_is job key at.is-0 c.args.terminator
+    pushes_entry job key _ one two (pair_is job key at.is-0 _
     (c.is_canonical.ensures c.if-is_canonical.true)
     (c.is_canonical-then-is_canonical.ensures c.if-is_canonical-2.true)
     (subst (IsKeyOf job First key) one c.requires.one) (subst (IsKeyOf job Second key) two c.requires.two))
@@ -33,7 +33,7 @@ returns-in-None-Some-None g c =
     let job = join_job c.args.job.now in
     let at = c.in-None-Some-None in
     let one = ap option_copied at.is-1 in
-    let is = first_is job c.args.key.now at.is-0 (c.if-is_canonical-3.ensures refl)
+    let is = first_is job _ at.is-0 (c.if-is_canonical-3.ensures refl)
     (subst (IsKeyOf job First c.args.key.now) one c.requires.one) in
     pushes_entry job c.args.key.now c.args.terminator one (ap option_copied at.is-2) (cc (is, append-nil at.line.now))
     c.push_line-in-None-Some-None.ensures.pushed
@@ -41,12 +41,19 @@ returns-in-None-Some-None g c =
 pub returns-in-None-None-Some : goal.returns-in-None-None-Some
 returns-in-None-None-Some g c =
     let job = join_job c.args.job.now in
+    let key = c.args.key.now in
     let at = c.in-None-None-Some in
+    let one = ap option_copied at.is-1 in
     let two = ap option_copied at.is-2 in
-    let is = second_is job c.args.key.now at.is-0 (c.if-is_canonical-4.ensures refl)
-    (subst (IsKeyOf job Second c.args.key.now) two c.requires.two) in
-    pushes_entry job c.args.key.now c.args.terminator (ap option_copied at.is-1) two (cc is)
+    pushes_entry job key c.args.terminator one two (ap (λ (l : List ℕ). l ++ c.args.terminator ∷ [])
+    (second_is job key at.is-0 (c.if-is_canonical-4.ensures refl) (subst (IsKeyOf job Second key) two c.requires.two)))
     c.push_line-in-None-None-Some.ensures.pushed
 
 pub returns : goal.returns
 returns g c = then_pushes c.in_ok-write_fields.ensures.clean c.write_fields.ensures.wrote c.push.ensures.pushed
+
+pub slice_bounds-push_line-count : goal.slice_bounds-push_line-count
+slice_bounds-push_line-count g c = grind (arith, common_steps)
+
+pub slice_bounds-push_line-start : goal.slice_bounds-push_line-start
+slice_bounds-push_line-start g c = grind (arith, common_steps)

@@ -1,17 +1,17 @@
 -- The first item of a list has no separator before it, so it is written before the loop. Each iteration writes one more
 -- item.
+use Rattle.std.proofs.lemmas.Grind.{common_steps}
 use Rattle.ptmerge.proofs
-use proofs.Common.{◌∷◌, ℕ, List, sym, option_copied, ◌∙◌, join_job, output_separator}
+use proofs.Common.{◌∷◌, ℕ, List, sym, ◌∙◌, join_job, output_separator, arith}
 use proofs.JoinLemmas.PartialWrite.{partial_first, each_fails, each_more}
 use proofs.JoinLemmas.Fields.{between_is, entry_listed, first_then_rest}
 use Rattle.ptmerge.proofs.tools.join.output.write_listed_fields.Goals as goal
 
 pub items-init : goal.items-init
 items-init g c =
+    -- the search takes its instances from `e`
     let e = c.args.entry.now in
-    partial_first (entry_listed (join_job e.job.now) e.key.now (option_copied e.one) (option_copied e.two)
-    c.args.items.now _ c.in-len1-up.len_at_least c.item_or_filler.ensures)
-    c.push.ensures.pushed.wrote c.in_ok-push.ensures.pushed.clean
+    grind (arith, common_steps, partial_first, entry_listed)
 
 pub returns-in_err-write_prefixed_field : goal.returns-in_err-write_prefixed_field
 returns-in_err-write_prefixed_field g c =
@@ -32,3 +32,6 @@ items-preserved g c =
     (rw (c.unwrap_or-prefix.ensures
     ∙ sym (between_is (join_job e.job.now).separator)) at c.write_prefixed_field.ensures.wrote)
     c.in_ok-write_prefixed_field.ensures.clean
+
+pub returns : goal.returns
+returns g c = grind (arith, common_steps)

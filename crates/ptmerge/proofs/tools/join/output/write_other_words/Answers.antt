@@ -1,4 +1,5 @@
 -- A write that fails leaves a prefix of the words; one that succeeds takes the first of the remaining words.
+use Rattle.std.proofs.lemmas.Grind.{common_steps}
 use Rattle.ptmerge.proofs
 use proofs.Common.{◌-◌, ◌∷◌, ℕ, List, ap, arith, with_prefix}
 use proofs.JoinLemmas.PartialWrite.{partial_ends, each_fails, each_more}
@@ -26,3 +27,6 @@ returns-in-Some-next_field g c =
     partial_ends (ap (with_prefix 32) (others_rest ((c.args.number - 1) - c.loop-passed._passed)
     (omega arith) c.in-Some-next_field.ensures.first))
     c.loop-passed.invariant c.write_words.ensures
+
+pub returns-in_default : goal.returns-in_default
+returns-in_default g c = grind (arith, common_steps)

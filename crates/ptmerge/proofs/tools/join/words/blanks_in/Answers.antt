@@ -8,7 +8,7 @@ use mir.Syntax.{w8}
 
 pub returns : goal.returns
 returns g c = record {
-  any = blank_mask c.args.bytes.now c.args.at g.row.N c.requires.within c.requires.lanes;
+  any = blank_mask _ _ g.row.N c.requires.within c.requires.lanes;
   tabs = bitmask_splat w8 eqb (chunk c.args.at g.row.N c.args.bytes.now) g.row.N 9
-      (length-chunk c.args.at g.row.N c.args.bytes.now c.requires.within) c.requires.lanes;
+      (length-chunk _ g.row.N _ c.requires.within) c.requires.lanes;
 }
