@@ -7,8 +7,7 @@ use Rattle.ptfakes.specs.Calls.{count_after}
 
 -- the accepted bytes, the most bytes that one call and all calls accept, how many calls succeed before every later one
 -- fails, the number of calls, how many of them were flushes that succeeded, whether one has failed, and whether bytes
--- are
--- unflushed
+-- are unflushed
 pub record FakeSink : Type 0 where
   pub accepted : List ℕ
   pub size : ℕ

@@ -9,7 +9,7 @@ use proofs.Common.{Err, length, take, drop, set, refl, sym, ◌∙◌, ap, subst
 use proofs.Common.{list_any, list_any-append, false≢true, eqb_tells, Reader, Output, Slots, SinkState, Received}
 use proofs.Common.{FlowFault, Read, Memory, Completion, AllWritten, InputBytes, ReceivedInputs, at, is_unopened}
 use proofs.Common.{AreInputsConsistent, is_in, reader_at, is_reader_unopened, HaveReceived, IsNewOrUnopened}
-use proofs.Common.{HasReadFailed, IsTooLong, unopened_messages, position, positions, JointTool, bytes_of, received_in}
+use proofs.Common.{HasReadFailed, IsTooLong, unopened_messages, positions, JointTool, bytes_of, received_in}
 use proofs.Common.{has_unopened, disorder_text, disorder_status, joint_spec, JointPre, HasIndexBelow, result_message}
 use proofs.Common.{result_status, RunInputsEnd, RunInputsPost, JointPost, run_state, result_of_end, update_at}
 use Rattle.ptlines.specs.Calls.{CallEnd, Complete, OutOfOrder, ReadFault, WriteFault, MemoryFault, CallPost}
@@ -37,7 +37,7 @@ first_at : (positions : List ℕ) (p : ℕ) → is_in positions p ≡ true
 first_at [] p there = absurd (false≢true there)
 first_at (q ∷ positions) p there = ⊎_elim (λ same. (0, omega arith, ap (λ n. Some n) same.1, refl))
     (λ other.
-    let f = first_at positions p (ap (λ b. b || is_in positions p) (sym other.0) ∙ there) in
+    let f = first_at positions p (search rules) in
     (suc f.0, omega (arith, f.1), f.2, ap (λ b. b || is_in (take f.0 positions) p) other.0 ∙ f.3))
     (eqb_tells q p)
 
@@ -75,7 +75,7 @@ module _ (word : List ℕ) {t : JointTool} (names : List (List ℕ)) {positions 
   k = post.call
 
   open_at : (q : ℕ) → is_in positions q ≡ true → is_reader_unopened old q ≡ false
-  open_at = none_passes (is_reader_unopened old) positions start.opened
+  open_at = search (rules, none_passes)
 
   fresh : (q : ℕ) → IsNewOrUnopened (reader_at old q)
   fresh = fresh_all old start.fresh

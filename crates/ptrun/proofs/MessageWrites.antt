@@ -14,13 +14,9 @@ pub say_post_part : {old mid new : SinkState} {text piece : List ℕ} (done more
 say_post_part {old} {piece = piece} done more split took p = record {
   front = done ++ p.front;
   rest = p.rest ++ more;
-  split = split ∙ ap (λ l. (done ++ l) ++ more) p.split
-      ∙ ap (λ l. l ++ more) (sym (append_assoc done p.front p.rest))
-      ∙ append_assoc (done ++ p.front) p.rest more;
-  accepted = p.accepted ∙ ap (λ s. append_known s.accepted p.front) took
-      ∙ append_known-append old.accepted done p.front;
-  unflushed = p.unflushed ∙ ap (λ s. unflushed_after s.unflushed p.front) took
-      ∙ unflushed_after-append old.unflushed done p.front;
+  split = grind (arith, common_steps);
+  accepted = search (rules, append_known-append);
+  unflushed = search (rules, unflushed_after-append);
   flushes = p.flushes ∙ ap (λ s. s.flushes) took;
   whole = λ all. absurd (false≢true all);
   broken = λ _. (omega (arith, p.some, length-append p.rest more), p.failed);

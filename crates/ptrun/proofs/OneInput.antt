@@ -244,7 +244,7 @@ sends_after was mid is pushed bytes wrote clean s = by_known was.accepted refl
 take_front : (n : ℕ) (xs ys : List ℕ) → (rest : List ℕ) × (take n (xs ++ ys) ≡ take n xs ++ rest)
 take_front zero xs ys = ([], refl)
 take_front (suc n) [] ys = (take (suc n) ys, refl)
-take_front (suc n) (x ∷ xs) ys = let (rest, is) = take_front n xs ys in (rest, ap (λ l. x ∷ l) is)
+take_front (suc n) (x ∷ xs) ys = search (rules, take_front n xs ys)
 
 module _ (bytes : List ℕ) (was is is' : Output) (pushed front rest : List ℕ) (k : IsPushedUpToBlock bytes was is pushed)
     (empty : was.buffered ≡ []) (split : pushed ≡ front ++ rest)

@@ -9,7 +9,7 @@ use proofs.Common.{input_of_operand, inputs_of_operands, opened_values, opened_i
 use proofs.Common.{up_to_unended, unopened_messages, unopened_message, name_of, HasSaid, SinkState, update_at, ◌<◌}
 use proofs.Common.{◌≤◌, drop, get_or, take-append-drop, take_more, get_or-map, length-map, Reader, reader_at}
 use proofs.Common.{no_reader, IsNewOrUnopened, position, positions, Bor, words_view, file_names, order_from, Input}
-use proofs.Common.{DecidesAll, cases_lt, Any-from_list_any, subst}
+use proofs.Common.{DecidesAll, cases_lt, Any-from_list_any}
 use Rattle.std.proofs.Math.ListN.{get_or-map as get_or-map_any}
 use proofs.MessageWrites.{said_trans}
 use Rattle.std.proofs.Common.{rules}
@@ -34,7 +34,7 @@ by_position P p here others q = grind arith
 -- a fact about each position in a list holds at each position that is in it
 pub each_listed : (P : ℕ → Type 0) (ps : List ℕ) → All P ps → (q : ℕ) → is_in ps q ≡ true → P q
 each_listed P ps all q named = let a = Any-from_list_any (λ p. p == q) ps named in
-    subst P (a.3 ∙ eqb-true a.1 q a.4) (all a.0 a.1 a.2)
+    search rules
 
 -- if no position in a list passes a test, none that is in it does
 pub none_passes : (test : ℕ → Bool) (ps : List ℕ) → list_any test ps ≡ false → (q : ℕ) → is_in ps q ≡ true

@@ -9,6 +9,7 @@ use Rattle.ptrun.specs.Engines.{end_at}
 use proofs.OperandInputs.{none_passes, fresh_all}
 use proofs.PlacedCalls.{Placement, placed_call}
 use Rattle.std.proofs.lemmas.Grind.{common_steps}
+use Rattle.std.proofs.Common.{rules}
 
 abbrev pub rows_completion : Result (Unit {0}) FlowFault → Result Completion FlowFault
 rows_completion (Ok u) = Ok AllWritten
@@ -17,7 +18,7 @@ rows_completion (Err fault) = Err fault
 module _ (job : Paste) {positions : List ℕ} {old : List Reader} {was : Output} {before : Slots}
     (ready : JointPre (paste_rows_tool job) positions old was before) where
   open_at : (q : ℕ) → is_in positions q ≡ true → is_reader_unopened old q ≡ false
-  open_at = none_passes (is_reader_unopened old) positions ready.opened
+  open_at = search (rules, none_passes)
 
   pub cells_ready : pass.PastePre positions old before
   cells_ready = grind (arith, common_steps, open_at, cell_in, fresh_all)

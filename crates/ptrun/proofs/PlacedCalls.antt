@@ -7,6 +7,7 @@ use Rattle.ptlines.specs.Calls.{InputNames, EngineSpec, call_state, CallEnd, Com
 use Rattle.ptlines.specs.Calls.{WriteFault, MemoryFault, CallPost, CallOutcome, AllPushed, AreAllConsistent}
 use Rattle.ptlines.specs.Calls.{IsCallUnfinished, with_input}
 use Rattle.ptrun.specs.Engines.{at_positions, in_run, end_at, line_at}
+use Rattle.std.proofs.Common.{rules}
 
 -- The names that are read are those of the positions in a list, one for each.
 pub record Placement {I : Type 0} (names : InputNames I) (position : I → ℕ) (positions : List ℕ) : Type 0 where
@@ -21,7 +22,7 @@ module _ {I : Type 0} {names : InputNames I} {position : I → ℕ} {positions :
     (by : Placement names position positions) where
   each : (P : ℕ → Type 0) → ((i : I) → names.is_read i ≡ true → P (position i)) → (q : ℕ) → is_in positions q ≡ true
       → P q
-  each P all q named = let (i, read, at) = by.name_at q named in subst P at (all i read)
+  each P all q named = search rules
 
 none_found : {I : Type 0} (position : I → ℕ) (found : Option (I × ℕ))
     → option_map (line_at position) found ≡ None → found ≡ None
@@ -57,7 +58,7 @@ module _ {I : Type 0} {names : InputNames I} (engine : EngineSpec I) (position :
       call.pushed
       → IsCallUnfinished (inputs_at positions) (in_run (at_positions engine position)) (run_state new is store) given
       call.pushed
-  unfinished (inl (i, read, left)) = inl (position i, by.listed i read, left)
+  unfinished (inl (i, read, left)) = search rules
   unfinished (inr (keeps, unwritten)) = grind (arith, agree)
 
   -- without its first slots the call has read nothing, and all inputs are new

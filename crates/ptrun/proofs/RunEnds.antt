@@ -15,7 +15,7 @@ use proofs.Common.{InputBytes, ReceivedInputs, at, IsConsistentAt, AreInputsCons
 use proofs.Common.{is_unopened, HasReceivedAt, IsNewOrUnopened, HasReadFailed, IsTooLong, HasBytesAt, HasSaid}
 use proofs.Common.{CommandSpec, messages, Sinks, sinks, Outcome, HasCause, RunEnd, IsRun, IsRunInStore, IsExact}
 use proofs.Common.{IsExactUnlessFailed, EndRunPost, RunInputsEnd, RunInputsPost, FinishPost, result_message}
-use proofs.Common.{result_status, IsWrittenUpToBlock, message_only, ◌+◌, ◌<◌, ◌==◌, is_none, All-map, nat_tests}
+use proofs.Common.{result_status, IsWrittenUpToBlock, message_only, ◌<◌, ◌==◌, is_none, All-map, nat_tests}
 use proofs.Common.{eqb_tells, Input, Standard, File, Fault, Command, Job, RunCut, RunPaste, RunUniq, RunComm, RunJoin}
 use proofs.Common.{RunTr, command_of_args, fault_view, command_view, CommandPost, usage_message, usage_status}
 use proofs.Common.{position, positions, InputsPre, two_input_tool, command_spec, tool_of_job, word_of_job}
@@ -229,11 +229,11 @@ module _ {m : CommandSpec} {old new : List Reader} {was is : Output}
       (cases_Bool is.write_failed)
 
   reached : Reached was sent k.pushed
-  reached = reached_of was sent k.pushed (ap (λ o. o.buffered) made) wrote
+  reached = search (rules, reached_of, wrote)
 
   -- until the output was finished nothing was flushed
   flushes_before : is.flushes ≡ out.flushes
-  flushes_before = k.wrote.flushes ∙ ap (λ o. o.flushes) made
+  flushes_before = search rules
 
   flushed_once : o.out.flushes ≡ (if o.out.failed then out.flushes else flushes_after out.flushes)
   flushed_once = grind (arith, f, flushes_before)

@@ -5,17 +5,17 @@ use Rattle.ptrun.proofs
 use proofs.Common.{IsDone, cases_lt, sequential_slots, take-append-add, cases_eq, cases_Bool, ◌≡◌, ◌≢◌, ◌⊎◌, ⊎_elim}
 use proofs.Common.{inl, inr, ℕ, ◌<◌, ◌≤◌, Bool, true, false, cond, List, [], ◌∷◌, ◌++◌, Some, None, Result, Ok, Err}
 use proofs.Common.{◌+◌, length, take, map, set, max, refl, sym, ◌∙◌, ap, subst, arith, append_assoc, length-append}
-use proofs.Common.{length-set, flat_map, list_any, append-nil, take_all, map-append, get_or-set_same, length-map}
+use proofs.Common.{length-set, flat_map, list_any, append-nil, take_all, map-append, length-map}
 use proofs.Common.{take-append_seam, take-length, flat_map-append, false≢true, Reader, IsSound, HasReadCause, Output}
 use proofs.Common.{PushEffect, Slots, total_bytes, SinkState, push_trans, push_nothing, Received, empty_input}
 use proofs.Common.{IsConsistent, IsPrefix, HasReceived, AllPushed, CallOutcome, PassPost, ToolSpec, FlowFault, Read}
 use proofs.Common.{Write, Memory, InputBytes, ReceivedInputs, at, is_unopened, AreInputsConsistent, is_in}
-use proofs.Common.{input_of_operand, inputs_of_operands, opened_values, opened_inputs, reader_at, no_reader}
+use proofs.Common.{input_of_operand, inputs_of_operands, opened_values, opened_inputs, reader_at}
 use proofs.Common.{is_reader_unopened, HaveReceived, IsNewOrUnopened, HasReadFailed, IsTooLong, HasSaid}
 use proofs.Common.{unopened_messages, unopened_message, name_of, BoundedLag, IsPushedUpToBlock, decided_in_order}
 use proofs.Common.{up_to_unended, sequential_output, sequential_bound, sequential_decided, sequential_spec}
 use proofs.Common.{Completion, AllWritten, Unopened, HasCause, fault_at, result_message, result_status, HasIndexBelow}
-use proofs.Common.{RunInputsPost, get_or, get_or_default, All, DecidesAll, OperandPre, OperandPost}
+use proofs.Common.{RunInputsPost, get_or, All, DecidesAll, OperandPre, OperandPost}
 use proofs.Common.{operand_completion, CallState, call_state, only_input, pass_engine, pass_end}
 use proofs.OneInput.{all_earlier, last_earlier, sends_now, sends_after, IsAtEof, none_received, completion_with}
 use proofs.OneInput.{received_of, received_at, nothing_read, never_long, not_long, OpenedInput, opened_receives}
@@ -210,7 +210,7 @@ module _ {word : List ℕ} {t : ToolSpec} {names : List (List ℕ)} {old : List 
 
     module _ {p : ℕ} (within : p < length old) (d : Reader) where
       here : get_or now p d ≡ reader_at now p
-      here = get_or_default now p d no_reader (omega (arith, within, k.same_length))
+      here = grind (arith, common_steps)
 
       ready_here : (get_or now p d).refused ≡ false → (get_or now p d).fault ≡ None
       ready_here opened = let (buffered, fault) =
@@ -298,7 +298,7 @@ module _ {word : List ℕ} {t : ToolSpec} {names : List (List ℕ)} {old : List 
       now' = set now p new
 
       reader_here : reader_at now' p ≡ new
-      reader_here = get_or-set_same now p new _ (omega (arith, within, k.same_length))
+      reader_here = search rules
 
       reader_other : (q : ℕ) → p ≢ q → reader_at now' q ≡ reader_at now q
       reader_other q differs = search rules

@@ -1,7 +1,7 @@
 -- Tools with two inputs. What the merge has done to its two readers is what the tool has to do with the list from which
 -- both were lent; no other reader changes.
 use Rattle.ptrun.proofs
-use proofs.Common.{subst, length-append, ◌≡◌, ◌≢◌, ℕ, ◌<◌, ◌||◌, ◌&&◌, ◌==◌, true, false, List, [], ◌∷◌, Result}
+use proofs.Common.{subst, length-append, ◌≡◌, ℕ, ◌<◌, ◌&&◌, ◌==◌, true, false, List, [], ◌∷◌, Result}
 use proofs.Common.{length, get_or, refl, sym, ◌∙◌, ap, arith, not, All-nil, All-cons, false≢true, nat_tests}
 use proofs.Common.{eqb_tells, Reader, Output, Slots, Received, update_at, First, Second, decided_output, is_in}
 use proofs.Common.{reader_at, IsNew, two_input_tool, operand, JointPre, JointPost, merge_completion, result_of_end}
@@ -9,15 +9,14 @@ use proofs.Common.{◌-◌, ◌++◌, set, length-set, set-append_left, set-appe
 use Rattle.ptlines.specs.Calls.{CallPost, call_state}
 use Rattle.ptmerge.specs.declared.faults.MergeFault.{MergeFault}
 use Rattle.ptmerge.specs.declared.key_order.Side.{Side}
-use Rattle.ptmerge.specs.MergeCall.{MergePre, MergePost, merge_state, both_sides, is_same_side, merge_engine}
-use Rattle.ptmerge.specs.MergeCall.{merge_end}
+use Rattle.ptmerge.specs.MergeCall.{MergePre, MergePost, merge_state, both_sides, is_same_side, merge_engine, merge_end}
 use Rattle.ptmerge.specs.MergeSpec.{MergeTool}
-use Rattle.ptmerge.specs.Sides.{both, other}
-use Rattle.ptmerge.specs.declared.faults.MergeFault.TheVariants as faults
+use Rattle.ptmerge.specs.Sides.{both}
 use Rattle.ptrun.specs.Engines.{end_at}
 use proofs.OperandInputs.{same_here, is_in-same, none_passes, each_listed, put_here, put_other, fresh_all}
 use proofs.PlacedCalls.{Placement, placed_call}
 use Rattle.std.proofs.lemmas.Grind.{common_steps}
+use Rattle.std.proofs.Common.{rules}
 
 -- ---- two operands
 
@@ -35,20 +34,23 @@ pub two_of : (positions : List ℕ) (d : ℕ) → AcceptsTwo positions
 two_of (p ∷ q ∷ []) d accepts_operands = grind arith
 two_of positions d accepts_operands = absurd (grind (arith, nat_tests, accepts_operands))
 
+pub length_two : (positions : List ℕ) → AcceptsTwo positions → length positions ≡ 2
+length_two positions accepts_operands = search (rules, two_of)
+
 module _ (t : MergeTool) {old : List Reader} {was : Output} {before : Slots} {p q : ℕ} (apart : p ≡ q → ⊥)
     (ready : JointPre (two_input_tool t) (p ∷ q ∷ []) old was before) where
   abbrev two : List ℕ
   two = p ∷ q ∷ []
 
   named : (side : Side) → is_in two (operand two side) ≡ true
-  named First = ap (λ b. b || ((q == p) || false)) (same_here p)
+  named First = search (rules, same_here)
   named Second = is_in-same (p ∷ []) q
 
   open_at : (side : Side) → (reader_at old (operand two side)).refused ≡ false
   open_at side = grind (arith, none_passes, named)
 
   new_at : (side : Side) → IsNew (reader_at old (operand two side))
-  new_at side = fresh_all old ready.fresh (operand two side) (open_at side)
+  new_at side = search (rules, fresh_all, open_at)
 
   -- both can be read
   pub ready_at : MergePre (reader_at old p) (reader_at old q) before

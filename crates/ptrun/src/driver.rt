@@ -3,7 +3,8 @@
 
 ghost use Rattle.std.specs.Prelude.{◌≡◌, ◌<◌, ◌+◌, false, length, All};
 ghost use Rattle.ptopts.specs.View.{words_view};
-ghost use Rattle.ptrun.specs.Driver.{InputsPre, ReportUnopenedPost, RunInputsPre, RunInputsPost, RunWithStorePost, FinishPost, EndRunPost, HasIndexBelow, result_message, result_status};
+ghost use Rattle.ptrun.specs.Driver.{InputsPre, ReportUnopenedPost, RunInputsPre, RunInputsPost, RunWithStorePost};
+ghost use Rattle.ptrun.specs.Driver.{FinishPost, EndRunPost, HasIndexBelow, result_message, result_status};
 ghost use Rattle.ptrun.specs.Operands.{positions};
 ghost use Rattle.ptrun.specs.Runs.{RunPre, sinks, outcome};
 ghost use Rattle.ptrun.specs.MessageWrites.{HasSaid};

@@ -14,15 +14,10 @@ fn line_of(parts: &[&str]) -> Option<ArrayVec<u8, 1024>>
 {
     let mut line = ArrayVec::new();
     for part in parts {
-        match line.try_extend_from_slice(part.as_bytes()) {
-            Ok(()) => {}
-            Err(_) => return None,
-        }
+        line.try_extend_from_slice(part.as_bytes()).ok()?;
     }
-    match line.try_push(b'\n') {
-        Ok(()) => Some(line),
-        Err(_) => None,
-    }
+    line.try_push(b'\n').ok()?;
+    Some(line)
 }
 
 // Writes one part after another, and a newline.
@@ -52,10 +47,7 @@ pub fn say<E: Sink>(messages: &mut E, parts: &[&str]) -> bool
     ensures { SayPost (E.state messages.old) (E.state messages.new) (line_of (texts parts.now)) result }
 {
     match line_of(parts) {
-        Some(line) => match write_out(messages, &line) {
-            Ok(()) => true,
-            Err(_) => false,
-        },
+        Some(line) => write_out(messages, &line).is_ok(),
         None => say_in_parts(messages, parts),
     }
 }
@@ -103,10 +95,6 @@ impl<E: Sink> Messages<E> {
     pub(crate) fn into_sink(self) -> E
         ensures { E.state result ≡ self }
     {
-        let Messages {
-            sink,
-            has_failed: _,
-        } = self;
-        sink
+        self.sink
     }
 }

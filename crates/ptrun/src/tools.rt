@@ -36,8 +36,8 @@ pub(crate) fn run_command<
 ) -> Report<W, E>
     requires given { InputsPre (command_spec (command_view command)) inputs.old }
     requires unused { RunPre store.old (sinks (W.state out) messages) }
-    ensures { RunWithStorePost (command_spec (command_view command.entry)) inputs.old inputs.new (sinks (W.state out) messages)
-        (outcome W.state E.state result) store.old store.new }
+    ensures { RunWithStorePost (command_spec (command_view command.entry)) inputs.old inputs.new
+        (sinks (W.state out) messages) (outcome W.state E.state result) store.old store.new }
 {
     match command {
         Command::Cut(tool, operands) => run_tool(store, &tool, &operands, inputs, out, messages),

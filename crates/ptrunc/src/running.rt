@@ -5,7 +5,8 @@ ghost use Rattle.ptopts.specs.Commands.{command_of_args};
 ghost use Rattle.ptopts.specs.View.{words_view, CommandPost};
 ghost use Rattle.ptrun.specs.Files.{AreNewInputs, HasBytes, InputBytes, at};
 ghost use Rattle.ptrun.specs.SpecOfArgs.{file_count, is_memory_fault, spec_of_args};
-ghost use Rattle.ptrunc.specs.Inputs.{AreReadersOf, HasNotFailed, IsShort, file_view, files_view, first_files, inputs_for, memory_reader};
+ghost use Rattle.ptrunc.specs.Inputs.{AreReadersOf, HasNotFailed, IsShort, file_view, files_view, first_files};
+ghost use Rattle.ptrunc.specs.Inputs.{inputs_for, memory_reader};
 ghost use Rattle.ptrunc.specs.Results.{FilledPost, IsRunInMemory, StatusPost};
 
 use crate::answer::{Answer, Part, refuse};
@@ -72,7 +73,8 @@ fn inputs_of<'a, A: Allocator + Copy>(
     files: &[Option<&'a [u8]>],
     count: usize,
 ) -> Result<Vec<LineReader<Bytes<'a>, Bytes<'a>>, A>, AllocError>
-    ensures inputs { IfOk result (λ inputs. AreReadersOf (first_files (files_view files.now) count) input.now inputs.items) }
+    ensures inputs { IfOk result (λ inputs. AreReadersOf (first_files (files_view files.now) count) input.now
+        inputs.items) }
 {
     let mut inputs = Vec::new(alloc);
     inputs.push(standard_reader(input))?;

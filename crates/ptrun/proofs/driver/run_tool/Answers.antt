@@ -68,3 +68,9 @@ returns g c =
       reads_nothing = (λ none. absurd (reads none), λ none. absurd (reads none));
       store = (c.end_run-2.ensures.peak, c.end_run-2.ensures.denied);
     }
+
+pub report_unopened-requires-clause-in_range : goal.report_unopened-requires-clause-in_range
+report_unopened-requires-clause-in_range g c = rw c.deref-order.ensures.value c.requires.given.in_range
+
+pub report_unopened-requires-clause-named : goal.report_unopened-requires-clause-named
+report_unopened-requires-clause-named g c = rw c.deref-names.ensures.value c.requires.given.named

@@ -36,5 +36,5 @@ returns-in-Err-clause-is_exact g c =
 
 pub returns-in-Ok-clause-is_exact : goal.returns-in-Ok-clause-is_exact
 returns-in-Ok-clause-is_exact g c =
-    exact_for_args c.args.command (words_view c.args.words.now) _ _ _ _ c.requires.fresh.1
+    exact_for_args _ (words_view c.args.words.now) _ _ _ _ c.requires.fresh.1
     (returns-in-Ok-clause-run g c).run

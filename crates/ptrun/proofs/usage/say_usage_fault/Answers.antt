@@ -1,8 +1,9 @@
 -- Each fault has one message, which its branch says.
 use Rattle.ptrun.proofs.usage.say_usage_fault.Goals as goal
+use Rattle.std.proofs.Common.{rules}
 
 pub returns-in-Together-clause-message : goal.returns-in-Together-clause-message
-returns-in-Together-clause-message g c = rw c.in-Together.is c.say_conflict.ensures
+returns-in-Together-clause-message g c = search rules
 
 pub returns-in-Value-clause-message : goal.returns-in-Value-clause-message
 returns-in-Value-clause-message g c = rw c.in-Value.is c.say_option-in-Value.ensures

@@ -1,6 +1,7 @@
 -- Two readers are lent from one list, split at the higher position. Either position may be the lower one, and both
 -- cases are the same merge.
-use Rattle.ptrun.proofs.Common.{◌≡◌, ℕ, ◌<◌, ◌≤◌, sym, arith}
+use Rattle.ptrun.proofs.Common.{◌≡◌, ℕ, ◌<◌, ◌≤◌, length, sym, arith}
+use borrow.Author.Rules.{scaled_Fits}
 use Rattle.ptrun.proofs.merge.MergeJob.merge_at.Goals as goal
 use Rattle.ptrun.proofs.TwoInputRuns.{were, split_readers}
 
@@ -37,3 +38,14 @@ returns-else-first-second g c =
       merged = rw (sym k.was_low, sym k.was_high, k.is_low, k.is_high) w.ensures;
       others = λ position first second. k.others position second first;
     }
+
+pub offset_bounds-front-first : goal.offset_bounds-front-first
+offset_bounds-front-first g c =
+    let low : c.args.first < length c.split_at_mut-front.result.0.now = omega arith in
+    search scaled_Fits
+
+pub offset_bounds-front-second : goal.offset_bounds-front-second
+offset_bounds-front-second g c =
+    let low : c.args.second < length c.split_at_mut-front-else-first-second.result.0.now =
+    omega (arith, below c.args.first c.args.second c.if-first-second.false c.requires.apart) in
+    search scaled_Fits

@@ -1,11 +1,18 @@
 -- In series, the pass over the reader of the only operand is that of the tool. In parallel each operand is a column, so
 -- facts about columns are facts about operands.
+use Rattle.std.proofs.lemmas.Grind.{common_steps}
 use Rattle.ptrun.proofs
-use proofs.Common.{paste_job}
+use proofs.Common.{paste_job, arith}
 use Rattle.std.proofs.lemmas.Result.{err_from_is_err_and}
 use Rattle.ptrun.proofs.tools.PasteJobTool.run_on.Goals as goal
 use proofs.PasteRuns.{cells_ready, rows_post}
 use proofs.ToolRuns.{operand_passed}
+use borrow.Author.Rules.{scaled_Fits}
+
+pub offset_bounds-inputs-position : goal.offset_bounds-inputs-position
+offset_bounds-inputs-position g c =
+    let low = (rw c.if-self.true at c.requires).within in
+    search scaled_Fits
 
 pub returns-then-self : goal.returns-then-self
 returns-then-self g c = rw c.if-self.true
@@ -26,3 +33,12 @@ pub returns : goal.returns
 returns g c = rw c.if-self.false
     (rw c.in_ok-paste.was at (rows_post (paste_job c.args.self.now) (rw c.if-self.false at c.requires) _
     c.paste.ensures))
+
+pub paste_serial-requires : goal.paste_serial-requires
+paste_serial-requires g c = grind (arith, common_steps)
+
+pub bounds-operands-0 : goal.bounds-operands-0
+bounds-operands-0 g c = grind (arith, common_steps)
+
+pub bounds-inputs-position : goal.bounds-inputs-position
+bounds-inputs-position g c = grind (arith, common_steps)
