@@ -195,9 +195,10 @@ def goals(crates, count):
         for at, _, names in os.walk(f"{crate.folder}/out/incremental"):
             for name in (it for it in names if it.endswith(".decls.oantt")):
                 label = name[: -len(".decls.oantt")].replace(f"Rattle-{crate.name}-", "")
+                # Of a declaration that was checked with several texts, the newest mostly comes first.
                 for note in noted(f"{at}/{name}"):
                     steps = sum(it for it in note.get("steps") or [] if isinstance(it, int))
-                    found[f"{label} {note['name']}"] = steps
+                    found.setdefault(f"{label} {note['name']}", steps)
         print(f"== {crate.name}: {sum(found.values()) / 1e6:.0f} million steps, {len(found)} declarations")
         for name, steps in sorted(found.items(), key=lambda it: -it[1])[:count]:
             print(f"{steps / 1e6:8.1f}  {name}")
