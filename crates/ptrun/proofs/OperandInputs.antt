@@ -199,6 +199,10 @@ pub operand_low : {p n : ℕ} (order : List Input) (i : ℕ) (d : Input) → All
     → i < length order → p ≡ position (get_or order i d) → p < n
 operand_low {n = n} order i d in_range within is = grind (arith, position_in_range)
 
+pub only_within : {p n : ℕ} → p < n → All (λ q. q < n) (p ∷ [])
+only_within low zero d within = low
+only_within low (suc k) d within = absurd (omega (arith, within))
+
 pub operand_step : {p n : ℕ} (order : List Input) (i : ℕ) (d : Input) → All (λ q. q < n) (positions order)
     → i < length order → p ≡ position (get_or order i d) → OperandStep order i p n
 operand_step {p} {n} order i d in_range within is = record {

@@ -5,8 +5,9 @@ use proofs.Common.{ℕ, arith, ap, false≢true, sym, ◌∙◌, subst, HasIndex
 use proofs.RunEnds.{run_in_store}
 use proofs.OperandInputs.{names_counted, position_in_range}
 use proofs.MessageWrites.{said_nothing}
-use proofs.ToolRuns.{unopened_run, together_pre, together_post, together_says, reads_if}
+use proofs.ToolRuns.{unopened_run, together_post, together_says, reads_if}
 use Rattle.ptrun.proofs.driver.run_tool.Goals as goal
+use Rattle.std.proofs.lemmas.Grind.{common_steps}
 
 pub positions_of-requires-clause-in_range : goal.positions_of-requires-clause-in_range
 positions_of-requires-clause-in_range g c = rw c.deref-order.ensures.value (λ k d within. omega (
@@ -14,8 +15,12 @@ positions_of-requires-clause-in_range g c = rw c.deref-order.ensures.value (λ k
   position_in_range c.args.operands.now.order.items (length c.args.inputs.now) c.requires.given.in_range k d within,
 ))
 
-pub run_on-run_result-requires : goal.run_on-run_result-requires
-run_on-run_result-requires g c = grind (arith, together_pre)
+pub positions_of-requires-clause-few : goal.positions_of-requires-clause-few
+positions_of-requires-clause-few g c = grind (arith, common_steps)
+
+pub run_on-run_result-requires-clause-within : goal.run_on-run_result-requires-clause-within
+run_on-run_result-requires-clause-within g c =
+    rw (c.deref.ensures.0 ∙ c.positions_of.ensures, c.deref-order.ensures.value) c.requires.given.in_range
 
 pub end_run-requires : goal.end_run-requires
 end_run-requires g c =
