@@ -3,10 +3,8 @@ pub mod RowsTaken
 pub mod Grid
 pub mod Named
 pub mod SharedInput
-pub mod PasteOfParts
-pub mod Exits
+pub mod Call
 pub mod Lag
-pub mod Invariant
 pub mod FillRow
 pub mod SerialRest
 pub mod Replaced

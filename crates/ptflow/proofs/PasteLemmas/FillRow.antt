@@ -117,11 +117,12 @@ module _ {cells : List ℕ} {fields : List (List ℕ)} {before store : Slots} (s
     }
 
     -- The bound on the slots, by the lines that the readers gave.
-    pub slots_kept_by_lines : {n : ℕ} {old new : List Reader} {input_lines : ℕ → List (List ℕ)}
+    pub slots_kept_by_lines : {n : ℕ} {old new : List Reader} {input_lines : ℕ → List (List ℕ)} → n ≤ length cells
         → CellsTaken cells n old new fields input_lines → (first : Slots) (top : ℕ → ℕ)
         → SlotsBound cells top first before
-        → ((input : ℕ) → max_length (input_lines input) ≤ top input) → SlotsBound cells top first store
-    slots_kept_by_lines = grind (arith, line_le_max_length)
+        → ((input : ℕ) → 0 < uses_of cells input → max_length (input_lines input) ≤ top input)
+        → SlotsBound cells top first store
+    slots_kept_by_lines = grind (arith, line_le_max_length, uses_before_lt)
 
 -- ---- readers by their indices
 

@@ -5,13 +5,14 @@ use Rattle.ptflow.proofs
 use proofs.Common.{◌≡◌, ◌⊎◌, inl, ℕ, ◌+◌, ◌≤◌, List, [], ◌∷◌, ◌++◌, None, length, refl, sym, ◌∙◌, ap, arith}
 use proofs.Common.{length-append, AreLines, Reader, ReaderAdvance, AdvanceOk, IsDone, IsSound, Slots, FillLine}
 use proofs.Common.{advance_trans, unlines-append, lines_of_unlines, AreReceivedLines, LinesTaken, ◌*◌, ◌<◌, true}
-use proofs.Common.{take, subst, append_assoc, eq-eqb, ne_eqb, take_all, reader_at, map, unlines, join_with_cycle}
+use proofs.Common.{take, subst, eq-eqb, ne_eqb, take_all, reader_at, map, unlines, join_with_cycle}
 use proofs.Common.{uses_of, columns, rows, CellsTaken, CellsFilled, RowShape, after_cell, cells_text, AreFirstRows}
-use proofs.Common.{RowsTaken, common_steps}
+use proofs.Common.{RowsTaken, common_steps, drop_all}
 use proofs.Passes.LinesRead.{lines_none, lines_are_given, lines_more}
 use proofs.Passes.Readers.{eof_gives_nothing, stays_at_eof}
 use Rattle.std.specs.Prelude.{slice_index_or}
-use proofs.PasteLemmas.Grid.{Column, for_each_cell_unique, uses_before, grid_step, rows_text-append}
+use proofs.PasteLemmas.Grid.{Column, for_each_cell_unique, uses_before, grid_step, grid_none, after_row, rows-append}
+use proofs.PasteLemmas.Grid.{rows_text-append}
 use Rattle.std.proofs.Common.{rules}
 
 AreLines-append : (end : ℕ) (xs ys : List (List ℕ)) → AreLines end xs → AreLines end ys → AreLines end (xs ++ ys)
@@ -122,6 +123,17 @@ retarget_terminator : {end : ℕ} {b c : Reader} {n : ℕ} {ys : Column} → (0 
 retarget_terminator = grind (arith, common_steps, taken_at_most, nothing_taken)
 
 module _ {row : RowShape} where
+  -- They are the first rows, for each continuation of the inputs.
+  pub rows_on : {old new : List Reader} {ls : ℕ → Column} {taken_rows : List (List (List ℕ))}
+      → AreFirstRows row old new ls taken_rows → (more : ℕ → Column)
+      → ((input : ℕ) → 0 < uses_of row.cells input → IsDone (reader_at new input) → more input ≡ [])
+      → rows (columns row.cells (λ input. ls input ++ more input)) ≡ taken_rows ++ rows (columns row.cells more)
+  rows_on {ls = ls} {taken_rows} t more may = cc (
+    rows-append row.cells (length taken_rows) ls more
+        (λ input some. grind (arith, may input some, (t.lines_taken input).enough)),
+    t.are,
+  )
+
   -- Rows are taken, and then more.
   abbrev pub first_rows_trans : {a b c : List Reader} {ks ls : ℕ → Column} {xs ys : List (List (List ℕ))}
       → AreFirstRows row a b ks xs → AreFirstRows row b c ls ys
@@ -130,19 +142,16 @@ module _ {row : RowShape} where
     lines_taken = λ input. taken_more
         (ap (λ (n : ℕ). n * uses_of row.cells input) (length-append xs ys) ∙ omega arith)
         (p.lines_taken input) (q.lines_taken input);
-    on = λ more may.
-        (λ i. rows (columns row.cells (λ input. append_assoc (ks input) (ls input) (more input) i)))
-        ∙ p.on (λ input. ls input ++ more input) (λ input done i.
-        let t = q.lines_taken input in
-        none_at_eof t done i
-        ++ may input (stays_at_eof _ _ _ done t.reads) i)
-        ∙ ap (λ (l : List (List (List ℕ))). xs ++ l) (q.on more may)
-        ∙ sym (append_assoc xs ys (rows (columns row.cells more)));
+    are = cc (rows_on p ls (λ input some done. none_at_eof (q.lines_taken input) done), q.are);
     count = q.count ∙ p.count;
   }
 
   pub no_rows : {old : List Reader} → AreFirstRows row old old (λ p. []) []
-  no_rows = record { lines_taken = λ p. nothing_taken (omega arith); on = λ more may. refl; count = refl }
+  no_rows = record {
+    lines_taken = λ p. nothing_taken (omega arith);
+    are = grid_none row.cells (λ p. []) (λ p some. refl);
+    count = refl;
+  }
 
   pub rows_taken_none : {old : List Reader} → RowsTaken row old old []
   rows_taken_none = record {
@@ -192,11 +201,11 @@ module _ (row : RowShape) {old new : List Reader} {fields : List (List ℕ)}
             let one : 1 * uses_of row.cells p ≡ uses_of row.cells p = omega arith in
             subst (λ (n : ℕ). LinesTaken row.terminator (reader_at old p) (reader_at new p) n (r.input_lines p))
             (sym one) (lines_taken_by_row r.consumed p);
-        on = λ more may.
-            grid_step row.cells r.input_lines more (record {
-              all = λ p. grind (arith, may p, (lines_taken_by_row r.consumed p).enough);
-            }) c low (omega arith)
-            ∙ (λ i. sym row_is i ∷ rows (columns row.cells more));
+        are = cc (
+          grid_step row.cells r.input_lines c low (omega arith),
+          grid_none row.cells (after_row row.cells r.input_lines)
+              (λ p some. drop_all _ _ (taken_at_most (lines_taken_by_row r.consumed p))),
+        );
         count = r.consumed.count;
       }
 

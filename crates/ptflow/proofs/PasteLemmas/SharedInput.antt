@@ -2,17 +2,17 @@
 -- of these lines are replaced by the cycle (the delimiters of the row, and a last entry that keeps the terminator),
 -- they become the row. So bytes with count * n terminators, the last at the end, become `count` rows.
 use Rattle.ptflow.proofs
-use proofs.Common.{◌≡◌, ◌≢◌, ℕ, zero, suc, ◌+◌, ◌-◌, ◌*◌, ◌%◌, ◌<◌, ◌≤◌, List, [], ◌∷◌, ◌++◌, length, map, take, drop}
+use proofs.Common.{◌≡◌, ◌≢◌, ℕ, zero, suc, ◌+◌, ◌-◌, ◌*◌, ◌%◌, ◌<◌, ◌≤◌, List, [], ◌∷◌, length, map, take, drop}
 use proofs.Common.{set, get_or, refl, sym, ◌∙◌, ap, arith, append_assoc, length-drop, take-append-drop, inl, count_by}
 use proofs.Common.{cases_eq, mod-mul-add, nil_from_length, length-take-le, length-set, sum_by-set, is_byte, unlines}
 use proofs.Common.{lines, AreLines, EndsWithByte, Output, PushEffect, push_nothing, Reader, IsSound, budget}
 use proofs.Common.{advance_ok_take, byte_eq, unlines-append, lines_are, the_lines, no_reader, reader_at, update_at}
 use proofs.Common.{join_with_cycle, uses_of, columns, rows, IsSharedCycle, IsWholeRows, LinesTaken, with_replacements}
 use proofs.Common.{cycle_byte, after_cell, cells_text, mod-eq_of_lt, RowShape, RowsTaken, RowsWritten, nat_tests}
-use proofs.Common.{common_steps}
+use proofs.Common.{common_steps, get_or-take}
 use proofs.Vectors.FindNth.{none_counted}
-use proofs.PasteLemmas.Grid.{Column, for_each_cell_unique, top_of, grid_step, uses_here, last_use, update_here}
-use proofs.PasteLemmas.Grid.{update_there}
+use proofs.PasteLemmas.Grid.{Column, for_each_cell_unique, top_of, grid_step, grid_none, after_row, columns_same}
+use proofs.PasteLemmas.Grid.{uses_here, last_use, update_here, update_there}
 use proofs.PasteLemmas.FillRow.{each_reader, IsNextReader}
 use proofs.PasteLemmas.RowsTaken.{nothing_taken, rows_taken_none, row_text}
 use proofs.PasteLemmas.BufferedRows.{consumed_none, consumed_more}
@@ -125,10 +125,6 @@ module _ {row : RowShape} {cycle : Cycle} (t : IsSharedCycle row cycle) where
 abbrev pub lines_of_input : ℕ → Column → ℕ → Column
 lines_of_input input ls = update_at input ls (λ q. [])
 
-lines_of_input-append : (input : ℕ) (xs ys : Column) (q : ℕ)
-    → lines_of_input input (xs ++ ys) q ≡ lines_of_input input xs q ++ lines_of_input input ys q
-lines_of_input-append = grind (arith, nat_tests)
-
 module _ (cells : List ℕ) (input : ℕ) (same : (c : ℕ) → c < length cells → get_or cells c 0 ≡ input) where
   uses_before_column : (c : ℕ) → c ≤ length cells → uses_of (take c cells) input ≡ c
   uses_before_column zero low = refl
@@ -142,47 +138,24 @@ module _ (cells : List ℕ) (input : ℕ) (same : (c : ℕ) → c < length cells
   uses_none : (q : ℕ) → q ≢ input → uses_of cells q ≡ 0
   uses_none q differ = grind (arith, last_use cells q, same)
 
-  -- The first n lines are the first row.
-  row_on : (some : 0 < length cells) (ls : Column) (more : ℕ → Column) → length ls ≡ length cells
-      → rows (columns cells (λ q. lines_of_input input ls q ++ more q)) ≡ ls ∷ rows (columns cells more)
-  row_on some ls more long =
-      cc (
-        grid_step cells (lines_of_input input ls) more
-            (record {
-              all = λ q. inl (grind (arith, nat_tests, cases_eq q input, uses_all, uses_none q));
-            }) 0 some (omega (
-              arith,
-              ap length (update_here input ls (λ q. []) (get_or cells 0 0) (same 0 some)),
-            )),
-        for_each_cell_unique (top_of cells (lines_of_input input ls)) cells ls [] long
-            (λ c low. rw (same c low) (rw (
-              update_here input ls (λ q. []) input refl,
-              uses_before_column c (omega arith),
-            ) refl)),
-      )
-
-  -- The first k * n lines are the first k rows.
-  rows_on : (some : 0 < length cells) (k : ℕ) (ls : Column) (more : ℕ → Column) → length ls ≡ k * length cells
-      → rows (columns cells (λ q. lines_of_input input ls q ++ more q)) ≡ rows_in (length cells) k ls
-      ++ rows (columns cells more)
-  rows_on some zero [] more long = λ i. rows (columns cells (λ q. none q i ++ more q))
-    where
-      none : (q : ℕ) → lines_of_input input [] q ≡ []
-      none q = grind (arith, nat_tests)
-  rows_on some zero (line ∷ ls) more long = absurd (omega arith)
-  rows_on some (suc k) ls more long =
+  -- k * n lines are k rows.
+  rows_are : (some : 0 < length cells) (k : ℕ) (ls : Column) → length ls ≡ k * length cells
+      → rows (columns cells (lines_of_input input ls)) ≡ rows_in (length cells) k ls
+  rows_are some zero ls long = grid_none cells (lines_of_input input ls) (λ q used.
+      let none : ls ≡ [] = nil_from_length ls (omega arith) in grind (arith, nat_tests))
+  rows_are some (suc k) ls long =
       let n = length cells in
-      let split : (q : ℕ) → lines_of_input input ls q ++ more q
-      ≡ lines_of_input input (take n ls) q ++ (lines_of_input input (drop n ls) q ++ more q) = λ q. cc (
-        take-append-drop n ls,
-        lines_of_input-append input (take n ls) (drop n ls) q,
-        append_assoc (lines_of_input input (take n ls) q) (lines_of_input input (drop n ls) q) (more q),
-      ) in
-      (λ i. rows (columns cells (λ q. split q i)))
-      ∙ row_on some (take n ls) (λ q. lines_of_input input (drop n ls) q ++ more q)
-      (length-take-le n ls (omega arith))
-      ∙ ap (λ (r : List (List (List ℕ))). take n ls ∷ r)
-      (rows_on some k (drop n ls) more (omega (arith, length-drop n ls)))
+      let ins = lines_of_input input ls in
+      let here = update_here input ls (λ q. []) in
+      cc (
+        grid_step cells ins 0 some (omega (arith, ap length (here (get_or cells 0 0) (same 0 some)))),
+        for_each_cell_unique (top_of cells ins) cells (take n ls) [] (length-take-le n ls (omega arith))
+            (λ c low. rw (same c low) (rw (here input refl, uses_before_column c (omega arith))
+            (get_or-take n ls c [] low))),
+        columns_same cells (after_row cells ins) (lines_of_input input (drop n ls))
+            (λ q used. grind (arith, nat_tests, cases_eq q input, uses_all, uses_none q)),
+        rows_are some k (drop n ls) (omega (arith, length-drop n ls)),
+      )
 
 -- ---- the complete rows in the buffer
 
@@ -235,7 +208,7 @@ module _ {row : RowShape} {cycle : Cycle} (t : IsSharedCycle row cycle) {old : L
           ) lines_taken_here)
           (λ q differ. rw (update_there input rs.ls (λ q. []) q differ, uses_none row.cells input same q differ)
           (nothing_taken (omega arith)));
-      on = λ more may. rows_on row.cells input same t.some rs.count rs.ls more rs.long;
+      are = rows_are row.cells input same t.some rs.count rs.ls rs.long;
       count = length-set old input r;
     };
     least = omega (

@@ -4,7 +4,7 @@ use Rattle.std.specs.Prelude.{map, take, drop, sum_by}
 use Rattle.memchr.specs.Find.{IsFirstByte, is_byte}
 use Rattle.ptlines.specs.Text.{unlines}
 use Rattle.ptlines.specs.Outputs.{Output, PushEffect}
-use Rattle.ptlines.specs.Readers.{Reader, IsDone, budget, reader_at}
+use Rattle.ptlines.specs.Readers.{Reader, budget, reader_at}
 use Rattle.ptflow.specs.PasteText.{uses_of, join_with_cycle, columns, rows}
 use Rattle.ptflow.specs.Private.Paste.RowCells.{RowShape, BegunText, CellsFilled, cells_text}
 use Rattle.ptflow.specs.Private.Paste.TakenLines.{LinesTaken}
@@ -26,13 +26,12 @@ pub record AreConsumed (old new : List Reader) : Type 0 where
   pub count : length new ≡ length old
   pub buffered : (input : ℕ) → IsConsumed (reader_at old input) (reader_at new input)
 
--- `taken_rows` are the next rows, for each continuation of the inputs, and their lines were taken from the readers.
+-- The lines of the next rows were taken from the readers, and these are `taken_rows`.
 pub record AreFirstRows (row : RowShape) (old new : List Reader) (ls : ℕ → List (List ℕ))
     (taken_rows : List (List (List ℕ))) : Type 0 where
   pub lines_taken : (input : ℕ) → LinesTaken row.terminator (reader_at old input) (reader_at new input)
       (length taken_rows * uses_of row.cells input) (ls input)
-  pub on : (more : ℕ → List (List ℕ)) → ((input : ℕ) → IsDone (reader_at new input) → more input ≡ [])
-      → rows (columns row.cells (λ input. ls input ++ more input)) ≡ taken_rows ++ rows (columns row.cells more)
+  pub are : rows (columns row.cells ls) ≡ taken_rows
   pub count : length new ≡ length old
 
 -- Some rows were taken, or none, and `written` is their text.

@@ -1,19 +1,19 @@
 -- Each iteration takes the rows that are complete in the buffers, and finishes the next row; then the invariant holds
 -- again. If that row has no line, all readers are at the end of their inputs.
 use Rattle.ptflow.proofs
-use proofs.Common.{Bool, not, true, false, ◌≡◌, ◌≤◌, Ok, sym, ◌∙◌, ap, subst, arith, length, take, err_from_is_err_and}
-use proofs.Common.{Paste, PushEffect, paste_job, RowShape, BegunText, RowAmid, CellsFilled, CopyRowsPost, FillRowPost}
-use proofs.Common.{RowFilled, Result, FlowFault, begun_after, begun_in, job_shape, shape_of, [], ◌∷◌, ◌++◌, Err, Write}
-use proofs.Common.{Output, PastePost, rows_text, slots_text, call_on_failed_output, List, Reader, Slots}
-use Rattle.std.proofs.Math.Bool.{not-not}
+use proofs.Common.{Bool, true, false, ◌≡◌, ◌≤◌, Ok, sym, ap, subst, arith, length, take}
+use proofs.Common.{PushEffect, paste_job, RowShape, BegunText, RowAmid, CellsFilled, CopyRowsPost, FillRowPost}
+use proofs.Common.{RowFilled, Result, FlowFault, begun_after, begun_in, job_shape, shape_of, [], ◌++◌, Err, Write}
+use proofs.Common.{Output, PastePost, slots_text, cells_text, call_on_failed_output, List, Reader, Slots}
+use Rattle.std.proofs.lemmas.Bool.{not-false, not-true}
 use Rattle.ptflow.specs.declared.tools.paste.row.BegunRow.{BegunRow}
-use proofs.PasteLemmas.Exits.{paste_without_slots, paste_rows_write_failed, paste_shared_write_failed}
-use proofs.PasteLemmas.Exits.{paste_fill_failed, paste_done, paste_row_write_failed}
-use proofs.PasteLemmas.Invariant.{PasteInvariant, HasStarted, invariant_starts, invariant_rows, invariant_written}
-use proofs.PasteLemmas.Invariant.{invariant_sent, invariant_slots, invariant_more, now_readable, row_wrote}
+use proofs.PasteLemmas.Call.{by_fault, paste_without_slots, paste_rows_write_failed, paste_shared_write_failed}
+use proofs.PasteLemmas.Call.{paste_fill_failed, paste_done, paste_row_write_failed, PasteInvariant, HasStarted}
+use proofs.PasteLemmas.Call.{invariant_starts, invariant_rows, invariant_written, invariant_sent, invariant_slots}
+use proofs.PasteLemmas.Call.{invariant_more, now_readable}
 use proofs.PasteLemmas.BufferedRows.{still_readable}
 use proofs.PasteLemmas.FillRow.{amid_starts, amid_text}
-use Rattle.ptflow.proofs.tools.paste.paste.Goals.{After-ensure_slots, After-fill_row}
+use Rattle.ptflow.proofs.tools.paste.paste.Goals.{After-ensure_slots, After-fill_row, In_ok-write_shared_rows}
 use Rattle.ptflow.proofs.tools.paste.paste.Given as given
 use Rattle.ptflow.proofs.tools.paste.paste.Goals as goal
 
@@ -32,9 +32,8 @@ starts g c = record {
 }
 
 pub returns-in_err-ensure_slots : goal.returns-in_err-ensure_slots
-returns-in_err-ensure_slots g c =
-    let (fault, same, is) = err_from_is_err_and c.from_residual.result c.from_residual.ensures.1 in
-    rw (same, is)
+returns-in_err-ensure_slots g c = by_fault c.from_residual.result
+    c.in_err-ensure_slots.field-0.0 c.from_residual.ensures
     (paste_without_slots (starts g (goal.at.returns-in_err-ensure_slots g c).After-ensure_slots)
     c.ensure_slots.ensures.adds c.ensure_slots.ensures.same_peak c.in_err-ensure_slots.ensures.denied
     c.in_err-ensure_slots.ensures.few c.in_err-ensure_slots.ensures.err)
@@ -51,31 +50,32 @@ write_shared_rows-requires-clause-readable g c =
     rw c.row_format-row.ensures (now_readable c.rows.invariant.invariant_holds)
 
 pub returns-in_err-write_shared_rows : goal.returns-in_err-write_shared_rows
-returns-in_err-write_shared_rows g c =
-    let (fault, same, is) = err_from_is_err_and c.from_residual-in_err-write_shared_rows.result
-    c.from_residual-in_err-write_shared_rows.ensures.1 in
-    rw (same, is) (paste_shared_write_failed c.rows.invariant.invariant_holds
+returns-in_err-write_shared_rows g c = by_fault c.from_residual-in_err-write_shared_rows.result Write
+    c.from_residual-in_err-write_shared_rows.ensures
+    (paste_shared_write_failed c.rows.invariant.invariant_holds
     (rw c.row_format-row.ensures at c.write_shared_rows.ensures.rows) c.in_err-write_shared_rows.ensures.fault)
 
+-- The invariant after the rows of one input.
+shared : (g : given.Over) (c : In_ok-write_shared_rows g) → PasteInvariant (paste_job c.args.job.now) c.args.cells.now
+    c.args.readers.now c.set_terminators.new.readers c.write_shared_rows.new.readers c.args.out.now
+    c.write_shared_rows.new.out c.args.store.now c.rows.store
+shared g c = invariant_written c.rows.invariant.invariant_holds
+    (rw c.row_format-row.ensures at c.write_shared_rows.ensures.rows) c.in_ok-write_shared_rows.ensures.clean
+
 pub copy_rows-copied-requires : goal.copy_rows-copied-requires
-copy_rows-copied-requires g c =
-    rw c.row_format-row.ensures (now_readable (invariant_written c.rows.invariant.invariant_holds
-    (rw c.row_format-row.ensures at c.write_shared_rows.ensures.rows) c.in_ok-write_shared_rows.ensures.clean))
+copy_rows-copied-requires g c = rw c.row_format-row.ensures
+    (now_readable (shared g (goal.at.copy_rows-copied-requires g c).In_ok-write_shared_rows))
 
 pub returns-in_err-push : goal.returns-in_err-push
-returns-in_err-push g c =
-    let (fault, same, is) = err_from_is_err_and c.from_residual-in_err-push.result c.from_residual-in_err-push.ensures.1
-    in
-    rw (same, is) (paste_rows_write_failed (invariant_written c.rows.invariant.invariant_holds
-    (rw c.row_format-row.ensures at c.write_shared_rows.ensures.rows) c.in_ok-write_shared_rows.ensures.clean)
+returns-in_err-push g c = by_fault c.from_residual-in_err-push.result Write c.from_residual-in_err-push.ensures
+    (paste_rows_write_failed (shared g (goal.at.returns-in_err-push g c).In_ok-write_shared_rows)
     (rw c.row_format-row.ensures at c.copy_rows-copied.ensures.rows) c.push.ensures.pushed.wrote
     c.in_err-push.ensures.pushed.fault)
 
 pub fill_row-requires-clause-readable : goal.fill_row-requires-clause-readable
-fill_row-requires-clause-readable g c =
-    rw c.row_format-row.ensures (still_readable c.copy_rows-copied.ensures.rows.consumed
-    (now_readable (invariant_written c.rows.invariant.invariant_holds
-    (rw c.row_format-row.ensures at c.write_shared_rows.ensures.rows) c.in_ok-write_shared_rows.ensures.clean)))
+fill_row-requires-clause-readable g c = rw c.row_format-row.ensures
+    (still_readable c.copy_rows-copied.ensures.rows.consumed
+    (now_readable (shared g (goal.at.fill_row-requires-clause-readable g c).In_ok-write_shared_rows)))
 
 pub fill_row-requires-clause-within : goal.fill_row-requires-clause-within
 fill_row-requires-clause-within g c = omega (
@@ -91,11 +91,8 @@ fill_row-requires-clause-slots g c = omega (
 )
 
 module _ (g : given.Over) (c : After-fill_row g) where
-  abbrev job : Paste
-  job = paste_job c.args.job.now
-
   abbrev shape : RowShape
-  shape = job_shape job c.args.cells.now
+  shape = job_shape (paste_job c.args.job.now) c.args.cells.now
 
   -- The rows from the buffers, and the row that was begun after them.
   rows : CopyRowsPost shape c.write_shared_rows.new.readers
@@ -104,8 +101,8 @@ module _ (g : given.Over) (c : After-fill_row g) where
   rows = rw c.row_format-row.ensures at c.copy_rows-copied.ensures.rows
 
   abbrev Now : List Reader → Output → Slots → Type 0
-  Now readers out store = PasteInvariant job c.args.cells.now c.args.readers.now c.set_terminators.new.readers readers
-      c.args.out.now out c.args.store.now store
+  Now readers out store = PasteInvariant (paste_job c.args.job.now) c.args.cells.now c.args.readers.now
+      c.set_terminators.new.readers readers c.args.out.now out c.args.store.now store
 
   -- The invariant after the rows from the buffers.
   now : Now rows.mid c.push.new.self c.rows.store
@@ -152,13 +149,12 @@ module _ (g : given.Over) (c : After-fill_row g) where
       sent : Now rows.mid c.fill_row.new.out c.rows.store
       sent = invariant_sent now wrote clean
 
-      row_pushed : PushEffect c.fill_row.new.out is (rows_text job (amid.fields ∷ []))
-      row_pushed = row_wrote sent amid.slots (has true some) (subst (PushEffect c.fill_row.new.out is)
-          (cc (amid_text amid room)) pushed)
+      row_pushed : PushEffect c.fill_row.new.out is (cells_text shape 0 amid.fields)
+      row_pushed = subst (PushEffect c.fill_row.new.out is) (cc (amid_text amid room)) pushed
 
       row_failed : is.write_failed ≡ true
-          → PastePost job c.args.cells.now c.args.readers.now c.fill_row.new.readers c.args.out.now is c.args.store.now
-          c.fill_row.new.store (Err Write)
+          → PastePost (paste_job c.args.job.now) c.args.cells.now c.args.readers.now c.fill_row.new.readers
+          c.args.out.now is c.args.store.now c.fill_row.new.store (Err Write)
       row_failed = paste_row_write_failed sent amid.slots (has true some) row_pushed
 
       row_more : is.write_failed ≡ false → Now c.fill_row.new.readers is c.fill_row.new.store
@@ -167,9 +163,8 @@ module _ (g : given.Over) (c : After-fill_row g) where
 pub returns-in_err-filled : goal.returns-in_err-filled
 returns-in_err-filled g c =
     let here = (goal.at.returns-in_err-filled g c).After-fill_row in
-    let (fault, same, is) = err_from_is_err_and c.from_residual-in_err-filled.result
-    c.from_residual-in_err-filled.ensures.1 in
-    rw (same, is) (paste_fill_failed (now g here) c.fill_row.new.readers c.fill_row.new.into c.in_err-filled.field-0.0
+    by_fault c.from_residual-in_err-filled.result c.in_err-filled.field-0.0 c.from_residual-in_err-filled.ensures
+    (paste_fill_failed (now g here) c.fill_row.new.readers c.fill_row.new.into c.in_err-filled.field-0.0
     (filled_by g here (Err c.in_err-filled.field-0.0) c.in_err-filled.ensures.fills) c.in_err-filled.ensures.wrote
     c.in_err-filled.ensures.write_failed)
 
@@ -183,7 +178,7 @@ returns-then-not-filled g c =
     let filled = c.in_ok-filled.filled in
     let fills = c.in_ok-filled.ensures.fills in
     paste_done (now g here) (amid g here filled fills).slots
-    (has g here filled fills false (sym (not-not _) ∙ ap not c.if-not-filled.true)) c.clear_slots.ensures
+    (has g here filled fills false (not-true _ c.if-not-filled.true)) c.clear_slots.ensures
     c.in_ok-filled.ensures.wrote c.in_ok-filled.ensures.write_failed
 
 pub write_row-requires-clause-within : goal.write_row-requires-clause-within
@@ -204,12 +199,10 @@ write_row-requires-clause-slots g c = omega (
 
 pub returns-in_err-write_row : goal.returns-in_err-write_row
 returns-in_err-write_row g c =
-    let here = (goal.at.returns-in_err-write_row g c).After-fill_row in
     let row = c.in_ok-filled.ensures in
-    let (fault, same, is) = err_from_is_err_and c.from_residual-in_err-write_row.result
-    c.from_residual-in_err-write_row.ensures.1 in
-    rw (same, is) (row_failed g here c.in_ok-filled.filled row.fills
-    (sym (not-not _) ∙ ap not c.if-not-filled.false) row.wrote row.write_failed c.write_row.ensures.wrote
+    by_fault c.from_residual-in_err-write_row.result Write c.from_residual-in_err-write_row.ensures
+    (row_failed g (goal.at.returns-in_err-write_row g c).After-fill_row c.in_ok-filled.filled row.fills
+    (not-false _ c.if-not-filled.false) row.wrote row.write_failed c.write_row.ensures.wrote
     c.in_err-write_row.ensures.fault)
 
 pub rows-smaller : goal.rows-smaller
@@ -218,16 +211,15 @@ rows-smaller g c =
     omega (
       arith,
       (amid g here c.in_ok-filled.filled c.in_ok-filled.ensures.fills).filled.less
-          (sym (not-not _) ∙ ap not c.if-not-filled.false),
+          (not-false _ c.if-not-filled.false),
       (rows g here).rows.least,
     )
 
 pub rows-preserved : goal.rows-preserved
 rows-preserved g c =
-    let here = (goal.at.rows-preserved g c).After-fill_row in
     let row = c.in_ok-filled.ensures in
     record {
-      invariant_holds = row_more g here c.in_ok-filled.filled row.fills
-          (sym (not-not _) ∙ ap not c.if-not-filled.false) row.wrote row.write_failed c.write_row.ensures.wrote
+      invariant_holds = row_more g (goal.at.rows-preserved g c).After-fill_row c.in_ok-filled.filled row.fills
+          (not-false _ c.if-not-filled.false) row.wrote row.write_failed c.write_row.ensures.wrote
           c.in_ok-write_row.ensures.clean;
     }

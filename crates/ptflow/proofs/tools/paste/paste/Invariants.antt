@@ -1,7 +1,7 @@
 -- The rows so far were pushed; the remaining rows are those of the lines still to come, for each continuation of the
 -- inputs.
 use Rattle.ptflow.proofs.Common.{sum_by, budget, paste_job}
-use Rattle.ptflow.proofs.PasteLemmas.Invariant.{PasteInvariant}
+use Rattle.ptflow.proofs.PasteLemmas.Call.{PasteInvariant}
 use Rattle.ptflow.proofs.tools.paste.paste.Given as goal
 
 abbrev pub invariant-rows : goal.invariant-rows
