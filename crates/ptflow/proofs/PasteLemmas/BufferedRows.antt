@@ -1,67 +1,65 @@
 -- Columns that are copied from the buffers of the readers. A line that is complete in a buffer is the line that `fill`
 -- would return, so a column is filled by it in the same way.
 use Rattle.ptflow.proofs
-use proofs.Common.{◌≡◌, inl, ℕ, ◌+◌, ◌<◌, ◌≤◌, ◌^◌, ◌||◌, Bool, true, false, List, [], ◌∷◌, ◌++◌, ◌%◌, eq-eqb, ne_eqb}
-use proofs.Common.{option_to_list, slice_index_or, None, Some, Ok, length, take, drop, set, get_or, refl, sym, ap}
-use proofs.Common.{arith, append_assoc, length-append, length-drop, take-take, take-append-le, length-take-le}
-use proofs.Common.{drop_at, IsFirstByte, is_byte, Reader, IsSound, Slots, with_line, FillLine, FillPost, common_steps}
-use proofs.Common.{line_before_terminator, take_with_terminator, advance_ok_take, reader_at, CellsFilled, after_cell}
-use proofs.Common.{cells_text, RowShape, BegunText, BufferedRowsPre, IsConsumed, AreConsumed, IsFieldCopied}
-use proofs.Common.{CopyColumnsPost, CopyRowsPost, RowsTaken, put_chunk, chunk, length-chunk, length-put_chunk}
-use proofs.Common.{take_more_put_chunk}
+use proofs.Common.{Bool, List, None, Some, [], ap, append_assoc, arith, drop, false, get_or, inl, length, length-append}
+use proofs.Common.{length-drop, refl, set, sym, take, true, ℕ, ◌++◌, ◌+◌, ◌<◌, ◌||◌, ◌∷◌, ◌≡◌, ◌≤◌, common_steps}
+use proofs.Common.{append-nil, drop_at, length-take-le, take-append-le, take-take, length-chunk, length-put_chunk}
+use proofs.Common.{take_more_put_chunk, chunk, put_chunk, IsFirstByte, is_byte, line_before_terminator}
+use proofs.Common.{advance_ok_take, take_with_terminator, IsDone, IsSound, Reader, budget, reader_at, rows}
+use proofs.Common.{RowShape, BegunText, after_cell, cells_text, LinesTaken, BufferedRowsPre, IsConsumed, AreConsumed}
+use proofs.Common.{RowsTaken, IsFieldCopied, CopyColumnsPost, CopyRowsPost}
 use Rattle.memchr.specs.Find.{IsFirst, Passes}
 use Rattle.ptlines.proofs.CopyFacts.{copied_prefix}
 use Rattle.std.proofs.Math.Seq.{take-append-add}
 use borrow.Rule.Slice.PartMut.{mid_of, put_mid}
 use Rattle.ptflow.specs.Private.Paste.BufferedRows.{LineCopied}
-use proofs.PasteLemmas.RowsTaken.{cells_text-push, rows_taken_trans, row_taken}
-use proofs.PasteLemmas.FillRow.{IsNextReader, next_reader, each_reader, fill_starts, fill_next}
+use proofs.PasteLemmas.RowsTaken.{cells_text-push, rows_taken_trans, row_taken, taken_one, taken_eof}
+use proofs.PasteLemmas.FillRow.{IsNextReader, next_reader, each_reader, fill_starts, fill_next, FieldTaken}
 use Rattle.std.proofs.Common.{rules}
-
--- A line that is complete in a buffer is the line that `fill` would return.
-buffered_line : (b r : Reader) (at : ℕ) (store : Slots) (slot : ℕ) → b.fault ≡ None → b.pulled < 2 ^ 63
-    → IsFirstByte (is_byte b.terminator) b.buffered (Some at)
-    → r ≡ record b { buffered = drop (at + 1) b.buffered } → FillLine b r store
-    (with_line store slot (take at b.buffered)) slot
-buffered_line b r at store slot clean short first step =
-    let (found, here) = first in
-    let advance_ok = rw (take_with_terminator b.terminator b.buffered at first) at
-    (advance_ok_take b r (at + 1) clean (omega arith) step) in
-    record {
-      line = take at b.buffered;
-      terminator = b.terminator ∷ [];
-      advance_ok = advance_ok;
-      whole = line_before_terminator b.terminator b.buffered at first;
-      ends = inl refl;
-      stored = refl;
-      less = omega (arith, length-append (take at b.buffered) (b.terminator ∷ []));
-    }
 
 sound_after_consume : {b r : Reader} → IsSound b → IsConsumed b r → IsSound r
 sound_after_consume {b} s step = grind (arith, common_steps)
 
 -- ---- one column
 
--- An empty store, which only serves to state what `fill` would return.
-abbrev no_slots : Slots
-no_slots = record { lines = [] ∷ []; peak = 0; denied = false }
+-- A line that is complete in a buffer was consumed.
+taken_buffered : {end : ℕ} {b r : Reader} (at : ℕ) → b.fault ≡ None → IsSound r
+    → IsFirstByte (is_byte end) b.buffered (Some at) → r ≡ record b { buffered = drop (at + 1) b.buffered }
+    → LinesTaken end b r 1 (take at b.buffered ∷ [])
+taken_buffered {end} {b} {r} at clean sound first step =
+    let (found, here) = first in
+    taken_one (advance_ok_take b r (at + 1) clean (omega arith) step) clean sound (record {
+      so_far = inl (
+        cc (take_with_terminator end b.buffered at first, append-nil (take at b.buffered ++ end ∷ [])),
+        (
+          line_before_terminator end b.buffered at first,
+          tt,
+        ),
+      );
+    }) (inl refl)
 
--- A column was copied as `fill` would have filled it, and some bytes of its reader were consumed.
-record FieldCopied (old new : Reader) (before after : List ℕ) (has : Bool) : Type 0 where
-  field : List ℕ
-  fills : FillPost old new no_slots (with_line no_slots 0 field) 0 (Ok has)
-  is : after ≡ before ++ field
-  consumed : IsConsumed old new
-
-field_copied : {end : ℕ} {b r : Reader} {before after : List ℕ} (has : Bool) → b.fault ≡ None → b.terminator ≡ end
-    → IsSound b → IsFieldCopied end b r before after has → FieldCopied b r before after has
-field_copied {b = b} {r = r} true clean ends sound p = record {
-  field = take p.at b.buffered;
-  fills = buffered_line b r p.at no_slots 0 clean (sound.long clean) (rw ends p.found) p.consumed;
-  is = p.is;
-  consumed = record { size = p.at + 1; is = p.consumed };
-}
-field_copied {b = b} {r = r} {before = before} false clean ends sound p = search (rules, advance_ok_take)
+-- The field was copied from a buffer.
+field_in_buffer : {end : ℕ} {b r : Reader} (before after : List ℕ) (has : Bool) → b.fault ≡ None → b.terminator ≡ end
+    → IsSound b → IsFieldCopied end b r before after has
+    → (field : List ℕ) × (after ≡ before ++ field) × FieldTaken b r field has × IsConsumed b r
+field_in_buffer {b = b} {r} before after true clean ends sound p =
+    let (found, here) = p.found in
+    let consumed : IsConsumed b r = record { size = p.at + 1; is = p.consumed } in (
+      take p.at b.buffered,
+      p.is,
+      (
+        taken_buffered p.at clean (sound_after_consume sound consumed) (rw (← ends) at p.found) p.consumed,
+        omega (arith, length-drop (p.at + 1) b.buffered, ap budget p.consumed),
+      ),
+      consumed,
+    )
+field_in_buffer {b = b} before after false clean ends sound p =
+    let done : IsDone b = grind arith in (
+      [],
+      cc (append-nil before),
+      rw p.same (taken_eof (advance_ok_take b b 0 clean (omega arith) refl) done clean sound, refl, omega arith),
+      rw p.same (record { size = 0; is = refl }),
+    )
 
 pub consumed_none : {old : List Reader} → AreConsumed old old
 consumed_none = record { count = refl; buffered = λ p. record { size = 0; is = refl } }
@@ -134,14 +132,6 @@ vector_line at k n was {count = count} {bytes = bytes} same long room all first 
 
 -- ---- the columns of a row
 
--- The byte after the last column, and after any other.
-pub after_last : (row : RowShape) (c : ℕ) → c + 1 ≡ length row.cells → row.terminator ∷ [] ≡ after_cell row c
-after_last row c last = rw (eq-eqb (c + 1) (length row.cells) last) refl
-
-pub after_other : (row : RowShape) (c index : ℕ) → ¬ (c + 1 ≡ length row.cells) → index ≡ c % length row.delims
-    → option_to_list (slice_index_or row.delims index None) ≡ after_cell row c
-after_other row c index other at = rw (ne_eqb (c + 1) (length row.cells) other, at) refl
-
 module _ {row : RowShape} where
   pub columns_start : {begun : BegunText} → CopyColumnsPost row begun begun
   columns_start {begun} = search (rules, consumed_none)
@@ -167,38 +157,27 @@ module _ {row : RowShape} where
       text = next;
     }
 
-    module _ (f : FieldCopied b r now.text copied has) where
-      filled_more : (from : List Reader) (front : List (List ℕ))
-          → CellsFilled row.cells begun.count from begun.readers front begun.any_line
-          → CellsFilled row.cells (now.count + 1) from (set now.readers input r)
-          (front ++ (s.fields ++ f.field ∷ [])) (now.any_line || has)
-      filled_more from front given =
-          let (field, stored, filled) = fill_next (s.filled from front given) x
-          (sound_after_consume sound f.consumed) no_slots (with_line no_slots 0 f.field) 0 has f.fills in
-          let same : field ≡ f.field = sym (ap (λ x. get_or x.lines 0 []) stored) in
-          rw (same, append_assoc front s.fields (f.field ∷ [])) at filled
-
-      one_more : {next : List ℕ} → next ≡ copied ++ after_cell row now.count
-          → CopyColumnsPost row begun (with_column next)
-      one_more after = record {
-        fields = s.fields ++ f.field ∷ [];
-        is =
-            let text = cells_text row begun.count s.fields in
-            let end = after_cell row now.count in
-            cc (
-              cells_text-push row begun.count s.fields f.field s.width,
-              append_assoc (begun.text ++ text) f.field end,
-              append_assoc begun.text text (f.field ++ end),
-            );
-        consumed = consumed_more s.consumed x.within x.is_read f.consumed;
-        width = omega (arith, length-append s.fields (f.field ∷ []));
-        filled = filled_more;
-      }
-
     -- One more column was copied, and the byte after it.
     pub columns_more : {next byte : List ℕ} → IsFieldCopied row.terminator b r now.text copied has
         → next ≡ copied ++ byte → byte ≡ after_cell row now.count → CopyColumnsPost row begun (with_column next)
-    columns_more field stored after = let here = x in grind (arith, one_more, field_copied, here.clean, here.ends)
+    columns_more field_is stored after =
+        let (field, is, taken, consumed) = field_in_buffer now.text copied has x.clean x.ends sound field_is in
+        record {
+          fields = s.fields ++ field ∷ [];
+          is =
+              let text = cells_text row begun.count s.fields in
+              let end = after_cell row now.count in
+              cc (
+                cells_text-push row begun.count s.fields field s.width,
+                append_assoc (begun.text ++ text) field end,
+                append_assoc begun.text text (field ++ end),
+              );
+          consumed = consumed_more s.consumed x.within x.is_read consumed;
+          width = omega (arith, length-append s.fields (field ∷ []));
+          filled = λ from front given.
+              rw (append_assoc front s.fields (field ∷ [])) at
+              (fill_next (s.filled from front given) x r field has taken);
+        }
 
   -- The first columns of a row were copied after whole rows.
   pub rows_and_begun : {old now new : List Reader} {n at to : ℕ} {any_line : Bool} (into next : List ℕ)

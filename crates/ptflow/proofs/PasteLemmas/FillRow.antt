@@ -3,22 +3,22 @@
 -- the columns before it stay as they are. The slots hold all bytes of the store, so the total is at most the sum of the
 -- columns' bounds.
 use Rattle.ptflow.proofs
-use proofs.Common.{nat_tests, ◌≡◌, ℕ, zero, suc, ◌+◌, ◌<◌, ◌≤◌, false, List, [], ◌∷◌, ◌++◌, length, length-append}
-use proofs.Common.{get_or_append_left, get_or_push, max_length, take, drop, set, get_or, refl, sym, ◌∙◌, ap, arith}
-use proofs.Common.{⊎_elim, take-append-drop, sum_by, cases_eq, length-set, drop-set-lt, get_or-set_same, common_steps}
-use proofs.Common.{get_or-set_other, sum_by-cons, sum_by-append, get_or-le-sum_by, Slots, total_bytes, with_line}
-use proofs.Common.{AddedSlots, SlotsBound, SlotsKept, CellsTaken, Reader, uses_of, ◌≢◌, ◌==◌, ◌||◌, Bool, true, cond}
-use proofs.Common.{None, Ok, eq-eqb, ne_eqb, append-nil, take-take, get_or_past, get_or_at, get_or_default}
-use proofs.Common.{sum_by-set, AdvanceOk, IsDone, IsSound, budget, FillLine, FillPost, no_reader, reader_at}
-use proofs.Common.{SetTerminatorsPost, CellsFilled, RowFailed, LinesTaken, Err, ext_get_or, get_or-drop, length-drop}
-use proofs.Common.{take_all, take-append-le, length-take-le, line, RowShape, BegunText, after_cell, cells_text}
-use proofs.Common.{slots_text, CopyColumnsPost, BufferedRowsPre, RowAmid, RowFilled, FillCellPost, FillReadErr}
-use proofs.Common.{FlowFault, Read, Write, Memory}
+use proofs.Common.{Bool, Err, List, None, Ok, [], ap, arith, cond, drop, false, get_or, get_or-drop, get_or-take}
+use proofs.Common.{length, length-append, length-drop, refl, set, suc, sym, take, take-append-drop, true, zero, ℕ}
+use proofs.Common.{⊎_elim, ◌++◌, ◌+◌, ◌<◌, ◌==◌, ◌||◌, ◌∙◌, ◌∷◌, ◌≡◌, ◌≢◌, ◌≤◌, cases_eq, eq-eqb, ne_eqb, nat_tests}
+use proofs.Common.{common_steps, append-nil, drop-set-lt, ext_get_or, get_or-set_other, get_or-set_same}
+use proofs.Common.{get_or_append_left, get_or_at, get_or_default, get_or_past, get_or_push, length-set, length-take-le}
+use proofs.Common.{take-append-le, take-take, take_all, get_or-le-sum_by, sum_by-append, sum_by-cons, sum_by-set}
+use proofs.Common.{sum_by, top, FillReadErr, FillPost, IsSound, Reader, budget, no_reader, reader_at, Slots}
+use proofs.Common.{line, total_bytes, with_line, AddedSlots, max_length, uses_of, SetTerminatorsPost}
+use proofs.Common.{FillCellPost, SlotsBound, SlotsKept, RowAmid, RowFailed, RowFilled, RowShape, BegunText, CellsFilled}
+use proofs.Common.{CellsTaken, after_cell, cells_text, slots_text, LinesTaken, BufferedRowsPre, CopyColumnsPost}
+use proofs.Common.{FlowFault, Memory, Read, Write}
 use Rattle.std.specs.Prelude.{slice_index_or}
 use proofs.PasteLemmas.Grid.{uses_here, uses_other, uses_before, uses_before_lt}
 use proofs.PasteLemmas.RowsTaken.{nothing_taken, taken_more, taken_line, taken_eof, taken_at_most, none_at_eof}
 use proofs.PasteLemmas.RowsTaken.{cells_text-append, cells_text-push}
-use Rattle.std.proofs.lemmas.List.{get_or-take}
+use Rattle.std.proofs.Math.Bool.{or-true, or-false}
 use Rattle.std.proofs.Common.{rules}
 
 pub cells_total : (cells : List ℕ) (top : ℕ → ℕ) (ls : List (List ℕ)) → ((c : ℕ) → c < length cells
@@ -174,12 +174,6 @@ pub set_terminator_more : (end : ℕ) (cells : List ℕ) (i : ℕ) (old now : Li
     → SetTerminatorsPost end (take (i + 1) cells) old (set now (get_or cells i 0) r)
 set_terminator_more = grind (arith, common_steps, each_reader, uses_here, uses_other)
 
-or-true : (t : Bool) → (t || true) ≡ true
-or-true = grind arith
-
-or-false : (t : Bool) → (t || false) ≡ t
-or-false = grind arith
-
 -- ---- the lines of a row
 
 -- The lines taken from each reader, with `ls` added for one reader.
@@ -281,69 +275,77 @@ fill_starts = record {
   less = λ any_line. cc;
 }
 
+-- A column took its field from a reader: a line, or nothing at the end of the input.
+abbrev pub FieldTaken : Reader → Reader → List ℕ → Bool → Type 0
+FieldTaken b r field true = LinesTaken b.terminator b r 1 (field ∷ []) × (budget r < budget b)
+FieldTaken b r field false = LinesTaken b.terminator b r 1 [] × (field ≡ []) × (budget r ≤ budget b)
+
+-- The field was read into a slot.
+field_in_slot : (b r : Reader) (before after : Slots) (slot : ℕ) (has : Bool) → b.fault ≡ None → IsSound r
+    → FillPost b r before after slot (Ok has)
+    → (field : List ℕ) × (after ≡ with_line before slot field) × FieldTaken b r field has
+field_in_slot b r before after slot true clean sound e = (e.line, e.stored, (taken_line e refl clean sound, e.less))
+field_in_slot b r before after slot false clean sound (advance_ok, done, kept) = (
+  [],
+  kept,
+  (
+    taken_eof advance_ok done clean sound,
+    refl,
+    omega arith,
+  ),
+)
+
 module _ {row : RowShape} {n : ℕ} {old now : List Reader} {fields : List (List ℕ)} {any_line : Bool}
     (f : CellsFilled row.cells n old now fields any_line) {b : Reader} (x : IsNextReader row now n b) where
   abbrev p : ℕ
   p = get_or row.cells n 0
 
-  module _ {r : Reader} (sound : IsSound r) where
-    same_end : b.terminator ≡ (reader_at old p).terminator
-    same_end = cc ((f.consumed.lines_taken p).reads.terminator)
-
+  module _ (r : Reader) where
     all_budgets : sum_by budget (set now p r) + budget b ≡ sum_by budget now + budget r
     all_budgets = omega (arith, ap budget x.is_read, sum_by-set budget now p r no_reader x.within)
 
-    -- The column gets a line.
-    fill_line : {before after : Slots} {slot : ℕ} (e : FillLine b r before after slot)
-        → CellsFilled row.cells (n + 1) old (set now p r) (fields ++ e.line ∷ []) true
-    fill_line e =
-        let lines_taken = rw x.is_read at (taken_line e same_end x.clean sound) in
+    taken_here : {ls : List (List ℕ)} → LinesTaken b.terminator b r 1 ls
+        → LinesTaken (reader_at old p).terminator (reader_at now p) r 1 ls
+    taken_here t = rw (x.is_read, (f.consumed.lines_taken p).reads.terminator) at t
+
+    -- The column is filled.
+    pub fill_next : (field : List ℕ) (has : Bool) → FieldTaken b r field has
+        → CellsFilled row.cells (n + 1) old (set now p r) (fields ++ field ∷ []) (any_line || has)
+    fill_next field true (t, fewer) =
+        let lines_taken = taken_here t in
         let all : length (f.input_lines p) ≡ uses_of (take n row.cells) p =
         grind (arith, none_at_eof lines_taken, (f.consumed.lines_taken p).enough) in
         let less : sum_by budget (set now p r) < sum_by budget old = omega (arith, all_budgets) in
-        record {
-          input_lines = lines_at p (e.line ∷ []) f.input_lines;
+        rw or-true (record {
+          input_lines = lines_at p (field ∷ []) f.input_lines;
           consumed = cells_taken_more f.consumed x.low x.within lines_taken
-              (sym (get_or_at (f.input_lines p) e.line [] [] (uses_of (take n row.cells) p) all));
+              (sym (get_or_at (f.input_lines p) field [] [] (uses_of (take n row.cells) p) all));
           some = λ h. (
             n,
             omega arith,
             omega (
               arith,
-              ap length (lines_at_here p (e.line ∷ []) f.input_lines p refl),
-              length-append (f.input_lines p) (e.line ∷ []),
+              ap length (lines_at_here p (field ∷ []) f.input_lines p refl),
+              length-append (f.input_lines p) (field ∷ []),
             ),
           );
           none = λ h. cc;
           least = omega arith;
           less = λ h. less;
-        }
-
-    -- The reader is at the end of its input.
-    fill_eof : AdvanceOk b r [] → IsDone r
-        → CellsFilled row.cells (n + 1) old (set now p r) (fields ++ [] ∷ []) any_line
-    fill_eof advance_ok done = record {
+        })
+    fill_next field false (t, empty, fewer) = rw (or-false, empty) (record {
       input_lines = lines_at p [] f.input_lines;
-      consumed = cells_taken_more f.consumed x.low x.within (rw x.is_read at
-          (taken_eof {end = (reader_at old p).terminator} {b = b} advance_ok done x.clean sound))
-          (cc (
-            append-nil (f.input_lines p),
-            get_or_past (f.input_lines p) (uses_of (take n row.cells) p) [] (taken_at_most (f.consumed.lines_taken p)),
-          ));
+      consumed = cells_taken_more f.consumed x.low x.within (taken_here t) (cc (
+        append-nil (f.input_lines p),
+        get_or_past (f.input_lines p) (uses_of (take n row.cells) p) [] (taken_at_most (f.consumed.lines_taken p)),
+      ));
       some = λ h.
           let (c, below, one) = f.some h in
           (c, omega arith, cc (lines_at_none p [] f.input_lines (get_or row.cells c 0) refl));
       none = λ h q. lines_at_none p [] f.input_lines q refl ∙ f.none h q;
       least = omega (arith, all_budgets);
       less = λ h. omega (arith, f.less h, all_budgets);
-    }
-
-    -- The column is filled, and its slot has the field.
-    pub fill_next : (before after : Slots) (slot : ℕ) (has : Bool) → FillPost b r before after slot (Ok has)
-        → (field : List ℕ) × (after ≡ with_line before slot field) × CellsFilled row.cells (n + 1) old (set now p r)
-        (fields ++ field ∷ []) (any_line || has)
-    fill_next before after slot true e = (e.line, e.stored, rw or-true (fill_line e))
-    fill_next before after slot false (advance_ok, done, kept) = grind (arith, or-false, fill_eof)
+    })
 
   -- The step for this column failed.
   abbrev pub fill_failed : {CellFailed : Reader → Reader → Slots → Slots → ℕ → Type 0} {before store : Slots}
@@ -384,11 +386,11 @@ module _ {row : RowShape} where
         → RowAmid row (n + 1) from first
         (record now { readers = set now.readers (get_or row.cells n 0) r; any_line = now.any_line || has }) after
     amid_next r after room sound has e =
-        let (field, stored, filled) = fill_next a.filled x sound store after n has e in
+        let (field, stored, taken) = field_in_slot b r store after n has x.clean sound e in
         let width = a.filled.consumed.width in
         rw stored (record {
           fields = a.fields ++ field ∷ [];
-          filled = filled;
+          filled = fill_next a.filled x r field has taken;
           within = omega arith;
           is = cc (take-append-le now.count a.fields (field ∷ []) (omega arith));
           held = λ c over under. grind (
@@ -474,4 +476,4 @@ after_fill = grind arith
 pub readable_after : {row : RowShape} {now : List Reader} {n : ℕ} {b : Reader} → IsNextReader row now n b → (r : Reader)
     → BufferedRowsPre row now → (before after : Slots) (slot : ℕ) (has : Bool)
     → FillPost b r before after slot (Ok has) → BufferedRowsPre row (set now (get_or row.cells n 0) r)
-readable_after = search (rules, same_end, after_fill, each_reader)
+readable_after = search (rules, after_fill, each_reader)

@@ -66,7 +66,7 @@ taken_more {end} {a} {b} {c} {k} {m} {n} {xs} {ys} all p q = record {
 }
 
 -- One line was requested: a line was taken, or none.
-taken_one : {end : ℕ} {b c : Reader} {bytes : List ℕ} {ls : List (List ℕ)} → AdvanceOk b c bytes → b.fault ≡ None
+pub taken_one : {end : ℕ} {b c : Reader} {bytes : List ℕ} {ls : List (List ℕ)} → AdvanceOk b c bytes → b.fault ≡ None
     → IsSound c → AreReceivedLines end c bytes ls
     → (length ls ≡ 1) ⊎ (IsDone c × (length ls ≤ 1)) → LinesTaken end b c 1 ls
 taken_one = grind arith
