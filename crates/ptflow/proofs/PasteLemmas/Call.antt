@@ -17,9 +17,9 @@ use proofs.Common.{columns, paste, paste_decided, rows, rows_text, uses_of, SetT
 use proofs.Common.{SlotsKept, RowFailed, RowFilled, ClearSlotsPost, is_write_fault, BegunText, CellsFilled, CellsTaken}
 use proofs.Common.{cells_text, job_shape, AreReceivedLines, LinesTaken, BufferedRowsPre, AreConsumed, AreFirstRows}
 use proofs.Common.{RowsTaken, CopyRowsPost, RowsWritten, FlowFault, Memory, Read, Write}
-use proofs.PasteLemmas.FillRow.{slots_bound_start, slots_kept_by_lines, slots_bound_line, cells_total, sum_of_zeros}
-use proofs.PasteLemmas.RowsTaken.{no_rows, rows_on, first_rows_trans, filled_row_is_first, filled_row_text}
-use proofs.PasteLemmas.RowsTaken.{lines_taken_by_cells, lines_trans, taken_at_most, taken_more, nothing_taken}
+use proofs.PasteLemmas.Rows.{slots_bound_start, slots_kept_by_lines, slots_bound_line, cells_total, sum_of_zeros}
+use proofs.PasteLemmas.Rows.{no_rows, rows_on, first_rows_trans, filled_row_is_first, filled_row_text}
+use proofs.PasteLemmas.Rows.{lines_taken_by_cells, lines_trans, taken_at_most, taken_more, nothing_taken}
 use proofs.PasteLemmas.Grid.{Column, columns_same, last_use, uses_before_lt, uses_before, grid_none, rows_text-append}
 use proofs.PasteLemmas.Lag.{EarlierPart, LagsAt, ended_more, lags_here, decided_is_prefix, earlier_now, complete_few}
 use proofs.PasteLemmas.Lag.{earlier_before, earlier_lines, begins_earlier, no_lines}

@@ -12,7 +12,7 @@ use proofs.PasteLemmas.Call.{paste_fill_failed, paste_done, paste_row_write_fail
 use proofs.PasteLemmas.Call.{invariant_starts, invariant_rows, invariant_written, invariant_sent, invariant_slots}
 use proofs.PasteLemmas.Call.{invariant_more, now_readable}
 use proofs.PasteLemmas.BufferedRows.{still_readable}
-use proofs.PasteLemmas.FillRow.{amid_starts, amid_text}
+use proofs.PasteLemmas.Rows.{amid_starts, amid_text}
 use Rattle.ptflow.proofs.tools.paste.paste.Goals.{After-ensure_slots, After-fill_row, In_ok-write_shared_rows}
 use Rattle.ptflow.proofs.tools.paste.paste.Given as given
 use Rattle.ptflow.proofs.tools.paste.paste.Goals as goal
