@@ -52,21 +52,20 @@ taken_buffered {end} {b} {r} at clean sound first step =
     }) (inl refl)
 
 -- The field was copied from a buffer.
-field_in_buffer : {end : ℕ} {b r : Reader} (before after : List ℕ) (has : Bool) → b.fault ≡ None → b.terminator ≡ end
-    → IsSound b → IsFieldCopied end b r before after has
-    → (field : List ℕ) × (after ≡ before ++ field) × FieldTaken b r field has × IsConsumed b r
-field_in_buffer {b = b} {r} before after true clean ends sound p =
+field_in_buffer : (end : ℕ) {b r : Reader} (before after : List ℕ) (has : Bool) → b.fault ≡ None → IsSound b → IsFieldCopied end b r before after has
+    → (field : List ℕ) × (after ≡ before ++ field) × FieldTaken end b r field has × IsConsumed b r
+field_in_buffer end {b} {r} before after true clean sound p =
     let (found, here) = p.found in
     let consumed : IsConsumed b r = record { size = p.at + 1; is = p.consumed } in (
       take p.at b.buffered,
       p.is,
       (
-        taken_buffered p.at clean (sound_after_consume sound consumed) (rw (← ends) at p.found) p.consumed,
+        taken_buffered p.at clean (sound_after_consume sound consumed) p.found p.consumed,
         omega (arith, length-drop (p.at + 1) b.buffered, ap budget p.consumed),
       ),
       consumed,
     )
-field_in_buffer {b = b} before after false clean ends sound p =
+field_in_buffer end {b} before after false clean sound p =
     let done : IsDone b = grind arith in (
       [],
       cc (append-nil before),
@@ -174,7 +173,7 @@ module _ {row : RowShape} where
     pub columns_more : {next byte : List ℕ} → IsFieldCopied row.terminator b r now.text copied has
         → next ≡ copied ++ byte → byte ≡ after_cell row now.count → CopyColumnsPost row begun (with_column next)
     columns_more field_is stored after =
-        let (field, is, taken, consumed) = field_in_buffer now.text copied has x.clean x.ends sound field_is in
+        let (field, is, taken, consumed) = field_in_buffer row.terminator now.text copied has x.clean sound field_is in
         record {
           fields = s.fields ++ field ∷ [];
           is =
@@ -215,7 +214,7 @@ module _ {row : RowShape} where
       → (p : CopyColumnsPost row (record { readers = now; count = 0; any_line = false; text = copied }) next)
       → next.count ≡ length row.cells → next.any_line ≡ true → RowsTaken row old next.readers next.text
   rows_more rows ready p all some = rw p.is (rows_taken_trans rows
-      (row_taken row ready.same_end (rw (all, some) at (p.filled _ [] fill_starts))))
+      (row_taken (rw (all, some) at (p.filled _ [] fill_starts))))
 
 -- ---- complete rows are known by the number of terminators
 

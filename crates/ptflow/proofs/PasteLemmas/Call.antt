@@ -14,12 +14,12 @@ use proofs.Common.{max_length, max_line_length, cut, CallPost, CallOutcome, Call
 use proofs.Common.{AreAllConsistent, inputs_at, is_in, CallProgress, DecidedIfReadFailed, reads_nothing, call_ends}
 use proofs.Common.{call_set, call_without_slots, PastePre, PastePost, IsReadable, paste_end, paste_engine, update_at}
 use proofs.Common.{columns, paste, paste_decided, rows, rows_text, uses_of, SetTerminatorsPost, SlotsBound}
-use proofs.Common.{SlotsKept, RowFailed, RowFilled, ClearSlotsPost, is_write_fault, BegunText, CellsFilled, CellsTaken}
-use proofs.Common.{cells_text, job_shape, AreReceivedLines, LinesTaken, BufferedRowsPre, AreConsumed, AreFirstRows}
-use proofs.Common.{RowsTaken, CopyRowsPost, RowsWritten, FlowFault, Memory, Read, Write}
+use proofs.Common.{SlotsKept, RowFailed, RowFilled, ClearSlotsPost, is_write_fault, RowShape, BegunText, CellsFilled}
+use proofs.Common.{CellsTaken, cells_text, job_shape, AreReceivedLines, LinesTaken, BufferedRowsPre, AreConsumed}
+use proofs.Common.{AreFirstRows, RowsTaken, CopyRowsPost, RowsWritten, FlowFault, Memory, Read, Write}
 use proofs.PasteLemmas.Rows.{slots_bound_start, slots_kept_by_lines, slots_bound_line, cells_total, sum_of_zeros}
 use proofs.PasteLemmas.Rows.{no_rows, rows_on, first_rows_trans, filled_row_is_first, filled_row_text}
-use proofs.PasteLemmas.Rows.{lines_taken_by_cells, lines_trans, taken_at_most, taken_more, nothing_taken}
+use proofs.PasteLemmas.Rows.{lines_trans, taken_at_most, taken_more, nothing_taken}
 use proofs.PasteLemmas.Grid.{Column, columns_same, last_use, uses_before_lt, uses_before, grid_none, rows_text-append}
 use proofs.PasteLemmas.Lag.{EarlierPart, LagsAt, ended_more, lags_here, decided_is_prefix, earlier_now, complete_few}
 use proofs.PasteLemmas.Lag.{earlier_before, earlier_lines, begins_earlier, no_lines}
@@ -242,13 +242,16 @@ read_more q = record {
 
 module _ {job : Paste} {cells : List ℕ} {old set now : List Reader} {was is : Output} {first store : Slots}
     (s : PasteInvariant job cells old set now was is first store) where
+  abbrev shape : RowShape
+  shape = job_shape job cells
+
   -- The lines that were taken from each reader so far.
   abbrev so_far : (p : ℕ) → LinesTaken job.terminator (reader_at set p) (reader_at now p)
       (length s.taken_rows * uses_of cells p) (s.ls p)
   so_far = s.first_rows.lines_taken
 
   -- The readers are still readable.
-  pub now_readable : BufferedRowsPre (job_shape job cells) now
+  pub now_readable : BufferedRowsPre shape now
   now_readable = let r = set_readable s.starts in record {
     within = λ c d low. omega arith;
     unfailed = λ p some. (so_far p).fault ∙ r.unfailed p some;
@@ -266,19 +269,6 @@ module _ {job : Paste} {cells : List ℕ} {old set now : List Reader} {was is : 
   pub invariant_slots : length cells ≤ length store.lines
   invariant_slots = let k = s.kept (λ p. max_length (s.ls p)) (λ p some. omega arith) in omega arith
 
-  -- Buffered output was written out.
-  pub invariant_sent : {written_out : Output} → PushEffect is written_out [] → written_out.write_failed ≡ false
-      → PasteInvariant job cells old set now was written_out first store
-  invariant_sent {written_out} wrote clean = record {
-    starts = s.starts;
-    ls = s.ls;
-    taken_rows = s.taken_rows;
-    first_rows = s.first_rows;
-    wrote = rw (append-nil (rows_text job s.taken_rows)) at (push_trans _ _ _ _ _ s.clean s.wrote wrote);
-    clean = clean;
-    kept = s.kept;
-  }
-
   -- A bound on the slots, if further lines were taken.
   abbrev Kept : (ℕ → Column) → Slots → Type 0
   Kept ls stored = (top : ℕ → ℕ) → ((p : ℕ) → 0 < uses_of cells p → max_length (s.ls p ++ ls p) ≤ top p)
@@ -289,7 +279,7 @@ module _ {job : Paste} {cells : List ℕ} {old set now : List Reader} {was is : 
 
   -- More rows were taken and pushed.
   invariant_after : {new : List Reader} {ls : ℕ → Column} {more : List (List (List ℕ))}
-      → AreFirstRows (job_shape job cells) now new ls more → {buffered : Slots} → Kept ls buffered
+      → AreFirstRows shape now new ls more → {buffered : Slots} → Kept ls buffered
       → {is' : Output} → PushEffect is is' (rows_text job more) → is'.write_failed ≡ false
       → PasteInvariant job cells old set new was is' first buffered
   invariant_after {ls = ls} {more} g kept wrote clean = record {
@@ -303,13 +293,21 @@ module _ {job : Paste} {cells : List ℕ} {old set now : List Reader} {was is : 
     kept = kept;
   }
 
+  abbrev no_more : AreFirstRows shape now now (λ p. []) []
+  no_more = no_rows
+
+  -- Buffered output was written out.
+  pub invariant_sent : {written_out : Output} → PushEffect is written_out [] → written_out.write_failed ≡ false
+      → PasteInvariant job cells old set now was written_out first store
+  invariant_sent = invariant_after no_more (still_kept (λ p. []))
+
   -- Rows from the buffers.
-  pub invariant_rows : {new : List Reader} {written : List ℕ} → RowsTaken (job_shape job cells) now new written
+  pub invariant_rows : {new : List Reader} {written : List ℕ} → RowsTaken shape now new written
       → {is' : Output} → PushEffect is is' written → is'.write_failed ≡ false
       → PasteInvariant job cells old set new was is' first store
   invariant_rows p wrote clean = invariant_after p.first_rows (still_kept p.ls) (rw p.is at wrote) clean
 
-  pub invariant_written : {new : List Reader} {is' : Output} → RowsWritten (job_shape job cells) now new is is'
+  pub invariant_written : {new : List Reader} {is' : Output} → RowsWritten shape now new is is'
       → is'.write_failed ≡ false → PasteInvariant job cells old set new was is' first store
   invariant_written p clean = invariant_rows p.rows p.wrote clean
 
@@ -317,7 +315,7 @@ module _ {job : Paste} {cells : List ℕ} {old set now : List Reader} {was is : 
 
   -- Rows were taken and pushed, and then a part of a row was read.
   module _ {mid new : List Reader} {ls : ℕ → Column} {more : List (List (List ℕ))}
-      (g : AreFirstRows (job_shape job cells) now mid ls more) (q : RowPart job cells mid new) where
+      (g : AreFirstRows shape now mid ls more) (q : RowPart job cells mid new) where
     abbrev all_taken : (p : ℕ) → LinesTaken job.terminator (reader_at now p) (reader_at q.last p)
         (length more * uses_of cells p + uses_of (take q.n cells) p) (ls p ++ q.taken p)
     all_taken p = taken_more refl (g.lines_taken p) (q.lines_taken p)
@@ -449,7 +447,7 @@ module _ {job : Paste} {cells : List ℕ} {old set now : List Reader} {was is : 
     }) tt
 
   -- A write of rows from the buffers failed, after the first columns of the next row were copied.
-  taken_write_failed : {mid new : List Reader} {copied : List ℕ} → RowsTaken (job_shape job cells) now mid copied
+  taken_write_failed : {mid new : List Reader} {copied : List ℕ} → RowsTaken shape now mid copied
       → (n : ℕ) {taken : ℕ → Column}
       → ((p : ℕ) → LinesTaken job.terminator (reader_at mid p) (reader_at new p) (uses_of (take n cells) p) (taken p))
       → AreConsumed now new → {is' : Output} → PushEffect is is' copied → is'.write_failed ≡ true
@@ -463,37 +461,35 @@ module _ {job : Paste} {cells : List ℕ} {old set now : List Reader} {was is : 
 
   -- A write of the rows of one input failed.
   pub paste_shared_write_failed : {new : List Reader} {is' : Output}
-      → RowsWritten (job_shape job cells) now new is is' → is'.write_failed ≡ true
+      → RowsWritten shape now new is is' → is'.write_failed ≡ true
       → PastePost job cells old new was is' first store (Err Write)
   paste_shared_write_failed p fault =
       taken_write_failed p.rows 0 (λ q. nothing_taken refl) p.consumed p.wrote fault
 
   -- A write of rows of several inputs failed.
   pub paste_rows_write_failed : {copied : List ℕ} {begun : BegunText} {is' : Output}
-      → CopyRowsPost (job_shape job cells) now copied begun → PushEffect is is' copied → is'.write_failed ≡ true
+      → CopyRowsPost shape now copied begun → PushEffect is is' copied → is'.write_failed ≡ true
       → PastePost job cells old begun.readers was is' first store (Err Write)
   paste_rows_write_failed {begun = begun} p wrote fault =
-      taken_write_failed p.rows begun.count (lines_taken_by_cells (job_shape job cells)
-      (λ q some. (p.rows.first_rows.lines_taken q).reads.terminator ∙ now_readable.same_end q some)
-      p.filled.consumed) p.consumed wrote fault
+      taken_write_failed p.rows begun.count p.filled.consumed.lines_taken p.consumed wrote fault
 
   -- A row was filled, and not from the buffers alone.
   module _ {new : List Reader} {after : Slots} {fields : List (List ℕ)} (slots : SlotsKept cells fields store after)
     where
-      row_kept : {n : ℕ} {input_lines : ℕ → Column} → n ≤ length cells → CellsTaken cells n now new fields input_lines
+      row_kept : {n : ℕ} {input_lines : ℕ → Column} → n ≤ length cells → CellsTaken shape n now new fields input_lines
           → Kept input_lines after
       row_kept {input_lines = input_lines} few t top high =
           slots_kept_by_lines slots few t first top (still_kept input_lines top high)
           (λ p some. omega (arith, high p some, max_length-append (s.ls p) (input_lines p)))
 
       -- Some column has a line, and the row was pushed.
-      module _ (f : CellsFilled cells (length cells) now new fields true) {is' : Output}
-          (wrote : PushEffect is is' (cells_text (job_shape job cells) 0 fields)) where
-        row_taken : AreFirstRows (job_shape job cells) now new f.input_lines (fields ∷ [])
-        row_taken = filled_row_is_first (job_shape job cells) now_readable.same_end f
+      module _ (f : CellsFilled shape (length cells) now new fields true) {is' : Output}
+          (wrote : PushEffect is is' (cells_text shape 0 fields)) where
+        row_taken : AreFirstRows shape now new f.input_lines (fields ∷ [])
+        row_taken = filled_row_is_first f
 
         row_wrote : PushEffect is is' (rows_text job (fields ∷ []))
-        row_wrote = rw (filled_row_text (job_shape job cells) f) at wrote
+        row_wrote = rw (filled_row_text shape f) at wrote
 
         pub invariant_more : is'.write_failed ≡ false → PasteInvariant job cells old set new was is' first after
         invariant_more = invariant_after row_taken (row_kept (omega arith) f.consumed) row_wrote
@@ -514,13 +510,9 @@ module _ {job : Paste} {cells : List ℕ} {old set now : List Reader} {was is : 
             (omega arith)) (λ p. refl)
 
       -- No column has a line.
-      module _ (f : CellsFilled cells (length cells) now new fields false) where
-        abbrev no_more : AreFirstRows (job_shape job cells) now now (λ p. []) []
-        no_more = no_rows
-
+      module _ (f : CellsFilled shape (length cells) now new fields false) where
         abbrev at_end : RowPart job cells now new
-        at_end = whole_columns (length cells)
-            (lines_taken_by_cells (job_shape job cells) now_readable.same_end f.consumed)
+        at_end = whole_columns (length cells) f.consumed.lines_taken
 
         done_by : (p : ℕ) → 0 < uses_of cells p → IsDone (reader_at new p)
         done_by p some =
@@ -580,7 +572,7 @@ module _ {job : Paste} {cells : List ℕ} {old set now : List Reader} {was is : 
 
   -- A row could not be filled: the reader of a column gave only a part of a line.
   module _ {CellFailed : Reader → Reader → Slots → Slots → ℕ → Type 0} {new : List Reader} {after : Slots}
-      (b : RowFailed CellFailed cells now new store after) (piece : List ℕ)
+      (b : RowFailed CellFailed shape now new store after) (piece : List ℕ)
       (piece_reads : ReaderAdvance (reader_at b.mid (get_or cells b.column 0)) (reader_at new (get_or cells b.column 0))
       piece) (free : IsLine (reader_at b.mid (get_or cells b.column 0)).terminator piece) where
     abbrev here : ℕ
@@ -596,7 +588,7 @@ module _ {job : Paste} {cells : List ℕ} {old set now : List Reader} {was is : 
     taken_to : (p : ℕ)
         → LinesTaken job.terminator (reader_at now p) (reader_at b.mid p) (uses_of (take b.column cells) p)
         (b.input_lines p)
-    taken_to = lines_taken_by_cells (job_shape job cells) now_readable.same_end b.consumed
+    taken_to = b.consumed.lines_taken
 
     reads_to : (p : ℕ) → ReaderAdvance (reader_at b.mid p) (reader_at new p) (part_to p)
     reads_to p = grind (arith, nat_tests, b.others, reads_nothing)
@@ -616,14 +608,11 @@ module _ {job : Paste} {cells : List ℕ} {old set now : List Reader} {was is : 
       left = λ p none. b.others p (λ same. absurd (omega (arith, here_used, ap (uses_of cells) same)));
     }
 
-    abbrev none_more : AreFirstRows (job_shape job cells) now now (λ p. []) []
-    none_more = no_rows
-
-    bound_to : Bound none_more row_to b.buffered
+    bound_to : Bound no_more row_to b.buffered
     bound_to top high = row_kept b.slots (omega (arith, b.within)) b.consumed top
         (λ p some. omega (arith, high p some))
 
-    bound_with_piece : Bound none_more row_to (with_line b.buffered b.column piece)
+    bound_with_piece : Bound no_more row_to (with_line b.buffered b.column piece)
     bound_with_piece top high = slots_bound_line (bound_to top high) b.column piece b.within
         (grind (arith, nat_tests, high here here_used))
 
@@ -632,8 +621,8 @@ module _ {job : Paste} {cells : List ℕ} {old set now : List Reader} {was is : 
     failed_to same p = grind (arith, b.others p, cases_eq p here)
 
     -- That reader is the one that limits the rows.
-    abbrev cut_here : Cut none_more row_to here
-    cut_here = cut_now none_more row_to here (b.few (now_buffered here here_used)) (omega (
+    abbrev cut_here : Cut no_more row_to here
+    cut_here = cut_now no_more row_to here (b.few (now_buffered here here_used)) (omega (
       arith,
       length-append (s.ls here) (b.input_lines here),
       taken_at_most (so_far here),
@@ -641,10 +630,10 @@ module _ {job : Paste} {cells : List ℕ} {old set now : List Reader} {was is : 
       uses_before_lt cells b.column b.within,
     ))
 
-    cut_to : (p : ℕ) → 0 < uses_of cells p → Cut none_more row_to p
+    cut_to : (p : ℕ) → 0 < uses_of cells p → Cut no_more row_to p
     cut_to p some = ⊎_elim
         (λ same. rw same cut_here)
-        (λ differ. cut_line none_more row_to p some
+        (λ differ. cut_line no_more row_to p some
         (rw (b.others p differ) ((taken_to p).buffered (now_buffered p some))) (rw (ne_eqb p here differ) refl)
         (omega (arith, uses_before cells b.column p)))
         (cases_eq p here)
@@ -654,7 +643,7 @@ module _ {job : Paste} {cells : List ℕ} {old set now : List Reader} {was is : 
         → (reader_at new here).failed ≡ (reader_at b.mid here).failed
         → PastePost job cells old new was is' first after (Err Write)
     paste_send_failed wrote fault stored same =
-        rw stored (write_exit none_more row_to wrote fault bound_to cut_to (failed_to same))
+        rw stored (write_exit no_more row_to wrote fault bound_to cut_to (failed_to same))
 
     -- A growth of a slot failed. That reader has bytes left.
     paste_memory_failed : {is' : Output} → PushEffect is is' [] → is'.write_failed ≡ false
@@ -662,9 +651,9 @@ module _ {job : Paste} {cells : List ℕ} {old set now : List Reader} {was is : 
         → (reader_at new here).failed ≡ (reader_at b.mid here).failed → 0 < length (reader_at new here).buffered
         → PastePost job cells old new was is' first after (Err Memory)
     paste_memory_failed wrote clean stored same left =
-        exit none_more row_to wrote (inr stored) bound_with_piece cut_to (Err Memory) (record {
+        exit no_more row_to wrote (inr stored) bound_with_piece cut_to (Err Memory) (record {
           denied = cc stored;
-          unfailed = λ p named. failed_to same p ∙ failed_last none_more row_to p;
+          unfailed = λ p named. failed_to same p ∙ failed_last no_more row_to p;
           clean = clean;
           left = λ enough. inl (
             here,
@@ -678,29 +667,29 @@ module _ {job : Paste} {cells : List ℕ} {old set now : List Reader} {was is : 
         → after ≡ with_line b.buffered b.column piece → HasReadCause (reader_at b.mid here) (reader_at new here)
         → PastePost job cells old new was is' first after (Err (Read here))
     paste_read_failed wrote clean stored cause =
-        exit none_more row_to wrote (inl stored) bound_with_piece cut_to (Err (Read here)) (record {
+        exit no_more row_to wrote (inl stored) bound_with_piece cut_to (Err (Read here)) (record {
           named = used_is_in cells here here_used;
           unfailed = never_failed s.starts here (used_is_in cells here here_used);
-          cause = ⊎_elim inl (λ (long, same). inr (long, same ∙ failed_last none_more row_to here)) cause;
-          others = λ q named differ. cc (b.others q differ, failed_last none_more row_to q);
+          cause = ⊎_elim inl (λ (long, same). inr (long, same ∙ failed_last no_more row_to here)) cause;
+          others = λ q named differ. cc (b.others q differ, failed_last no_more row_to q);
           clean = clean;
-          not_denied = cc ((bound_now none_more row_to bound_with_piece).denied);
+          not_denied = cc ((bound_now no_more row_to bound_with_piece).denied);
         }) (λ p named failed. ⊎_elim decided_here
-        (λ (long, same). cc (failed_to same p, failed_last none_more row_to p, never_failed s.starts p named)) cause)
+        (λ (long, same). cc (failed_to same p, failed_last no_more row_to p, never_failed s.starts p named)) cause)
       where
         -- Nothing is buffered, so all that was given decided the rows that were pushed.
         decided_here : ((reader_at new here).failed ≡ true) × ((reader_at new here).buffered ≡ [])
             × ((reader_at new here).eof ≡ false)
-            → IsPrefix (paste_decided job cells (given none_more row_to)) (rows_text job s.taken_rows ++ [])
+            → IsPrefix (paste_decided job cells (given no_more row_to)) (rows_text job s.taken_rows ++ [])
         decided_here (failed, empty, going) =
-            let r = read_on none_more row_to in
+            let r = read_on no_more row_to in
             let bytes = (so_far here).bytes ++ r.extra here in
             rw (append-nil (rows_text job s.taken_rows)) (begins_by_earlier job s.first_rows r here here_used cut_here
             (cc (append-nil bytes)) going)
 
   -- A row could not be filled, for each fault.
   pub paste_fill_failed : (new : List Reader) {after : Slots} (into : List ℕ) {is' : Output} (e : FlowFault)
-      → RowFilled (job_shape job cells) now store new after into (Err e) → PushEffect is is' []
+      → RowFilled shape now store new after into (Err e) → PushEffect is is' []
       → (fault : is'.write_failed ≡ is_write_fault {X = Unit {0}} (Err e))
       → PastePost job cells old new was is' first after (Err e)
   paste_fill_failed new into (Read input) (f, named) wrote clean =

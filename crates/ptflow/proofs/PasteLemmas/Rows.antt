@@ -6,9 +6,9 @@
 -- The slots hold all bytes of the store, so the total is at most the sum of the columns' bounds.
 use Rattle.ptflow.proofs
 use proofs.Common.{Bool, Err, List, None, Ok, [], ap, arith, cond, drop, false, get_or, get_or-drop, get_or-take, inl}
-use proofs.Common.{length, length-append, length-drop, map, refl, set, subst, suc, sym, take, take-append-drop, true}
-use proofs.Common.{zero, ℕ, ⊎_elim, ◌*◌, ◌++◌, ◌+◌, ◌<◌, ◌==◌, ◌||◌, ◌∙◌, ◌∷◌, ◌≡◌, ◌≢◌, ◌≤◌, ◌⊎◌, cases_eq, eq-eqb}
-use proofs.Common.{ne_eqb, nat_tests, common_steps, append-nil, drop-set-lt, drop_all, ext_get_or, get_or-set_other}
+use proofs.Common.{length, length-append, length-drop, map, refl, set, suc, sym, take, take-append-drop, true, zero, ℕ}
+use proofs.Common.{⊎_elim, ◌*◌, ◌++◌, ◌+◌, ◌<◌, ◌==◌, ◌||◌, ◌∙◌, ◌∷◌, ◌≡◌, ◌≢◌, ◌≤◌, ◌⊎◌, cases_eq, eq-eqb, ne_eqb}
+use proofs.Common.{nat_tests, common_steps, append-nil, drop-set-lt, drop_all, ext_get_or, get_or-set_other}
 use proofs.Common.{get_or-set_same, get_or_append_left, get_or_at, get_or_default, get_or_past, get_or_push, length-set}
 use proofs.Common.{length-take-le, take-append-le, take-take, take_all, get_or-le-sum_by, sum_by-append, sum_by-cons}
 use proofs.Common.{sum_by-set, sum_by, top, advance_trans, lines_of_unlines, unlines-append, FillReadErr}
@@ -122,16 +122,11 @@ module _ (row : RowShape) where
 
   -- The text of a filled row.
   pub filled_row_text : {old new : List Reader} {fields : List (List ℕ)}
-      → CellsFilled row.cells (length row.cells) old new fields true
+      → CellsFilled row (length row.cells) old new fields true
       → cells_text row 0 fields ≡ unlines row.terminator (map (join_with_cycle row.delims 0) (fields ∷ []))
   filled_row_text = search (rules, row_text)
 
 -- ---- rows that were taken
-
--- If no line is taken from a reader, its terminator does not matter.
-retarget_terminator : {end : ℕ} {b c : Reader} {n : ℕ} {ys : Column} → (0 < n → b.terminator ≡ end)
-    → LinesTaken b.terminator b c n ys → LinesTaken end b c n ys
-retarget_terminator = grind (arith, common_steps, taken_at_most, nothing_taken)
 
 module _ {row : RowShape} where
   -- They are the first rows, for each continuation of the inputs.
@@ -184,51 +179,45 @@ module _ {row : RowShape} where
     is = (λ i. p.is i ++ q.is i) ∙ sym (rows_text-append row.terminator row.delims p.taken_rows q.taken_rows);
   }
 
-module _ (row : RowShape) {old new : List Reader} {fields : List (List ℕ)}
-    (same_end : (p : ℕ) → 0 < uses_of row.cells p → (reader_at old p).terminator ≡ row.terminator) where
-  -- The lines that the first columns of a row take from one reader.
-  pub lines_taken_by_cells : {n : ℕ} {input_lines : ℕ → Column} → CellsTaken row.cells n old new fields input_lines
-      → (p : ℕ)
-      → LinesTaken row.terminator (reader_at old p) (reader_at new p) (uses_of (take n row.cells) p) (input_lines p)
-  lines_taken_by_cells {n} t p = grind (arith, common_steps, retarget_terminator, uses_before)
-
-  -- The lines that all columns of a row take from one reader.
-  pub lines_taken_by_row : {input_lines : ℕ → Column}
-      → CellsTaken row.cells (length row.cells) old new fields input_lines
-      → (p : ℕ) → LinesTaken row.terminator (reader_at old p) (reader_at new p) (uses_of row.cells p) (input_lines p)
-  lines_taken_by_row t p =
-      rw (take_all (length row.cells) row.cells (omega arith)) at (lines_taken_by_cells t p)
+module _ {row : RowShape} {old new : List Reader} {fields : List (List ℕ)}
+    (r : CellsFilled row (length row.cells) old new fields true) where
+  lines_taken_by_row : (p : ℕ)
+      → LinesTaken row.terminator (reader_at old p) (reader_at new p) (1 * uses_of row.cells p) (r.input_lines p)
+  lines_taken_by_row p =
+      let all : uses_of (take (length row.cells) row.cells) p ≡ 1 * uses_of row.cells p = omega (
+        arith,
+        ap (λ l. uses_of l p) (take_all (length row.cells) row.cells (omega arith)),
+      ) in
+      rw all at (r.consumed.lines_taken p)
 
   -- A filled row in which some column has a line is the next row.
-  pub filled_row_is_first : (r : CellsFilled row.cells (length row.cells) old new fields true)
-      → AreFirstRows row old new r.input_lines (fields ∷ [])
-  filled_row_is_first r =
+  pub filled_row_is_first : AreFirstRows row old new r.input_lines (fields ∷ [])
+  filled_row_is_first =
       let (c, low, first) = r.some refl in
       let field = λ (c p : ℕ). slice_index_or (r.input_lines p) (uses_of (take c row.cells) p) [] in
       let row_is =
       for_each_cell_unique field row.cells fields [] r.consumed.width r.consumed.fields_taken in
       record {
-        lines_taken = λ p.
-            let one : 1 * uses_of row.cells p ≡ uses_of row.cells p = omega arith in
-            subst (λ (n : ℕ). LinesTaken row.terminator (reader_at old p) (reader_at new p) n (r.input_lines p))
-            (sym one) (lines_taken_by_row r.consumed p);
+        lines_taken = lines_taken_by_row;
         are = cc (
           grid_step row.cells r.input_lines c low (omega arith),
           grid_none row.cells (after_row row.cells r.input_lines)
-              (λ p some. drop_all _ _ (taken_at_most (lines_taken_by_row r.consumed p))),
+              (λ p some. drop_all (uses_of row.cells p) (r.input_lines p)
+              (omega (arith, taken_at_most (lines_taken_by_row p)))),
         );
         count = r.consumed.count;
       }
 
-  pub row_taken : CellsFilled row.cells (length row.cells) old new fields true
-      → RowsTaken row old new (cells_text row 0 fields)
-  row_taken f = record {
-    ls = f.input_lines;
+  pub row_taken : RowsTaken row old new (cells_text row 0 fields)
+  row_taken = record {
+    ls = r.input_lines;
     taken_rows = fields ∷ [];
-    first_rows = filled_row_is_first f;
-    least = f.least;
-    is = filled_row_text row f;
+    first_rows = filled_row_is_first;
+    least = r.least;
+    is = filled_row_text row r;
   }
+
+-- ---- the slots of a row
 
 pub cells_total : (cells : List ℕ) (top : ℕ → ℕ) (ls : List (List ℕ)) → ((c : ℕ) → c < length cells
     → length (get_or ls c []) ≤ top (get_or cells c 0))
@@ -325,13 +314,14 @@ module _ {cells : List ℕ} {fields : List (List ℕ)} {before store : Slots} (s
           ));
     }
 
-    -- The bound on the slots, by the lines that the readers gave.
-    pub slots_kept_by_lines : {n : ℕ} {old new : List Reader} {input_lines : ℕ → List (List ℕ)} → n ≤ length cells
-        → CellsTaken cells n old new fields input_lines → (first : Slots) (top : ℕ → ℕ)
-        → SlotsBound cells top first before
-        → ((input : ℕ) → 0 < uses_of cells input → max_length (input_lines input) ≤ top input)
-        → SlotsBound cells top first store
-    slots_kept_by_lines = grind (arith, line_le_max_length, uses_before_lt)
+-- The bound on the slots, by the lines that the readers gave.
+pub slots_kept_by_lines : {row : RowShape} {n : ℕ} {old new : List Reader} {fields : List (List ℕ)}
+    {input_lines : ℕ → List (List ℕ)} {before store : Slots} → SlotsKept row.cells fields before store
+    → n ≤ length row.cells → CellsTaken row n old new fields input_lines → (first : Slots) (top : ℕ → ℕ)
+    → SlotsBound row.cells top first before
+    → ((input : ℕ) → 0 < uses_of row.cells input → max_length (input_lines input) ≤ top input)
+    → SlotsBound row.cells top first store
+slots_kept_by_lines = grind (arith, line_le_max_length, uses_before_lt)
 
 -- ---- readers by their indices
 
@@ -405,35 +395,35 @@ abbrev cell_of : List ℕ → (ℕ → List (List ℕ)) → ℕ → List ℕ
 cell_of cells input_lines c = slice_index_or (input_lines (get_or cells c 0)) (uses_of (take c cells)
     (get_or cells c 0)) []
 
-module _ {cells : List ℕ} {n : ℕ} {old now : List Reader} {fields : List (List ℕ)} {input_lines : ℕ → List (List ℕ)}
-    (t : CellsTaken cells n old now fields input_lines)
-    (low : n < length cells) (within : get_or cells n 0 < length now) {r : Reader} {ls : List (List ℕ)} {field : List ℕ}
-    (lines_taken : LinesTaken (reader_at old (get_or cells n 0)).terminator (reader_at now (get_or cells n 0)) r 1 ls)
-    (there : field ≡ slice_index_or (input_lines (get_or cells n 0) ++ ls) (uses_of (take n cells) (get_or cells n 0))
+module _ {row : RowShape} {n : ℕ} {old now : List Reader} {fields : List (List ℕ)} {input_lines : ℕ → List (List ℕ)}
+    (t : CellsTaken row n old now fields input_lines)
+    (low : n < length row.cells) (within : get_or row.cells n 0 < length now) {r : Reader} {ls : List (List ℕ)} {field : List ℕ}
+    (lines_taken : LinesTaken row.terminator (reader_at now (get_or row.cells n 0)) r 1 ls)
+    (there : field ≡ slice_index_or (input_lines (get_or row.cells n 0) ++ ls) (uses_of (take n row.cells) (get_or row.cells n 0))
     []) where
   abbrev input : ℕ
-  input = get_or cells n 0
+  input = get_or row.cells n 0
 
-  lines_taken_next : (q : ℕ) → LinesTaken (reader_at old q).terminator (reader_at old q) (reader_at (set now input r) q)
-      (uses_of (take (n + 1) cells) q) (lines_at input ls input_lines q)
-  lines_taken_next = each_reader (λ q x. LinesTaken (reader_at old q).terminator (reader_at old q) x
-      (uses_of (take (n + 1) cells) q) (lines_at input ls input_lines q)) now within
+  lines_taken_next : (q : ℕ) → LinesTaken row.terminator (reader_at old q) (reader_at (set now input r) q)
+      (uses_of (take (n + 1) row.cells) q) (lines_at input ls input_lines q)
+  lines_taken_next = each_reader (λ q x. LinesTaken row.terminator (reader_at old q) x
+      (uses_of (take (n + 1) row.cells) q) (lines_at input ls input_lines q)) now within
       (rw (lines_at_here input ls input_lines input refl)
-      (taken_more (uses_here cells n input low refl) (t.lines_taken input) lines_taken))
-      (λ q differ. rw (lines_at_other input ls input_lines q differ, uses_other cells n q low (λ e. differ (sym e)))
+      (taken_more (uses_here row.cells n input low refl) (t.lines_taken input) lines_taken))
+      (λ q differ. rw (lines_at_other input ls input_lines q differ, uses_other row.cells n q low (λ e. differ (sym e)))
       (t.lines_taken q))
 
   -- The line of a column before this one does not change.
-  earlier_cell : (c : ℕ) → c < n → cell_of cells (lines_at input ls input_lines) c ≡ cell_of cells input_lines c
+  earlier_cell : (c : ℕ) → c < n → cell_of row.cells (lines_at input ls input_lines) c ≡ cell_of row.cells input_lines c
   earlier_cell c less = ⊎_elim
       (λ all. ⊎_elim
       (λ same.
-      let front : take (c + 1) (take n cells) ≡ take (c + 1) cells = take-take (c + 1) n cells (omega arith) in
+      let front : take (c + 1) (take n row.cells) ≡ take (c + 1) row.cells = take-take (c + 1) n row.cells (omega arith) in
       let under : j < length (input_lines p) =
       omega (
         arith,
-        uses_here cells c p (omega arith) refl,
-        uses_before (take n cells) (c + 1) p,
+        uses_here row.cells c p (omega arith) refl,
+        uses_before (take n row.cells) (c + 1) p,
         ap (λ (l : List ℕ). uses_of l p) front,
       ) in
       cc (lines_at_here input ls input_lines p same, get_or_append_left (input_lines p) ls [] j under))
@@ -446,12 +436,12 @@ module _ {cells : List ℕ} {n : ℕ} {old now : List Reader} {fields : List (Li
       (t.lines_taken p).enough
     where
       p : ℕ
-      p = get_or cells c 0
+      p = get_or row.cells c 0
 
       j : ℕ
-      j = uses_of (take c cells) p
+      j = uses_of (take c row.cells) p
 
-  cells_taken_more : CellsTaken cells (n + 1) old (set now input r) (fields ++ field ∷ [])
+  cells_taken_more : CellsTaken row (n + 1) old (set now input r) (fields ++ field ∷ [])
       (lines_at input ls input_lines)
   cells_taken_more = record {
     lines_taken = lines_taken_next;
@@ -468,7 +458,7 @@ module _ {cells : List ℕ} {n : ℕ} {old now : List Reader} {fields : List (Li
     count = length-set now input r ∙ t.count;
   }
 
-pub fill_starts : {cells : List ℕ} {old : List Reader} → CellsFilled cells 0 old old [] false
+pub fill_starts : {row : RowShape} {old : List Reader} → CellsFilled row 0 old old [] false
 fill_starts = record {
   input_lines = λ input. [];
   consumed = record {
@@ -485,27 +475,21 @@ fill_starts = record {
 }
 
 -- A column took its field from a reader: a line, or nothing at the end of the input.
-abbrev pub FieldTaken : Reader → Reader → List ℕ → Bool → Type 0
-FieldTaken b r field true = LinesTaken b.terminator b r 1 (field ∷ []) × (budget r < budget b)
-FieldTaken b r field false = LinesTaken b.terminator b r 1 [] × (field ≡ []) × (budget r ≤ budget b)
+abbrev pub FieldTaken : ℕ → Reader → Reader → List ℕ → Bool → Type 0
+FieldTaken end b r field true = LinesTaken end b r 1 (field ∷ []) × (budget r < budget b)
+FieldTaken end b r field false = LinesTaken end b r 1 [] × (field ≡ []) × (budget r ≤ budget b)
 
 -- The field was read into a slot.
-field_in_slot : (b r : Reader) (before after : Slots) (slot : ℕ) (has : Bool) → b.fault ≡ None → IsSound r
-    → FillPost b r before after slot (Ok has)
-    → (field : List ℕ) × (after ≡ with_line before slot field) × FieldTaken b r field has
-field_in_slot b r before after slot true clean sound e = (e.line, e.stored, (taken_line e refl clean sound, e.less))
-field_in_slot b r before after slot false clean sound (advance_ok, done, kept) = (
-  [],
-  kept,
-  (
-    taken_eof advance_ok done clean sound,
-    refl,
-    omega arith,
-  ),
-)
+field_in_slot : (end : ℕ) (b r : Reader) (before after : Slots) (slot : ℕ) (has : Bool) → b.fault ≡ None
+    → b.terminator ≡ end → IsSound r → FillPost b r before after slot (Ok has)
+    → (field : List ℕ) × (after ≡ with_line before slot field) × FieldTaken end b r field has
+field_in_slot end b r before after slot true clean same sound e =
+    (e.line, e.stored, (taken_line e same clean sound, e.less))
+field_in_slot end b r before after slot false clean same sound (advance_ok, done, kept) =
+    ([], kept, (taken_eof advance_ok done clean sound, refl, omega arith))
 
 module _ {row : RowShape} {n : ℕ} {old now : List Reader} {fields : List (List ℕ)} {any_line : Bool}
-    (f : CellsFilled row.cells n old now fields any_line) {b : Reader} (x : IsNextReader row now n b) where
+    (f : CellsFilled row n old now fields any_line) {b : Reader} (x : IsNextReader row now n b) where
   abbrev p : ℕ
   p = get_or row.cells n 0
 
@@ -513,15 +497,11 @@ module _ {row : RowShape} {n : ℕ} {old now : List Reader} {fields : List (List
     all_budgets : sum_by budget (set now p r) + budget b ≡ sum_by budget now + budget r
     all_budgets = omega (arith, ap budget x.is_read, sum_by-set budget now p r no_reader x.within)
 
-    taken_here : {ls : List (List ℕ)} → LinesTaken b.terminator b r 1 ls
-        → LinesTaken (reader_at old p).terminator (reader_at now p) r 1 ls
-    taken_here t = rw (x.is_read, (f.consumed.lines_taken p).reads.terminator) at t
-
     -- The column is filled.
-    pub fill_next : (field : List ℕ) (has : Bool) → FieldTaken b r field has
-        → CellsFilled row.cells (n + 1) old (set now p r) (fields ++ field ∷ []) (any_line || has)
+    pub fill_next : (field : List ℕ) (has : Bool) → FieldTaken row.terminator b r field has
+        → CellsFilled row (n + 1) old (set now p r) (fields ++ field ∷ []) (any_line || has)
     fill_next field true (t, fewer) =
-        let lines_taken = taken_here t in
+        let lines_taken = rw x.is_read at t in
         let all : length (f.input_lines p) ≡ uses_of (take n row.cells) p =
         grind (arith, none_at_eof lines_taken, (f.consumed.lines_taken p).enough) in
         let less : sum_by budget (set now p r) < sum_by budget old = omega (arith, all_budgets) in
@@ -544,7 +524,7 @@ module _ {row : RowShape} {n : ℕ} {old now : List Reader} {fields : List (List
         })
     fill_next field false (t, empty, fewer) = rw (or-false, empty) (record {
       input_lines = lines_at p [] f.input_lines;
-      consumed = cells_taken_more f.consumed x.low x.within (taken_here t) (cc (
+      consumed = cells_taken_more f.consumed x.low x.within (rw x.is_read at t) (cc (
         append-nil (f.input_lines p),
         get_or_past (f.input_lines p) (uses_of (take n row.cells) p) [] (taken_at_most (f.consumed.lines_taken p)),
       ));
@@ -560,7 +540,7 @@ module _ {row : RowShape} {n : ℕ} {old now : List Reader} {fields : List (List
   abbrev pub fill_failed : {CellFailed : Reader → Reader → Slots → Slots → ℕ → Type 0} {before store : Slots}
       (after : Slots) (r : Reader) → SlotsKept row.cells fields before store → CellFailed b r store after n
       → (length b.buffered ≤ 8192 → length r.buffered ≤ 8192)
-      → RowFailed CellFailed row.cells old (set now p r) before after
+      → RowFailed CellFailed row old (set now p r) before after
   fill_failed {CellFailed} {store = store} after r slots failure few = record {
     column = n;
     within = x.low;
@@ -583,7 +563,7 @@ with_slot row n store now = record now { count = n + 1; text = now.text ++ (line
 module _ {row : RowShape} where
   -- All fields were copied from the buffers.
   pub amid_starts : {mid : List Reader} {begun : BegunText} {store : Slots} {fields : List (List ℕ)}
-      → CellsFilled row.cells begun.count mid begun.readers fields begun.any_line
+      → CellsFilled row begun.count mid begun.readers fields begun.any_line
       → begun.text ≡ cells_text row 0 fields → RowAmid row begun.count mid store begun store
   amid_starts = grind (arith, common_steps, slots_kept_start)
 
@@ -595,7 +575,7 @@ module _ {row : RowShape} where
         → RowAmid row (n + 1) from first
         (record now { readers = set now.readers (get_or row.cells n 0) r; any_line = now.any_line || has }) after
     amid_next r after room sound has e =
-        let (field, stored, taken) = field_in_slot b r store after n has x.clean sound e in
+        let (field, stored, taken) = field_in_slot row.terminator b r store after n has x.clean x.ends sound e in
         let width = a.filled.consumed.width in
         rw stored (record {
           fields = a.fields ++ field ∷ [];

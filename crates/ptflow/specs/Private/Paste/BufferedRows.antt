@@ -72,8 +72,8 @@ pub record CopyColumnsPost (row : RowShape) (old new : BegunText) : Type 0 where
   pub consumed : AreConsumed old.readers new.readers
   pub width : old.count + length fields ≡ new.count
   pub filled : (from : List Reader) (front : List (List ℕ))
-      → CellsFilled row.cells old.count from old.readers front old.any_line
-      → CellsFilled row.cells new.count from new.readers (front ++ fields) new.any_line
+      → CellsFilled row old.count from old.readers front old.any_line
+      → CellsFilled row new.count from new.readers (front ++ fields) new.any_line
 
 -- The postcondition of `copy_rows`: rows were taken from the buffers, `copied` is their text, and the next row is
 -- begun.
@@ -81,7 +81,7 @@ pub record CopyRowsPost (row : RowShape) (old : List Reader) (copied : List ℕ)
   pub mid : List Reader
   pub rows : RowsTaken row old mid copied
   pub fields : List (List ℕ)
-  pub filled : CellsFilled row.cells begun.count mid begun.readers fields begun.any_line
+  pub filled : CellsFilled row begun.count mid begun.readers fields begun.any_line
   pub is : begun.text ≡ cells_text row 0 fields
   pub consumed : AreConsumed old begun.readers
 

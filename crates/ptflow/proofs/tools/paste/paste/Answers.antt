@@ -137,8 +137,8 @@ module _ (g : given.Over) (c : After-fill_row g) where
     room = omega (arith, amid.slots.same, invariant_slots now)
 
     has : (any_line : Bool) → filled.any_line ≡ any_line
-        → CellsFilled c.args.cells.now (length c.args.cells.now) rows.mid c.fill_row.new.readers amid.fields any_line
-    has any_line is = subst (CellsFilled c.args.cells.now (length c.args.cells.now) rows.mid c.fill_row.new.readers
+        → CellsFilled shape (length c.args.cells.now) rows.mid c.fill_row.new.readers amid.fields any_line
+    has any_line is = subst (CellsFilled shape (length c.args.cells.now) rows.mid c.fill_row.new.readers
         amid.fields) is amid.filled
 
     -- The row has a line, and `write_row` pushed it.
