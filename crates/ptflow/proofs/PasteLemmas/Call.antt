@@ -43,6 +43,16 @@ pub by_fault : {A : Type 0} {names : InputNames ℕ} {engine : EngineSpec ℕ} {
     → CallPost names engine old new (paste_end (Err e)) → CallPost names engine old new (paste_end result)
 by_fault = grind arith
 
+-- A job that has these rows.
+abbrev pub row_job : RowShape → Paste
+row_job row = record { serial = false; delimiters = row.delims; terminator = row.terminator }
+
+pub of_rows : {row same : RowShape} {old new : CallState ℕ} {end : CallEnd ℕ} → row ≡ same
+    → CallPost (inputs_at row.cells) (paste_engine (row_job row) row.cells) old new end
+    → CallPost (inputs_at same.cells) (paste_engine (row_job same) same.cells) old new end
+of_rows {old = old} {new} {end} is post =
+    subst (λ r. CallPost (inputs_at r.cells) (paste_engine (row_job r) r.cells) old new end) is post
+
 -- ---- the rows of all that was received, if some rows were taken
 
 -- The known lines of all received bytes, if `ls` were received first.
@@ -573,8 +583,8 @@ module _ {job : Paste} {cells : List ℕ} {old set now : List Reader} {was is : 
   -- A row could not be filled: the reader of a column gave only a part of a line.
   module _ {CellFailed : Reader → Reader → Slots → Slots → ℕ → Type 0} {new : List Reader} {after : Slots}
       (b : RowFailed CellFailed shape now new store after) (piece : List ℕ)
-      (piece_reads : ReaderAdvance (reader_at b.mid (get_or cells b.column 0)) (reader_at new (get_or cells b.column 0))
-      piece) (free : IsLine (reader_at b.mid (get_or cells b.column 0)).terminator piece) where
+      (piece_reads : ReaderAdvance (reader_at b.begun.readers (get_or cells b.column 0)) (reader_at new (get_or cells b.column 0))
+      piece) (free : IsLine (reader_at b.begun.readers (get_or cells b.column 0)).terminator piece) where
     abbrev here : ℕ
     here = get_or cells b.column 0
 
@@ -586,11 +596,11 @@ module _ {job : Paste} {cells : List ℕ} {old set now : List Reader} {was is : 
     part_to p = cond (p == here) piece []
 
     taken_to : (p : ℕ)
-        → LinesTaken job.terminator (reader_at now p) (reader_at b.mid p) (uses_of (take b.column cells) p)
-        (b.input_lines p)
-    taken_to = b.consumed.lines_taken
+        → LinesTaken job.terminator (reader_at now p) (reader_at b.begun.readers p) (uses_of (take b.column cells) p)
+        (b.amid.filled.input_lines p)
+    taken_to = b.amid.filled.consumed.lines_taken
 
-    reads_to : (p : ℕ) → ReaderAdvance (reader_at b.mid p) (reader_at new p) (part_to p)
+    reads_to : (p : ℕ) → ReaderAdvance (reader_at b.begun.readers p) (reader_at new p) (part_to p)
     reads_to p = grind (arith, nat_tests, b.others, reads_nothing)
 
     is_line_to : (p : ℕ) → IsLine job.terminator (part_to p)
@@ -599,8 +609,8 @@ module _ {job : Paste} {cells : List ℕ} {old set now : List Reader} {was is : 
     abbrev row_to : RowPart job cells now new
     row_to = record {
       n = b.column;
-      last = b.mid;
-      taken = b.input_lines;
+      last = b.begun.readers;
+      taken = b.amid.filled.input_lines;
       lines_taken = taken_to;
       part = part_to;
       reads = reads_to;
@@ -609,22 +619,22 @@ module _ {job : Paste} {cells : List ℕ} {old set now : List Reader} {was is : 
     }
 
     bound_to : Bound no_more row_to b.buffered
-    bound_to top high = row_kept b.slots (omega (arith, b.within)) b.consumed top
+    bound_to top high = row_kept b.amid.slots (omega (arith, b.within)) b.amid.filled.consumed top
         (λ p some. omega (arith, high p some))
 
     bound_with_piece : Bound no_more row_to (with_line b.buffered b.column piece)
     bound_with_piece top high = slots_bound_line (bound_to top high) b.column piece b.within
         (grind (arith, nat_tests, high here here_used))
 
-    failed_to : (reader_at new here).failed ≡ (reader_at b.mid here).failed
-        → (p : ℕ) → (reader_at new p).failed ≡ (reader_at b.mid p).failed
+    failed_to : (reader_at new here).failed ≡ (reader_at b.begun.readers here).failed
+        → (p : ℕ) → (reader_at new p).failed ≡ (reader_at b.begun.readers p).failed
     failed_to same p = grind (arith, b.others p, cases_eq p here)
 
     -- That reader is the one that limits the rows.
     abbrev cut_here : Cut no_more row_to here
     cut_here = cut_now no_more row_to here (b.few (now_buffered here here_used)) (omega (
       arith,
-      length-append (s.ls here) (b.input_lines here),
+      length-append (s.ls here) (b.amid.filled.input_lines here),
       taken_at_most (so_far here),
       taken_at_most (taken_to here),
       uses_before_lt cells b.column b.within,
@@ -640,7 +650,7 @@ module _ {job : Paste} {cells : List ℕ} {old set now : List Reader} {was is : 
 
     -- The buffered output could not be written.
     paste_send_failed : {is' : Output} → PushEffect is is' [] → is'.write_failed ≡ true → after ≡ b.buffered
-        → (reader_at new here).failed ≡ (reader_at b.mid here).failed
+        → (reader_at new here).failed ≡ (reader_at b.begun.readers here).failed
         → PastePost job cells old new was is' first after (Err Write)
     paste_send_failed wrote fault stored same =
         rw stored (write_exit no_more row_to wrote fault bound_to cut_to (failed_to same))
@@ -648,7 +658,7 @@ module _ {job : Paste} {cells : List ℕ} {old set now : List Reader} {was is : 
     -- A growth of a slot failed. That reader has bytes left.
     paste_memory_failed : {is' : Output} → PushEffect is is' [] → is'.write_failed ≡ false
         → after ≡ with_denied (with_line b.buffered b.column piece)
-        → (reader_at new here).failed ≡ (reader_at b.mid here).failed → 0 < length (reader_at new here).buffered
+        → (reader_at new here).failed ≡ (reader_at b.begun.readers here).failed → 0 < length (reader_at new here).buffered
         → PastePost job cells old new was is' first after (Err Memory)
     paste_memory_failed wrote clean stored same left =
         exit no_more row_to wrote (inr stored) bound_with_piece cut_to (Err Memory) (record {
@@ -664,7 +674,7 @@ module _ {job : Paste} {cells : List ℕ} {old set now : List Reader} {was is : 
 
     -- The read failed.
     paste_read_failed : {is' : Output} → PushEffect is is' [] → is'.write_failed ≡ false
-        → after ≡ with_line b.buffered b.column piece → HasReadCause (reader_at b.mid here) (reader_at new here)
+        → after ≡ with_line b.buffered b.column piece → HasReadCause (reader_at b.begun.readers here) (reader_at new here)
         → PastePost job cells old new was is' first after (Err (Read here))
     paste_read_failed wrote clean stored cause =
         exit no_more row_to wrote (inl stored) bound_with_piece cut_to (Err (Read here)) (record {

@@ -6,9 +6,9 @@
 -- The slots hold all bytes of the store, so the total is at most the sum of the columns' bounds.
 use Rattle.ptflow.proofs
 use proofs.Common.{Bool, Err, List, None, Ok, [], ap, arith, cond, drop, false, get_or, get_or-drop, get_or-take, inl}
-use proofs.Common.{length, length-append, length-drop, map, refl, set, suc, sym, take, take-append-drop, true, zero, ℕ}
-use proofs.Common.{⊎_elim, ◌*◌, ◌++◌, ◌+◌, ◌<◌, ◌==◌, ◌||◌, ◌∙◌, ◌∷◌, ◌≡◌, ◌≢◌, ◌≤◌, ◌⊎◌, cases_eq, eq-eqb, ne_eqb}
-use proofs.Common.{nat_tests, common_steps, append-nil, drop-set-lt, drop_all, ext_get_or, get_or-set_other}
+use proofs.Common.{length, length-append, length-drop, map, refl, set, subst, suc, sym, take, take-append-drop, true}
+use proofs.Common.{zero, ℕ, ⊎_elim, ◌*◌, ◌++◌, ◌+◌, ◌<◌, ◌==◌, ◌||◌, ◌∙◌, ◌∷◌, ◌≡◌, ◌≢◌, ◌≤◌, ◌⊎◌, cases_eq, eq-eqb}
+use proofs.Common.{ne_eqb, nat_tests, common_steps, append-nil, drop-set-lt, drop_all, ext_get_or, get_or-set_other}
 use proofs.Common.{get_or-set_same, get_or_append_left, get_or_at, get_or_default, get_or_past, get_or_push, length-set}
 use proofs.Common.{length-take-le, take-append-le, take-take, take_all, get_or-le-sum_by, sum_by-append, sum_by-cons}
 use proofs.Common.{sum_by-set, sum_by, top, advance_trans, lines_of_unlines, unlines-append, FillReadErr}
@@ -17,7 +17,7 @@ use proofs.Common.{Slots, line, total_bytes, with_line, AddedSlots, AreLines, ma
 use proofs.Common.{join_with_cycle, rows, uses_of, SetTerminatorsPost, FillCellPost, SlotsBound, SlotsKept}
 use proofs.Common.{RowAmid, RowFailed, RowFilled, RowShape, BegunText, CellsFilled, CellsTaken, after_cell, cells_text}
 use proofs.Common.{slots_text, AreReceivedLines, LinesTaken, BufferedRowsPre, AreFirstRows, RowsTaken, CopyColumnsPost}
-use proofs.Common.{FlowFault, Memory, Read, Write}
+use proofs.Common.{CopyRowsPost, FlowFault, Memory, Read, Write}
 use proofs.Passes.LinesRead.{lines_none, lines_are_given, lines_more}
 use proofs.Passes.Readers.{eof_gives_nothing, stays_at_eof}
 use Rattle.std.specs.Prelude.{slice_index_or}
@@ -536,36 +536,22 @@ module _ {row : RowShape} {n : ℕ} {old now : List Reader} {fields : List (List
       less = λ h. omega (arith, f.less h, all_budgets);
     })
 
-  -- The step for this column failed.
-  abbrev pub fill_failed : {CellFailed : Reader → Reader → Slots → Slots → ℕ → Type 0} {before store : Slots}
-      (after : Slots) (r : Reader) → SlotsKept row.cells fields before store → CellFailed b r store after n
-      → (length b.buffered ≤ 8192 → length r.buffered ≤ 8192)
-      → RowFailed CellFailed row old (set now p r) before after
-  fill_failed {CellFailed} {store = store} after r slots failure few = record {
-    column = n;
-    within = x.low;
-    fields = fields;
-    input_lines = f.input_lines;
-    mid = now;
-    buffered = store;
-    consumed = f.consumed;
-    slots = slots;
-    failure = rw (at_same now p r x.within) (rw x.is_read at failure);
-    others = λ q differ. at_other now p q r differ;
-    few = λ buffered. rw (at_same now p r x.within)
-        (few (rw x.is_read ((f.consumed.lines_taken p).buffered buffered)));
-  }
-
 -- The row after the field in the slot of column n, and the byte after it, were copied.
 abbrev pub with_slot : RowShape → ℕ → Slots → BegunText → BegunText
 with_slot row n store now = record now { count = n + 1; text = now.text ++ (line store n ++ after_cell row n) }
 
 module _ {row : RowShape} where
-  -- All fields were copied from the buffers.
-  pub amid_starts : {mid : List Reader} {begun : BegunText} {store : Slots} {fields : List (List ℕ)}
-      → CellsFilled row begun.count mid begun.readers fields begun.any_line
-      → begun.text ≡ cells_text row 0 fields → RowAmid row begun.count mid store begun store
-  amid_starts = grind (arith, common_steps, slots_kept_start)
+  -- All fields were copied from the buffers, and then the row was moved.
+  pub amid_starts : {old : List Reader} {copied : List ℕ} {begun moved : BegunText} {store : Slots}
+      (p : CopyRowsPost row old copied begun) → moved ≡ begun → RowAmid row moved.count p.mid store moved store
+  amid_starts {begun = begun} {store = store} p same = subst (λ m. RowAmid row m.count p.mid store m store) (sym same) (record {
+    fields = p.fields;
+    filled = p.filled;
+    within = omega arith;
+    is = cc (take_all begun.count p.fields (omega (arith, p.filled.consumed.width)));
+    held = λ c over under. absurd (omega arith);
+    slots = slots_kept_start;
+  })
 
   module _ {n : ℕ} {from : List Reader} {first store : Slots} {now : BegunText} (a : RowAmid row n from first now store)
       {b : Reader} (x : IsNextReader row now.readers n b) where
@@ -595,13 +581,26 @@ module _ {row : RowShape} where
         })
 
     -- The step for the next column failed.
+    abbrev fill_failed : {CellFailed : Reader → Reader → Slots → Slots → ℕ → Type 0} (after : Slots) (r : Reader)
+        → CellFailed b r store after n → (length b.buffered ≤ 8192 → length r.buffered ≤ 8192)
+        → RowFailed CellFailed row from (set now.readers (get_or row.cells n 0) r) first after
+    fill_failed after r failure few = record {
+      column = n;
+      within = x.low;
+      begun = now;
+      buffered = store;
+      amid = a;
+      failure = rw (at_same now.readers _ r x.within) (rw x.is_read at failure);
+      others = λ q differ. at_other now.readers _ q r differ;
+      few = λ buffered. rw (at_same now.readers _ r x.within)
+          (few (rw x.is_read ((a.filled.consumed.lines_taken _).buffered buffered)));
+    }
+
     pub amid_failed : (r : Reader) (after : Slots) (into : List ℕ) (e : FlowFault)
         → FillCellPost (get_or row.cells n 0) n b r store after (Err e)
         → RowFilled row from first (set now.readers (get_or row.cells n 0) r) after into (Err e)
-    amid_failed r after into (Read input) (p, sound, named) = (
-      fill_failed a.filled x {CellFailed = FillReadErr} after r a.slots p (λ few. sound.buffered),
-      named,
-    )
+    amid_failed r after into (Read input) (p, sound, named) =
+        (fill_failed {CellFailed = FillReadErr} after r p (λ few. sound.buffered), named)
     amid_failed r after into Write (same, kept, going) = search rules
     amid_failed r after into Memory (p, sound) = search rules
 

@@ -6,7 +6,7 @@ use Rattle.ptlines.specs.Readers.{Reader, IsSound, reader_at}
 use Rattle.ptlines.specs.Slots.{Slots, AddedSlots, line, total_bytes}
 use Rattle.ptlines.specs.ReadLine.{FillPost, FillReadErr, FillMemoryErr}
 use Rattle.ptflow.specs.PasteText.{uses_of}
-use Rattle.ptflow.specs.Private.Paste.RowCells.{RowShape, BegunText, CellsTaken, CellsFilled, begun_in, cells_text}
+use Rattle.ptflow.specs.Private.Paste.RowCells.{RowShape, BegunText, CellsFilled, begun_in, cells_text}
 use Rattle.ptflow.specs.declared.tools.paste.row.BegunRow.{BegunRow}
 use Rattle.ptflow.specs.declared.faults.FlowFault.{FlowFault}
 use Rattle.ptflow.specs.declared.faults.FlowFault.TheVariants.{Read, Write, Memory}
@@ -54,16 +54,13 @@ pub record RowFailed (CellFailed : Reader → Reader → Slots → Slots → ℕ
     (old new : List Reader) (before store : Slots) : Type 0 where
   pub column : ℕ
   pub within : column < length row.cells
-  pub fields : List (List ℕ)
-  pub input_lines : ℕ → List (List ℕ)
-  pub mid : List Reader
+  pub begun : BegunText
   pub buffered : Slots
-  pub consumed : CellsTaken row column old mid fields input_lines
-  pub slots : SlotsKept row.cells fields before buffered
-  pub failure : CellFailed (reader_at mid (slice_index_or row.cells column 0))
-      (reader_at new (slice_index_or row.cells column 0))
-      buffered store column
-  pub others : (input : ℕ) → input ≢ slice_index_or row.cells column 0 → reader_at new input ≡ reader_at mid input
+  pub amid : RowAmid row column old before begun buffered
+  pub failure : CellFailed (reader_at begun.readers (slice_index_or row.cells column 0))
+      (reader_at new (slice_index_or row.cells column 0)) buffered store column
+  pub others : (input : ℕ) → input ≢ slice_index_or row.cells column 0
+      → reader_at new input ≡ reader_at begun.readers input
   pub few : length (reader_at old (slice_index_or row.cells column 0)).buffered ≤ 8192
       → length (reader_at new (slice_index_or row.cells column 0)).buffered ≤ 8192
 
