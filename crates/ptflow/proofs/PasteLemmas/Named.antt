@@ -1,9 +1,8 @@
--- The inputs that columns name. Only their texts, and what was received from them, decide the output.
+-- The inputs that columns name. Only what was received from them decides the output.
 use Rattle.ptflow.proofs
-use proofs.Common.{◌≡◌, ℕ, ◌<◌, ◌==◌, true, false, cond, List, [], ◌∷◌, length, get_or, map, refl, sym, ap, subst}
-use proofs.Common.{arith, append-nil, eq-eqb, nat_tests, list_any_at, Received, IsConsistent, max_line_length, Paste}
-use proofs.Common.{AreAllConsistent, inputs_at, is_in, uses_of, paste, paste_size, paste_decided, common_steps}
-use Rattle.std.proofs.lemmas.List.Sums.{sum-map}
+use proofs.Common.{List, [], arith, false, get_or, length, map, refl, subst, sym, true, ℕ, ◌<◌, ◌==◌, ◌∷◌, ◌≡◌, eq-eqb}
+use proofs.Common.{nat_tests, common_steps, append-nil, list_any_at, Paste, IsConsistent, Received, is_in}
+use proofs.Common.{paste_decided, uses_of}
 use proofs.PasteLemmas.Grid.{columns_same, last_use}
 
 module _ (cells : List ℕ) where
@@ -37,25 +36,3 @@ module _ (job : Paste) (cells : List ℕ) where
   pub decided_same : (f g : ℕ → Received) → ((p : ℕ) → is_in cells p ≡ true → f p ≡ g p)
       → paste_decided job cells f ≡ paste_decided job cells g
   decided_same f g same = grind (arith, columns_same, used_is_in, map_same)
-
-  -- Texts that are consistent at these inputs, and at all others what was received.
-  module _ (given : ℕ → Received) (texts : ℕ → List ℕ) (agree : AreAllConsistent (inputs_at cells) given texts) where
-    abbrev pub with_received : ℕ → List ℕ
-    with_received p = cond (is_in cells p) (texts p) (given p).bytes
-
-    pub all_agree : (p : ℕ) → IsConsistent (given p) (with_received p)
-    all_agree p = grind (arith, consistent_itself)
-
-    same_texts : (p : ℕ) → is_in cells p ≡ true → with_received p ≡ texts p
-    same_texts p named = ap (λ b. cond b (texts p) (given p).bytes) named
-
-    pub same_paste : paste job cells with_received ≡ paste job cells texts
-    same_paste = grind (arith, columns_same, same_texts, used_is_in)
-
-    pub same_size : paste_size job cells with_received ≡ paste_size job cells texts
-    same_size = cc (
-      sum-map (λ p. max_line_length job.terminator (with_received p)) cells,
-      map_same (λ p. max_line_length job.terminator (with_received p)) (λ p. max_line_length job.terminator (texts p))
-          cells (λ p named. ap (max_line_length job.terminator) (same_texts p named)),
-      sum-map (λ p. max_line_length job.terminator (texts p)) cells,
-    )

@@ -124,7 +124,7 @@ fn write_slot<A: Allocator + Copy, W: Sink>(
         (line store.now column ++ after_cell (shape_of row.entry) column) result }
 {
     let line = store.line(column);
-    match row.byte_after(column) {
+    match row.byte_after(column, column % row.delims.len()) {
         Some(byte) => out.push_line(b"", line, &[byte]),
         None => out.push_line(b"", line, b""),
     }
@@ -208,7 +208,7 @@ pub fn paste<A: Allocator + Copy, B: Allocator + Copy, S: Source, R: Source, W: 
         let begun = move_to_front(copied, &mut buffer);
         let filled = fill_row(row, begun, readers, &mut buffer, store, out)?;
         if !filled.any_line {
-            clear_slots(cells, store);
+            clear_slots(row.cells, store);
             return Ok(());
         }
         write_row(row, filled, &buffer, store, out)?;

@@ -6,7 +6,7 @@ use proofs.Common.{◌≡◌, ◌+◌, List, [], ◌++◌, length, take, get_or,
 use proofs.Common.{Reader, Slots, push_nothing, push_trans, ◌||◌, BegunText, BufferedRowsPre, RowAmid, after_cell}
 use proofs.Common.{begun_in, shape_of}
 use borrow.Author.Rules.{scaled_Fits}
-use proofs.PasteLemmas.FillRow.{next_reader, amid_next, amid_failed, amid_resumed, with_slot, readable_after}
+use proofs.PasteLemmas.Rows.{next_reader, amid_next, amid_failed, amid_resumed, with_slot, readable_after}
 use proofs.PasteLemmas.BufferedRows.{still_readable}
 use Rattle.ptflow.proofs.tools.paste.fill_row.Goals.{After-fill_cell, In_ok-has_line}
 use Rattle.ptflow.proofs.tools.paste.fill_row.Given as given

@@ -3,7 +3,7 @@
 use Rattle.ptflow.proofs
 use proofs.Common.{◌≡◌, ◌<◌, Bool, true, false, cond, length, get_or, refl, arith, terminator, common_steps}
 use borrow.Author.Rules.{scaled_Fits}
-use proofs.PasteLemmas.FillRow.{at_index, set_terminator_more}
+use proofs.PasteLemmas.Rows.{at_index, set_terminator_more}
 use Rattle.ptflow.proofs.tools.paste.set_terminators.Goals as goal
 use Rattle.std.proofs.Common.{rules}
 

@@ -2,8 +2,7 @@
 use Rattle.std.proofs.Math.Bool.{not-not}
 use Rattle.ptflow.proofs
 use proofs.Common.{◌∙◌, ap, not, [], sym, arith}
-use proofs.PasteLemmas.FillRow.{fill_starts}
-use proofs.PasteLemmas.RowsTaken.{rows_taken_none}
+use proofs.PasteLemmas.Rows.{fill_starts, rows_taken_none}
 use proofs.PasteLemmas.BufferedRows.{consumed_none, consumed_trans, still_readable, rows_and_begun, rows_more}
 use Rattle.ptflow.proofs.tools.paste.buffered_rows.copy_rows.Goals as goal
 use Rattle.std.proofs.Common.{rules}

@@ -3,7 +3,7 @@
 use Rattle.ptflow.proofs
 use proofs.Common.{◌≡◌, ◌+◌, ◌/◌, ◌-◌, length, take, ap, ◌∙◌, arith, get_or-take, take-append-le, length-take-le}
 use proofs.Common.{count_by, is_byte}
-use proofs.PasteLemmas.SharedInput.{whole_rows_counted}
+use proofs.PasteLemmas.BufferedRows.{whole_rows_counted}
 use proofs.PasteLemmas.Replaced.{length-replaced, take-replaced}
 use Rattle.ptflow.proofs.tools.paste.shared_input.copy_shared_rows.Goals as goal
 use Rattle.std.proofs.Common.{rules}
