@@ -4,14 +4,14 @@ use proofs.Common.{◌∙◌, [], refl, sym, subst, slice_index_or, arith, w8, s
 use proofs.Common.{IsCompressRow}
 use Rattle.std.specs.Prelude.{count_ones}
 use proofs.Vectors.Compress.{flags_of, row_lanes, row_of_mask, row_selects, selected_stored}
-use Rattle.ptflow.proofs.simd.compress.compress8.Goals as goal
+use Rattle.ptflow.proofs.simd.compress.CompressTable.compress8.Goals as goal
 
 pub swizzle : goal.swizzle
 swizzle c =
     let keep = c.from.result in
-    let row = slice_index_or c.args.table.now.rows keep [] in
+    let row = slice_index_or c.args.self.now.rows keep [] in
     let is : IsCompressRow (flags_of 8 keep) row =
-    row_of_mask c.args.table.now.rows keep c.args.table.now.is_table (omega arith) in
+    row_of_mask c.args.self.now.rows keep c.args.self.now.is_table (omega arith) in
     SwzOk-from_below w8 16 1 16 0 row refl (omega arith) (row_lanes is)
 
 pub returns-clause-packed : goal.returns-clause-packed
@@ -20,10 +20,10 @@ returns-clause-packed c flags long masked =
     let into = c.args.into.now in
     let v = c.args.v in
     let (size, _) = c.fits-v in
-    let row = slice_index_or c.args.table.now.rows c.from.result [] in
+    let row = slice_index_or c.args.self.now.rows c.from.result [] in
     let is : IsCompressRow flags row =
-    subst (λ m. IsCompressRow flags (slice_index_or c.args.table.now.rows m [])) (sym (cc))
-    (c.args.table.now.is_table flags long) in
+    subst (λ m. IsCompressRow flags (slice_index_or c.args.self.now.rows m [])) (sym (cc))
+    (c.args.self.now.is_table flags long) in
     let lanes = swz_l w8 16 v 0 row in
     cc (
       selected_stored at (count_ones c.args.keep) into lanes (length-swz_l w8 16 v 0 row ∙ is.long)
