@@ -74,7 +74,7 @@ module _ (job : Uniq) (first : List ℕ) (count : ℕ) {block : List ℕ} {line 
   line_in = rw is at pre.line_in
 
   pub due_is : run_text job (run_of (first_of first block line) count) ≡ count_prefix job.show count ++ span_of block l
-  due_is = grind arith
+  due_is = grind (arith, current_run_is)
 
   -- the line follows the deferred output
   pub pending_joined : {out : Output} → pending.to ≡ l.from → count_prefix job.show count ≡ []
@@ -213,7 +213,7 @@ module _ {job : Uniq} {first block rest : List ℕ} {start count : ℕ} {line : 
 
       -- the output of the run comes after that of the runs before it
       entries : output_of job (so_far.passed ++ current_run run) ≡ output_of job so_far.passed ++ run_text job run
-      entries = simp (entries-append, run, current_run_is)
+      entries = entries-append job so_far.passed (current_run run)
 
       steps : RunSteps job (run_of first start) (run_of (take at rest) 1) (so_far.front ++ take at rest ∷ [])
           (so_far.passed ++ current_run run)

@@ -16,13 +16,6 @@ pub swapped_first : (store : Slots) {after : Slots} → 1 < length store.lines
     → after ≡ record store { lines = swap store.lines 0 1 } → line after 0 ≡ line store 1
 swapped_first store slots is = grind (arith, common_steps)
 
--- the pushed bytes are the output of the run with this first line
-pub run_pushed : {E : Type 0} (job : Uniq) (count : ℕ) {bytes first after : List ℕ} {was is : Output}
-    {result : Result (Unit {0}) E} → bytes ≡ first → after ≡ job.terminator ∷ []
-    → PushPost was is (run_output job.show count (bytes ++ after)) result
-    → PushPost was is (output_of job (current_run (run_of first count))) result
-run_pushed job count {first} {was} {is} {result} bytes_are after_is = grind (arith, common_steps)
-
 -- `uniq` is a line tool: the first of two slots may hold the first line of the current run, and the decided output
 -- leaves out that run.
 pub uniq_line_tool : (job : Uniq) (start : CurrentRun) → start.count ≡ 0

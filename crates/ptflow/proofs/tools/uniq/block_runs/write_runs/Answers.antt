@@ -54,11 +54,11 @@ returns-clause-passed g c = (
       c.push.ensures.pushed.wrote,
 )
 
-pub overflow_sub-line : goal.overflow_sub-line
-overflow_sub-line g c = grind (arith, common_steps)
+pub overflow_sub-from : goal.overflow_sub-from
+overflow_sub-from g c = grind (arith, common_steps)
 
-pub overflow_sub-line-else-eq : goal.overflow_sub-line-else-eq
-overflow_sub-line-else-eq g c = grind (arith, common_steps)
+pub overflow_sub-from-else-eq : goal.overflow_sub-from-else-eq
+overflow_sub-from-else-eq g c = grind (arith, common_steps)
 
 pub overflow_sub-to : goal.overflow_sub-to
 overflow_sub-to g c = grind (arith, common_steps)
