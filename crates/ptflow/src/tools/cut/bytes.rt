@@ -2,22 +2,18 @@
 
 ghost use Rattle.std.specs.Prelude.{◌≡◌, ◌<◌, ◌≤◌, ◌+◌, ◌-◌, ◌*◌, ◌++◌, ℕ, List, [], false, length, take, drop};
 ghost use Rattle.ptlangs.specs.CutLists.{AreSeparated, is_selected};
-ghost use Rattle.ptlangs.specs.Jobs.{cut_job};
-ghost use Rattle.ptflow.specs.Cuts.{cut_tool};
-ghost use Rattle.ptflow.specs.Passes.{StorelessPost};
 ghost use Rattle.ptflow.specs.Private.Cut.CutFrom.{cut_list_from, cut_piece, IsCutPart, ExtendsCut};
 ghost use Rattle.ptflow.specs.Private.Cut.CutFrom.{HasTerminators, IsCursorAt, CutChunkPost};
-ghost use Rattle.ptflow.specs.Private.Passes.BlockLoop.{HasRoom, RunBlocksPre};
+ghost use Rattle.ptflow.specs.Private.Passes.BlockLoop.{HasRoom};
 ghost use Rattle.ptflow.specs.Private.Cut.ShortLines.{AreLineShuffles, AreSeparated-prop};
 ghost use Rattle.ptflow.specs.Cuts.{select_from};
 
-use crate::block_loop::{BlockFilter, run_blocks};
-use crate::faults::FlowFault;
+use crate::block_loop::BlockFilter;
 use crate::simd::find_nth::match_mask;
 use crate::tools::cut::shuffle::LineShuffles;
 use ptlangs::jobs::CutJob;
 use ptlangs::ranges::Interval;
-use ptlines::{LineReader, Out, Sink, Source, WriteFault, copy_short, find_byte};
+use ptlines::{Out, Sink, WriteFault, copy_short, find_byte};
 use std::alloc::Allocator;
 use std::simd::prelude::*;
 
@@ -265,10 +261,29 @@ fn cut_block(by: &Selection, line_offset: u64, block: &[u8], into: &mut OutBuf) 
 
 /// The selection, how many bytes of the unfinished line were read, and a buffer for the output of a block.
 #[derive(Drop)]
-struct ByteCut<'a> {
+pub(crate) struct ByteCut<'a> {
     by: Selection<'a>,
     line_offset: u64,
     buffer: OutBuf,
+}
+
+impl<'a> ByteCut<'a> {
+    /// The tool for a job, at the start of an input.
+    pub(crate) fn new<A: Allocator>(job: &'a CutJob<A>, terminator: u8) -> ByteCut<'a>
+        ensures selected { result.by.selected.now ≡ job.now.list }
+        ensures terminator { result.by.terminator ≡ terminator }
+        ensures start { result.line_offset ≡ 0 }
+    {
+        ByteCut {
+            by: Selection {
+                selected: job.list.intervals(),
+                shuffles: LineShuffles::of(&job.list),
+                terminator,
+            },
+            line_offset: 0,
+            buffer: [0; 8208],
+        }
+    }
 }
 
 impl<'a> BlockFilter for ByteCut<'a> {
@@ -295,28 +310,4 @@ impl<'a> BlockFilter for ByteCut<'a> {
         }
         out.push(&[self.by.terminator])
     }
-}
-
-// Writes the selected bytes of each line of a reader, and after each line the terminator. No line is kept: the output
-// of a block is pushed before the next read.
-pub(crate) fn cut_by_bytes<A: Allocator + Copy, S: Source, R: Source, W: Sink>(
-    job: &CutJob<A>,
-    reader: &mut LineReader<S, R>,
-    out: &mut Out<W>,
-) -> Result<(), FlowFault>
-    requires by_bytes { job.now.fields ≡ false }
-    requires start { RunBlocksPre 0 reader.old out.old }
-    requires ends { reader.old.terminator ≡ (cut_job job.now).terminator }
-    ensures { StorelessPost (cut_tool (cut_job job.now)) reader.old reader.new out.old out.new result }
-{
-    let mut tool = ByteCut {
-        by: Selection {
-            selected: job.list.intervals(),
-            shuffles: LineShuffles::of(&job.list),
-            terminator: reader.terminator(),
-        },
-        line_offset: 0,
-        buffer: [0; 8208],
-    };
-    run_blocks(&mut tool, reader, out)
 }

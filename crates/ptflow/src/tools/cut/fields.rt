@@ -5,20 +5,17 @@ ghost use Rattle.std.specs.Prelude.{[], ◌∷◌, Some, OnOk, OnErr, MatchOptio
 ghost use Rattle.memchr.specs.Find.{IsFirstByte, is_byte};
 ghost use Rattle.ptlines.specs.Outputs.{PushEffect};
 ghost use Rattle.ptlangs.specs.Jobs.{cut_job};
-ghost use Rattle.ptflow.specs.Cuts.{cut_fields, cut_lines, cut_tool};
-ghost use Rattle.ptflow.specs.Passes.{PassPost};
-ghost use Rattle.ptflow.specs.Private.Passes.LineLoop.{RunLinesPre};
+ghost use Rattle.ptflow.specs.Cuts.{cut_fields, cut_lines};
 ghost use Rattle.ptflow.specs.Private.Cut.FieldOffsets.{IsFieldOffset};
 ghost use Rattle.ptflow.specs.Private.Cut.FieldSlices.{IsFieldCursor, IsNextSlice, output_from_cursor};
 ghost use Rattle.ptflow.specs.Private.Cut.CutFrom.{CopyLinesPost};
 
-use crate::faults::FlowFault;
-use crate::line_loop::{LineFilter, run_lines};
+use crate::line_loop::LineFilter;
 use crate::simd::find_nth::ByteMatches;
 use memchr::memrchr;
 use ptlangs::jobs::CutJob;
 use ptlangs::ranges::Interval;
-use ptlines::{LineReader, Out, Sink, Source, Store, WriteFault, copy_short};
+use ptlines::{Out, Sink, Store, WriteFault, copy_short};
 use std::alloc::Allocator;
 
 // The output of the lines of a block, and 16 bytes more, which a short copy may change.
@@ -122,11 +119,11 @@ fn write_fields<A: Allocator + Copy, W: Sink>(
     Ok(())
 }
 
-// A job that selects fields, and the terminator.
+/// A job that selects fields, and the terminator.
 #[derive(Drop)]
-struct FieldCut<'a, A: Allocator> {
-    job: &'a CutJob<A>,
-    terminator: u8,
+pub(crate) struct FieldCut<'a, A: Allocator> {
+    pub job: &'a CutJob<A>,
+    pub terminator: u8,
     ghost by_fields: { job.now.fields ≡ true },
     ghost ends: { terminator ≡ (cut_job job.now).terminator },
 }
@@ -302,29 +299,4 @@ impl<'a, A: Allocator + Copy> LineFilter for FieldCut<'a, A> {
     ) -> Result<(), WriteFault> {
         Ok(())
     }
-}
-
-// Writes the selected fields of each line of a reader, and after each line the terminator.
-pub(crate) fn cut_by_fields<
-    A: Allocator + Copy,
-    B: Allocator + Copy,
-    S: Source,
-    R: Source,
-    W: Sink,
->(
-    job: &CutJob<B>,
-    reader: &mut LineReader<S, R>,
-    store: &mut Store<A>,
-    out: &mut Out<W>,
-) -> Result<(), FlowFault>
-    requires by_fields { job.now.fields ≡ true }
-    requires begins { RunLinesPre (cut_job job.now).terminator reader.old out.old store.old }
-    ensures { PassPost (cut_tool (cut_job job.now)) reader.old reader.new out.old out.new store.old store.new result }
-{
-    let by = FieldCut {
-        job,
-        terminator: reader.terminator(),
-    };
-    let mut room = [0; 8192 + 16];
-    run_lines(&by, 1, &mut room, reader, store, out)
 }
