@@ -1,51 +1,53 @@
 -- The selected fields of a line, in one pass. The fields of an interval, with the delimiter before each, are one slice
 -- of the line; so the output is these slices, the first without the delimiter before it.
 use Rattle.ptflow.proofs
-use proofs.Common.{common_steps, ◌≡◌, ℕ, zero, suc, Bool, true, false, cond, ◌+◌, ◌-◌, ◌<◌, ◌≤◌, List, [], ◌∷◌, ◌++◌}
-use proofs.Common.{length, take, drop, get_or, refl, ap, arith, length-append, length-drop, drop_all, drop_more}
-use proofs.Common.{drop-drop, length-take-le, Cut, cut_fields, is_selected, AreSeparated, Interval, select_from}
+use proofs.Common.{◌≡◌, ℕ, zero, suc, Bool, true, false, cond, ◌+◌, ◌-◌, ◌<◌, ◌≤◌, List, [], ◌∷◌, ◌++◌}
+use proofs.Common.{length, take, drop, get_or, refl, ap, arith, length-append, length-drop, drop_more}
+use proofs.Common.{drop-drop, drop-append-le, nil_from_length, length-take-le, Cut, cut_fields, is_selected, AreSeparated, Interval, select_from}
 use proofs.Common.{fields, prefixed_fields, IsFieldOffset, IsFieldCursor, IsNextSlice, output_from_cursor, min}
 use Rattle.ptflow.specs.declared.tools.cut.fields.FieldCursor.{FieldCursor}
 use proofs.Vectors.Select.{not_selected, select_none, select_first, select_slice, select_skip}
 use proofs.CutLemmas.FieldOffsets.{prefixed_fields-append, prefixed_of_fields, join_prefixed, offset_start}
-use proofs.CutLemmas.FieldOffsets.{offset_add, rest_at, none_left}
+use proofs.CutLemmas.FieldOffsets.{offset_add, rest_at, none_left, rest_of}
 
 -- the cursor at the start of a line
-abbrev pub line_start : FieldCursor
-line_start = record { index = 0; passed = 0; at = 0 }
+module _ (cursor : FieldCursor) (none : cursor.passed ≡ 0) where
+  pub cursor_starts : (d : ℕ) (line : List ℕ) → cursor.at ≡ 0 → AreSeparated 0 cursor.left.now
+      → IsFieldCursor d line cursor
+  cursor_starts d line start apart =
+      record { offset = rw (none, start) (offset_start d line); apart = rw none apart }
 
-pub cursor_starts : (d : ℕ) {all : List Interval} (line : List ℕ) → AreSeparated 0 all
-    → IsFieldCursor d all line line_start
-cursor_starts d line apart =
-    record { offset = offset_start d line; apart = apart }
+  -- all selected fields of a line are left, by the list of a job
+  pub selected_remaining : (job : Cut) {d : ℕ} (line : List ℕ) → d ≡ job.delimiter
+      → is_selected cursor.left.now ≡ job.selected → cut_fields job line ≡ output_from_cursor d line cursor
+  selected_remaining job {d} line same selected = rw (none, selected, same) (join_prefixed job.delimiter _)
 
--- all selected fields of a line are left, by the list of a job
-pub selected_remaining : (job : Cut) (list : List Interval) {d : ℕ} (line : List ℕ) → d ≡ job.delimiter
-    → is_selected list ≡ job.selected → cut_fields job line ≡ output_from_cursor d list line line_start
-selected_remaining job list {d} line same selected = grind (arith, join_prefixed)
+module _ (d : ℕ) (line : List ℕ) (cursor : FieldCursor) where
+  abbrev all : List Interval
+  all = cursor.left.now
 
-module _ (d : ℕ) (all : List Interval) (line : List ℕ) (cursor : FieldCursor) where
   -- no selected field is left
-  none_selected : select_from (is_selected (drop cursor.index all)) (cursor.passed + 1)
-      (drop cursor.passed (fields d line)) ≡ [] → output_from_cursor d all line cursor ≡ []
+  none_selected : select_from (is_selected all) (cursor.passed + 1)
+      (drop cursor.passed (fields d line)) ≡ [] → output_from_cursor d line cursor ≡ []
   none_selected none = grind arith
 
   -- no interval is left
-  pub no_interval : length all ≤ cursor.index → output_from_cursor d all line cursor ≡ []
-  no_interval past = grind (arith, common_steps, none_selected, drop_all, select_none)
+  pub no_interval : length all ≡ 0 → output_from_cursor d line cursor ≡ []
+  no_interval none = none_selected
+      (select_none (is_selected all) _ _ (λ k low high. ap (λ rs. is_selected rs k) (nil_from_length all none)))
 
-  module _ (w : IsFieldCursor d all line cursor) where
+  module _ (w : IsFieldCursor d line cursor) where
     -- the line ends before the cursor
-    pub no_field : length line < cursor.at → output_from_cursor d all line cursor ≡ []
+    pub no_field : length line < cursor.at → output_from_cursor d line cursor ≡ []
     no_field past = none_selected (cc (none_left d line w.offset past))
 
-    module _ (fits : cursor.at ≤ length line) (within : cursor.index < length all) where
+    module _ (fits : cursor.at ≤ length line) (within : 0 < length all) where
       -- the next interval, and those after it
       abbrev r : Interval
-      r = get_or all cursor.index (record { first = 0; last = 0 })
+      r = get_or all 0 (record { first = 0; last = 0 })
 
       abbrev rs : List Interval
-      rs = drop (cursor.index + 1) all
+      rs = drop 1 all
 
       -- the fields from the cursor on; how many of them are before the interval, and how many in it
       abbrev here : List (List ℕ)
@@ -57,13 +59,13 @@ module _ (d : ℕ) (all : List Interval) (line : List ℕ) (cursor : FieldCursor
       abbrev size : ℕ
       size = r.last - r.first + 1
 
-      these : drop cursor.index all ≡ r ∷ rs
-      these = drop_more all cursor.index (record { first = 0; last = 0 }) within
+      these : all ≡ r ∷ rs
+      these = drop_more all 0 (record { first = 0; last = 0 }) within
 
-      apart : AreSeparated (cursor.passed + min cursor.index 1) (r ∷ rs)
+      apart : AreSeparated (cursor.passed + min cursor.passed 1) (r ∷ rs)
       apart = rw these at w.apart
 
-      pub not_past : cursor.passed + min cursor.index 1 < r.first
+      pub not_past : cursor.passed + min cursor.passed 1 < r.first
       not_past = omega (arith, apart.0)
 
       pub in_order : r.first ≤ r.last
@@ -79,7 +81,7 @@ module _ (d : ℕ) (all : List Interval) (line : List ℕ) (cursor : FieldCursor
         left = drop-drop skip _ (fields d line)
 
         -- the line ends before the interval
-        pub ends_before : length line < from → output_from_cursor d all line cursor ≡ []
+        pub ends_before : length line < from → output_from_cursor d line cursor ≡ []
         ends_before past = none_selected (cc (
           these,
           select_skip (is_selected (r ∷ rs)) (cursor.passed + 1) skip here
@@ -92,12 +94,12 @@ module _ (d : ℕ) (all : List Interval) (line : List ℕ) (cursor : FieldCursor
           abbrev rest : List ℕ
           rest = drop from line
 
-          sep_fits : min cursor.index 1 ≤ from
+          sep_fits : min cursor.passed 1 ≤ from
           sep_fits = omega (arith, not_past)
 
           -- the start of the interval, with or without the delimiter before it
-          sep_drop : drop (from - min cursor.index 1) line ≡ drop (1 - min cursor.index 1) (d ∷ rest)
-          sep_drop = by_sep (min cursor.index 1) from (omega arith) sep_fits (rest_at d line starts begun)
+          sep_drop : drop (from - min cursor.passed 1) line ≡ drop (1 - min cursor.passed 1) (d ∷ rest)
+          sep_drop = by_sep (min cursor.passed 1) from (omega arith) sep_fits (rest_at d line starts begun)
             where
               by_sep : (sep n : ℕ) → sep ≤ 1 → sep ≤ n → drop n (d ∷ line) ≡ d ∷ drop n line
                   → drop (n - sep) line ≡ drop (1 - sep) (d ∷ drop n line)
@@ -107,9 +109,6 @@ module _ (d : ℕ) (all : List Interval) (line : List ℕ) (cursor : FieldCursor
               by_sep (suc (suc sep)) n one fits split = absurd (omega arith)
 
           module _ {at : ℕ} (later : from ≤ at) (p : IsFieldOffset d size rest (at - from)) where
-            abbrev next : FieldCursor
-            next = record { index = cursor.index + 1; passed = r.last; at = at }
-
             ends : IsFieldOffset d r.last line at
             ends =
                 let is : from + (at - from) ≡ at = omega (arith, later) in
@@ -138,27 +137,38 @@ module _ (d : ℕ) (all : List Interval) (line : List ℕ) (cursor : FieldCursor
                 )
 
             -- the slice, and then the output that is left
-            output : output_from_cursor d all line cursor
-                ≡ take ((at - 1) - (from - min cursor.index 1)) (drop (from - min cursor.index 1) line)
-                ++ output_from_cursor d all line next
-            output = grind (
-              arith,
-              common_steps,
-              some,
-              sep_fits,
-              length-take-le,
-              sep_drop,
-              these,
-              selected,
-              prefixed_fields-append,
-            )
+            output : output_from_cursor d line cursor
+                ≡ take ((at - 1) - (from - min cursor.passed 1)) (drop (from - min cursor.passed 1) line)
+                ++ prefixed_fields d (select_from (is_selected rs) (r.last + 1) (drop r.last (fields d line)))
+            output =
+                let sep = min cursor.passed 1 in
+                let slice = take (at - from) (d ∷ rest) in
+                let others = select_from (is_selected rs) (r.last + 1) (drop r.last (fields d line)) in
+                let long : length slice ≡ at - from = length-take-le (at - from) (d ∷ rest) (omega (arith, p.fits)) in
+                let size_is : at - from - (1 - sep) ≡ at - 1 - (from - sep) = omega (arith, some, sep_fits) in
+                cc (
+                  these,
+                  selected,
+                  prefixed_fields-append d (take size (fields d rest)) others,
+                  p.front,
+                  drop-append-le (1 - sep) slice (prefixed_fields d others) (omega (arith, long, some)),
+                  rest_of (1 - sep) (at - from) (d ∷ rest),
+                  sep_drop,
+                  size_is,
+                )
 
-            one : min (cursor.index + 1) 1 ≡ 1
-            one = omega arith
+            one : min r.last 1 ≡ 1
+            one = omega (arith, not_past, in_order)
 
-            pub next_slice : IsNextSlice d all line cursor
-                (record { start = from - min cursor.index 1; end = at - 1; next = next })
-            next_slice = grind (arith, common_steps, output, some, ends, next, apart, one)
+            pub next_slice : (next : FieldCursor) → next.left.now ≡ rs → next.passed ≡ r.last → next.at ≡ at
+                → IsNextSlice d line cursor (from - min cursor.passed 1) (at - 1) next
+            next_slice next left_is passed_is at_is = record {
+              output = rw (left_is, passed_is, one) output;
+              order = omega (arith, some);
+              within = omega (arith, ends.fits, some);
+              moved = record { offset = rw (passed_is, at_is) ends; apart = rw (left_is, passed_is, one) apart.2 };
+              later = omega (arith, ap length left_is, ap length these);
+            }
 
 -- ---- the output of a line is not longer than the line
 

@@ -39,63 +39,56 @@ fn skip_fields(delimiters: &ByteMatches, from: usize, to: usize, count: u64) -> 
     }
 }
 
-// The fields of a line that the intervals from `index` on select. The field after the first `passed` ones starts at
-// index `at` of the line; if there is no such field, `at` is after its end.
+// What is left of the output for a line: the fields that these intervals select. The field after the first `passed` ones
+// starts at index `at` of the line; if there is no such field, `at` is after its end.
 #[derive(Clone, Copy)]
-struct FieldCursor {
-    index: usize,
+struct FieldCursor<'a> {
+    left: &'a [Interval],
     passed: u64,
     at: usize,
 }
 
-const LINE_START: FieldCursor = FieldCursor {
-    index: 0,
-    passed: 0,
-    at: 0,
-};
-
-// A slice of a line: adjacent selected fields, with the delimiter before them if they are not the first. `next` is the
-// cursor after them.
-#[derive(Clone, Copy)]
-struct FieldSlice {
-    start: usize,
-    end: usize,
-    next: FieldCursor,
-}
-
-// The next slice of the output for a line, which is the first `to` bytes, from the cursor on. `None` if no field is
-// left.
-#[inline(always)]
-fn next_slice(
-    delimiters: &ByteMatches,
-    to: usize,
-    selected: &[Interval],
-    cursor: FieldCursor,
-) -> Option<FieldSlice>
-    requires within { to ≤ length delimiters.now.bytes.now }
-    requires cursor { IsFieldCursor delimiters.now.byte selected.now (take to delimiters.now.bytes.now) cursor }
-    ensures { MatchOption result
-        (output_from_cursor delimiters.now.byte selected.now (take to delimiters.now.bytes.now) cursor ≡ [])
-        (IsNextSlice delimiters.now.byte selected.now (take to delimiters.now.bytes.now) cursor) }
-{
-    if cursor.index >= selected.len() || cursor.at > to {
-        return None;
+impl<'a> FieldCursor<'a> {
+    // The cursor at the start of a line.
+    #[inline(always)]
+    fn new(left: &'a [Interval]) -> FieldCursor<'a>
+        ensures left { result.left.now ≡ left.now }
+        ensures passed { result.passed ≡ 0 }
+        ensures at { result.at ≡ 0 }
+    {
+        FieldCursor {
+            left,
+            passed: 0,
+            at: 0,
+        }
     }
-    let Interval { first, last } = selected[cursor.index];
-    let from = skip_fields(delimiters, cursor.at, to, first - 1 - cursor.passed);
-    if from > to {
-        return None;
+
+    // The start and the end of the next slice of the output for a line, which is the first `to` bytes: of adjacent
+    // selected fields, with the delimiter before them if they are not the first. The cursor moves after them. `None` if
+    // no field is left.
+    #[inline(always)]
+    fn next_slice(&mut self, delimiters: &ByteMatches, to: usize) -> Option<(usize, usize)>
+        requires within { to ≤ length delimiters.now.bytes.now }
+        requires cursor { IsFieldCursor delimiters.now.byte (take to delimiters.now.bytes.now) self.old }
+        ensures { MatchOption result
+            (output_from_cursor delimiters.now.byte (take to delimiters.now.bytes.now) self.old ≡ [])
+            (λ (start, end). IsNextSlice delimiters.now.byte (take to delimiters.now.bytes.now) self.old start end
+            self.new) }
+    {
+        if self.left.is_empty() || self.at > to {
+            return None;
+        }
+        let Interval { first, last } = self.left[0];
+        let from = skip_fields(delimiters, self.at, to, first - 1 - self.passed);
+        if from > to {
+            return None;
+        }
+        let start = from - self.passed.min(1) as usize;
+        self.at = skip_fields(delimiters, from, to, last - first + 1);
+        self.passed = last;
+        self.left = &self.left[1..];
+        Some((start, self.at - 1))
     }
-    let at = skip_fields(delimiters, from, to, last - first + 1);
-    Some(FieldSlice {
-        start: from - cursor.index.min(1),
-        end: at - 1,
-        next: FieldCursor {
-            index: cursor.index + 1,
-            passed: last,
-            at,
-        },
-    })
 }
 
 // Pushes the selected fields of a line of any length.
@@ -109,12 +102,10 @@ fn write_fields<A: Allocator + Copy, W: Sink>(
     ensures clean { OnOk result (out.old.write_failed ≡ false → out.new.write_failed ≡ false) }
     ensures fault { OnErr result (out.new.write_failed ≡ true) }
 {
-    let selected = job.list.intervals();
     let line = delimiters.bytes;
-    let mut cursor = LINE_START;
-    'slices: while let Some(slice) = next_slice(delimiters, line.len(), selected, cursor) {
-        out.push(&line[slice.start..slice.end])?;
-        cursor = slice.next;
+    let mut cursor = FieldCursor::new(job.list.intervals());
+    'slices: while let Some((start, end)) = cursor.next_slice(delimiters, line.len()) {
+        out.push(&line[start..end])?;
     }
     Ok(())
 }
@@ -167,14 +158,12 @@ fn copy_fields<A: Allocator + Copy>(
         ++ take 1 (drop to delimiters.now.bytes.now)) }
     ensures end { (start ≤ result) × (result ≤ start + to + 1) }
 {
-    let selected = job.list.intervals();
     let bytes = delimiters.bytes;
-    let mut cursor = LINE_START;
+    let mut cursor = FieldCursor::new(job.list.intervals());
     let mut end = start;
-    'slices: while let Some(slice) = next_slice(delimiters, to, selected, cursor) {
-        copy_short(bytes, slice.start, slice.end, room, end);
-        end += slice.end - slice.start;
-        cursor = slice.next;
+    'slices: while let Some((first, last)) = cursor.next_slice(delimiters, to) {
+        copy_short(bytes, first, last, room, end);
+        end += last - first;
     }
     room[end] = bytes[to];
     end + 1
