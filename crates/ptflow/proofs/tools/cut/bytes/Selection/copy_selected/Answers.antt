@@ -1,5 +1,5 @@
 -- Each iteration copies the slice of one interval; an interval that reaches the end of the piece is the last one.
-use Rattle.ptflow.proofs.Common.{arith, ◌≤◌, drop, length, length-drop, take_rest}
+use Rattle.ptflow.proofs.Common.{arith, common_steps, ◌≤◌, drop, length, length-drop, take_rest}
 use Rattle.std.proofs.Common.{ℕ, ◌∙◌, ap, min}
 use Rattle.ptflow.proofs.Vectors.Select.{copied_done, copied_ends, copied_more}
 use Rattle.ptflow.proofs.tools.cut.bytes.Selection.copy_selected.Goals as goal
@@ -27,3 +27,9 @@ returns-clause-copied c =
 
 pub loop-interval-init : goal.loop-interval-init
 loop-interval-init c = grind arith
+
+pub overflow_add-at : goal.overflow_add-at
+overflow_add-at c = grind (arith, common_steps)
+
+pub overflow_add-result : goal.overflow_add-result
+overflow_add-result c = grind (arith, common_steps)

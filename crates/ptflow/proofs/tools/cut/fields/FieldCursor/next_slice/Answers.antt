@@ -1,7 +1,7 @@
 -- An interval takes two steps: to the start of its first field, and to the end of its last one. The bytes between are
 -- the slice, with a delimiter before it if it is not the first.
 use Rattle.ptflow.proofs
-use proofs.Common.{◌≡◌, ◌∙◌, refl, sym, arith, length, take, length-take-le, take_rest, eqb-true, eqb-false}
+use proofs.Common.{◌≡◌, ◌∙◌, refl, sym, arith, length, take, length-take-le, take_rest, common_steps, eqb-true, eqb-false}
 use proofs.CutLemmas.FieldLoop.{no_interval, no_field, ends_before, next_slice}
 use Rattle.ptflow.proofs.tools.cut.fields.FieldCursor.next_slice.Goals as goal
 use Rattle.ptflow.proofs.tools.cut.fields.FieldCursor.next_slice.Goals.{then-is_empty-via-then-is_empty}
@@ -27,6 +27,9 @@ returns-then-from-to c =
     let some = eqb-false (length c.args.self.now.left.now) 0 (sym c.is_empty.ensures ∙ c.if-is_empty.false) in
     ends_before d.byte line _ c.requires.cursor (omega arith) (omega (arith, some))
     c.skip_fields-from.ensures.near.0 c.skip_fields-from.ensures.offset (omega arith)
+
+pub overflow_add-last : goal.overflow_add-last
+overflow_add-last c = grind (arith, common_steps)
 
 pub returns : goal.returns
 returns c =
