@@ -5,7 +5,6 @@ use proofs.Common.{common_steps, ◌≡◌, ⊎_elim, ℕ, zero, suc, ◌+◌, �
 use proofs.Common.{List, [], ◌∷◌, ◌++◌, length, take, drop, get_or, min, append-nil, refl, sym, ap, arith, nat_le}
 use proofs.Common.{false≢true, nat_tests, drop_all, take-take, drop_more, length-take-le, is_selected}
 use proofs.Common.{AreSeparated, Interval, select_from, cases_lt}
-use proofs.CutLemmas.FieldOffsets.{rest_of}
 use lib.Seq.{take-nil}
 
 -- the position is in the interval
@@ -84,6 +83,13 @@ select_slice r n (x ∷ xs) zero (suc j) is js =
     grind (arith, common_steps, select_slice r (n + 1) xs zero j (omega arith) (omega arith), inside)
 select_slice r n (x ∷ xs) (suc i) (suc j) is js =
     grind (arith, select_slice r (n + 1) xs i j (omega arith) (omega arith), below)
+
+-- the rest of the first bytes from an index on
+pub rest_of : (from to : ℕ) (bytes : List ℕ) → drop from (take to bytes) ≡ take (to - from) (drop from bytes)
+rest_of zero to bytes = let whole : to - 0 ≡ to = omega arith in cc
+rest_of (suc n) zero bytes = let none : 0 - suc n ≡ 0 = omega arith in cc
+rest_of (suc n) (suc to) [] = sym (take-nil (suc to - suc n))
+rest_of (suc n) (suc to) (b ∷ bytes) = let less : suc to - suc n ≡ to - n = omega arith in cc (rest_of n to bytes)
 
 -- a slice of the bytes that is in the piece at their start
 slice_is : (r : Interval) (before count : ℕ) (bytes : List ℕ) → count ≤ length bytes → r.last < before + count

@@ -4,7 +4,7 @@
 use Rattle.ptflow.proofs
 use proofs.Common.{Bool, true, false, ◌≡◌, ◌++◌, refl, sym, ◌∙◌, ap, cond, cut_job, cut_tool, cut_list_from, Reader, terminator}
 use proofs.CutLemmas.CutBytes.{rest_is_cut, rest_is_decided}
-use proofs.CutLemmas.FieldLines.{cut_line_tool}
+use proofs.CutLemmas.Fields.{cut_line_tool}
 use proofs.Passes.Exits.{pass_unchanged, pass_set, ready_set}
 use Rattle.ptflow.proofs.tools.cut.cut.Goals as goal
 

@@ -2,8 +2,7 @@
 use Rattle.ptflow.proofs
 use proofs.Common.{◌≡◌, ◌+◌, ◌-◌, ◌≤◌, ◌++◌, length, take, drop, refl, ◌∙◌, ap, arith, append_assoc, length-take-le}
 use proofs.Common.{length-drop, is_selected, cut_job, cut_fields, output_from_cursor}
-use proofs.CutLemmas.FieldLoop.{cursor_starts, selected_remaining, output_is_short, output_is_near}
-use proofs.CutLemmas.FieldOffsets.{slice_of}
+use proofs.CutLemmas.Fields.{cursor_starts, selected_remaining, output_is_short, output_is_near, slice_of}
 use Rattle.ptflow.proofs.tools.cut.fields.copy_fields.Given as given
 use Rattle.ptflow.proofs.tools.cut.fields.copy_fields.Goals as goal
 use Rattle.ptflow.proofs.tools.cut.fields.copy_fields.Goals.{In-Some}

@@ -2,7 +2,7 @@
 -- the slice, with a delimiter before it if it is not the first.
 use Rattle.ptflow.proofs
 use proofs.Common.{◌≡◌, ◌∙◌, refl, sym, arith, length, take, length-take-le, take_rest, common_steps, eqb-true, eqb-false}
-use proofs.CutLemmas.FieldLoop.{no_interval, no_field, ends_before, next_slice}
+use proofs.CutLemmas.Fields.{no_interval, no_field, ends_before, next_slice}
 use Rattle.ptflow.proofs.tools.cut.fields.FieldCursor.next_slice.Goals as goal
 use Rattle.ptflow.proofs.tools.cut.fields.FieldCursor.next_slice.Goals.{then-is_empty-via-then-is_empty}
 use Rattle.ptflow.proofs.tools.cut.fields.FieldCursor.next_slice.Goals.{then-is_empty-via-else-is_empty+then-self-to}

@@ -1,21 +1,111 @@
--- The runs of the lines of a block, line by line. A line either has the key of the run before it, and adds to its
+-- The runs of lines, from the first line on, and in a block line by line. A run that is continued by the first of some
+-- lines is one of their runs with a larger count. A line either has the key of the run before it, and adds to its
 -- count, or ends it. Output that is contiguous in the block is deferred, so the pushed bytes and the deferred ones
 -- together are the output so far.
 use Rattle.ptflow.proofs
-use proofs.Common.{◌≡◌, ℕ, ◌+◌, ◌-◌, ◌<◌, ◌≤◌, ◌&&◌, Bool, true, false, List, [], ◌∷◌, ◌++◌, Some, None, Option}
-use proofs.Common.{length, take, drop, refl, subst, arith, append_assoc, length-append, common_steps, bytes_eq}
-use proofs.Common.{nat_lt, slice_range, drop_split, append-nil, length-drop, take_at, drop_at, IsFirstByte, is_byte}
-use proofs.Common.{Output, PushEffect, unlines, complete_lines, IsLine, push_nothing, unlines_push}
-use proofs.Common.{complete_lines_none, Uniq, Run, key, is_same, output_of, run_of, current_run, runs_after}
-use proofs.Common.{has_output, RunsWritten, RunsFailed, span_of, IsSpan, IsPending}
+use proofs.Common.{◌≡◌, ℕ, ◌+◌, ◌&&◌, Bool, true, false, cond, List, [], ◌∷◌, ◌++◌, refl, ap, arith, common_steps}
+use proofs.Common.{nat_lt, nat_tests, append-nil, bytes_eq-Decides, IsPrefix, Uniq, Run, key, is_same, cons_run, runs}
+use proofs.Common.{output_of, init, run_of, current_run, runs_from, runs_after, run_output, ◌-◌, ◌<◌, ◌≤◌, Some, None}
+use proofs.Common.{Option, length, take, drop, subst, append_assoc, length-append, bytes_eq, slice_range, drop_split}
+use proofs.Common.{length-drop, take_at, drop_at, IsFirstByte, is_byte, Output, PushEffect, unlines, complete_lines}
+use proofs.Common.{IsLine, push_nothing, unlines_push, complete_lines_none, has_output, RunsWritten, RunsFailed}
+use proofs.Common.{span_of, IsSpan, IsPending, sym, ◌∙◌, swap, is_some, known_lines, Slots, line, line_if_not_found}
+use proofs.Common.{uniq_tool, IsLineFilter, first_line, current_run_of, count_of, Result}
+use proofs.Passes.Prefix.{wrote_then}
+use proofs.Passes.Lines.{split_of, ended_next}
 use Rattle.ptlines.proofs.Consume.{length_range}
 use Rattle.ptflow.specs.Private.Uniq.BlockRuns.{EndRunPre, IsLineSpan, first_of}
 use Rattle.ptflow.specs.Private.Uniq.RunsFrom.{count_prefix, run_text}
 use Rattle.ptflow.specs.declared.tools.uniq.block_runs.Span.{Span}
-use proofs.Passes.Prefix.{wrote_then}
-use proofs.Passes.Lines.{split_of, ended_next}
-use proofs.UniqLemmas.RunsFrom.{runs_after_more, runs_after_next, entries-append, current_run_is}
 use Rattle.std.proofs.Common.{rules}
+use Rattle.ptlines.specs.Outputs.{PushPost}
+use Rattle.ptflow.specs.declared.tools.uniq.CurrentRun.{CurrentRun}
+
+some_lines : (n : ℕ) → nat_lt 0 (n + 1) ≡ true
+some_lines n = grind (arith, nat_tests)
+
+module _ (job : Uniq) where
+  -- The first run, and that run with one more line of its key before it.
+  record First (line : List ℕ) (n : ℕ) (ls : List (List ℕ)) : Type 0 where
+    count : ℕ
+    more : List Run
+    is : runs_from job (run_of line n) ls ≡ run_of line count ∷ more
+    led : (x : List ℕ) → key job x ≡ key job line → runs_from job (run_of x (n + 1)) ls ≡ run_of x (count + 1) ∷ more
+
+  abbrev chosen : List ℕ → List (List ℕ) → List ℕ → ℕ → Bool → List Run
+  chosen l ls x m t = cond t (runs_from job (run_of x (m + 1)) ls) (run_of x m ∷ runs_from job (run_of l 1) ls)
+
+  first_more : {line : List ℕ} {n : ℕ} (l : List ℕ) {ls : List (List ℕ)} (t : Bool) → is_same job line l ≡ t
+      → First line (n + 1) ls → First line n (l ∷ ls)
+  first_more l true e f = grind (arith, common_steps)
+  first_more {line} {n} l {ls} false e f = record {
+    count = n;
+    more = runs_from job (run_of l 1) ls;
+    is = ap (chosen l ls line n) e;
+    led = λ x same. cc;
+  }
+
+  first : (line : List ℕ) (n : ℕ) (ls : List (List ℕ)) → First line n ls
+  first line n [] = record { count = n; more = []; is = refl; led = λ x same. refl }
+  first line n (l ∷ ls) = first_more l (is_same job line l) refl (first line (n + 1) ls)
+
+  onto_first_run : (line : List ℕ) {l : List ℕ} {ls : List (List ℕ)} (t : Bool) → is_same job line l ≡ t → First l 1 ls
+      → cons_run job line (runs_from job (run_of l 1) ls) ≡ chosen l ls line 1 t
+  onto_first_run = grind (arith, bytes_eq-Decides)
+
+  -- the runs of a list of lines, from its first line
+  pub runs_are : (line : List ℕ) (ls : List (List ℕ)) → runs job (line ∷ ls) ≡ runs_from job (run_of line 1) ls
+  runs_are line [] = refl
+  runs_are line (l ∷ ls) = grind (arith, onto_first_run, first, runs_are l ls)
+
+  -- ---- one line more
+
+  pub runs_after_more : (run : Run) (line : List ℕ) (more : List (List ℕ))
+      → (nat_lt 0 run.count && is_same job run.line line) ≡ true
+      → runs_after job run (line ∷ more) ≡ runs_after job (run_of run.line (run.count + 1)) more
+  runs_after_more run line more advance_ok = grind (arith, some_lines run.count)
+
+  pub runs_after_next : (run : Run) (line : List ℕ) (more : List (List ℕ))
+      → (nat_lt 0 run.count && is_same job run.line line) ≡ false
+      → runs_after job run (line ∷ more) ≡ current_run run ++ runs_after job (run_of line 1) more
+  runs_after_next run line more turns = grind (arith, runs_are line more)
+
+  -- ---- the output of runs
+
+  pub entries-append : (xs ys : List Run) → output_of job (xs ++ ys) ≡ output_of job xs ++ output_of job ys
+  entries-append xs ys = grind (arith, common_steps)
+
+-- the output of one run
+pub current_run_is : (job : Uniq) (run : Run)
+    → output_of job (current_run run) ≡ run_output job.show run.count (run.line ++ job.terminator ∷ [])
+current_run_is job run = grind (arith, common_steps)
+
+-- ---- all runs but the last
+
+init_push : (rs : List Run) (run : Run) → init (rs ++ run ∷ []) ≡ rs
+init_push [] run = refl
+init_push (r ∷ []) run = refl
+init_push (r ∷ q ∷ rs) run = ap (◌∷◌ r) (init_push (q ∷ rs) run)
+
+init_prefix : (rs : List Run) → (last : List Run) × (rs ≡ init rs ++ last)
+init_prefix [] = ([], refl)
+init_prefix (r ∷ []) = (r ∷ [], refl)
+init_prefix (r ∷ q ∷ rs) = let (last, is) = init_prefix (q ∷ rs) in (last, ap (◌∷◌ r) is)
+
+-- all runs but the current one were written, or all but the last of them
+pub init_current : (job : Uniq) (passed : List Run) (run : Run)
+    → IsPrefix (output_of job (init (passed ++ current_run run))) (output_of job passed)
+init_current job passed run = by_test (nat_lt 0 run.count)
+  where
+    by_test : (t : Bool) → IsPrefix (output_of job (init (passed ++ cond t (run ∷ []) []))) (output_of job passed)
+    by_test false = let (last, split) = init_prefix passed in record {
+      rest = output_of job last;
+      is = cc (entries-append job (init passed) last, append-nil passed);
+    }
+    by_test true = record {
+      rest = [];
+      is = cc (append-nil (output_of job passed), init_push passed run);
+    }
 
 -- ---- lines before the rest of a block
 
@@ -264,3 +354,35 @@ module _ {job : Uniq} {first block rest : List ℕ} {start count : ℕ} {line : 
     pub runs_loop_passed : take (length block - length rest) block
         ≡ unlines job.terminator (complete_lines job.terminator block)
     runs_loop_passed = grind (arith, common_steps, all_lines, passed_is, take_at)
+
+-- ---- the current run
+
+-- after the first two slots were swapped
+pub swapped_first : (store : Slots) {after : Slots} → 1 < length store.lines
+    → after ≡ record store { lines = swap store.lines 0 1 } → line after 0 ≡ line store 1
+swapped_first store slots is = grind (arith, common_steps)
+
+-- `uniq` is a line tool: the first of two slots may hold the first line of the current run, and the decided output
+-- leaves out that run.
+pub uniq_line_tool : (job : Uniq) (start : CurrentRun) → start.count ≡ 0
+    → IsLineFilter (uniq_tool job) current_run_of (runs_after job) (output_of job) count_of 2 start
+uniq_line_tool job start none = record {
+  apart = entries-append job;
+  stays = search rules;
+  fresh = λ store. omega arith;
+  tool_text = λ store bytes. cc;
+  decided = λ store given passed now on.
+      let ls = known_lines job.terminator given in
+      let all = ap (runs job) (sym (append-nil ls))
+      ∙ ap (λ n. runs_after job (run_of (first_line start store) n) (ls ++ [])) (sym none) ∙ on [] in
+      rw all (init_current job passed now);
+  size = λ bytes. refl;
+  slots = refl;
+  some = omega arith;
+}
+
+-- a block has no complete line
+pub not_found : (end : ℕ) (block : List ℕ) (r : Option ℕ) → IsFirstByte (is_byte end) block r → is_some r ≡ false
+    → complete_lines end block ≡ []
+not_found end block None none said = complete_lines_none end block (line_if_not_found end block none)
+not_found end block (Some at) first said = cc
