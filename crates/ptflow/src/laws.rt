@@ -6,7 +6,7 @@ ghost use Rattle.ptflow.specs.Parts.{UniqByKey, PasteOfParts};
 /// `cut` can be run on parts of a file, by bytes and by fields, if each part but the last ends with the line
 /// terminator: the output for the file is the outputs for the parts, in order.
 /// This function does nothing at run time. Its contract states the theorem.
-#[tactic(auto, using(crate::proofs::CutLemmas::FieldLines::cut_of_parts))]
+#[tactic(auto, using(crate::proofs::CutLemmas::Fields::cut_of_parts))]
 pub fn parts_of_cut()
     ensures { CutOfParts }
 {}

@@ -3,11 +3,12 @@
 use Rattle.ptflow.proofs
 use proofs.Common.{◌≡◌, ℕ, ◌+◌, ◌-◌, ◌≤◌, ◌^◌, Bool, false, List, [], ◌∷◌, ◌++◌, map, length, take, drop, Some, refl}
 use proofs.Common.{ap, arith, append_assoc, common_steps, onto_first, flat_map, mask_l, chunk, length-chunk}
-use proofs.Common.{chunk-drop, append-nil, take_all, drop_all, IsFirstByte, is_byte, unlines, lines, IsLine}
+use proofs.Common.{chunk-drop, IsFirstByte, is_byte, unlines, lines, IsLine}
 use proofs.Common.{complete_lines, lines_cons, byte_ne, lines_of_unlines, unlines-append, line_before_terminator}
 use proofs.Common.{select_from, cut_line, cut, cut_decided, cut_lines_from, cut_bytes_from, cut_list_from, IsPrefix}
-use proofs.Common.{Cut, Interval, ExtendsCut}
-use proofs.Passes.Lines.{split_of, line_of, end_of, LineSplit, line_split}
+use proofs.Common.{Cut, Interval, ExtendsCut, CutPost, selected_bytes, is_selected, drop-drop}
+use Rattle.ptflow.specs.declared.tools.cut.bytes.Line.{Line}
+use proofs.Passes.Lines.{split_of, LineSplit, line_split}
 
 module _ (end : ℕ) (selected : ℕ → Bool) where
   -- the output for lines
@@ -47,7 +48,7 @@ module _ (end : ℕ) (selected : ℕ → Bool) where
 module _ (end : ℕ) (bytes : List ℕ) (at : ℕ) (first : IsFirstByte (is_byte end) bytes (Some at)) where
   pub line_on : (selected : ℕ → Bool) (line_offset : ℕ) (more : List ℕ)
       → cut_bytes_from end selected line_offset (bytes ++ more)
-      ≡ (select_from selected (line_offset + 1) (take at (take (at + 1) bytes)) ++ drop at (take (at + 1) bytes))
+      ≡ (select_from selected (line_offset + 1) (take at bytes) ++ end ∷ [])
       ++ cut_bytes_from end selected 0 (drop (at + 1) bytes ++ more)
   line_on selected line_offset more =
       cc (
@@ -55,8 +56,6 @@ module _ (end : ℕ) (bytes : List ℕ) (at : ℕ) (first : IsFirstByte (is_byte
         append_assoc (take at bytes) (end ∷ drop (at + 1) bytes) more,
         rest_line end selected line_offset (take at bytes) (drop (at + 1) bytes ++ more)
             (line_before_terminator end bytes at first),
-        line_of end bytes at first,
-        end_of end bytes at first,
       )
 
 -- empty lines
@@ -85,14 +84,6 @@ terminators_next end selected block {start} room here none is all more =
           every,
     )
 
--- the selected bytes of a piece of a line
-pub piece_next : (end : ℕ) (selected : ℕ → Bool) (line_offset : ℕ) (bytes : List ℕ) → IsLine end bytes → (more : List ℕ)
-    → cut_bytes_from end selected line_offset (bytes ++ more)
-    ≡ (select_from selected (line_offset + 1) (take (length bytes) bytes) ++ drop (length bytes) bytes)
-    ++ cut_bytes_from end selected (line_offset + length bytes) more
-piece_next end selected line_offset bytes whole more =
-    grind (arith, common_steps, take_all, drop_all, rest_piece, end, append-nil)
-
 -- output that is extended by one step
 pub cut_next : (end : ℕ) (list : List Interval) (line_offset now next : ℕ) (from rest rest' old was : List ℕ)
     {is : List ℕ} (bytes : List ℕ) → ExtendsCut end list line_offset from old now rest was → is ≡ was ++ bytes
@@ -100,6 +91,26 @@ pub cut_next : (end : ℕ) (list : List Interval) (line_offset now next : ℕ) (
     ++ cut_list_from end list next (rest' ++ more)) → ExtendsCut end list line_offset from old next rest' is
 cut_next end list line_offset now next from rest rest' old was bytes cut copied on start block so_far more =
     grind (arith, common_steps)
+
+-- one line more was cut
+pub line_cut : {end : ℕ} {list : List Interval} {block : List ℕ} {was now next : Line} {old new is : List ℕ} (count : ℕ)
+    → CutPost end list block was old now new → IsFirstByte (is_byte end) (drop now.start block) (Some count)
+    → is ≡ new ++ (selected_bytes list block now count ++ end ∷ []) → next.start ≡ now.start + count + 1
+    → next.line_offset ≡ 0 → next.at ≤ now.at + count + 1 → CutPost end list block was old next is
+line_cut {end} {list} {block} {was} {now} {next} {old} {new} count post first is start none near = record {
+  cut = cut_next end list _ now.line_offset next.line_offset _ (drop now.start block) (drop next.start block) _ new
+      (selected_bytes list block now count ++ end ∷ []) post.cut is
+      (λ more. cc (
+        line_on end (drop now.start block) count first (is_selected list) now.line_offset more,
+        drop-drop (count + 1) now.start block,
+        left,
+      ));
+  bound = omega arith;
+  near = omega arith;
+}
+  where
+    left : now.start + (count + 1) ≡ next.start
+    left = omega (arith, start)
 
 module _ (job : Cut) (by_bytes : job.fields ≡ false) where
   abbrev end : ℕ

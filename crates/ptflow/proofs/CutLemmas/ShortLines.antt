@@ -1,12 +1,12 @@
 -- The shuffles of `cut`. A row has the selected indices in order, so a shuffle moves the selected bytes of 16 bytes to
 -- the front; the counts are how many of them a piece of each length has. A line is cut piece by piece.
 use Rattle.ptflow.proofs
-use proofs.Common.{common_steps, ◌≡◌, ℕ, zero, suc, ◌+◌, ◌-◌, ◌<◌, ◌≤◌, Bool, true, false, cond, List, [], ◌∷◌, ◌++◌}
+use proofs.Common.{◌≡◌, ℕ, zero, suc, ◌+◌, ◌-◌, ◌<◌, ◌≤◌, Bool, true, false, cond, List, [], ◌∷◌, ◌++◌}
 use proofs.Common.{map, length, take, drop, set, ⊎_elim, ◌&&◌, get_or, length-append, append_assoc, refl, sym, ◌∙◌, ap}
 use proofs.Common.{arith, w8, All, nat_le, false≢true, range_with_len, list_all, nat_tests, take-add, pick_l, Each1}
 use proofs.Common.{Each1-from_get_or, swz_l, pick_l-range_with_len, take-map, take-take, take-append-le, take_all}
 use proofs.Common.{length-take-le, append-nil, All-set, length-range_with_len, select_from, is_selected, Interval}
-use proofs.Common.{cut_piece, cases_eq, put_chunk, length-drop, length-swz_l}
+use proofs.Common.{cases_eq, put_chunk, length-drop, length-swz_l, take_more_set}
 use Rattle.std.proofs.Common.{get_or-set_same, get_or-set_other, length-set}
 use proofs.Vectors.Select.{above, select_none}
 use mir.Val.{bool_byte}
@@ -214,9 +214,6 @@ piece_copied selected start m at bytes was into {piece} {size} is counted short 
     )
 
 -- the selected bytes of a complete line, and the terminator
-pub line_copied : (list : List Interval) {before count : ℕ} (end : ℕ) (bytes was into : List ℕ) → before ≡ 0
-    → count < length bytes → end < length into
-    → take end into ≡ was ++ select_from (is_selected list) 1 (take count bytes)
-    → take (end + 1) (set into end (get_or bytes count 0)) ≡ was
-    ++ cut_piece list before count (take (count + 1) bytes)
-line_copied list {count} end bytes was into none within room put = grind (arith, common_steps)
+pub line_ended : (end b : ℕ) (bytes was into : List ℕ) → end < length into → take end into ≡ was ++ bytes
+    → take (end + 1) (set into end b) ≡ was ++ (bytes ++ b ∷ [])
+line_ended end b bytes was into room put = cc (take_more_set into end b room, append_assoc was bytes (b ∷ []))

@@ -39,12 +39,6 @@ complete_prefix = grind (arith, common_steps, line_split, append_assoc, lines_of
 
 -- the bytes before the first terminator, and those after it
 module _ (end : ℕ) (bytes : List ℕ) (at : ℕ) (first : IsFirstByte (is_byte end) bytes (Some at)) where
-  pub line_of : take at (take (at + 1) bytes) ≡ take at bytes
-  line_of = grind (arith, common_steps)
-
-  pub end_of : drop at (take (at + 1) bytes) ≡ end ∷ []
-  end_of = grind (arith, common_steps)
-
   pub split_of : bytes ≡ take at bytes ++ end ∷ drop (at + 1) bytes
   split_of = cc (take-append-drop at bytes, drop_at_terminator end bytes at first)
 

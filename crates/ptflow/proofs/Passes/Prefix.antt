@@ -2,9 +2,10 @@
 -- prefix too, so the result of several pushes is that of one.
 use Rattle.ptflow.proofs
 use proofs.Common.{arith, common_steps, ◌≡◌, ℕ, Bool, false, true, List, [], ◌++◌, refl, sym, subst, append_assoc}
-use proofs.Common.{Output, PushEffect, push_nothing, push_trans, push_past_failure}
+use proofs.Common.{Output, PushEffect, push_nothing, push_trans, push_past_failure, Result, Ok, Err, OnErr}
+use proofs.Common.{err_from_is_err_and}
 use Rattle.ptlines.specs.Outputs.{PushPost}
-use Rattle.std.specs.Prelude.{Err, Result}
+use Rattle.std.specs.Prelude.{IsErrAnd}
 use Rattle.std.proofs.Common.{rules}
 
 -- one push after another, even after a fault
@@ -44,3 +45,13 @@ module _ {whole rest : List ℕ} {was is : Output} (f : WrittenPrefix whole rest
 
     pub front_fails : is'.write_failed ≡ true → PushEffect was is' whole
     front_fails fault = rw all_split (push_past_failure _ _ _ more fault (wrote_then _ _ _ f.wrote wrote))
+
+-- ---- results
+
+pub on_err : {T E : Type 0} (r : Result T E) {P : Type 0} → P → OnErr r P
+on_err (Ok u) p = tt
+on_err (Err e) p = p
+
+-- what `?` returns on an error
+pub returned_err : {T E A : Type 0} {Q : E → Type 0} (r : Result T E) → A × IsErrAnd r Q → (e : E) × (r ≡ Err e) × Q e
+returned_err r (_, is_err) = err_from_is_err_and r is_err

@@ -6,7 +6,7 @@ use proofs.Common.{◌++◌, refl, ap, filter, AllByRecursion, cases_Bool, bytes
 use proofs.Common.{lines-unlines, lines_are, Uniq, Run, key, is_same, cons_run, runs, BeginsWith, EndsWith}
 use proofs.Common.{HasGroupedKeys, UniqOfParts, UniqByKey, run_of}
 use Rattle.std.specs.Prelude.{◌≢◌}
-use proofs.UniqLemmas.RunsFrom.{entries-append}
+use proofs.UniqLemmas.Runs.{entries-append}
 
 module _ (job : Uniq) where
   other_key : (a b : List ℕ) → key job a ≢ key job b → is_same job a b ≡ false

@@ -2,11 +2,9 @@
 -- slice; so the selected items are these slices in order.
 use Rattle.ptflow.proofs
 use proofs.Common.{common_steps, ◌≡◌, ⊎_elim, ℕ, zero, suc, ◌+◌, ◌-◌, ◌<◌, ◌≤◌, Bool, true, false, cond, ◌&&◌, ◌||◌}
-use proofs.Common.{List, [], ◌∷◌, ◌++◌, length, take, drop, get_or, min, append_assoc, refl, sym, ap, arith, nat_le}
-use proofs.Common.{false≢true, nat_tests, drop_all, take-take, drop_more, length-take-le, drop-append-le, is_selected}
+use proofs.Common.{List, [], ◌∷◌, ◌++◌, length, take, drop, get_or, min, append-nil, refl, sym, ap, arith, nat_le}
+use proofs.Common.{false≢true, nat_tests, drop_all, take-take, drop_more, length-take-le, is_selected}
 use proofs.Common.{AreSeparated, Interval, select_from, cases_lt}
-use Rattle.std.proofs.lemmas.List.{take-append-drop}
-use proofs.CutLemmas.FieldOffsets.{rest_of}
 use lib.Seq.{take-nil}
 
 -- the position is in the interval
@@ -86,62 +84,15 @@ select_slice r n (x ∷ xs) zero (suc j) is js =
 select_slice r n (x ∷ xs) (suc i) (suc j) is js =
     grind (arith, select_slice r (n + 1) xs i j (omega arith) (omega arith), below)
 
--- The invariant of `copy_selected`: the selected bytes of the intervals so far were copied, and the others select the
--- rest of the piece; then comes the tail. The copied bytes are no longer than the part of the piece that the intervals
--- so far cover.
-pub record CopyInvariant (all : List Interval) (i before : ℕ) (piece tail was is : List ℕ) (start at : ℕ) : Type 0 where
-  pub front : is ++ (select_from (is_selected (drop i all)) (before + 1) piece ++ tail) ≡ was
-      ++ (select_from (is_selected all) (before + 1) piece ++ tail)
-  pub low : ℕ
-  pub apart : AreSeparated low (drop i all)
-  pub near : at ≤ start + (low - (before + 1))
-  pub within : at ≤ start + length piece
-
-module _ {all : List Interval} {before : ℕ} {piece tail was : List ℕ} {start : ℕ} where
-  module _ {i : ℕ} {is : List ℕ} {at : ℕ} (k : CopyInvariant all i before piece tail was is start at) where
-    -- all intervals were processed
-    pub copy_done : length all ≤ i → is ++ tail ≡ was ++ (select_from (is_selected all) (before + 1) piece ++ tail)
-    copy_done past = grind (arith, common_steps, select_none, piece, drop_all)
-
-    module _ (within : i < length all) where
-      abbrev r : Interval
-      r = get_or all i (record { first = 0; last = 0 })
-
-      abbrev rs : List Interval
-      rs = drop (i + 1) all
-
-      apart : AreSeparated k.low (r ∷ rs)
-      apart = rw (drop_more all i (record { first = 0; last = 0 }) within) at k.apart
-
-      next : (is ++ select_from (is_within r) (before + 1) piece)
-          ++ (select_from (is_selected rs) (before + 1) piece ++ tail) ≡ was
-          ++ (select_from (is_selected all) (before + 1) piece ++ tail)
-      next = grind (arith, common_steps, select_first, apart)
-
-      -- the bytes of the interval fit before the end of the part that it covers
-      pub copy_room : at + ((r.last - before) - (r.first - (before + 1))) ≤ start + (r.last - before)
-      copy_room = omega (arith, apart.0, apart.1)
-
-      -- the bytes of one interval were copied
-      pub copy_next : {is' : List ℕ} {at' : ℕ} → is' ≡ is ++ select_from (is_within r) (before + 1) piece
-          → at' ≡ at + ((r.last - before) - (r.first - (before + 1))) → r.last < before + 1 + length piece
-          → CopyInvariant all (i + 1) before piece tail was is' start at'
-      copy_next is_is at_is short = grind (arith, next, apart, copy_room)
-
-      pub copy_ends : before + length piece ≤ r.last
-          → is ++ (select_from (is_within r) (before + 1) piece ++ tail)
-          ≡ was ++ (select_from (is_selected all) (before + 1) piece ++ tail)
-      copy_ends reaches =
-          cc (
-            select_none (is_selected rs) (before + 1) piece
-                (grind (arith, not_selected, apart)),
-            append_assoc is (select_from (is_within r) (before + 1) piece)
-                (select_from (is_selected rs) (before + 1) piece ++ tail),
-            next,
-          )
+-- the rest of the first bytes from an index on
+pub rest_of : (from to : ℕ) (bytes : List ℕ) → drop from (take to bytes) ≡ take (to - from) (drop from bytes)
+rest_of zero to bytes = let whole : to - 0 ≡ to = omega arith in cc
+rest_of (suc n) zero bytes = let none : 0 - suc n ≡ 0 = omega arith in cc
+rest_of (suc n) (suc to) [] = sym (take-nil (suc to - suc n))
+rest_of (suc n) (suc to) (b ∷ bytes) = let less : suc to - suc n ≡ to - n = omega arith in cc (rest_of n to bytes)
 
 -- a slice of the bytes that is in the piece at their start
-pub slice_is : (r : Interval) (before count : ℕ) (bytes : List ℕ) → count ≤ length bytes → r.last < before + count
+slice_is : (r : Interval) (before count : ℕ) (bytes : List ℕ) → count ≤ length bytes → r.last < before + count
     → take ((r.last - before) - (r.first - (before + 1))) (drop (r.first - (before + 1)) bytes)
     ≡ select_from (is_within r) (before + 1) (take count bytes)
 slice_is r before count bytes within short = grind (arith, common_steps, r, select_slice, rest_of, take-take)
@@ -152,63 +103,71 @@ drop_min (suc i) [] = let least : min (suc i) 0 ≡ 0 = omega arith in cc
 drop_min (suc i) (x ∷ xs) = let least : min (suc i) (suc (length xs))
     ≡ suc (min i (length xs)) = omega arith in cc (drop_min i xs)
 
--- the rest of the bytes, if the interval reaches the end of the piece at their start
-pub rest_is : (r : Interval) (before count : ℕ) (bytes : List ℕ) → count ≤ length bytes → before + count ≤ r.last
-    → drop (min (r.first - (before + 1)) count) bytes ≡ select_from (is_within r) (before + 1) (take count bytes)
-    ++ drop count bytes
+-- the rest of the piece, if the interval reaches its end
+rest_is : (r : Interval) (before count : ℕ) (bytes : List ℕ) → count ≤ length bytes → before + count ≤ r.last
+    → let from = min (r.first - (before + 1)) count in
+    take (count - from) (drop from bytes) ≡ select_from (is_within r) (before + 1) (take count bytes)
 rest_is r before count bytes within reaches =
     let i = r.first - (before + 1) in
     let long : length (take count bytes) ≡ count = length-take-le count bytes within in
     let piece : select_from (is_within r) (before + 1) (take count bytes) ≡ drop i (take count bytes) =
     grind (arith, common_steps, select_slice, long) in
-    cc (
-      take-append-drop count bytes,
-      drop-append-le (min i count) (take count bytes) (drop count bytes)
-          (omega (arith, long)),
-      piece,
-      drop_min i (take count bytes),
-    )
+    cc (piece, drop_min i (take count bytes), rest_of (min i count) count bytes)
 
--- ---- a copy of selected bytes out of the first `end`
+-- The invariant of `copy_selected`: the selected bytes of the intervals so far were copied, and the others select the
+-- rest of the piece. The copied bytes are no longer than the part of the piece that the intervals so far cover.
+pub record CopyInvariant (all : List Interval) (i before : ℕ) (piece was is : List ℕ) (start at : ℕ) : Type 0 where
+  pub front : is ++ select_from (is_selected (drop i all)) (before + 1) piece ≡ was
+      ++ select_from (is_selected all) (before + 1) piece
+  pub low : ℕ
+  pub apart : AreSeparated low (drop i all)
+  pub near : at ≤ start + (low - (before + 1))
+  pub within : at ≤ start + length piece
 
-module _ {all : List Interval} {before count end : ℕ} (bytes : List ℕ) {was : List ℕ} {start : ℕ}
-    (in_piece : count ≤ end) (in_bytes : end ≤ length bytes)
-    {i : ℕ} {is : List ℕ} {at : ℕ}
-    (k : CopyInvariant all i before (take count (take end bytes)) (drop count (take end bytes)) was is start at)
-  where
-    abbrev piece : List ℕ
-    piece = take count (take end bytes)
+module _ {all : List Interval} {before count : ℕ} (bytes : List ℕ) {was : List ℕ} {start : ℕ}
+    (in_bytes : count ≤ length bytes) {i : ℕ} {is : List ℕ} {at : ℕ}
+    (k : CopyInvariant all i before (take count bytes) was is start at) where
+  abbrev piece : List ℕ
+  piece = take count bytes
 
-    abbrev tail : List ℕ
-    tail = drop count (take end bytes)
+  piece_long : length piece ≡ count
+  piece_long = length-take-le count bytes in_bytes
 
-    long : length (take end bytes) ≡ end
-    long = length-take-le end bytes in_bytes
+  -- all intervals were processed
+  pub copied_done : length all ≤ i → is ≡ was ++ select_from (is_selected all) (before + 1) piece
+  copied_done past = grind (arith, common_steps, select_none, piece, drop_all, append-nil)
 
-    piece_long : length piece ≡ count
-    piece_long = length-take-le count (take end bytes) (omega (arith, long))
+  module _ (within : i < length all) where
+    abbrev r : Interval
+    r = get_or all i (record { first = 0; last = 0 })
 
-    pub copied_done : {is' : List ℕ} → length all ≤ i → is' ≡ is ++ take (end - count) (drop count bytes) → is' ≡ was
-        ++ (select_from (is_selected all) (before + 1) piece ++ tail)
-    copied_done past copied = cc (rest_of count end bytes, copy_done k past)
+    abbrev rs : List Interval
+    rs = drop (i + 1) all
 
-    module _ (within : i < length all) (is' : List ℕ) where
-      abbrev at_i : Interval
-      at_i = get_or all i (record { first = 0; last = 0 })
+    apart : AreSeparated k.low (r ∷ rs)
+    apart = rw (drop_more all i (record { first = 0; last = 0 }) within) at k.apart
 
-      pub copied_ends : {from : ℕ} → from ≡ min (at_i.first - (before + 1)) count → before + count ≤ at_i.last
-          → is' ≡ is
-          ++ take (end - from) (drop from bytes)
-          → is' ≡ was ++ (select_from (is_selected all) (before + 1) piece ++ tail)
+    next : (is ++ select_from (is_within r) (before + 1) piece) ++ select_from (is_selected rs) (before + 1) piece
+        ≡ was ++ select_from (is_selected all) (before + 1) piece
+    next = grind (arith, common_steps, select_first, apart)
+
+    module _ (is' : List ℕ) where
+      -- the interval reaches the end of the piece
+      pub copied_ends : {from : ℕ} → from ≡ min (r.first - (before + 1)) count → before + count ≤ r.last
+          → is' ≡ is ++ take (count - from) (drop from bytes)
+          → is' ≡ was ++ select_from (is_selected all) (before + 1) piece
       copied_ends {from} from_is reaches copied =
           cc (
-            rest_of from end bytes,
-            rest_is at_i before count (take end bytes) (omega (arith, long)) reaches,
-            copy_ends k within (omega (arith, piece_long)),
+            rest_is r before count bytes in_bytes reaches,
+            select_none (is_selected rs) (before + 1) piece
+                (grind (arith, not_selected, apart, piece_long)),
+            append-nil is',
+            next,
           )
 
-      pub copied_more : {from to : ℕ} → from ≡ at_i.first - (before + 1) → to ≡ at_i.last - before
-          → at_i.last < before + count → is' ≡ is ++ take (to - from) (drop from bytes)
-          → CopyInvariant all (i + 1) before piece tail was is' start (at + (to - from))
+      -- it ends before
+      pub copied_more : {from to : ℕ} → from ≡ r.first - (before + 1) → to ≡ r.last - before → r.last < before + count
+          → is' ≡ is ++ take (to - from) (drop from bytes)
+          → CopyInvariant all (i + 1) before piece was is' start (at + (to - from))
       copied_more {from} {to} from_is to_is short copied =
-          grind (arith, common_steps, copy_next, slice_is, piece_long)
+          grind (arith, common_steps, next, apart, slice_is, piece_long)

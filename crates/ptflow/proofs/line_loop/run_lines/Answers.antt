@@ -7,8 +7,8 @@ use proofs.Passes.LineLoop.{run_room, run_flush_failed, run_line, run_line_halts
 use proofs.Passes.LineLoop.{run_broken, run_memory, run_no_block, run_done, run_unended, run_block, run_block_halts}
 use proofs.Passes.Exits.{by_write}
 use proofs.Passes.Readers.{budget_of_line}
-use proofs.Passes.StepOutput.{returned_err}
-use proofs.Passes.Slots.{bounds_start, swapped_room}
+use proofs.Passes.Prefix.{returned_err}
+use proofs.Passes.LineLoop.{bounds_start, swapped_room}
 use Rattle.ptflow.proofs.line_loop.run_lines.Given as given
 use Rattle.ptflow.proofs.line_loop.run_lines.Goals as goal
 use Rattle.ptflow.proofs.line_loop.run_lines.Goals.{In_ok-write_out_before_blocking, In_ok-process_line-in-Ok-true}

@@ -1,5 +1,5 @@
 use Rattle.std.proofs.Common.{◌%◌}
-use Rattle.ptflow.proofs.Vectors.ByteSets.{nibbles_ok, looked_up, low_small, low_nibbles}
+use Rattle.ptflow.proofs.Vectors.Lanes.{nibbles_ok, looked_up, low_small, low_nibbles}
 use Rattle.ptflow.proofs.simd.byte_set.by_low_nibble.Goals as goal
 
 pub swizzle : goal.swizzle

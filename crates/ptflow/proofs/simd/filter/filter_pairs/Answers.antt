@@ -1,5 +1,5 @@
 use Rattle.ptflow.proofs.Common.{◌∙◌, arith, set_has}
-use Rattle.ptflow.proofs.Vectors.Filter.{filter_piece}
+use Rattle.ptflow.proofs.Vectors.Compress.{filter_piece}
 use Rattle.ptflow.proofs.simd.filter.filter_pairs.Goals as goal
 
 pub loop-at-preserved : goal.loop-at-preserved

@@ -1,5 +1,5 @@
 use Rattle.ptflow.proofs.Common.{arith, set_has}
-use Rattle.ptflow.proofs.Vectors.Filter.{filter_done}
+use Rattle.ptflow.proofs.Vectors.Compress.{filter_done}
 use Rattle.ptflow.proofs.simd.filter.filter_tail.Goals as goal
 
 pub returns-clause-kept : goal.returns-clause-kept

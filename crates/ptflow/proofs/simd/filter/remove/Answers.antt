@@ -1,6 +1,6 @@
 -- Each byte is compared with itself, so each one of the set is removed.
 use Rattle.ptflow.proofs.Common.{◌∙◌, set_has}
-use Rattle.ptflow.proofs.Vectors.Filter.{kept_self}
+use Rattle.ptflow.proofs.Vectors.Compress.{kept_self}
 use Rattle.ptflow.proofs.simd.filter.remove.Goals as goal
 
 pub returns-clause-kept : goal.returns-clause-kept

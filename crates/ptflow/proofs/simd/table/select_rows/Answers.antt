@@ -1,6 +1,6 @@
 use Rattle.ptflow.proofs.Common.{[], ◌∙◌, ap, arith, get_or}
 use Rattle.std.proofs.Common.{rules}
-use Rattle.ptflow.proofs.Vectors.Tables.{shifted_lane}
+use Rattle.ptflow.proofs.Vectors.Lanes.{shifted_lane}
 use Rattle.ptflow.proofs.simd.table.select_rows.Goals as goal
 
 pub loop-count-preserved : goal.loop-count-preserved

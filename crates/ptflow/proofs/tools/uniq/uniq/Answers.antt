@@ -4,7 +4,7 @@ use Rattle.ptflow.proofs
 use proofs.Common.{refl, uniq_job, uniq_tool}
 use Rattle.std.proofs.Common.{rules}
 use proofs.Passes.Exits.{pass_unchanged, pass_set}
-use proofs.UniqLemmas.FirstLine.{uniq_line_tool}
+use proofs.UniqLemmas.Runs.{uniq_line_tool}
 use Rattle.ptflow.proofs.tools.uniq.uniq.Goals as goal
 
 pub returns-then-has_failed : goal.returns-then-has_failed

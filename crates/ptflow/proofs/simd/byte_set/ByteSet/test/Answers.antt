@@ -1,4 +1,4 @@
-use Rattle.ptflow.proofs.Vectors.ByteSets.{tested}
+use Rattle.ptflow.proofs.Vectors.Lanes.{tested}
 use Rattle.ptflow.proofs.simd.byte_set.ByteSet.test.Goals as goal
 
 pub returns : goal.returns

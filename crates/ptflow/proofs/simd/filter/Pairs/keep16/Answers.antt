@@ -1,5 +1,5 @@
 use Rattle.ptflow.proofs.Common.{set_has, arith}
-use Rattle.ptflow.proofs.Vectors.Filter.{keep_mask, removed_small}
+use Rattle.ptflow.proofs.Vectors.Compress.{keep_mask, removed_small}
 use Rattle.ptflow.proofs.simd.filter.Pairs.keep16.Goals as goal
 
 pub overflow_sub-result : goal.overflow_sub-result

@@ -1,5 +1,5 @@
 use Rattle.ptflow.proofs.Common.{◌*◌, ◌+◌, ⊎_elim, arith, inl, inr, length-chunk, refl}
-use Rattle.ptflow.proofs.Vectors.Tables.{filled_next, image_is}
+use Rattle.ptflow.proofs.Vectors.Lanes.{filled_next, image_is}
 use Rattle.ptflow.proofs.simd.table.MovedRange.map.Goals as goal
 
 pub loop-row-preserved : goal.loop-row-preserved

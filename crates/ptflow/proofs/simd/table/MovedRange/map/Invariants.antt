@@ -1,6 +1,6 @@
 -- The rows so far were taken from the table.
 use Rattle.ptflow.proofs.Common.{◌*◌, ◌+◌, chunk}
-use Rattle.ptflow.proofs.Vectors.Tables.{IsFilledTo}
+use Rattle.ptflow.proofs.Vectors.Lanes.{IsFilledTo}
 use Rattle.ptflow.proofs.simd.table.MovedRange.map.Given as goal
 
 abbrev pub invariant-loop-row : goal.invariant-loop-row

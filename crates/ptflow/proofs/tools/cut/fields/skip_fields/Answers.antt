@@ -1,6 +1,7 @@
 -- Field n starts after the n-th delimiter.
 use Rattle.ptflow.proofs.Common.{◌≡◌, ◌+◌, ◌-◌, take, drop, length, arith, length-drop, length-take-le}
-use Rattle.ptflow.proofs.CutLemmas.FieldOffsets.{offset_start, offset_end, offset_after_nth, rest_of}
+use Rattle.ptflow.proofs.CutLemmas.Fields.{offset_start, offset_end, offset_after_nth}
+use Rattle.ptflow.proofs.Vectors.Select.{rest_of}
 use Rattle.ptflow.proofs.tools.cut.fields.skip_fields.Goals as goal
 
 pub returns-then-count-eq0-clause-offset : goal.returns-then-count-eq0-clause-offset

@@ -2,8 +2,7 @@
 use Rattle.std.proofs.Common.{rules}
 use Rattle.ptflow.proofs
 use proofs.Common.{[], ◌≡◌, complete_lines, uniq_job, current_run_of, push_nothing}
-use proofs.UniqLemmas.BlockRuns.{steps_none, steps_written}
-use proofs.UniqLemmas.FirstLine.{not_found}
+use proofs.UniqLemmas.Runs.{steps_none, steps_written, not_found}
 use Rattle.ptflow.proofs.tools.uniq.LineUniqLineFilter.process_lines.Given as given
 use Rattle.ptflow.proofs.tools.uniq.LineUniqLineFilter.process_lines.Goals as goal
 use Rattle.ptflow.proofs.tools.uniq.LineUniqLineFilter.process_lines.Goals.{Then-is_none}

@@ -2,9 +2,9 @@
 -- output of the run that ended is pushed or deferred. Each case preserves `RunsInvariant`.
 use Rattle.ptflow.proofs
 use proofs.Common.{IsLine, refl, arith, take_rest, line_if_not_found, uniq_job, common_steps}
-use proofs.Passes.StepOutput.{on_err}
-use proofs.UniqLemmas.BlockRuns.{runs_loop_starts, runs_loop_few, runs_loop_left, runs_loop_more, runs_loop_next}
-use proofs.UniqLemmas.BlockRuns.{runs_loop_failed, running_done, running_unended, runs_loop_passed}
+use proofs.Passes.Prefix.{on_err}
+use proofs.UniqLemmas.Runs.{runs_loop_starts, runs_loop_few, runs_loop_left, runs_loop_more, runs_loop_next}
+use proofs.UniqLemmas.Runs.{runs_loop_failed, running_done, running_unended, runs_loop_passed}
 use Rattle.ptflow.proofs.tools.uniq.block_runs.write_runs.Given as given
 use Rattle.ptflow.proofs.tools.uniq.block_runs.write_runs.Goals as goal
 use Rattle.ptflow.proofs.tools.uniq.block_runs.write_runs.Goals.{In_default}
@@ -54,11 +54,11 @@ returns-clause-passed g c = (
       c.push.ensures.pushed.wrote,
 )
 
-pub overflow_sub-line : goal.overflow_sub-line
-overflow_sub-line g c = grind (arith, common_steps)
+pub overflow_sub-from : goal.overflow_sub-from
+overflow_sub-from g c = grind (arith, common_steps)
 
-pub overflow_sub-line-else-eq : goal.overflow_sub-line-else-eq
-overflow_sub-line-else-eq g c = grind (arith, common_steps)
+pub overflow_sub-from-else-eq : goal.overflow_sub-from-else-eq
+overflow_sub-from-else-eq g c = grind (arith, common_steps)
 
 pub overflow_sub-to : goal.overflow_sub-to
 overflow_sub-to g c = grind (arith, common_steps)

@@ -1,8 +1,8 @@
 -- The output of one line is all that is pushed, since no state is carried from line to line.
 use Rattle.ptflow.proofs
 use proofs.Common.{◌∷◌, [], line, cut_job, cut_lines, arith, common_steps}
-use proofs.CutLemmas.FieldLines.{cut_lines-append}
-use proofs.Passes.StepOutput.{on_err}
+use proofs.CutLemmas.Fields.{cut_lines-append}
+use proofs.Passes.Prefix.{on_err}
 use Rattle.ptflow.proofs.tools.cut.fields.FieldCutLineFilter.process_line.Goals as goal
 
 pub returns-in_err-write_line-clause-halts : goal.returns-in_err-write_line-clause-halts
