@@ -47,9 +47,9 @@ pub use Rattle.ptlines.specs.Readers.{AdvanceOk, IsDone, IsSound, Reader, Reader
 pub use Rattle.ptlines.specs.Slots.{Slots, line, total_bytes, with_new_slot, with_denied, with_line}
 pub use Rattle.ptlines.specs.Text.{AreLines, IsLine, complete_lines, lines, max_length, unlines, is_blank}
 pub use Rattle.ptmerge.specs.Comm.{comm_with, comm_tool, entries, column_entries, tab_if_shown}
-pub use Rattle.ptmerge.specs.JoinGroup.{ReadGroupLineOkPost, ReadGroupLinePost, IsGroup, ClearGroupPost}
-pub use Rattle.ptmerge.specs.JoinGroup.{EnsureSlotPost, CopyToGroupPost, CopyToGroupErrPost, JoinStepPre, JoinLinePre}
-pub use Rattle.ptmerge.specs.JoinGroup.{group_end_slot, group_first_slot, group, is_head}
+pub use Rattle.ptmerge.specs.JoinGroup.{ReadGroupLineOkPost, ReadGroupLinePost, IsGroup, ClearGroupPost, EnsureSlotPost}
+pub use Rattle.ptmerge.specs.JoinGroup.{CopyToGroupPost, CopyToGroupErrPost, JoinStepPre, JoinLinePre, group_end_slot}
+pub use Rattle.ptmerge.specs.JoinGroup.{group_first_slot, group, is_head}
 pub use Rattle.ptmerge.specs.Join.{unpaired_entries1, unpaired_entries2, unpaired_entry, output_separator, entry}
 pub use Rattle.ptmerge.specs.Join.{join_fields, or_filler, max_over_keys, is_nonempty, join_with, join_entries}
 pub use Rattle.ptmerge.specs.Join.{join_key, join_tool, max_group_bytes, max_group_lines, field_named, nth_field}
@@ -62,8 +62,7 @@ pub use Rattle.ptmerge.specs.MergeSpec.{decided_entries, disorder, earlier_disor
 pub use Rattle.ptmerge.specs.MergeSpec.{first_disorder, insert_key, is_below, is_decided, is_past}
 pub use Rattle.ptmerge.specs.MergeSpec.{lines_decide_disorder, keys, lines_of, merge_output, merged_entries}
 pub use Rattle.ptmerge.specs.MergeSpec.{sorted_prefixes, sorted_prefix, disorder_is_decided, is_up_to, lines_with_key}
-pub use Rattle.ptmerge.specs.WriteAndAdvance.{IsReadyToContinue, AdvanceOkPost, WriteFaultPost}
-pub use Rattle.ptmerge.specs.WriteAndAdvance.{AdvancePre}
+pub use Rattle.ptmerge.specs.WriteAndAdvance.{IsReadyToContinue, AdvanceOkPost, WriteFaultPost, AdvancePre}
 pub use Rattle.ptmerge.specs.MergeCall.{MergeRunPre, MergePost, MergeState, merge_state, both_sides, merge_engine}
 pub use Rattle.ptmerge.specs.MergeCall.{merge_end, disordered_line, HasNoLine, IsFirstLineAndBlock}
 pub use Rattle.ptmerge.specs.Orders.{Cmp, Key, byte_cmp, line_cmp}

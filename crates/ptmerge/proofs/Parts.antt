@@ -4,7 +4,7 @@
 -- of the key: a filter by keys commutes with computing the distinct keys, so each part has the entries of its keys,
 -- and the entries of all parts are a permutation of all entries.
 use Rattle.ptmerge.proofs
-use proofs.Common.{arith, append-nil, ◌≡◌, ℕ, ◌+◌, List, [], ◌∷◌, ◌++◌, Bool, true, false, cond, Option, Some, None}
+use proofs.Common.{arith, ◌≡◌, ℕ, ◌+◌, List, [], ◌∷◌, ◌++◌, Bool, true, false, cond, Option, Some, None}
 use proofs.Common.{refl, ap, sym, ◌∙◌, filter, Less, Side, First, Second, Lines, MergeTool, FirstDisorder}
 use proofs.Common.{entries_by_key, disorder, earlier_disorder, first_disorder, keys, merged_entries, sorted_prefixes}
 use proofs.Common.{sorted_prefix, is_up_to, lines_of, Cmp, Key, unlines, the_lines_of_parts, unlines-append}
@@ -12,7 +12,8 @@ use proofs.Common.{IsConcatOfParts, CommOfParts, JoinOfParts, ◌&&◌, not, map
 use proofs.Common.{flat_map, is_gt, is_lt, Equal, insert_key, distinct_keys, lines_with_key}
 use proofs.Common.{entries_of_key, filter-append, IsLine, zero, suc, ◌<◌, ◌==◌, nat_lt, append_assoc, nat_tests}
 use proofs.Common.{range_with_len, lines, CommByKey, IsSplittableByKey, JoinByKey, text_of_part, output_lines}
-use proofs.MergeLemmas.Invariant.{IsDisorderFrom, after_from, disorder_after, disorder_at, first_disorder_is}
+use proofs.MergeLemmas.Invariant.{IsDisorderFrom, after_from, disorder_after, first_disorder_is}
+use proofs.MergeLemmas.Invariant.{IsSortedFrom, sorted_from_start, sorted_from_none}
 use proofs.MergeLemmas.Invariant.{is_disordered, sorted_after, sorted_prefix_is, Ascends, IsDownwardClosed, all_keys}
 use proofs.MergeLemmas.Invariant.{all_wanted, ascends_distinct, downward_splits, up_to_from}
 use proofs.MergeLemmas.Orders.{Each, Each-weaker, EachKey, Each-all, EachKey-weaker, insert_least, Each-parts}
@@ -138,11 +139,6 @@ by_limits : (cmp : Cmp) (f g : Option FirstDisorder) (k : List ℕ)
     (earlier_disorder cmp (without_line_number f) (without_line_number g)) k
 by_limits cmp f g k = grind arith
 
--- the first line is in order, and so are those after it
-no_disorder : (b : Bool) (d : FirstDisorder) (f : Option FirstDisorder) → cond b (Some d) f ≡ None
-    → (b ≡ false) × (f ≡ None)
-no_disorder b d f e = grind arith
-
 module _ (cmp : Cmp) (o : IsKeyOrder cmp) (key : Key) where
   -- the last key in order does not depend on the number of lines before
   uncounted : (last : Option (List ℕ)) (n m : ℕ) (ys : Lines)
@@ -151,29 +147,23 @@ module _ (cmp : Cmp) (o : IsKeyOrder cmp) (key : Key) where
   uncounted last n m (y ∷ ys) = grind (arith, uncounted (Some (key y)) (n + 1) (m + 1) ys)
 
   -- A list appended to a sorted list with keys of at most its own has its own disorder.
-  appended : (last : Option (List ℕ)) (n : ℕ) (xs ys : Lines) → disorder_after cmp key last n xs ≡ None
+  appended : (last : Option (List ℕ)) (n : ℕ) (xs ys : Lines) → IsSortedFrom cmp key last xs
       → EachKey (λ k. is_disordered cmp last k ≡ false) key ys → EachKey (λ k. EachKey (AtMost cmp k) key ys) key xs
       → (sorted_after cmp key last (xs ++ ys) ≡ xs ++ sorted_after cmp key None ys)
       × (without_line_number (disorder_after cmp key last n (xs ++ ys))
       ≡ without_line_number (disorder_after cmp key None 0 ys))
   appended last n [] [] e h b = grind arith
   appended last n [] (y ∷ ys) e (here, _) b = rw here (refl, uncounted (Some (key y)) (n + 1) 1 ys)
-  appended last n (x ∷ xs) ys e h (below, below_all) =
-      let (calm, later) = no_disorder (is_disordered cmp last (key x)) (disorder_at last n)
-      (disorder_after cmp key (Some (key x)) (n + 1) xs) e in
-      let ih = appended (Some (key x)) (n + 1) xs ys later below below_all in grind arith
+  appended last n (x ∷ xs) ys (here, more) h (below, below_all) =
+      let ih = appended (Some (key x)) (n + 1) xs ys more below below_all in grind arith
 
   together : (xs ys : Lines) → first_disorder cmp key xs ≡ None → EachKey (λ k. EachKey (AtMost cmp k) key ys) key xs
       → (sorted_prefix cmp key (xs ++ ys) ≡ xs ++ sorted_prefix cmp key ys)
       × (without_line_number (first_disorder cmp key (xs ++ ys)) ≡ without_line_number (first_disorder cmp key ys))
   together xs ys e b =
-      let all = appended None 0 xs ys (sym (first_disorder_is cmp key xs) ∙ e)
+      let all = appended None 0 xs ys (sorted_from_none cmp key xs e)
       (Each-all _ (λ k. refl) (map key ys)) b in
       grind (arith, all, first_disorder_is, sorted_prefix_is)
-
-  -- a list without a disorder is its own sorted prefix
-  ordered_whole : (xs : Lines) → first_disorder cmp key xs ≡ None → sorted_prefix cmp key xs ≡ xs
-  ordered_whole xs e = simp append-nil at (together xs [] e (Each-all _ (λ k. tt) (map key xs))).0
 
   -- a property of each line holds for each line of the sorted prefix
   each_ordered : (P : List ℕ → Type 0) (ys : Lines) → EachKey P key ys → EachKey P key (sorted_prefix cmp key ys)
@@ -188,23 +178,20 @@ module _ (cmp : Cmp) (o : IsKeyOrder cmp) (key : Key) where
   from_below k (y ∷ ys) (here, _) =
       rw (first_disorder_is cmp key (y ∷ ys)) (rw here at (after_from cmp o key k 0 (y ∷ ys)).1)
 
-  kept_after : (p : List ℕ → Bool) (last from : Option (List ℕ)) (n m : ℕ) (xs : Lines)
+  kept_after : (p : List ℕ → Bool) (last from : Option (List ℕ)) (xs : Lines)
       → ((k : List ℕ) → is_disordered cmp last k ≡ false → is_disordered cmp from k ≡ false)
-      → disorder_after cmp key last n xs ≡ None
-      → disorder_after cmp key from m (filter p xs) ≡ None
-  kept_after p last from n m [] up e = refl
-  kept_after p last from n m (x ∷ xs) up e =
-      let (calm, later) = no_disorder (is_disordered cmp last (key x)) (disorder_at last n)
-      (disorder_after cmp key (Some (key x)) (n + 1) xs) e in
-      let rise = up (key x) calm in
-      let left_out = kept_after p (Some (key x)) from (n + 1) m xs (λ k g. grind (arith, at_most_trans, g))
-      later in
-      grind (arith, kept_after p (Some (key x)) (Some (key x)) (n + 1) (m + 1) xs (λ k g. g) later)
+      → IsSortedFrom cmp key last xs → IsSortedFrom cmp key from (filter p xs)
+  kept_after p last from [] up s = tt
+  kept_after p last from (x ∷ xs) up (here, more) =
+      let rise = up (key x) here in
+      let left_out = kept_after p (Some (key x)) from xs (λ k g. grind (arith, at_most_trans, g)) more in
+      grind (arith, kept_after p (Some (key x)) (Some (key x)) xs (λ k g. g) more)
 
   -- a sublist of a sorted list is sorted
   in_order_kept : (p : List ℕ → Bool) (xs : Lines) → first_disorder cmp key xs ≡ None
       → first_disorder cmp key (filter p xs) ≡ None
-  in_order_kept p xs e = grind (arith, first_disorder_is, kept_after)
+  in_order_kept p xs e =
+      (sorted_from_start cmp key _ (kept_after p None None xs (λ k g. g) (sorted_from_none cmp key xs e))).1
 
 module _ (tool : MergeTool) (o : IsKeyOrder tool.cmp) where
   open tool use {cmp, key}
@@ -222,7 +209,7 @@ module _ (tool : MergeTool) (o : IsKeyOrder tool.cmp) where
   -- the output for sorted lists is that of all their keys
   pub merged_in_order : (ls : Side → Lines) → disorder tool ls ≡ None
       → merged_entries tool ls ≡ entries_by_key tool all_keys ls
-  merged_in_order ls e = grind (arith, ordered_whole, none_disordered)
+  merged_in_order ls e = grind (arith, sorted_from_start, sorted_from_none, none_disordered)
 
   -- sorted lists whose keys pass a test, and lists whose keys, which are at least those, do not
   module _ (p : List ℕ → Bool) (down : IsDownwardClosed cmp p) (a b : Side → Lines) (in_order : disorder tool a ≡ None)

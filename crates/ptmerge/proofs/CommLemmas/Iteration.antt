@@ -2,21 +2,19 @@
 -- So each step of the merge extends the output by the entries of its key, and the loop invariant of the merge carries
 -- over.
 use Rattle.ptmerge.proofs
-use proofs.Common.{◌≡◌, ℕ, ◌<◌, List, [], ◌∷◌, ◌++◌, Ok, Err, refl, sym, arith, Comm, Output, PushEffect, Reader}
-use proofs.Common.{Slots, line, unlines, Side, First, Second, Sorted, Ended, comm_with, column_entries}
-use proofs.Common.{tab_if_shown, Lines, MergeTool, entries_by_key, AdvanceOkPost, AdvancePre, MergeState, MergePost}
-use proofs.Common.{merge_state, Cmp, Key, both, with_side, HaveEqualKeys, HasOnlyLeastKey, IsDisorderDecided}
-use proofs.Common.{IsReaderOf, AreValidCursors, StartOkPost, merge_inputs, ClearFourSlotsPost, suc, append-nil}
-use proofs.Common.{entries, Bool}
+use proofs.Common.{◌≡◌, ℕ, ◌<◌, List, [], ◌∷◌, ◌++◌, Ok, Err, refl, sym, arith, Comm, Output, PushEffect, Reader, Slots}
+use proofs.Common.{line, unlines, Side, First, Second, Sorted, Ended, comm_with, column_entries, tab_if_shown, Lines}
+use proofs.Common.{MergeTool, entries_by_key, AdvanceOkPost, AdvancePre, MergeState, MergePost, merge_state, Cmp, Key}
+use proofs.Common.{both, with_side, HaveEqualKeys, HasOnlyLeastKey, IsDisorderDecided, ClearFourSlotsPost, suc}
+use proofs.Common.{append-nil, entries, Bool, MergeRunPre}
 use proofs.MergeLemmas.Step.{BetweenSteps, between_next, advance_pre, reads_less, EndsIfFails, CursorsInvariant}
-use proofs.MergeLemmas.Step.{LoopInvariant, advance_ok, goes_merging, passing_now, runs_on, slots_of}
-use proofs.MergeLemmas.Step.{read_facts_current, iteration_fails, IsLineByLine, alone, wrote_alone, alone_breaks}
-use proofs.MergeLemmas.Step.{reads_ahead, place_is, wrote_and_sent, StoreHoldsTwoLines, holds_two, keeps_two}
-use proofs.MergeLemmas.Step.{ends_well, ends_fallen, start_ok}
+use proofs.MergeLemmas.Step.{LoopInvariant, advance_ok, goes_merging, passing_now, runs_on, read_facts_current}
+use proofs.MergeLemmas.Step.{iteration_fails, alone, wrote_alone, alone_breaks, reads_ahead, place_is, wrote_and_sent}
+use proofs.MergeLemmas.Step.{StoreHoldsTwoLines, holds_two, keeps_two, ends_well, ends_fallen, open_merge}
 use proofs.MergeLemmas.Orders.{IsKeyOrder, same_bytes}
-use proofs.MergeLemmas.Invariant.{AllWritten, MergeInvariant, line_is_least_run, lag_invariant_starts}
-use proofs.MergeLemmas.Invariant.{write_least_run, all_keys}
-use proofs.MergeLemmas.Exits.{at_current_line, state_by_side, IsOpenMerge}
+use proofs.MergeLemmas.Invariant.{AllWritten, MergeInvariant, line_is_least_run, lag_invariant_starts, write_least_run}
+use proofs.MergeLemmas.Invariant.{all_keys}
+use proofs.MergeLemmas.Exits.{at_current_line, state_by_side, IsOpenMerge, IsLineByLine}
 use Rattle.ptmerge.specs.declared.faults.MergeFault.TheVariants as faults
 use Rattle.std.proofs.Common.{rules}
 
@@ -70,26 +68,12 @@ pub record IterationInvariant (job : Comm) (cmp : Cmp) (key : Side → Key) (old
   pub loop_invariant : LoopInvariant (comm_with job cmp key) (StoreHoldsTwoLines old.store) old now (both one two)
   pub between : BetweenSteps key now one two
 
--- ---- the start
-
-module _ (job : Comm) {cmp : Cmp} {key : Side → Key} {old : MergeState}
-    (w : IsOpenMerge (comm_with job cmp key) old) where
-  pub starts : ((side : Side) (x : List ℕ) → key side x ≡ x)
-      → {first second : Reader} {store : Slots} {one two : Sorted}
-      → StartOkPost key cmp (both one two) (record { reader = old.reader; store = old.store })
-      (merge_inputs first second store)
-      → AreValidCursors key one two store → IsReaderOf one first × IsReaderOf two second
-      → IterationInvariant job cmp key old (merge_state first second old.out store) one two
-  starts whole_line_keys {first} {second} {store} {one} {two} h valid_cursors (reader1, reader2) = record {
-    opened = w;
-    whole_line_keys = whole_line_keys;
-    loop_invariant = start_ok w (merge_inputs first second store) (both one two) valid_cursors.first h;
-    between = record {
-      valid_cursors = valid_cursors;
-      own_reader = elim [ First ↦ reader1 | Second ↦ reader2 ];
-      clean = w.writable;
-    };
-  }
+-- the conditions at the start
+pub opened : (job : Comm) {cmp : Cmp} {key : Side → Key} {first second : Reader} {out : Output} {store : Slots}
+    → IsKeyOrder cmp → MergeRunPre job.terminator first second out store
+    → IsOpenMerge (comm_with job cmp key) (merge_state first second out store)
+opened job {cmp} {key} o begins =
+    open_merge o (λ ls. (omega arith, omega arith)) (is_line_by_line job cmp key) begins
 
 -- ---- a step
 
@@ -106,7 +90,7 @@ module _ {job : Comm} {cmp : Cmp} {key : Side → Key} {old now : MergeState} {o
   tool = comm_with job cmp key
 
   lines_before : CursorsInvariant tool old now.reader (both one two) now.store ls p b
-  lines_before = search (rules, slots_of, holds_two)
+  lines_before = record { w = w; sides = sides; holds = holds_two w.fits keeps (λ side. (sides side).slots) }
 
   abbrev head : Side → List ℕ
   head s = line now.store (both one two s).current_slot
@@ -136,13 +120,13 @@ module _ {job : Comm} {cmp : Cmp} {key : Side → Key} {old now : MergeState} {o
         opened = w;
         whole_line_keys = whole_line_keys;
         loop_invariant = rw (← place_is s one two one2 two2 h.continues.others)
-            (runs_on w lines_before s step.status_is h.came (keeps_two w lines_before s step.status_is h.came keeps)
-            (wrote_alone w lines_before (is_line_by_line job cmp key) step between.clean merge_invariant wrote_line).0);
+            (runs_on lines_before s step.status_is h.came (keeps_two lines_before s step.status_is h.came keeps)
+            (wrote_alone lines_before step between.clean merge_invariant wrote_line).0);
         between = between_next between s h.continues;
       }
 
       pub alone_fails : EndsIfFails tool old now s (both one two s) new
-      alone_fails = search (rules, alone_breaks, lines_before, is_line_by_line, wrote_line)
+      alone_fails = alone_breaks lines_before step between.clean merge_invariant wrote_line
 
   -- a step for a line of both inputs, after the first input advanced: the second one is still at the line
   pub second_advance_pre : HaveEqualKeys cmp key (both one two) now.store
@@ -182,8 +166,8 @@ module _ {job : Comm} {cmp : Cmp} {key : Side → Key} {old now : MergeState} {o
       wrote_pair = grind (arith, entries_of_pair)
 
       pub pair_fails : EndsIfFails tool old now First one mid
-      pair_fails = iteration_fails w lines_before First step.first (wrote_both wrote_pair) refl
-          (passing_now w lines_before Second step.second)
+      pair_fails = iteration_fails lines_before First step.first (wrote_both wrote_pair) refl
+          (passing_now lines_before Second step.second)
 
       -- the first input advanced, and the output was written out
       module _ {one2 two2 : Sorted} {reader : Reader} {after : Slots}
@@ -194,24 +178,24 @@ module _ {job : Comm} {cmp : Cmp} {key : Side → Key} {old now : MergeState} {o
         pub second_fails : EndsIfFails tool old (state_by_side (both reader (now.reader Second)) new after) Second two2
             new
         second_fails _ _ _ k =
-            let g = advance_ok w lines_before First step.first h.came w.fits keeps in
-            let m = goes_merging w lines_before First step.first h.came wrote_line_out in
-            let before = goes_merging w lines_before First step.first h.came (wrote_both wrote_pair).0 in
-            iteration_fails w g Second step.second (m, lag_invariant_starts before h.continues.clean written_out) refl
-            (read_facts_current w g First) _ _ _ (rw h.continues.others at k)
+            let g = advance_ok lines_before First step.first h.came keeps in
+            let m = goes_merging lines_before First step.first h.came wrote_line_out in
+            let before = goes_merging lines_before First step.first h.came (wrote_both wrote_pair).0 in
+            iteration_fails g Second step.second (m, lag_invariant_starts before h.continues.clean written_out) refl
+            (read_facts_current g First) _ _ _ (rw h.continues.others at k)
 
         pub pair_continues : {one3 two3 : Sorted} {reader2 : Reader} {last : Slots}
             → AdvanceOkPost key cmp Second one2 two2 one3 two3 (now.reader Second) reader2 after last new
             → IterationInvariant job cmp key old (state_by_side (both reader reader2) new last) one3 two3
         pair_continues k =
-            let g = advance_ok w lines_before First step.first h.came w.fits keeps in
+            let g = advance_ok lines_before First step.first h.came keeps in
             let came = rw h.continues.others at k.came in
-            let kept = keeps_two w g Second step.second came (keeps_two w lines_before First step.first h.came keeps) in
+            let kept = keeps_two g Second step.second came (keeps_two lines_before First step.first h.came keeps) in
             record {
               opened = w;
               whole_line_keys = whole_line_keys;
-              loop_invariant = rw k.continues.others (runs_on w g Second step.second came kept
-                  (goes_merging w lines_before First step.first h.came wrote_line_out));
+              loop_invariant = rw k.continues.others (runs_on g Second step.second came kept
+                  (goes_merging lines_before First step.first h.came wrote_line_out));
               between = between_next (between_next between First h.continues) Second k.continues;
             }
 
@@ -220,7 +204,7 @@ module _ {job : Comm} {cmp : Cmp} {key : Side → Key} {old now : MergeState} {o
   module _ {after : Slots} (clear : ClearFourSlotsPost now.store after) where
     pub eof : ((side : Side) → (both one two side).status ≡ Ended)
         → MergePost tool old (state_by_side now.reader now.out after) (Ok tt)
-    eof step = ends_well w lines_before merge_invariant between.clean clear step
+    eof step = ends_well lines_before merge_invariant between.clean clear step
 
     pub disordered : {s : Side} {n : ℕ} → IsDisorderDecided cmp key (both one two) now.store s n
         → MergePost tool old (state_by_side now.reader now.out after) (Err (faults.Disorder s n))

@@ -5,22 +5,21 @@ use Rattle.ptmerge.proofs
 use proofs.Common.{◌≡◌, ℕ, ◌+◌, ◌*◌, ◌≤◌, ◌<◌, ◌&&◌, Bool, true, false, List, [], ◌∷◌, ◌++◌, Some, length, max, refl}
 use proofs.Common.{sym, ◌∙◌, ap, subst, arith, append_assoc, bytes_eq, bytes_decides, append-nil, Output, PushEffect}
 use proofs.Common.{Reader, Slots, line, total_bytes, with_line, unlines, max_length, push_trans, unlines-append, Side}
-use proofs.Common.{First, Second, Sorted, CursorStatus, Head, Ended, Disorder, is_head, length-append, Lines}
-use proofs.Common.{MergeTool, entries_by_key, entries_of_key, lines_with_key, MergeState, NextOkPost, HasSlots}
-use proofs.Common.{with_side, other, PrecedesInput, disorder, merged_entries, sorted_prefixes, is_up_to, Cmp, Key}
-use proofs.MergeLemmas.Step.{slots_on, SidesInvariant, IsAbove, IsLineByLine, current_key_is_above, next_at}
-use proofs.MergeLemmas.Step.{own_slots, passed_at, sides_invariant_continues, slots_apart, StoreInvariant}
+use proofs.Common.{First, Second, Sorted, CursorStatus, Head, Ended, Disorder, is_head, length-append, Lines, MergeTool}
+use proofs.Common.{entries_by_key, entries_of_key, lines_with_key, MergeState, NextOkPost, HasSlots, with_side, other}
+use proofs.Common.{PrecedesInput, disorder, merged_entries, sorted_prefixes, is_up_to, Key}
+use proofs.MergeLemmas.Step.{SidesInvariant, IsAbove, current_key_is_above, next_at, sides_next, StoreInvariant}
 use proofs.MergeLemmas.Step.{EndsIfFails, advance_fails}
 use proofs.MergeLemmas.Invariant.{Bound, AtLeast, MayFollow, IsUnder, MergeInvariant, IsFuture, MayCome, all_keys}
-use proofs.MergeLemmas.Invariant.{splits_step, all_wanted, written_is_wanted, LagInvariant}
-use proofs.JoinLemmas.GroupSlots.{AllSlots, Extends, GroupBounds, InGroup, largest_group, GroupStore}
-use proofs.JoinLemmas.GroupSlots.{group_store_line, group_store_next, low_slot, put_more}
-use proofs.MergeLemmas.Orders.{EachKey, EachKey-append, EachKey-weaker, at_most-same, front_first, front_is}
-use proofs.MergeLemmas.Orders.{others_of, lines_with_key-above, IsKeyOrder, AtMost, least_or_above, self_at_most}
-use proofs.MergeLemmas.Orders.{at_most_trans, same_bytes}
-use proofs.MergeLemmas.Slots.{put_both, put_each, put_other, put_same, side_case, has_lines_total, line_other}
-use proofs.MergeLemmas.Exits.{SideAfterNext, IsAtCurrentLine, MatchesStatus, next_same_key, side_invariant_kept, Fits}
-use proofs.MergeLemmas.Exits.{read_facts_after_line, input_split_of, both_begun, IsOpenMerge, ReadFactsOf}
+use proofs.MergeLemmas.Invariant.{splits_step, all_wanted, written_is_wanted, LagInvariant, IsLater}
+use proofs.JoinLemmas.GroupSlots.{AllSlots, Extends, GroupBounds, InGroup, largest_group, GroupStore, group_store_line}
+use proofs.JoinLemmas.GroupSlots.{group_store_next, put_more}
+use proofs.MergeLemmas.Slots.{low_slot, put_both, put_each, put_other, put_same, side_case, has_lines_total, line_other}
+use proofs.MergeLemmas.Exits.{at_current_line, SideAfterNext, IsAtCurrentLine, MatchesStatus, next_same_key}
+use proofs.MergeLemmas.Exits.{side_invariant_kept, Fits, read_facts_after_line, input_split_of, both_begun, IsOpenMerge}
+use proofs.MergeLemmas.Exits.{ReadFactsOf}
+use proofs.MergeLemmas.Orders.{EachKey, EachKey-append, EachKey-weaker, at_most-same, front_first, front_is, others_of}
+use proofs.MergeLemmas.Orders.{lines_with_key-above, AtMost, least_or_above, self_at_most, same_bytes}
 use proofs.MergeLemmas.LinesRead.{Continues, HasBegun, HoldsLines}
 use Rattle.std.proofs.Common.{rules}
 use Rattle.std.proofs.lemmas.Grind.{common_steps}
@@ -29,11 +28,6 @@ use Rattle.std.proofs.lemmas.Grind.{common_steps}
 
 -- After a fault within a group, the output of all lesser keys is complete, and the output of the group's key is a
 -- prefix.
-
--- a key up to k is at most all keys that may follow, if k is
-pub under_lower : {cmp : Cmp} (o : IsKeyOrder cmp) (b : Bound) (x k : List ℕ) → AtMost cmp x k → IsUnder cmp b k
-    → IsUnder cmp b x
-under_lower = grind (arith, at_most_trans)
 
 -- a property of k holds for the keys of all lines of its group
 pub all_own_keys : (P : List ℕ → Type 0) (key : Key) (k : List ℕ) (g : Lines) → P k → EachKey (λ x. x ≡ k) key g
@@ -46,9 +40,7 @@ pub record OutputInGroup (tool : MergeTool) (was mid : Output) (p g : Side → L
   pub merge_invariant : MergeInvariant tool (λ side. AtLeast k) p was mid
   pub clean : mid.write_failed ≡ false
   pub own : (side : Side) → EachKey (λ x. x ≡ k) (tool.key side) (g side)
-  pub beyond : (side : Side) (r : Lines) → MayFollow tool.cmp (tool.key side) (d side) r
-      → EachKey (AtMost tool.cmp k) (tool.key side) r
-  pub under : (side : Side) → IsUnder tool.cmp (d side) k
+  pub later : (side : Side) → IsLater tool.cmp (tool.key side) (AtLeast k) (d side)
 
 -- the entries `extra` are a prefix of the group's output, for all lines that may follow
 pub record OutputStartsWith (tool : MergeTool) (g : Side → Lines) (d : Side → Bound) (k : List ℕ)
@@ -71,7 +63,7 @@ module _ {tool : MergeTool} {old : MergeState} (w : IsOpenMerge tool old) {mid :
 
   rest_not_less : (side : Side) (r : Lines) → MayFollow cmp (key side) (d side) r
       → EachKey (AtMost cmp k) (key side) (g side ++ r)
-  rest_not_less side r c = at_most-same tool o (key side) k (g side) r (m.own side) (m.beyond side r c)
+  rest_not_less side r c = at_most-same tool o (key side) k (g side) r (m.own side) ((m.later side).may_follow r c)
 
   -- two lists that continue the lines read so far: their sorted prefixes and their disorder
   module _ (new : MergeState) {now : Side → Reader} {piece : Side → List ℕ} {ls : Side → Lines}
@@ -91,7 +83,8 @@ module _ {tool : MergeTool} {old : MergeState} (w : IsOpenMerge tool old) {mid :
         (λ side. rest_not_less side (coming side) (seen side).may_follow)
 
     wanted : (x : List ℕ) → AtMost cmp x k → is_up_to cmp (disorder tool all) x ≡ true
-    wanted x h = grind (arith, written_is_wanted, seen, under_lower)
+    wanted x h = written_is_wanted cmp o _ _ _ _ x (seen First).may_disorder (seen Second).may_disorder
+        ((m.later First).under x h) ((m.later Second).under x h)
 
     abbrev is_wanted : List ℕ → Bool
     is_wanted = is_up_to cmp (disorder tool all)
@@ -128,7 +121,7 @@ module _ {tool : MergeTool} {old : MergeState} (w : IsOpenMerge tool old) {mid :
 
   passed_under : (of side : Side) → EachKey (IsUnder cmp (d of)) (key side) (p side ++ g side)
   passed_under of side =
-      EachKey-weaker _ _ (λ x h. under_lower o (d of) x k h (m.under of)) _ _ (passed_keys of side)
+      EachKey-weaker _ _ (m.later of).under _ _ (passed_keys of side)
 
   pub group_written : {is : Output} (extra : Lines) → PushEffect mid is (unlines terminator extra)
       → LagInvariant tool d (λ side. p side ++ g side) old.out is (front ++ extra)
@@ -152,7 +145,6 @@ module _ {tool : MergeTool} {old : MergeState} (w : IsOpenMerge tool old) {mid :
 
 -- a tool whose output for a key of both inputs is a list of pairs, or nothing
 pub record IsPairTool (tool : MergeTool) (most : GroupBounds) (pairs : List ℕ → Lines → Lines → Lines) : Type 0 where
-  pub alone : IsLineByLine tool
   pub none : (k : List ℕ) (g : Lines) → pairs k [] g ≡ []
   pub more : (k : List ℕ) (f g c : Lines) → pairs k (f ++ g) c ≡ pairs k f c ++ pairs k g c
   pub whole : (k a b : List ℕ) (f g : Lines) → tool.entries k (a ∷ f) (b ∷ g) ≡ pairs k (a ∷ f) (b ∷ g)
@@ -218,7 +210,7 @@ store_between_groups call {cursor = cursor} h slots = search (rules, fits_kept, 
 -- the invariant of both inputs depends only on the first four slots
 pub same_cursors : (tool : MergeTool) {old now : Side → Reader} {cursor : Side → Sorted} {before after : Slots}
     {ls p : Side → Lines} {b : Side → Bound} → SidesInvariant tool old now cursor before ls p b
-    → AllSlots cursor → ((i : ℕ) → i < 4 → line after i ≡ line before i)
+    → 4 ≤ length after.lines → ((i : ℕ) → i < 4 → line after i ≡ line before i)
     → SidesInvariant tool old now cursor after ls p b
 same_cursors = grind (arith, low_slot, side_invariant_kept)
 
@@ -227,6 +219,10 @@ same_cursors = grind (arith, low_slot, side_invariant_kept)
 module _ (call : JoinCall) {mid : Output} {p g : Side → Lines} {d : Side → Bound} {k : List ℕ}
     (m : OutputInGroup call.tool call.old.out mid p g d k) where
   open call use {cmp, entries, key, laws, o, pairs, tool}
+
+  -- no key that follows is less
+  none_less : (r : Side → Lines) → MayCome tool d r → (side : Side) → EachKey (AtMost cmp k) (key side) (r side)
+  none_less r c side = (m.later side).may_follow (r side) (c side)
 
   -- the pairs of a group come first, for all lines of its key that the first input still has
   starts_pairs : (f c s : Lines) → 0 < length s → (rest : Lines) × (entries k (f ++ c) s ≡ pairs k f s ++ rest)
@@ -244,7 +240,7 @@ module _ (call : JoinCall) {mid : Output} {p g : Side → Lines} {d : Side → B
         let none = lines_with_key-above tool o (key Second) k (r Second) (above (r Second) (c Second)) in
         let (rest, is) = starts_pairs (g First) (lines_with_key (key First) (r First) k) (g Second) some in (
           rest ++ entries_by_key tool w (others_of tool o k r),
-          front_is tool o w k g r m.own (λ side. m.beyond side (r side) (c side)) (laws.alone.none k)
+          front_is tool o w k g r m.own (none_less r c) (call.w.alone.none k)
               ∙ rw (wanted, none, append-nil (g Second), is) (append_assoc (pairs k (g First) (g Second)) rest _),
         );
   }
@@ -263,7 +259,7 @@ module _ (call : JoinCall) {mid : Output} {p g : Side → Lines} {d : Side → B
         (omega (arith, some First, length-append (g First) (lines_with_key (key First) (r First) k)))
         (omega (arith, some Second, length-append (g Second) (lines_with_key (key Second) (r Second) k))) in
         let rest = entries_by_key tool w (others_of tool o k r) in
-        rw (front_is tool o w k g r m.own (λ side. m.beyond side (r side) (c side)) (laws.alone.none k), wanted)
+        rw (front_is tool o w k g r m.own (none_less r c) (call.w.alone.none k), wanted)
         (omega (arith, own, length-append (entries k f s) rest));
   }
 
@@ -287,7 +283,7 @@ module _ (call : JoinCall) {mid : Output} {p g : Side → Lines} {d : Side → B
     where
       -- the output of the group alone
       alone_is : entries_by_key tool all_keys g ≡ entries k (g First) (g Second)
-      alone_is = simp append-nil at (front_is tool o all_keys k g (λ side. []) m.own (λ side. tt) (laws.alone.none k))
+      alone_is = simp append-nil at (front_is tool o all_keys k g (λ side. []) m.own (λ side. tt) (call.w.alone.none k))
 
       splits_off : (w : List ℕ → Bool) (r : Side → Lines) → MayCome tool d r
           → entries_by_key tool w (λ side. g side ++ r side) ≡ entries_by_key tool w g ++ entries_by_key tool w r
@@ -295,8 +291,8 @@ module _ (call : JoinCall) {mid : Output} {p g : Side → Lines} {d : Side → B
           let none = λ (side : Side). lines_with_key-above tool o (key side) k (r side)
           (above side (r side) (c side)) in
           let nothing : entries_of_key tool r k ≡ [] = (λ i. entries k (none First i) (none Second i))
-          ∙ laws.alone.none k in
-          front_first tool o w k g r m.own (λ side. m.beyond side (r side) (c side)) (laws.alone.none k)
+          ∙ call.w.alone.none k in
+          front_first tool o w k g r m.own (none_less r c) (call.w.alone.none k)
           (simp (none First, none Second, nothing, append-nil))
 
       all : entries_by_key tool all_keys (λ side. p side ++ g side) ≡ entries_by_key tool all_keys p
@@ -314,11 +310,6 @@ has_key s a b h = grind (arith, bytes_decides a b)
 -- the group with the current line of the input `s` added
 abbrev pub with_added_line : MergeState → (Side → Sorted) → Side → (Side → Lines) → Side → Lines
 with_added_line now cursor s g = with_side s (g s ++ head_of now cursor s ∷ []) g
-
--- the input `s` is at a line with the key `k`
-pub record IsAtKey (call : JoinCall) (now : MergeState) (cursor : Side → Sorted) (k : List ℕ) (s : Side) : Type 0 where
-  pub head : (cursor s).status ≡ Head
-  pub is : call.key s (head_of now cursor s) ≡ k
 
 -- the invariant during a group `g` of the key `k`: its output so far is written, and its copied lines end before slot
 -- `end`
@@ -344,12 +335,15 @@ module _ {call : JoinCall} {now : MergeState} {cursor : Side → Sorted} {end : 
   is_past s other = (current_key_is_above _ o _ k _ _ _ _ _
       _ _ (by (cursor s).status (q.sides s).status_is other) (q.sides s).status_is).0
     where
+      under : IsUnder cmp (q.d s) k
+      under = (q.within.later s).under k (self_at_most cmp o k)
+
       by : (t : CursorStatus) → MatchesStatus cmp (key s) t (cursor s) now.store (now.reader s) (q.ls s) (q.p s ++ g s)
           (q.d s) → (t ≡ Head → ¬ (key s (head_of now cursor s) ≡ k))
           → PrecedesInput cmp k t (key s (head_of now cursor s)) (key s (line now.store (cursor s).previous_slot))
-      by Head at_line other = grind (arith, other, least_or_above, q.within.under s)
+      by Head at_line other = grind (arith, other, least_or_above, under)
       by Ended st other = tt
-      by (Disorder n) st other = rw st at (q.within.under s)
+      by (Disorder n) st other = rw st at under
 
   pub none_failed : (side : Side) → (now.reader side).failed ≡ (old.reader side).failed
   none_failed side = (q.sides side).lines_read.advance_ok.failed
@@ -365,16 +359,26 @@ module _ {call : JoinCall} {now : MergeState} {cursor : Side → Sorted} {end : 
   group_read_facts side = (q.sides side).facts
 
   -- the group after other lines were stored for it
-  pub group_kept : AllSlots cursor → {after : Slots} → ((i : ℕ) → i < 4 → line after i ≡ line now.store i)
+  pub group_kept : {after : Slots} → ((i : ℕ) → i < 4 → line after i ≡ line now.store i)
       → {lines : Lines} → GroupStore call.most old.store after q.ls lines → {to : ℕ} → to ≡ 4 + length lines
       → GroupState call (record now { store = after }) cursor to k g lines
-  group_kept = search (rules, same_cursors)
+  group_kept same holds at =
+      record {
+        ls = q.ls;
+        p = q.p;
+        d = q.d;
+        mid = q.mid;
+        sides = same_cursors call.tool q.sides holds.four same;
+        within = q.within;
+        keeps = holds;
+        wrote = q.wrote;
+        at = at;
+      }
 
   -- the input `s` is at a further line of the group
   pub record IsAtGroupLine (s : Side) : Type 0 where
-    pub slots : AllSlots cursor
-    pub at_key : IsAtKey call now cursor k s
-    pub open at_key use *
+    pub head : (cursor s).status ≡ Head
+    pub is : key s (head_of now cursor s) ≡ k
 
 module _ {call : JoinCall} {now : MergeState} {cursor : Side → Sorted} {end : ℕ} {k : List ℕ} {g : Side → Lines}
     {kept : Lines} {q : GroupState call now cursor end k g kept} {s : Side} (l : IsAtGroupLine q s) where
@@ -388,7 +392,7 @@ module _ {call : JoinCall} {now : MergeState} {cursor : Side → Sorted} {end : 
   added = with_added_line now cursor s g
 
   at_head : IsAtCurrentLine cmp (key s) (cursor s).number x (q.ls s) (q.p s ++ g s) (q.d s)
-  at_head = passed_at tool o q.sides l.slots q.keeps.four s l.head
+  at_head = at_current_line (q.sides s) l.head
 
   -- all lines read, including the current one
   pub with_head : q.ls s ≡ q.p s ++ (g s ++ head_of now cursor s ∷ [])
@@ -420,30 +424,23 @@ module _ {call : JoinCall} {now : MergeState} {cursor : Side → Sorted} {end : 
         all = all_processed;
         order = λ r piece free. both_begun (group_begun q);
         denied = q.keeps.denied;
-        fits = peak_line call q.keeps s (cursor s) (l.slots s);
+        fits = peak_line call q.keeps s (cursor s) (q.sides s).slots;
       }) (group_written w within_more extra wrote)
       (λ new piece facts all more. group_comes_first w within_more new facts all more begins)
 
   -- the input advances
   module _ {reader : Reader} {next : Sorted} {after : Slots}
       (comes : NextOkPost (key s) cmp (cursor s) next (now.reader s) reader now.store after) where
-    gone_to : SideAfterNext call.terminator cmp (key s) (old.reader s) reader next (cursor s).previous_slot now.store
-        after (q.ls s) (Some (key s (head_of now cursor s)))
-    gone_to = next_at tool o q.sides l.slots q.keeps.four s l.head _ _ _ comes
+    abbrev gone_to : SideAfterNext tool s (old.reader s) reader next (cursor s).previous_slot now.store after (q.ls s)
+        (Some (key s (head_of now cursor s)))
+    gone_to = next_at o q.sides s l.head comes
 
-    pub next_slots : AllSlots (with_side s next cursor)
-    next_slots = put_each HasSlots s next cursor (slots_on s (l.slots s) comes) l.slots
-
-    -- the lines of the other input, and the previous line, keep their slots
-    pub others_stay : (line after (cursor (other s)).current_slot ≡ line now.store (cursor (other s)).current_slot)
-        × (line after (cursor (other s)).previous_slot ≡ line now.store (cursor (other s)).previous_slot)
-    others_stay = grind (arith, gone_to, slots_apart, line_other)
-
+    -- the previous line keeps its slot
     pub last_stays : line after next.previous_slot ≡ head_of now cursor s
-    last_stays = grind (arith, gone_to, own_slots, line_other)
+    last_stays = grind (arith, gone_to.stored, low_slot s (cursor s) (q.sides s).slots, line_other)
 
     says : next.same ≡ (is_head next.status && bytes_eq k (key s (line after next.current_slot)))
-    says = search (rules, next_same_key, at_head, low_slot)
+    says = let slots = (q.sides s).slots in search (rules, next_same_key, at_head, low_slot)
 
     -- whether the next line has the key of the group, too
     pub continues_key : next.same ≡ true → (next.status ≡ Head) × (key s (line after next.current_slot) ≡ k)
@@ -473,21 +470,15 @@ module _ {call : JoinCall} {now : MergeState} {cursor : Side → Sorted} {end : 
                 (with_side s next cursor) after (with_side s n.now_ls q.ls) f (with_side s n.bound q.d))
                 (λ i side. put_both (λ side (l m : Lines). l ≡ q.p side ++ m) s (q.ls s) (λ side. q.p side ++ g side)
                 (g s ++ x ∷ []) g with_head refl side i)
-                (sides_invariant_continues tool o q.sides l.slots q.keeps.four s l.head _ _ _
-                n);
+                (sides_next o q.sides s l.head comes);
             within = record {
               merge_invariant = q.within.merge_invariant;
               clean = q.within.clean;
               own = own_more;
-              beyond =
-                  put_each (λ side (b : Bound). (r : Lines) → MayFollow cmp (key side) b r
-                  → EachKey (AtMost cmp k) (key side) r) s n.bound q.d
-                  (λ r c. rw l.is at (n.may_follow r c))
-                  q.within.beyond;
-              under = put_each (λ side (b : Bound). IsUnder cmp b k) s n.bound q.d
-                  (n.under k (rw l.is (self_at_most cmp o k))) q.within.under;
+              later = put_each (λ side. IsLater cmp (key side) (AtLeast k)) s n.bound q.d (rw l.is at n.later)
+                  q.within.later;
             };
-            keeps = group_store_next s (cursor s) (l.slots s) q.keeps n;
+            keeps = group_store_next s (cursor s) (q.sides s).slots q.keeps n;
             wrote = wrote;
             at = q.at;
           };

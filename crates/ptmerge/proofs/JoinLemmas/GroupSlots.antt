@@ -2,19 +2,18 @@
 -- line or copying one changes one slot, so the bytes stored are the sum of both parts. The group is a part of the lines
 -- of one key, so it is bounded by the largest group.
 use Rattle.ptmerge.proofs
-use proofs.Common.{◌≡◌, ⊎_elim, inl, ℕ, ◌+◌, ◌-◌, ◌≤◌, ◌<◌, suc, true, false, length-drop, List, [], ◌∷◌, ◌++◌}
-use proofs.Common.{length, map, drop, get_or, set, max, refl, ap, ◌∙◌, arith, ◌*◌, Option, append_assoc}
-use proofs.Common.{length-append, length-set, drop_more, drop-set-add, take_more, drop-set-lt, set_at}
-use proofs.Common.{take_at, sum_by_push, sum_by-append, sum_by-cons, Slots, line, total_bytes, with_line, with_denied}
-use proofs.Common.{unlines, max_length, total_bytes_set, Join, ClearGroupPost, EnsureSlotPost, CopyToGroupErrPost}
-use proofs.Common.{group, CopyToGroupPost, entry, join_fields, pair_entries, max_over_keys, max_group_bytes}
-use proofs.Common.{max_group_lines, Lines, lines_with_key, Reader, Side, First, Second, Sorted, Cmp, Key, HasSlots}
-use proofs.Common.{with_side}
+use proofs.Common.{◌≡◌, ⊎_elim, inl, ℕ, ◌+◌, ◌-◌, ◌≤◌, ◌<◌, suc, true, false, length-drop, List, [], ◌∷◌, ◌++◌, length}
+use proofs.Common.{map, drop, get_or, set, max, refl, ap, ◌∙◌, arith, ◌*◌, Option, append_assoc, length-append}
+use proofs.Common.{length-set, drop_more, drop-set-add, take_more, drop-set-lt, set_at, take_at, sum_by_push}
+use proofs.Common.{sum_by-append, sum_by-cons, Slots, line, total_bytes, with_line, with_denied, unlines, max_length}
+use proofs.Common.{total_bytes_set, Join, ClearGroupPost, EnsureSlotPost, CopyToGroupErrPost, group, CopyToGroupPost}
+use proofs.Common.{entry, join_fields, pair_entries, max_over_keys, max_group_bytes, max_group_lines, Lines}
+use proofs.Common.{lines_with_key, Reader, Side, First, Second, Sorted, Key, HasSlots, with_side, MergeTool}
 use proofs.JoinLemmas.PartialWrite.{partial_starts}
 use proofs.MergeLemmas.Slots.{line_other, HasLines, StoreOfLines, has_lines_total, set_line, put_each, put_same}
+use proofs.MergeLemmas.Slots.{low_slot}
 use proofs.MergeLemmas.Orders.{EachKey, same_bytes}
 use proofs.MergeLemmas.Exits.{SideAfterNext}
-use proofs.MergeLemmas.Step.{own_slots, slot_low}
 use Rattle.std.proofs.Math.ListN.{get_or-append}
 use Rattle.std.proofs.lemmas.Grind.{common_steps}
 use Rattle.std.proofs.Common.{rules}
@@ -174,14 +173,6 @@ group_store_starts = grind (arith, drop_total)
 abbrev pub AllSlots : (Side → Sorted) → Type 0
 AllSlots cursor = (side : Side) → HasSlots side (cursor side)
 
--- the slots of an input are among the first four
-pub record AreLow (cursor : Sorted) : Type 0 where
-  pub current : cursor.current_slot < 4
-  pub previous : cursor.previous_slot < 4
-
-pub low_slot : (s : Side) (cursor : Sorted) → HasSlots s cursor → AreLow cursor
-low_slot s cursor h = grind (arith, own_slots, slot_low)
-
 -- the list `now` continues the list `was`
 pub record Extends (was now : Lines) : Type 0 where
   pub more : Lines
@@ -223,11 +214,11 @@ pub put_more : (s : Side) (ls : Side → Lines) (now more : Lines) → now ≡ l
 put_more = search rules
 
 -- an input advances
-pub group_store_next : {most : GroupBounds} {own : Key} {before store after : Slots} {ls : Side → Lines} {g : Lines}
-    {cmp : Cmp} {end : ℕ} {old new : Reader} {next : Sorted}
-    {last : Option (List ℕ)} (s : Side) (cursor : Sorted)
-    → HasSlots s cursor → GroupStore most before store ls g → (n : SideAfterNext end cmp own old new next
-    cursor.previous_slot store after (ls s) last) → GroupStore most before after (with_side s n.now_ls ls) g
+pub group_store_next : {most : GroupBounds} {tool : MergeTool} {before store after : Slots} {ls : Side → Lines}
+    {g : Lines} {old new : Reader} {next : Sorted} {last : Option (List ℕ)} (s : Side) (cursor : Sorted)
+    → HasSlots s cursor → GroupStore most before store ls g
+    → (n : SideAfterNext tool s old new next cursor.previous_slot store after (ls s) last)
+    → GroupStore most before after (with_side s n.now_ls ls) g
 group_store_next {ls = ls} s cursor slots k n = group_store_line s cursor slots n.bytes k
     (put_each (λ side (l : Lines). max_length (ls side) ≤ max_length l) s n.now_ls ls n.longer (λ side. omega arith))
     (rw (put_same s n.now_ls ls) n.fits)

@@ -2,35 +2,35 @@
 -- merge. An iteration there writes one unpaired line, opens a group or ends the loop. The remaining work, three times
 -- the reads that are left plus the rank of the phase, decreases in each iteration.
 use Rattle.ptmerge.proofs
-use proofs.Common.{NextOkPost, ◌≡◌, ℕ, Bool, true, false, cond, List, [], ◌∷◌, ◌++◌, map, refl, ap, sym, ◌∙◌, ◌+◌}
-use proofs.Common.{◌*◌, ◌≤◌, ◌<◌, Ok, Err, length, subst, arith, append-nil, flat_map-append, Join, Side, First}
-use proofs.Common.{Second, unpaired_entries1, unpaired_entry, join_with, join_entries, join_key, pair_entries, Lines}
-use proofs.Common.{entries_by_key, Cmp, Key, Output, PushEffect, Reader, Slots, line, unlines, MergeFault, Sorted}
-use proofs.Common.{Head, Ended, IsReadyToContinue, AdvanceOkPost, MergeState, MergePost, merge_state, HasSlots, both}
-use proofs.Common.{with_side, lines_of, Memory, HaveEqualKeys, HasOnlyLeastKey, IsDisorderDecided, IsReaderOf}
-use proofs.Common.{AreValidCursors, StartOkPost, merge_inputs, ClearFourSlotsPost, ◌⊎◌, MergeRunPre, JoinStepPre}
-use proofs.Common.{AdvancePre, push_nothing, other, if◌then◌else◌, max_group_bytes, max_group_lines, inl, inr}
-use proofs.Common.{ReadGroupLineOkPost, ReadGroupLinePost, IsGroup, ClearGroupPost, group_end_slot, group_first_slot}
-use proofs.Common.{group, JoinLinePre, ⊎_elim, ◌-◌, ◌==◌, push_trans, nat_tests, length_push, unlines-append}
-use proofs.Common.{append_assoc, merged_entries, nil_from_length, CopyToGroupPost}
-use proofs.MergeLemmas.Step.{BetweenSteps, between_next, advance_pre, reads_less, open_merge, slots_of, wrote_as}
-use proofs.MergeLemmas.Step.{IsLineByLine, alone, wrote_alone, alone_breaks, IsAbove, reads_ahead, place_is}
-use proofs.MergeLemmas.Step.{LoopInvariant, CursorsInvariant, EndsIfFails, runs_on, n, ends_well, ends_fallen}
-use proofs.MergeLemmas.Step.{start_ok, next_keeps_slot_count, valid_cursors_kept, wrote_and_sent}
-use proofs.JoinLemmas.GroupInvariant.{IsPairTool, IsAtKey, head_of, JoinCall, state_after_read, GroupState}
-use proofs.JoinLemmas.GroupInvariant.{store_between_groups, IsAtGroupLine, AdvancedGroup, closes, continues_key}
-use proofs.JoinLemmas.GroupInvariant.{leaves_key, advanced_group, group_breaks, with_added_line, is_past, next_slots}
-use proofs.JoinLemmas.GroupInvariant.{others_stay, passing_now, extends, front_is_not_all, has_entries, group_begun}
-use proofs.JoinLemmas.GroupInvariant.{same_cursors, group_read_facts, starts, none_failed, within_more, group_kept}
-use proofs.JoinLemmas.GroupInvariant.{last_stays, own_more, size_of, starts_none, with_head, OutputStartsWith}
-use proofs.JoinLemmas.GroupInvariant.{group_written, group_comes_first}
-use proofs.MergeLemmas.Invariant.{all_keys, AtLeast, MergeInvariant, Bound}
-use proofs.JoinLemmas.GroupSlots.{GroupBounds, end_within, pair_of, GroupStore, group_store_next, group_store_starts}
-use proofs.JoinLemmas.GroupSlots.{group_is, kept_line, group_store_cleared, low_slot, group_one, InGroup}
-use proofs.JoinLemmas.GroupSlots.{largest_group, CopiedLine, group_in, group_store_copied}
-use proofs.MergeLemmas.Orders.{IsKeyOrder, same_bytes, self_at_most, EachKey-at}
-use proofs.MergeLemmas.Exits.{at_current_line, IsOpenMerge as OpenMerge, ComeFirst, exit_is_merge_post, continues}
-use proofs.MergeLemmas.Exits.{none_missing, both_begun}
+use proofs.Common.{NextOkPost, ◌≡◌, ℕ, Bool, true, false, cond, List, [], ◌∷◌, ◌++◌, map, refl, ap, sym, ◌∙◌, ◌+◌, ◌*◌}
+use proofs.Common.{◌≤◌, ◌<◌, Ok, Err, length, subst, arith, append-nil, flat_map-append, Join, Side, First, Second}
+use proofs.Common.{unpaired_entries1, unpaired_entry, join_with, join_entries, join_key, pair_entries, Lines}
+use proofs.Common.{entries_by_key, Cmp, Key, Output, PushEffect, Reader, Slots, line, unlines, MergeFault, Sorted, Head}
+use proofs.Common.{Ended, IsReadyToContinue, AdvanceOkPost, MergeState, MergePost, merge_state, both, with_side}
+use proofs.Common.{lines_of, Memory, HaveEqualKeys, HasOnlyLeastKey, IsDisorderDecided, ClearFourSlotsPost, ◌⊎◌}
+use proofs.Common.{MergeRunPre, JoinStepPre, AdvancePre, push_nothing, if◌then◌else◌, max_group_bytes, max_group_lines}
+use proofs.Common.{inl, inr, ReadGroupLineOkPost, ReadGroupLinePost, IsGroup, ClearGroupPost, group_end_slot}
+use proofs.Common.{group_first_slot, group, JoinLinePre, ⊎_elim, ◌-◌, ◌==◌, push_trans, nat_tests, length_push}
+use proofs.Common.{unlines-append, append_assoc, merged_entries, nil_from_length}
+use Rattle.ptmerge.specs.JoinGroup.{IsInItsSlot, IsCopiedToGroup}
+use proofs.MergeLemmas.Step.{BetweenSteps, between_next, advance_pre, reads_less, open_merge, wrote_as, alone}
+use proofs.MergeLemmas.Step.{wrote_alone, alone_breaks, IsAbove, reads_ahead, place_is, LoopInvariant, CursorsInvariant}
+use proofs.MergeLemmas.Step.{EndsIfFails, runs_on, n, ends_well, ends_fallen, next_keeps_slot_count, valid_cursors_kept}
+use proofs.MergeLemmas.Step.{wrote_and_sent, others_stay}
+use proofs.MergeLemmas.Exits.{IsLineByLine, at_current_line, IsOpenMerge as OpenMerge, ComeFirst, exit_is_merge_post}
+use proofs.MergeLemmas.Exits.{continues, none_missing, both_begun}
+use proofs.JoinLemmas.GroupInvariant.{IsPairTool, head_of, JoinCall, state_after_read, GroupState, store_between_groups}
+use proofs.JoinLemmas.GroupInvariant.{IsAtGroupLine, AdvancedGroup, closes, continues_key, leaves_key, advanced_group}
+use proofs.JoinLemmas.GroupInvariant.{group_breaks, with_added_line, is_past, passing_now, extends, front_is_not_all}
+use proofs.JoinLemmas.GroupInvariant.{has_entries, group_begun, same_cursors, group_read_facts, starts, none_failed}
+use proofs.JoinLemmas.GroupInvariant.{within_more, group_kept, last_stays, own_more, size_of, starts_none, with_head}
+use proofs.JoinLemmas.GroupInvariant.{OutputStartsWith, group_written, group_comes_first}
+use proofs.MergeLemmas.Invariant.{all_keys, AtLeast, MergeInvariant, Bound, same_bound}
+use proofs.MergeLemmas.Slots.{low_slot}
+use proofs.JoinLemmas.GroupSlots.{GroupBounds, end_within, pair_of, GroupStore, group_store_next, group_is, kept_line}
+use proofs.JoinLemmas.GroupSlots.{group_store_cleared, group_one, InGroup, largest_group, CopiedLine, group_in}
+use proofs.JoinLemmas.GroupSlots.{group_store_copied}
+use proofs.MergeLemmas.Orders.{IsKeyOrder, same_bytes, EachKey-at}
 use proofs.MergeLemmas.LinesRead.{Continues}
 use Rattle.std.specs.List.{flat_map}
 use Rattle.ptmerge.specs.declared.tools.join.JoinPhase.{JoinPhase}
@@ -67,7 +67,6 @@ module _ (job : Join) (cmp : Cmp) (key : Side → Key) where
 
   pub join_pairs : IsPairTool (join_with job cmp key) most_in_group (pair_entries job)
   join_pairs = record {
-    alone = is_line_by_line;
     none = λ k g. cond_of_empty job.pairs;
     more = λ k f g c.
         let each = λ (a : List ℕ). map (pair_of job k a) c in
@@ -103,7 +102,7 @@ pub record ReadGroup (call : JoinCall) (now : MergeState) (cursor : Side → Sor
   pub kept : Lines
   pub q : GroupState call now cursor end k (both [] g) kept
   pub copied : kept ≡ cond call.keeps_groups g []
-  pub heads : (side : Side) → IsAtKey call now cursor k side
+  pub heads : (side : Side) → IsAtGroupLine q side
 
 -- no line of the group is copied, and `last`, the previous line of the second input, stands for all of them: it is the
 -- only one, or no pairs are written
@@ -125,7 +124,7 @@ pub record WritePairs (call : JoinCall) (now : MergeState) (cursor : Side → So
   pub lines_in : IsGroupIn call k (line now.store (cursor Second).previous_slot) kept (g Second)
   pub some : 0 < length (g Second)
   pub above : IsAbove call.cmp (call.key Second) k (q.d Second)
-  pub head : IsAtKey call now cursor k First
+  pub head : IsAtGroupLine q First
 
 -- the invariant in each phase
 abbrev pub PhaseInvariant : JoinCall → JoinPhase → MergeState → (Side → Sorted) → ℕ → Type 0
@@ -147,10 +146,10 @@ pub record IsOpenMerge (job : Join) (cmp : Cmp) (key : Side → Key) (old : Merg
   pub w : OpenMerge (join_with job cmp key) old
   pub keys : (side : Side) (x : List ℕ) → key side x ≡ join_key job side x
 
-pub opened : (job : Join) (cmp : Cmp) (key : Side → Key) {first second : Reader} {out : Output} {store : Slots}
+pub opened : (job : Join) {cmp : Cmp} {key : Side → Key} {first second : Reader} {out : Output} {store : Slots}
     → IsKeyOrder cmp → ((side : Side) (x : List ℕ) → key side x ≡ join_key job side x)
     → MergeRunPre job.terminator first second out store → IsOpenMerge job cmp key (merge_state first second out store)
-opened job cmp key o keys begins = grind (arith, open_merge, begins)
+opened job {cmp} {key} o keys begins = grind (arith, open_merge, begins, is_line_by_line job cmp key)
 
 -- the call
 abbrev pub join_call_of : {job : Join} {cmp : Cmp} {key : Side → Key} {old : MergeState} → IsOpenMerge job cmp key old
@@ -172,34 +171,6 @@ pub record IterationInvariant (job : Join) (cmp : Cmp) (key : Side → Key) (old
   pub between : BetweenSteps key now one two
   pub open between use *
 
--- ---- the start
-
-module _ {job : Join} {cmp : Cmp} {key : Side → Key} {old : MergeState} (a : IsOpenMerge job cmp key old) where
-  pub begins : {first second : Reader} {store : Slots} {one two : Sorted}
-      → StartOkPost key cmp (both one two) (record { reader = old.reader; store = old.store })
-      (merge_inputs first second store)
-      → AreValidCursors key one two store → IsReaderOf one first × IsReaderOf two second
-      → IterationInvariant job cmp key old phases.BetweenGroups (merge_state first second old.out store) one two 4
-  begins {first} {second} {store} {one} {two} starts valid_cursors (reader1, reader2) =
-      let r = start_ok a.w (merge_inputs first second store) (both one two) valid_cursors.first starts in
-      record {
-        opened = a;
-        phased = (
-          record {
-            ls = r.ls;
-            p = r.p;
-            b = r.b;
-            sides = r.sides;
-            merge_invariant = r.merge_invariant;
-            keeps = group_store_starts r.keeps;
-          },
-          refl,
-        );
-        between = (let own_reader : (side : Side) → IsReaderOf (both one two side) (both first second side) =
-            elim [ First ↦ reader1 | Second ↦ reader2 ] in
-            assumption a.w);
-      }
-
 module _ {job : Join} {cmp : Cmp} {key : Side → Key} {old : MergeState} {phase : JoinPhase} {now : MergeState}
     {one two : Sorted} {end : ℕ}
     (t : IterationInvariant job cmp key old phase now one two end) where
@@ -207,9 +178,6 @@ module _ {job : Join} {cmp : Cmp} {key : Side → Key} {old : MergeState} {phase
 
   abbrev call : JoinCall
   call = join_call_of t.opened
-
-  slots : (side : Side) → HasSlots side (both one two side)
-  slots = slots_of t.between
 
   pub end_in : (4 ≤ end) × (end ≤ length now.store.lines)
   end_in = by phase t.phased
@@ -253,8 +221,11 @@ module _ {job : Join} {cmp : Cmp} {key : Side → Key} {old : MergeState} {phase
     r = between.0
 
     lines_before : CursorsInvariant (join_with job cmp key) old now.reader (both one two) now.store r.ls r.p r.b
-    lines_before =
-        record { sides = r.sides; holds = store_between_groups call r.keeps slots; slots = slots }
+    lines_before = record {
+      w = t.opened.w;
+      sides = r.sides;
+      holds = store_between_groups call r.keeps (λ side. (r.sides side).slots);
+    }
 
     -- a step for an unpaired line
     module _ {s : Side} (step : HasOnlyLeastKey cmp key (both one two) now.store s) {new : Output}
@@ -268,17 +239,14 @@ module _ {job : Join} {cmp : Cmp} {key : Side → Key} {old : MergeState} {phase
           → AdvanceOkPost key cmp s one two one2 two2 (now.reader s) reader now.store after new
           → IterationInvariant job cmp key old phase (state_after_read now s reader new after) one2 two2 end
       alone_continues h =
-          let keeps =
-          group_store_next s (both one two s) (slots s) r.keeps (n t.opened.w lines_before s step.status_is h.came) in
-          let (m, _) = wrote_alone t.opened.w lines_before (is_line_by_line job cmp key) step t.clean r.merge_invariant
-          wrote_unpaired in
+          let keeps = group_store_next s (both one two s) (r.sides s).slots r.keeps
+          (n lines_before s step.status_is h.came) in
+          let (m, _) = wrote_alone lines_before step t.clean r.merge_invariant wrote_unpaired in
           iteration_continues {next = phase} s h.continues
-          (rw is (runs_on t.opened.w lines_before s step.status_is h.came keeps m, between.1))
+          (rw is (runs_on lines_before s step.status_is h.came keeps m, between.1))
 
       pub alone_fails : EndsIfFails (join_with job cmp key) old now s (both one two s) new
-      alone_fails =
-          alone_breaks t.opened.w lines_before (is_line_by_line job cmp key) step t.clean r.merge_invariant
-          wrote_unpaired
+      alone_fails = alone_breaks lines_before step t.clean r.merge_invariant wrote_unpaired
 
     -- both inputs have the same key, and a group of it begins
     pub group_opens : HaveEqualKeys cmp key (both one two) now.store
@@ -310,8 +278,7 @@ module _ {job : Join} {cmp : Cmp} {key : Side → Key} {old : MergeState} {phase
                     now.out) (λ i side. bounds side i) r.merge_invariant;
                 clean = t.clean;
                 own = elim [ First ↦ tt | Second ↦ tt ];
-                beyond = λ side l c. c;
-                under = λ side. self_at_most cmp o k;
+                later = λ side. same_bound;
               };
               keeps = r.keeps;
               wrote = rw ((join_pairs job cmp key).none k []) (push_nothing now.out);
@@ -329,11 +296,11 @@ module _ {job : Join} {cmp : Cmp} {key : Side → Key} {old : MergeState} {phase
     module _ {after : Slots} (clear : ClearFourSlotsPost now.store after) where
       pub eof : ((side : Side) → (both one two side).status ≡ Ended)
           → MergePost (join_with job cmp key) old (record now { store = after }) (Ok tt)
-      eof step = ends_well t.opened.w lines_before r.merge_invariant t.clean clear step
+      eof step = ends_well lines_before r.merge_invariant t.clean clear step
 
       pub disordered : {s : Side} {n : ℕ} → IsDisorderDecided cmp key (both one two) now.store s n
           → MergePost (join_with job cmp key) old (record now { store = after }) (Err (faults.Disorder s n))
-      disordered step = ends_fallen t.opened.w lines_before r.merge_invariant t.clean clear step
+      disordered step = ends_fallen lines_before r.merge_invariant t.clean clear step
 
   -- ---- reading the group
 
@@ -354,8 +321,9 @@ module _ {job : Join} {cmp : Cmp} {key : Side → Key} {old : MergeState} {phase
     abbrev y : List ℕ
     y = line now.store two.current_slot
 
-    at_second : IsAtGroupLine a.q Second
-    at_second = record { slots = slots; at_key = a.heads Second }
+    -- the group with the current line of the second input
+    abbrev grown : Lines
+    grown = a.g ++ y ∷ []
 
     -- the output buffered before the group was written out
     module _ {out : Output} (written_out : PushEffect now.out out []) where
@@ -366,139 +334,131 @@ module _ {job : Join} {cmp : Cmp} {key : Side → Key} {old : MergeState} {phase
       -- the second input advanced
       module _ {reader : Reader} {two2 : Sorted} {made : Slots}
           (comes : NextOkPost (key Second) cmp two two2 (now.reader Second) reader now.store made) where
-        abbrev later : Slots → MergeState
-        later after = state_after_read now Second reader out after
+        on_second : AdvancedGroup (a.heads Second) comes out
+        on_second = advanced_group (a.heads Second) comes (rw (call.laws.none a.k grown) wrote_none)
 
-        abbrev cursors : Side → Sorted
-        cursors = with_side Second two2 (both one two)
-
-        on_second : AdvancedGroup at_second comes out
-        on_second = advanced_group at_second comes (rw (call.laws.none a.k (a.g ++ y ∷ [])) wrote_none)
-
-        inside : (l : Lines) → InGroup (largest_group (key Second)) (a.g ++ y ∷ []) (on_second.group.ls Second ++ l)
+        inside : (l : Lines) → InGroup (largest_group (key Second)) grown (on_second.group.ls Second ++ l)
         inside l = rw (
           on_second.more.is,
           append_assoc (a.q.ls Second) on_second.more.more l,
-          with_head at_second,
+          with_head (a.heads Second),
           ← append_assoc (a.q.p Second) a.g (y ∷ []),
         )
-            (group_in (key Second) a.k (a.q.p Second) a.g y (on_second.more.more ++ l) (own_more at_second Second)
-            (a.heads Second).is)
+            (group_in (key Second) a.k (a.q.p Second) a.g y (on_second.more.more ++ l)
+            (own_more (a.heads Second) Second) (a.heads Second).is)
 
-        -- the first four slots are unchanged
+        -- the current lines keep their slots in a store with the same first slots
         module _ (after : Slots) (same : (i : ℕ) → i < 4 → line after i ≡ line made i) where
           key1_on : key First (line after one.current_slot) ≡ a.k
-          key1_on = let (stays, _) = others_stay at_second comes in
-              rw (same one.current_slot (low_slot First one (slots First)).current, stays) (a.heads First).is
+          key1_on = rw (
+            same one.current_slot (low_slot First one (a.q.sides First).slots).current,
+            (others_stay o a.q.sides Second (a.heads Second).head comes).0,
+          ) (a.heads First).is
 
           stays : line after two2.current_slot ≡ line made two2.current_slot
-          stays = same _ (low_slot Second two2 (next_slots at_second comes Second)).current
-
-          pairs_by : {to : ℕ} {kept : Lines} → GroupState call (later after) cursors to a.k (both [] (a.g ++ y ∷ []))
-              kept → two2.same ≡ false
-              → IsGroupIn call a.k (line after two2.previous_slot) kept (a.g ++ y ∷ [])
-              → WritePairs call (later after) cursors to
-          pairs_by {kept = kept} q other lines_in = record {
-            k = a.k;
-            g = both [] (a.g ++ y ∷ []);
-            kept = kept;
-            q = q;
-            lines_in = lines_in;
-            some = omega (arith, length_push a.g y);
-            above = is_past q Second (λ e is. leaves_key at_second comes other e (rw stays at is));
-            head = record { head = (a.heads First).head; is = key1_on };
-          }
-
-          reads_by : {to : ℕ} {kept : Lines} → GroupState call (later after) cursors to a.k (both [] (a.g ++ y ∷ []))
-              kept → two2.same ≡ true
-              → kept ≡ cond call.keeps_groups (a.g ++ y ∷ []) []
-              → ReadGroup call (later after) cursors to
-          reads_by {kept = kept} q more copied = record {
-            k = a.k;
-            g = a.g ++ y ∷ [];
-            kept = kept;
-            q = q;
-            copied = copied;
-            heads = elim [
-              | First ↦ record { head = (a.heads First).head; is = key1_on }
-              | Second ↦ (let (head, is) = continues_key at_second comes more in
-                  record { head = head; is = rw stays is })
-            ];
-          }
+          stays = same _ (low_slot Second two2 (on_second.group.sides Second).slots).current
 
         -- the pairs of the first input's current line and the group are not written yet
         pairs_are_missing : call.keeps_groups ≡ true → (all : Side → Lines)
             → ((side : Side) → Continues (with_side Second reader now.reader side) (on_second.group.ls side) (all side))
             → ¬ (merged_entries call.tool all ≡ entries_by_key call.tool all_keys on_second.group.p ++ [])
         pairs_are_missing keeps all w =
-            let first : IsAtGroupLine on_second.group First = record {
-              slots = next_slots at_second comes;
-              at_key = record { head = (a.heads First).head; is = key1_on made (λ i low. refl) };
-            } in
-            front_is_not_all call.w (within_more first) (later made) (passing_now first) all w
-            (has_entries call (within_more first) keeps
+            let first : IsAtGroupLine on_second.group First =
+            record { head = (a.heads First).head; is = key1_on made (λ i low. refl) } in
+            front_is_not_all call.w (within_more first) (state_after_read now Second reader out made)
+            (passing_now first) all w (has_entries call (within_more first) keeps
             (elim [ First ↦ omega arith | Second ↦ omega (arith, length_push a.g y) ]))
 
         -- the previous line stands for the group, if none is copied
-        one_for_all : a.kept ≡ [] → IsOneForAll call a.k (line made two2.previous_slot) a.kept (a.g ++ y ∷ [])
-        one_for_all = grind (arith, last_stays, at_second, a, all_copied)
+        one_for_all : a.kept ≡ [] → IsOneForAll call a.k (line made two2.previous_slot) a.kept grown
+        one_for_all = grind (arith, last_stays, a.heads Second, a, all_copied)
 
-        -- the previous line was copied, too
-        module _ {after : Slots} (keeps : call.keeps_groups ≡ true)
-            (kept : CopyToGroupPost made after two2.previous_slot end) where
-          kept_too : CopiedLine on_second.group.keeps after y
-          kept_too = group_store_copied _
-              on_second.group.at (low_slot Second two2 (next_slots at_second comes Second)).previous kept
-              (last_stays at_second comes)
-              (λ l. rw (all_copied keeps) (call.laws.largest keeps _ _ (inside l)))
+        -- the group after the line was added to it, with its copied lines
+        record GrownGroup (after : Slots) (to : ℕ) : Type 0 where
+          kept : Lines
+          q : GroupState call (state_after_read now Second reader out after) (with_side Second two2 (both one two)) to
+              a.k (both [] grown) kept
+          same : (i : ℕ) → i < 4 → line after i ≡ line made i
+          copied : two2.same ≡ true → kept ≡ cond call.keeps_groups grown []
+          lines_in : IsGroupIn call a.k (line after two2.previous_slot) kept grown
 
-          group_on : GroupState call (later after) cursors (end + 1) a.k (both [] (a.g ++ y ∷ [])) (a.kept ++ y ∷ [])
-          group_on = group_kept on_second.group (next_slots at_second comes) kept_too.same kept_too.store_holds
-              (omega (arith, a.q.at, length_push a.kept y))
-
-          all_copied_too : a.kept ++ y ∷ [] ≡ a.g ++ y ∷ []
-          all_copied_too = cc (all_copied keeps)
-
-          reads_more : two2.same ≡ true
-              → ReadGroup call (later after) cursors
-              (end + 1)
-          reads_more more =
-              reads_by after kept_too.same group_on more
-              (all_copied_too ∙ sym (λ i. cond (keeps i) (a.g ++ y ∷ []) []))
+        grown_group : {after : Slots} {to : ℕ}
+            → IsInItsSlot call.keeps_groups two2 made after end to
+            ⊎ IsCopiedToGroup call.keeps_groups two2 made after end to → GrownGroup after to
+        grown_group (inl e) =
+            let none = ⊎_elim none_copied (λ (_, four). nil_from_length a.kept (omega (arith, four, a.q.at))) e.stays in
+            rw (e.end_is, e.store_is) (record {
+              kept = a.kept;
+              q = on_second.group;
+              same = λ i low. refl;
+              copied = λ same. ⊎_elim (λ without. none ∙ sym (λ i. cond (without i) grown [])) (λ (differs, _). cc)
+                  e.stays;
+              lines_in = inr (one_for_all none);
+            })
+        grown_group {after} (inr e) =
+            let all : a.kept ++ y ∷ [] ≡ grown = cc (all_copied e.keeps) in
+            let new : CopiedLine on_second.group.keeps after y = group_store_copied _ on_second.group.at
+            (low_slot Second two2 (on_second.group.sides Second).slots).previous e.copied
+            (last_stays (a.heads Second) comes)
+            (λ l. rw (all_copied e.keeps) (call.laws.largest e.keeps _ _ (inside l))) in
+            rw e.end_is (record {
+              kept = a.kept ++ y ∷ [];
+              q = group_kept on_second.group new.same new.store_holds (omega (arith, a.q.at, length_push a.kept y));
+              same = new.same;
+              copied = λ same. all ∙ sym (λ i. cond (e.keeps i) grown []);
+              lines_in = inl all;
+            })
 
       module _ {one2 two2 : Sorted} {reader : Reader} {after : Slots} {to : ℕ}
           (h : ReadGroupLineOkPost call.keeps_groups (key Second) cmp two two2 (now.reader Second) reader now.store
           after end to) (continues : IsReadyToContinue key Second one two one2 two2 reader after out) where
         pub read_group_continues : two2.same ≡ true
             → IterationInvariant job cmp key old phase (state_after_read now Second reader out after) one2 two2 to
-        read_group_continues same = iteration_continues {next = phase} Second continues (rw is (⊎_elim (λ e.
-            let without = ⊎_elim (λ none. none) (λ (differs, _). cc) e.stays in
-            rw (e.end_is, e.store_is) (reads_by h.came _ (λ i low. refl) (on_second h.came).group same
-            (none_copied without ∙ sym (λ i. cond (without i) (a.g ++ y ∷ []) []))))
-            (λ e. rw e.end_is (reads_more h.came e.keeps e.copied same)) h.kept))
+        read_group_continues same =
+            let r = grown_group h.came h.kept in
+            let (head, has_key) = continues_key (a.heads Second) h.came same in
+            iteration_continues {next = phase} Second continues (rw is (record {
+              k = a.k;
+              g = grown;
+              kept = r.kept;
+              q = r.q;
+              copied = r.copied same;
+              heads = elim [
+                | First ↦ record { head = (a.heads First).head; is = key1_on h.came after r.same }
+                | Second ↦ record { head = head; is = rw (stays h.came after r.same) has_key }
+              ];
+            }))
 
         pub write_pairs_next : two2.same ≡ false → IterationInvariant job cmp key old phases.WritePairs
             (state_after_read now Second reader out after) one2 two2 to
-        write_pairs_next same = iteration_continues {next = phases.WritePairs} Second continues (⊎_elim (λ e.
-            let none = ⊎_elim none_copied (λ (_, four). nil_from_length a.kept (omega (arith, four, a.q.at))) e.stays in
-            rw (e.end_is, e.store_is) (pairs_by h.came _ (λ i low. refl) (on_second h.came).group same
-            (inr (one_for_all h.came none))))
-            (λ e. rw e.end_is (pairs_by h.came _ (kept_too h.came e.keeps e.copied).same
-            (group_on h.came e.keeps e.copied) same (inl (all_copied_too h.came e.keeps e.copied)))) h.kept)
+        write_pairs_next same =
+            let r = grown_group h.came h.kept in
+            iteration_continues {next = phases.WritePairs} Second continues (record {
+              k = a.k;
+              g = both [] grown;
+              kept = r.kept;
+              q = r.q;
+              lines_in = r.lines_in;
+              some = omega (arith, length_push a.g y);
+              above = is_past r.q Second
+                  (λ e has. leaves_key (a.heads Second) h.came same e (rw (stays h.came after r.same) at has));
+              head = record { head = (a.heads First).head; is = key1_on h.came after r.same };
+            })
+
+      read_fails : EndsIfFails call.tool old now Second two out
+      read_fails = group_breaks (a.heads Second) (starts_none call (within_more (a.heads Second))) wrote_none
 
       -- a line could not be copied, or the next one could not be read
       pub read_group_fails : {two2 : Sorted} {reader : Reader} {after : Slots} {fault : MergeFault}
           → ReadGroupLinePost call.keeps_groups (key Second) cmp two two2 (now.reader Second) reader now.store after out
           end (Err fault) → MergePost (join_with job cmp key) old (state_after_read now Second reader out after)
           (Err fault)
-      read_group_fails (inl e) = group_breaks at_second (starts_none call (within_more at_second)) wrote_none _ _ _
-          (inl e)
-      read_group_fails (inr (fine, inr e)) =
-          group_breaks at_second (starts_none call (within_more at_second)) wrote_none _ _ _ (inr (fine, e))
+      read_group_fails (inl e) = read_fails _ _ _ (inl e)
+      read_group_fails (inr (fine, inr e)) = read_fails _ _ _ (inr (fine, e))
       read_group_fails {reader = reader} {after} (inr (fine, inl e)) =
           let q = (on_second e.came).group in
           let new = state_after_read now Second reader out after in
-          let lag = group_written call.w q.within [] (rw (call.laws.none a.k (a.g ++ y ∷ [])) at q.wrote) in
+          let lag = group_written call.w q.within [] (rw (call.laws.none a.k grown) at q.wrote) in
           let first : ComeFirst call.tool (with_side Second reader now.reader) q.ls
           (entries_by_key call.tool all_keys q.p ++ []) =
           λ all more. group_comes_first call.w q.within new (group_read_facts q) all more
@@ -560,7 +520,7 @@ module _ {job : Join} {cmp : Cmp} {key : Side → Key} {old : MergeState} {phase
         (λ h. rw (
           is_alone h.none,
           group_one now.store two.previous_slot
-              (omega (arith, state.q.keeps.four, (low_slot Second two (slots Second)).previous)),
+              (omega (arith, state.q.keeps.four, (low_slot Second two (state.q.sides Second).slots).previous)),
         ) (h.same_pairs f))
         state.lines_in
 
@@ -574,9 +534,6 @@ module _ {job : Join} {cmp : Cmp} {key : Side → Key} {old : MergeState} {phase
 
     abbrev z : Lines
     z = line now.store one.current_slot ∷ []
-
-    at_first : IsAtGroupLine state.q First
-    at_first = record { slots = slots; at_key = state.head }
 
     module _ {new : Output}
         (pushed : PushEffect now.out new (unlines (now.reader First).terminator
@@ -593,15 +550,15 @@ module _ {job : Join} {cmp : Cmp} {key : Side → Key} {old : MergeState} {phase
 
       pairs_begin : OutputStartsWith (join_with job cmp key) (with_added_line now (both one two) First state.g)
           state.q.d state.k (pair_entries job state.k (state.g First ++ z) (state.g Second))
-      pairs_begin = starts call (within_more at_first) state.some state.above
+      pairs_begin = starts call (within_more state.head) state.some state.above
 
       pub pair_fails : EndsIfFails (join_with job cmp key) old now First one new
-      pair_fails = group_breaks at_first pairs_begin wrote_more
+      pair_fails = group_breaks state.head pairs_begin wrote_more
 
       module _ {one2 two2 : Sorted} {reader : Reader} {after : Slots}
           (h : AdvanceOkPost key cmp First one two one2 two2 (now.reader First) reader now.store after new) where
-        on_first : AdvancedGroup at_first h.came new
-        on_first = advanced_group at_first h.came wrote_more
+        on_first : AdvancedGroup state.head h.came new
+        on_first = advanced_group state.head h.came wrote_more
 
         above_on : IsAbove cmp (key Second) state.k (on_first.group.d Second)
         above_on = rw on_first.bound state.above
@@ -616,10 +573,10 @@ module _ {job : Join} {cmp : Cmp} {key : Side → Key} {old : MergeState} {phase
           g = with_added_line now (both one two) First state.g;
           kept = state.kept;
           q = on_first.group;
-          lines_in = let (_, stays) = others_stay at_first h.came in rw stays state.lines_in;
+          lines_in = rw (others_stay o state.q.sides First state.head.head h.came).1 state.lines_in;
           some = state.some;
           above = above_on;
-          head = let (head, is) = continues_key at_first h.came same in record { head = head; is = is };
+          head = let (head, is) = continues_key state.head h.came same in record { head = head; is = is };
         }))
 
         pub group_closed : {cleared : Slots} → ClearGroupPost after cleared end → one2.same ≡ false
@@ -635,12 +592,13 @@ module _ {job : Join} {cmp : Cmp} {key : Side → Key} {old : MergeState} {phase
                 ls = q.ls;
                 p = λ side. q.p side ++ with_added_line now (both one two) First state.g side;
                 b = q.d;
-                sides = same_cursors call.tool q.sides (next_slots at_first h.came) (λ i low. clear.others i (inl low));
+                sides = same_cursors call.tool q.sides (omega (arith, clear.slots, q.keeps.four))
+                    (λ i low. clear.others i (inl low));
                 merge_invariant = closes call q.within (elim [
                   | First ↦ omega (arith, length_push (state.g First) (line now.store one.current_slot))
                   | Second ↦ state.some
                 ])
-                    (elim [ First ↦ is_past q First (leaves_key at_first h.came same) | Second ↦ above_on ]) q.wrote;
+                    (elim [ First ↦ is_past q First (leaves_key state.head h.came same) | Second ↦ above_on ]) q.wrote;
                 keeps = group_store_cleared q.keeps q.at clear;
               },
               refl,

@@ -3,8 +3,7 @@
 -- fails leaves a prefix, and the last call completes them.
 use Rattle.ptmerge.proofs
 use proofs.Common.{◌≡◌, ⊎_elim, false, ℕ, List, ◌++◌, Result, Ok, Err, IsErrAnd, true, Output, PushPost, PushEffect}
-use proofs.Common.{push_trans, WriteBytesPost, [], ◌∷◌, refl, append_assoc, push_past_failure, arith}
-use proofs.Common.{push_nothing}
+use proofs.Common.{push_trans, WriteBytesPost, [], ◌∷◌, refl, append_assoc, push_past_failure, arith, push_nothing}
 use Rattle.std.proofs.lemmas.Bool.{cases_Bool}
 use Rattle.ptlines.proofs.Push.{push_after_failure}
 use Rattle.std.specs.List.{flat_map}

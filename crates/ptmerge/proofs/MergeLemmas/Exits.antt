@@ -1,28 +1,28 @@
 -- Each input of a merge, and the exits of a tool. At an exit the lines read, the processed ones and a bound on the
 -- others are known for each input, and the contract of the tool follows from these and from the output.
 use Rattle.ptmerge.proofs
-use proofs.Common.{◌≡◌, ◌≢◌, inl, inr, ℕ, ◌+◌, ◌<◌, ◌≤◌, ◌&&◌, Bool, true, false, cond, List, [], ◌∷◌, ◌++◌, Option}
-use proofs.Common.{Some, None, length, refl, sym, ◌∙◌, ap, subst, arith, bytes_eq, nat_tests, append-nil, length_push}
+use proofs.Common.{◌≡◌, inl, inr, ℕ, ◌+◌, ◌<◌, ◌≤◌, ◌&&◌, Bool, true, false, cond, List, [], ◌∷◌, ◌++◌, Option, Some}
+use proofs.Common.{None, length, refl, sym, ◌∙◌, ap, subst, arith, bytes_eq, nat_tests, append-nil, length_push}
 use proofs.Common.{FillLine, Reader, IsDone, IsSound, Slots, line, with_line, max_length, line_of_with_line, Sorted}
 use proofs.Common.{CursorStatus, Head, Ended, Disorder, Lines, Cmp, Key, is_head, status_at, same_key_at, NextOkPost}
-use proofs.Common.{Result, Err, max, Received, known_lines, Output, ReaderAdvance, unlines, ◌⊎◌, ⊎_elim}
-use proofs.Common.{length-append, Memory, lines, IsLine, advance_trans, append_assoc, push_trans, bounded_lag_after}
-use proofs.Common.{unlines-append, MergeFault, Write, Side, First, Second, MergeTool, entries_by_key, decided_output}
-use proofs.Common.{disorder, first_disorder, lines_of, merge_output, merged_entries, MergeState, MergePost, HasNoLine}
-use proofs.Common.{other, reads_nothing, EnsureFourSlotsErrPost, ◌*◌, option_map, CallEnd, ReadFault, CallOutcome}
+use proofs.Common.{Result, Err, max, Received, known_lines, Output, ReaderAdvance, unlines, ◌⊎◌, ⊎_elim, length-append}
+use proofs.Common.{Memory, lines, IsLine, advance_trans, append_assoc, push_trans, bounded_lag_after, unlines-append}
+use proofs.Common.{MergeFault, Write, Side, First, Second, MergeTool, entries_by_key, decided_output, disorder}
+use proofs.Common.{first_disorder, lines_of, merge_output, merged_entries, MergeState, MergePost, HasNoLine, other}
+use proofs.Common.{reads_nothing, EnsureFourSlotsErrPost, ◌*◌, option_map, CallEnd, ReadFault, CallOutcome}
 use proofs.Common.{AreAllConsistent, given_before, given_by, CallProgress, DecidedIfReadFailed, call_on_failed_output}
-use proofs.Common.{IsPrefix, total_bytes, both_sides, merge_engine, merge_end, disordered_line}
+use proofs.Common.{merge_state, both, terminator, IsPrefix, total_bytes, both_sides, merge_engine, merge_end}
+use proofs.Common.{disordered_line, HasSlots, length-set}
 use proofs.MergeLemmas.Lag.{decided_at, ProcessedNearly, LinesToCome, LagPoint, back, unsettled, lag_bound}
-use proofs.MergeLemmas.Lag.{unread_decides_nothing, unread_decides_no_disorder}
-use proofs.MergeLemmas.Invariant.{output_of, Bound, NoBound, AtLeast, AfterDisorder, NothingMore, MayFollow, IsUnder}
-use proofs.MergeLemmas.Invariant.{IsSortedUpTo, sorted_up_to_more, is_disordered, IsProcessedPrefix, IsFuture}
-use proofs.MergeLemmas.Invariant.{processed_before_line, processed_all, processed_to_line, LagInvariant}
-use proofs.MergeLemmas.Invariant.{MergeInvariant, IsExactStop, input_split, all_keys, under_fall}
+use proofs.MergeLemmas.Invariant.{output_of, Bound, NoBound, AtLeast, AfterDisorder, NothingMore, IsSortedUpTo}
+use proofs.MergeLemmas.Invariant.{sorted_up_to_more, is_disordered, IsProcessedPrefix, IsFuture, processed_before_line}
+use proofs.MergeLemmas.Invariant.{processed_all, processed_to_line, LagInvariant, MergeInvariant, IsExactStop}
+use proofs.MergeLemmas.Invariant.{input_split, all_keys, under_fall, IsLater, may_follow_none}
 use proofs.MergeLemmas.LinesRead.{LinesRead, HoldsLines, HasBegun, begun_gives_line, one_line_and_block}
 use proofs.MergeLemmas.LinesRead.{lines_read_more, lines_read_eof, Continues, KnownLines, lines_read_known}
 use proofs.MergeLemmas.LinesRead.{lines_read_of_input}
-use proofs.MergeLemmas.Orders.{EachKey, EachKey-weaker, IsKeyOrder, AtMost, at_most_trans, equal_is}
-use proofs.MergeLemmas.Slots.{with_own, line_other}
+use proofs.MergeLemmas.Orders.{EachKey-weaker, IsKeyOrder, at_most_trans, equal_is}
+use proofs.MergeLemmas.Slots.{with_own, line_other, AreLow, low_slot}
 use Rattle.ptlines.proofs.Calls.{call_ends, call_set, call_without_slots}
 use Rattle.ptlines.proofs.MaxLength.{max_length-append}
 use Rattle.std.proofs.Common.{rules}
@@ -45,40 +45,41 @@ MatchesStatus cmp key (Disorder n) cursor store now ls p b =
     b ≡ AfterDisorder (record { last_key = key (line store cursor.previous_slot); line = n })
 
 -- an input at an exit: the lines `ls` are read, `p` of them are processed, and a piece of a further line is read
-pub record ReadFacts (end : ℕ) (cmp : Cmp) (key : Key) (old now new : Reader) (piece : List ℕ) (ls p : Lines)
+pub record ReadFacts (tool : MergeTool) (s : Side) (old now new : Reader) (piece : List ℕ) (ls p : Lines)
     (b : Bound) : Type 0 where
-  pub lines_read : LinesRead end old now ls
+  pub lines_read : LinesRead tool.terminator old now ls
   pub reads : ReaderAdvance now new piece
   pub line : IsLine now.terminator piece
   pub sound : IsSound new
   pub processed_nearly : ProcessedNearly ls p piece
-  pub processed_prefix : IsProcessedPrefix cmp key ls p b
+  pub processed_prefix : IsProcessedPrefix tool.cmp (tool.key s) ls p b
   pub nothing_follows : b ≡ NothingMore → IsDone now
 
 -- the invariant of one input
-pub record SideInvariant (end : ℕ) (cmp : Cmp) (key : Key) (old now : Reader) (cursor : Sorted) (store : Slots)
+pub record SideInvariant (tool : MergeTool) (s : Side) (old now : Reader) (cursor : Sorted) (store : Slots)
     (ls p : Lines) (b : Bound) : Type 0 where
-  pub facts : ReadFacts end cmp key old now now [] ls p b
+  pub facts : ReadFacts tool s old now now [] ls p b
   pub open facts use {lines_read, sound}
   pub begun : HasBegun now ls
   pub number : cursor.number ≡ length ls
-  pub status_is : MatchesStatus cmp key cursor.status cursor store now ls p b
+  pub status_is : MatchesStatus tool.cmp (tool.key s) cursor.status cursor store now ls p b
+  pub slots : HasSlots s cursor
+  pub four : 4 ≤ length store.lines
 
-module _ {end : ℕ} {cmp : Cmp} {key : Key} {old now : Reader} {cursor : Sorted} {store : Slots} {ls p : Lines}
-    {b : Bound}
-    (s : SideInvariant end cmp key old now cursor store ls p b) where
+module _ {tool : MergeTool} {s : Side} {old now : Reader} {cursor : Sorted} {store : Slots} {ls p : Lines} {b : Bound}
+    (i : SideInvariant tool s old now cursor store ls p b) where
   -- other slots may change
   pub side_invariant_kept : {after : Slots} → line after cursor.current_slot ≡ line store cursor.current_slot
-      → line after cursor.previous_slot ≡ line store cursor.previous_slot
-      → SideInvariant end cmp key old now cursor after ls p b
+      → line after cursor.previous_slot ≡ line store cursor.previous_slot → 4 ≤ length after.lines
+      → SideInvariant tool s old now cursor after ls p b
   side_invariant_kept = grind (arith, common_steps)
 
   pub at_current_line : cursor.status ≡ Head
-      → IsAtCurrentLine cmp key cursor.number (line store cursor.current_slot) ls p b
-  at_current_line head = rw head at s.status_is
+      → IsAtCurrentLine tool.cmp (tool.key s) cursor.number (line store cursor.current_slot) ls p b
+  at_current_line head = rw head at i.status_is
 
   -- the current line is processed
-  pub read_facts_after_line : IsKeyOrder cmp → cursor.status ≡ Head → ReadFacts end cmp key old now now [] ls ls b
+  pub read_facts_after_line : IsKeyOrder tool.cmp → cursor.status ≡ Head → ReadFacts tool s old now now [] ls ls b
   read_facts_after_line o head = let h = at_current_line head in grind (arith, processed_to_line)
 
 -- the bound of an input after the last key, or before any line
@@ -98,13 +99,12 @@ reads_left Ended = 0
 reads_left (Disorder n) = 0
 
 -- the input after its next line was read, if all earlier lines are processed
-pub record SideAfterNext (end : ℕ) (cmp : Cmp) (key : Key) (old new : Reader) (cursor : Sorted) (slot : ℕ)
+pub record SideAfterNext (tool : MergeTool) (s : Side) (old new : Reader) (cursor : Sorted) (slot : ℕ)
     (before after : Slots) (ls : Lines) (last : Option (List ℕ)) : Type 0 where
   pub now_ls : Lines
   pub bound : Bound
-  pub side_invariant : SideInvariant end cmp key old new cursor after now_ls ls bound
-  pub may_follow : (r : Lines) → MayFollow cmp key bound r → MayFollow cmp key (bound_after last) r
-  pub under : (k : List ℕ) → IsUnder cmp (bound_after last) k → IsUnder cmp bound k
+  pub side_invariant : SideInvariant tool s old new cursor after now_ls ls bound
+  pub later : IsLater tool.cmp (tool.key s) (bound_after last) bound
   pub bytes : List ℕ
   pub stored : after ≡ with_line before slot bytes
   pub longer : max_length ls ≤ max_length now_ls
@@ -118,20 +118,18 @@ status_after_next : (cmp : Cmp) (key : Key) (last : Option (List ℕ)) (cursor :
     ≡ cond (is_disordered cmp last (key next)) (Disorder (cursor.number + 1)) Head
 status_after_next = grind (arith, nat_tests)
 
--- nothing follows
-nothing_follows : (cmp : Cmp) (key : Key) (last : Option (List ℕ)) (r : Lines) → r ≡ []
-    → MayFollow cmp key (bound_after last) r
-nothing_follows = grind arith
-
 from_next : {cmp : Cmp} (o : IsKeyOrder cmp) (key : Key) (last : Option (List ℕ)) (x : List ℕ)
-    → is_disordered cmp last (key x) ≡ false
-    → ((r : Lines) → EachKey (AtMost cmp (key x)) key r → MayFollow cmp key (bound_after last) r)
-    × ((k : List ℕ) → IsUnder cmp (bound_after last) k → AtMost cmp k (key x))
-from_next o key None x h = (λ r c. tt, λ k u. absurd u)
+    → is_disordered cmp last (key x) ≡ false → IsLater cmp key (bound_after last) (AtLeast (key x))
+from_next o key None x h = record { may_follow = λ r c. tt; under = λ k u. absurd u }
 from_next {cmp} o key (Some j) x h = search (rules, EachKey-weaker, at_most_trans)
 
-module _ (end : ℕ) (cmp : Cmp) (o : IsKeyOrder cmp) (key : Key) (old now new : Reader) (cursor next : Sorted)
-    (before after : Slots) (ls : Lines) where
+module _ (tool : MergeTool) (o : IsKeyOrder tool.cmp) (s : Side) (old now new : Reader) (cursor next : Sorted)
+    (before after : Slots) (ls : Lines) (slots : HasSlots s cursor) (four : 4 ≤ length before.lines) where
+  open tool use {cmp}
+
+  abbrev own : Key
+  own = tool.key s
+
   abbrev next_cursor : CursorStatus → ℕ → Bool → Sorted
   next_cursor status number same = record {
     current_slot = cursor.previous_slot;
@@ -143,67 +141,71 @@ module _ (end : ℕ) (cmp : Cmp) (o : IsKeyOrder cmp) (key : Key) (old now new :
   }
 
   abbrev Goal : Option (List ℕ) → Sorted → Type 0
-  Goal last q = SideAfterNext end cmp key old new q cursor.previous_slot before after ls last
+  Goal last q = SideAfterNext tool s old new q cursor.previous_slot before after ls last
 
   -- at most one more line was read
   at_next : (last : Option (List ℕ)) (more : Lines) (bytes : List ℕ) (q : Sorted) (b : Bound)
-      → LinesRead end old new (ls ++ more) → HasBegun new (ls ++ more) → IsSound new
+      → LinesRead tool.terminator old new (ls ++ more) → HasBegun new (ls ++ more) → IsSound new
+      → (q.current_slot ≡ cursor.previous_slot) × (q.previous_slot ≡ cursor.current_slot)
       → ProcessedNearly (ls ++ more) ls [] → q.number ≡ length (ls ++ more)
-      → IsProcessedPrefix cmp key (ls ++ more) ls b → (b ≡ NothingMore → IsDone new)
-      → MatchesStatus cmp key q.status q after new (ls ++ more) ls b
-      → ((r : Lines) → MayFollow cmp key b r → MayFollow cmp key (bound_after last) r)
-      → ((k : List ℕ) → IsUnder cmp (bound_after last) k → IsUnder cmp b k)
-      → after ≡ with_line before cursor.previous_slot bytes → length bytes ≤ max_length (ls ++ more) → Goal last q
-  at_next = grind (arith, max_length-append, reads_nothing)
+      → IsProcessedPrefix cmp own (ls ++ more) ls b → (b ≡ NothingMore → IsDone new)
+      → MatchesStatus cmp own q.status q after new (ls ++ more) ls b
+      → IsLater cmp own (bound_after last) b → after ≡ with_line before cursor.previous_slot bytes
+      → length bytes ≤ max_length (ls ++ more) → Goal last q
+  at_next = grind (arith, max_length-append, reads_nothing, length-set)
+
+  low : AreLow cursor
+  low = low_slot s cursor slots
 
   -- a line was read
   module _ (e : FillLine now new before after cursor.previous_slot) (sound : IsSound new)
-      (lines_read : LinesRead end old now ls) (number : cursor.number ≡ length ls) (same : Bool) where
-    at_head : (last : Option (List ℕ)) → cursor.previous_slot < length before.lines → IsSortedUpTo cmp key ls last
-        → is_disordered cmp last (key e.line) ≡ false → Goal last (next_cursor Head (cursor.number + 1) same)
-    at_head last within sorted_up_to no_disorder =
+      (lines_read : LinesRead tool.terminator old now ls) (number : cursor.number ≡ length ls) (same : Bool) where
+    at_head : (last : Option (List ℕ)) → IsSortedUpTo cmp own ls last
+        → is_disordered cmp last (own e.line) ≡ false → Goal last (next_cursor Head (cursor.number + 1) same)
+    at_head last sorted_up_to no_disorder =
         let more = sorted_up_to_more e.line sorted_up_to no_disorder in
-        let (may_follow, under) = from_next o key last e.line no_disorder in
-        at_next last (e.line ∷ []) e.line (next_cursor Head (cursor.number + 1) same) (AtLeast (key e.line))
+        let within : cursor.previous_slot < length before.lines = omega (arith, low) in
+        at_next last (e.line ∷ []) e.line (next_cursor Head (cursor.number + 1) same) (AtLeast (own e.line))
         (lines_read_more lines_read e)
-        (inr (omega (arith, length_push ls e.line))) sound (inr (e.line, refl, refl))
+        (inr (omega (arith, length_push ls e.line))) sound (refl, refl) (inr (e.line, refl, refl))
         (omega (arith, number, length_push ls e.line)) (processed_before_line o more) (λ ended. cc)
-        (grind (arith, more, line_of_with_line)) may_follow under e.stored
+        (grind (arith, more, line_of_with_line)) (from_next o own last e.line no_disorder) e.stored
         (omega (arith, max_length-append ls (e.line ∷ [])))
 
-    at_fall : (last : Option (List ℕ)) → cursor.current_slot ≢ cursor.previous_slot → IsSortedUpTo cmp key ls last
-        → IsLastKey key last cursor before → is_disordered cmp last (key e.line) ≡ true
+    at_fall : (last : Option (List ℕ)) → IsSortedUpTo cmp own ls last
+        → IsLastKey own last cursor before → is_disordered cmp last (own e.line) ≡ true
         → Goal last (next_cursor (Disorder (cursor.number + 1)) (cursor.number + 1) same)
-    at_fall None apart sorted_up_to is falls_now = cc
-    at_fall (Some k) apart sorted_up_to (_, is) falls_now =
+    at_fall None sorted_up_to is falls_now = cc
+    at_fall (Some k) sorted_up_to (_, is) falls_now =
         at_next (Some k) (e.line ∷ []) e.line (next_cursor (Disorder (cursor.number + 1)) (cursor.number + 1) same)
         (AfterDisorder (record { last_key = k; line = length ls + 1 }))
-        (lines_read_more lines_read e) (inr (omega (arith, length_push ls e.line))) sound (inr (e.line, refl, refl))
-        (omega (arith, number, length_push ls e.line)) (grind (arith, common_steps, sorted_up_to))
-        (λ ended. cc)
-        (grind (arith, line_other, is)) (nothing_follows cmp key (Some k)) (λ j u. u) e.stored
+        (lines_read_more lines_read e) (inr (omega (arith, length_push ls e.line))) sound (refl, refl)
+        (inr (e.line, refl, refl)) (omega (arith, number, length_push ls e.line))
+        (grind (arith, common_steps, sorted_up_to)) (λ ended. cc) (grind (arith, line_other, is, low))
+        (record { may_follow = λ r none. rw none tt; under = λ j u. u }) e.stored
         (omega (arith, max_length-append ls (e.line ∷ [])))
 
-    at_line : (last : Option (List ℕ)) → cursor.previous_slot < length before.lines
-        → cursor.current_slot ≢ cursor.previous_slot → IsSortedUpTo cmp key ls last → IsLastKey key last cursor before
-        → (t : Bool) → is_disordered cmp last (key e.line) ≡ t
+    at_line : (last : Option (List ℕ)) → IsSortedUpTo cmp own ls last → IsLastKey own last cursor before
+        → (t : Bool) → is_disordered cmp last (own e.line) ≡ t
         → Goal last (next_cursor (cond t (Disorder (cursor.number + 1)) Head) (cursor.number + 1) same)
     at_line = search (rules, at_fall, at_head)
 
-  pub next_invariant : {last : Option (List ℕ)} → cursor.previous_slot < length before.lines
-      → cursor.current_slot ≢ cursor.previous_slot → LinesRead end old now ls → cursor.number ≡ length ls
-      → IsSortedUpTo cmp key ls last → IsLastKey key last cursor before
-      → NextOkPost key cmp cursor next now new before after → Goal last next
-  next_invariant {last} within apart lines_read number sorted_up_to is (inl e) =
-      let same = same_key_at key cmp cursor.number (line before cursor.current_slot) e.next_line.line in
-      rw (e.cursor, status_after_next cmp key last cursor before e.next_line.line is)
-      (at_line e.next_line e.sound lines_read number same last within apart sorted_up_to is _ refl)
-  next_invariant {last} within apart lines_read number sorted_up_to is (inr e) =
+  pub next_invariant : {last : Option (List ℕ)} → LinesRead tool.terminator old now ls → cursor.number ≡ length ls
+      → IsSortedUpTo cmp own ls last → IsLastKey own last cursor before
+      → NextOkPost own cmp cursor next now new before after → Goal last next
+  next_invariant {last} lines_read number sorted_up_to is (inl e) =
+      let same = same_key_at own cmp cursor.number (line before cursor.current_slot) e.next_line.line in
+      rw (e.cursor, status_after_next cmp own last cursor before e.next_line.line is)
+      (at_line e.next_line e.sound lines_read number same last sorted_up_to is _ refl)
+  next_invariant {last} lines_read number sorted_up_to is (inr e) =
       rw e.cursor (at_next last [] [] (next_cursor Ended cursor.number false) NothingMore
-      (simp append-nil (lines_read_eof lines_read e.advance_ok e.done)) (inl e.done) e.sound (inl (append-nil ls))
+      (simp append-nil (lines_read_eof lines_read e.advance_ok e.done)) (inl e.done) e.sound (refl, refl)
+      (inl (append-nil ls))
       (simp append-nil number)
       (simp append-nil (processed_all sorted_up_to)) (λ ended. e.done)
-      (refl, e.done) (nothing_follows cmp key last) (λ k u. tt) e.empty (omega arith))
+      (refl, e.done)
+      (record { may_follow = λ r none. rw none (may_follow_none cmp own (bound_after last)); under = λ k u. tt })
+      e.empty (omega arith))
 
 -- ---- whether the current line has the key of the previous one
 
@@ -264,9 +266,17 @@ abbrev pub HoldsTwoLines : MergeTool → Type 0
 HoldsTwoLines tool = (ls : Side → Lines)
     → (2 * max_length (ls First) + 2 * max_length (ls Second) ≤ tool.size ls) × (4 ≤ tool.slots ls)
 
+-- the output for a key of one input alone is the output of each line
+pub record IsLineByLine (tool : MergeTool) : Type 0 where
+  pub none : (k : List ℕ) → tool.entries k [] [] ≡ []
+  pub first : (k x : List ℕ) (g : Lines) → tool.entries k (x ∷ g) [] ≡ tool.entries k (x ∷ []) [] ++ tool.entries k g []
+  pub second : (k x : List ℕ) (g : Lines)
+      → tool.entries k [] (x ∷ g) ≡ tool.entries k [] (x ∷ []) ++ tool.entries k [] g
+
 -- the conditions at the start
 pub record IsOpenMerge (tool : MergeTool) (old : MergeState) : Type 0 where
   pub o : IsKeyOrder tool.cmp
+  pub alone : IsLineByLine tool
   pub fits : HoldsTwoLines tool
   pub terminator : (side : Side) → (old.reader side).terminator ≡ tool.terminator
   pub sound : (side : Side) → IsSound (old.reader side)
@@ -279,8 +289,8 @@ pub record IsOpenMerge (tool : MergeTool) (old : MergeState) : Type 0 where
 -- the facts of an input
 abbrev pub ReadFactsOf : MergeTool → MergeState → (Side → Reader) → (Side → Lines) → (Side → Lines) → (Side → Bound)
     → Side → Reader → List ℕ → Type 0
-ReadFactsOf tool old now ls p b side new piece = ReadFacts tool.terminator tool.cmp (tool.key side) (old.reader side)
-    (now side) new piece (ls side) (p side) (b side)
+ReadFactsOf tool old now ls p b side new piece =
+    ReadFacts tool side (old.reader side) (now side) new piece (ls side) (p side) (b side)
 
 module _ {tool : MergeTool} {old : MergeState} (w : IsOpenMerge tool old) (new : MergeState) {now : Side → Reader}
     {piece : Side → List ℕ} {ls p : Side → Lines} {b : Side → Bound}
@@ -439,17 +449,20 @@ module _ {tool : MergeTool} {old : MergeState} (w : IsOpenMerge tool old) (new :
 -- ---- the ends before the start
 
 -- the terminator of both readers was set
-pub merge_set : {tool : MergeTool} {old new : MergeState} {set : Side → Reader} → old.out.write_failed ≡ false
-    → ((side : Side) → set side ≡ record (old.reader side) { terminator = tool.terminator })
-    → {result : Result (Unit {0}) MergeFault} → MergePost tool
-    (record { reader = set; out = old.out; store = old.store }) new result
-    → MergePost tool old new result
+pub merge_set : {tool : MergeTool} {first second set1 set2 : Reader} {out : Output} {store : Slots} {new : MergeState}
+    → (zero : Bool) → tool.terminator ≡ terminator zero → out.write_failed ≡ false
+    → set1 ≡ record first { terminator = cond zero 0 10 } → set2 ≡ record second { terminator = cond zero 0 10 }
+    → {result : Result (Unit {0}) MergeFault}
+    → MergePost tool (merge_state set1 set2 out store) new result
+    → MergePost tool (merge_state first second out store) new result
 unfolding call_set
-merge_set {tool} {old} {new} {set} clean is m = record {
-  call = call_set both_sides _ old _ new clean refl refl (λ side read. is side) (λ side none. cc) m.call;
-  stops_at_disorder = m.stops_at_disorder;
-  first_reads = grind (arith, is Second);
-}
+merge_set {tool} {first} {second} {set1} {set2} {new = new} zero end clean is1 is2 m =
+    let is : (side : Side) → both set1 set2 side ≡ record (both first second side) { terminator = tool.terminator } =
+    λ side. grind (arith, end, is1, is2) in record {
+      call = call_set both_sides _ _ _ new clean refl refl (λ side read. is side) (λ side none. cc) m.call;
+      stops_at_disorder = m.stops_at_disorder;
+      first_reads = grind (arith, is Second);
+    }
 
 -- the output had failed, and nothing was done
 pub merge_halted : (tool : MergeTool) (old : MergeState) → old.store.denied ≡ false → old.out.write_failed ≡ true
@@ -464,21 +477,34 @@ unfolding call_without_slots
 merge_without_slots {tool} {old} w {new} same_output unread slots =
     let set : (side : Side) → new.reader side ≡ record (old.reader side) { terminator = tool.terminator } =
     λ side. unread side ∙ (λ i. record (old.reader side) { terminator = w.terminator side i }) in
+    let none : Side → Lines = λ side. [] in
+    let future : (side : Side)
+    → LinesToCome tool side (known_lines tool.terminator (given_before old side)) [] [] NoBound =
+    λ side. record { rest = _; is = refl; may_follow = tt } in
+    -- nothing is received
+    let point : (side : Side) → LagPoint tool.terminator (given_before old side) [] =
+    λ side. record {
+      before = record {
+        earlier = record { bytes = []; eof = false };
+        last = (old.reader side).buffered;
+        split = refl;
+        short = omega (arith, (w.sound side).buffered);
+        eof = λ never. cc;
+      };
+      going = refl;
+      whole = [];
+      whole_is = refl;
+      rest = [];
+      split = refl;
+    } in
     record {
       call = call_without_slots both_sides (merge_engine tool) old new w.writable same_output (λ side read. set side)
           (λ side none. cc) (λ side read. w.sound side) (λ side read. w.unfailed side) slots.denied slots.peak
           slots.least
           slots.few (λ texts. omega (arith, w.fits (lines_of tool texts)))
-          (λ side read. rw (unread_decides_nothing tool w.o (given_before old) side) (record { rest = []; is = refl }));
-      stops_at_disorder = λ side clean. (
-        record {
-          earlier = record { bytes = []; eof = false };
-          last = (old.reader side).buffered;
-          split = refl;
-          short = omega (arith, (w.sound side).buffered);
-          eof = λ never. cc;
-        },
-        unread_decides_no_disorder tool w.o (given_before old) side,
-      );
+          (λ side read. decided_at tool w.o (given_before old) none none none (λ t. NoBound) (λ t. refl) (λ of t. tt)
+          future side (point side));
+      stops_at_disorder = λ side clean. unsettled tool w.o (given_before old) none none none (λ t. NoBound)
+          (λ t. refl) (λ of t. tt) future side (point side) tt;
       first_reads = search (rules, set);
     }

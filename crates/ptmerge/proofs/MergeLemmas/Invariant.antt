@@ -53,6 +53,33 @@ pub first_disorder_is : (cmp : Cmp) (key : Key) (ls : Lines)
     → first_disorder cmp key ls ≡ disorder_after cmp key None 0 ls
 first_disorder_is cmp key ls = grind (arith, sorted_prefix_is cmp key ls, by_length_is cmp key None 0 ls)
 
+-- no line is out of order, after this key
+abbrev pub IsSortedFrom : Cmp → Key → Option (List ℕ) → Lines → Type 0
+IsSortedFrom cmp key last [] = Unit {0}
+IsSortedFrom cmp key last (x ∷ xs) = (is_disordered cmp last (key x) ≡ false) × IsSortedFrom cmp key (Some (key x)) xs
+
+-- such lines are their own sorted prefix, without a disorder
+sorted_from_whole : (cmp : Cmp) (key : Key) (last : Option (List ℕ)) (n : ℕ) (ls : Lines) → IsSortedFrom cmp key last ls
+    → (sorted_after cmp key last ls ≡ ls) × (disorder_after cmp key last n ls ≡ None)
+sorted_from_whole cmp key last n [] r = (refl, refl)
+sorted_from_whole cmp key last n (x ∷ ls) (here, more) =
+    grind (arith, sorted_from_whole cmp key (Some (key x)) (n + 1) ls more)
+
+pub sorted_from_start : (cmp : Cmp) (key : Key) (ls : Lines) → IsSortedFrom cmp key None ls
+    → (sorted_prefix cmp key ls ≡ ls) × (first_disorder cmp key ls ≡ None)
+sorted_from_start cmp key ls r =
+    grind (arith, sorted_from_whole cmp key None 0 ls r, sorted_prefix_is, first_disorder_is)
+
+none_disordered : (cmp : Cmp) (key : Key) (last : Option (List ℕ)) (n : ℕ) (ls : Lines)
+    → disorder_after cmp key last n ls ≡ None → IsSortedFrom cmp key last ls
+none_disordered cmp key last n [] e = tt
+none_disordered cmp key last n (x ∷ ls) e = grind (arith, none_disordered cmp key (Some (key x)) (n + 1) ls)
+
+-- lines without a disorder are in order
+pub sorted_from_none : (cmp : Cmp) (key : Key) (ls : Lines) → first_disorder cmp key ls ≡ None
+    → IsSortedFrom cmp key None ls
+sorted_from_none cmp key ls e = none_disordered cmp key None 0 ls (sym (first_disorder_is cmp key ls) ∙ e)
+
 -- lines in order, up to a last key
 pub record IsSortedUpTo (cmp : Cmp) (key : Key) (q : Lines) (last : Option (List ℕ)) : Type 0 where
   pub ordered : (w : Lines) → sorted_prefix cmp key (q ++ w) ≡ q ++ sorted_after cmp key last w
@@ -113,6 +140,19 @@ IsUnder cmp NothingMore k = Unit {0}
 
 pub may_follow_none : (cmp : Cmp) (key : Key) (b : Bound) → MayFollow cmp key b []
 may_follow_none cmp key b = grind arith
+
+-- `d` is a later bound than `b`: no more lines may follow, and no fewer keys are at most theirs
+pub record IsLater (cmp : Cmp) (key : Key) (b d : Bound) : Type 0 where
+  pub may_follow : (r : Lines) → MayFollow cmp key d r → MayFollow cmp key b r
+  pub under : (k : List ℕ) → IsUnder cmp b k → IsUnder cmp d k
+
+-- a key up to k is at most all keys that may follow, if k is
+pub under_lower : {cmp : Cmp} (o : IsKeyOrder cmp) (b : Bound) (x k : List ℕ) → AtMost cmp x k → IsUnder cmp b k
+    → IsUnder cmp b x
+under_lower = grind (arith, at_most_trans)
+
+pub same_bound : {cmp : Cmp} {key : Key} {b : Bound} → IsLater cmp key b b
+same_bound = record { may_follow = λ r c. c; under = λ k u. u }
 
 -- the sorted prefix of the lines `all` is `p`, followed by lines that the bound allows, and so is their disorder
 pub record IsFuture (cmp : Cmp) (key : Key) (all p : Lines) (b : Bound) : Type 0 where
@@ -314,8 +354,7 @@ lag_invariant_starts {tool} {b} {p} {mid = mid} m clean more = record {
 pub record IsLeastKeyRun (cmp : Cmp) (key : Key) (b : Bound) (k : List ℕ) (f : Lines) : Type 0 where
   pub own : EachKey (λ y. y ≡ k) key f
   pub may_follow : (r : Lines) → MayFollow cmp key b r → MayFollow cmp key b (f ++ r)
-  pub bound_after : (r : Lines) → MayFollow cmp key b r → EachKey (AtMost cmp k) key r
-  pub under : IsUnder cmp b k
+  pub later : IsLater cmp key (AtLeast k) b
 
 -- the current line, or no line
 pub line_is_least_run : {cmp : Cmp} (o : IsKeyOrder cmp) {key : Key} {b : Bound} {k x : List ℕ} → b ≡ AtLeast (key x)
@@ -342,13 +381,13 @@ write_least_run {tool} o k q f {b} {p} {was} {is} {new} front all none law clean
     ∙ unlines-append _ (entries_by_key tool all_keys p) (entries_by_key tool all_keys f) in
     let under : (of side : Side) → EachKey (IsUnder tool.cmp (b of)) (tool.key side) (p side ++ f side) =
     λ of side. EachKey-append _ (tool.key side) _ _ (m.under of side)
-    (EachKey-weaker _ _ (λ y e. rw e (front of).under) _ _ (front side).own) in
+    (EachKey-weaker _ _ (λ y e. rw e ((front of).later.under k (self_at_most _ o k))) _ _ (front side).own) in
     subst (λ (l : Side → Lines). MergeInvariant tool b l was new × AllWritten tool b l was new)
     (λ i side. sym (all side) i) (
       record {
         splits = splits_step tool b b p f m.splits (λ side. (front side).may_follow)
             (λ w r c. front_first tool o w k f r (λ side. (front side).own)
-            (λ side. (front side).bound_after (r side) (c side)) none (law r c));
+            (λ side. (front side).later.may_follow (r side) (c side)) none (law r c));
         under = under;
         wrote = rw texts (push_trans _ _ _ _ _ clean m.wrote wrote);
       },
@@ -370,20 +409,15 @@ write_least_run {tool} o k q f {b} {p} {was} {is} {new} front all none law clean
     )
 
 -- an input advanced
-pub bound_changes : {tool : MergeTool} {b : Side → Bound} {p : Side → Lines} {was is : Output} (s : Side) (d : Bound)
-    → MergeInvariant tool b p was is
-    → ((r : Lines) → MayFollow tool.cmp (tool.key s) d r → MayFollow tool.cmp (tool.key s) (b s) r)
-    → ((k : List ℕ) → IsUnder tool.cmp (b s) k → IsUnder tool.cmp d k) → MergeInvariant tool (with_side s d b) p was is
-bound_changes {tool} {b} {p} s d m may_follow under = record {
-  splits = record {
-    split = λ w r c.
-        m.splits.split w r (λ side. put_each (λ t e. MayFollow tool.cmp (tool.key t) e (r t)
-        → MayFollow tool.cmp (tool.key t) (b t) (r t)) s d b (may_follow (r s)) (λ t h. h) side (c side));
-  };
-  under = λ of side. put_each (λ t e. EachKey (IsUnder tool.cmp e) (tool.key side) (p side)) s d b
-      (EachKey-weaker _ _ under _ _ (m.under s side)) (λ t. m.under t side) of;
-  wrote = m.wrote;
-}
+pub bound_changes : {tool : MergeTool} {b : Side → Bound} {p : Side → Lines} {was is : Output} (s : Side) {d : Bound}
+    → MergeInvariant tool b p was is → IsLater tool.cmp (tool.key s) (b s) d
+    → MergeInvariant tool (with_side s d b) p was is
+bound_changes {tool} {b} s {d} m later =
+    let each = put_each (λ side. IsLater tool.cmp (tool.key side) (b side)) s d b later (λ side. same_bound) in record {
+      splits = record { split = λ w r c. m.splits.split w r (λ side. (each side).may_follow (r side) (c side)) };
+      under = λ of side. EachKey-weaker _ _ (each of).under _ _ (m.under of side);
+      wrote = m.wrote;
+    }
 
 -- the merge is at its end: the disorder is the one found, if any, and no line that may follow changes the output
 abbrev pub IsExactStop : MergeTool → (Side → Bound) → Option (Side × ℕ) → Type 0

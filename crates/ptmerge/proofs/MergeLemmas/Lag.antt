@@ -2,18 +2,17 @@
 -- the complete lines that remain are all processed. No key below the last of these can follow in either input, so with
 -- any content of the other input they decide only output that is written.
 use Rattle.ptmerge.proofs
-use proofs.Common.{◌≡◌, ◌⊎◌, ⊎_elim, inl, inr, ℕ, ◌+◌, ◌≤◌, false, List, [], ◌∷◌, ◌++◌, Option, Some, None, length}
-use proofs.Common.{map, refl, sym, ◌∙◌, ap, arith, append_assoc, length-append, last_or, append-nil}
-use proofs.Common.{append_cancel_right, Received, known_lines, LaggedInput, Reader, unlines, IsLine, AreLines}
-use proofs.Common.{received_with, complete_lines_of_unlines, unlines_push, the_lines, Lines, first_disorder, is_below}
-use proofs.Common.{sorted_prefix, Cmp, Key, Bool, filter-append, filter, IsPrefix, unlines-append, Side, First}
-use proofs.Common.{Second, MergeTool, entries_by_key, decided_entries, disorder, earlier_disorder, is_decided}
-use proofs.Common.{lines_decide_disorder, other, ProcessLag, decided_output, disorder_is_decided, with_side}
-use proofs.Common.{FirstDisorder, map-append, with_input, both_sides, subst, sorted_prefixes, not}
-use proofs.MergeLemmas.Invariant.{output_of, disorder_after, first_disorder_is, is_disordered, sorted_after}
-use proofs.MergeLemmas.Invariant.{sorted_prefix_is, Bound, IsDisorderFrom, IsUnder, MayFollow, not_below}
-use proofs.MergeLemmas.Invariant.{downward_decided, not_decided, past_none, all_keys, AtLeast, none_wanted}
-use proofs.MergeLemmas.Invariant.{downward_splits}
+use proofs.Common.{◌≡◌, ◌⊎◌, ⊎_elim, inl, inr, ℕ, ◌≤◌, false, List, [], ◌∷◌, ◌++◌, Option, Some, None, length, map}
+use proofs.Common.{refl, sym, ◌∙◌, ap, arith, append_assoc, length-append, last_or, append-nil, append_cancel_right}
+use proofs.Common.{Received, known_lines, LaggedInput, Reader, unlines, IsLine, AreLines, received_with}
+use proofs.Common.{complete_lines_of_unlines, unlines_push, the_lines, Lines, first_disorder, is_below, sorted_prefix}
+use proofs.Common.{Cmp, Key, Bool, filter-append, filter, IsPrefix, unlines-append, Side, First, Second, MergeTool}
+use proofs.Common.{entries_by_key, decided_entries, disorder, earlier_disorder, is_decided, lines_decide_disorder}
+use proofs.Common.{other, ProcessLag, decided_output, disorder_is_decided, with_side, FirstDisorder, map-append}
+use proofs.Common.{with_input, both_sides, subst, not}
+use proofs.MergeLemmas.Invariant.{output_of, sorted_after, IsSortedFrom, sorted_from_start, sorted_prefix_is, Bound}
+use proofs.MergeLemmas.Invariant.{IsDisorderFrom, IsUnder, MayFollow, not_below, downward_decided, not_decided}
+use proofs.MergeLemmas.Invariant.{past_none, all_keys, AtLeast, downward_splits}
 use proofs.MergeLemmas.LinesRead.{IsReadAs}
 use proofs.MergeLemmas.Orders.{EachKey, Each-all, EachKey-weaker, Each-parts, kept_none, IsKeyOrder, AtMost}
 use proofs.MergeLemmas.Orders.{at_most_trans, self_at_most}
@@ -23,11 +22,6 @@ use Rattle.ptlines.proofs.LineSearch.{IsLine-append}
 use Rattle.ptmerge.specs.MergeSpec.{MergeDisorder}
 
 -- ---- lines in order
-
--- no line is out of order, after this key
-abbrev pub IsSortedFrom : Cmp → Key → Option (List ℕ) → Lines → Type 0
-IsSortedFrom cmp key last [] = Unit {0}
-IsSortedFrom cmp key last (x ∷ xs) = (is_disordered cmp last (key x) ≡ false) × IsSortedFrom cmp key (Some (key x)) xs
 
 sorted_from_after : (cmp : Cmp) (key : Key) (last : Option (List ℕ)) (ls : Lines)
     → IsSortedFrom cmp key last (sorted_after cmp key last ls)
@@ -46,21 +40,6 @@ sorted_from_parts cmp key last (x ∷ xs) ys (here, more) = grind (
   sorted_from_parts cmp key (Some (key x)) xs ys
       more,
 )
-
--- such lines are their own sorted prefix, without a disorder
-sorted_from_whole : (cmp : Cmp) (key : Key) (last : Option (List ℕ)) (n : ℕ) (ls : Lines) → IsSortedFrom cmp key last ls
-    → (sorted_after cmp key last ls ≡ ls) × (disorder_after cmp key last n ls ≡ None)
-sorted_from_whole cmp key last n [] r = (refl, refl)
-sorted_from_whole cmp key last n (x ∷ ls) (here, more) = grind (
-  arith,
-  sorted_from_whole cmp key (Some (key x)) (n +
-      1) ls more,
-)
-
-sorted_from_start : (cmp : Cmp) (key : Key) (ls : Lines) → IsSortedFrom cmp key None ls
-    → (sorted_prefix cmp key ls ≡ ls) × (first_disorder cmp key ls ≡ None)
-sorted_from_start cmp key ls r =
-    grind (arith, sorted_from_whole cmp key None 0 ls r, sorted_prefix_is, first_disorder_is)
 
 module _ (cmp : Cmp) (o : IsKeyOrder cmp) (key : Key) where
   from_key : (k : List ℕ) (ls : Lines) → IsSortedFrom cmp key (Some k) ls → EachKey (AtMost cmp k) key ls
@@ -229,34 +208,6 @@ module _ (tool : MergeTool) (o : IsKeyOrder tool.cmp) (eof : Side → Bool) (ls 
       (self_at_most cmp o e, tt) in undecided e below) in
       of_other cmp of (λ side. first_disorder cmp (tool.key side) (ls side)) (lines_decide_disorder tool eof ls)
       no_disorder refl (λ d is. above d.last_key (rw is at up))
-
--- ---- nothing is received of an input
-
-abbrev nothing : Received
-nothing = record { bytes = []; eof = false }
-
-module _ (tool : MergeTool) (o : IsKeyOrder tool.cmp) (given : Side → Received) (of : Side) where
-  abbrev unread : Side → Received
-  unread = with_side of nothing given
-
-  abbrev unread_lines : Side → Lines
-  unread_lines side = known_lines tool.terminator (unread side)
-
-  none_decided : (k : List ℕ) → is_decided tool (λ side. (unread side).eof) unread_lines k ≡ false
-  none_decided k = grind (arith, not_decided, put_same)
-
-  -- then nothing is decided, and no disorder
-  pub unread_decides_nothing : decided_output tool (with_input both_sides of nothing given) ≡ []
-  unread_decides_nothing =
-      subst (λ (m : Side → Received). decided_output tool m ≡ [])
-      (λ i side. with_side_is of nothing given side i)
-      (ap (unlines tool.terminator) (none_wanted tool (is_decided tool (λ side. (unread side).eof) unread_lines)
-      (sorted_prefixes tool unread_lines) (λ side. Each-all
-      _ none_decided
-      (map (tool.key side) (sorted_prefixes tool unread_lines side)))))
-
-  pub unread_decides_no_disorder : disorder_is_decided tool unread ≡ false
-  unread_decides_no_disorder = grind (arith, not_decided, put_same)
 
 -- ---- the output decided two blocks earlier
 

@@ -2,50 +2,35 @@
 -- next line has no lesser key, so the invariant holds again. A step ends the loop when both inputs are at their ends or
 -- a disorder is reported, and a fault of a write or read ends it with a prefix of the output.
 use Rattle.ptmerge.proofs
-use proofs.Common.{AdvancePre, IsReadyToContinue, ◌≡◌, ◌≢◌, inl, inr, ℕ, ◌+◌, ◌≤◌, true, false, List, [], ◌∷◌, ◌++◌}
-use proofs.Common.{Option, Some, None, Err, length, refl, sym, ◌∙◌, arith, is_lt, is_le, append-nil, Output}
-use proofs.Common.{PushEffect, Reader, ReaderAdvance, IsDone, IsSound, Slots, line, with_line, unlines, IsLine}
-use proofs.Common.{push_nothing, MergeFault, Side, First, Second, Sorted, CursorStatus, Head, Ended, Disorder, Lines}
-use proofs.Common.{MergeTool, FirstDisorder, entries_by_key, earlier_disorder, first_disorder, MergeState, MergePost}
-use proofs.Common.{Cmp, Key, NextErrPost, NextOkPost, HasSlots, base_slot, with_side, other, PrecedesInput}
-use proofs.Common.{IsDisorderDecided, IsReportable, previous_key, ap, ◌⊎◌, max, length-set, total_bytes, max_length}
-use proofs.Common.{Write, MergeRunPre, merge_state, WriteFaultPost, both, AreValidCursors, budget, IsReaderOf}
-use proofs.Common.{push_trans, cond, Ordering, is_eq, is_gt, CopyToGroupPost, same_key_at, status_at, ◌<◌, Result}
-use proofs.Common.{ClearFourSlotsPost, Ok, Bool, terminator, initial_cursor, MergeInputs, StartErrPost, StartOkPost}
-use proofs.Common.{StartFirstPost, CallOutcome, AllPushed, Received, both_sides, reads_nothing, merge_engine}
-use proofs.Common.{merge_end, IsErrAnd, HasOnlyLeastKey}
+use proofs.Common.{AdvancePre, IsReadyToContinue, ◌≡◌, inl, inr, ℕ, ◌+◌, ◌≤◌, true, false, List, [], ◌∷◌, Option, Some}
+use proofs.Common.{None, Err, length, refl, sym, ◌∙◌, arith, is_lt, is_le, append-nil, Output, PushEffect, Reader}
+use proofs.Common.{ReaderAdvance, IsDone, IsSound, Slots, line, with_line, unlines, IsLine, push_nothing, MergeFault}
+use proofs.Common.{Side, First, Second, Sorted, CursorStatus, Head, Ended, Disorder, Lines, MergeTool, FirstDisorder}
+use proofs.Common.{entries_by_key, earlier_disorder, first_disorder, MergeState, MergePost, Cmp, Key, NextErrPost}
+use proofs.Common.{NextOkPost, HasSlots, base_slot, with_side, other, PrecedesInput, IsDisorderDecided, IsReportable}
+use proofs.Common.{previous_key, ap, ◌⊎◌, max, length-set, total_bytes, max_length, Write, MergeRunPre, merge_state}
+use proofs.Common.{WriteFaultPost, both, AreValidCursors, budget, IsReaderOf, push_trans, cond, Ordering, is_eq, is_gt}
+use proofs.Common.{CopyToGroupPost, same_key_at, status_at, ◌<◌, Result, ClearFourSlotsPost, Ok, initial_cursor}
+use proofs.Common.{merge_inputs, MergeInputs, StartErrPost, StartOkPost, StartFirstPost, CallOutcome, AllPushed}
+use proofs.Common.{Received, both_sides, reads_nothing, merge_engine, merge_end, IsErrAnd, HasOnlyLeastKey}
 use proofs.MergeLemmas.Invariant.{output_of, Bound, AfterDisorder, NothingMore, MayFollow, MayDisorder, IsUnder}
 use proofs.MergeLemmas.Invariant.{LagInvariant, MergeInvariant, IsExactStop, line_is_least_run, lag_invariant_starts}
 use proofs.MergeLemmas.Invariant.{not_below, write_least_run, bound_changes, all_keys, none_wanted, NoBound}
-use proofs.MergeLemmas.Invariant.{sorted_up_to_none, merge_invariant_starts, AllWritten, exact_at_end}
+use proofs.MergeLemmas.Invariant.{sorted_up_to_none, merge_invariant_starts, AllWritten, exact_at_end, under_lower}
 use proofs.MergeLemmas.Orders.{EachKey, EachKey-weaker, lines_with_key-above, IsKeyOrder, Above, above_at_most}
 use proofs.MergeLemmas.Orders.{above_up, greater_flips, is_greater}
 use proofs.MergeLemmas.Slots.{both_each, put_both, put_each, put_other, put_same, side_case, line_other, StoreOfLines}
-use proofs.MergeLemmas.Slots.{has_lines_total, store_with_line, line_added, HasLines, store_of_no_lines}
-use proofs.MergeLemmas.Exits.{SideInvariant, MatchesStatus, SideAfterNext, IsAtCurrentLine, next_invariant}
-use proofs.MergeLemmas.Exits.{at_current_line, side_invariant_kept, IsFailedRead, Fits, state_by_side}
-use proofs.MergeLemmas.Exits.{exit_is_merge_post, read_facts_after_line, reads_left, FirstReads, both_begun}
-use proofs.MergeLemmas.Exits.{ComeFirst, HoldsTwoLines, IsOpenMerge, ReadFactsOf, processed_come_first}
-use proofs.MergeLemmas.Exits.{exact_output, merge_without_slots, given}
+use proofs.MergeLemmas.Slots.{has_lines_total, store_with_line, line_added, HasLines, store_of_no_lines, low_slot}
+use proofs.MergeLemmas.Slots.{slots_apart}
+use proofs.MergeLemmas.Exits.{SideInvariant, MatchesStatus, SideAfterNext, next_invariant, at_current_line}
+use proofs.MergeLemmas.Exits.{side_invariant_kept, IsFailedRead, Fits, state_by_side, exit_is_merge_post}
+use proofs.MergeLemmas.Exits.{read_facts_after_line, reads_left, FirstReads, both_begun, ComeFirst, HoldsTwoLines}
+use proofs.MergeLemmas.Exits.{IsOpenMerge, ReadFactsOf, processed_come_first, exact_output, merge_without_slots, given}
+use proofs.MergeLemmas.Exits.{IsLineByLine}
 use proofs.MergeLemmas.LinesRead.{HasBegun, LinesRead, lines_read_none, one_line_at_most}
 use Rattle.ptmerge.specs.declared.faults.MergeFault.TheVariants as faults
 use Rattle.std.proofs.Common.{rules}
 use Rattle.std.proofs.lemmas.Grind.{common_steps}
-
--- ---- slots
-
-pub own_slots : (s : Side) (a : Sorted) → HasSlots s a → (a.current_slot ≢ a.previous_slot)
-    × (a.previous_slot ≤ base_slot s + 1) × (a.current_slot ≤ base_slot s + 1) × (base_slot s ≤ a.previous_slot)
-    × (base_slot s ≤ a.current_slot)
-own_slots s a h = omega arith
-
-pub slot_low : (s : Side) → base_slot s ≤ 2
-slot_low s = grind arith
-
--- the slots of the two inputs are distinct
-pub slots_apart : (s : Side) (a c : Sorted) → HasSlots s a → HasSlots (other s) c
-    → (a.previous_slot ≢ c.current_slot) × (a.previous_slot ≢ c.previous_slot)
-slots_apart s a c x y = grind arith
 
 -- ---- keys that may follow
 
@@ -70,13 +55,6 @@ current_key_is_above cmp o key x (Disorder n) cursor store now ls p b before st 
 
 -- ---- one line
 
--- the output for a key of one input alone is the output of each line
-pub record IsLineByLine (tool : MergeTool) : Type 0 where
-  pub none : (k : List ℕ) → tool.entries k [] [] ≡ []
-  pub first : (k x : List ℕ) (g : Lines) → tool.entries k (x ∷ g) [] ≡ tool.entries k (x ∷ []) [] ++ tool.entries k g []
-  pub second : (k x : List ℕ) (g : Lines)
-      → tool.entries k [] (x ∷ g) ≡ tool.entries k [] (x ∷ []) ++ tool.entries k [] g
-
 -- a line of one input
 abbrev pub alone : Side → List ℕ → Side → Lines
 alone s x = with_side s (x ∷ []) (λ side. [])
@@ -85,36 +63,30 @@ alone s x = with_side s (x ∷ []) (λ side. [])
 
 abbrev pub SidesInvariant : MergeTool → (Side → Reader) → (Side → Reader) → (Side → Sorted) → Slots → (Side → Lines)
     → (Side → Lines) → (Side → Bound) → Type 0
-SidesInvariant tool old now cursor store ls p b = (side : Side)
-    → SideInvariant tool.terminator tool.cmp (tool.key side) (old side) (now side) (cursor side) store (ls side)
-    (p side) (b side)
+SidesInvariant tool old now cursor store ls p b =
+    (side : Side) → SideInvariant tool side (old side) (now side) (cursor side) store (ls side) (p side) (b side)
 
-module _ (tool : MergeTool) (o : IsKeyOrder tool.cmp) {old now : Side → Reader} {cursor : Side → Sorted} {store : Slots}
-    {ls p : Side → Lines} {b : Side → Bound}
-    (sides : SidesInvariant tool old now cursor store ls p b)
-    (slots : (side : Side) → HasSlots side (cursor side)) (four : 4 ≤ length store.lines) (s : Side)
-    (head : (cursor s).status ≡ Head) where
-  open tool use {cmp, key, terminator}
+-- the input `s`, at a line, advances
+module _ {tool : MergeTool} (o : IsKeyOrder tool.cmp) {old now : Side → Reader} {cursor : Side → Sorted} {store : Slots}
+    {ls p : Side → Lines} {b : Side → Bound} (sides : SidesInvariant tool old now cursor store ls p b) (s : Side)
+    (head : (cursor s).status ≡ Head) {new : Reader} {next : Sorted} {after : Slots}
+    (comes : NextOkPost (tool.key s) tool.cmp (cursor s) next (now s) new store after) where
+  pub next_at : SideAfterNext tool s (old s) new next (cursor s).previous_slot store after (ls s)
+      (Some (tool.key s (line store (cursor s).current_slot)))
+  next_at = let h = at_current_line (sides s) head in
+      next_invariant tool o s _ _ _ _ _ _ _ _ (sides s).slots (sides s).four (sides s).lines_read (sides s).number
+      h.sorted_up_to (h.some, refl) comes
 
-  pub passed_at : IsAtCurrentLine cmp (key s) (cursor s).number (line store (cursor s).current_slot) (ls s) (p s) (b s)
-  passed_at = at_current_line (sides s) head
+  -- the lines of the other input keep their slots
+  pub others_stay : (line after (cursor (other s)).current_slot ≡ line store (cursor (other s)).current_slot)
+      × (line after (cursor (other s)).previous_slot ≡ line store (cursor (other s)).previous_slot)
+  others_stay = let (one, two) = slots_apart s (cursor s) (cursor (other s)) (sides s).slots (sides (other s)).slots in
+      rw next_at.stored (line_other store _ _ _ one, line_other store _ _ _ two)
 
-  abbrev NextOf : Reader → Sorted → Slots → Type 0
-  NextOf new next after = SideAfterNext terminator cmp (key s) (old s) new next (cursor s).previous_slot store after
-      (ls s) (Some (key s (line store (cursor s).current_slot)))
-
-  pub next_at : (new : Reader) (next : Sorted) (after : Slots)
-      → NextOkPost (key s) cmp (cursor s) next (now s) new store after → NextOf new next after
-  next_at new next after comes =
-      let (apart, low, _, _, _) = own_slots s (cursor s) (slots s) in
-      next_invariant _ _ o _ _ _ _ _ _ _ _ _ (omega (arith, low, slot_low s)) apart (sides s).lines_read
-      (sides s).number passed_at.sorted_up_to (passed_at.some, refl) comes
-
-  module _ (new : Reader) (next : Sorted) (after : Slots) (n : NextOf new next after) where
-    pub sides_invariant_continues : SidesInvariant tool old (with_side s new now) (with_side s next cursor) after
-        (with_side s n.now_ls ls) (with_side s (ls s) p) (with_side s n.bound b)
-    sides_invariant_continues = side_case _ s (simp put_same n.side_invariant)
-        (simp put_other (grind (arith, slots_apart, side_invariant_kept, n, line_other)))
+  pub sides_next : SidesInvariant tool old (with_side s new now) (with_side s next cursor) after
+      (with_side s next_at.now_ls ls) (with_side s (ls s) p) (with_side s next_at.bound b)
+  sides_next = side_case _ s (simp put_same next_at.side_invariant)
+      (simp put_other (side_invariant_kept (sides (other s)) others_stay.0 others_stay.1 next_at.side_invariant.four))
 
 -- ---- the end of the loop
 
@@ -267,7 +239,7 @@ next_keeps_slot_count e = grind (arith, length-set)
 
 -- the conditions at the start
 pub open_merge : {tool : MergeTool} {first second : Reader} {out : Output} {store : Slots} → IsKeyOrder tool.cmp
-    → HoldsTwoLines tool → MergeRunPre tool.terminator first second out store
+    → HoldsTwoLines tool → IsLineByLine tool → MergeRunPre tool.terminator first second out store
     → IsOpenMerge tool (merge_state first second out store)
 open_merge = grind (arith, both_each)
 
@@ -294,21 +266,14 @@ holds_two = grind (arith, common_steps, has_lines_total, store_with_line, put_sa
 -- the cursors between two steps, for any output
 pub record CursorsInvariant (tool : MergeTool) (old : MergeState) (reader : Side → Reader) (cursor : Side → Sorted)
     (store : Slots) (ls p : Side → Lines) (b : Side → Bound) : Type 0 where
+  pub w : IsOpenMerge tool old
   pub sides : SidesInvariant tool old.reader reader cursor store ls p b
   pub holds : StoreInvariant tool old.store reader cursor store ls
-  pub slots : (side : Side) → HasSlots side (cursor side)
 
-pub slots_on : {key : Key} {cmp : Cmp} {cursor next : Sorted} {was is : Reader} {before after : Slots} (s : Side)
-    → HasSlots s cursor → NextOkPost key cmp cursor next was is before after → HasSlots s next
-slots_on s h e = grind arith
-
-module _ {tool : MergeTool} {old : MergeState} (w : IsOpenMerge tool old) {reader : Side → Reader}
-    {cursor : Side → Sorted} {store : Slots} {ls p : Side → Lines} {b : Side → Bound}
-    (a : CursorsInvariant tool old reader cursor store ls p b) where
+module _ {tool : MergeTool} {old : MergeState} {reader : Side → Reader} {cursor : Side → Sorted} {store : Slots}
+    {ls p : Side → Lines} {b : Side → Bound} (a : CursorsInvariant tool old reader cursor store ls p b) where
   open tool use {cmp, key}
-
-  four : 4 ≤ length store.lines
-  four = (has_lines_total store.lines (λ side. max_length (ls side)) 0 a.holds.lines).four
+  open a use {w}
 
   pub none_failed : (side : Side) → (reader side).failed ≡ (old.reader side).failed
   none_failed side = (a.sides side).lines_read.advance_ok.failed
@@ -342,7 +307,7 @@ module _ {tool : MergeTool} {old : MergeState} (w : IsOpenMerge tool old) {reade
       }) lag (λ new piece g. processed_come_first w new g m)
 
   -- the current line of the input `s`, whose key precedes everything in the other input, is written
-  module _ (laws : IsLineByLine tool) {s : Side} (step : HasOnlyLeastKey cmp key cursor store s) {is new : Output}
+  module _ {s : Side} (step : HasOnlyLeastKey cmp key cursor store s) {is new : Output}
       (clean : is.write_failed ≡ false) (m : MergeInvariant tool b p old.out is)
       (wrote : PushEffect is new (unlines (reader s).terminator (entries_by_key tool all_keys
       (alone s (line store (cursor s).current_slot))))) where
@@ -360,11 +325,13 @@ module _ {tool : MergeTool} {old : MergeState} (w : IsOpenMerge tool old) {reade
           -- no line of the other input has the key, and only greater keys follow
           own = tt;
           may_follow = λ r c. c;
-          bound_after = λ r c. EachKey-weaker _ _ (above_at_most cmp w.o (key s x)) _ _ (above r c);
-          under = under;
+          later = record {
+            may_follow = λ r c. EachKey-weaker _ _ (above_at_most cmp w.o (key s x)) _ _ (above r c);
+            under = λ k h. under_lower w.o (b (other s)) k (key s x) h under;
+          };
         })))
-        (side_case _ s (simp put_same h.all) (simp (put_other, append-nil))) (laws.none (key s x))
-        (λ r c. grind (arith, laws, none (r (other s)) (above (r (other s)) (c (other s))))) clean m
+        (side_case _ s (simp put_same h.all) (simp (put_other, append-nil))) (w.alone.none (key s x))
+        (λ r c. grind (arith, w.alone, none (r (other s)) (above (r (other s)) (c (other s))))) clean m
         (rw (a.sides s).lines_read.terminator at wrote)
 
     pub alone_breaks : EndsIfFails tool old (state_by_side reader new store) s (cursor s) new
@@ -423,35 +390,29 @@ module _ {tool : MergeTool} {old : MergeState} (w : IsOpenMerge tool old) {reade
   -- an input advances
   module _ (s : Side) (head : (cursor s).status ≡ Head) {next : Sorted} {new : Reader} {after : Slots}
       (comes : NextOkPost (key s) cmp (cursor s) next (reader s) new store after) where
-    pub n : SideAfterNext tool.terminator cmp (key s) (old.reader s) new next (cursor s).previous_slot store after
-        (ls s) (Some (key s (line store (cursor s).current_slot)))
-    n = next_at tool w.o a.sides a.slots four s head _ _ _ comes
+    abbrev pub n : SideAfterNext tool s (old.reader s) new next (cursor s).previous_slot store after (ls s)
+        (Some (key s (line store (cursor s).current_slot)))
+    n = next_at w.o a.sides s head comes
 
     pub keeps_two : StoreHoldsTwoLines old.store store ls → StoreHoldsTwoLines old.store after (with_side s n.now_ls ls)
-    keeps_two keeps = store_with_line s (cursor s) _ n.bytes (a.slots s) keeps
+    keeps_two keeps = store_with_line s (cursor s) _ n.bytes (a.sides s).slots keeps
         (side_case _ s (simp put_same n.longer) (simp put_other (omega arith))) (simp put_same n.fits) n.stored
 
-    sides_next : SidesInvariant tool old.reader (with_side s new reader) (with_side s next cursor) after
-        (with_side s n.now_ls ls) (with_side s (ls s) p) (with_side s n.bound b)
-    sides_next = sides_invariant_continues tool w.o a.sides a.slots four s head _ _ _ n
-
-    pub advance_ok : HoldsTwoLines tool → StoreHoldsTwoLines old.store store ls
+    pub advance_ok : StoreHoldsTwoLines old.store store ls
         → CursorsInvariant tool old (with_side s new reader) (with_side s next cursor) after (with_side s n.now_ls ls)
         (with_side s (ls s) p) (with_side s n.bound b)
-    advance_ok fits keeps = let slots = put_each HasSlots s next cursor (slots_on s (a.slots s) comes) a.slots in
-        record { sides = sides_next; holds = holds_two fits (keeps_two keeps) slots; slots = slots }
+    advance_ok keeps = let sides = sides_next w.o a.sides s head comes in
+        record { w = w; sides = sides; holds = holds_two w.fits (keeps_two keeps) (λ side. (sides side).slots) }
 
     -- the output comes first, as before
     pub goes_merging : {q : Side → Lines} {out : Output} → MergeInvariant tool b q old.out out
         → MergeInvariant tool (with_side s n.bound b) q old.out out
-    goes_merging m =
-        let h = at_current_line (a.sides s) head in
-        bound_changes s n.bound m (λ r c. rw h.bound (n.may_follow r c)) (λ k u. n.under k (rw h.bound at u))
+    goes_merging m = bound_changes s m (rw (at_current_line (a.sides s) head).bound n.later)
 
     pub runs_on : {Keep : Slots → (Side → Lines) → Type 0} {out : Output} → Keep after (with_side s n.now_ls ls)
         → MergeInvariant tool b (with_side s (ls s) p) old.out out
         → LoopInvariant tool Keep old (state_by_side (with_side s new reader) out after) (with_side s next cursor)
-    runs_on keeps m = search (rules, n, sides_next, goes_merging)
+    runs_on keeps m = let sides = sides_next w.o a.sides s head comes in search (rules, n, goes_merging)
 
 -- ---- after one input advanced
 
@@ -475,10 +436,16 @@ pub record BetweenSteps (key : Side → Key) (now : MergeState) (one two : Sorte
   pub own_reader : (side : Side) → IsReaderOf (both one two side) (now.reader side)
   pub clean : now.out.write_failed ≡ false
 
-module _ {key : Side → Key} {now : MergeState} {one two : Sorted} (t : BetweenSteps key now one two) where
-  pub slots_of : (side : Side) → HasSlots side (both one two side)
-  slots_of = elim [ First ↦ t.valid_cursors.first | Second ↦ t.valid_cursors.second ]
+pub between_starts : {key : Side → Key} {first second : Reader} {out : Output} {store : Slots} {one two : Sorted}
+    → AreValidCursors key one two store → IsReaderOf one first × IsReaderOf two second → out.write_failed ≡ false
+    → BetweenSteps key (merge_state first second out store) one two
+between_starts valid_cursors (reader1, reader2) clean = record {
+  valid_cursors = valid_cursors;
+  own_reader = elim [ First ↦ reader1 | Second ↦ reader2 ];
+  clean = clean;
+}
 
+module _ {key : Side → Key} {now : MergeState} {one two : Sorted} (t : BetweenSteps key now one two) where
   pub advance_pre : (s : Side) → (both one two s).status ≡ Head → AdvancePre key s one two (now.reader s) now.store
   advance_pre s head = search rules
 
@@ -512,7 +479,7 @@ later_status = grind arith
 pub valid_cursors_kept : (key : Side → Key) (one two : Sorted) (before after : Slots)
     → AreValidCursors key one two before → length before.lines ≤ length after.lines
     → ((slot : ℕ) → slot < 4 → line after slot ≡ line before slot) → AreValidCursors key one two after
-valid_cursors_kept = grind (arith, own_slots)
+valid_cursors_kept = grind (arith, low_slot)
 
 -- copying a line changes one slot, or adds one
 pub kept_line : (before after : Slots) (from to slot : ℕ) → slot < to → CopyToGroupPost before after from to
@@ -543,10 +510,9 @@ module _ {tool : MergeTool} {old : MergeState} (w : IsOpenMerge tool old) where
   -- an input was advanced to its first line
   first_line : (side : Side) {new : Reader} {cursor : Sorted} {before after : Slots} → 4 ≤ length before.lines
       → NextOkPost (key side) cmp (initial_cursor side) cursor (old.reader side) new before after
-      → SideAfterNext terminator cmp (key side) (old.reader side) new cursor (base_slot side) before after [] None
-  first_line side four comes = let own = own_slots side (initial_cursor side) (fresh_slots side) in
-      next_invariant _ _ w.o _ _ _ _ _ _ _ _ _ (omega (arith, own, slot_low side)) own.0 (none_read side) refl
-      sorted_up_to_none refl comes
+      → SideAfterNext tool side (old.reader side) new cursor (base_slot side) before after [] None
+  first_line side four comes = next_invariant tool w.o side _ _ _ _ _ _ _ _ (fresh_slots side) four (none_read side)
+      refl sorted_up_to_none refl comes
 
   abbrev no_lines : Side → Lines
   no_lines side = []
@@ -554,8 +520,7 @@ module _ {tool : MergeTool} {old : MergeState} (w : IsOpenMerge tool old) where
   -- the first input was advanced to its first line
   module _ {first : Sorted} {new : MergeInputs} {Then : Slots → Type 0}
       (s : StartFirstPost key cmp first unstarted new Then) where
-    began : SideAfterNext terminator cmp (key First) (old.reader First) (new.reader First) first (base_slot First)
-        s.made s.mid [] None
+    began : SideAfterNext tool First (old.reader First) (new.reader First) first (base_slot First) s.made s.mid [] None
     began = first_line First (omega arith) s.came
 
     half_store : StoreOfLines old.store s.mid (λ side. max_length (both began.now_ls [] side))
@@ -570,18 +535,14 @@ module _ {tool : MergeTool} {old : MergeState} (w : IsOpenMerge tool old) where
     first_line_only : length began.now_ls + 0 ≤ 1
     first_line_only = grind (arith, began)
 
-    mid_four : 4 ≤ length s.mid.lines
-    mid_four = grind (arith, has_lines_total, began, half_store, four)
-
-  pub start_ok : (new : MergeInputs) (cursor : Side → Sorted) → HasSlots First (cursor First)
-      → StartOkPost key cmp cursor unstarted new
-      → LoopInvariant tool (StoreHoldsTwoLines old.store) old
-      (state_by_side (both (new.reader First) (new.reader Second)) old.out new.store)
-      (both (cursor First) (cursor Second))
-  start_ok new cursor slots s =
+  pub start_ok : {Keep : Slots → (Side → Lines) → Type 0} {first second : Reader} {store : Slots} {one two : Sorted}
+      → ((ls : Side → Lines) → StoreHoldsTwoLines old.store store ls → Keep store ls)
+      → StartOkPost key cmp (both one two) unstarted (merge_inputs first second store)
+      → LoopInvariant tool Keep old (merge_state first second old.out store) (both one two)
+  start_ok {one = one} keeps s =
       let f = began s in
-      let k = first_line Second (mid_four s) s.later in
-      let apart = slots_apart Second (initial_cursor Second) (cursor First) (fresh_slots Second) slots in
+      let k = first_line Second f.side_invariant.four s.later in
+      let apart = slots_apart Second (initial_cursor Second) one (fresh_slots Second) f.side_invariant.slots in
       record {
         ls = both f.now_ls k.now_ls;
         p = no_lines;
@@ -591,9 +552,9 @@ module _ {tool : MergeTool} {old : MergeState} (w : IsOpenMerge tool old) where
           | Second
               ↦ k.side_invariant
         ];
-        merge_invariant = bound_changes Second k.bound (half_invariant s) k.may_follow k.under;
-        keeps = store_with_line Second (initial_cursor Second) _ k.bytes (fresh_slots Second) (half_store s)
-            (elim [ First ↦ omega arith | Second ↦ omega arith ]) k.fits k.stored;
+        merge_invariant = bound_changes Second (half_invariant s) k.later;
+        keeps = keeps _ (store_with_line Second (initial_cursor Second) _ k.bytes (fresh_slots Second) (half_store s)
+            (elim [ First ↦ omega arith | Second ↦ omega arith ]) k.fits k.stored);
       }
 
   -- nothing was read of an input
@@ -639,9 +600,3 @@ module _ {tool : MergeTool} {old : MergeState} (w : IsOpenMerge tool old) where
         (elim [ First ↦ g.side_invariant.facts | Second ↦ unread Second ]) refl
         (λ r piece free. grind (arith, first_line_only s))
         (half_store s) (half_invariant s) _ _ _ (inr (w.writable, s.later))
-
--- the terminator of both readers was set
-pub set_is : (first second set1 set2 : Reader) (zero : Bool) → set1 ≡ record first { terminator = cond zero 0 10 }
-    → set2 ≡ record second { terminator = cond zero 0 10 } → (side : Side)
-    → both set1 set2 side ≡ record (both first second side) { terminator = terminator zero }
-set_is = grind arith

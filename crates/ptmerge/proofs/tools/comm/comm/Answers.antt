@@ -1,7 +1,6 @@
 -- If the output has failed, nothing is done. Otherwise both orders have one proof, over the order that the job selects.
 use Rattle.ptmerge.proofs
-use proofs.Common.{sym, ◌∙◌, comm_job, comm_tool, merge_state}
-use proofs.MergeLemmas.Step.{set_is}
+use proofs.Common.{refl, sym, ◌∙◌, comm_job, comm_tool, merge_state}
 use proofs.MergeLemmas.Exits.{merge_halted, merge_set}
 use Rattle.ptmerge.proofs.tools.comm.comm.Goals as goal
 
@@ -13,12 +12,12 @@ returns-then-has_failed g c =
 
 pub returns-then-job : goal.returns-then-job
 returns-then-job g c =
-    merge_set (sym c.has_failed.ensures ∙ c.if-has_failed.false)
-    (set_is _ _ _ _ _ c.set_ending.ensures.set c.set_ending-2.ensures.set)
+    merge_set _ refl (sym c.has_failed.ensures ∙ c.if-has_failed.false) c.set_ending.ensures.set
+    c.set_ending-2.ensures.set
     (rw c.if-job.true c.comm_with_order.ensures)
 
 pub returns : goal.returns
 returns g c =
-    merge_set (sym c.has_failed.ensures ∙ c.if-has_failed.false)
-    (set_is _ _ _ _ _ c.set_ending.ensures.set c.set_ending-2.ensures.set)
+    merge_set _ refl (sym c.has_failed.ensures ∙ c.if-has_failed.false) c.set_ending.ensures.set
+    c.set_ending-2.ensures.set
     (rw c.if-job.false c.comm_with_order-2.ensures)
