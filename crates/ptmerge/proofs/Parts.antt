@@ -4,18 +4,17 @@
 -- of the key: a filter by keys commutes with computing the distinct keys, so each part has the entries of its keys,
 -- and the entries of all parts are a permutation of all entries.
 use Rattle.ptmerge.proofs
-use proofs.Common.{arith, ◌≡◌, ℕ, ◌+◌, List, [], ◌∷◌, ◌++◌, Bool, true, false, cond, Option, Some, None}
-use proofs.Common.{refl, ap, sym, ◌∙◌, filter, Less, Side, First, Second, Lines, MergeTool, FirstDisorder}
-use proofs.Common.{entries_by_key, disorder, earlier_disorder, first_disorder, keys, merged_entries, sorted_prefixes}
-use proofs.Common.{sorted_prefix, is_up_to, lines_of, Cmp, Key, unlines, the_lines_of_parts, unlines-append}
-use proofs.Common.{IsConcatOfParts, CommOfParts, JoinOfParts, ◌&&◌, not, map, tied_itself}
-use proofs.Common.{flat_map, is_gt, is_lt, Equal, insert_key, distinct_keys, lines_with_key}
+use proofs.Common.{arith, ◌≡◌, ℕ, ◌+◌, List, [], ◌∷◌, ◌++◌, Bool, true, false, cond, Option, Some, None, refl, ap, sym}
+use proofs.Common.{◌∙◌, filter, Less, Side, First, Second, Lines, MergeTool, FirstDisorder, entries_by_key, disorder}
+use proofs.Common.{first_disorder, keys, merged_entries, sorted_prefixes, sorted_prefix, is_up_to, lines_of, Cmp, Key}
+use proofs.Common.{unlines, the_lines_of_parts, unlines-append, IsConcatOfParts, CommOfParts, JoinOfParts, ◌&&◌, not}
+use proofs.Common.{map, tied_itself, flat_map, is_gt, is_lt, Equal, insert_key, distinct_keys, lines_with_key}
 use proofs.Common.{entries_of_key, filter-append, IsLine, zero, suc, ◌<◌, ◌==◌, nat_lt, append_assoc, nat_tests}
 use proofs.Common.{range_with_len, lines, CommByKey, IsSplittableByKey, JoinByKey, text_of_part, output_lines}
-use proofs.MergeLemmas.Invariant.{IsDisorderFrom, after_from, disorder_after, first_disorder_is}
-use proofs.MergeLemmas.Invariant.{IsSortedFrom, sorted_from_start, sorted_from_none}
-use proofs.MergeLemmas.Invariant.{is_disordered, sorted_after, sorted_prefix_is, Ascends, IsDownwardClosed, all_keys}
-use proofs.MergeLemmas.Invariant.{all_wanted, ascends_distinct, downward_splits, up_to_from}
+use proofs.MergeLemmas.Invariant.{IsDisorderFrom, after_from, disorder_after, first_disorder_is, IsSortedFrom}
+use proofs.MergeLemmas.Invariant.{sorted_from_start, sorted_from_none, is_disordered, sorted_after, sorted_prefix_is}
+use proofs.MergeLemmas.Invariant.{Ascends, IsDownwardClosed, all_keys, all_wanted, ascends_distinct, downward_splits}
+use proofs.MergeLemmas.Invariant.{up_to_from}
 use proofs.MergeLemmas.Orders.{Each, Each-weaker, EachKey, Each-all, EachKey-weaker, insert_least, Each-parts}
 use proofs.MergeLemmas.Orders.{IsKeyOrder, AtMost, above_trans, at_most_trans, greater_flips, line_order}
 use Rattle.std.proofs.lemmas.List.Elements.{All-filter, All-from_recursion, recursion_from_All}
@@ -124,20 +123,10 @@ module _ (cmp : Cmp) (o : IsKeyOrder cmp) where
 
 -- ---- lists in order
 
--- no reported disorder means that neither list has one
-no_fall_first : (cmp : Cmp) (f g : Option FirstDisorder) → earlier_disorder cmp f g ≡ None → (f ≡ None) × (g ≡ None)
-no_fall_first cmp f g e = grind arith
-
 -- the last key in order before a disorder, without the line number
 abbrev without_line_number : Option FirstDisorder → Option FirstDisorder
 without_line_number None = None
 without_line_number (Some d) = Some (record { last_key = d.last_key; line = 0 })
-
--- the keys up to a disorder do not depend on its line number
-by_limits : (cmp : Cmp) (f g : Option FirstDisorder) (k : List ℕ)
-    → is_up_to cmp (earlier_disorder cmp f g) k ≡ is_up_to cmp
-    (earlier_disorder cmp (without_line_number f) (without_line_number g)) k
-by_limits cmp f g k = grind arith
 
 module _ (cmp : Cmp) (o : IsKeyOrder cmp) (key : Key) where
   -- the last key in order does not depend on the number of lines before
@@ -198,13 +187,7 @@ module _ (tool : MergeTool) (o : IsKeyOrder tool.cmp) where
 
   none_disordered : (ls : Side → Lines) → disorder tool ls ≡ None → (side : Side)
       → first_disorder cmp (key side) (ls side) ≡ None
-  none_disordered ls e First = (no_fall_first cmp _ _ e).0
-  none_disordered ls e Second = (no_fall_first cmp _ _ e).1
-
-  -- sublists of sorted lists are sorted
-  pub kept_in_order : (p : Side → List ℕ → Bool) (ls : Side → Lines) → disorder tool ls ≡ None
-      → disorder tool (λ side. filter (p side) (ls side)) ≡ None
-  kept_in_order p ls e = grind (arith, in_order_kept, none_disordered)
+  none_disordered ls e side = grind arith
 
   -- the output for sorted lists is that of all their keys
   pub merged_in_order : (ls : Side → Lines) → disorder tool ls ≡ None
@@ -229,18 +212,14 @@ module _ (tool : MergeTool) (o : IsKeyOrder tool.cmp) where
     -- the same keys are wanted
     same_wanted : (k : List ℕ)
         → is_up_to cmp (disorder tool (λ side. a side ++ b side)) k ≡ is_up_to cmp (disorder tool b) k
-    same_wanted k = grind (arith, by_limits, both_go_on)
-
-    -- all keys of the first lists are wanted
-    low_wanted : (k : List ℕ) → p k ≡ true → is_up_to cmp (disorder tool b) k ≡ true
-    low_wanted k h = search (rules, from_below, at_most_high, up_to_from)
+    same_wanted k = grind (arith, both_go_on First, both_go_on Second)
 
     -- The entries of the appended lists are those of the first lists, followed by those of the second.
     entries_together : merged_entries tool (λ side. a side ++ b side) ≡ merged_entries tool a ++ merged_entries tool b
     entries_together =
         let w = is_up_to cmp (disorder tool b) in
-        let first_wanted = λ (side : Side). EachKey-weaker _ _ low_wanted _ _
-        (low side) in
+        let first_wanted = λ (side : Side). EachKey-weaker _ _
+        (λ k h. search (rules, from_below, at_most_high, up_to_from)) _ _ (low side) in
         let all : Side → Lines = λ side. a side ++ sorted_prefixes tool b side in
         let parts = λ (side : Side). kept_parts p (key side) (a side) (sorted_prefixes tool b side) (low side)
         (each_ordered cmp o (key side) (λ k. p k ≡ false) (b side) (high side)) in
@@ -340,7 +319,7 @@ split_by_key tool o inputs part_of parts in_order below = simp (whole, of_part)
         let own : List ℕ → Bool = λ k. part_of k == i in
         let in_part : Side → List ℕ → Bool = λ side line. own (tool.key side line) in
         let entries = merged_in_order tool o (λ side. filter (in_part side) (ls side))
-        (kept_in_order tool o in_part ls in_order) ∙ by_keys_kept own tool o ls all_keys in
+        (grind (arith, in_order_kept, none_disordered, in_order)) ∙ by_keys_kept own tool o ls all_keys in
         (λ t. lines tool.terminator (unlines tool.terminator
         (merged_entries tool (λ side. lines_dealt tool.terminator (in_part side) (inputs side) t))))
         ∙ ap (λ es. lines tool.terminator (unlines tool.terminator es)) entries

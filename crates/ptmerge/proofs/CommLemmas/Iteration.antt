@@ -102,11 +102,6 @@ module _ {job : Comm} {cmp : Cmp} {key : Side → Key} {old now : MergeState} {o
 
   -- a step for a line of one input alone
   module _ {s : Side} (step : HasOnlyLeastKey cmp key (both one two) now.store s) where
-    pub alone_decreases : {one2 two2 : Sorted} {reader : Reader} {after : Slots} {new : Output}
-        → Advances s one2 two2 reader after new → reads_ahead (with_side s reader now.reader) one2 two2 < reads_ahead
-        now.reader one two
-    alone_decreases h = search (rules, reads_less)
-
     module _ {new : Output} {tabs : List ℕ} (led : tabs ≡ tabs_of job s) (pushed : PushEffect now.out new
         (unlines (now.reader s).terminator (column_entries (hidden_of job s) tabs 1 (head s)))) where
       wrote_line : PushEffect now.out new (unlines (now.reader s).terminator (entries_by_key tool all_keys

@@ -97,26 +97,18 @@ pub ends_whole : (separator : Option ℕ) (bytes : List ℕ) (end : Option ℕ)
     → end ≡ position (is_separator separator) bytes → end ≡ None → IsFirstPieceEnd separator bytes (length bytes)
 ends_whole = grind (arith, common_steps, split_whole)
 
--- the first field begins at index 0
-front_span : (line bytes : List ℕ) (end : ℕ) → end ≤ length line → take end line ≡ bytes
-    → IsKeySpan line bytes (record { start = 0; end = end })
-front_span = grind arith
-
 pub first_piece_span : (c number end : ℕ) (line : List ℕ) → number ≤ 1 → IsFirstPieceEnd (Some c) line end
     → IsKeySpan line (nth_field number (remaining_fields (Some c) (Some line))) (record { start = 0; end = end })
-first_piece_span = grind (arith, front_span)
+first_piece_span = grind arith
 
 -- ---- an empty word is skipped
-
-empty_word : (field : List ℕ) → (length field == 0) ≡ true → is_nonempty field ≡ false
-empty_word field empty = search rules
 
 pub skip_empty_word : (separator : Option ℕ) (bytes field : List ℕ) (remainder : Option (List ℕ))
     → is_some separator ≡ false → (length field == 0) ≡ true
     → MatchOption remainder (slice_split (is_separator separator) bytes ≡ field ∷ [])
     (λ left. slice_split (is_separator separator) bytes ≡ field ∷ slice_split (is_separator separator) left)
     → remaining_fields separator remainder ≡ remaining_fields separator (Some bytes)
-skip_empty_word = grind (arith, empty_word)
+skip_empty_word = grind (arith, nat_tests)
 
 -- ---- writing lines field by field
 
@@ -130,9 +122,6 @@ join_is_prefixed byte f [] = sym (append-nil f)
 join_is_prefixed byte f (g ∷ fs) = cc (join_is_prefixed byte g fs)
 
 -- ---- the other fields, after `count` of them
-
-others_none : (byte n : ℕ) → with_prefix byte (remove [] n) ≡ []
-others_none byte n = grind arith
 
 pub others_more : (count i : ℕ) {fs more : Lines} {f : List ℕ} → i < count → fs ≡ f ∷ more
     → remove fs (count - i) ≡ f ∷ remove more (count - (i + 1))
@@ -197,16 +186,6 @@ single_spaced_words false (b ∷ bytes) tidy =
 
 -- ---- canonical lines
 
--- a canonical line is its field with this number, followed by the other fields
-line_is : (b n : ℕ) (fs : Lines) (line key : List ℕ) → with_prefix b fs ≡ b ∷ line → n - 1 ≡ 0 → nth_field n fs ≡ key
-    → line ≡ key ++ with_prefix b (other_fields n fs)
-line_is = grind arith
-
--- the rest of a line after its first field
-after_key : (key rest line : List ℕ) → line ≡ key ++ rest
-    → take (length line - length key) (drop (length key) line) ≡ rest
-after_key = grind (arith, common_steps, length-append)
-
 module _ (job : Join) (key : List ℕ) (none : job.list ≡ None) where
   abbrev prefix : ℕ
   prefix = output_separator job.separator
@@ -217,7 +196,7 @@ module _ (job : Join) (key : List ℕ) (none : job.list ≡ None) where
   -- a canonical line, whose field with this number is the key
   canonical_is : {n : ℕ} {line : List ℕ} → IsCanonical job.separator n line → nth_field n (of line) ≡ key
       → line ≡ key ++ with_prefix prefix (other_fields n (of line))
-  canonical_is {n} {line} w keyed = search (rules, line_is)
+  canonical_is {n} {line} w keyed = grind (arith, w)
 
   -- the output line for a pair of canonical lines
   pub pair_is : {one two : List ℕ} (end : ℕ) → IsCanonical job.separator job.field1 one
@@ -225,21 +204,18 @@ module _ (job : Join) (key : List ℕ) (none : job.list ≡ None) where
       → nth_field job.field2 (of two) ≡ key → one ++ take (length two - length key)
       (drop (length key) two) ++ end ∷ [] ≡ entry job key (of one) (of two) ++ end ∷ []
   pair_is {one} {two} end w1 w2 keyed1 keyed2 =
-      grind (arith, after_key, canonical_is, append_assoc, entry_plain job key (Some one) (Some two))
+      grind (arith, common_steps, length-append, canonical_is, append_assoc, entry_plain job key (Some one) (Some two))
 
   -- the output line for one canonical line
   pub first_is : {line : List ℕ} → IsCanonical job.separator job.field1 line → nth_field job.field1 (of line) ≡ key
       → line ≡ entry job key (of line) []
-  first_is {line} w keyed = grind (arith, entry_plain job key (Some line) None, others_none, append-nil, canonical_is)
+  first_is {line} w keyed = grind (arith, entry_plain job key (Some line) None, append-nil, canonical_is)
 
   pub second_is : {line : List ℕ} → IsCanonical job.separator job.field2 line → nth_field job.field2 (of line) ≡ key
       → line ≡ entry job key [] (of line)
-  second_is {line} w keyed = grind (arith, entry_plain job key None (Some line), others_none, canonical_is)
+  second_is {line} w keyed = grind (arith, entry_plain job key None (Some line), canonical_is)
 
 -- ---- blanks
-
-or_of_lanes : (p q : Bool) → top 7 (bit_or (cond p 255 0) (cond q 255 0)) ≡ (p || q)
-or_of_lanes p q = grind arith
 
 -- the lanes that equal a byte, as masks
 abbrev equal_lanes : List ℕ → ℕ → ℕ → List ℕ
@@ -249,7 +225,7 @@ blank_lanes : (v : List ℕ) (n : ℕ) → length v ≡ n
     → map (top 7) (zip2 bit_or (equal_lanes v n 32) (equal_lanes v n 9)) ≡ map is_blank v
 blank_lanes [] n long = refl
 blank_lanes (b ∷ v) zero long = absurd (omega (arith, long))
-blank_lanes (b ∷ v) (suc n) long = cc (or_of_lanes (eqb b 32) (eqb b 9), blank_lanes v n (omega (arith, long)))
+blank_lanes (b ∷ v) (suc n) long = grind (arith, blank_lanes v n (omega (arith, long)))
 
 pub blank_mask : (bytes : List ℕ) (at n : ℕ) → at + n ≤ length bytes → n ≤ 64
     → mask_l (map (top 7) (zip2 bit_or (equal_lanes (chunk at n bytes) n 32)

@@ -7,7 +7,7 @@ use proofs.Common.{sym, ◌∙◌, ap, subst, arith, append_assoc, bytes_eq, byt
 use proofs.Common.{Reader, Slots, line, total_bytes, with_line, unlines, max_length, push_trans, unlines-append, Side}
 use proofs.Common.{First, Second, Sorted, CursorStatus, Head, Ended, Disorder, is_head, length-append, Lines, MergeTool}
 use proofs.Common.{entries_by_key, entries_of_key, lines_with_key, MergeState, NextOkPost, HasSlots, with_side, other}
-use proofs.Common.{PrecedesInput, disorder, merged_entries, sorted_prefixes, is_up_to, Key}
+use proofs.Common.{PrecedesInput, disorder, merged_entries, sorted_prefixes, is_up_to, Key, line_of_with_line}
 use proofs.MergeLemmas.Step.{SidesInvariant, IsAbove, current_key_is_above, next_at, sides_next, StoreInvariant}
 use proofs.MergeLemmas.Step.{EndsIfFails, advance_fails}
 use proofs.MergeLemmas.Invariant.{Bound, AtLeast, MayFollow, IsUnder, MergeInvariant, IsFuture, MayCome, all_keys}
@@ -15,13 +15,11 @@ use proofs.MergeLemmas.Invariant.{splits_step, all_wanted, written_is_wanted, La
 use proofs.JoinLemmas.GroupSlots.{AllSlots, Extends, GroupBounds, InGroup, largest_group, GroupStore, group_store_line}
 use proofs.JoinLemmas.GroupSlots.{group_store_next, put_more}
 use proofs.MergeLemmas.Slots.{low_slot, put_both, put_each, put_other, put_same, side_case, has_lines_total, line_other}
-use proofs.MergeLemmas.Exits.{at_current_line, SideAfterNext, IsAtCurrentLine, MatchesStatus, next_same_key}
-use proofs.MergeLemmas.Exits.{side_invariant_kept, Fits, read_facts_after_line, input_split_of, both_begun, IsOpenMerge}
-use proofs.MergeLemmas.Exits.{ReadFactsOf}
+use proofs.MergeLemmas.Exits.{at_current_line, SideAfterNext, IsAtCurrentLine, MatchesStatus, side_invariant_kept, Fits}
+use proofs.MergeLemmas.Exits.{read_facts_after_line, input_split_of, both_begun, IsOpenMerge, ReadFactsOf}
 use proofs.MergeLemmas.Orders.{EachKey, EachKey-append, EachKey-weaker, at_most-same, front_first, front_is, others_of}
-use proofs.MergeLemmas.Orders.{lines_with_key-above, AtMost, least_or_above, self_at_most, same_bytes}
+use proofs.MergeLemmas.Orders.{lines_with_key-above, AtMost, least_or_above, self_at_most, same_bytes, equal_is}
 use proofs.MergeLemmas.LinesRead.{Continues, HasBegun, HoldsLines}
-use Rattle.std.proofs.Common.{rules}
 use Rattle.std.proofs.lemmas.Grind.{common_steps}
 
 -- ---- a fault within a group
@@ -196,16 +194,15 @@ module _ (call : JoinCall) {store : Slots} {ls : Side → Lines} {g : Lines}
       → Fits call.tool call.old.store now ls (with_side s piece (λ t. [])) (with_line store cursor.previous_slot piece)
   peak_line = grind (arith, common_steps, group_store_line, put_same, extends, size_of)
 
-  -- a store with no more bytes and no more slots stays within the measure
-  pub fits_kept : (after : Slots) → after.peak ≤ max store.peak (total_bytes store.lines)
-      → length after.lines ≡ length store.lines → {piece : Side → List ℕ}
-      → Fits call.tool call.old.store now ls piece after
-  fits_kept = grind (arith, common_steps, size_of, extends)
-
 pub store_between_groups : (call : JoinCall) {reader : Side → Reader} {cursor : Side → Sorted} {store : Slots}
     {ls : Side → Lines} → GroupStore call.most call.old.store store ls [] → AllSlots cursor
     → StoreInvariant call.tool call.old.store reader cursor store ls
-store_between_groups call {cursor = cursor} h slots = search (rules, fits_kept, peak_line)
+store_between_groups call {cursor = cursor} h slots = record {
+  lines = h.lines;
+  denied = h.denied;
+  fits = λ after small same all more. grind (arith, common_steps, size_of, extends);
+  line = λ s. peak_line call h s (cursor s) (slots s);
+}
 
 -- the invariant of both inputs depends only on the first four slots
 pub same_cursors : (tool : MergeTool) {old now : Side → Reader} {cursor : Side → Sorted} {before after : Slots}
@@ -440,7 +437,8 @@ module _ {call : JoinCall} {now : MergeState} {cursor : Side → Sorted} {end : 
     last_stays = grind (arith, gone_to.stored, low_slot s (cursor s) (q.sides s).slots, line_other)
 
     says : next.same ≡ (is_head next.status && bytes_eq k (key s (line after next.current_slot)))
-    says = let slots = (q.sides s).slots in search (rules, next_same_key, at_head, low_slot)
+    says = let h = at_head in let low = low_slot s (cursor s) (q.sides s).slots in
+        grind (arith, line_of_with_line, equal_is, l.is)
 
     -- whether the next line has the key of the group, too
     pub continues_key : next.same ≡ true → (next.status ≡ Head) × (key s (line after next.current_slot) ≡ k)

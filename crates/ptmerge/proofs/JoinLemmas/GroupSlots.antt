@@ -143,9 +143,6 @@ group_in key k p g y w own is = (
 
 -- ---- the content of the slots
 
-drop_total : (xs : Lines) (m : Side → ℕ) (more : ℕ) → HasLines m more xs → total_bytes (drop 4 xs) ≡ more
-drop_total = grind arith
-
 -- the first four slots are unchanged, and the others hold `now` bytes
 same_lines : (xs ys : Lines) (m : Side → ℕ) (more now : ℕ) → HasLines m more xs → 4 ≤ length ys
     → ((i : ℕ) → i < 4 → get_or ys i [] ≡ get_or xs i []) → total_bytes (drop 4 ys) ≡ now → HasLines m now ys
@@ -167,7 +164,7 @@ pub record GroupStore (most : GroupBounds) (before store : Slots) (ls : Side →
 
 pub group_store_starts : {most : GroupBounds} {before store : Slots} {ls : Side → Lines}
     → StoreOfLines before store (λ side. max_length (ls side)) → GroupStore most before store ls []
-group_store_starts = grind (arith, drop_total)
+group_store_starts = grind arith
 
 -- each input uses its own two slots
 abbrev pub AllSlots : (Side → Sorted) → Type 0

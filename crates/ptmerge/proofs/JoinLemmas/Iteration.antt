@@ -11,12 +11,11 @@ use proofs.Common.{lines_of, Memory, HaveEqualKeys, HasOnlyLeastKey, IsDisorderD
 use proofs.Common.{MergeRunPre, JoinStepPre, AdvancePre, push_nothing, if◌then◌else◌, max_group_bytes, max_group_lines}
 use proofs.Common.{inl, inr, ReadGroupLineOkPost, ReadGroupLinePost, IsGroup, ClearGroupPost, group_end_slot}
 use proofs.Common.{group_first_slot, group, JoinLinePre, ⊎_elim, ◌-◌, ◌==◌, push_trans, nat_tests, length_push}
-use proofs.Common.{unlines-append, append_assoc, merged_entries, nil_from_length}
+use proofs.Common.{unlines-append, append_assoc, merged_entries, nil_from_length, length-set}
 use Rattle.ptmerge.specs.JoinGroup.{IsInItsSlot, IsCopiedToGroup}
-use proofs.MergeLemmas.Step.{BetweenSteps, between_next, advance_pre, reads_less, open_merge, wrote_as, alone}
-use proofs.MergeLemmas.Step.{wrote_alone, alone_breaks, IsAbove, reads_ahead, place_is, LoopInvariant, CursorsInvariant}
-use proofs.MergeLemmas.Step.{EndsIfFails, runs_on, n, ends_well, ends_fallen, next_keeps_slot_count, valid_cursors_kept}
-use proofs.MergeLemmas.Step.{wrote_and_sent, others_stay}
+use proofs.MergeLemmas.Step.{BetweenSteps, between_next, advance_pre, reads_less, open_merge, alone, wrote_alone}
+use proofs.MergeLemmas.Step.{alone_breaks, IsAbove, reads_ahead, place_is, LoopInvariant, CursorsInvariant, EndsIfFails}
+use proofs.MergeLemmas.Step.{runs_on, n, ends_well, ends_fallen, valid_cursors_kept, wrote_and_sent, others_stay}
 use proofs.MergeLemmas.Exits.{IsLineByLine, at_current_line, IsOpenMerge as OpenMerge, ComeFirst, exit_is_merge_post}
 use proofs.MergeLemmas.Exits.{continues, none_missing, both_begun}
 use proofs.JoinLemmas.GroupInvariant.{IsPairTool, head_of, JoinCall, state_after_read, GroupState, store_between_groups}
@@ -32,7 +31,6 @@ use proofs.JoinLemmas.GroupSlots.{group_store_cleared, group_one, InGroup, large
 use proofs.JoinLemmas.GroupSlots.{group_store_copied}
 use proofs.MergeLemmas.Orders.{IsKeyOrder, same_bytes, EachKey-at}
 use proofs.MergeLemmas.LinesRead.{Continues}
-use Rattle.std.specs.List.{flat_map}
 use Rattle.ptmerge.specs.declared.tools.join.JoinPhase.{JoinPhase}
 use Rattle.ptmerge.specs.declared.faults.MergeFault.TheVariants as faults
 use Rattle.ptmerge.specs.declared.tools.join.JoinPhase.TheVariants as phases
@@ -42,9 +40,6 @@ use Rattle.std.proofs.Common.{rules}
 
 cond_of_empty : (t : Bool) → cond {A = Lines} t [] [] ≡ []
 cond_of_empty t = grind arith
-
-cond_of_append : (t : Bool) (xs ys : Lines) → cond t (xs ++ ys) [] ≡ cond t xs [] ++ cond t ys []
-cond_of_append t xs ys = grind arith
 
 module _ (job : Join) (cmp : Cmp) (key : Side → Key) where
   first_alone : (k : List ℕ) (g : Lines) → join_entries job k g [] ≡ unpaired_entries1 job k g
@@ -70,7 +65,7 @@ module _ (job : Join) (cmp : Cmp) (key : Side → Key) where
     none = λ k g. cond_of_empty job.pairs;
     more = λ k f g c.
         let each = λ (a : List ℕ). map (pair_of job k a) c in
-        cc (flat_map-append each f g, cond_of_append job.pairs (flat_map each f) (flat_map each g));
+        grind (arith, flat_map-append each f g);
     whole = λ k a b f g. refl;
     written = λ keeps k a b f g. rw keeps (omega arith);
     unwritten = λ none k f g. rw none;
@@ -369,10 +364,6 @@ module _ {job : Join} {cmp : Cmp} {key : Side → Key} {old : MergeState} {phase
             (passing_now first) all w (has_entries call (within_more first) keeps
             (elim [ First ↦ omega arith | Second ↦ omega (arith, length_push a.g y) ]))
 
-        -- the previous line stands for the group, if none is copied
-        one_for_all : a.kept ≡ [] → IsOneForAll call a.k (line made two2.previous_slot) a.kept grown
-        one_for_all = grind (arith, last_stays, a.heads Second, a, all_copied)
-
         -- the group after the line was added to it, with its copied lines
         record GrownGroup (after : Slots) (to : ℕ) : Type 0 where
           kept : Lines
@@ -393,7 +384,7 @@ module _ {job : Join} {cmp : Cmp} {key : Side → Key} {old : MergeState} {phase
               same = λ i low. refl;
               copied = λ same. ⊎_elim (λ without. none ∙ sym (λ i. cond (without i) grown [])) (λ (differs, _). cc)
                   e.stays;
-              lines_in = inr (one_for_all none);
+              lines_in = inr (grind (arith, last_stays, a.heads Second, a, all_copied));
             })
         grown_group {after} (inr e) =
             let all : a.kept ++ y ∷ [] ≡ grown = cc (all_copied e.keeps) in
@@ -545,8 +536,8 @@ module _ {job : Join} {cmp : Cmp} {key : Side → Key} {old : MergeState} {phase
         unlines-append job.terminator
             (pair_entries job state.k (state.g First) (state.g Second)) (pair_entries job state.k z (state.g Second)),
       )
-          (push_trans _ _ _ _ _ t.clean state.q.wrote (wrote_as (state.q.sides First).lines_read.terminator
-          (sym (group_pairs_are z) ∙ (λ j. pair_entries job (sym state.head.is j) z in_slots)) pushed))
+          (push_trans _ _ _ _ _ t.clean state.q.wrote
+          (rw ((state.q.sides First).lines_read.terminator, state.head.is, group_pairs_are z) at pushed))
 
       pairs_begin : OutputStartsWith (join_with job cmp key) (with_added_line now (both one two) First state.g)
           state.q.d state.k (pair_entries job state.k (state.g First ++ z) (state.g Second))
@@ -564,7 +555,7 @@ module _ {job : Join} {cmp : Cmp} {key : Side → Key} {old : MergeState} {phase
         above_on = rw on_first.bound state.above
 
         pub group_there : (4 ≤ end) × (end ≤ length after.lines)
-        group_there = omega (arith, end_in, next_keeps_slot_count h.came)
+        group_there = grind (arith, end_in, length-set, h.came)
 
         pub write_pairs_continues : one2.same ≡ true
             → IterationInvariant job cmp key old phase (state_after_read now First reader new after) one2 two2 end

@@ -79,14 +79,11 @@ ends_mask test bytes n first all few =
 
 -- ---- single spaces
 
-zero_bits : (b : Bool) (x : ℕ) → eqb (bit b + 2 * x) 0 ≡ cond b false (eqb x 0)
-zero_bits b x = grind (arith, nat_tests)
-
 no_misplaced : (blank : Bool) (bytes : List ℕ)
     → eqb (bit_or (mask_l (map (is_byte 9) bytes)) (bit_and (mask_l (map is_blank bytes))
     (bit blank + 2 * mask_l (map is_blank bytes)))) 0 ≡ has_single_spaces blank bytes
 no_misplaced blank [] = cc
-no_misplaced blank (b ∷ bytes) = search (rules, and_bits, or_bits, zero_bits, no_misplaced (is_blank b) bytes)
+no_misplaced blank (b ∷ bytes) = grind (arith, nat_tests, and_bits, or_bits, no_misplaced (is_blank b) bytes)
 
 pub single_spaces_is : (any before : ℕ) (bytes : List ℕ) → before ≤ 1 → length bytes ≤ 64
     → any ≡ mask_l (map is_blank bytes)
@@ -269,11 +266,6 @@ record InWord (v : List ℕ) (size : ℕ) (cleared : List Bool) : Type 0 where
   pub spaced : is_single_spaced false v ≡ true → (is_single_spaced false (drop size v) ≡ true)
       × (with_prefix 32 (join_fields None (drop size v)) ≡ drop size v)
 
--- a byte of a word among single spaces
-letter_is : (blank : Bool) (b : ℕ) (v : List ℕ) → is_blank b ≡ false → is_single_spaced blank (b ∷ v) ≡ true
-    → is_single_spaced false v ≡ true
-letter_is blank b v here spaced = grind (arith, here, spaced)
-
 in_word : (v : List ℕ) → InWord v (prefix_len not (after_ones (from 0 v))) (clear_ones (from 0 v))
 in_word [] = grind arith
 in_word (b ∷ v) = by (in_word v) (is_blank b) refl
@@ -284,7 +276,7 @@ in_word (b ∷ v) = by (in_word v) (is_blank b) refl
         let split = split_byte b v e in
         let more = slice_split is_blank v in
         grind (arith, more, split, space_is, single_spaced_words true v)
-    by w false e = rw one_more (let more = w.more in grind (arith, more, split_byte b v e, w, letter_is false b v e))
+    by w false e = rw one_more (let more = w.more in grind (arith, more, split_byte b v e, w, e))
 
 -- the first word of `v` from the index `at` on is from `start` to before `end`
 pub record WordAt (at : ℕ) (v : List ℕ) (start end : ℕ) (cleared : List Bool) : Type 0 where
@@ -327,7 +319,7 @@ word_at zero (b ∷ v) low some = by (word_at 0 v (omega arith)) (is_blank b) re
           high = omega arith;
           is = cc (split_byte b v e, size);
           rest = cc w.rest;
-          spaced = λ blank s. w.spaced (letter_is blank b v e s);
+          spaced = λ blank s. w.spaced (grind (arith, e, s));
         })
 
 no_words : (at : ℕ) (v : List ℕ) → mask_l (from at v) ≡ 0 → join_fields None (drop at v) ≡ []

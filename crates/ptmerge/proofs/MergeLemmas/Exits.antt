@@ -1,27 +1,26 @@
 -- Each input of a merge, and the exits of a tool. At an exit the lines read, the processed ones and a bound on the
 -- others are known for each input, and the contract of the tool follows from these and from the output.
 use Rattle.ptmerge.proofs
-use proofs.Common.{◌≡◌, inl, inr, ℕ, ◌+◌, ◌<◌, ◌≤◌, ◌&&◌, Bool, true, false, cond, List, [], ◌∷◌, ◌++◌, Option, Some}
-use proofs.Common.{None, length, refl, sym, ◌∙◌, ap, subst, arith, bytes_eq, nat_tests, append-nil, length_push}
-use proofs.Common.{FillLine, Reader, IsDone, IsSound, Slots, line, with_line, max_length, line_of_with_line, Sorted}
-use proofs.Common.{CursorStatus, Head, Ended, Disorder, Lines, Cmp, Key, is_head, status_at, same_key_at, NextOkPost}
-use proofs.Common.{Result, Err, max, Received, known_lines, Output, ReaderAdvance, unlines, ◌⊎◌, ⊎_elim, length-append}
-use proofs.Common.{Memory, lines, IsLine, advance_trans, append_assoc, push_trans, bounded_lag_after, unlines-append}
-use proofs.Common.{MergeFault, Write, Side, First, Second, MergeTool, entries_by_key, decided_output, disorder}
-use proofs.Common.{first_disorder, lines_of, merge_output, merged_entries, MergeState, MergePost, HasNoLine, other}
-use proofs.Common.{reads_nothing, EnsureFourSlotsErrPost, ◌*◌, option_map, CallEnd, ReadFault, CallOutcome}
-use proofs.Common.{AreAllConsistent, given_before, given_by, CallProgress, DecidedIfReadFailed, call_on_failed_output}
-use proofs.Common.{merge_state, both, terminator, IsPrefix, total_bytes, both_sides, merge_engine, merge_end}
-use proofs.Common.{disordered_line, HasSlots, length-set}
+use proofs.Common.{◌≡◌, inl, inr, ℕ, ◌+◌, ◌<◌, ◌≤◌, Bool, true, false, cond, List, [], ◌∷◌, ◌++◌, Option, Some, None}
+use proofs.Common.{length, refl, sym, ◌∙◌, ap, subst, arith, nat_tests, append-nil, length_push, FillLine, Reader}
+use proofs.Common.{IsDone, IsSound, Slots, line, with_line, max_length, line_of_with_line, Sorted, CursorStatus, Head}
+use proofs.Common.{Ended, Disorder, Lines, Cmp, Key, status_at, same_key_at, NextOkPost, Result, Err, max, Received}
+use proofs.Common.{known_lines, Output, ReaderAdvance, unlines, ◌⊎◌, ⊎_elim, length-append, Memory, lines, IsLine}
+use proofs.Common.{advance_trans, append_assoc, push_trans, bounded_lag_after, unlines-append, MergeFault, Write, Side}
+use proofs.Common.{First, Second, MergeTool, entries_by_key, decided_output, disorder, first_disorder, lines_of}
+use proofs.Common.{merge_output, merged_entries, MergeState, MergePost, HasNoLine, other, reads_nothing}
+use proofs.Common.{EnsureFourSlotsErrPost, ◌*◌, option_map, CallEnd, ReadFault, CallOutcome, AreAllConsistent}
+use proofs.Common.{given_before, given_by, CallProgress, DecidedIfReadFailed, call_on_failed_output, merge_state, both}
+use proofs.Common.{terminator, IsPrefix, total_bytes, both_sides, merge_engine, merge_end, disordered_line, HasSlots}
+use proofs.Common.{length-set}
 use proofs.MergeLemmas.Lag.{decided_at, ProcessedNearly, LinesToCome, LagPoint, back, unsettled, lag_bound}
 use proofs.MergeLemmas.Invariant.{output_of, Bound, NoBound, AtLeast, AfterDisorder, NothingMore, IsSortedUpTo}
-use proofs.MergeLemmas.Invariant.{sorted_up_to_more, is_disordered, IsProcessedPrefix, IsFuture, processed_before_line}
-use proofs.MergeLemmas.Invariant.{processed_all, processed_to_line, LagInvariant, MergeInvariant, IsExactStop}
-use proofs.MergeLemmas.Invariant.{input_split, all_keys, under_fall, IsLater, may_follow_none}
+use proofs.MergeLemmas.Invariant.{is_disordered, IsProcessedPrefix, IsFuture, after_from, LagInvariant, MergeInvariant}
+use proofs.MergeLemmas.Invariant.{IsExactStop, input_split, all_keys, IsLater, may_follow_none}
 use proofs.MergeLemmas.LinesRead.{LinesRead, HoldsLines, HasBegun, begun_gives_line, one_line_and_block}
 use proofs.MergeLemmas.LinesRead.{lines_read_more, lines_read_eof, Continues, KnownLines, lines_read_known}
 use proofs.MergeLemmas.LinesRead.{lines_read_of_input}
-use proofs.MergeLemmas.Orders.{EachKey-weaker, IsKeyOrder, at_most_trans, equal_is}
+use proofs.MergeLemmas.Orders.{EachKey-weaker, IsKeyOrder, at_most_trans, self_at_most}
 use proofs.MergeLemmas.Slots.{with_own, line_other, AreLow, low_slot}
 use Rattle.ptlines.proofs.Calls.{call_ends, call_set, call_without_slots}
 use Rattle.ptlines.proofs.MaxLength.{max_length-append}
@@ -80,7 +79,7 @@ module _ {tool : MergeTool} {s : Side} {old now : Reader} {cursor : Sorted} {sto
 
   -- the current line is processed
   pub read_facts_after_line : IsKeyOrder tool.cmp → cursor.status ≡ Head → ReadFacts tool s old now now [] ls ls b
-  read_facts_after_line o head = let h = at_current_line head in grind (arith, processed_to_line)
+  read_facts_after_line o head = let h = at_current_line head in grind (arith, after_from)
 
 -- the bound of an input after the last key, or before any line
 abbrev pub bound_after : Option (List ℕ) → Bound
@@ -163,12 +162,14 @@ module _ (tool : MergeTool) (o : IsKeyOrder tool.cmp) (s : Side) (old now new : 
     at_head : (last : Option (List ℕ)) → IsSortedUpTo cmp own ls last
         → is_disordered cmp last (own e.line) ≡ false → Goal last (next_cursor Head (cursor.number + 1) same)
     at_head last sorted_up_to no_disorder =
-        let more = sorted_up_to_more e.line sorted_up_to no_disorder in
+        let more : IsSortedUpTo cmp own (ls ++ e.line ∷ []) (Some (own e.line)) =
+        grind (arith, common_steps, sorted_up_to) in
         let within : cursor.previous_slot < length before.lines = omega (arith, low) in
         at_next last (e.line ∷ []) e.line (next_cursor Head (cursor.number + 1) same) (AtLeast (own e.line))
         (lines_read_more lines_read e)
         (inr (omega (arith, length_push ls e.line))) sound (refl, refl) (inr (e.line, refl, refl))
-        (omega (arith, number, length_push ls e.line)) (processed_before_line o more) (λ ended. cc)
+        (omega (arith, number, length_push ls e.line)) (grind (arith, common_steps, after_from, self_at_most, more))
+        (λ ended. cc)
         (grind (arith, more, line_of_with_line)) (from_next o own last e.line no_disorder) e.stored
         (omega (arith, max_length-append ls (e.line ∷ [])))
 
@@ -202,20 +203,10 @@ module _ (tool : MergeTool) (o : IsKeyOrder tool.cmp) (s : Side) (old now new : 
       (simp append-nil (lines_read_eof lines_read e.advance_ok e.done)) (inl e.done) e.sound (refl, refl)
       (inl (append-nil ls))
       (simp append-nil number)
-      (simp append-nil (processed_all sorted_up_to)) (λ ended. e.done)
+      (grind (arith, common_steps, sorted_up_to)) (λ ended. e.done)
       (refl, e.done)
       (record { may_follow = λ r none. rw none (may_follow_none cmp own (bound_after last)); under = λ k u. tt })
       e.empty (omega arith))
-
--- ---- whether the current line has the key of the previous one
-
-pub next_same_key : (cmp : Cmp) (o : IsKeyOrder cmp) (key : Key) (cursor next : Sorted) (now new : Reader)
-    (before after : Slots)
-    → 0 < cursor.number → cursor.previous_slot < length before.lines
-    → NextOkPost key cmp cursor next now new before after
-    → next.same ≡ (is_head next.status && bytes_eq (key (line before cursor.current_slot))
-    (key (line after next.current_slot)))
-next_same_key = grind (arith, line_of_with_line, equal_is)
 
 -- ---- an exit
 
@@ -426,8 +417,8 @@ module _ {tool : MergeTool} {old : MergeState} (w : IsOpenMerge tool old) (new :
       stops_at_disorder = λ of clean_then.
           let f = first_disorder cmp (key (other of)) (known_lines tool.terminator (given (other of))) in
           unsettled tool w.o given front _ tail _ lag.split lag.under_bound future of (backs of)
-          (EachKey-weaker _ _ (λ k u. under_fall cmp w.o (b (other of)) k f u
-          (whole_input_split (other of)).may_disorder) _ _ (lag.under (other of) of));
+          (EachKey-weaker _ _ (λ k u. grind (arith, at_most_trans, (whole_input_split (other of)).may_disorder)) _ _
+          (lag.under (other of) of));
       first_reads = λ clean_then. record {
         second_unread = λ none. ⊎_elim (λ begun. absurd (has_line First begun none))
             (λ same. same ∙ (λ i. record (old.reader Second) { terminator = w.terminator Second i })) order.first;

@@ -15,7 +15,6 @@ use proofs.MergeLemmas.Orders.{Each-append, Each-all, EachKey-append, front_firs
 use proofs.MergeLemmas.Slots.{put_each}
 use Rattle.ptmerge.specs.MergeSpec.{MergeDisorder}
 use Rattle.std.proofs.Common.{rules}
-use Rattle.std.proofs.lemmas.Grind.{common_steps}
 
 abbrev pub is_disordered : Cmp → Option (List ℕ) → List ℕ → Bool
 is_disordered cmp None k = false
@@ -87,11 +86,6 @@ pub record IsSortedUpTo (cmp : Cmp) (key : Key) (q : Lines) (last : Option (List
 
 pub sorted_up_to_none : {cmp : Cmp} {key : Key} → IsSortedUpTo cmp key [] None
 sorted_up_to_none = grind (arith, sorted_prefix_is, first_disorder_is)
-
-pub sorted_up_to_more : {cmp : Cmp} {key : Key} {q : Lines} {last : Option (List ℕ)} (x : List ℕ)
-    → IsSortedUpTo cmp key q last → is_disordered cmp last (key x) ≡ false
-    → IsSortedUpTo cmp key (q ++ x ∷ []) (Some (key x))
-sorted_up_to_more = grind (arith, common_steps)
 
 -- the disorder, if there is one, comes after a key that is at least k
 abbrev pub IsDisorderFrom : Cmp → List ℕ → Option FirstDisorder → Type 0
@@ -166,20 +160,6 @@ pub record IsFuture (cmp : Cmp) (key : Key) (all p : Lines) (b : Bound) : Type 0
 pub record IsProcessedPrefix (cmp : Cmp) (key : Key) (ls p : Lines) (b : Bound) : Type 0 where
   pub future : (w : Lines) → (b ≡ NothingMore → w ≡ []) → IsFuture cmp key (ls ++ w) p b
 
--- all lines read are processed
-pub processed_to_line : {cmp : Cmp} (o : IsKeyOrder cmp) {key : Key} {ls : Lines} {k : List ℕ}
-    → IsSortedUpTo cmp key ls (Some k) → IsProcessedPrefix cmp key ls ls (AtLeast k)
-processed_to_line = grind (arith, after_from)
-
-pub processed_all : {cmp : Cmp} {key : Key} {ls : Lines} {last : Option (List ℕ)} → IsSortedUpTo cmp key ls last
-    → IsProcessedPrefix cmp key ls ls NothingMore
-processed_all g = grind arith
-
--- the current line is not yet processed
-pub processed_before_line : {cmp : Cmp} (o : IsKeyOrder cmp) {key : Key} {p : Lines} {x : List ℕ}
-    → IsSortedUpTo cmp key (p ++ x ∷ []) (Some (key x)) → IsProcessedPrefix cmp key (p ++ x ∷ []) p (AtLeast (key x))
-processed_before_line = grind (arith, common_steps, after_from, self_at_most)
-
 -- ---- the output
 
 abbrev pub all_keys : List ℕ → Bool
@@ -229,11 +209,6 @@ module _ (cmp : Cmp) (o : IsKeyOrder cmp) where
     downward_first w p down ks
         more,
   )
-
-  -- the disorder comes after a key that is at least k
-  pub under_fall : (b : Bound) (k : List ℕ) (f : Option FirstDisorder) → IsUnder cmp b k → MayDisorder cmp b f
-      → IsDisorderFrom cmp k f
-  under_fall b k f u h = grind (arith, at_most_trans)
 
   pub up_to_from : (k : List ℕ) (f1 f2 : Option FirstDisorder) → IsDisorderFrom cmp k f1 → IsDisorderFrom cmp k f2
       → is_up_to cmp (earlier_disorder cmp f1 f2) k ≡ true
@@ -426,11 +401,6 @@ IsExactStop tool b found = (ls r : Side → Lines) → ((s : Side) → MayFollow
     → (entries_by_key tool (is_up_to tool.cmp (disorder tool ls)) r ≡ [])
     × (option_map disordered_line (disorder tool ls) ≡ found)
 
--- both inputs are at their ends
-pub exact_at_end : (tool : MergeTool) {b : Side → Bound} → ((side : Side) → b side ≡ NothingMore)
-    → IsExactStop tool b None
-exact_at_end = grind arith
-
 -- ---- the decided output
 
 pub both_under : (key : Key) (P Q R : List ℕ → Type 0) → ((k : List ℕ) → P k → Q k → R k) → (xs : Lines)
@@ -467,15 +437,11 @@ module _ (cmp : Cmp) (o : IsKeyOrder cmp) where
       by (Some x) e = EachKey-weaker _ _ (λ k h. not_below k x h) _ _
           (coming_under other_key b x r (last_has key (IsUnder cmp b) None p x e (λ y bad. cc) u) c)
 
-  -- the tests of `is_decided` hold for all keys below a key for which they hold
-  downward_lt : (l a b : List ℕ) → cmp b a ≡ Greater → is_lt (cmp b l) ≡ true → is_lt (cmp a l) ≡ true
-  downward_lt l a b g h = grind (arith, greater_flips, less_flips, above_trans)
-
   downward_up_to : (d : Option MergeDisorder) → IsDownwardClosed cmp (is_up_to cmp d)
   downward_up_to = grind (arith, at_most_trans, greater_flips)
 
   downward_past : (key : Key) (eof : Bool) (ls : Lines) → IsDownwardClosed cmp (is_past cmp key eof ls)
-  downward_past = grind (arith, downward_lt)
+  downward_past = grind (arith, greater_flips, less_flips, above_trans)
 
 all_three : (x y z u v w : Bool) → (x ≡ true → u ≡ true) → (y ≡ true → v ≡ true) → (z ≡ true → w ≡ true)
     → (x && y && z) ≡ true → (u && v && w) ≡ true

@@ -28,9 +28,6 @@ sorted_from_after : (cmp : Cmp) (key : Key) (last : Option (List ℕ)) (ls : Lin
 sorted_from_after cmp key last [] = tt
 sorted_from_after cmp key last (x ∷ ls) = let ih = sorted_from_after cmp key (Some (key x)) ls in grind arith
 
-sorted_from_prefix : (cmp : Cmp) (key : Key) (ls : Lines) → IsSortedFrom cmp key None (sorted_prefix cmp key ls)
-sorted_from_prefix cmp key ls = rw (sorted_prefix_is cmp key ls) (sorted_from_after cmp key None ls)
-
 sorted_from_parts : (cmp : Cmp) (key : Key) (last : Option (List ℕ)) (xs ys : Lines)
     → IsSortedFrom cmp key last (xs ++ ys) → IsSortedFrom cmp key last xs
     × IsSortedFrom cmp key (last_or last (map key xs)) ys
@@ -62,9 +59,6 @@ module _ (cmp : Cmp) (o : IsKeyOrder cmp) (key : Key) where
 -- all lines have their terminator, or the last one lacks it
 abbrev Shape : ℕ → List ℕ → Lines → Type 0
 Shape end given ls = AreLines end ls × ((given ≡ unlines end ls) ⊎ (given ++ end ∷ [] ≡ unlines end ls))
-
-shape_of : (end : ℕ) (given : List ℕ) (ls : Lines) (now : Reader) → IsReadAs end given ls now → Shape end given ls
-shape_of = grind (arith, the_lines)
 
 last_of : {A : Type 0} (xs : List A) → (xs ≡ []) ⊎ ((front : List A) × (x : A) × (xs ≡ front ++ x ∷ []))
 last_of [] = inl refl
@@ -122,7 +116,7 @@ module _ (end : ℕ) (given piece : List ℕ) (ls p : Lines) (now new : Reader) 
       (IsLine-append end y piece line free) rest split
 
   pub back : ProcessedNearly ls p piece → Point
-  back processed_nearly = by processed_nearly (shape_of end given ls now far)
+  back processed_nearly = by processed_nearly (grind (arith, the_lines, far))
     where
       by : ProcessedNearly ls p piece → Shape end given ls → Point
       by (inl e) (all, inl is) =
@@ -238,8 +232,8 @@ module _ (tool : MergeTool) (o : IsKeyOrder tool.cmp) (given : Side → Received
     last = last_or None (map (tool.key of) whole)
 
     in_order : IsSortedFrom cmp (tool.key of) None (whole ++ point.rest)
-    in_order = rw (← point.split) (sorted_from_parts cmp (tool.key of) None (q of) _
-        (rw (future of).is at (sorted_from_prefix cmp (tool.key of) (known_lines terminator (given of))))).0
+    in_order = rw (← point.split) (sorted_from_parts cmp (tool.key of) None (q of)
+        (future of).rest (rw (← (future of).is, sorted_prefix_is) (sorted_from_after cmp (tool.key of) None _))).0
 
     ordered : (sorted_prefix cmp (tool.key of) whole ≡ whole) × (first_disorder cmp (tool.key of) whole ≡ None)
     ordered = grind (arith, sorted_from_parts, in_order, sorted_from_start)

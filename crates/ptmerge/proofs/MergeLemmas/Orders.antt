@@ -37,10 +37,6 @@ module _ (cmp : Cmp) (o : IsKeyOrder cmp) where
   pub self_at_most : (a : List ℕ) → AtMost cmp a a
   self_at_most a = ap is_gt (tied_itself o.total a)
 
-  -- keys that differ in the order differ in their bytes
-  not_equal : (a b : List ℕ) → is_eq (cmp a b) ≡ false → bytes_eq a b ≡ false
-  not_equal a b n = search (rules, not_same)
-
   pub equal_is : (a b : List ℕ) → is_eq (cmp a b) ≡ bytes_eq a b
   equal_is a b = grind (arith, not_same a b, tied_itself o.total a, o.exact a b, bytes_decides a b)
 
@@ -57,7 +53,7 @@ module _ (cmp : Cmp) (o : IsKeyOrder cmp) where
   above_at_most k y g = ap is_gt (greater_flips y k g)
 
   pub above_not_same : (k y : List ℕ) → cmp y k ≡ Greater → bytes_eq y k ≡ false
-  above_not_same k y g = not_equal y k (ap is_eq g)
+  above_not_same k y g = grind (arith, not_same y k, tied_itself o.total y)
 
   -- k equals y, or is less
   pub least_or_above : (k y : List ℕ) → AtMost cmp k y

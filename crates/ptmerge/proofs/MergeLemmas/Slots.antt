@@ -78,9 +78,6 @@ four_total : (a b c d : List ℕ) (rest : List (List ℕ))
     → total_bytes (a ∷ b ∷ c ∷ d ∷ rest) ≡ ((length a + length b) + length c) + length d + total_bytes rest
 four_total = grind (arith, common_steps)
 
-pub has_lines_none : (xs : List (List ℕ)) → 4 ≤ length xs → total_bytes xs ≡ 0 → HasLines (λ side. 0) 0 xs
-has_lines_none = grind (arith, four_total)
-
 -- the number of slots, and the bytes in all of them
 pub record LinesTotal (xs : List (List ℕ)) (m : Side → ℕ) (more : ℕ) : Type 0 where
   pub four : 4 ≤ length xs
@@ -107,7 +104,7 @@ pub record StoreOfLines (before store : Slots) (m : Side → ℕ) : Type 0 where
 
 pub store_of_no_lines : {before store : Slots} → EnsureFourSlotsPost before store → before.denied ≡ false
     → total_bytes before.lines ≡ 0 → StoreOfLines before store (λ side. 0)
-store_of_no_lines = grind (arith, has_lines_none)
+store_of_no_lines = grind (arith, four_total)
 
 pub store_with_line : {before store after : Slots} (s : Side) (cursor : Sorted) {m : Side → ℕ} (k : Side → ℕ)
     (x : List ℕ)

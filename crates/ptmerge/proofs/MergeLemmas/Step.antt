@@ -3,12 +3,12 @@
 -- a disorder is reported, and a fault of a write or read ends it with a prefix of the output.
 use Rattle.ptmerge.proofs
 use proofs.Common.{AdvancePre, IsReadyToContinue, ◌≡◌, inl, inr, ℕ, ◌+◌, ◌≤◌, true, false, List, [], ◌∷◌, Option, Some}
-use proofs.Common.{None, Err, length, refl, sym, ◌∙◌, arith, is_lt, is_le, append-nil, Output, PushEffect, Reader}
+use proofs.Common.{None, Err, length, refl, sym, ◌∙◌, arith, is_le, append-nil, Output, PushEffect, Reader}
 use proofs.Common.{ReaderAdvance, IsDone, IsSound, Slots, line, with_line, unlines, IsLine, push_nothing, MergeFault}
 use proofs.Common.{Side, First, Second, Sorted, CursorStatus, Head, Ended, Disorder, Lines, MergeTool, FirstDisorder}
 use proofs.Common.{entries_by_key, earlier_disorder, first_disorder, MergeState, MergePost, Cmp, Key, NextErrPost}
 use proofs.Common.{NextOkPost, HasSlots, base_slot, with_side, other, PrecedesInput, IsDisorderDecided, IsReportable}
-use proofs.Common.{previous_key, ap, ◌⊎◌, max, length-set, total_bytes, max_length, Write, MergeRunPre, merge_state}
+use proofs.Common.{previous_key, ap, ◌⊎◌, max, total_bytes, max_length, Write, MergeRunPre, merge_state}
 use proofs.Common.{WriteFaultPost, both, AreValidCursors, budget, IsReaderOf, push_trans, cond, Ordering, is_eq, is_gt}
 use proofs.Common.{CopyToGroupPost, same_key_at, status_at, ◌<◌, Result, ClearFourSlotsPost, Ok, initial_cursor}
 use proofs.Common.{merge_inputs, MergeInputs, StartErrPost, StartOkPost, StartFirstPost, CallOutcome, AllPushed}
@@ -16,7 +16,7 @@ use proofs.Common.{Received, both_sides, reads_nothing, merge_engine, merge_end,
 use proofs.MergeLemmas.Invariant.{output_of, Bound, AfterDisorder, NothingMore, MayFollow, MayDisorder, IsUnder}
 use proofs.MergeLemmas.Invariant.{LagInvariant, MergeInvariant, IsExactStop, line_is_least_run, lag_invariant_starts}
 use proofs.MergeLemmas.Invariant.{not_below, write_least_run, bound_changes, all_keys, none_wanted, NoBound}
-use proofs.MergeLemmas.Invariant.{sorted_up_to_none, merge_invariant_starts, AllWritten, exact_at_end, under_lower}
+use proofs.MergeLemmas.Invariant.{sorted_up_to_none, merge_invariant_starts, AllWritten, under_lower}
 use proofs.MergeLemmas.Orders.{EachKey, EachKey-weaker, lines_with_key-above, IsKeyOrder, Above, above_at_most}
 use proofs.MergeLemmas.Orders.{above_up, greater_flips, is_greater}
 use proofs.MergeLemmas.Slots.{both_each, put_both, put_each, put_other, put_same, side_case, line_other, StoreOfLines}
@@ -27,7 +27,7 @@ use proofs.MergeLemmas.Exits.{side_invariant_kept, IsFailedRead, Fits, state_by_
 use proofs.MergeLemmas.Exits.{read_facts_after_line, reads_left, FirstReads, both_begun, ComeFirst, HoldsTwoLines}
 use proofs.MergeLemmas.Exits.{IsOpenMerge, ReadFactsOf, processed_come_first, exact_output, merge_without_slots, given}
 use proofs.MergeLemmas.Exits.{IsLineByLine}
-use proofs.MergeLemmas.LinesRead.{HasBegun, LinesRead, lines_read_none, one_line_at_most}
+use proofs.MergeLemmas.LinesRead.{HasBegun, LinesRead, one_line_at_most}
 use Rattle.ptmerge.specs.declared.faults.MergeFault.TheVariants as faults
 use Rattle.std.proofs.Common.{rules}
 use Rattle.std.proofs.lemmas.Grind.{common_steps}
@@ -90,34 +90,16 @@ module _ {tool : MergeTool} (o : IsKeyOrder tool.cmp) {old now : Side → Reader
 
 -- ---- the end of the loop
 
--- of two inputs out of order, the input `s` is reported, since its last key l is less or it is the first
-abbrev Precedes : Cmp → Side → List ℕ → List ℕ → Type 0
-Precedes cmp First l other = is_lt (cmp other l) ≡ false
-Precedes cmp Second l other = is_lt (cmp l other) ≡ true
-
--- the disorder of the other input, if there is one, is not the one to report
-abbrev IsReportedOver : Cmp → Side → FirstDisorder → Option FirstDisorder → Type 0
-IsReportedOver cmp s d None = Unit {0}
-IsReportedOver cmp s d (Some e) = Precedes cmp s d.last_key e.last_key
-
-named_is : (cmp : Cmp) (s : Side) (f : Side → Option FirstDisorder) (d : FirstDisorder) → f s ≡ Some d
-    → IsReportedOver cmp s d (f (other s)) → earlier_disorder cmp (f First) (f Second) ≡ Some
-    (record { file = s; first_disorder = d })
-named_is = grind arith
-
 module _ (cmp : Cmp) (o : IsKeyOrder cmp) where
-  -- the disorder of the other input is not the one to report
-  reported_over : (key : Key) (s : Side) (d : FirstDisorder) (status : CursorStatus) (cursor : Sorted) (store : Slots)
+  -- the disorder of the other input, if there is one, is not the one to report
+  named_is : (key : Key) (s : Side) (d : FirstDisorder) (status : CursorStatus) (cursor : Sorted) (store : Slots)
       (now : Reader) (ls p : Lines) (b : Bound)
       → IsReportable cmp s d.last_key status (key (line store cursor.current_slot))
       (key (line store cursor.previous_slot))
-      → MatchesStatus cmp key status cursor store now ls p b → (f : Option FirstDisorder) → MayDisorder cmp b f
-      → IsReportedOver cmp s d f
-  reported_over = grind (arith, above_up, is_greater, not_below, greater_flips)
-
-  reportable_precedes : (s : Side) (l : List ℕ) (status : CursorStatus) (head last : List ℕ)
-      → IsReportable cmp s l status head last → PrecedesInput cmp l status head last
-  reportable_precedes = grind (arith, greater_flips, is_greater)
+      → MatchesStatus cmp key status cursor store now ls p b → (f : Side → Option FirstDisorder) → f s ≡ Some d
+      → MayDisorder cmp b (f (other s))
+      → earlier_disorder cmp (f First) (f Second) ≡ Some (record { file = s; first_disorder = d })
+  named_is = grind (arith, above_up, is_greater, not_below, greater_flips)
 
 -- an input is out of order, and no key that may follow is up to its last key
 pub stops_at : (tool : MergeTool) (o : IsKeyOrder tool.cmp) (old now : Side → Reader) (cursor : Side → Sorted)
@@ -128,10 +110,10 @@ stops_at tool o old now cursor store ls p b sides s n dec l r c f =
     let d : FirstDisorder = record { last_key = previous_key tool.key cursor store s; line = n } in
     let disordered : b s ≡ AfterDisorder d = rw dec.status_is at (sides s).status_is in
     let st = (sides (other s)).status_is in
-    let (above, _) = current_key_is_above _ o _ _ _ _ _ _ _ _ _
-    (reportable_precedes _ o s _ _ _ _ dec.named) st in
-    rw (named_is tool.cmp s (λ side. first_disorder tool.cmp (tool.key side) (l side)) d (rw disordered at (f s))
-    (reported_over _ o _ s d _ _ _ _ _ _ _ dec.named st _ (f (other s)))) (
+    let (above, _) = current_key_is_above _ o _ d.last_key _ _ _ _ _ _ _
+    (grind (arith, greater_flips, is_greater, dec.named)) st in
+    rw (named_is _ o _ s d _ _ _ _ _ _ _ dec.named st (λ side. first_disorder tool.cmp (tool.key side) (l side))
+    (rw disordered at (f s)) (f (other s))) (
       none_wanted tool (λ k. is_le (tool.cmp k d.last_key)) r
           (side_case _ s (rw (rw disordered at (c s)) tt)
           (EachKey-weaker _ _ (λ k h. ap is_le h) _ _ (above _ (c (other s))))),
@@ -165,11 +147,6 @@ record FailedAdvance (cursor : Sorted) (was is : Reader) (before after : Slots) 
   pub count : length after.lines ≡ length (with_line before cursor.previous_slot piece).lines
   pub failed : is.failed ≡ true → was.failed ≡ false → (is.buffered ≡ []) × (is.eof ≡ false)
 
-failed_advance : (s : Side) (cursor : Sorted) (was is : Reader) (before after : Slots) (out : Output)
-    (fault : MergeFault) → IsSound was → AdvanceErrPost s cursor was is before after out fault
-    → FailedAdvance cursor was is before after
-failed_advance = search rules
-
 -- the input `s` is to advance, and all its lines are processed
 pub record IsAdvancing (tool : MergeTool) (old now : MergeState) (s : Side) (cursor : Sorted) (ls p : Side → Lines)
     (b : Side → Bound) : Type 0 where
@@ -202,7 +179,8 @@ module _ {tool : MergeTool} {old : MergeState} (w : IsOpenMerge tool old) {now :
       → ComeFirst tool now.reader ls done)
       → EndsIfFails tool old now s cursor out
   advance_fails {out} {done} lag first new after fault e =
-      let f = failed_advance s cursor (now.reader s) new _ after out fault (a.facts s).sound e in
+      let sound = (a.facts s).sound in
+      let f : FailedAdvance cursor (now.reader s) new now.store after = search rules in
       let facts = put_both (ReadFactsOf tool old now.reader ls p b) s new _ f.piece (λ side. [])
       (grind (arith, a.facts s, f)) (a.facts (other s)) in
       let is = state_by_side (with_side s new now.reader) out after in
@@ -225,15 +203,6 @@ pub record LoopInvariant (tool : MergeTool) (Keep : Slots → (Side → Lines) �
   pub sides : SidesInvariant tool old.reader now.reader cursor now.store ls p b
   pub merge_invariant : MergeInvariant tool b p old.out now.out
   pub keeps : Keep now.store ls
-
--- the output as lines with terminators
-pub wrote_as : {end e : ℕ} {xs ys : Lines} {was is : Output} → e ≡ end → ys ≡ xs → PushEffect was is (unlines e xs)
-    → PushEffect was is (unlines end ys)
-wrote_as same list wrote = rw (list, ← same) wrote
-
-pub next_keeps_slot_count : {key : Key} {cmp : Cmp} {cursor next : Sorted} {was is : Reader} {before after : Slots}
-    → NextOkPost key cmp cursor next was is before after → length after.lines ≡ length before.lines
-next_keeps_slot_count e = grind (arith, length-set)
 
 -- ---- a tool that stores two lines of each input
 
@@ -378,7 +347,7 @@ module _ {tool : MergeTool} {old : MergeState} {reader : Side → Reader} {curso
     ends_well step =
         let e : (side : Side) → (b side ≡ NothingMore) × IsDone (reader side) =
         λ side. rw (step side) at (a.sides side).status_is in
-        concludes (Ok tt) (pushed_all (λ none side. (e side).1) (exact_at_end tool (λ side. (e side).0)))
+        concludes (Ok tt) (pushed_all (λ none side. (e side).1) (grind (arith, e)))
 
     pub ends_fallen : {s : Side} {n : ℕ} → IsDisorderDecided cmp key cursor store s n
         → MergePost tool old last (Err (faults.Disorder s n))
@@ -486,10 +455,6 @@ pub kept_line : (before after : Slots) (from to slot : ℕ) → slot < to → Co
     → line after slot ≡ line before slot
 kept_line = grind (arith, line_added, line_other)
 
-pub kept_least : (before after : Slots) (from to : ℕ) → CopyToGroupPost before after from to
-    → length before.lines ≤ length after.lines
-kept_least = search rules
-
 -- ---- the start
 
 -- Slots are added and the first line of each input is read. Nothing is processed yet, so the invariant holds with an
@@ -505,7 +470,7 @@ module _ {tool : MergeTool} {old : MergeState} (w : IsOpenMerge tool old) where
   unstarted = record { reader = old.reader; store = old.store }
 
   none_read : (side : Side) → LinesRead terminator (old.reader side) (old.reader side) []
-  none_read side = lines_read_none (w.readable side) (w.terminator side)
+  none_read side = grind (arith, w.readable side, w.terminator side)
 
   -- an input was advanced to its first line
   first_line : (side : Side) {new : Reader} {cursor : Sorted} {before after : Slots} → 4 ≤ length before.lines
@@ -530,10 +495,6 @@ module _ {tool : MergeTool} {old : MergeState} (w : IsOpenMerge tool old) where
 
     half_invariant : MergeInvariant tool (both began.bound NoBound) no_lines old.out old.out
     half_invariant = search (rules, bound_changes, began, merge_invariant_starts)
-
-    -- at most one line of it was read
-    first_line_only : length began.now_ls + 0 ≤ 1
-    first_line_only = grind (arith, began)
 
   pub start_ok : {Keep : Slots → (Side → Lines) → Type 0} {first second : Reader} {store : Slots} {one two : Sorted}
       → ((ls : Side → Lines) → StoreHoldsTwoLines old.store store ls → Keep store ls)
@@ -598,5 +559,5 @@ module _ {tool : MergeTool} {old : MergeState} (w : IsOpenMerge tool old) where
         let g = began s in
         first_read_fails Second (state_by_side (both new1 (old.reader Second)) old.out s.mid)
         (elim [ First ↦ g.side_invariant.facts | Second ↦ unread Second ]) refl
-        (λ r piece free. grind (arith, first_line_only s))
+        (λ r piece free. grind (arith, g))
         (half_store s) (half_invariant s) _ _ _ (inr (w.writable, s.later))

@@ -1,9 +1,9 @@
 -- Each iteration preserves the invariant by one lemma of `Iteration`, and each exit has the postconditions by another.
 use Rattle.ptmerge.proofs
-use proofs.Common.{arith, refl, ◌∙◌, comm_job}
-use proofs.MergeLemmas.Step.{advance_pre, err_is, start_fault, start_ok, between_starts}
-use proofs.CommLemmas.Iteration.{alone_decreases, alone_continues, alone_fails, eof, disordered, pair_decreases}
-use proofs.CommLemmas.Iteration.{pair_continues, pair_fails, second_advance_pre, second_fails, opened}
+use proofs.Common.{refl, ◌∙◌, comm_job}
+use proofs.MergeLemmas.Step.{advance_pre, err_is, start_fault, start_ok, between_starts, reads_less}
+use proofs.CommLemmas.Iteration.{alone_continues, alone_fails, eof, disordered, pair_decreases, pair_continues}
+use proofs.CommLemmas.Iteration.{pair_fails, second_advance_pre, second_fails, opened}
 use Rattle.ptmerge.proofs.tools.comm.comm_with_order.Goals as goal
 
 pub returns-in_err-merge : goal.returns-in_err-merge
@@ -76,11 +76,14 @@ steps-preserved g c =
     })
 
 pub steps-smaller-in-Continue-branch-2 : goal.steps-smaller-in-Continue-branch-2
-steps-smaller-in-Continue-branch-2 g c = grind (arith, alone_decreases)
+steps-smaller-in-Continue-branch-2 g c =
+    let h = c.in_ok-write_head-in-First.ensures.advances in
+    reads_less c.steps.invariant.iteration.between _ h.continues c.in-First.ensures.status_is h.came
 
 pub steps-smaller-in-Continue-branch-3 : goal.steps-smaller-in-Continue-branch-3
 steps-smaller-in-Continue-branch-3 g c =
-    alone_decreases c.steps.invariant.iteration c.in-Second.ensures c.in_ok-write_head-in-Second.ensures.advances
+    let h = c.in_ok-write_head-in-Second.ensures.advances in
+    reads_less c.steps.invariant.iteration.between _ h.continues c.in-Second.ensures.status_is h.came
 
 pub steps-smaller : goal.steps-smaller
 steps-smaller g c = pair_decreases c.steps.invariant.iteration c.in-Both.ensures
