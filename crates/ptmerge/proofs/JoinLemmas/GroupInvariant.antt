@@ -19,7 +19,7 @@ use proofs.MergeLemmas.Exits.{at_current_line, SideAfterNext, IsAtCurrentLine, M
 use proofs.MergeLemmas.Exits.{read_facts_after_line, input_split_of, both_begun, IsOpenMerge, ReadFactsOf}
 use proofs.MergeLemmas.Orders.{EachKey, EachKey-append, EachKey-weaker, at_most-same, front_first, front_is, others_of}
 use proofs.MergeLemmas.Orders.{lines_with_key-above, AtMost, least_or_above, self_at_most, same_bytes, equal_is}
-use proofs.MergeLemmas.LinesRead.{Continues, HasBegun, HoldsLines}
+use proofs.MergeLemmas.LinesRead.{Continues, HoldsLines}
 use Rattle.std.proofs.lemmas.Grind.{common_steps}
 
 -- ---- a fault within a group
@@ -345,9 +345,6 @@ module _ {call : JoinCall} {now : MergeState} {cursor : Side → Sorted} {end : 
   pub none_failed : (side : Side) → (now.reader side).failed ≡ (old.reader side).failed
   none_failed side = (q.sides side).lines_read.advance_ok.failed
 
-  pub group_begun : (side : Side) → HasBegun (now.reader side) (q.ls side)
-  group_begun side = (q.sides side).begun
-
   -- the facts of an input, if these lines of the group are processed
   abbrev pub FactsWith : (Side → Lines) → Side → Type 0
   FactsWith lines side = ReadFactsOf tool old now.reader q.ls (λ t. q.p t ++ lines t) q.d side (now.reader side) []
@@ -419,7 +416,7 @@ module _ {call : JoinCall} {now : MergeState} {cursor : Side → Sorted} {end : 
       {p = λ t. q.p t ++ added t} (record {
         facts = passing_now;
         all = all_processed;
-        order = λ r piece free. both_begun (group_begun q);
+        order = λ r piece free. both_begun (λ side. (q.sides side).begun);
         denied = q.keeps.denied;
         fits = peak_line call q.keeps s (cursor s) (q.sides s).slots;
       }) (group_written w within_more extra wrote)

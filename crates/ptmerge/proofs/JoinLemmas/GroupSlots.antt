@@ -114,10 +114,14 @@ module _ (m : Lines → ℕ) (laws : IsLineMeasure m) (key : Key) where
   greatest_has ls (x ∷ p) y w = omega (arith, greatest_has ls p y w)
 
   -- lines of one key are at most the largest group
-  measure_in : (k : List ℕ) (p g : Lines) (y : List ℕ) (w : Lines) → EachKey (λ x. x ≡ k) key (g ++ y ∷ []) → key y ≡ k
-      → m (g ++ y ∷ [])
-      ≤ max_over_keys m key (((p ++ g) ++ y ∷ []) ++ w) (((p ++ g) ++ y ∷ []) ++ w)
-  measure_in = grind (arith, common_steps, group_measure_max, greatest_has)
+  measure_in : (k : List ℕ) (p g w : Lines) → EachKey (λ x. x ≡ k) key g → 0 < length g
+      → m g ≤ max_over_keys m key ((p ++ g) ++ w) ((p ++ g) ++ w)
+  measure_in k p [] w own some = absurd (omega arith)
+  measure_in k p (x ∷ g) w (is, more) some = rw (append_assoc p (x ∷ g) w) (omega (
+    arith,
+    group_measure_max k p (x ∷ g) w (is, more),
+    rw is at (greatest_has (p ++ (x ∷ g ++ w)) p x (g ++ w)),
+  ))
 
 -- the most bytes and the most lines of a group, by the lines of the second input
 pub record GroupBounds : Type 0 where
@@ -132,13 +136,12 @@ largest_group key = record { bytes = max_group_bytes key; lines = max_group_line
 abbrev pub InGroup : GroupBounds → Lines → Lines → Type 0
 InGroup most g ls = (total_bytes g ≤ most.bytes ls) × (length g ≤ most.lines ls)
 
-pub group_in : (key : Key) (k : List ℕ) (p g : Lines) (y : List ℕ) (w : Lines) → EachKey (λ x. x ≡ k) key (g ++ y ∷ [])
-    → key y ≡ k
-    → InGroup (largest_group key) (g ++ y ∷ []) (((p ++ g) ++ y ∷ []) ++ w)
-group_in key k p g y w own is = (
+pub group_in : (key : Key) (k : List ℕ) (p g w : Lines) → EachKey (λ x. x ≡ k) key g → 0 < length g
+    → InGroup (largest_group key) g ((p ++ g) ++ w)
+group_in key k p g w own some = (
   measure_in total_bytes (record { weight = length; none = refl; more = λ x xs. sum_by-cons length x xs })
-      key k p g y w own is,
-  measure_in length (record { weight = λ x. 1; none = refl; more = λ x xs. omega arith }) key k p g y w own is,
+      key k p g w own some,
+  measure_in length (record { weight = λ x. 1; none = refl; more = λ x xs. omega arith }) key k p g w own some,
 )
 
 -- ---- the content of the slots

@@ -3,7 +3,7 @@
 -- the reads that are left plus the rank of the phase, decreases in each iteration.
 use Rattle.ptmerge.proofs
 use proofs.Common.{NextOkPost, ◌≡◌, ℕ, Bool, true, false, cond, List, [], ◌∷◌, ◌++◌, map, refl, ap, sym, ◌∙◌, ◌+◌, ◌*◌}
-use proofs.Common.{◌≤◌, ◌<◌, Ok, Err, length, subst, arith, append-nil, flat_map-append, Join, Side, First, Second}
+use proofs.Common.{◌≤◌, ◌<◌, Ok, Err, length, arith, append-nil, flat_map-append, Join, Side, First, Second}
 use proofs.Common.{unpaired_entries1, unpaired_entry, join_with, join_entries, join_key, pair_entries, Lines}
 use proofs.Common.{entries_by_key, Cmp, Key, Output, PushEffect, Reader, Slots, line, unlines, MergeFault, Sorted, Head}
 use proofs.Common.{Ended, IsReadyToContinue, AdvanceOkPost, MergeState, MergePost, merge_state, both, with_side}
@@ -21,10 +21,10 @@ use proofs.MergeLemmas.Exits.{continues, none_missing, both_begun}
 use proofs.JoinLemmas.GroupInvariant.{IsPairTool, head_of, JoinCall, state_after_read, GroupState, store_between_groups}
 use proofs.JoinLemmas.GroupInvariant.{IsAtGroupLine, AdvancedGroup, closes, continues_key, leaves_key, advanced_group}
 use proofs.JoinLemmas.GroupInvariant.{group_breaks, with_added_line, is_past, passing_now, extends, front_is_not_all}
-use proofs.JoinLemmas.GroupInvariant.{has_entries, group_begun, same_cursors, group_read_facts, starts, none_failed}
-use proofs.JoinLemmas.GroupInvariant.{within_more, group_kept, last_stays, own_more, size_of, starts_none, with_head}
+use proofs.JoinLemmas.GroupInvariant.{has_entries, same_cursors, group_read_facts, starts, none_failed, within_more}
+use proofs.JoinLemmas.GroupInvariant.{group_kept, last_stays, own_more, size_of, starts_none, with_head}
 use proofs.JoinLemmas.GroupInvariant.{OutputStartsWith, group_written, group_comes_first}
-use proofs.MergeLemmas.Invariant.{all_keys, AtLeast, MergeInvariant, Bound, same_bound}
+use proofs.MergeLemmas.Invariant.{all_keys, AtLeast, same_bound, bounds_change}
 use proofs.MergeLemmas.Slots.{low_slot}
 use proofs.JoinLemmas.GroupSlots.{GroupBounds, end_within, pair_of, GroupStore, group_store_next, group_is, kept_line}
 use proofs.JoinLemmas.GroupSlots.{group_store_cleared, group_one, InGroup, largest_group, CopiedLine, group_in}
@@ -265,15 +265,14 @@ module _ {job : Join} {cmp : Cmp} {key : Side → Key} {old : MergeState} {phase
             q = record {
               ls = r.ls;
               p = r.p;
-              d = λ side. AtLeast k;
+              d = r.b;
               mid = now.out;
-              sides = λ side. rw (← none side, ← bounds side) (r.sides side);
+              sides = λ side. rw (← none side) (r.sides side);
               within = record {
-                merge_invariant = subst (λ (b : Side → Bound). MergeInvariant (join_with job cmp key) b r.p old.out
-                    now.out) (λ i side. bounds side i) r.merge_invariant;
+                merge_invariant = bounds_change (λ side. rw (bounds side) same_bound) r.merge_invariant;
                 clean = t.clean;
                 own = elim [ First ↦ tt | Second ↦ tt ];
-                later = λ side. same_bound;
+                later = λ side. rw (bounds side) same_bound;
               };
               keeps = r.keeps;
               wrote = rw ((join_pairs job cmp key).none k []) (push_nothing now.out);
@@ -333,14 +332,10 @@ module _ {job : Join} {cmp : Cmp} {key : Side → Key} {old : MergeState} {phase
         on_second = advanced_group (a.heads Second) comes (rw (call.laws.none a.k grown) wrote_none)
 
         inside : (l : Lines) → InGroup (largest_group (key Second)) grown (on_second.group.ls Second ++ l)
-        inside l = rw (
-          on_second.more.is,
-          append_assoc (a.q.ls Second) on_second.more.more l,
-          with_head (a.heads Second),
-          ← append_assoc (a.q.p Second) a.g (y ∷ []),
-        )
-            (group_in (key Second) a.k (a.q.p Second) a.g y (on_second.more.more ++ l)
-            (own_more (a.heads Second) Second) (a.heads Second).is)
+        inside l =
+            rw (on_second.more.is, append_assoc (a.q.ls Second) on_second.more.more l, with_head (a.heads Second))
+            (group_in (key Second) a.k (a.q.p Second) grown (on_second.more.more ++ l)
+            (own_more (a.heads Second) Second) (omega (arith, length_push a.g y)))
 
         -- the current lines keep their slots in a store with the same first slots
         module _ (after : Slots) (same : (i : ℕ) → i < 4 → line after i ≡ line made i) where
@@ -465,7 +460,7 @@ module _ {job : Join} {cmp : Cmp} {key : Side → Key} {old : MergeState} {phase
             call.laws.slots all,
             length_push a.g y,
           ))
-          (both_begun (group_begun q)) (λ side fail. cc (none_failed q side, call.w.unfailed side)) (Err Memory)
+          (both_begun (λ side. (q.sides side).begun)) (λ side fail. cc (none_failed q side, call.w.unfailed side)) (Err Memory)
           (record {
             denied = e.copy_failed.denied;
             unfailed = λ side read. none_failed q side;

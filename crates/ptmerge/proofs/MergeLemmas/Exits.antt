@@ -159,37 +159,30 @@ module _ (tool : MergeTool) (o : IsKeyOrder tool.cmp) (s : Side) (old now new : 
   -- a line was read
   module _ (e : FillLine now new before after cursor.previous_slot) (sound : IsSound new)
       (lines_read : LinesRead tool.terminator old now ls) (number : cursor.number ≡ length ls) (same : Bool) where
-    at_head : (last : Option (List ℕ)) → IsSortedUpTo cmp own ls last
-        → is_disordered cmp last (own e.line) ≡ false → Goal last (next_cursor Head (cursor.number + 1) same)
-    at_head last sorted_up_to no_disorder =
-        let more : IsSortedUpTo cmp own (ls ++ e.line ∷ []) (Some (own e.line)) =
-        grind (arith, common_steps, sorted_up_to) in
-        let within : cursor.previous_slot < length before.lines = omega (arith, low) in
-        at_next last (e.line ∷ []) e.line (next_cursor Head (cursor.number + 1) same) (AtLeast (own e.line))
-        (lines_read_more lines_read e)
+    at_status : (last : Option (List ℕ)) (status : CursorStatus) (b : Bound)
+        → IsProcessedPrefix cmp own (ls ++ e.line ∷ []) ls b → (b ≡ NothingMore → IsDone new)
+        → MatchesStatus cmp own status (next_cursor status (cursor.number + 1) same) after new (ls ++ e.line ∷ []) ls b
+        → IsLater cmp own (bound_after last) b → Goal last (next_cursor status (cursor.number + 1) same)
+    at_status last status b processed ended status_is later =
+        at_next last (e.line ∷ []) e.line (next_cursor status (cursor.number + 1) same) b (lines_read_more lines_read e)
         (inr (omega (arith, length_push ls e.line))) sound (refl, refl) (inr (e.line, refl, refl))
-        (omega (arith, number, length_push ls e.line)) (grind (arith, common_steps, after_from, self_at_most, more))
-        (λ ended. cc)
-        (grind (arith, more, line_of_with_line)) (from_next o own last e.line no_disorder) e.stored
-        (omega (arith, max_length-append ls (e.line ∷ [])))
-
-    at_fall : (last : Option (List ℕ)) → IsSortedUpTo cmp own ls last
-        → IsLastKey own last cursor before → is_disordered cmp last (own e.line) ≡ true
-        → Goal last (next_cursor (Disorder (cursor.number + 1)) (cursor.number + 1) same)
-    at_fall None sorted_up_to is falls_now = cc
-    at_fall (Some k) sorted_up_to (_, is) falls_now =
-        at_next (Some k) (e.line ∷ []) e.line (next_cursor (Disorder (cursor.number + 1)) (cursor.number + 1) same)
-        (AfterDisorder (record { last_key = k; line = length ls + 1 }))
-        (lines_read_more lines_read e) (inr (omega (arith, length_push ls e.line))) sound (refl, refl)
-        (inr (e.line, refl, refl)) (omega (arith, number, length_push ls e.line))
-        (grind (arith, common_steps, sorted_up_to)) (λ ended. cc) (grind (arith, line_other, is, low))
-        (record { may_follow = λ r none. rw none tt; under = λ j u. u }) e.stored
+        (omega (arith, number, length_push ls e.line)) processed ended status_is later e.stored
         (omega (arith, max_length-append ls (e.line ∷ [])))
 
     at_line : (last : Option (List ℕ)) → IsSortedUpTo cmp own ls last → IsLastKey own last cursor before
         → (t : Bool) → is_disordered cmp last (own e.line) ≡ t
         → Goal last (next_cursor (cond t (Disorder (cursor.number + 1)) Head) (cursor.number + 1) same)
-    at_line = search (rules, at_fall, at_head)
+    at_line last sorted_up_to is false none =
+        let more : IsSortedUpTo cmp own (ls ++ e.line ∷ []) (Some (own e.line)) =
+        grind (arith, common_steps, sorted_up_to) in
+        let within : cursor.previous_slot < length before.lines = omega (arith, low) in
+        at_status last Head (AtLeast (own e.line)) (grind (arith, common_steps, after_from, self_at_most, more))
+        (λ ended. cc) (grind (arith, more, line_of_with_line)) (from_next o own last e.line none)
+    at_line None sorted_up_to is true disordered = cc
+    at_line (Some k) sorted_up_to is true disordered =
+        at_status (Some k) (Disorder (cursor.number + 1)) (AfterDisorder (record { last_key = k; line = length ls + 1 }))
+        (grind (arith, common_steps, sorted_up_to)) (λ ended. cc) (grind (arith, line_other, is.1, low))
+        (record { may_follow = λ r none. rw none tt; under = λ j u. u })
 
   pub next_invariant : {last : Option (List ℕ)} → LinesRead tool.terminator old now ls → cursor.number ≡ length ls
       → IsSortedUpTo cmp own ls last → IsLastKey own last cursor before
@@ -456,7 +449,7 @@ merge_set {tool} {first} {second} {set1} {set2} {new = new} zero end clean is1 i
     }
 
 -- the output had failed, and nothing was done
-pub merge_halted : (tool : MergeTool) (old : MergeState) → old.store.denied ≡ false → old.out.write_failed ≡ true
+pub merge_halted : {tool : MergeTool} {old : MergeState} → old.store.denied ≡ false → old.out.write_failed ≡ true
     → MergePost tool old old (Err Write)
 merge_halted = grind (arith, call_on_failed_output)
 

@@ -140,11 +140,6 @@ pub record IsLater (cmp : Cmp) (key : Key) (b d : Bound) : Type 0 where
   pub may_follow : (r : Lines) → MayFollow cmp key d r → MayFollow cmp key b r
   pub under : (k : List ℕ) → IsUnder cmp b k → IsUnder cmp d k
 
--- a key up to k is at most all keys that may follow, if k is
-pub under_lower : {cmp : Cmp} (o : IsKeyOrder cmp) (b : Bound) (x k : List ℕ) → AtMost cmp x k → IsUnder cmp b k
-    → IsUnder cmp b x
-under_lower = grind (arith, at_most_trans)
-
 pub same_bound : {cmp : Cmp} {key : Key} {b : Bound} → IsLater cmp key b b
 same_bound = record { may_follow = λ r c. c; under = λ k u. u }
 
@@ -383,16 +378,22 @@ write_least_run {tool} o k q f {b} {p} {was} {is} {new} front all none law clean
       },
     )
 
+-- the bounds are later
+pub bounds_change : {tool : MergeTool} {b d : Side → Bound} {p : Side → Lines} {was is : Output}
+    → ((side : Side) → IsLater tool.cmp (tool.key side) (b side) (d side)) → MergeInvariant tool b p was is
+    → MergeInvariant tool d p was is
+bounds_change later m = record {
+  splits = record { split = λ w r c. m.splits.split w r (λ side. (later side).may_follow (r side) (c side)) };
+  under = λ of side. EachKey-weaker _ _ (later of).under _ _ (m.under of side);
+  wrote = m.wrote;
+}
+
 -- an input advanced
 pub bound_changes : {tool : MergeTool} {b : Side → Bound} {p : Side → Lines} {was is : Output} (s : Side) {d : Bound}
     → MergeInvariant tool b p was is → IsLater tool.cmp (tool.key s) (b s) d
     → MergeInvariant tool (with_side s d b) p was is
-bound_changes {tool} {b} s {d} m later =
-    let each = put_each (λ side. IsLater tool.cmp (tool.key side) (b side)) s d b later (λ side. same_bound) in record {
-      splits = record { split = λ w r c. m.splits.split w r (λ side. (each side).may_follow (r side) (c side)) };
-      under = λ of side. EachKey-weaker _ _ (each of).under _ _ (m.under of side);
-      wrote = m.wrote;
-    }
+bound_changes {tool} {b} s {d} m later = bounds_change
+    (put_each (λ side. IsLater tool.cmp (tool.key side) (b side)) s d b later (λ side. same_bound)) m
 
 -- the merge is at its end: the disorder is the one found, if any, and no line that may follow changes the output
 abbrev pub IsExactStop : MergeTool → (Side → Bound) → Option (Side × ℕ) → Type 0

@@ -8,17 +8,17 @@ use proofs.Common.{ReaderAdvance, IsDone, IsSound, Slots, line, with_line, unlin
 use proofs.Common.{Side, First, Second, Sorted, CursorStatus, Head, Ended, Disorder, Lines, MergeTool, FirstDisorder}
 use proofs.Common.{entries_by_key, earlier_disorder, first_disorder, MergeState, MergePost, Cmp, Key, NextErrPost}
 use proofs.Common.{NextOkPost, HasSlots, base_slot, with_side, other, PrecedesInput, IsDisorderDecided, IsReportable}
-use proofs.Common.{previous_key, ap, ◌⊎◌, max, total_bytes, max_length, Write, MergeRunPre, merge_state}
-use proofs.Common.{WriteFaultPost, both, AreValidCursors, budget, IsReaderOf, push_trans, cond, Ordering, is_eq, is_gt}
-use proofs.Common.{CopyToGroupPost, same_key_at, status_at, ◌<◌, Result, ClearFourSlotsPost, Ok, initial_cursor}
-use proofs.Common.{merge_inputs, MergeInputs, StartErrPost, StartOkPost, StartFirstPost, CallOutcome, AllPushed}
-use proofs.Common.{Received, both_sides, reads_nothing, merge_engine, merge_end, IsErrAnd, HasOnlyLeastKey}
-use proofs.MergeLemmas.Invariant.{output_of, Bound, AfterDisorder, NothingMore, MayFollow, MayDisorder, IsUnder}
-use proofs.MergeLemmas.Invariant.{LagInvariant, MergeInvariant, IsExactStop, line_is_least_run, lag_invariant_starts}
-use proofs.MergeLemmas.Invariant.{not_below, write_least_run, bound_changes, all_keys, none_wanted, NoBound}
-use proofs.MergeLemmas.Invariant.{sorted_up_to_none, merge_invariant_starts, AllWritten, under_lower}
+use proofs.Common.{previous_key, ap, ◌⊎◌, max, total_bytes, max_length, Write, MergeRunPre, merge_state, WriteFaultPost}
+use proofs.Common.{both, AreValidCursors, budget, IsReaderOf, push_trans, cond, Ordering, is_eq, is_gt, CopyToGroupPost}
+use proofs.Common.{same_key_at, status_at, ◌<◌, Result, ClearFourSlotsPost, Ok, initial_cursor, merge_inputs}
+use proofs.Common.{MergeInputs, StartErrPost, StartOkPost, StartFirstPost, CallOutcome, AllPushed, Received, both_sides}
+use proofs.Common.{reads_nothing, merge_engine, merge_end, IsErrAnd, HasOnlyLeastKey}
+use proofs.MergeLemmas.Invariant.{output_of, Bound, AfterDisorder, NothingMore, MayFollow, MayDisorder, LagInvariant}
+use proofs.MergeLemmas.Invariant.{MergeInvariant, IsExactStop, line_is_least_run, lag_invariant_starts, not_below}
+use proofs.MergeLemmas.Invariant.{write_least_run, bound_changes, all_keys, none_wanted, NoBound, sorted_up_to_none}
+use proofs.MergeLemmas.Invariant.{merge_invariant_starts, AllWritten, IsLater, AtLeast}
 use proofs.MergeLemmas.Orders.{EachKey, EachKey-weaker, lines_with_key-above, IsKeyOrder, Above, above_at_most}
-use proofs.MergeLemmas.Orders.{above_up, greater_flips, is_greater}
+use proofs.MergeLemmas.Orders.{above_up, greater_flips, is_greater, at_most_trans}
 use proofs.MergeLemmas.Slots.{both_each, put_both, put_each, put_other, put_same, side_case, line_other, StoreOfLines}
 use proofs.MergeLemmas.Slots.{has_lines_total, store_with_line, line_added, HasLines, store_of_no_lines, low_slot}
 use proofs.MergeLemmas.Slots.{slots_apart}
@@ -42,16 +42,20 @@ IsAbove cmp key x b = (r : Lines) → MayFollow cmp key b r → EachKey (Above c
 pub current_key_is_above : (cmp : Cmp) (o : IsKeyOrder cmp) (key : Key) (x : List ℕ) (status : CursorStatus)
     (cursor : Sorted) (store : Slots) (now : Reader) (ls p : Lines) (b : Bound)
     → PrecedesInput cmp x status (key (line store cursor.current_slot)) (key (line store cursor.previous_slot))
-    → MatchesStatus cmp key status cursor store now ls p b → IsAbove cmp key x b × IsUnder cmp b x
+    → MatchesStatus cmp key status cursor store now ls p b → IsAbove cmp key x b × IsLater cmp key (AtLeast x) b
 current_key_is_above cmp o key x Head cursor store now ls p b before line_is =
     let head = key (line store cursor.current_slot) in
     let above : Above cmp x head = is_greater (cmp head x) before in
+    let below = above_at_most cmp o x head above in
     rw line_is.bound (
       λ r c. EachKey-weaker _ _ (λ k h. above_up cmp o x head k above h) _ _ c,
-      above_at_most cmp o x head above,
+      record {
+        may_follow = λ r c. EachKey-weaker _ _ (λ k h. at_most_trans cmp o x head k below h) _ _ c;
+        under = λ k h. at_most_trans cmp o k x head h below;
+      },
     )
 current_key_is_above cmp o key x Ended cursor store now ls p b before (bound, _) = grind arith
-current_key_is_above cmp o key x (Disorder n) cursor store now ls p b before st = grind arith
+current_key_is_above cmp o key x (Disorder n) cursor store now ls p b before st = grind (arith, at_most_trans)
 
 -- ---- one line
 
@@ -100,25 +104,6 @@ module _ (cmp : Cmp) (o : IsKeyOrder cmp) where
       → MayDisorder cmp b (f (other s))
       → earlier_disorder cmp (f First) (f Second) ≡ Some (record { file = s; first_disorder = d })
   named_is = grind (arith, above_up, is_greater, not_below, greater_flips)
-
--- an input is out of order, and no key that may follow is up to its last key
-pub stops_at : (tool : MergeTool) (o : IsKeyOrder tool.cmp) (old now : Side → Reader) (cursor : Side → Sorted)
-    (store : Slots) (ls p : Side → Lines) (b : Side → Bound)
-    → SidesInvariant tool old now cursor store ls p b → (s : Side) (n : ℕ)
-    → IsDisorderDecided tool.cmp tool.key cursor store s n → IsExactStop tool b (Some (s, n))
-stops_at tool o old now cursor store ls p b sides s n dec l r c f =
-    let d : FirstDisorder = record { last_key = previous_key tool.key cursor store s; line = n } in
-    let disordered : b s ≡ AfterDisorder d = rw dec.status_is at (sides s).status_is in
-    let st = (sides (other s)).status_is in
-    let (above, _) = current_key_is_above _ o _ d.last_key _ _ _ _ _ _ _
-    (grind (arith, greater_flips, is_greater, dec.named)) st in
-    rw (named_is _ o _ s d _ _ _ _ _ _ _ dec.named st (λ side. first_disorder tool.cmp (tool.key side) (l side))
-    (rw disordered at (f s)) (f (other s))) (
-      none_wanted tool (λ k. is_le (tool.cmp k d.last_key)) r
-          (side_case _ s (rw (rw disordered at (c s)) tt)
-          (EachKey-weaker _ _ (λ k h. ap is_le h) _ _ (above _ (c (other s))))),
-      refl,
-    )
 
 -- ---- a failed read
 
@@ -285,7 +270,7 @@ module _ {tool : MergeTool} {old : MergeState} {reader : Side → Reader} {curso
     wrote_alone =
         let x = line store (cursor s).current_slot in
         let h = at_current_line (a.sides s) step.status_is in
-        let (above, under) =
+        let (above, later) =
         current_key_is_above _ w.o _ _ _ _ _ _ _ _ _ step.before (a.sides (other s)).status_is in
         let none = lines_with_key-above tool w.o (key (other s)) (key s x) in
         write_least_run w.o (key s x) (with_side s (ls s) p) (alone s x)
@@ -294,10 +279,7 @@ module _ {tool : MergeTool} {old : MergeState} {reader : Side → Reader} {curso
           -- no line of the other input has the key, and only greater keys follow
           own = tt;
           may_follow = λ r c. c;
-          later = record {
-            may_follow = λ r c. EachKey-weaker _ _ (above_at_most cmp w.o (key s x)) _ _ (above r c);
-            under = λ k h. under_lower w.o (b (other s)) k (key s x) h under;
-          };
+          later = later;
         })))
         (side_case _ s (simp put_same h.all) (simp (put_other, append-nil))) (w.alone.none (key s x))
         (λ r c. grind (arith, w.alone, none (r (other s)) (above (r (other s)) (c (other s))))) clean m
@@ -306,6 +288,22 @@ module _ {tool : MergeTool} {old : MergeState} {reader : Side → Reader} {curso
     pub alone_breaks : EndsIfFails tool old (state_by_side reader new store) s (cursor s) new
     alone_breaks = iteration_fails s step.status_is wrote_alone (put_same s (ls s) p)
         (rw (put_other s (ls s) p) (read_facts_current (other s)))
+
+  -- an input is out of order, and no key that may follow is up to its last key
+  stops_at : {s : Side} {n : ℕ} → IsDisorderDecided cmp key cursor store s n → IsExactStop tool b (Some (s, n))
+  stops_at {s} {n} dec l r c f =
+      let d : FirstDisorder = record { last_key = previous_key key cursor store s; line = n } in
+      let disordered : b s ≡ AfterDisorder d = rw dec.status_is at (a.sides s).status_is in
+      let st = (a.sides (other s)).status_is in
+      let (above, _) = current_key_is_above _ w.o _ d.last_key _ _ _ _ _ _ _
+      (grind (arith, greater_flips, is_greater, dec.named)) st in
+      rw (named_is _ w.o _ s d _ _ _ _ _ _ _ dec.named st (λ side. first_disorder cmp (key side) (l side))
+      (rw disordered at (f s)) (f (other s))) (
+        none_wanted tool (λ k. is_le (cmp k d.last_key)) r
+            (side_case _ s (rw (rw disordered at (c s)) tt)
+            (EachKey-weaker _ _ (λ k h. ap is_le h) _ _ (above _ (c (other s))))),
+        refl,
+      )
 
   -- the slots are emptied at the end
   module _ {out : Output} (m : MergeInvariant tool b p old.out out) (clean : out.write_failed ≡ false) {after : Slots}
@@ -353,7 +351,7 @@ module _ {tool : MergeTool} {old : MergeState} {reader : Side → Reader} {curso
         → MergePost tool old last (Err (faults.Disorder s n))
     ends_fallen {s} {n} step = concludes (Err (faults.Disorder s n)) (record {
       named = refl;
-      pushed_all = pushed_all (λ none. cc) (stops_at tool w.o _ _ _ _ _ _ _ a.sides s n step);
+      pushed_all = pushed_all (λ none. cc) (stops_at step);
     })
 
   -- an input advances

@@ -1,14 +1,12 @@
 -- If the output has failed, nothing is done. Otherwise both orders have one proof, over the order that the job selects.
 use Rattle.ptmerge.proofs
-use proofs.Common.{refl, sym, ◌∙◌, comm_job, comm_tool, merge_state}
+use proofs.Common.{refl, sym, ◌∙◌}
 use proofs.MergeLemmas.Exits.{merge_halted, merge_set}
 use Rattle.ptmerge.proofs.tools.comm.comm.Goals as goal
 
 pub returns-then-has_failed : goal.returns-then-has_failed
 returns-then-has_failed g c =
-    merge_halted (comm_tool (comm_job c.args.job.now))
-    (merge_state c.args.first.now c.args.second.now c.args.out.now c.args.store.now)
-    c.requires.allowed (sym c.has_failed.ensures ∙ c.if-has_failed.true)
+    merge_halted c.requires.allowed (sym c.has_failed.ensures ∙ c.if-has_failed.true)
 
 pub returns-then-job : goal.returns-then-job
 returns-then-job g c =
