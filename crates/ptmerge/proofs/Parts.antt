@@ -14,9 +14,8 @@ use proofs.Common.{range_with_len, lines, CommByKey, IsSplittableByKey, JoinByKe
 use proofs.MergeLemmas.Invariant.{IsDisorderFrom, after_from, disorder_after, first_disorder_is, IsSortedFrom}
 use proofs.MergeLemmas.Invariant.{sorted_from_start, sorted_from_none, is_disordered, sorted_after, sorted_prefix_is}
 use proofs.MergeLemmas.Invariant.{Ascends, IsDownwardClosed, all_keys, all_wanted, ascends_distinct, downward_splits}
-use proofs.MergeLemmas.Invariant.{up_to_from}
-use proofs.MergeLemmas.Orders.{Each, Each-weaker, EachKey, Each-all, EachKey-weaker, insert_least, Each-parts}
-use proofs.MergeLemmas.Orders.{IsKeyOrder, AtMost, above_trans, at_most_trans, greater_flips, line_order}
+use proofs.MergeLemmas.Invariant.{up_to_from, Each, Each-weaker, EachKey, Each-all, EachKey-weaker, insert_least}
+use proofs.MergeLemmas.Invariant.{Each-parts, IsKeyOrder, AtMost, above_trans, at_most_trans, greater_flips, line_order}
 use Rattle.std.proofs.lemmas.List.Elements.{All-filter, All-from_recursion, recursion_from_All}
 use Rattle.std.proofs.lemmas.List.Sorted.{IsPermutation-refl, IsPermutation-trans, IsPermutation-append_left}
 use Rattle.std.proofs.lemmas.List.Sorted.{IsPermutation-append_right, IsPermutation-append_comm}

@@ -1,9 +1,9 @@
--- Each iteration preserves the invariant by one lemma of `Iteration`, and each exit has the postconditions by another.
+-- Each iteration preserves the invariant by one lemma of `CommLemmas`, and each exit has the postconditions by another.
 use Rattle.ptmerge.proofs
 use proofs.Common.{refl, ◌∙◌, comm_job}
-use proofs.MergeLemmas.Step.{advance_pre, err_is, start_fault, start_ok, between_starts, reads_less}
-use proofs.CommLemmas.Iteration.{alone_continues, alone_fails, eof, disordered, pair_decreases, pair_continues}
-use proofs.CommLemmas.Iteration.{pair_fails, second_advance_pre, second_fails, opened}
+use proofs.MergeLemmas.{advance_pre, err_is, start_fault, start_ok, between_starts, reads_less}
+use proofs.CommLemmas.{alone_continues, alone_fails, eof, disordered, pair_decreases, pair_continues}
+use proofs.CommLemmas.{pair_fails, second_advance_pre, second_fails, opened}
 use Rattle.ptmerge.proofs.tools.comm.comm_with_order.Goals as goal
 
 pub returns-in_err-merge : goal.returns-in_err-merge

@@ -1,15 +1,14 @@
--- Each iteration preserves the invariant by one lemma of `Iteration`, and each exit has the
+-- Each iteration preserves the invariant by one lemma of `JoinLemmas`, and each exit has the
 -- postconditions by another.
 use Rattle.std.proofs.lemmas.Grind.{common_steps}
 use Rattle.std.proofs.Common.{rules}
 use Rattle.ptmerge.proofs
 use proofs.Common.{refl, sym, ◌∙◌, join_job, arith}
-use proofs.JoinLemmas.Iteration.{read_group_pre, read_group_fails, read_group_continues, group_closed, group_there}
-use proofs.JoinLemmas.Iteration.{write_pairs_group, write_pairs_pre, pair_fails, write_pairs_next}
-use proofs.JoinLemmas.Iteration.{write_pairs_continues, alone_continues, alone_fails, end_in, eof, disordered}
-use proofs.JoinLemmas.Iteration.{measure_decreases, opened, group_opens}
-use proofs.MergeLemmas.Step.{advance_pre, err_is, start_fault, start_ok, between_starts}
-use proofs.JoinLemmas.GroupSlots.{group_store_starts}
+use proofs.JoinLemmas.{read_group_pre, read_group_fails, read_group_continues, group_closed, group_there}
+use proofs.JoinLemmas.{write_pairs_group, write_pairs_pre, pair_fails, write_pairs_next, write_pairs_continues}
+use proofs.JoinLemmas.{alone_continues, alone_fails, end_in, eof, disordered, measure_decreases, opened, group_opens}
+use proofs.MergeLemmas.{advance_pre, err_is, start_fault, start_ok, between_starts}
+use proofs.JoinLemmas.Group.{group_store_starts}
 use Rattle.ptmerge.specs.declared.key_order.Side.TheVariants as sides
 use Rattle.ptmerge.specs.declared.tools.join.JoinPhase.TheVariants as phases
 use Rattle.ptmerge.proofs.tools.join.join_with_order.Goals as goal

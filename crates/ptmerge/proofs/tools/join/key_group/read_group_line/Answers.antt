@@ -1,6 +1,6 @@
 -- Copying a line changes only slots from 4 on, so the cursors stay valid.
 use Rattle.std.proofs.Common.{arith, rules}
-use Rattle.ptmerge.proofs.MergeLemmas.Step.{kept_line, valid_cursors_kept}
+use Rattle.ptmerge.proofs.MergeLemmas.{kept_line, valid_cursors_kept}
 use Rattle.ptmerge.proofs.tools.join.key_group.read_group_line.Goals as goal
 
 pub returns-in-Ok-clause-continues : goal.returns-in-Ok-clause-continues
