@@ -3,10 +3,9 @@
 -- over.
 use Rattle.ptmerge.proofs
 use proofs.Common.{◌≡◌, ℕ, ◌<◌, List, [], ◌∷◌, ◌++◌, Ok, Err, refl, sym, arith, Comm, Output, PushEffect, Reader, Slots}
-use proofs.Common.{line, unlines, Side, First, Second, Sorted, Ended, comm_with, column_entries, tab_if_shown, Lines}
-use proofs.Common.{MergeTool, entries_by_key, AdvanceOkPost, AdvancePre, MergeState, MergePost, merge_state, Cmp, Key}
-use proofs.Common.{both, with_side, HaveEqualKeys, HasOnlyLeastKey, IsDisorderDecided, ClearFourSlotsPost, suc}
-use proofs.Common.{append-nil, entries, Bool, MergeRunPre}
+use proofs.Common.{line, unlines, Side, First, Second, Sorted, Ended, Lines, MergeTool, entries_by_key, AdvanceOkPost}
+use proofs.Common.{AdvancePre, MergeState, MergePost, merge_state, Cmp, Key, both, with_side, HaveEqualKeys}
+use proofs.Common.{HasOnlyLeastKey, IsDisorderDecided, ClearFourSlotsPost, suc, append-nil, Bool, MergeRunPre}
 use proofs.MergeLemmas.{BetweenSteps, between_next, advance_pre, reads_less, EndsIfFails, CursorsInvariant}
 use proofs.MergeLemmas.{LoopInvariant, advance_ok, goes_merging, passing_now, runs_on, read_facts_current}
 use proofs.MergeLemmas.{iteration_fails, alone, wrote_alone, alone_breaks, reads_ahead, place_is, wrote_and_sent}
@@ -15,6 +14,7 @@ use proofs.MergeLemmas.{same_bytes, AllWritten, MergeInvariant, line_is_least_ru
 use proofs.MergeLemmas.{write_least_run, all_keys, at_current_line, state_by_side, IsOpenMerge, IsLineByLine}
 use Rattle.ptmerge.specs.declared.faults.MergeFault.TheVariants as faults
 use Rattle.std.proofs.Common.{rules}
+use Rattle.ptmerge.specs.Comm.{comm_with, entries, column_entries, tab_if_shown}
 
 -- ---- each line adds one entry
 

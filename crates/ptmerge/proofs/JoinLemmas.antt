@@ -7,15 +7,14 @@ pub mod Fields
 use Rattle.ptmerge.proofs
 use proofs.Common.{NextOkPost, ◌≡◌, ℕ, Bool, true, false, cond, List, [], ◌∷◌, ◌++◌, map, refl, ap, sym, ◌∙◌, ◌+◌, ◌*◌}
 use proofs.Common.{◌≤◌, ◌<◌, Ok, Err, length, arith, append-nil, flat_map-append, Join, Side, First, Second}
-use proofs.Common.{unpaired_entries1, unpaired_entry, join_with, join_entries, join_key, pair_entries, Lines}
-use proofs.Common.{entries_by_key, Cmp, Key, Output, PushEffect, Reader, Slots, line, unlines, MergeFault, Sorted, Head}
-use proofs.Common.{Ended, IsReadyToContinue, AdvanceOkPost, MergeState, MergePost, merge_state, both, with_side}
-use proofs.Common.{lines_of, Memory, HaveEqualKeys, HasOnlyLeastKey, IsDisorderDecided, ClearFourSlotsPost, ◌⊎◌}
-use proofs.Common.{MergeRunPre, JoinStepPre, AdvancePre, push_nothing, if◌then◌else◌, max_group_bytes, max_group_lines}
-use proofs.Common.{inl, inr, ReadGroupLineOkPost, ReadGroupLinePost, IsGroup, ClearGroupPost, group_end_slot}
-use proofs.Common.{group_first_slot, group, JoinLinePre, ⊎_elim, ◌-◌, ◌==◌, push_trans, nat_tests, length_push}
-use proofs.Common.{unlines-append, append_assoc, merged_entries, nil_from_length, length-set}
-use Rattle.ptmerge.specs.JoinGroup.{IsInItsSlot, IsCopiedToGroup}
+use proofs.Common.{pair_entries, Lines, entries_by_key, Cmp, Key, Output, PushEffect, Reader, Slots, line, unlines}
+use proofs.Common.{MergeFault, Sorted, Head, Ended, IsReadyToContinue, AdvanceOkPost, MergeState, MergePost}
+use proofs.Common.{merge_state, both, with_side, lines_of, Memory, HaveEqualKeys, HasOnlyLeastKey, IsDisorderDecided}
+use proofs.Common.{ClearFourSlotsPost, ◌⊎◌, MergeRunPre, AdvancePre, push_nothing, if◌then◌else◌, max_group_bytes}
+use proofs.Common.{max_group_lines, inl, inr, ClearGroupPost, group, ⊎_elim, ◌-◌, ◌==◌, push_trans, nat_tests}
+use proofs.Common.{length_push, unlines-append, append_assoc, merged_entries, nil_from_length, length-set}
+use Rattle.ptmerge.specs.JoinGroup.{IsInItsSlot, IsCopiedToGroup, ReadGroupLineOkPost, ReadGroupLinePost, IsGroup}
+use Rattle.ptmerge.specs.JoinGroup.{JoinStepPre, JoinLinePre, group_end_slot, group_first_slot}
 use proofs.MergeLemmas.{BetweenSteps, between_next, advance_pre, reads_less, open_merge, alone, wrote_alone}
 use proofs.MergeLemmas.{alone_breaks, IsAbove, reads_ahead, place_is, LoopInvariant, CursorsInvariant, EndsIfFails}
 use proofs.MergeLemmas.{runs_on, n, ends_well, ends_fallen, valid_cursors_kept, wrote_and_sent, others_stay}
@@ -26,6 +25,7 @@ use Rattle.ptmerge.specs.declared.tools.join.JoinPhase.{JoinPhase}
 use Rattle.ptmerge.specs.declared.faults.MergeFault.TheVariants as faults
 use Rattle.ptmerge.specs.declared.tools.join.JoinPhase.TheVariants as phases
 use Rattle.std.proofs.Common.{rules}
+use Rattle.ptmerge.specs.Join.{unpaired_entries1, unpaired_entry, join_with, join_entries, join_key}
 use Group.*
 
 -- ---- the output, by lines and by pairs

@@ -10,16 +10,17 @@ use proofs.Common.{AdvancePre, IsReadyToContinue, ◌≡◌, inl, inr, ℕ, ◌+
 use proofs.Common.{None, Err, length, refl, sym, ◌∙◌, arith, is_le, append-nil, Output, PushEffect, Reader}
 use proofs.Common.{ReaderAdvance, IsDone, IsSound, Slots, line, with_line, unlines, IsLine, push_nothing, MergeFault}
 use proofs.Common.{Side, First, Second, Sorted, CursorStatus, Head, Ended, Disorder, Lines, MergeTool, FirstDisorder}
-use proofs.Common.{entries_by_key, earlier_disorder, first_disorder, MergeState, MergePost, Cmp, Key, NextErrPost}
-use proofs.Common.{NextOkPost, HasSlots, base_slot, with_side, other, PrecedesInput, IsDisorderDecided, IsReportable}
-use proofs.Common.{previous_key, ap, ◌⊎◌, max, total_bytes, max_length, Write, MergeRunPre, merge_state, WriteFaultPost}
-use proofs.Common.{both, AreValidCursors, budget, IsReaderOf, push_trans, cond, Ordering, is_eq, is_gt, CopyToGroupPost}
-use proofs.Common.{same_key_at, status_at, ◌<◌, Result, ClearFourSlotsPost, Ok, initial_cursor, merge_inputs}
-use proofs.Common.{MergeInputs, StartErrPost, StartOkPost, StartFirstPost, CallOutcome, AllPushed, Received, both_sides}
-use proofs.Common.{reads_nothing, merge_engine, merge_end, IsErrAnd, HasOnlyLeastKey}
+use proofs.Common.{entries_by_key, earlier_disorder, first_disorder, MergeState, MergePost, Cmp, Key, NextOkPost}
+use proofs.Common.{HasSlots, with_side, other, PrecedesInput, IsDisorderDecided, ap, ◌⊎◌, max, total_bytes, max_length}
+use proofs.Common.{Write, MergeRunPre, merge_state, WriteFaultPost, both, budget, push_trans, cond, Ordering, is_eq}
+use proofs.Common.{is_gt, CopyToGroupPost, same_key_at, status_at, ◌<◌, Result, ClearFourSlotsPost, Ok, CallOutcome}
+use proofs.Common.{AllPushed, Received, both_sides, reads_nothing, merge_engine, merge_end, IsErrAnd, HasOnlyLeastKey}
 use Rattle.ptmerge.specs.declared.faults.MergeFault.TheVariants as faults
 use Rattle.std.proofs.Common.{rules}
 use Rattle.std.proofs.lemmas.Grind.{common_steps}
+use Rattle.ptmerge.specs.Cursor.{NextErrPost, initial_cursor, base_slot}
+use Rattle.ptmerge.specs.MergeSteps.{StartErrPost, StartFirstPost, MergeInputs, IsReaderOf, IsReportable}
+use Rattle.ptmerge.specs.MergeSteps.{AreValidCursors, StartOkPost, merge_inputs, previous_key}
 pub use Invariant.*
 pub use ReadLines.*
 pub use SlotLines.*

@@ -7,10 +7,9 @@ use Rattle.ptmerge.proofs
 use proofs.Common.{arith, ◌≡◌, ℕ, ◌+◌, List, [], ◌∷◌, ◌++◌, Bool, true, false, cond, Option, Some, None, refl, ap, sym}
 use proofs.Common.{◌∙◌, filter, Less, Side, First, Second, Lines, MergeTool, FirstDisorder, entries_by_key, disorder}
 use proofs.Common.{first_disorder, keys, merged_entries, sorted_prefixes, sorted_prefix, is_up_to, lines_of, Cmp, Key}
-use proofs.Common.{unlines, the_lines_of_parts, unlines-append, IsConcatOfParts, CommOfParts, JoinOfParts, ◌&&◌, not}
-use proofs.Common.{map, tied_itself, flat_map, is_gt, is_lt, Equal, insert_key, distinct_keys, lines_with_key}
-use proofs.Common.{entries_of_key, filter-append, IsLine, zero, suc, ◌<◌, ◌==◌, nat_lt, append_assoc, nat_tests}
-use proofs.Common.{range_with_len, lines, CommByKey, IsSplittableByKey, JoinByKey, text_of_part, output_lines}
+use proofs.Common.{unlines, unlines-append, ◌&&◌, not, map, tied_itself, flat_map, is_gt, is_lt, Equal, insert_key}
+use proofs.Common.{distinct_keys, lines_with_key, entries_of_key, filter-append, IsLine, zero, suc, ◌<◌, ◌==◌, nat_lt}
+use proofs.Common.{append_assoc, nat_tests, range_with_len, lines}
 use proofs.MergeLemmas.Invariant.{IsDisorderFrom, after_from, disorder_after, first_disorder_is, IsSortedFrom}
 use proofs.MergeLemmas.Invariant.{sorted_from_start, sorted_from_none, is_disordered, sorted_after, sorted_prefix_is}
 use proofs.MergeLemmas.Invariant.{Ascends, IsDownwardClosed, all_keys, all_wanted, ascends_distinct, downward_splits}
@@ -22,6 +21,9 @@ use Rattle.std.proofs.lemmas.List.Sorted.{IsPermutation-append_right, IsPermutat
 use Rattle.std.specs.List.Sorted.{IsPermutation}
 use Rattle.ptlines.proofs.TextLaws.{lines-unlines, lines_are}
 use Rattle.std.proofs.Common.{rules}
+use Rattle.ptlines.proofs.PartLaws.{the_lines_of_parts}
+use Rattle.ptmerge.specs.Parts.{CommByKey, IsSplittableByKey, IsConcatOfParts, JoinByKey, CommOfParts, JoinOfParts}
+use Rattle.ptmerge.specs.Parts.{text_of_part, output_lines}
 
 -- ---- lines with some of the keys
 

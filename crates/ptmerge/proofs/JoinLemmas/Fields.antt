@@ -3,33 +3,35 @@
 -- lengths. Writing the fields of a canonical line gives the line back, since joining undoes splitting; so the fields
 -- after a field are the bytes after it.
 use Rattle.ptmerge.proofs
-use Rattle.std.proofs.lemmas.Bool.{false_from_ne_true}
+use Rattle.std.proofs.lemmas.Bool.{false_from_ne_true, eqb-true}
 use proofs.Common.{drop_more, length-drop, length-append, ◌≡◌, ℕ, suc, ◌+◌, ◌-◌, ◌≤◌, Bool, true, false, List, [], ◌∷◌}
-use proofs.Common.{Option, None, Some, length, drop, get_or, refl, sym, ap, arith, zero, ◌<◌, ◌==◌, cond, ◌++◌, take}
-use proofs.Common.{append_assoc, position, IfSome, MatchOption, filter, is_some, slice_split, nat_tests, drop-drop}
-use proofs.Common.{take-append-drop, position_or_len_is, IsFirstByte, nth_field, is_nonempty, is_blank, Lines}
-use proofs.Common.{split_around, split_whole, IsFirstPieceEnd, IsFieldIn, IsPiece, is_separator, entry_with_list}
-use proofs.Common.{remaining_fields, IsKeySpan, IsFieldFound, is_evenly_separated, around, ◌||◌, map, remove, unwrap_or}
-use proofs.Common.{onto_first, join_with_byte, eqb-true, append-nil, flat_map-append, Join, output_separator, entry}
-use proofs.Common.{join_fields, or_filler, field_named, other_fields, IsCanonical, is_single_spaced, with_prefix, ◌%◌}
-use proofs.Common.{◌^◌, eqb, replicate, bit_or, length-map, ◌≢◌, ◌*◌, not, ◌&&◌, ◌∙◌, bit_and, has_single_spaces}
-use proofs.Common.{IsFieldAt}
+use proofs.Common.{Option, None, Some, length, drop, get_or, refl, sym, ap, arith, zero, ◌<◌, ◌==◌, cond, ◌++◌}
+use proofs.Common.{append_assoc, position, IfSome, MatchOption, filter, is_some, slice_split, nat_tests, is_blank}
+use proofs.Common.{Lines, is_separator, entry_with_list, remaining_fields, map, remove, unwrap_or, append-nil}
+use proofs.Common.{flat_map-append, Join, output_separator, entry, join_fields, other_fields, is_single_spaced}
+use proofs.Common.{with_prefix, ◌^◌, eqb, ◌≢◌, ◌*◌, not, ◌&&◌, ◌∙◌}
 use proofs.JoinLemmas.PartialWrite.{first_fails, push_is_write}
-use Rattle.std.proofs.lemmas.List.{length-take-le, drop-map, map-id, take-map}
+use Rattle.std.proofs.lemmas.List.{length-take-le, drop-map, map-id, take-map, drop-drop, length-map, take-append-drop}
 use Rattle.std.proofs.lemmas.List.Quantifiers.{position-Some}
 use Rattle.ptlangs.specs.declared.outlist.OutField.{OutField}
 use Rattle.ptmerge.specs.declared.key_order.Span.{Span}
 use Rattle.std.proofs.lemmas.Simd.{length-chunk, mask_l-mod, mask_l-lt, trailing_mask_l}
-use Rattle.std.specs.List.{slice_range, prefix_len}
+use Rattle.std.specs.List.{slice_range, prefix_len, join_with_byte, onto_first}
 use Rattle.std.specs.Simd.Lanes.{chunk, mask_l, top, zip2}
 use Rattle.std.proofs.lemmas.Grind.{common_steps}
-use Rattle.std.proofs.Common.{rules, ◌/◌}
-use Rattle.memchr.specs.Find.{is_byte}
+use Rattle.std.proofs.Common.{rules, ◌/◌, bit_and, bit_or, replicate, take, ◌%◌, ◌||◌}
+use Rattle.memchr.specs.Find.{is_byte, IsFirstByte}
 use Rattle.std.proofs.Math.Nat.{div-div-eq-div-mul, mod-eq_of_lt, mul-lt-mul_of_pos_right, mul_assoc, one-le-pow}
 use Rattle.std.proofs.Math.Nat.{two-pow-succ}
 use Rattle.std.proofs.Math.Pow.{pow-add, pow-lt, pow_mono}
 use lib.Bits.{and_step, or_step, or_zero_l, or_zero_r, and_zero_l, or_shifted_r, and_mod, and_le_l, and_self, or_self}
 use lib.Count.{count_trailing_zeros}
+use Rattle.std.proofs.lemmas.List.Sums.{position_or_len_is}
+use Rattle.ptlangs.proofs.ListElements.{split_around, split_whole}
+use Rattle.ptmerge.specs.Join.{or_filler, is_nonempty, field_named, nth_field}
+use Rattle.ptmerge.specs.JoinFields.{IsFieldAt, IsFieldFound, IsFirstPieceEnd, IsCanonical, IsFieldIn, IsPiece, around}
+use Rattle.ptmerge.specs.JoinFields.{is_evenly_separated, has_single_spaces}
+use Rattle.ptmerge.specs.KeySpan.{IsKeySpan}
 
 -- ---- the end of a field
 

@@ -4,15 +4,13 @@
 use Rattle.ptmerge.proofs
 use proofs.Common.{◌≡◌, ⊎_elim, inl, ℕ, ◌+◌, ◌-◌, ◌≤◌, ◌<◌, suc, true, false, length-drop, List, [], ◌∷◌, ◌++◌, length}
 use proofs.Common.{map, drop, get_or, set, max, refl, ap, ◌∙◌, arith, ◌*◌, Option, append_assoc, length-append}
-use proofs.Common.{length-set, drop_more, drop-set-add, take_more, drop-set-lt, set_at, take_at, sum_by_push}
-use proofs.Common.{sum_by-append, sum_by-cons, Slots, line, total_bytes, with_line, with_denied, unlines, max_length}
-use proofs.Common.{total_bytes_set, Join, ClearGroupPost, EnsureSlotPost, CopyToGroupErrPost, group, CopyToGroupPost}
-use proofs.Common.{entry, join_fields, pair_entries, max_over_keys, max_group_bytes, max_group_lines, Lines}
-use proofs.Common.{lines_with_key, Reader, Side, First, Second, Sorted, Key, HasSlots, with_side, MergeTool, ◌&&◌, Bool}
-use proofs.Common.{Some, sym, subst, bytes_eq, bytes_decides, append-nil, Output, PushEffect, push_trans}
-use proofs.Common.{unlines-append, CursorStatus, Head, Ended, Disorder, is_head, entries_by_key, entries_of_key}
-use proofs.Common.{MergeState, NextOkPost, other, PrecedesInput, disorder, merged_entries, sorted_prefixes, is_up_to}
-use proofs.Common.{line_of_with_line}
+use proofs.Common.{length-set, drop_more, Slots, line, total_bytes, with_line, with_denied, unlines, max_length, Join}
+use proofs.Common.{ClearGroupPost, group, CopyToGroupPost, entry, join_fields, pair_entries, max_over_keys}
+use proofs.Common.{max_group_bytes, max_group_lines, Lines, lines_with_key, Reader, Side, First, Second, Sorted, Key}
+use proofs.Common.{HasSlots, with_side, MergeTool, ◌&&◌, Bool, Some, sym, subst, bytes_eq, bytes_decides, append-nil}
+use proofs.Common.{Output, PushEffect, push_trans, unlines-append, CursorStatus, Head, Ended, Disorder, entries_by_key}
+use proofs.Common.{entries_of_key, MergeState, NextOkPost, other, PrecedesInput, disorder, merged_entries}
+use proofs.Common.{sorted_prefixes, is_up_to, line_of_with_line}
 use proofs.JoinLemmas.PartialWrite.{partial_starts}
 use proofs.MergeLemmas.{line_other, HasLines, StoreOfLines, has_lines_total, set_line, put_each, put_same, low_slot}
 use proofs.MergeLemmas.{put_both, put_other, side_case, EachKey, same_bytes, Bound, AtLeast, MayFollow, IsUnder}
@@ -26,6 +24,10 @@ use proofs.MergeLemmas.{Continues, HoldsLines}
 use Rattle.std.proofs.Math.ListN.{get_or-append}
 use Rattle.std.proofs.lemmas.Grind.{common_steps}
 use Rattle.std.proofs.Common.{rules}
+use Rattle.std.proofs.lemmas.List.{drop-set-add, drop-set-lt, set_at, take_at, take_more}
+use Rattle.std.proofs.lemmas.List.Sums.{sum_by-append, sum_by-cons, sum_by_push}
+use Rattle.ptlines.proofs.SlotTotals.{total_bytes_set}
+use Rattle.ptmerge.specs.JoinGroup.{EnsureSlotPost, CopyToGroupErrPost, is_head}
 
 -- The store of `join`: the slots 0 to 3 hold two lines of each input, and the slots from 4 on hold the group. Reading a
 -- line or copying one changes one slot, so the bytes stored are the sum of both parts. The group is a part of the lines

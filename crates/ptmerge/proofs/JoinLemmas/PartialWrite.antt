@@ -3,12 +3,13 @@
 -- fails leaves a prefix, and the last call completes them.
 use Rattle.ptmerge.proofs
 use proofs.Common.{◌≡◌, ⊎_elim, false, ℕ, List, ◌++◌, Result, Ok, Err, IsErrAnd, true, Output, PushPost, PushEffect}
-use proofs.Common.{push_trans, WriteBytesPost, ◌∷◌, refl, append_assoc, push_past_failure, arith, push_nothing}
+use proofs.Common.{push_trans, ◌∷◌, refl, append_assoc, arith, push_nothing}
 use Rattle.std.proofs.lemmas.Bool.{cases_Bool}
-use Rattle.ptlines.proofs.Push.{push_after_failure}
+use Rattle.ptlines.proofs.Push.{push_after_failure, push_past_failure}
 use Rattle.std.specs.List.{flat_map}
 use Rattle.std.proofs.Common.{rules}
 use Rattle.std.proofs.lemmas.Grind.{common_steps}
+use Rattle.ptmerge.specs.Write.{WriteBytesPost}
 
 pub wrote_then : {a b c : Output} {xs ys : List ℕ} → (a.write_failed ≡ false → b.write_failed ≡ false)
     → PushEffect a b xs → PushEffect b c ys → PushEffect a c (xs ++ ys)

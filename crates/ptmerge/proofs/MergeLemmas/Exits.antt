@@ -2,20 +2,16 @@
 -- others are known for each input, and the contract of the tool follows from these and from the output.
 use Rattle.ptmerge.proofs
 use proofs.Common.{◌≡◌, ◌⊎◌, ⊎_elim, inl, inr, ℕ, ◌≤◌, false, List, [], ◌∷◌, ◌++◌, Option, Some, None, length, map}
-use proofs.Common.{refl, sym, ◌∙◌, ap, arith, append_assoc, length-append, last_or, append-nil, append_cancel_right}
-use proofs.Common.{Received, known_lines, LaggedInput, Reader, unlines, IsLine, AreLines, received_with}
-use proofs.Common.{complete_lines_of_unlines, unlines_push, the_lines, Lines, first_disorder, is_below, sorted_prefix}
-use proofs.Common.{Cmp, Key, Bool, filter-append, filter, IsPrefix, unlines-append, Side, First, Second, MergeTool}
-use proofs.Common.{entries_by_key, decided_entries, disorder, earlier_disorder, is_decided, lines_decide_disorder}
-use proofs.Common.{other, ProcessLag, decided_output, disorder_is_decided, with_side, FirstDisorder, map-append}
+use proofs.Common.{refl, sym, ◌∙◌, ap, arith, append_assoc, length-append, last_or, append-nil, Received, known_lines}
+use proofs.Common.{Reader, unlines, IsLine, AreLines, received_with, unlines_push, Lines, first_disorder, is_below}
+use proofs.Common.{sorted_prefix, Cmp, Key, Bool, filter-append, filter, IsPrefix, unlines-append, Side, First, Second}
+use proofs.Common.{MergeTool, entries_by_key, disorder, earlier_disorder, is_decided, other, with_side, FirstDisorder}
 use proofs.Common.{with_input, both_sides, subst, not, ◌+◌, ◌<◌, true, cond, nat_tests, length_push, FillLine, IsDone}
 use proofs.Common.{IsSound, Slots, line, with_line, max_length, line_of_with_line, Sorted, CursorStatus, Head, Ended}
 use proofs.Common.{Disorder, status_at, same_key_at, NextOkPost, Result, Err, max, Output, ReaderAdvance, Memory, lines}
-use proofs.Common.{advance_trans, push_trans, bounded_lag_after, MergeFault, Write, lines_of, merge_output}
-use proofs.Common.{merged_entries, MergeState, MergePost, HasNoLine, reads_nothing, EnsureFourSlotsErrPost, ◌*◌}
-use proofs.Common.{option_map, CallEnd, ReadFault, CallOutcome, AreAllConsistent, given_before, given_by, CallProgress}
-use proofs.Common.{DecidedIfReadFailed, call_on_failed_output, merge_state, both, terminator, total_bytes, merge_engine}
-use proofs.Common.{merge_end, disordered_line, HasSlots, length-set}
+use proofs.Common.{advance_trans, push_trans, MergeFault, Write, lines_of, merged_entries, MergeState, MergePost}
+use proofs.Common.{HasNoLine, reads_nothing, EnsureFourSlotsErrPost, ◌*◌, option_map, CallOutcome, merge_state, both}
+use proofs.Common.{terminator, total_bytes, merge_engine, merge_end, disordered_line, HasSlots, length-set}
 use proofs.MergeLemmas.Invariant.{output_of, sorted_after, IsSortedFrom, sorted_from_start, sorted_prefix_is, Bound}
 use proofs.MergeLemmas.Invariant.{IsDisorderFrom, IsUnder, MayFollow, not_below, downward_decided, not_decided}
 use proofs.MergeLemmas.Invariant.{past_none, all_keys, AtLeast, downward_splits, EachKey, Each-all, EachKey-weaker}
@@ -29,11 +25,18 @@ use proofs.MergeLemmas.ReadLines.{lines_read_of_input}
 use proofs.Parts.{by_keys_kept}
 use proofs.MergeLemmas.SlotLines.{put_each, put_other, put_same, with_side_is, with_own, line_other, AreLow, low_slot}
 use Rattle.ptlines.proofs.LineSearch.{IsLine-append}
-use Rattle.ptmerge.specs.MergeSpec.{MergeDisorder}
-use Rattle.ptlines.proofs.Calls.{call_ends, call_set, call_without_slots}
+use Rattle.ptmerge.specs.MergeSpec.{MergeDisorder, decided_output, decided_entries, lines_decide_disorder, merge_output}
+use Rattle.ptmerge.specs.MergeSpec.{disorder_is_decided}
+use Rattle.ptlines.proofs.Calls.{call_ends, call_set, call_without_slots, given_before, given_by, CallProgress}
+use Rattle.ptlines.proofs.Calls.{DecidedIfReadFailed, call_on_failed_output}
 use Rattle.ptlines.proofs.MaxLength.{max_length-append}
 use Rattle.std.proofs.Common.{rules}
 use Rattle.std.proofs.lemmas.Grind.{common_steps}
+use Rattle.std.proofs.lemmas.List.{append_cancel_right, map-append}
+use Rattle.ptlines.proofs.Lag.{bounded_lag_after}
+use Rattle.ptlines.specs.Calls.{CallEnd, ReadFault, AreAllConsistent}
+use Rattle.ptlines.proofs.TextLaws.{complete_lines_of_unlines, the_lines}
+use Rattle.ptlines.specs.Lag.{LaggedInput, ProcessLag}
 
 -- Bounded lag. Leave out the buffered bytes, at most a block, and the terminator of a line that is not yet processed:
 -- the complete lines that remain are all processed. No key below the last of these can follow in either input, so with

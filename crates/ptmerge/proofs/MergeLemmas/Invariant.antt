@@ -3,20 +3,20 @@
 -- with the lines read so far.
 use Rattle.ptmerge.proofs
 use proofs.Common.{◌≡◌, ◌⊎◌, inr, ℕ, List, Bool, true, false, refl, ◌∙◌, ap, arith, bytes_eq, Ordering, Less, Equal}
-use proofs.Common.{Greater, is_eq, is_gt, is_le, bytes_decides, back_total, nat_list_cmp_total, tied_itself, upto, Cmp}
-use proofs.Common.{byte_cmp, line_cmp, ◌<◌, length, get_or, suc, zero, [], ◌∷◌, ◌++◌, cond, map, append_assoc}
-use proofs.Common.{append-nil, filter, flat_map, Side, First, Second, Lines, MergeTool, insert_key, distinct_keys, keys}
-use proofs.Common.{lines_with_key, entries_of_key, entries_by_key, Key, ◌+◌, Option, Some, None, nat_lt, unwrap_or}
-use proofs.Common.{if◌then◌else◌, last_or, sorted_prefix, first_disorder, FirstDisorder, ◌&&◌, not, sym}
-use proofs.Common.{flat_map-append, earlier_disorder, is_up_to, subst, is_lt, Output, PushEffect, unlines, push_trans}
-use proofs.Common.{push_nothing, unlines-append, disorder, is_below, is_decided, is_past, merged_entries, option_map}
-use proofs.Common.{with_side, disordered_line}
+use proofs.Common.{Greater, is_eq, is_gt, is_le, bytes_decides, tied_itself, Cmp, byte_cmp, line_cmp, ◌<◌, length}
+use proofs.Common.{get_or, suc, zero, [], ◌∷◌, ◌++◌, cond, map, append_assoc, append-nil, filter, flat_map, Side, First}
+use proofs.Common.{Second, Lines, MergeTool, insert_key, distinct_keys, keys, lines_with_key, entries_of_key}
+use proofs.Common.{entries_by_key, Key, ◌+◌, Option, Some, None, nat_lt, unwrap_or, if◌then◌else◌, last_or}
+use proofs.Common.{sorted_prefix, first_disorder, FirstDisorder, ◌&&◌, not, sym, flat_map-append, earlier_disorder}
+use proofs.Common.{is_up_to, subst, is_lt, Output, PushEffect, unlines, push_trans, push_nothing, unlines-append}
+use proofs.Common.{disorder, is_below, is_decided, merged_entries, option_map, with_side, disordered_line}
 use Rattle.std.specs.Cmp.{IsTotalOrder}
 use Rattle.ptmerge.specs.OrderLaws.{reversed_same_bytes, byte_cmp_equal}
 use Rattle.std.proofs.Common.{rules}
 use Rattle.std.proofs.lemmas.Grind.{common_steps}
 use proofs.MergeLemmas.SlotLines.{put_each}
-use Rattle.ptmerge.specs.MergeSpec.{MergeDisorder}
+use Rattle.ptmerge.specs.MergeSpec.{MergeDisorder, is_past}
+use Rattle.std.proofs.lemmas.Cmp.{back_total, nat_list_cmp_total, upto}
 
 -- Consequences of the laws of an order of keys. Distinct keys are sorted, so the entries of the least key come first,
 -- followed by the entries of the lines with other keys.

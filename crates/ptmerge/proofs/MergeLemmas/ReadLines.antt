@@ -4,11 +4,12 @@ use Rattle.ptmerge.proofs
 use proofs.Common.{◌≡◌, ◌⊎◌, ℕ, ◌+◌, ◌<◌, ◌≤◌, true, false, List, [], ◌∷◌, ◌++◌, length, max, refl, ◌∙◌, arith}
 use proofs.Common.{append_assoc, length-append, append-nil, FillLine, Received, IsConsistent, known_lines, Reader}
 use proofs.Common.{ReaderAdvance, AdvanceOk, IsDone, Slots, unlines, lines, complete_lines, IsLine, AreLines}
-use proofs.Common.{max_length, received_with, advance_ok_trans, lines_of_unlines, lines_of_last, unlines_push}
-use proofs.Common.{IsSound, HasNoLine, IsFirstLineAndBlock, AreLines_push, complete_lines_none, complete_lines_cons}
+use proofs.Common.{max_length, received_with, advance_ok_trans, unlines_push, IsSound, HasNoLine, IsFirstLineAndBlock}
 use Rattle.ptlines.proofs.MaxLength.{max_length-append, piece_le_max_length}
 use Rattle.std.proofs.Common.{rules}
 use Rattle.std.proofs.lemmas.Grind.{common_steps}
+use Rattle.ptlines.proofs.TextLaws.{AreLines_push, complete_lines_cons, complete_lines_none, lines_of_last}
+use Rattle.ptlines.proofs.TextLaws.{lines_of_unlines}
 
 -- complete lines, and then the complete lines of the rest
 ended_more : (end : ℕ) (ls : List (List ℕ)) (bytes : List ℕ) → AreLines end ls
