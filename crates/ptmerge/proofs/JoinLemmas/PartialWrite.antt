@@ -3,13 +3,13 @@
 -- fails leaves a prefix, and the last call completes them.
 use Rattle.ptmerge.proofs
 use proofs.Common.{◌≡◌, ⊎_elim, false, ℕ, List, ◌++◌, Result, Ok, Err, IsErrAnd, true, Output, PushPost, PushEffect}
-use proofs.Common.{push_trans, WriteBytesPost, [], ◌∷◌, refl, append_assoc, push_past_failure, arith}
-use proofs.Common.{push_nothing}
+use proofs.Common.{push_trans, ◌∷◌, refl, append_assoc, arith, push_nothing}
 use Rattle.std.proofs.lemmas.Bool.{cases_Bool}
-use Rattle.ptlines.proofs.Push.{push_after_failure}
+use Rattle.ptlines.proofs.Push.{push_after_failure, push_past_failure}
 use Rattle.std.specs.List.{flat_map}
 use Rattle.std.proofs.Common.{rules}
 use Rattle.std.proofs.lemmas.Grind.{common_steps}
+use Rattle.ptmerge.specs.Write.{WriteBytesPost}
 
 pub wrote_then : {a b c : Output} {xs ys : List ℕ} → (a.write_failed ≡ false → b.write_failed ≡ false)
     → PushEffect a b xs → PushEffect b c ys → PushEffect a c (xs ++ ys)
@@ -85,7 +85,3 @@ module _ {X : Type 0} (f : X → List ℕ) {xs more : List X} {x : X} (is : xs �
   pub each_fails : new.write_failed ≡ true → {E : Type 0} {r : Result (Unit {0}) E} (P : E → Type 0) → IsErrAnd r P
       → WriteBytesPost was new all r
   each_fails fault P err_is = partial_fails P err_is (flat_map f more) (rw is refl) a wrote fault
-
-pub each_done : {E : Type 0} {X : Type 0} (f : X → List ℕ) {xs : List X} → xs ≡ [] → {was is : Output} {all : List ℕ}
-    → PartialWrite was is all (flat_map f xs) → WriteBytesPost {E = E} was is all (Ok tt)
-each_done f e a = search rules

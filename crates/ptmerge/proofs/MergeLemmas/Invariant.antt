@@ -2,20 +2,292 @@
 -- key than a processed line. So the output for the processed lines is a prefix of the output for all inputs that begin
 -- with the lines read so far.
 use Rattle.ptmerge.proofs
-use proofs.Common.{◌≡◌, ℕ, ◌+◌, List, [], ◌∷◌, ◌++◌, Bool, true, false, cond, Option, Some, None, length, refl, ◌∙◌}
-use proofs.Common.{map, append_assoc, arith, nat_lt, unwrap_or, if◌then◌else◌, last_or, is_gt, Lines, sorted_prefix}
-use proofs.Common.{first_disorder, FirstDisorder, Cmp, Key, ◌&&◌, not, ap, sym, append-nil, flat_map-append, filter}
-use proofs.Common.{flat_map, Greater, Side, First, Second, MergeTool, insert_key, distinct_keys, keys, entries_of_key}
-use proofs.Common.{entries_by_key, earlier_disorder, is_up_to, subst, is_lt, Output, PushEffect, unlines, push_trans}
-use proofs.Common.{push_nothing, unlines-append, disorder, is_below, is_decided, is_past, merged_entries}
-use proofs.Common.{lines_with_key, option_map, with_side, disordered_line}
-use proofs.MergeLemmas.Orders.{IsKeyOrder, AtMost, at_most_trans, self_at_most, EachKey, EachKey-weaker, Above}
-use proofs.MergeLemmas.Orders.{at_most_is_le, above_trans, less_flips, Each, Each-weaker, Each-insert, Each-distinct}
-use proofs.MergeLemmas.Orders.{Each-append, Each-all, EachKey-append, front_first, greater_flips}
-use proofs.MergeLemmas.Slots.{put_each}
-use Rattle.ptmerge.specs.MergeSpec.{MergeDisorder}
+use proofs.Common.{◌≡◌, ◌⊎◌, inr, ℕ, List, Bool, true, false, refl, ◌∙◌, ap, arith, bytes_eq, Ordering, Less, Equal}
+use proofs.Common.{Greater, is_eq, is_gt, is_le, bytes_decides, tied_itself, Cmp, byte_cmp, line_cmp, ◌<◌, length}
+use proofs.Common.{get_or, suc, zero, [], ◌∷◌, ◌++◌, cond, map, append_assoc, append-nil, filter, flat_map, Side, First}
+use proofs.Common.{Second, Lines, MergeTool, insert_key, distinct_keys, keys, lines_with_key, entries_of_key}
+use proofs.Common.{entries_by_key, Key, ◌+◌, Option, Some, None, nat_lt, unwrap_or, if◌then◌else◌, last_or}
+use proofs.Common.{sorted_prefix, first_disorder, FirstDisorder, ◌&&◌, not, sym, flat_map-append, earlier_disorder}
+use proofs.Common.{is_up_to, subst, is_lt, Output, PushEffect, unlines, push_trans, push_nothing, unlines-append}
+use proofs.Common.{disorder, is_below, is_decided, merged_entries, option_map, with_side, disordered_line}
+use Rattle.std.specs.Cmp.{IsTotalOrder}
+use Rattle.ptmerge.specs.OrderLaws.{reversed_same_bytes, byte_cmp_equal}
 use Rattle.std.proofs.Common.{rules}
 use Rattle.std.proofs.lemmas.Grind.{common_steps}
+use proofs.MergeLemmas.SlotLines.{put_each}
+use Rattle.ptmerge.specs.MergeSpec.{MergeDisorder, is_past}
+use Rattle.std.proofs.lemmas.Cmp.{back_total, nat_list_cmp_total, upto}
+
+-- Consequences of the laws of an order of keys. Distinct keys are sorted, so the entries of the least key come first,
+-- followed by the entries of the lines with other keys.
+
+pub record IsKeyOrder (cmp : Cmp) : Type 0 where
+  pub total : IsTotalOrder cmp
+  pub exact : (a b : List ℕ) → cmp a b ≡ Equal → a ≡ b
+
+-- a is at most k
+abbrev pub AtMost : Cmp → List ℕ → List ℕ → Type 0
+AtMost cmp a b = is_gt (cmp a b) ≡ false
+
+-- y is greater than k
+abbrev pub Above : Cmp → List ℕ → List ℕ → Type 0
+Above cmp k y = cmp y k ≡ Greater
+
+pub is_greater : (r : Ordering) → is_gt r ≡ true → r ≡ Greater
+is_greater r h = grind arith
+
+-- equal keys have the same bytes
+pub same_bytes : {a b : List ℕ} → a ≡ b → bytes_eq a b ≡ true
+same_bytes {a} {b} e = search rules
+
+pub not_same : (a b : List ℕ) → (a ≡ b → ⊥) → bytes_eq a b ≡ false
+not_same a b n = grind (arith, bytes_decides a b)
+
+module _ (cmp : Cmp) (o : IsKeyOrder cmp) where
+  pub self_at_most : (a : List ℕ) → AtMost cmp a a
+  self_at_most a = ap is_gt (tied_itself o.total a)
+
+  pub equal_is : (a b : List ℕ) → is_eq (cmp a b) ≡ bytes_eq a b
+  equal_is a b = grind (arith, not_same a b, tied_itself o.total a, o.exact a b, bytes_decides a b)
+
+  pub at_most_trans : (a b c : List ℕ) → AtMost cmp a b → AtMost cmp b c → AtMost cmp a c
+  at_most_trans a b c p q = upto o.total a b c p q
+
+  pub greater_flips : (a b : List ℕ) → cmp a b ≡ Greater → cmp b a ≡ Less
+  greater_flips a b g = search rules
+
+  pub less_flips : (a b : List ℕ) → cmp a b ≡ Less → cmp b a ≡ Greater
+  less_flips a b l = search rules
+
+  pub above_at_most : (k y : List ℕ) → cmp y k ≡ Greater → AtMost cmp k y
+  above_at_most k y g = ap is_gt (greater_flips y k g)
+
+  pub above_not_same : (k y : List ℕ) → cmp y k ≡ Greater → bytes_eq y k ≡ false
+  above_not_same k y g = grind (arith, not_same y k, tied_itself o.total y)
+
+  -- k equals y, or is less
+  pub least_or_above : (k y : List ℕ) → AtMost cmp k y
+      → ((bytes_eq y k ≡ true) × (y ≡ k)) ⊎ ((bytes_eq y k ≡ false) × (cmp y k ≡ Greater))
+  least_or_above k y h = search (rules, less_flips, above_not_same, same_bytes)
+
+  -- a ≤ b < c
+  pub above_trans : (a b c : List ℕ) → AtMost cmp a b → cmp c b ≡ Greater → cmp c a ≡ Greater
+  above_trans a b c p g = search (rules, least_or_above, greater_flips, less_flips)
+
+  -- a < b ≤ c
+  pub above_up : (a b c : List ℕ) → cmp b a ≡ Greater → AtMost cmp b c → cmp c a ≡ Greater
+  above_up a b c g p = search (rules, least_or_above, greater_flips, less_flips)
+
+  pub at_most_is_le : (a b : List ℕ) → AtMost cmp a b → is_le (cmp a b) ≡ true
+  at_most_is_le a b h = grind arith
+
+-- both orders of lines satisfy the laws
+pub line_order : (descending : Bool) → IsKeyOrder (line_cmp descending)
+line_order true = record { total = back_total nat_list_cmp_total; exact = reversed_same_bytes byte_cmp byte_cmp_equal }
+line_order false = record { total = nat_list_cmp_total; exact = byte_cmp_equal }
+
+-- ---- the least key
+
+-- a property of each key, or of the key of each line
+abbrev pub Each : (List ℕ → Type 0) → Lines → Type 0
+Each P [] = Unit {0}
+Each P (x ∷ xs) = P x × Each P xs
+
+abbrev pub EachKey : (List ℕ → Type 0) → Key → Lines → Type 0
+EachKey P key xs = Each P (map key xs)
+
+pub Each-weaker : (P Q : List ℕ → Type 0) → ((x : List ℕ) → P x → Q x) → (xs : Lines) → Each P xs → Each Q xs
+Each-weaker P Q f [] e = tt
+Each-weaker P Q f (x ∷ xs) (here, more) = (f x here, Each-weaker P Q f xs more)
+
+pub EachKey-at : (P : List ℕ → Type 0) (key : Key) (xs : Lines) (i : ℕ) → i < length xs → EachKey P key xs
+    → P (key (get_or xs i []))
+EachKey-at P key [] i low e = absurd (omega (arith, low))
+EachKey-at P key (x ∷ xs) zero low (here, _) = here
+EachKey-at P key (x ∷ xs) (suc i) low (_, more) = EachKey-at P key xs i (omega (arith, low)) more
+
+pub EachKey-weaker : (P Q : List ℕ → Type 0) → ((x : List ℕ) → P x → Q x) → (key : Key) (xs : Lines) → EachKey P key xs
+    → EachKey Q key xs
+EachKey-weaker P Q f key xs e = Each-weaker P Q f _ e
+
+pub Each-all : (P : List ℕ → Type 0) → ((x : List ℕ) → P x) → (xs : Lines) → Each P xs
+Each-all P f [] = tt
+Each-all P f (x ∷ xs) = (f x, Each-all P f xs)
+
+pub Each-append : (P : List ℕ → Type 0) (xs ys : Lines) → Each P xs → Each P ys → Each P (xs ++ ys)
+Each-append P [] ys e h = h
+Each-append P (x ∷ xs) ys (here, more) h = (here, Each-append P xs ys more h)
+
+pub Each-parts : (P : List ℕ → Type 0) (xs ys : Lines) → Each P (xs ++ ys) → Each P xs × Each P ys
+Each-parts P [] ys e = (tt, e)
+Each-parts P (x ∷ xs) ys (here, more) = search (rules, Each-parts P xs ys more)
+
+pub EachKey-append : (P : List ℕ → Type 0) (key : Key) (xs ys : Lines) → EachKey P key xs → EachKey P key ys
+    → EachKey P key (xs ++ ys)
+EachKey-append P key xs ys e h = grind (arith, common_steps)
+
+pub Each-insert : (cmp : Cmp) (P : List ℕ → Type 0) (k : List ℕ) (xs : Lines) → P k → Each P xs
+    → Each P (insert_key cmp k xs)
+Each-insert cmp P k [] h e = (h, tt)
+Each-insert cmp P k (x ∷ xs) h (here, more) = let ih = Each-insert cmp P k xs h more in grind arith
+
+pub Each-distinct : (cmp : Cmp) (P : List ℕ → Type 0) (xs : Lines) → Each P xs → Each P (distinct_keys cmp xs)
+Each-distinct cmp P [] e = tt
+Each-distinct cmp P (x ∷ xs) (here, more) =
+    Each-insert cmp P x (distinct_keys cmp xs) here (Each-distinct _ P xs more)
+
+-- the keys other than k
+abbrev others : List ℕ → Lines → Lines
+others k [] = []
+others k (y ∷ ys) = cond (bytes_eq y k) (others k ys) (y ∷ others k ys)
+
+-- the lines whose key is not k
+abbrev pub without : Key → List ℕ → Lines → Lines
+without key k [] = []
+without key k (x ∷ xs) = cond (bytes_eq (key x) k) (without key k xs) (x ∷ without key k xs)
+
+module _ (cmp : Cmp) (o : IsKeyOrder cmp) where
+  pub insert_least : (k : List ℕ) (ds : Lines) → Each (Above cmp k) ds → insert_key cmp k ds ≡ k ∷ ds
+  insert_least k [] a = refl
+  insert_least k (d ∷ ds) (here, _) = rw (greater_flips cmp o d k here) refl
+
+  others_above : (k : List ℕ) (ks : Lines) → Each (AtMost cmp k) ks → Each (Above cmp k) (others k ks)
+  others_above k [] e = tt
+  others_above k (y ∷ ks) (here, more) = grind (arith, least_or_above, others_above k ks more)
+
+  -- the least key, if it occurs, comes first
+  distinct_least : (k : List ℕ) (ks : Lines) → Each (AtMost cmp k) ks
+      → (distinct_keys cmp ks ≡ k ∷ distinct_keys cmp (others k ks))
+      ⊎ ((distinct_keys cmp ks ≡ distinct_keys cmp (others k ks)) × Each (λ y. bytes_eq y k ≡ false) ks)
+  distinct_least k [] e = inr (refl, tt)
+  distinct_least k (y ∷ ks) (here, more) = grind (
+    arith,
+    least_or_above,
+    insert_least,
+    Each-distinct,
+    others_above,
+    distinct_least k ks more,
+  )
+
+others-keys : (key1 key2 : Key) (k : List ℕ) (xs ys : Lines)
+    → others k (map key1 xs ++ map key2 ys) ≡ map key1 (without key1 k xs) ++ map key2 (without key2 k ys)
+others-keys key1 key2 k [] [] = refl
+others-keys key1 key2 k [] (y ∷ ys) = let ih = others-keys key1 key2 k [] ys in grind arith
+others-keys key1 key2 k (x ∷ xs) ys = let ih = others-keys key1 key2 k xs ys in grind arith
+
+-- a test that no key passes keeps no line
+pub kept_none : (w : List ℕ → Bool) (key : Key) (ls : Lines) → EachKey (λ k. w k ≡ false) key ls
+    → filter (λ line. w (key line)) ls ≡ []
+kept_none w key [] e = refl
+kept_none w key (x ∷ ls) (here, more) = rw here (kept_none w key ls more)
+
+-- the lines with another key
+with_key_without : (key : Key) (k q : List ℕ) (xs : Lines) → bytes_eq q k ≡ false
+    → lines_with_key key (without key k xs) q ≡ lines_with_key key xs q
+with_key_without key k q [] n = refl
+with_key_without key k q (x ∷ xs) n = grind (
+  arith,
+  not_same,
+  same_bytes,
+  bytes_decides,
+  with_key_without key k q xs
+      n,
+)
+
+module _ (tool : MergeTool) (o : IsKeyOrder tool.cmp) where
+  open tool use {cmp}
+
+  abbrev nothing_follows : (List ℕ → Bool) → (Side → Lines) → Lines → Lines
+  nothing_follows w ls ks = flat_map (entries_of_key tool ls) (filter w ks)
+
+  -- the lines with keys other than k
+  abbrev pub others_of : List ℕ → (Side → Lines) → Side → Lines
+  others_of k ls side = without (tool.key side) k (ls side)
+
+  over_others : (w : List ℕ → Bool) (k : List ℕ) (ls : Side → Lines) (ks : Lines) → Each (Above cmp k) ks
+      → nothing_follows w ls ks ≡ nothing_follows w (others_of k ls) ks
+  over_others w k ls [] e = refl
+  over_others w k ls (q ∷ ks) (here, more) = grind (
+    arith,
+    above_not_same,
+    with_key_without,
+    over_others w k ls ks
+        more,
+  )
+
+  -- The entries of a key that is at most all others come first, followed by those of the lines with other keys.
+  pub least_first : (w : List ℕ → Bool) (k : List ℕ) (ls : Side → Lines)
+      → ((side : Side) → EachKey (AtMost cmp k) (tool.key side) (ls side)) → tool.entries k [] [] ≡ []
+      → entries_by_key tool w ls ≡ cond (w k) (entries_of_key tool ls k) [] ++ entries_by_key tool w (others_of k ls)
+  least_first w k ls e none =
+      let ks = keys tool ls in
+      let all : Each (AtMost cmp k) ks = Each-append _ _ _ (e First) (e Second) in
+      let above = Each-distinct cmp _ _ (others_above cmp o k ks all) in
+      let none_of = λ (side : Side). kept_none (λ y. bytes_eq y k) (tool.key side) (ls side) in
+      let parts = Each-parts (λ y. bytes_eq y k ≡ false) (map (tool.key First) (ls First))
+      (map (tool.key Second) (ls Second)) in
+      grind (
+        arith,
+        over_others w k ls _ above,
+        others-keys (tool.key First) (tool.key Second) k (ls First)
+            (ls Second),
+        none,
+        distinct_least cmp o k ks all,
+        parts,
+        none_of First,
+        none_of Second,
+      )
+
+  -- lines of one key, followed by lines with no lesser keys
+  pub lines_with_key-front : (key : Key) (k : List ℕ) (f r : Lines) → EachKey (λ x. x ≡ k) key f
+      → (lines_with_key key (f ++ r) k ≡ f ++ lines_with_key key r k) × (without key k (f ++ r) ≡ without key k r)
+  lines_with_key-front key k [] r e = (refl, refl)
+  lines_with_key-front key k (x ∷ f) r (here, more) = grind (arith, same_bytes, lines_with_key-front key k f r more)
+
+  pub at_most-same : (key : Key) (k : List ℕ) (f r : Lines) → EachKey (λ x. x ≡ k) key f → EachKey (AtMost cmp k) key r
+      → EachKey (AtMost cmp k) key (f ++ r)
+  at_most-same key k f r e h =
+      EachKey-append _ key f r (EachKey-weaker _ _ (λ x is. rw is (self_at_most cmp o k)) _ f e) h
+
+  -- Lines of the least key, followed by lines with no lesser keys.
+  module _ (w : List ℕ → Bool) (k : List ℕ) (f r : Side → Lines)
+      (s : (side : Side) → EachKey (λ x. x ≡ k) (tool.key side) (f side))
+      (a : (side : Side) → EachKey (AtMost cmp k) (tool.key side) (r side)) (none : tool.entries k [] [] ≡ []) where
+    pub front_is : entries_by_key tool w (λ side. f side ++ r side)
+        ≡ cond (w k) (tool.entries k (f First ++ lines_with_key (tool.key First) (r First) k)
+        (f Second ++ lines_with_key (tool.key Second) (r Second) k)) [] ++ entries_by_key tool w (others_of k r)
+    front_is =
+        let in_front = λ (side : Side). lines_with_key-front (tool.key side) k (f side) (r side) (s side) in
+        least_first w k (λ side. f side ++ r side)
+        (λ side. at_most-same (tool.key side) k (f side) (r side) (s side) (a side)) none
+        ∙ (λ i. cond (w k) (tool.entries k ((in_front First).0 i) ((in_front Second).0 i)) []
+        ++ entries_by_key tool w (λ side. (in_front side).1 i))
+
+  pub front_first : (w : List ℕ → Bool) (k : List ℕ) (f r : Side → Lines)
+      → ((side : Side) → EachKey (λ x. x ≡ k) (tool.key side) (f side))
+      → ((side : Side) → EachKey (AtMost cmp k) (tool.key side) (r side)) → tool.entries k [] [] ≡ []
+      → tool.entries k (f First ++ lines_with_key (tool.key First) (r First) k)
+      (f Second ++ lines_with_key (tool.key Second) (r Second) k) ≡ tool.entries k (f First) (f Second)
+      ++ entries_of_key tool r k
+      → entries_by_key tool w (λ side. f side ++ r side) ≡ entries_by_key tool w f ++ entries_by_key tool w r
+  front_first w k f r s a none law =
+      let first = simp append-nil at (front_is w k f (λ side. []) s (λ side. tt) none) in
+      grind (
+        arith,
+        first,
+        front_is w k f r s a none,
+        least_first w k r a none,
+        append_assoc
+            (tool.entries k (f First) (f Second)) (entries_of_key tool r k) (entries_by_key tool w (others_of k r)),
+      )
+
+  -- no line with a greater key has the key
+  pub lines_with_key-above : (key : Key) (k : List ℕ) (r : Lines) → EachKey (Above cmp k) key r
+      → lines_with_key key r k ≡ []
+  lines_with_key-above key k r a =
+      kept_none (λ y. bytes_eq y k) key r (EachKey-weaker _ _ (λ y g. above_not_same cmp o k y g) _ _ a)
+
+-- ---- lines in order
 
 abbrev pub is_disordered : Cmp → Option (List ℕ) → List ℕ → Bool
 is_disordered cmp None k = false
@@ -53,6 +325,33 @@ pub first_disorder_is : (cmp : Cmp) (key : Key) (ls : Lines)
     → first_disorder cmp key ls ≡ disorder_after cmp key None 0 ls
 first_disorder_is cmp key ls = grind (arith, sorted_prefix_is cmp key ls, by_length_is cmp key None 0 ls)
 
+-- no line is out of order, after this key
+abbrev pub IsSortedFrom : Cmp → Key → Option (List ℕ) → Lines → Type 0
+IsSortedFrom cmp key last [] = Unit {0}
+IsSortedFrom cmp key last (x ∷ xs) = (is_disordered cmp last (key x) ≡ false) × IsSortedFrom cmp key (Some (key x)) xs
+
+-- such lines are their own sorted prefix, without a disorder
+sorted_from_whole : (cmp : Cmp) (key : Key) (last : Option (List ℕ)) (n : ℕ) (ls : Lines) → IsSortedFrom cmp key last ls
+    → (sorted_after cmp key last ls ≡ ls) × (disorder_after cmp key last n ls ≡ None)
+sorted_from_whole cmp key last n [] r = (refl, refl)
+sorted_from_whole cmp key last n (x ∷ ls) (here, more) =
+    grind (arith, sorted_from_whole cmp key (Some (key x)) (n + 1) ls more)
+
+pub sorted_from_start : (cmp : Cmp) (key : Key) (ls : Lines) → IsSortedFrom cmp key None ls
+    → (sorted_prefix cmp key ls ≡ ls) × (first_disorder cmp key ls ≡ None)
+sorted_from_start cmp key ls r =
+    grind (arith, sorted_from_whole cmp key None 0 ls r, sorted_prefix_is, first_disorder_is)
+
+none_disordered : (cmp : Cmp) (key : Key) (last : Option (List ℕ)) (n : ℕ) (ls : Lines)
+    → disorder_after cmp key last n ls ≡ None → IsSortedFrom cmp key last ls
+none_disordered cmp key last n [] e = tt
+none_disordered cmp key last n (x ∷ ls) e = grind (arith, none_disordered cmp key (Some (key x)) (n + 1) ls)
+
+-- lines without a disorder are in order
+pub sorted_from_none : (cmp : Cmp) (key : Key) (ls : Lines) → first_disorder cmp key ls ≡ None
+    → IsSortedFrom cmp key None ls
+sorted_from_none cmp key ls e = none_disordered cmp key None 0 ls (sym (first_disorder_is cmp key ls) ∙ e)
+
 -- lines in order, up to a last key
 pub record IsSortedUpTo (cmp : Cmp) (key : Key) (q : Lines) (last : Option (List ℕ)) : Type 0 where
   pub ordered : (w : Lines) → sorted_prefix cmp key (q ++ w) ≡ q ++ sorted_after cmp key last w
@@ -60,11 +359,6 @@ pub record IsSortedUpTo (cmp : Cmp) (key : Key) (q : Lines) (last : Option (List
 
 pub sorted_up_to_none : {cmp : Cmp} {key : Key} → IsSortedUpTo cmp key [] None
 sorted_up_to_none = grind (arith, sorted_prefix_is, first_disorder_is)
-
-pub sorted_up_to_more : {cmp : Cmp} {key : Key} {q : Lines} {last : Option (List ℕ)} (x : List ℕ)
-    → IsSortedUpTo cmp key q last → is_disordered cmp last (key x) ≡ false
-    → IsSortedUpTo cmp key (q ++ x ∷ []) (Some (key x))
-sorted_up_to_more = grind (arith, common_steps)
 
 -- the disorder, if there is one, comes after a key that is at least k
 abbrev pub IsDisorderFrom : Cmp → List ℕ → Option FirstDisorder → Type 0
@@ -114,6 +408,14 @@ IsUnder cmp NothingMore k = Unit {0}
 pub may_follow_none : (cmp : Cmp) (key : Key) (b : Bound) → MayFollow cmp key b []
 may_follow_none cmp key b = grind arith
 
+-- `d` is a later bound than `b`: no more lines may follow, and no fewer keys are at most theirs
+pub record IsLater (cmp : Cmp) (key : Key) (b d : Bound) : Type 0 where
+  pub may_follow : (r : Lines) → MayFollow cmp key d r → MayFollow cmp key b r
+  pub under : (k : List ℕ) → IsUnder cmp b k → IsUnder cmp d k
+
+pub same_bound : {cmp : Cmp} {key : Key} {b : Bound} → IsLater cmp key b b
+same_bound = record { may_follow = λ r c. c; under = λ k u. u }
+
 -- the sorted prefix of the lines `all` is `p`, followed by lines that the bound allows, and so is their disorder
 pub record IsFuture (cmp : Cmp) (key : Key) (all p : Lines) (b : Bound) : Type 0 where
   pub rest : Lines
@@ -125,20 +427,6 @@ pub record IsFuture (cmp : Cmp) (key : Key) (all p : Lines) (b : Bound) : Type 0
 -- after the end of the input.
 pub record IsProcessedPrefix (cmp : Cmp) (key : Key) (ls p : Lines) (b : Bound) : Type 0 where
   pub future : (w : Lines) → (b ≡ NothingMore → w ≡ []) → IsFuture cmp key (ls ++ w) p b
-
--- all lines read are processed
-pub processed_to_line : {cmp : Cmp} (o : IsKeyOrder cmp) {key : Key} {ls : Lines} {k : List ℕ}
-    → IsSortedUpTo cmp key ls (Some k) → IsProcessedPrefix cmp key ls ls (AtLeast k)
-processed_to_line = grind (arith, after_from)
-
-pub processed_all : {cmp : Cmp} {key : Key} {ls : Lines} {last : Option (List ℕ)} → IsSortedUpTo cmp key ls last
-    → IsProcessedPrefix cmp key ls ls NothingMore
-processed_all g = grind arith
-
--- the current line is not yet processed
-pub processed_before_line : {cmp : Cmp} (o : IsKeyOrder cmp) {key : Key} {p : Lines} {x : List ℕ}
-    → IsSortedUpTo cmp key (p ++ x ∷ []) (Some (key x)) → IsProcessedPrefix cmp key (p ++ x ∷ []) p (AtLeast (key x))
-processed_before_line = grind (arith, common_steps, after_from, self_at_most)
 
 -- ---- the output
 
@@ -189,11 +477,6 @@ module _ (cmp : Cmp) (o : IsKeyOrder cmp) where
     downward_first w p down ks
         more,
   )
-
-  -- the disorder comes after a key that is at least k
-  pub under_fall : (b : Bound) (k : List ℕ) (f : Option FirstDisorder) → IsUnder cmp b k → MayDisorder cmp b f
-      → IsDisorderFrom cmp k f
-  under_fall b k f u h = grind (arith, at_most_trans)
 
   pub up_to_from : (k : List ℕ) (f1 f2 : Option FirstDisorder) → IsDisorderFrom cmp k f1 → IsDisorderFrom cmp k f2
       → is_up_to cmp (earlier_disorder cmp f1 f2) k ≡ true
@@ -314,8 +597,7 @@ lag_invariant_starts {tool} {b} {p} {mid = mid} m clean more = record {
 pub record IsLeastKeyRun (cmp : Cmp) (key : Key) (b : Bound) (k : List ℕ) (f : Lines) : Type 0 where
   pub own : EachKey (λ y. y ≡ k) key f
   pub may_follow : (r : Lines) → MayFollow cmp key b r → MayFollow cmp key b (f ++ r)
-  pub bound_after : (r : Lines) → MayFollow cmp key b r → EachKey (AtMost cmp k) key r
-  pub under : IsUnder cmp b k
+  pub later : IsLater cmp key (AtLeast k) b
 
 -- the current line, or no line
 pub line_is_least_run : {cmp : Cmp} (o : IsKeyOrder cmp) {key : Key} {b : Bound} {k x : List ℕ} → b ≡ AtLeast (key x)
@@ -342,13 +624,13 @@ write_least_run {tool} o k q f {b} {p} {was} {is} {new} front all none law clean
     ∙ unlines-append _ (entries_by_key tool all_keys p) (entries_by_key tool all_keys f) in
     let under : (of side : Side) → EachKey (IsUnder tool.cmp (b of)) (tool.key side) (p side ++ f side) =
     λ of side. EachKey-append _ (tool.key side) _ _ (m.under of side)
-    (EachKey-weaker _ _ (λ y e. rw e (front of).under) _ _ (front side).own) in
+    (EachKey-weaker _ _ (λ y e. rw e ((front of).later.under k (self_at_most _ o k))) _ _ (front side).own) in
     subst (λ (l : Side → Lines). MergeInvariant tool b l was new × AllWritten tool b l was new)
     (λ i side. sym (all side) i) (
       record {
         splits = splits_step tool b b p f m.splits (λ side. (front side).may_follow)
             (λ w r c. front_first tool o w k f r (λ side. (front side).own)
-            (λ side. (front side).bound_after (r side) (c side)) none (law r c));
+            (λ side. (front side).later.may_follow (r side) (c side)) none (law r c));
         under = under;
         wrote = rw texts (push_trans _ _ _ _ _ clean m.wrote wrote);
       },
@@ -369,21 +651,22 @@ write_least_run {tool} o k q f {b} {p} {was} {is} {new} front all none law clean
       },
     )
 
--- an input advanced
-pub bound_changes : {tool : MergeTool} {b : Side → Bound} {p : Side → Lines} {was is : Output} (s : Side) (d : Bound)
-    → MergeInvariant tool b p was is
-    → ((r : Lines) → MayFollow tool.cmp (tool.key s) d r → MayFollow tool.cmp (tool.key s) (b s) r)
-    → ((k : List ℕ) → IsUnder tool.cmp (b s) k → IsUnder tool.cmp d k) → MergeInvariant tool (with_side s d b) p was is
-bound_changes {tool} {b} {p} s d m may_follow under = record {
-  splits = record {
-    split = λ w r c.
-        m.splits.split w r (λ side. put_each (λ t e. MayFollow tool.cmp (tool.key t) e (r t)
-        → MayFollow tool.cmp (tool.key t) (b t) (r t)) s d b (may_follow (r s)) (λ t h. h) side (c side));
-  };
-  under = λ of side. put_each (λ t e. EachKey (IsUnder tool.cmp e) (tool.key side) (p side)) s d b
-      (EachKey-weaker _ _ under _ _ (m.under s side)) (λ t. m.under t side) of;
+-- the bounds are later
+pub bounds_change : {tool : MergeTool} {b d : Side → Bound} {p : Side → Lines} {was is : Output}
+    → ((side : Side) → IsLater tool.cmp (tool.key side) (b side) (d side)) → MergeInvariant tool b p was is
+    → MergeInvariant tool d p was is
+bounds_change later m = record {
+  splits = record { split = λ w r c. m.splits.split w r (λ side. (later side).may_follow (r side) (c side)) };
+  under = λ of side. EachKey-weaker _ _ (later of).under _ _ (m.under of side);
   wrote = m.wrote;
 }
+
+-- an input advanced
+pub bound_changes : {tool : MergeTool} {b : Side → Bound} {p : Side → Lines} {was is : Output} (s : Side) {d : Bound}
+    → MergeInvariant tool b p was is → IsLater tool.cmp (tool.key s) (b s) d
+    → MergeInvariant tool (with_side s d b) p was is
+bound_changes {tool} {b} s {d} m later = bounds_change
+    (put_each (λ side. IsLater tool.cmp (tool.key side) (b side)) s d b later (λ side. same_bound)) m
 
 -- the merge is at its end: the disorder is the one found, if any, and no line that may follow changes the output
 abbrev pub IsExactStop : MergeTool → (Side → Bound) → Option (Side × ℕ) → Type 0
@@ -391,11 +674,6 @@ IsExactStop tool b found = (ls r : Side → Lines) → ((s : Side) → MayFollow
     → ((s : Side) → MayDisorder tool.cmp (b s) (first_disorder tool.cmp (tool.key s) (ls s)))
     → (entries_by_key tool (is_up_to tool.cmp (disorder tool ls)) r ≡ [])
     × (option_map disordered_line (disorder tool ls) ≡ found)
-
--- both inputs are at their ends
-pub exact_at_end : (tool : MergeTool) {b : Side → Bound} → ((side : Side) → b side ≡ NothingMore)
-    → IsExactStop tool b None
-exact_at_end = grind arith
 
 -- ---- the decided output
 
@@ -433,15 +711,11 @@ module _ (cmp : Cmp) (o : IsKeyOrder cmp) where
       by (Some x) e = EachKey-weaker _ _ (λ k h. not_below k x h) _ _
           (coming_under other_key b x r (last_has key (IsUnder cmp b) None p x e (λ y bad. cc) u) c)
 
-  -- the tests of `is_decided` hold for all keys below a key for which they hold
-  downward_lt : (l a b : List ℕ) → cmp b a ≡ Greater → is_lt (cmp b l) ≡ true → is_lt (cmp a l) ≡ true
-  downward_lt l a b g h = grind (arith, greater_flips, less_flips, above_trans)
-
   downward_up_to : (d : Option MergeDisorder) → IsDownwardClosed cmp (is_up_to cmp d)
   downward_up_to = grind (arith, at_most_trans, greater_flips)
 
   downward_past : (key : Key) (eof : Bool) (ls : Lines) → IsDownwardClosed cmp (is_past cmp key eof ls)
-  downward_past = grind (arith, downward_lt)
+  downward_past = grind (arith, greater_flips, less_flips, above_trans)
 
 all_three : (x y z u v w : Bool) → (x ≡ true → u ≡ true) → (y ≡ true → v ≡ true) → (z ≡ true → w ≡ true)
     → (x && y && z) ≡ true → (u && v && w) ≡ true

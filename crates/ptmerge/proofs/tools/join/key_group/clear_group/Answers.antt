@@ -1,5 +1,5 @@
 use Rattle.std.proofs.Common.{arith}
-use Rattle.ptmerge.proofs.JoinLemmas.GroupSlots.{clears_more}
+use Rattle.ptmerge.proofs.JoinLemmas.Group.{clears_more}
 use Rattle.ptmerge.proofs.tools.join.key_group.clear_group.Goals as goal
 
 pub loop-slot-preserved : goal.loop-slot-preserved

@@ -1,14 +1,15 @@
 -- The lines read from a source. The bytes received are the lines read so far, and all but the last have their
 -- terminator. So every input that begins with these bytes begins with these lines.
 use Rattle.ptmerge.proofs
-use proofs.Common.{◌≡◌, ◌⊎◌, ℕ, ◌+◌, ◌<◌, ◌≤◌, true, false, List, [], ◌∷◌, ◌++◌, None, length, max, refl, ◌∙◌, arith}
+use proofs.Common.{◌≡◌, ◌⊎◌, ℕ, ◌+◌, ◌<◌, ◌≤◌, true, false, List, [], ◌∷◌, ◌++◌, length, max, refl, ◌∙◌, arith}
 use proofs.Common.{append_assoc, length-append, append-nil, FillLine, Received, IsConsistent, known_lines, Reader}
 use proofs.Common.{ReaderAdvance, AdvanceOk, IsDone, Slots, unlines, lines, complete_lines, IsLine, AreLines}
-use proofs.Common.{max_length, received_with, advance_ok_trans, lines_of_unlines, lines_of_last, unlines_push}
-use proofs.Common.{IsSound, HasNoLine, IsFirstLineAndBlock, AreLines_push, complete_lines_none, complete_lines_cons}
+use proofs.Common.{max_length, received_with, advance_ok_trans, unlines_push, IsSound, HasNoLine, IsFirstLineAndBlock}
 use Rattle.ptlines.proofs.MaxLength.{max_length-append, piece_le_max_length}
 use Rattle.std.proofs.Common.{rules}
 use Rattle.std.proofs.lemmas.Grind.{common_steps}
+use Rattle.ptlines.proofs.TextLaws.{AreLines_push, complete_lines_cons, complete_lines_none, lines_of_last}
+use Rattle.ptlines.proofs.TextLaws.{lines_of_unlines}
 
 -- complete lines, and then the complete lines of the rest
 ended_more : (end : ℕ) (ls : List (List ℕ)) (bytes : List ℕ) → AreLines end ls
@@ -34,9 +35,6 @@ pub record LinesRead (end : ℕ) (old now : Reader) (ls : List (List ℕ)) : Typ
   pub so_far : IsReadAs end given ls now
   pub advance_ok : AdvanceOk old now given
   pub terminator : now.terminator ≡ end
-
-pub lines_read_none : {end : ℕ} {old : Reader} → old.fault ≡ None → old.terminator ≡ end → LinesRead end old old []
-lines_read_none = grind arith
 
 -- nothing was read, and the end of the source was reached
 pub record GivesNothing (new : Reader) (bytes : List ℕ) : Type 0 where

@@ -1,10 +1,9 @@
 -- Lines in the slots of a store. A slot changes only if its own input reads, so two lines of each input, none longer
 -- than its longest line, bound the bytes stored.
 use Rattle.ptmerge.proofs
-use proofs.Common.{◌≡◌, ◌≢◌, ℕ, zero, suc, ◌+◌, ◌*◌, ◌≤◌, false, List, [], ◌∷◌, ◌++◌, length, max, refl, arith}
-use proofs.Common.{get_or, set, Slots, line, total_bytes, with_new_slot, with_line, Side, First}
-use proofs.Common.{Second, Sorted, HasSlots, EnsureFourSlotsPost, ClearFourSlotsPost, Bool, both, with_side, other}
-use proofs.Common.{with_input, both_sides}
+use proofs.Common.{◌≡◌, ◌≢◌, ℕ, zero, suc, ◌+◌, ◌*◌, ◌≤◌, false, List, [], ◌∷◌, ◌++◌, length, max, refl, arith, get_or}
+use proofs.Common.{set, Slots, line, total_bytes, with_new_slot, with_line, Side, First, Second, Sorted, HasSlots}
+use proofs.Common.{EnsureFourSlotsPost, ClearFourSlotsPost, Bool, both, with_side, other, with_input, both_sides, ◌<◌}
 use Rattle.std.proofs.Common.{rules}
 use Rattle.std.proofs.lemmas.Grind.{common_steps}
 
@@ -43,6 +42,20 @@ side_case Q s p q = grind (arith, put_both)
 
 -- ---- the slots
 
+-- the slots of an input are two of the first four
+pub record AreLow (cursor : Sorted) : Type 0 where
+  pub current : cursor.current_slot < 4
+  pub previous : cursor.previous_slot < 4
+  pub apart : cursor.current_slot ≢ cursor.previous_slot
+
+pub low_slot : (s : Side) (cursor : Sorted) → HasSlots s cursor → AreLow cursor
+low_slot = grind arith
+
+-- the slots of the two inputs are distinct
+pub slots_apart : (s : Side) (a c : Sorted) → HasSlots s a → HasSlots (other s) c
+    → (a.previous_slot ≢ c.current_slot) × (a.previous_slot ≢ c.previous_slot)
+slots_apart s a c x y = grind arith
+
 pub line_other : (s : Slots) (a b : ℕ) (bytes : List ℕ) → a ≢ b → line (with_line s a bytes) b ≡ line s b
 line_other s a b bytes n = search rules
 
@@ -64,9 +77,6 @@ HasLines m more few = ⊥
 four_total : (a b c d : List ℕ) (rest : List (List ℕ))
     → total_bytes (a ∷ b ∷ c ∷ d ∷ rest) ≡ ((length a + length b) + length c) + length d + total_bytes rest
 four_total = grind (arith, common_steps)
-
-pub has_lines_none : (xs : List (List ℕ)) → 4 ≤ length xs → total_bytes xs ≡ 0 → HasLines (λ side. 0) 0 xs
-has_lines_none = grind (arith, four_total)
 
 -- the number of slots, and the bytes in all of them
 pub record LinesTotal (xs : List (List ℕ)) (m : Side → ℕ) (more : ℕ) : Type 0 where
@@ -94,7 +104,7 @@ pub record StoreOfLines (before store : Slots) (m : Side → ℕ) : Type 0 where
 
 pub store_of_no_lines : {before store : Slots} → EnsureFourSlotsPost before store → before.denied ≡ false
     → total_bytes before.lines ≡ 0 → StoreOfLines before store (λ side. 0)
-store_of_no_lines = grind (arith, has_lines_none)
+store_of_no_lines = grind (arith, four_total)
 
 pub store_with_line : {before store after : Slots} (s : Side) (cursor : Sorted) {m : Side → ℕ} (k : Side → ℕ)
     (x : List ℕ)
