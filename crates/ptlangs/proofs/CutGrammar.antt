@@ -6,7 +6,7 @@ use proofs.Common.{Result, ◌≡◌, Bool, List, None, Ok, Option, Some, [], ap
 use proofs.Common.{length, refl, subst, suc, sym, take, true, ℕ, ◌&&◌, ◌++◌, ◌+◌, ◌-◌, ◌<◌, ◌||◌, ◌∙◌, ◌∷◌, and_parts}
 use proofs.Common.{cases_Bool, eqb-true, All-cons, slice_split_at, slice_split_none, AllPass-from_list_all}
 use proofs.Common.{is_ascii_digit, All, position, slice_split, IsValidInterval, cut_list, element_interval, is_dash}
-use proofs.Common.{traverse, is_empty, is_number, value, Interval, ◌≤◌}
+use proofs.Common.{traverse, is_empty, is_number, value, Interval, ◌≤◌, result_err}
 use Rattle.std.proofs.Common.{leb, max}
 use Rattle.std.proofs.lemmas.List.Sorted.{list_any-IsPermutation}
 use Rattle.std.proofs.lemmas.List.Splits.{join_with_byte-slice_split, length-slice_split}
@@ -17,7 +17,7 @@ use proofs.ListElements.{split_whole, split_around, some_since, digits_fail, Unb
 use proofs.ListElements.{unbroken_nil, unbroken_number, matches_grammar, IsSplit, Whole, Cut, splits, reads_first}
 use Rattle.ptlangs.specs.CutLists.{CutListMatchesGrammar, AreSeparated, AreSortedFrom, From, FromTo, SpellsInterval}
 use Rattle.ptlangs.specs.CutLists.{IsIntervalElement, One, UpTo, checked_interval, interval_of_bounds, is_bound}
-use Rattle.ptlangs.specs.CutLists.{is_selected, interval_of_parts, selection}
+use Rattle.ptlangs.specs.CutLists.{is_selected, interval_of_parts, selection, cut_list_fault}
 use Rattle.std.proofs.lemmas.Grind.{common_steps}
 
 -- ---- the elements, split at dashes
@@ -73,6 +73,12 @@ checked_proper = grind arith
 
 element_proper : (bs : List ℕ) (r : Interval) → element_interval bs ≡ Ok r → IsValidInterval r
 element_proper = search (rules, checked_proper)
+
+-- no element has the fault of an allocation
+pub fault_of_text : (all : List (List ℕ)) (e : ListFault) → Some e ≡ result_err (traverse element_interval all)
+    → cut_list_fault e ≡ Some e
+fault_of_text [] e h = cc
+fault_of_text (x ∷ all) e h = grind (arith, fault_of_text all e)
 
 pub each_proper : (all : List (List ℕ)) (rs : List Interval) → traverse element_interval all ≡ Ok rs
     → All IsValidInterval rs

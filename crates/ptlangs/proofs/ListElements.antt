@@ -5,7 +5,9 @@ use proofs.Common.{◌≡◌, Bool, Err, List, None, Ok, Result, Some, [], arith
 use proofs.Common.{refl, subst, take, true, ℕ, ◌++◌, ◌+◌, ◌-◌, ◌∷◌, ltb-false, ltb-true, length-drop, take_all}
 use proofs.Common.{slice_split_at, slice_split_none, is_ascii_digit, All, position, slice_split, and_then, traverse}
 use proofs.Common.{elements, is_number, is_list_separator, cons_ok, eqb, ◌*◌, ◌<◌, ◌≤◌, All-cons, digit_value}
-use proofs.Common.{digits_value_after, max_u64, is_empty, value}
+use proofs.Common.{digits_value_after, max_u64, is_empty, value, map, option_and_then, result_err}
+use Rattle.std.specs.List.{filter_map, find}
+use Rattle.std.specs.Result.{result_ok, is_err}
 use Rattle.std.proofs.lemmas.List.Splits.{slice_split_first}
 use Rattle.std.proofs.lemmas.List.Sums.{fails_before_first}
 use Rattle.std.specs.List.{onto_first}
@@ -58,12 +60,31 @@ pub cons_ok-append_ok : {A E : Type 0} (x : A) (xs : List A) (r : Result (List A
     → cons_ok x (append_ok xs r) ≡ append_ok (x ∷ xs) r
 cons_ok-append_ok = grind arith
 
--- one more element is read
-pub each_more : {A B E : Type 0} (read : A → Result B E) (x : A) (y : B) {all rest : List A} (xs : List B)
-    {r : Result (List B) E}
-    → r ≡ append_ok xs (traverse read all) → all ≡ x ∷ rest → read x ≡ Ok y
-    → r ≡ append_ok (xs ++ y ∷ []) (traverse read rest)
-each_more read x y xs e at ok = grind (arith, append_ok-cons_ok)
+-- the first element has a value, and so have the others
+pub record ReadsFirst {A E : Type 0} (first : Result A E) (others : Result (List A) E) (all : List A) : Type 0 where
+  pub head : A
+  pub tail : List A
+  pub read : first ≡ Ok head
+  pub rest : others ≡ Ok tail
+  pub is : head ∷ tail ≡ all
+
+pub reads_first : {A E : Type 0} (first : Result A E) (others : Result (List A) E) (all : List A)
+    → and_then first (λ y. cons_ok y others) ≡ Ok all → ReadsFirst first others all
+reads_first = grind arith
+
+-- ---- what is read of all elements
+
+-- the first fault of a list is that of its first faulty element
+pub first_fault_is : {A B E : Type 0} (read : A → Result B E) (xs : List A)
+    → option_and_then result_err (find is_err (map read xs)) ≡ result_err (traverse read xs)
+first_fault_is read [] = refl
+first_fault_is read (x ∷ xs) = grind (arith, first_fault_is read xs)
+
+-- a list without a fault has the values of its elements
+pub values_are : {A B E : Type 0} (read : A → Result B E) (xs : List A) → result_err (traverse read xs) ≡ None
+    → traverse read xs ≡ Ok (filter_map (λ x. result_ok (read x)) xs)
+values_are read [] e = refl
+values_are read (x ∷ xs) e = grind (arith, values_are read xs)
 
 -- ---- the elements that are accepted are those of the grammar
 
@@ -103,18 +124,6 @@ pub splits : (p : ℕ → Bool) (bs : List ℕ) → IsSplit p bs (slice_split p 
 splits p [] = Whole []
 splits p (b ∷ bs) = cond_both _ _ _ (IsSplit p _) (λ e. Cut [] b bs _ e (splits p bs))
     (λ e. onto p b bs _ (splits p bs))
-
--- the first element has a value, and so have the others
-pub record ReadsFirst {A E : Type 0} (first : Result A E) (others : Result (List A) E) (all : List A) : Type 0 where
-  pub head : A
-  pub tail : List A
-  pub read : first ≡ Ok head
-  pub rest : others ≡ Ok tail
-  pub is : head ∷ tail ≡ all
-
-pub reads_first : {A E : Type 0} (first : Result A E) (others : Result (List A) E) (all : List A)
-    → and_then first (λ y. cons_ok y others) ≡ Ok all → ReadsFirst first others all
-reads_first = grind arith
 
 module _ {A E : Type 0} (read : List ℕ → Result A E) (Spells : List ℕ → A → Type 0) where
   -- the function accepts exactly the elements of the grammar, and these contain no separator
@@ -167,5 +176,6 @@ too_large_at = grind (arith, common_steps, too_large, after-ge)
 pub is_empty_by_length : {X : Type 0} (xs : List X) → is_empty xs ≡ eqb (length xs) 0
 is_empty_by_length xs = grind arith
 
-pub digit_is : (b : ℕ) → 48 ≤ b → b ≤ 57 → digit_value b ≡ b - 48
-digit_is = grind arith
+pub digit_at : (bs : List ℕ) (i : ℕ) → true ≡ is_number bs → i < length bs
+    → digit_value (get_or bs i 0) ≡ get_or bs i 0 - 48
+digit_at = grind (arith, common_steps)

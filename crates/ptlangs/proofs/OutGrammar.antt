@@ -2,12 +2,12 @@
 -- tests exactly this. So `out_list` agrees with the grammar in both directions.
 use Rattle.ptlangs.proofs
 use proofs.Common.{Result, ◌≡◌, ℕ, ◌≤◌, true, false, not, eqb, List, [], ◌∷◌, Ok, refl, subst, arith, eqb-true, max_u64}
-use proofs.Common.{is_number, value, is_list_separator}
+use proofs.Common.{is_number, value, is_list_separator, Some, traverse, result_err}
 use Rattle.std.proofs.lemmas.Bool.{cond_both, not-false}
 use proofs.ListElements.{Unbroken, matches_grammar, unbroken_cons, unbroken_nil, unbroken_number}
 use Rattle.ptlangs.specs.declared.outlist.OutFault.{OutFault}
 use Rattle.ptlangs.specs.OutLists.{element_field, SpellsField, IsValidField, IsFieldElement, OutListMatchesGrammar}
-use Rattle.ptlangs.specs.OutLists.{FirstFileField, SecondFileField, JoinField, field_of}
+use Rattle.ptlangs.specs.OutLists.{FirstFileField, SecondFileField, JoinField, field_of, out_list_fault}
 use Rattle.ptlangs.specs.declared.outlist.File.{File}
 use Rattle.ptlangs.specs.declared.outlist.File.TheVariants.{First, Second}
 use Rattle.ptlangs.specs.declared.outlist.OutField.{OutField}
@@ -30,6 +30,14 @@ after_file_number = grind (arith, unbroken_cons, unbroken_number)
 
 unbroken : (e : List ℕ) (f : OutField) → SpellsField e f → Unbroken e
 unbroken = grind (arith, unbroken_cons, unbroken_nil, after_file_number)
+
+-- ---- the fault of a list
+
+-- no element has the fault of an allocation
+pub fault_of_text : (all : List (List ℕ)) (e : OutFault) → Some e ≡ result_err (traverse element_field all)
+    → out_list_fault e ≡ Some e
+fault_of_text [] e h = cc
+fault_of_text (x ∷ all) e h = grind (arith, fault_of_text all e)
 
 -- ---- from `out_list` to the grammar
 
