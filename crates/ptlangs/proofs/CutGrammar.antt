@@ -2,23 +2,25 @@
 -- bounds back; this makes `cut_list` agree with the grammar in both directions. Merging sorted intervals keeps the set
 -- that they select.
 use Rattle.ptlangs.proofs
-use proofs.Common.{Result, ◌≡◌, Bool, List, None, Ok, Option, Some, [], ap, arith, cond, drop, false, inl, inr, rules}
-use proofs.Common.{length, refl, subst, suc, sym, take, true, ℕ, ◌&&◌, ◌++◌, ◌+◌, ◌-◌, ◌<◌, ◌||◌, ◌∙◌, ◌∷◌, and_parts}
-use proofs.Common.{cases_Bool, eqb-true, All-cons, slice_split_at, slice_split_none, AllPass-from_list_all}
-use proofs.Common.{is_ascii_digit, All, position, slice_split, IsValidInterval, cut_list, element_interval, is_dash}
-use proofs.Common.{traverse, is_empty, is_number, value, Interval, ◌≤◌, result_err}
-use Rattle.std.proofs.Common.{leb, max}
-use Rattle.std.proofs.lemmas.List.Sorted.{list_any-IsPermutation}
-use Rattle.std.proofs.lemmas.List.Splits.{join_with_byte-slice_split, length-slice_split}
-use Rattle.std.specs.List.{join_with_byte}
-use Rattle.std.specs.List.Sorted.{IsNonDecreasingBy, IsPermutation}
+use proofs.Common.{All-cons, Bool, Interval, IsValidInterval, List, None, Ok, Option, Result, Some, [], ap, arith}
+use proofs.Common.{common_steps, cond, drop, element_interval, eqb-true, false, is_ascii_digit, is_dash, is_empty}
+use proofs.Common.{is_number, length, refl, result_err, rules, subst, suc, sym, take, traverse, true, value, ℕ, ◌&&◌}
+use proofs.Common.{◌++◌, ◌+◌, ◌-◌, ◌<◌, ◌||◌, ◌∙◌, ◌∷◌, ◌≡◌, ◌≤◌}
+use proofs.ListElements.{Cut, IsSplit, Unbroken, Whole, digits_fail, matches_grammar, reads_first, some_since}
+use proofs.ListElements.{split_around, split_whole, splits, unbroken_append, unbroken_cons, unbroken_nil}
+use proofs.ListElements.{unbroken_number}
+use Rattle.ptlangs.specs.CutLists.{AreSeparated, AreSortedFrom, CutListMatchesGrammar, From, FromTo, IsIntervalElement}
+use Rattle.ptlangs.specs.CutLists.{One, SpellsInterval, UpTo, checked_interval, cut_list, cut_list_fault}
+use Rattle.ptlangs.specs.CutLists.{interval_of_bounds, interval_of_parts, is_bound, is_selected, selection}
 use Rattle.ptlangs.specs.declared.ranges.ListFault.{ListFault}
-use proofs.ListElements.{split_whole, split_around, some_since, digits_fail, Unbroken, unbroken_cons, unbroken_append}
-use proofs.ListElements.{unbroken_nil, unbroken_number, matches_grammar, IsSplit, Whole, Cut, splits, reads_first}
-use Rattle.ptlangs.specs.CutLists.{CutListMatchesGrammar, AreSeparated, AreSortedFrom, From, FromTo, SpellsInterval}
-use Rattle.ptlangs.specs.CutLists.{IsIntervalElement, One, UpTo, checked_interval, interval_of_bounds, is_bound}
-use Rattle.ptlangs.specs.CutLists.{is_selected, interval_of_parts, selection, cut_list_fault}
-use Rattle.std.proofs.lemmas.Grind.{common_steps}
+use Rattle.std.proofs.Common.{inl, inr, leb, max}
+use Rattle.std.proofs.lemmas.Bool.{and_parts, cases_Bool}
+use Rattle.std.proofs.lemmas.List.Sorted.{list_any-IsPermutation}
+use Rattle.std.proofs.lemmas.List.Splits.{join_with_byte-slice_split, length-slice_split, slice_split_at}
+use Rattle.std.proofs.lemmas.List.Splits.{slice_split_none}
+use Rattle.std.proofs.lemmas.List.Sums.{AllPass-from_list_all}
+use Rattle.std.specs.List.Sorted.{IsNonDecreasingBy, IsPermutation}
+use Rattle.std.specs.List.{All, join_with_byte, position, slice_split}
 
 -- ---- the elements, split at dashes
 

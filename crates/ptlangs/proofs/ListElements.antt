@@ -1,19 +1,16 @@
 -- Lists of elements between separators, and decimal numbers. An element contains no separator, so splitting at
 -- separators gives the elements of the grammar back. A number that is too large stays so with further digits.
 use Rattle.ptlangs.proofs
-use proofs.Common.{◌≡◌, Bool, Err, List, None, Ok, Result, Some, [], arith, cond, drop, false, get_or, length, rules}
-use proofs.Common.{refl, subst, take, true, ℕ, ◌++◌, ◌+◌, ◌-◌, ◌∷◌, ltb-false, ltb-true, length-drop, take_all}
-use proofs.Common.{slice_split_at, slice_split_none, is_ascii_digit, All, position, slice_split, and_then, traverse}
-use proofs.Common.{elements, is_number, is_list_separator, cons_ok, eqb, ◌*◌, ◌<◌, ◌≤◌, All-cons, digit_value}
-use proofs.Common.{digits_value_after, max_u64, is_empty, value, map, option_and_then, result_err}
-use Rattle.std.specs.List.{filter_map, find}
-use Rattle.std.specs.Result.{result_ok, is_err}
-use Rattle.std.proofs.lemmas.List.Splits.{slice_split_first}
+use proofs.Common.{All-cons, Bool, Err, List, None, Ok, Result, Some, [], and_then, arith, common_steps, cond}
+use proofs.Common.{cond_both, cons_ok, digit_value, digits_value_after, drop, elements, eqb, false, get_or}
+use proofs.Common.{is_ascii_digit, is_empty, is_err, is_list_separator, is_number, length, length-drop, ltb-false}
+use proofs.Common.{ltb-true, map, max_u64, refl, result_err, result_ok, rules, subst, take, take_all, traverse, true}
+use proofs.Common.{value, ℕ, ◌*◌, ◌++◌, ◌+◌, ◌-◌, ◌<◌, ◌∷◌, ◌≡◌, ◌≤◌}
+use Rattle.ptlangs.specs.Numbers.{IsListOf, Last, More, number}
+use Rattle.std.proofs.lemmas.List.Splits.{slice_split_at, slice_split_first, slice_split_none}
 use Rattle.std.proofs.lemmas.List.Sums.{fails_before_first}
-use Rattle.std.specs.List.{onto_first}
-use Rattle.std.proofs.lemmas.Bool.{cond_both}
-use Rattle.ptlangs.specs.Numbers.{IsListOf, number, Last, More}
-use Rattle.std.proofs.lemmas.Grind.{common_steps}
+use Rattle.std.specs.List.{All, filter_map, find, onto_first, position, slice_split}
+use Rattle.std.specs.Option.{option_and_then}
 
 -- ---- splitting at the first separator
 

@@ -1,17 +1,17 @@
 -- The output lists of `join`: an element is `0`, or the number of a file, a point and a number, and `element_field`
 -- tests exactly this. So `out_list` agrees with the grammar in both directions.
 use Rattle.ptlangs.proofs
-use proofs.Common.{Result, ◌≡◌, ℕ, ◌≤◌, true, false, not, eqb, List, [], ◌∷◌, Ok, refl, subst, arith, eqb-true, max_u64}
-use proofs.Common.{is_number, value, is_list_separator, Some, traverse, result_err}
-use Rattle.std.proofs.lemmas.Bool.{cond_both, not-false}
+use proofs.Common.{List, Ok, Result, Some, [], arith, cond_both, element_field, eqb, eqb-true, false, is_list_separator}
+use proofs.Common.{is_number, max_u64, not, refl, result_err, subst, traverse, true, value, ℕ, ◌∷◌, ◌≡◌, ◌≤◌}
 use proofs.ListElements.{Unbroken, matches_grammar, unbroken_cons, unbroken_nil, unbroken_number}
-use Rattle.ptlangs.specs.declared.outlist.OutFault.{OutFault}
-use Rattle.ptlangs.specs.OutLists.{element_field, SpellsField, IsValidField, IsFieldElement, OutListMatchesGrammar}
-use Rattle.ptlangs.specs.OutLists.{FirstFileField, SecondFileField, JoinField, field_of, out_list_fault}
-use Rattle.ptlangs.specs.declared.outlist.File.{File}
+use Rattle.ptlangs.specs.OutLists.{FirstFileField, IsFieldElement, IsValidField, JoinField, OutListMatchesGrammar}
+use Rattle.ptlangs.specs.OutLists.{SecondFileField, SpellsField, field_of, out_list_fault}
 use Rattle.ptlangs.specs.declared.outlist.File.TheVariants.{First, Second}
+use Rattle.ptlangs.specs.declared.outlist.File.{File}
+use Rattle.ptlangs.specs.declared.outlist.OutFault.{OutFault}
+use Rattle.ptlangs.specs.declared.outlist.OutField.TheVariants.{Field, Join}
 use Rattle.ptlangs.specs.declared.outlist.OutField.{OutField}
-use Rattle.ptlangs.specs.declared.outlist.OutField.TheVariants.{Join, Field}
+use Rattle.std.proofs.lemmas.Bool.{not-false}
 
 -- ---- from the grammar to `out_list`
 

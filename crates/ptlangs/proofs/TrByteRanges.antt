@@ -1,15 +1,14 @@
 -- The byte with an index in a concatenation of ranges: an index past the first range is an index in the rest, less the
 -- length of the first.
 use Rattle.ptlangs.proofs
-use proofs.Common.{◌≡◌, ◌<◌, ◌≤◌, ◌+◌, ◌-◌, ℕ, zero, suc, List, [], ◌∷◌, ◌++◌, length, drop, replicate, arith, refl}
-use proofs.Common.{sym, ap, ◌∙◌, Option, Some, None, slice_get, flat_map, drop_more, length-replicate, CharClass, span}
-use proofs.Common.{range_bytes, get_or-replicate}
+use proofs.Common.{CharClass, List, None, Option, Some, [], ap, arith, common_steps, drop, drop_more, flat_map}
+use proofs.Common.{get_or-replicate, length, length-replicate, range_bytes, refl, replicate, slice_get, span, suc, sym}
+use proofs.Common.{zero, ℕ, ◌++◌, ◌+◌, ◌-◌, ◌<◌, ◌∙◌, ◌∷◌, ◌≡◌, ◌≤◌}
 use Rattle.ptlangs.specs.TrClasses.{class_bytes}
 use Rattle.std.proofs.Math.ListN.{get_or}
 use Rattle.std.proofs.lemmas.List.FromFn.{get_or-range_with_len, length-range_with_len}
 use Rattle.std.proofs.lemmas.Option.{slice_get-get_or, slice_get_past, slice_get_within}
-use Rattle.std.specs.Prelude.{◌^◌, IfSome}
-use Rattle.std.proofs.lemmas.Grind.{common_steps}
+use Rattle.std.specs.Prelude.{IfSome, ◌^◌}
 
 pub slice_get-left : {X : Type 0} (xs ys : List X) (i : ℕ) → i < length xs → slice_get (xs ++ ys) i ≡ slice_get xs i
 slice_get-left [] ys i h = absurd (omega arith)

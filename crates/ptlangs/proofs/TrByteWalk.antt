@@ -1,21 +1,18 @@
 -- The bytes of a string of `tr`, read one after another: the bytes so far and those that are left are together all
 -- bytes of the string. And the classes that start in two arrays, compared byte by byte as the arrays are paired.
 use Rattle.ptlangs.proofs
-use proofs.Common.{◌≡◌, Bool, Err, List, None, Ok, Option, Result, Some, [], ap, arith, cond, drop, eqb, false, rules}
-use proofs.Common.{length, map, refl, suc, sym, true, zero, ℕ, ◌&&◌, ◌++◌, ◌+◌, ◌||◌, ◌∙◌, ◌∷◌, ◌≤◌, ◌<◌, ◌-◌}
-use proofs.Common.{append-nil, length-map, length-replicate, map-append, slice_get, array, class_offsets, sequence}
-use proofs.Common.{is_fill, segment, result_map_both, CharClass, SetFaultKind, SetElement, Segment, SetRole, eq-eqb}
-use proofs.Common.{ne_eqb, drop_all, replicate, span, segments_of, string_segments}
-use Rattle.ptlangs.specs.TrPlan.{are_paired, members, has_other_case_at}
-use Rattle.std.proofs.lemmas.List.{drop-map, drop-replicate}
-use Rattle.std.specs.Result.{IsErrAnd}
-use Rattle.ptlangs.specs.declared.tr.segments.Member.{Member}
-use Rattle.ptlangs.specs.declared.tr.segments.Segment.TheVariants.{Range, Class, Fill, Repeat}
-use Rattle.ptlangs.specs.TrParsing.{all_paired, member_bytes, classes_match, class_of, marked_array, marked_members}
-use Rattle.ptlangs.specs.TrParsing.{member_results, members_from, plain_members}
+use proofs.Common.{Bool, CharClass, Err, IsErrAnd, List, Member, None, Ok, Option, Result, Segment, SetElement}
+use proofs.Common.{SetFaultKind, SetRole, Some, [], all_paired, ap, append-nil, arith, array, common_steps, cond, drop}
+use proofs.Common.{drop_all, eq-eqb, eqb, false, is_fill, length, length-replicate, map, map-append, marked_array}
+use proofs.Common.{member_bytes, member_results, ne_eqb, plain_members, refl, replicate, result_map_both, rules}
+use proofs.Common.{segments_of, sequence, slice_get, span, string_segments, suc, sym, true, zero, ℕ, ◌&&◌, ◌++◌, ◌+◌}
+use proofs.Common.{◌-◌, ◌<◌, ◌||◌, ◌∙◌, ◌∷◌, ◌≡◌, ◌≤◌}
 use proofs.ListElements.{append_ok as onto, append_ok-nil, cons_ok-append_ok, reads_first}
-use proofs.TrByteRanges.{slice_get-none, class_bytes-some}
-use Rattle.std.proofs.lemmas.Grind.{common_steps}
+use proofs.TrByteRanges.{class_bytes-some, slice_get-none}
+use Rattle.ptlangs.specs.TrParsing.{class_of, classes_match, marked_members, members_from}
+use Rattle.ptlangs.specs.TrPlan.{are_paired, class_offsets, has_other_case_at, members, segment}
+use Rattle.ptlangs.specs.declared.tr.segments.Segment.TheVariants.{Class, Fill, Range, Repeat}
+use Rattle.std.proofs.lemmas.List.{drop-map, drop-replicate, length-map}
 
 -- these items were read without a fault, and `P` holds of them; `rest` is still to be read
 pub record ItemsRead {A : Type 0} (all rest : List (Result A SetFaultKind)) (P : List A → Type 0) : Type 0 where

@@ -1,24 +1,22 @@
 -- Octal and decimal numbers, and the characters of a string at an index. The character at an index depends only on the
 -- bytes from there on, which gives the agreement with the grammar, character by character.
 use Rattle.ptlangs.proofs
-use proofs.Common.{◌≡◌, ◌≤◌, ◌<◌, ◌+◌, ◌-◌, ◌*◌, ℕ, zero, suc, true, false, cond, List, [], ◌∷◌, length, take, drop}
-use proofs.Common.{get_or, arith, refl, sym, ap, ◌∙◌, rules, Option, Some, None, prefix_len, slice_get, digit_value}
-use proofs.Common.{digits_value, length-prefix_len, octal, chars, after_backslash, SetChar, Plain, Escaped, Invalid}
-use proofs.Common.{inl, inr, ◌++◌, cases_Bool, cases_eq, ne_eqb, drop_at, length-append, AChar, NoChar, SpellsChar}
-use proofs.Common.{SpellsChars, value, Result, Ok, Err, SetFaultKind}
-use Rattle.ptlangs.specs.TrChars.{ALargeOctal, ALoneBackslash, APlainByte, AnEscape, AnOctal, is_octal_digit}
-use Rattle.ptlangs.specs.TrChars.{octal_run, IsOctalRun, OneDigit, ThreeDigits, TwoDigits, CharsMatchGrammar, byte_of}
-use Rattle.ptlangs.specs.TrChars.{char_at}
-use Rattle.std.proofs.Common.{nat_le, All}
-use Rattle.std.proofs.lemmas.Bool.{lt-leb, le-leb}
-use Rattle.std.proofs.lemmas.List.{length-take, take-take, get_or-take}
-use Rattle.std.proofs.lemmas.List.Sums.{prefix_len-le-length, prefix_len_passes}
-use Rattle.ptlangs.specs.declared.faults.SetFaultKind.TheVariants.{Octal, Escape}
-use Rattle.std.proofs.lemmas.Int.Digits.{digits_value_more}
-use Rattle.std.proofs.lemmas.Str.Parse.{digits_value-take-le, digit_from_value}
+use proofs.Common.{Err, Escaped, Invalid, List, NoChar, None, Ok, Option, Plain, Result, SetChar, SetFaultKind, Some}
+use proofs.Common.{SpellsChar, SpellsChars, [], after_backslash, ap, arith, byte_of, chars, common_steps, cond}
+use proofs.Common.{digit_value, digits_value, drop, false, get_or, length, length-append, length-prefix_len, ne_eqb}
+use proofs.Common.{octal, prefix_len, refl, rules, slice_get, suc, sym, take, true, value, zero, ℕ, ◌*◌, ◌++◌, ◌+◌, ◌-◌}
+use proofs.Common.{◌<◌, ◌∙◌, ◌∷◌, ◌≡◌, ◌≤◌}
+use Rattle.ptlangs.specs.TrChars.{AChar, ALargeOctal, ALoneBackslash, APlainByte, AnEscape, AnOctal, CharsMatchGrammar}
+use Rattle.ptlangs.specs.TrChars.{IsOctalRun, OneDigit, ThreeDigits, TwoDigits, char_at, is_octal_digit, octal_run}
 use Rattle.ptlangs.specs.TrParsing.{char_from}
+use Rattle.ptlangs.specs.declared.faults.SetFaultKind.TheVariants.{Escape, Octal}
+use Rattle.std.proofs.Common.{All, inl, inr, nat_le}
+use Rattle.std.proofs.lemmas.Bool.{cases_Bool, cases_eq, le-leb, lt-leb}
+use Rattle.std.proofs.lemmas.Int.Digits.{digits_value_more}
+use Rattle.std.proofs.lemmas.List.Sums.{prefix_len-le-length, prefix_len_passes}
+use Rattle.std.proofs.lemmas.List.{drop_at, get_or-take, length-take, take-take}
+use Rattle.std.proofs.lemmas.Str.Parse.{digit_from_value, digits_value-take-le}
 use Rattle.std.proofs.lemmas.Str.{digit_value_digit}
-use Rattle.std.proofs.lemmas.Grind.{common_steps}
 
 pub ruleset number_steps = (digits_value_more, digits_value-take-le, digit_from_value)
 

@@ -1,26 +1,24 @@
 -- The table of the bytes that an array contains, which grows byte by byte, and the table of images. The image of a byte
 -- is the byte of the second array, extended by its last byte, at the index that was pushed last for it.
-use Rattle.std.proofs.lemmas.Map.Views.{any-filter_same}
 use Rattle.ptlangs.proofs
-use proofs.Common.{eqb-true, ◌≡◌, ◌≢◌, inl, inr, ◌<◌, ◌≤◌, ◌+◌, ◌-◌, ℕ, zero, suc, Bool, true, false, cond, List, []}
-use proofs.Common.{◌∷◌, ◌++◌, length, take, map, replicate, arith, refl, sym, ap, ◌∙◌, Option, Some, None, flat_map}
-use proofs.Common.{set, cases_eq, eq-eqb, ne_eqb, append_assoc, length-replicate, get_or-replicate, length-append}
-use proofs.Common.{not, ◌&&◌, last_or, slice_get, option_and_then, unwrap_or, complement_of, image_by, rules}
-use Rattle.std.proofs.Common.{◌⊎◌, min}
-use Rattle.std.specs.List.{range_with_len}
-use Rattle.std.specs.Option.{option_to_list}
-use Rattle.std.proofs.Math.ListN.{get_or}
-use Rattle.std.proofs.lemmas.Bool.{or_right}
-use Rattle.std.proofs.lemmas.List.Elements.{filter-append}
-use Rattle.std.specs.Prelude.{count_by, filter}
+use proofs.Common.{Bool, Contents, List, None, Option, Some, [], ap, arith, common_steps, cond, contents_of, count_by}
+use proofs.Common.{drop, drop_more, eq-eqb, eqb-true, false, flat_map, get_or-replicate, image_by, last_or, length}
+use proofs.Common.{length-append, length-replicate, map, ne_eqb, not, refl, replicate, rules, slice_get, subst, suc}
+use proofs.Common.{sym, take, take_all, true, zero, ℕ, ◌&&◌, ◌++◌, ◌+◌, ◌-◌, ◌<◌, ◌∙◌, ◌∷◌, ◌≡◌, ◌≢◌, ◌≤◌}
+use proofs.TrByteRanges.{repeat_there, slice_get-left, slice_get-none, slice_get-right}
 use Rattle.ptlangs.specs.TrClasses.{all_bytes}
-use Rattle.ptlangs.specs.TrParsing.{contents_of}
-use Rattle.ptlangs.specs.declared.tr.contents.Contents.{Contents}
-use Rattle.ptlangs.specs.TrPlan.{padded_to, has_byte, last_position, next_index_or}
-use Rattle.std.proofs.lemmas.List.FromFn.{get_or-map-range_with_len, length-map-range_with_len, map-range_with_len_more}
-use Rattle.std.proofs.lemmas.List.{get_or_default, length-set, map-id, same_lists}
-use Rattle.std.proofs.lemmas.Grind.{common_steps}
-use proofs.TrByteRanges.{slice_get-left, slice_get-right, slice_get-none, repeat_there}
+use Rattle.ptlangs.specs.TrPlan.{complement_of, has_byte, last_position, next_index_or, padded_to}
+use Rattle.std.proofs.Common.{inl, inr, min, ◌⊎◌}
+use Rattle.std.proofs.Math.ListN.{get_or, set}
+use Rattle.std.proofs.lemmas.Bool.{cases_eq, or_right}
+use Rattle.std.proofs.lemmas.List.Elements.{filter-append, filter_more}
+use Rattle.std.proofs.lemmas.List.Folds.{list_any-append, list_any_at}
+use Rattle.std.proofs.lemmas.List.FromFn.{get_or-map-range_with_len, get_or-range_with_len, length-map-range_with_len}
+use Rattle.std.proofs.lemmas.List.FromFn.{length-range_with_len}
+use Rattle.std.proofs.lemmas.List.{append_assoc, get_or_default, length-set, map-id, same_lists, take-append-drop}
+use Rattle.std.proofs.lemmas.Map.Views.{any-filter_same}
+use Rattle.std.specs.Option.{option_and_then, option_to_list}
+use Rattle.std.specs.Prelude.{IfSome, filter, unwrap_or}
 
 -- the entries of a table of all bytes
 pub length-table : {X : Type 0} (f : ℕ → X) → length (map f all_bytes) ≡ 256
@@ -36,14 +34,9 @@ pub same_table : {X : Type 0} (xs : List X) (f : ℕ → X) (d : X) → length x
     → ((i : ℕ) → i < 256 → get_or xs i d ≡ f i) → xs ≡ map f all_bytes
 same_table xs f d n h = search (rules, same_lists, length-table, get_or_default, get_or-table)
 
--- the table of a constant function
-replicate-table : {X : Type 0} (x : X) → replicate 256 x ≡ map (λ (b : ℕ). x) all_bytes
-replicate-table x =
-    same_table _ _ x (length-replicate 256 x) (λ i h. get_or-replicate 256 i x x h)
-
 -- an empty array contains no byte
 pub none_contained : replicate 256 false ≡ map (λ b. has_byte b []) all_bytes
-none_contained = replicate-table false
+none_contained = same_table _ _ false (length-replicate 256 false) (λ i h. get_or-replicate 256 i false false h)
 
 -- writing one entry of a table
 set-table : {X : Type 0} (f g : ℕ → X) (i : ℕ) (v : X) → i < 256 → g i ≡ v → ((k : ℕ) → k ≢ i → g k ≡ f k)
@@ -59,16 +52,14 @@ set-table {X} f g i v h e others =
 -- ---- appending a byte
 
 has_byte-same : (b : ℕ) (bytes more : List ℕ) → has_byte b (bytes ++ b ∷ more) ≡ true
-has_byte-same b [] more = rw (eq-eqb b b refl) refl
-has_byte-same b (x ∷ bytes) more = or_right _ _ (has_byte-same b bytes more)
+has_byte-same = grind (arith, list_any-append, eq-eqb, or_right)
 
 has_byte-copies : (b k n : ℕ) → k ≢ b → has_byte k (replicate n b) ≡ false
 has_byte-copies b k zero other = refl
 has_byte-copies b k (suc n) other = grind (arith, ne_eqb, has_byte-copies b k n other)
 
 has_byte-other : (b k : ℕ) (bytes : List ℕ) (n : ℕ) → k ≢ b → has_byte k (bytes ++ replicate n b) ≡ has_byte k bytes
-has_byte-other b k [] n other = has_byte-copies b k n other
-has_byte-other b k (x ∷ bytes) n other = cc (has_byte-other b k bytes n other)
+has_byte-other = grind (arith, list_any-append, has_byte-copies)
 
 pub contents-push : (old : Contents) (bytes : List ℕ) (b more : ℕ) → b < 256 → old ≡ contents_of bytes
     → record { has = set old.has b true; length = old.length + (1 + more) }
@@ -89,75 +80,44 @@ pub ruleset contents_steps = (contents-push)
 
 -- ---- the complement of an array
 
-pub range-more : (a n j : ℕ) → a + n ≡ j → range_with_len a (n + 1) ≡ range_with_len a n ++ j ∷ []
-range-more a n j e =
-    sym (map-id _) ∙ map-range_with_len_more _ a n j e
-    ∙ ap (λ xs. xs ++ j ∷ []) (map-id _)
+length-all : length all_bytes ≡ 256
+unfolding all_bytes
+length-all = length-range_with_len 0 256
+
+get_or-all : (i d : ℕ) → i < 256 → get_or all_bytes i d ≡ i
+unfolding all_bytes
+get_or-all i d low = get_or-range_with_len 0 256 i d low ∙ omega arith
 
 -- the bytes below `n` that the array does not contain
 abbrev pub others_below : List ℕ → ℕ → List ℕ
-others_below bytes n = filter (λ b. not (has_byte b bytes)) (range_with_len 0 n)
+others_below bytes n = filter (λ b. not (has_byte b bytes)) (take n all_bytes)
 
-pub others_below-more : (bytes : List ℕ) (n : ℕ) (t : Bool) → has_byte n bytes ≡ t
+pub others_below-more : (bytes : List ℕ) (n : ℕ) (t : Bool) → n < 256 → has_byte n bytes ≡ t
     → others_below bytes (n + 1) ≡ others_below bytes n ++ cond t [] (n ∷ [])
-others_below-more bytes n t e =
-    ap (filter _) (range-more 0 n n (omega arith))
-    ∙ filter-append _ (range_with_len 0 n) _
-    ∙ ap (λ xs. others_below bytes n ++ xs) (grind arith)
+others_below-more bytes n t low e = filter_more _ all_bytes n 0 (omega (arith, length-all))
+    ∙ rw (get_or-all n 0 low, e) (ap (λ xs. others_below bytes n ++ xs) (grind arith))
 
 pub others_below-all : (bytes : List ℕ) {n : ℕ} → n ≡ 256 → others_below bytes n ≡ complement_of bytes
-unfolding all_bytes
-others_below-all bytes e = ap (others_below bytes) e
+others_below-all bytes e = grind (arith, take_all, length-all)
 
 pub get_or-has : (contents : Contents) (bytes : List ℕ) (b : ℕ) (d : Bool) → b < 256 → contents ≡ contents_of bytes
     → get_or contents.has b d ≡ has_byte b bytes
 get_or-has contents bytes b d h e = rw e (get_or-table _ b d h)
 
--- the complement goes on after the bytes below `m`
-others-split : (bytes : List ℕ) (m k : ℕ)
-    → (rest : List ℕ) × (others_below bytes (m + k) ≡ others_below bytes m ++ rest)
-others-split bytes m zero = search rules
-others-split bytes m (suc k) =
-    let (rest, is) = others-split bytes m k in
-    let more =
-    ap (others_below bytes) (omega arith) ∙ others_below-more bytes (m + k) _ refl in (
-      rest ++ cond _ [] ((m + k) ∷ []),
-      more
-          ∙ ap (λ xs. xs ++ cond (has_byte (m + k) bytes) [] ((m + k) ∷ [])) is
-          ∙ append_assoc _ rest _,
-    )
-
 -- a byte of the complement, between those below it and the others
 pub complement-around : (bytes : List ℕ) (b : ℕ) → b < 256 → has_byte b bytes ≡ false
     → (rest : List ℕ) × (complement_of bytes ≡ others_below bytes b ++ b ∷ rest)
-complement-around bytes b low h =
-    let (rest, is) = others-split bytes _ _ in
-    let whole : b + 1 + (255 - b) ≡ 256 = omega arith in (
-      rest,
-      sym (others_below-all bytes whole) ∙ is
-          ∙ ap (λ xs. xs ++ rest) (others_below-more bytes b false h)
-          ∙ append_assoc _ _ rest,
-    )
+complement-around bytes b low h = (
+  filter (λ x. not (has_byte x bytes)) (drop (b + 1) all_bytes),
+  ap (filter _) (sym (take-append-drop b all_bytes)) ∙ filter-append _ (take b all_bytes) _
+      ∙ rw (drop_more all_bytes b 0 (omega (arith, length-all)), get_or-all b 0 low, h) refl,
+)
 
 has_byte-filter : (p : ℕ → Bool) (b : ℕ) (xs : List ℕ) → has_byte b (filter p xs) ≡ (p b && has_byte b xs)
 has_byte-filter = grind (arith, any-filter_same, eqb-true)
 
-has_byte-range : (n b : ℕ) → b < n → has_byte b (range_with_len 0 n) ≡ true
-has_byte-range zero b low = absurd (omega arith)
-has_byte-range (suc n) b low =
-    let next : suc n ≡ n + 1 = omega arith in
-    let longer = ap (range_with_len 0) next
-    ∙ range-more 0 n n (omega arith) in
-    ap (has_byte b) longer ∙ by_cases (cases_eq b n) (λ below. has_byte-range n b below)
-  where
-    by_cases : ((b ≡ n) ⊎ (b ≡ n → ⊥)) → (b < n → has_byte b (range_with_len 0 n) ≡ true)
-        → has_byte b (range_with_len 0 n ++ n ∷ []) ≡ true
-    by_cases (inl same) h = rw same (has_byte-same n _ [])
-    by_cases (inr other) h = has_byte-other n b _ 1 other ∙ h (omega (arith, low))
-
 has_byte-all : (b : ℕ) → b < 256 → has_byte b all_bytes ≡ true
-unfolding all_bytes
-has_byte-all b low = has_byte-range 256 b low
+has_byte-all b low = list_any_at _ all_bytes b 0 (omega (arith, length-all)) (eq-eqb _ b (get_or-all b 0 low))
 
 -- the complement contains the bytes that the array does not contain
 pub has_byte-complement : (bytes : List ℕ) (b : ℕ) → b < 256 → has_byte b (complement_of bytes) ≡ not (has_byte b bytes)
@@ -189,17 +149,13 @@ is_kept first bytes b i t j low h e =
 
 -- ---- the image of a byte
 
+next_index-lt : (o : Option ℕ) (t : Bool) (n : ℕ) → IfSome o (λ i. i < n) → IfSome (next_index_or o t) (λ i. i < suc n)
+next_index-lt = grind arith
+
 -- the last position is below the length
-last_position-lt : (c i : ℕ) (bytes : List ℕ) → last_position c bytes ≡ Some i → i < length bytes
-last_position-lt c i [] e = absurd (cc)
-last_position-lt c i (b ∷ bytes) e =
-    by_later _ refl _ e (λ j h. last_position-lt c j bytes h)
-  where
-    by_later : (o : Option ℕ) → last_position c bytes ≡ o → (t : Bool) → next_index_or o t ≡ Some i
-        → ((j : ℕ) → last_position c bytes ≡ Some j → j < length bytes) → i < suc (length bytes)
-    by_later (Some j) l t e h = let same : j + 1 ≡ i = cc in omega (arith, h j l)
-    by_later None l true e h = let same : 0 ≡ i = cc in omega arith
-    by_later None l false e h = absurd (cc)
+last_position-lt : (c : ℕ) (bytes : List ℕ) → IfSome (last_position c bytes) (λ i. i < length bytes)
+last_position-lt c [] = tt
+last_position-lt c (b ∷ bytes) = next_index-lt _ _ _ (last_position-lt c bytes)
 
 slice_get-take : (n : ℕ) (xs : List ℕ) (i : ℕ) → i < n → slice_get (take n xs) i ≡ slice_get xs i
 slice_get-take zero xs i h = absurd (omega arith)
@@ -271,7 +227,9 @@ image-other from to b k n = rw (last_position-other b k from n) (by_last _ refl)
         → unwrap_or (option_and_then (slice_get (padded_to (length (from ++ b ∷ [])) to)) o) k
         ≡ unwrap_or (option_and_then (slice_get (padded_to (length from) to)) o) k
     by_last None e = refl
-    by_last (Some i) e = grind (arith, last_position-lt, length-append, padded_to-get)
+    by_last (Some i) e =
+        let below = subst (λ o. IfSome o (λ j. j < length from)) e (last_position-lt k from) in
+        grind (arith, length-append, padded_to-get)
 
 pub images-push : (from to : List ℕ) (b : ℕ) (last : Option ℕ) → b < 256
     → last ≡ last_or None (take (suc (length from)) to)

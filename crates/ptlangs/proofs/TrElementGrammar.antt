@@ -2,28 +2,26 @@
 -- and single character is one case of both. The code finds the elements that the definition computes, and a string is
 -- rejected with the fault of its first faulty element.
 use Rattle.ptlangs.proofs
-use proofs.Common.{◌≡◌, ◌<◌, ◌-◌, ℕ, zero, suc, Bool, true, false, List, [], ◌∷◌, ◌++◌, length, drop, map, arith, rules}
-use proofs.Common.{refl, sym, ap, subst, ◌∙◌, Option, Some, None, Result, Ok, Err, list_all, option_and_then}
-use proofs.Common.{is_ascii_digit, is_ascii_lowercase, ltb-false, ne_eqb, length-append, drop_all, SetFaultKind}
-use proofs.Common.{SetChar, Plain, Escaped, Invalid, SetElement, StartsElement, after_plain, plain_run, after_run}
-use proofs.Common.{set_elements, ◌||◌, ◌≤◌, and_parts, ltb-true, drop_more, result_map_both, StartsInvalid}
-use proofs.Common.{FirstFault, LaterFault, NoElement, NoSegment, sequence, is_fill, segment, segments, chars}
-use proofs.Common.{CharClass, Segment, SetRole}
-use Rattle.std.proofs.lemmas.Bool.{le-ltb, cond_both}
-use Rattle.ptlangs.specs.TrElements.{ADescendingRange, AnInvalidEnd, AnInvalidChar, StartsBracketed, ARepeat, AClass}
-use Rattle.ptlangs.specs.TrElements.{AnEquivalence, InBrackets, ARange, Alone, AreElements, ByEscape, ByItself}
-use Rattle.ptlangs.specs.TrElements.{DenotesByte, HasBracketed, after_two, class_at, class_with_name, equivalence_at}
-use Rattle.ptlangs.specs.TrElements.{equivalence_after_equals, first_set_element, bracketed_at, single_or_range}
-use Rattle.ptlangs.specs.TrElements.{char_or_range, or_char, elements_after, range_to, repeat_at, repeat_count}
-use Rattle.ptlangs.specs.TrElements.{repeat_after_star, with_rest}
-use Rattle.std.proofs.Common.{nat_lt}
-use Rattle.std.specs.Option.{option_or}
-use Rattle.ptlangs.specs.TrChars.{byte_of}
-use Rattle.ptlangs.specs.TrClasses.{class_named}
-use Rattle.ptlangs.specs.TrPlan.{FirstFaultIsReported}
-use Rattle.ptlangs.specs.declared.tr.elements.SetElement.TheVariants.{Repeat, Class, Equivalence, Single}
+use proofs.Common.{Bool, CharClass, Err, Escaped, Invalid, List, None, Ok, Option, Plain, Result, Segment, SetChar}
+use proofs.Common.{SetElement, SetFaultKind, SetRole, Some, [], after_plain, after_run, ap, arith, byte_of, chars}
+use proofs.Common.{common_steps, cond_both, drop, drop_all, drop_more, false, is_ascii_digit, is_fill, length}
+use proofs.Common.{length-append, ltb-false, ltb-true, map, ne_eqb, plain_run, refl, result_map_both, rules, segments}
+use proofs.Common.{sequence, set_elements, subst, suc, sym, true, zero, ℕ, ◌++◌, ◌-◌, ◌<◌, ◌||◌, ◌∙◌, ◌∷◌, ◌≡◌, ◌≤◌}
 use proofs.TrPlainRuns.{list_all-plain_run}
-use Rattle.std.proofs.lemmas.Grind.{common_steps}
+use Rattle.ptlangs.specs.TrClasses.{class_named}
+use Rattle.ptlangs.specs.TrElements.{AClass, ADescendingRange, ARange, ARepeat, Alone, AnEquivalence, AnInvalidChar}
+use Rattle.ptlangs.specs.TrElements.{AnInvalidEnd, AreElements, ByEscape, ByItself, DenotesByte, HasBracketed}
+use Rattle.ptlangs.specs.TrElements.{InBrackets, StartsBracketed, StartsElement, StartsInvalid, after_two, bracketed_at}
+use Rattle.ptlangs.specs.TrElements.{char_or_range, class_at, class_with_name, elements_after, equivalence_after_equals}
+use Rattle.ptlangs.specs.TrElements.{equivalence_at, first_set_element, or_char, range_to, repeat_after_star, repeat_at}
+use Rattle.ptlangs.specs.TrElements.{repeat_count, single_or_range, with_rest}
+use Rattle.ptlangs.specs.TrPlan.{FirstFault, FirstFaultIsReported, LaterFault, NoElement, NoSegment, segment}
+use Rattle.ptlangs.specs.declared.tr.elements.SetElement.TheVariants.{Class, Equivalence, Repeat, Single}
+use Rattle.std.proofs.Common.{nat_lt}
+use Rattle.std.proofs.lemmas.Bool.{and_parts, le-ltb}
+use Rattle.std.specs.Char.{is_ascii_lowercase}
+use Rattle.std.specs.List.{list_all}
+use Rattle.std.specs.Option.{option_and_then, option_or}
 
 -- ---- from the computed elements to the grammar
 

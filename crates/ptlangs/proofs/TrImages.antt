@@ -1,21 +1,19 @@
 -- The pairs of two arrays, byte by byte: what one more byte of the first array adds, and what is left of the second one
 -- at its end.
 use Rattle.ptlangs.proofs
-use proofs.Common.{◌≡◌, ◌<◌, ℕ, zero, suc, Bool, true, false, List, [], ◌∷◌, ◌++◌, Option, Some, None, Result, Ok}
-use proofs.Common.{Err, length, map, take, drop, arith, refl, sym, ap, ◌∙◌, unwrap_or, set, last_or, length-append}
-use proofs.Common.{map-append, SetFaultKind, CharClass, sequence, image_by, not, ClassPlace, Segment, cond, rules}
-use proofs.Common.{first_array}
-use Rattle.std.specs.Prelude.{is_some}
-use Rattle.ptlangs.specs.TrClasses.{all_bytes}
-use Rattle.ptlangs.specs.declared.tr.images.Images.{Images}
-use Rattle.ptlangs.specs.declared.tr.bytes.Bytes.{Bytes}
-use Rattle.ptlangs.specs.declared.tr.segments.Member.{Member}
-use Rattle.ptlangs.specs.TrParsing.{HasPaired, all_paired, bytes_left, member_bytes, classes_match, first_members}
-use Rattle.ptlangs.specs.TrParsing.{plain_members}
-use Rattle.std.specs.Result.{IsErrAnd}
+use proofs.Common.{Bool, Bytes, CharClass, Err, HasPaired, IsErrAnd, List, Member, None, Ok, Option, Result, Segment}
+use proofs.Common.{SetFaultKind, Some, [], all_bytes, all_paired, ap, arith, bytes_left, common_steps, cond, drop}
+use proofs.Common.{false, first_array, first_members, image_by, last_or, length, length-append, map, map-append}
+use proofs.Common.{member_bytes, not, plain_members, refl, rules, sequence, suc, sym, take, true, zero, ℕ, ◌++◌, ◌<◌}
+use proofs.Common.{◌∙◌, ◌∷◌, ◌≡◌}
 use proofs.TrByteWalk.{member_bytes-array, member_bytes-plain}
 use proofs.TrContents.{images-push}
-use Rattle.std.proofs.lemmas.Grind.{common_steps}
+use Rattle.ptlangs.specs.TrParsing.{classes_match}
+use Rattle.ptlangs.specs.declared.faults.SetFaultKind.TheVariants.{ClassPlace}
+use Rattle.ptlangs.specs.declared.tr.images.Images.{Images}
+use Rattle.std.proofs.Math.ListN.{set}
+use Rattle.std.proofs.lemmas.List.{take-map}
+use Rattle.std.specs.Prelude.{is_some, unwrap_or}
 
 -- the results are the bytes of the second array from an index on
 abbrev AllOk : List Member → List (Result Member SetFaultKind)
@@ -62,11 +60,6 @@ ended zero (x ∷ to) e = absurd (cc)
 ended (suc n) [] e = grind arith
 ended (suc n) (x ∷ to) e = grind (arith, ended n to e)
 
-member_bytes-take : (n : ℕ) (ms : List Member) → member_bytes (take n ms) ≡ take n (member_bytes ms)
-member_bytes-take zero ms = refl
-member_bytes-take (suc n) [] = refl
-member_bytes-take (suc n) (m ∷ ms) = ap (λ bs. m.byte ∷ bs) (member_bytes-take n ms)
-
 module _ (before to : List Member) (old : Images) (from : Member) (h : HasPaired before to old)
     (fits : from.byte < 256) where
   count : length (before ++ from ∷ []) ≡ suc (length before)
@@ -82,7 +75,7 @@ module _ (before to : List Member) (old : Images) (from : Member) (h : HasPaired
       ≡ all_paired more (drop (suc (length before)) to))
       → HasPaired (before ++ from ∷ []) to
       (record { table = set old.table from.byte (unwrap_or last from.byte); second = second; last = last })
-  paired = grind (arith, common_steps, count, bytes, images-push, member_bytes-take)
+  paired = grind (arith, common_steps, count, bytes, images-push, take-map)
 
   -- a byte of the second array is left
   pub push-next : (second : Bytes) (t : Member) → bytes_left old.second ≡ Ok t ∷ bytes_left second

@@ -1,15 +1,14 @@
 -- Plain bytes in the characters of a string: a byte other than a backslash is a character by itself, so the code may
 -- look at the bytes where the definition looks at characters.
 use Rattle.ptlangs.proofs
-use proofs.Common.{◌≡◌, ◌≢◌, ◌≤◌, ◌<◌, ◌+◌, ◌-◌, ℕ, suc, Bool, true, false, List, [], ◌∷◌, length, take, drop, get_or}
-use proofs.Common.{arith, refl, Some, None, prefix_len, list_all, eq-eqb, ne_eqb, drop_all, take_rest, rules}
-use proofs.Common.{length-prefix_len, AllPass-from_list_all, SetChar, Plain, Escaped, Invalid, chars, after_backslash}
-use proofs.Common.{after_plain, plain_run, after_run}
-use Rattle.std.proofs.lemmas.Bool.{and_from, cond_both}
-use Rattle.std.specs.List.{slice_range, take_while, AllPass}
-use Rattle.std.proofs.lemmas.List.Sums.{take_while-cons}
-use proofs.TrCharGrammar.{chars_plain, chars_escape, chars-cons}
-use Rattle.std.proofs.lemmas.Grind.{common_steps}
+use proofs.Common.{Bool, Escaped, Invalid, List, None, Plain, SetChar, Some, [], after_backslash, after_plain}
+use proofs.Common.{after_run, arith, chars, common_steps, cond_both, drop, drop_all, eq-eqb, false, get_or, length}
+use proofs.Common.{length-prefix_len, ne_eqb, plain_run, prefix_len, refl, rules, suc, take, take_rest, true, ℕ, ◌+◌}
+use proofs.Common.{◌-◌, ◌<◌, ◌∷◌, ◌≡◌, ◌≢◌, ◌≤◌}
+use proofs.TrCharGrammar.{chars-cons, chars_escape, chars_plain}
+use Rattle.std.proofs.lemmas.Bool.{and_from}
+use Rattle.std.proofs.lemmas.List.Sums.{AllPass-from_list_all, take_while-cons}
+use Rattle.std.specs.List.{AllPass, list_all, slice_range, take_while}
 
 -- a character that starts with a backslash
 abbrev pub IsEscape : SetChar → Type 0

@@ -1,6 +1,7 @@
 -- A checked multiplication or addition fails only if the number is too large, which further digits do not change.
-use Rattle.ptlangs.proofs.Common.{rules}
-use Rattle.ptlangs.proofs.ListElements.{too_large_at, digit_at}
+use Rattle.ptlangs.proofs
+use proofs.Common.{arith, common_steps, rules}
+use proofs.ListElements.{digit_at, too_large_at}
 use Rattle.ptlangs.proofs.numbers.decimal.Goals as goal
 
 pub returns-in_err-checked_mul : goal.returns-in_err-checked_mul
@@ -8,3 +9,6 @@ returns-in_err-checked_mul c = search (rules, too_large_at)
 
 pub returns-in_err-value : goal.returns-in_err-value
 returns-in_err-value c = search (rules, digit_at, too_large_at)
+
+pub loop-byte-preserved : goal.loop-byte-preserved
+loop-byte-preserved c = grind (arith, common_steps, digit_at)

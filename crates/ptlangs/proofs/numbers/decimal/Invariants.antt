@@ -1,5 +1,5 @@
 -- The value is that of the digits so far, and fits into 64 bits.
-use Rattle.ptlangs.proofs.Common.{◌≡◌, ◌≤◌, drop, digits_value_after, max_u64, value}
+use Rattle.ptlangs.proofs.Common.{digits_value_after, drop, max_u64, value, ◌≡◌, ◌≤◌}
 use Rattle.ptlangs.proofs.numbers.decimal.Given as goal
 
 abbrev pub invariant-loop-byte : goal.invariant-loop-byte

@@ -1,11 +1,7 @@
-use Rattle.std.proofs.Common.{arith, rules, tests}
-use Rattle.std.proofs.lemmas.Iterator.{YieldsList-from_map}
-use Rattle.std.proofs.lemmas.Iterator.Consumers.{YieldsList-at}
-use Rattle.std.proofs.lemmas.Iterator.Search.{find_from_yields_List}
-use Rattle.std.proofs.lemmas.Iterator.Splits.{YieldsList-from_slice_split}
-use Rattle.std.specs.Result.{is_err}
-use Rattle.ptlangs.proofs.Common.{element_interval, elements, is_list_separator}
-use Rattle.ptlangs.proofs.ListElements.{first_fault_is}
+use Rattle.ptlangs.proofs
+use proofs.Common.{YieldsList-at, YieldsList-from_map, YieldsList-from_slice_split, arith, element_interval, elements}
+use proofs.Common.{find_from_yields_List, is_err, is_list_separator, rules, tests}
+use proofs.ListElements.{first_fault_is}
 use Rattle.ptlangs.proofs.ranges.first_fault.Goals as goal
 
 pub returns : goal.returns

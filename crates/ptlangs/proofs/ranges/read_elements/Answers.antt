@@ -1,11 +1,7 @@
-use Rattle.std.proofs.Common.{rules, tests, arith}
-use Rattle.std.proofs.lemmas.Grind.{common_steps}
-use Rattle.std.proofs.lemmas.Iterator.{items_from_collect}
-use Rattle.std.proofs.lemmas.Iterator.Consumers.{YieldsList-at, YieldsList-from_filter_map}
-use Rattle.std.proofs.lemmas.Iterator.Splits.{YieldsList-from_slice_split}
-use Rattle.std.specs.Result.{result_ok}
-use Rattle.ptlangs.proofs.Common.{element_interval, elements, is_list_separator}
-use Rattle.ptlangs.proofs.ListElements.{values_are}
+use Rattle.ptlangs.proofs
+use proofs.Common.{YieldsList-at, YieldsList-from_filter_map, YieldsList-from_slice_split, arith, common_steps}
+use proofs.Common.{element_interval, elements, is_list_separator, items_from_collect, result_ok, rules, tests}
+use proofs.ListElements.{values_are}
 use Rattle.ptlangs.proofs.ranges.read_elements.Goals as goal
 
 pub returns : goal.returns

@@ -1,5 +1,6 @@
-use Rattle.ptlangs.proofs.Common.{rules, IsValidInterval, Interval, elements}
-use Rattle.ptlangs.proofs.CutGrammar.{fault_of_text, each_proper, in_order, selection_is_kept}
+use Rattle.ptlangs.proofs
+use proofs.Common.{Interval, IsValidInterval, elements, rules}
+use proofs.CutGrammar.{each_proper, fault_of_text, in_order, selection_is_kept}
 use Rattle.std.proofs.lemmas.List.Sorted.{All-permutation, IsNonDecreasingBy-from_sort_by_key}
 use Rattle.ptlangs.proofs.ranges.Ranges.read.Goals as goal
 
