@@ -7,11 +7,11 @@ use proofs.Common.{all_bytes, all_paired, and_then, ap, arith, array, byte_of, c
 use proofs.Common.{first_array, first_members, in_string, length, map, marked_array, ok_map, plan, plan_of, refl}
 use proofs.Common.{result_map_both, rules, second_plan, segments, sequence, string_segments, suc, sym, tables, true}
 use proofs.Common.{zero, ℕ, ◌-◌, ◌∙◌, ◌∷◌, ◌≡◌, ◌≢◌}
-use proofs.TrByteWalk.{paired-arrays, paired-plain}
+use proofs.TrArrays.{paired-arrays, paired-plain}
 use Rattle.ptlangs.specs.TrChars.{char_at, chars_after}
 use Rattle.ptlangs.specs.TrElements.{elements_after, elements_from, or_char}
 use Rattle.ptlangs.specs.TrPlan.{NoMemoryFault, Plan, class_offsets, fill_count, has_valid_classes, image_of}
-use Rattle.ptlangs.specs.TrPlan.{is_deleted, is_squeezed, plan_from, plan_with, second_role, segment, takes_second}
+use Rattle.ptlangs.specs.TrPlan.{is_deleted, is_squeezed, plan_from, second_role, segment, takes_second}
 use Rattle.ptlangs.specs.TrTables.{Tables}
 use Rattle.ptlangs.specs.declared.faults.SetFaultKind.TheVariants.{ClassPlace, Memory}
 use Rattle.ptlangs.specs.declared.faults.SetString.{SetString}

@@ -3,8 +3,8 @@
 use Rattle.ptlangs.proofs
 use proofs.Common.{Bool, List, Stretch, [], ap, arith, common_steps, cond, cond_both, drop, eqb-true, get_or}
 use proofs.Common.{image_of_shifts, length, ne_eqb, prepend_shift, refl, shift_at, shift_of, stretches_from, suc}
-use proofs.Common.{sum_by, zero, ℕ, ◌%◌, ◌&&◌, ◌+◌, ◌-◌, ◌<◌, ◌∙◌, ◌∷◌, ◌≡◌, ◌≤◌}
-use Rattle.std.proofs.Common.{reverse, ◌==◌}
+use proofs.Common.{sum_by, zero, ℕ, ◌%◌, ◌+◌, ◌-◌, ◌<◌, ◌∙◌, ◌∷◌, ◌≡◌, ◌≤◌}
+use Rattle.std.proofs.Common.{reverse, ◌&&◌, ◌==◌}
 use Rattle.std.proofs.lemmas.List.Sorted.{IsPermutation-reverse, sum_by-IsPermutation}
 use Rattle.std.proofs.lemmas.List.Sums.{sum_by-cons}
 

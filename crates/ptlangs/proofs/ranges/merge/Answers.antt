@@ -2,7 +2,7 @@
 -- there is a gap before the next. Both keep the selected set.
 use Rattle.ptlangs.proofs
 use proofs.Common.{arith, common_steps, drop_all, drop_more, refl, rules}
-use proofs.CutGrammar.{absorbs, starts_next}
+use proofs.ListElements.{absorbs, starts_next}
 use Rattle.ptlangs.proofs.ranges.merge.Goals.{else-next-current+in_ok-push, then-next-current}
 use Rattle.ptlangs.proofs.ranges.merge.Goals as goal
 

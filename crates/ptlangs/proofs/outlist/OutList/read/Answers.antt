@@ -1,12 +1,11 @@
 use Rattle.ptlangs.proofs
 use proofs.Common.{YieldsList-at, YieldsList-from_filter_map, YieldsList-from_slice_split, arith, common_steps}
 use proofs.Common.{element_field, elements, is_list_separator, items_from_collect, result_ok, rules, tests}
-use proofs.ListElements.{values_are}
-use proofs.OutGrammar.{fault_of_text}
+use proofs.ListElements.{fault_of_fields, values_are}
 use Rattle.ptlangs.proofs.outlist.OutList.read.Goals as goal
 
 pub returns-in-Some : goal.returns-in-Some
-returns-in-Some g c = search (rules, fault_of_text)
+returns-in-Some g c = search (rules, fault_of_fields)
 
 pub returns : goal.returns
 returns g c =

@@ -1,6 +1,6 @@
 use Rattle.ptlangs.proofs
 use proofs.Common.{None, Some, arith, common_steps, rules}
-use proofs.TrCharGrammar.{octal_char}
+use proofs.TrGrammar.{octal_char}
 use Rattle.ptlangs.proofs.tr.chars.escape.Goals as goal
 
 pub returns-in-Some-number-clause-denoted : goal.returns-in-Some-number-clause-denoted

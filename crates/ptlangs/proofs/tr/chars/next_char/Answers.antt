@@ -1,6 +1,6 @@
 use Rattle.ptlangs.proofs
 use proofs.Common.{arith, common_steps}
-use proofs.TrCharGrammar.{char_from-escape, chars_escape}
+use proofs.TrGrammar.{char_from-escape, chars_escape}
 use Rattle.ptlangs.proofs.tr.chars.next_char.Goals as goal
 
 pub returns-clause-denoted : goal.returns-clause-denoted

@@ -1,6 +1,6 @@
 use Rattle.ptlangs.proofs
 use proofs.Common.{arith, ◌+◌}
-use proofs.TrCharGrammar.{number_step, too_large}
+use proofs.TrGrammar.{number_step, too_large}
 use Rattle.ptlangs.proofs.tr.chars.number.Goals as goal
 
 pub returns-then-value-limit : goal.returns-then-value-limit

@@ -1,6 +1,6 @@
 use Rattle.ptlangs.proofs
 use proofs.Common.{rules}
-use proofs.TrPlainRuns.{run_range, run_rest}
+use proofs.TrGrammar.{run_range, run_rest}
 use Rattle.ptlangs.proofs.tr.elements.after_letters.Goals as goal
 
 pub returns-clause-run : goal.returns-clause-run

@@ -1,6 +1,6 @@
 use Rattle.ptlangs.proofs
 use proofs.Common.{chars, drop, sym, ◌∙◌}
-use proofs.TrElementGrammar.{chars-some, first_set_element-range}
+use proofs.TrGrammar.{chars-some, first_set_element-range}
 use Rattle.ptlangs.specs.TrParsing.{char_from}
 use Rattle.ptlangs.proofs.tr.elements.element_at.Goals as goal
 

@@ -1,6 +1,5 @@
 use Rattle.ptlangs.proofs
-use proofs.TrCharGrammar.{chars_are_spelled}
-use proofs.TrElementGrammar.{AreElements-set_elements, faults_are_first, set_elements-AreElements}
+use proofs.TrGrammar.{AreElements-set_elements, chars_are_spelled, faults_are_first, set_elements-AreElements}
 use Rattle.ptlangs.proofs.tr.elements.elements_match_grammar.Goals as goal
 
 pub returns : goal.returns

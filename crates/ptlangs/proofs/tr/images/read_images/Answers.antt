@@ -2,7 +2,7 @@
 use Rattle.ptlangs.proofs
 use proofs.Common.{Bool, HasPaired, List, Member, None, Ok, [], all_bytes, all_paired, ap, bytes_left, contents_of}
 use proofs.Common.{first_array, first_members, image_by, map, member_bytes, rules, ◌∙◌, ◌≡◌}
-use proofs.TrImages.{answer_of, first-bytes, paired_same, unpaired_answer}
+use proofs.TrArrays.{answer_of, first-bytes, paired_same, unpaired_answer}
 use Rattle.ptlangs.proofs.tr.images.read_images.Goals.{After-identity, else-complement+in_ok-push_string}
 use Rattle.ptlangs.proofs.tr.images.read_images.Goals.{then-complement+in_ok-push_ascending}
 use Rattle.ptlangs.proofs.tr.images.read_images.Goals as goal

@@ -1,6 +1,6 @@
 use Rattle.ptlangs.proofs
 use proofs.Common.{rules}
-use proofs.TrContents.{get_or-table}
+use proofs.TrArrays.{get_or-table}
 use Rattle.ptlangs.proofs.tr.plan.tables_match_plan.Goals as goal
 
 pub returns : goal.returns

@@ -3,8 +3,8 @@ use Rattle.ptlangs.proofs
 use proofs.Common.{Bytes, List, Ok, Result, Segment, SetFaultKind, ap, arith, chars, common_steps, cond, drop, is_fill}
 use proofs.Common.{length, member_results, most_left, refl, rules, segments, set_elements, sym, ◌*◌, ◌+◌, ◌||◌, ◌∙◌}
 use proofs.Common.{◌∷◌, ◌≡◌, ◌≤◌}
-use proofs.TrByteWalk.{drop-found, fill_step, length-marked, on_fault, segment-passed}
-use proofs.TrElementGrammar.{segments-element, segments-fault}
+use proofs.TrArrays.{drop-found, fill_step, length-marked, on_fault, segment-passed}
+use proofs.TrGrammar.{segments-element, segments-fault}
 use Rattle.ptlangs.proofs.tr.bytes.Bytes.next.Goals.{else-self-2, then-self-2}
 use Rattle.std.proofs.Math.Nat.{le_trans}
 use Rattle.ptlangs.proofs.tr.bytes.Bytes.next.Goals as goal

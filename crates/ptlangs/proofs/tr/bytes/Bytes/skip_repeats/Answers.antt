@@ -1,9 +1,8 @@
 -- The copies that are left come first in what is left to read.
 use Rattle.ptlangs.proofs
-use proofs.Common.{Member, Ok, Result, SetFaultKind, ap, arith, chars, common_steps, drop, map, map-append}
-use proofs.Common.{member_results, plain_members, replicate, segments, set_elements, ◌++◌, ◌-◌, ◌∙◌, ◌≡◌}
-use proofs.TrByteWalk.{copies-passed}
-use Rattle.std.proofs.lemmas.List.{append_assoc}
+use proofs.Common.{Member, Ok, Result, SetFaultKind, ap, append_assoc, arith, chars, common_steps, drop, map}
+use proofs.Common.{map-append, member_results, plain_members, replicate, segments, set_elements, ◌++◌, ◌-◌, ◌∙◌, ◌≡◌}
+use proofs.TrArrays.{copies-passed}
 use Rattle.ptlangs.proofs.tr.bytes.Bytes.skip_repeats.Goals as goal
 
 pub returns-clause-passed : goal.returns-clause-passed

@@ -1,6 +1,6 @@
 use Rattle.ptlangs.proofs
 use proofs.Common.{arith, common_steps, rules}
-use proofs.TrByteRanges.{ranges_found, ranges_next}
+use proofs.TrArrays.{ranges_found, ranges_next}
 use Rattle.ptlangs.proofs.tr.classes.CharClass.get.Goals as goal
 
 pub returns-then-left-count : goal.returns-then-left-count

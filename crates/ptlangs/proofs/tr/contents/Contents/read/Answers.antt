@@ -2,9 +2,8 @@
 use Rattle.ptlangs.proofs
 use proofs.Common.{List, Ok, Segment, ap, arith, array, common_steps, contents_of, map-append, member_bytes, ok_map}
 use proofs.Common.{plain_members, refl, replicate, string_segments, sym, ◌++◌, ◌∙◌, ◌∷◌, ◌≡◌}
-use proofs.TrByteWalk.{items_end, items_fault, items_more, member_bytes-array, member_bytes-plain, on_fault}
-use proofs.TrByteWalk.{string-fault, string-read}
-use proofs.TrContents.{contents-new}
+use proofs.TrArrays.{contents-new, items_end, items_fault, items_more, member_bytes-array, member_bytes-plain, on_fault}
+use proofs.TrArrays.{string-fault, string-read}
 use Rattle.ptlangs.proofs.tr.contents.Contents.read.Goals as goal
 
 pub returns-in_err-member-clause-is : goal.returns-in_err-member-clause-is

@@ -1,7 +1,7 @@
 -- No class starts in the bytes of the second array that were passed after the end of the first one.
 use Rattle.ptlangs.proofs
 use proofs.Common.{HasPaired, List, Member, most_left}
-use proofs.TrImages.{IsPassing}
+use proofs.TrArrays.{IsPassing}
 use Rattle.ptlangs.proofs.tr.images.Images.finish.Given as goal
 
 abbrev pub invariant-loop-member : goal.invariant-loop-member

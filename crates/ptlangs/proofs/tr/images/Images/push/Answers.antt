@@ -1,7 +1,7 @@
 -- The next byte of the second array becomes the last one; if none is left, the last one stays.
 use Rattle.ptlangs.proofs
 use proofs.Common.{arith, rules, sym, ◌∙◌}
-use proofs.TrImages.{never_fault, push-last, push-next, push-unpaired, written}
+use proofs.TrArrays.{never_fault, push-last, push-next, push-unpaired, written}
 use Rattle.ptlangs.proofs.tr.images.Images.push.Goals.{in-Some+else-not-classes_match, in_default}
 use Rattle.ptlangs.proofs.tr.images.Images.push.Goals as goal
 

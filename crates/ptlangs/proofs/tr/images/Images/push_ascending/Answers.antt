@@ -1,13 +1,11 @@
 -- A byte that the complement contains is paired after those below it.
 use Rattle.ptlangs.proofs
-use proofs.Common.{HasPaired, List, Member, PairPost, [], all_paired, ap, append-nil, arith, contents_of, false}
-use proofs.Common.{map-append, plain_members, subst, true, ℕ, ◌+◌, ◌∙◌, ◌≡◌}
-use proofs.TrByteWalk.{on_fault}
-use proofs.TrContents.{complement-around, is_kept, others_below, others_below-all, others_below-more}
-use proofs.TrImages.{paired_same}
+use proofs.Common.{HasPaired, List, Member, PairPost, [], all_paired, ap, append-nil, arith, complement_of, contents_of}
+use proofs.Common.{false, map-append, plain_members, subst, true, ℕ, ◌+◌, ◌∙◌, ◌≡◌}
+use proofs.TrArrays.{complement-around, is_kept, on_fault, others_below, others_below-all, others_below-more}
+use proofs.TrArrays.{paired_same}
 use Rattle.ptlangs.proofs.tr.images.Images.push_ascending.Goals.{Joined-first-from, else-first-from}
 use Rattle.ptlangs.proofs.tr.images.Images.push_ascending.Goals.{then-first-from+in_ok-push}
-use Rattle.ptlangs.specs.TrPlan.{complement_of}
 use Rattle.ptlangs.proofs.tr.images.Images.push_ascending.Goals as goal
 
 pub returns-in_err-push : goal.returns-in_err-push

@@ -1,6 +1,6 @@
 use Rattle.ptlangs.proofs
 use proofs.Common.{Contents, Delete, Form, Squeeze, [], ap, plan_of, sym, tables, ◌∙◌}
-use proofs.TrContents.{none_contained}
+use proofs.TrArrays.{none_contained}
 use proofs.TrPlans.{is_squeeze, tables_are}
 use Rattle.ptlangs.proofs.tr.plan.CharPlan.of_one.Goals as goal
 

@@ -4,9 +4,7 @@ use Rattle.ptlangs.proofs
 use proofs.Common.{Contents, DeleteSqueeze, Err, Form, List, Ok, Segment, Translate, TranslateSqueeze, [], all_bytes}
 use proofs.Common.{ap, array, contents_of, false, first_array, image_by, map, ok_map, plan_of, rules, second_plan}
 use proofs.Common.{string_segments, sym, tables, ◌∙◌, ◌≡◌}
-use proofs.TrByteWalk.{member_bytes-array, on_fault, string-ok}
-use proofs.TrContents.{none_contained}
-use proofs.TrImages.{answer_fault, answer_ok}
+use proofs.TrArrays.{answer_fault, answer_ok, member_bytes-array, none_contained, on_fault, string-ok}
 use proofs.TrPlans.{SecondRead, is_translate, mapped_at, planned, second_read, tables_are, valid-paired}
 use Rattle.ptlangs.proofs.tr.plan.CharPlan.of_two.Goals.{After-saturating_sub-fill, In_ok-second}
 use Rattle.ptlangs.specs.TrPlan.{class_offsets, has_valid_classes}

@@ -1,6 +1,6 @@
 use Rattle.ptlangs.proofs
 use proofs.Common.{arith}
-use proofs.TrByteRanges.{class_bytes-short, length-span, room}
+use proofs.TrArrays.{class_bytes-short, length-span, room}
 use Rattle.ptlangs.proofs.tr.segments.Segment.byte.Goals as goal
 
 pub returns-in-Range-clause-room : goal.returns-in-Range-clause-room
