@@ -1,36 +1,318 @@
+-- Octal and decimal numbers, and the characters of a string at an index. The character at an index depends only on the
+-- bytes from there on, which gives the agreement with the grammar, character by character.
+--
+-- Plain bytes in the characters of a string: a byte other than a backslash is a character by itself, so the code may
+-- look at the bytes where the definition looks at characters.
+--
 -- The elements that the definition computes are those of the grammar, in both directions: each bracketed form, range
 -- and single character is one case of both. The code finds the elements that the definition computes, and a string is
 -- rejected with the fault of its first faulty element.
 use Rattle.ptlangs.proofs
-use proofs.Common.{◌≡◌, ◌<◌, ◌-◌, ℕ, zero, suc, Bool, true, false, List, [], ◌∷◌, ◌++◌, length, drop, map, arith, rules}
-use proofs.Common.{refl, sym, ap, subst, ◌∙◌, Option, Some, None, Result, Ok, Err, list_all, option_and_then}
-use proofs.Common.{is_ascii_digit, is_ascii_lowercase, ltb-false, ne_eqb, length-append, drop_all, SetFaultKind}
-use proofs.Common.{SetChar, Plain, Escaped, Invalid, SetElement, StartsElement, after_plain, plain_run, after_run}
-use proofs.Common.{set_elements, ◌||◌, ◌≤◌, and_parts, ltb-true, drop_more, result_map_both, StartsInvalid}
-use proofs.Common.{FirstFault, LaterFault, NoElement, NoSegment, sequence, is_fill, segment, segments, chars}
-use proofs.Common.{CharClass, Segment, SetRole}
-use Rattle.std.proofs.lemmas.Bool.{le-ltb, cond_both}
-use Rattle.ptlangs.specs.TrElements.{ADescendingRange, AnInvalidEnd, AnInvalidChar, StartsBracketed, ARepeat, AClass}
-use Rattle.ptlangs.specs.TrElements.{AnEquivalence, InBrackets, ARange, Alone, AreElements, ByEscape, ByItself}
-use Rattle.ptlangs.specs.TrElements.{DenotesByte, HasBracketed, after_two, class_at, class_with_name, equivalence_at}
-use Rattle.ptlangs.specs.TrElements.{equivalence_after_equals, first_set_element, bracketed_at, single_or_range}
-use Rattle.ptlangs.specs.TrElements.{char_or_range, or_char, elements_after, range_to, repeat_at, repeat_count}
-use Rattle.ptlangs.specs.TrElements.{repeat_after_star, with_rest}
-use Rattle.std.proofs.Common.{nat_lt}
-use Rattle.std.specs.Option.{option_or}
-use Rattle.ptlangs.specs.TrChars.{byte_of}
+use proofs.Common.{Bool, CharClass, Err, Escaped, Invalid, List, NoChar, None, Ok, Option, Plain, Result, Segment}
+use proofs.Common.{SetChar, SetElement, SetFaultKind, SetRole, Some, SpellsChar, SpellsChars, [], after_backslash, ap}
+use proofs.Common.{arith, byte_of, chars, common_steps, cond, cond_both, digits_value, drop, drop_all, drop_more, false}
+use proofs.Common.{get_or, is_ascii_digit, is_fill, length, ltb-true, map, ne_eqb, octal, refl, result_map_both, rules}
+use proofs.Common.{segments, sequence, set_elements, slice_get, subst, suc, sym, take, true, value, zero, ℕ, ◌*◌, ◌++◌}
+use proofs.Common.{◌+◌, ◌-◌, ◌<◌, ◌||◌, ◌∙◌, ◌∷◌, ◌≡◌, ◌≢◌, ◌≤◌}
+use Rattle.ptlangs.specs.TrChars.{AChar, ALargeOctal, ALoneBackslash, APlainByte, AnEscape, AnOctal, CharsMatchGrammar}
+use Rattle.ptlangs.specs.TrChars.{IsOctalRun, OneDigit, ThreeDigits, TwoDigits, char_at, is_octal_digit, octal_run}
 use Rattle.ptlangs.specs.TrClasses.{class_named}
-use Rattle.ptlangs.specs.TrPlan.{FirstFaultIsReported}
-use Rattle.ptlangs.specs.declared.tr.elements.SetElement.TheVariants.{Repeat, Class, Equivalence, Single}
-use proofs.TrPlainRuns.{list_all-plain_run}
-use Rattle.std.proofs.lemmas.Grind.{common_steps}
+use Rattle.ptlangs.specs.TrElements.{AClass, ADescendingRange, ARange, ARepeat, Alone, AnEquivalence, AnInvalidChar}
+use Rattle.ptlangs.specs.TrElements.{AnInvalidEnd, AreElements, ByEscape, ByItself, DenotesByte, HasBracketed}
+use Rattle.ptlangs.specs.TrElements.{InBrackets, StartsBracketed, StartsElement, StartsInvalid, after_plain, after_run}
+use Rattle.ptlangs.specs.TrElements.{after_two, bracketed_at, char_or_range, class_at, class_with_name, elements_after}
+use Rattle.ptlangs.specs.TrElements.{equivalence_after_equals, equivalence_at, first_set_element, or_char, plain_run}
+use Rattle.ptlangs.specs.TrElements.{range_to, repeat_after_star, repeat_at, repeat_count, single_or_range, with_rest}
+use Rattle.ptlangs.specs.TrParsing.{char_from}
+use Rattle.ptlangs.specs.TrPlan.{FirstFault, FirstFaultIsReported, LaterFault, NoElement, NoSegment, segment}
+use Rattle.ptlangs.specs.declared.faults.SetFaultKind.TheVariants.{Escape, Octal}
+use Rattle.ptlangs.specs.declared.tr.elements.SetElement.TheVariants.{Class, Equivalence, Repeat, Single}
+use Rattle.std.proofs.Common.{All, inl, inr, nat_le, nat_lt}
+use Rattle.std.proofs.lemmas.Bool.{and_from, and_parts, cases_Bool, cases_eq, eq-eqb, le-leb, le-ltb, lt-leb, ltb-false}
+use Rattle.std.proofs.lemmas.Int.Digits.{digits_value_more}
+use Rattle.std.proofs.lemmas.List.Folds.{length-prefix_len}
+use Rattle.std.proofs.lemmas.List.Sums.{AllPass-from_list_all, prefix_len-le-length, prefix_len_passes, take_while-cons}
+use Rattle.std.proofs.lemmas.List.{drop_at, get_or-take, length-append, length-take, take-take, take_rest}
+use Rattle.std.proofs.lemmas.Str.Parse.{digit_from_value, digits_value-take-le}
+use Rattle.std.proofs.lemmas.Str.{digit_value_digit}
+use Rattle.std.specs.Char.{digit_value, is_ascii_lowercase}
+use Rattle.std.specs.List.{AllPass, list_all, prefix_len, slice_range, take_while}
+use Rattle.std.specs.Option.{option_and_then, option_or}
+
+pub ruleset number_steps = (digits_value_more, digits_value-take-le, digit_from_value)
+
+-- the byte of an octal escape with this value; `None` is a value above 255
+abbrev byte_of_octal : Option ℕ → Result ℕ SetFaultKind
+byte_of_octal None = Err Octal
+byte_of_octal (Some v) = Ok v
+
+-- a number is above the limit if its first digits are
+pub too_large : (base limit : ℕ) (ds : List ℕ) (i : ℕ) → 1 ≤ base → limit < digits_value base (take i ds)
+    → nat_le (digits_value base ds) limit ≡ false
+too_large = search (rules, digits_value-take-le)
+
+-- the value after one more digit
+pub number_step : (base : ℕ) (ds : List ℕ) (i value digit : ℕ) → i < length ds → base ≤ 10
+    → digit_value (get_or ds i 0) < base → value ≡ digits_value base (take i ds) → digit ≡ get_or ds i 0 - 48
+    → value * base + digit ≡ digits_value base (take (i + 1) ds)
+number_step base ds i value digit h ten below v d =
+    search (rules, digit_from_value, digit_value_digit, digits_value_more)
+
+pub length-octal_run : (bs : List ℕ) → length (octal_run bs) ≤ length bs
+length-octal_run bs =
+    omega (
+      arith,
+      length-prefix_len is_octal_digit (take 3 bs),
+      prefix_len-le-length is_octal_digit (take 3 bs),
+      length-take 3 bs,
+    )
+
+pub take-octal_run : (bs : List ℕ) → take (length (octal_run bs)) bs ≡ octal_run bs
+take-octal_run bs =
+    let n = prefix_len is_octal_digit (take 3 bs) in
+    let e = length-prefix_len is_octal_digit (take 3 bs) in
+    let short : n ≤ 3 = grind arith in
+    ap (λ m. take m bs) e ∙ sym (take-take n 3 bs short)
+
+octal_value : (b : ℕ) → is_octal_digit b ≡ true → digit_value b < 8
+octal_value b h = grind (arith, rules)
+
+pub octal_digits : (bs : List ℕ) → All (λ d. digit_value d < 8) (take (length (octal_run bs)) bs)
+octal_digits bs k d h =
+    let n = prefix_len is_octal_digit (take 3 bs) in
+    let e = length-prefix_len is_octal_digit (take 3 bs) in
+    let within : k < n = omega (arith, length-take (length (octal_run bs)) bs) in
+    octal_value (get_or (take (length (octal_run bs)) bs) k d)
+    (rw take-octal_run (rw (get_or-take n _ k d within)
+    (grind (arith, prefix_len_passes))))
+
+-- a backslash before an octal digit
+after_backslash-octal : (bs : List ℕ) (c : ℕ) → Some c ≡ slice_get bs 0 → is_octal_digit c ≡ true
+    → after_backslash bs ≡ (octal (digits_value 8 (octal_run bs)), length (octal_run bs))
+after_backslash-octal = grind arith
+
+pub octal_char : (bs : List ℕ) (c count : ℕ) (o : Option ℕ) → Some c ≡ slice_get bs 0 → is_octal_digit c ≡ true
+    → count ≡ length (octal_run bs)
+    → o ≡ cond (nat_le (digits_value 8 (take count bs)) 255) (Some (digits_value 8 (take count bs))) None
+    → byte_of_octal o ≡ byte_of (after_backslash bs).0
+octal_char = grind (arith, after_backslash-octal, take-octal_run)
+
+chars-cons : (b : ℕ) (bs : List ℕ) → chars (b ∷ bs) ≡ (char_at b bs).0 ∷ chars (drop (char_at b bs).1 bs)
+chars-cons b bs = grind arith
+
+pub chars_plain : (bs : List ℕ) (i b : ℕ) → i < length bs → get_or bs i 0 ≡ b → (b ≡ 92 → ⊥)
+    → chars (drop i bs) ≡ Plain b ∷ chars (drop (i + 1) bs)
+chars_plain = grind (arith, common_steps, chars-cons)
+
+pub chars_escape : (bs : List ℕ) (i : ℕ) → i < length bs → get_or bs i 0 ≡ 92
+    → chars (drop i bs) ≡ (after_backslash (drop (i + 1) bs)).0
+    ∷ chars (drop (i + 1 + (after_backslash (drop (i + 1) bs)).1) bs)
+chars_escape = grind (arith, common_steps, chars-cons)
+
+pub char_from-plain : (bs : List ℕ) (i b : ℕ) → get_or bs i 0 ≡ b → (b ≡ 92 → ⊥) → char_from bs i ≡ Plain b
+unfolding char_from
+char_from-plain = grind (arith, ne_eqb)
+
+pub char_from-escape : (bs : List ℕ) (i : ℕ) → get_or bs i 0 ≡ 92
+    → char_from bs i ≡ (after_backslash (drop (i + 1) bs)).0
+unfolding char_from
+char_from-escape bs i e = rw (char_from, e) refl
+
+pub ruleset char_steps = (chars_plain, chars_escape, char_from-plain, char_from-escape)
+
+pub ruleset octal_steps = (length-octal_run, take-octal_run, octal_digits)
+
+-- ---- from the grammar to the computed characters
+
+run_is : (digits rest : List ℕ) → IsOctalRun digits rest
+    → after_backslash (digits ++ rest) ≡ (octal (digits_value 8 digits), length digits)
+run_is digits rest (OneDigit a [] ha n) = rw ha refl
+run_is digits rest (OneDigit a (b ∷ more) ha n) = rw (ha, n) refl
+run_is digits rest (TwoDigits a b [] ha hb n) = rw (ha, hb) refl
+run_is digits rest (TwoDigits a b (c ∷ more) ha hb n) = rw (ha, hb, n) refl
+run_is digits rest (ThreeDigits a b c more ha hb hc) = rw (ha, hb, hc) refl
+
+escape_is : (digits rest : List ℕ) {u : SetChar} → IsOctalRun digits rest → octal (digits_value 8 digits) ≡ u
+    → chars (92 ∷ digits ++ rest) ≡ u ∷ chars rest
+escape_is digits rest run is =
+    rw (chars-cons 92 _, run_is digits rest run, is, drop_at digits rest _ refl) refl
+
+char_is : (bs : List ℕ) (u : SetChar) (rest : List ℕ) → SpellsChar bs u rest → chars bs ≡ u ∷ chars rest
+char_is = grind (arith, chars-cons, ne_eqb, escape_is, le-leb, lt-leb)
+
+chars_are : (bs : List ℕ) (us : List SetChar) → SpellsChars bs us → chars bs ≡ us
+chars_are bs us NoChar = refl
+chars_are bs us (AChar ds rest u more s others) = cc (char_is ds u rest s, chars_are rest more others)
+
+-- ---- from the computed characters to the grammar
+
+-- the octal digits at the start, and the rest
+record OctalPrefix (bs : List ℕ) : Type 0 where
+  digits : List ℕ
+  rest : List ℕ
+  is : bs ≡ digits ++ rest
+  run : IsOctalRun digits rest
+
+octal_prefix_two : (a b : ℕ) (more : List ℕ) → is_octal_digit a ≡ true → is_octal_digit b ≡ true
+    → OctalPrefix (a ∷ b ∷ more)
+octal_prefix_two a b [] ha hb = record { digits = a ∷ b ∷ []; rest = []; is = refl; run = TwoDigits a b [] ha hb refl }
+octal_prefix_two a b (c ∷ more) ha hb = elim (cases_Bool _) [
+  | inl hc ↦ record { digits = a ∷ b ∷ c ∷ []; rest = more; is = refl; run = ThreeDigits a b c more ha hb hc }
+  | inr hc ↦ record { digits = a ∷ b ∷ []; rest = c ∷ more; is = refl; run = TwoDigits a b _ ha hb hc }
+]
+
+octal_prefix : (a : ℕ) (more : List ℕ) → is_octal_digit a ≡ true → OctalPrefix (a ∷ more)
+octal_prefix a [] ha = record { digits = a ∷ []; rest = []; is = refl; run = OneDigit a [] ha refl }
+octal_prefix a (b ∷ more) ha = elim (cases_Bool _) [
+  | inl hb ↦ octal_prefix_two a b more ha hb
+  | inr hb ↦ record { digits = a ∷ []; rest = b ∷ more; is = refl; run = OneDigit a _ ha hb }
+]
+
+record FirstChar (bs : List ℕ) : Type 0 where
+  next_char : SetChar
+  rest : List ℕ
+  spelled : SpellsChar bs next_char rest
+  shorter : length rest < length bs
+
+octal_first_char : (bs : List ℕ) → OctalPrefix bs → FirstChar (92 ∷ bs)
+octal_first_char bs r =
+    let shorter : length r.rest < length (92 ∷ bs) = grind (arith, length-append) in
+    elim (cases_Bool (nat_le (digits_value 8 r.digits) 255)) [
+      | inl small ↦ record {
+        next_char = Escaped (digits_value 8 r.digits);
+        rest = r.rest;
+        spelled = rw r.is (AnOctal r.digits r.rest r.run (grind arith));
+        shorter = shorter;
+      }
+      | inr large ↦ record {
+        next_char = Invalid Octal;
+        rest = r.rest;
+        spelled = rw r.is (ALargeOctal r.digits r.rest r.run (grind arith));
+        shorter = shorter;
+      }
+    ]
+
+escape_first_char : (bs : List ℕ) → FirstChar (92 ∷ bs)
+escape_first_char [] = record { next_char = Invalid Escape; rest = []; spelled = ALoneBackslash; shorter = omega arith }
+escape_first_char (b ∷ more) = elim (cases_Bool _) [
+  | inl h ↦ octal_first_char _ (octal_prefix b more h)
+  | inr h ↦ record {
+    next_char = Escaped _;
+    rest = more;
+    spelled = AnEscape b more h;
+    shorter = omega arith;
+  }
+]
+
+first_char : (b : ℕ) (bs : List ℕ) → FirstChar (b ∷ bs)
+first_char b bs = elim (cases_eq b 92) [
+  | inl e ↦ rw e (escape_first_char bs)
+  | inr n ↦ record { next_char = Plain b; rest = bs; spelled = APlainByte b bs n; shorter = omega arith }
+]
+
+spelled : (n : ℕ) (bs : List ℕ) → length bs ≤ n → SpellsChars bs (chars bs)
+spelled n [] h = NoChar
+spelled zero (b ∷ bs) h = absurd (omega arith)
+spelled (suc n) (b ∷ bs) h =
+    let f = first_char b bs in
+    rw (char_is _ f.next_char f.rest f.spelled)
+    (AChar _ f.rest f.next_char _ f.spelled (spelled n f.rest (omega arith)))
+
+pub chars_are_spelled : CharsMatchGrammar
+chars_are_spelled = grind (arith, chars_are, spelled)
+
+-- a character that starts with a backslash
+abbrev IsEscape : SetChar → Type 0
+IsEscape (Plain b) = ⊥
+IsEscape (Escaped b) = Unit {0}
+IsEscape (Invalid k) = Unit {0}
+
+IsEscape-after_backslash : (bs : List ℕ) → IsEscape (after_backslash bs).0
+IsEscape-after_backslash bs = grind arith
+
+after_plain-escape : (c : ℕ) (u : SetChar) (us : List SetChar) → IsEscape u → after_plain c (u ∷ us) ≡ None
+after_plain-escape = grind arith
+
+plain_run-escape : (test : ℕ → Bool) (u : SetChar) (us : List SetChar) → IsEscape u → plain_run test (u ∷ us) ≡ []
+plain_run-escape = grind arith
+
+-- ---- one plain byte
+
+pub after_plain-here : (bs : List ℕ) (i c : ℕ) → i < length bs → get_or bs i 0 ≡ c → c ≢ 92
+    → Some (chars (drop (i + 1) bs)) ≡ after_plain c (chars (drop i bs))
+after_plain-here = grind (arith, chars_plain, eq-eqb)
+
+pub after_plain-other : (bs : List ℕ) (i c : ℕ) → i < length bs → get_or bs i 0 ≢ c
+    → None ≡ after_plain c (chars (drop i bs))
+after_plain-other = grind (arith, chars_escape, after_plain-escape, IsEscape-after_backslash, chars_plain, ne_eqb)
+
+pub after_plain-end : (bs : List ℕ) (i c : ℕ) → length bs ≤ i → None ≡ after_plain c (chars (drop i bs))
+after_plain-end bs i c h = rw (drop_all i bs h) refl
+
+pub ruleset after_plain_steps = (after_plain-here, after_plain-other, after_plain-end)
+
+-- ---- a run of plain bytes
+
+chars-plain : (b : ℕ) (bs : List ℕ) → b ≢ 92 → chars (b ∷ bs) ≡ Plain b ∷ chars bs
+chars-plain b bs n = search (rules, chars-cons)
+
+plain_run-chars : (test : ℕ → Bool) → test 92 ≡ false → (bs : List ℕ)
+    → plain_run test (chars bs) ≡ take_while test bs
+plain_run-chars test n [] = refl
+plain_run-chars test n (b ∷ bs) = grind (
+  arith,
+  take_while-cons,
+  chars-cons,
+  plain_run-escape,
+  IsEscape-after_backslash,
+  chars-plain,
+  plain_run-chars test n bs,
+)
+
+drop-prefix_len : (test : ℕ → Bool) → test 92 ≡ false → (bs : List ℕ)
+    → drop (prefix_len test bs) (chars bs) ≡ chars (drop (prefix_len test bs) bs)
+drop-prefix_len test n [] = refl
+drop-prefix_len test n (b ∷ bs) =
+    let next : 1 + prefix_len test bs ≡ suc _ = omega arith in
+    cond_both (test b) _ 0 (λ (m : ℕ). drop m (chars (b ∷ bs)) ≡ chars (drop m (b ∷ bs)))
+    (λ e. let plain : b ≢ 92 = λ same. cc in rw (
+      chars-plain b bs plain,
+      next,
+    ) (drop-prefix_len test n bs)) (λ e. refl)
+
+-- the length of the run from `i` on, counted in the slice from `i` on
+abbrev IsRunLength : (ℕ → Bool) → List ℕ → ℕ → ℕ → Type 0
+IsRunLength test bs i count = count ≡ length (take_while test (take (length bs - i) (drop i bs)))
+
+prefix_len-from_run : (test : ℕ → Bool) (bs : List ℕ) (i count : ℕ) → IsRunLength test bs i count
+    → count ≡ prefix_len test (drop i bs)
+prefix_len-from_run test bs i count e = simp (e, take_rest, length-prefix_len)
+
+-- the bytes from `i` to the end of the run
+pub run_range : (test : ℕ → Bool) → test 92 ≡ false → (bs : List ℕ) (i count : ℕ) → IsRunLength test bs i count
+    → slice_range bs i (i + count) ≡ plain_run test (chars (drop i bs))
+run_range = grind (arith, prefix_len-from_run, plain_run-chars)
+
+pub run_rest : (test : ℕ → Bool) → test 92 ≡ false → (bs : List ℕ) (i count : ℕ) → IsRunLength test bs i count
+    → chars (drop (i + count) bs) ≡ after_run test (chars (drop i bs))
+run_rest = grind (arith, common_steps, prefix_len-from_run, plain_run-chars, length-prefix_len, drop-prefix_len)
+
+-- each byte of a run passes the test
+list_all-plain_run : (test : ℕ → Bool) (us : List SetChar) → list_all test (plain_run test us) ≡ true
+list_all-plain_run test [] = refl
+list_all-plain_run test (Plain b ∷ us) = grind (arith, and_from, list_all-plain_run test us)
+list_all-plain_run test (Escaped b ∷ us) = refl
+list_all-plain_run test (Invalid k ∷ us) = refl
+
+pub AllPass-run : (test : ℕ → Bool) (bs : List ℕ) (us : List SetChar) → bs ≡ plain_run test us → AllPass test bs
+AllPass-run test bs us e = AllPass-from_list_all test bs (rw e (list_all-plain_run test us))
 
 -- ---- from the computed elements to the grammar
 
-pub after_plain_is : (c : ℕ) (us rest : List SetChar) → after_plain c us ≡ Some rest → us ≡ Plain c ∷ rest
+after_plain_is : (c : ℕ) (us rest : List SetChar) → after_plain c us ≡ Some rest → us ≡ Plain c ∷ rest
 after_plain_is = grind arith
 
-pub run_split : (test : ℕ → Bool) (us : List SetChar) → us ≡ map Plain (plain_run test us) ++ after_run test us
+run_split : (test : ℕ → Bool) (us : List SetChar) → us ≡ map Plain (plain_run test us) ++ after_run test us
 run_split test [] = refl
 run_split test (Plain b ∷ us) = grind (arith, run_split test us)
 run_split test (Escaped b ∷ us) = refl
@@ -105,21 +387,21 @@ bracketed_starts us = grind (arith, after_plain_cases, starts_either, repeat_sta
 
 -- ---- from the grammar to the computed elements
 
-pub byte_of-DenotesByte : (u : SetChar) (v : ℕ) → DenotesByte u v → byte_of u ≡ Ok v
+byte_of-DenotesByte : (u : SetChar) (v : ℕ) → DenotesByte u v → byte_of u ≡ Ok v
 byte_of-DenotesByte = grind arith
 
-pub plain_run-map : (test : ℕ → Bool) (bs : List ℕ) (c : ℕ) (rest : List SetChar) → list_all test bs ≡ true
+plain_run-map : (test : ℕ → Bool) (bs : List ℕ) (c : ℕ) (rest : List SetChar) → list_all test bs ≡ true
     → test c ≡ false → plain_run test (map Plain bs ++ Plain c ∷ rest) ≡ bs
 plain_run-map test [] c rest t n = rw n refl
 plain_run-map test (b ∷ bs) c rest t n =
     let (first, others) = and_parts (test b) _ t in
     rw (first, plain_run-map test bs c rest others n) refl
 
-pub after_run-map : (test : ℕ → Bool) (bs : List ℕ) (c : ℕ) (rest : List SetChar) → list_all test bs ≡ true
+after_run-map : (test : ℕ → Bool) (bs : List ℕ) (c : ℕ) (rest : List SetChar) → list_all test bs ≡ true
     → test c ≡ false → after_run test (map Plain bs ++ Plain c ∷ rest) ≡ Plain c ∷ rest
 after_run-map = grind (arith, common_steps, plain_run-map)
 
-pub bracketed_at-StartsBracketed : (us : List SetChar) (p : SetElement) (rest : List SetChar)
+bracketed_at-StartsBracketed : (us : List SetChar) (p : SetElement) (rest : List SetChar)
     → StartsBracketed us p rest → bracketed_at us ≡ Some (p, rest)
 bracketed_at-StartsBracketed us p rest (ARepeat u v digits more m t) = grind (
   arith,
@@ -133,10 +415,10 @@ bracketed_at-StartsBracketed us p rest (AClass c name more t) =
     rw (no_star, after_run-map is_ascii_lowercase _ 58 _ t refl, plain_run-map is_ascii_lowercase _ 58 _ t refl) refl
 bracketed_at-StartsBracketed us p rest (AnEquivalence u v more m) = grind (arith, byte_of-DenotesByte)
 
-pub bracketed_at-none : (us : List SetChar) → bracketed_at us ≡ None → ¬ HasBracketed us
+bracketed_at-none : (us : List SetChar) → bracketed_at us ≡ None → ¬ HasBracketed us
 bracketed_at-none us e (p, rest, f) = cc (bracketed_at-StartsBracketed us p rest f)
 
-pub bracketed_at-unless : (us : List SetChar) → ¬ HasBracketed us → bracketed_at us ≡ None
+bracketed_at-unless : (us : List SetChar) → ¬ HasBracketed us → bracketed_at us ≡ None
 bracketed_at-unless = grind (arith, bracketed_starts)
 
 -- ---- the first element
@@ -190,7 +472,7 @@ first_set_element-found : (us : List SetChar) (p : SetElement) (rest : List SetC
     → first_set_element us ≡ Ok (p, rest)
 first_set_element-found = grind arith
 
-pub first_set_element-StartsElement : (us : List SetChar) (p : SetElement) (rest : List SetChar)
+first_set_element-StartsElement : (us : List SetChar) (p : SetElement) (rest : List SetChar)
     → StartsElement us p rest → first_set_element us ≡ Ok (p, rest)
 first_set_element-StartsElement us p rest (InBrackets xs q more f) =
     first_set_element-found xs q more (bracketed_at-StartsBracketed xs q more f)
@@ -211,10 +493,10 @@ first_set_element-StartsElement us p rest (Alone u a more n d m) =
 -- ---- all elements
 
 -- an element takes at least one character
-abbrev pub IsProperSuffix : List SetChar → List SetChar → Type 0
+abbrev IsProperSuffix : List SetChar → List SetChar → Type 0
 IsProperSuffix us rest = (front : List SetChar) × (us ≡ front ++ rest) × (0 < length front)
 
-pub StartsBracketed-front : (us : List SetChar) (p : SetElement) (rest : List SetChar) → StartsBracketed us p rest
+StartsBracketed-front : (us : List SetChar) (p : SetElement) (rest : List SetChar) → StartsBracketed us p rest
     → IsProperSuffix us rest
 StartsBracketed-front us p rest (ARepeat u v digits more m t) = (
   Plain 91 ∷ u ∷ Plain 42 ∷ map Plain digits ++ Plain 93 ∷ [],
@@ -229,13 +511,13 @@ StartsBracketed-front us p rest (AClass c name more t) = (
 StartsBracketed-front us p rest (AnEquivalence u v more m) =
     (Plain 91 ∷ Plain 61 ∷ u ∷ Plain 61 ∷ Plain 93 ∷ [], refl, omega arith)
 
-pub StartsElement-front : (us : List SetChar) (p : SetElement) (rest : List SetChar) → StartsElement us p rest
+StartsElement-front : (us : List SetChar) (p : SetElement) (rest : List SetChar) → StartsElement us p rest
     → IsProperSuffix us rest
 StartsElement-front us p rest (InBrackets xs q more f) = StartsBracketed-front xs q more f
 StartsElement-front us p rest (ARange u v a b more n m w h) = (u ∷ Plain 45 ∷ v ∷ [], refl, omega arith)
 StartsElement-front us p rest (Alone u a more n d m) = (u ∷ [], refl, omega arith)
 
-pub elements_after_is : (us : List SetChar) (skip : ℕ) → elements_after us skip ≡ set_elements (drop skip us)
+elements_after_is : (us : List SetChar) (skip : ℕ) → elements_after us skip ≡ set_elements (drop skip us)
 elements_after_is [] skip = grind (arith, drop_all)
 elements_after_is (u ∷ us) zero = refl
 elements_after_is (u ∷ us) (suc skip) = elements_after_is us skip
@@ -246,14 +528,14 @@ drop_prefix u us rest [] e h = absurd (omega arith)
 drop_prefix u us rest (f ∷ front) e h = grind (arith, common_steps, length-append)
 
 -- the first element, then those of the rest
-pub set_elements-first : (us : List SetChar) (p : SetElement) (rest : List SetChar)
+set_elements-first : (us : List SetChar) (p : SetElement) (rest : List SetChar)
     → first_set_element us ≡ Ok (p, rest) → set_elements us ≡ Ok p ∷ set_elements rest
 set_elements-first [] p rest e = absurd (cc)
 set_elements-first (u ∷ us) p rest e =
     let (front, all, some) = StartsElement-front _ p rest (starts_as u us e) in
     grind (arith, elements_after_is, drop_prefix)
 
-pub set_elements-fault : (us : List SetChar) (k : SetFaultKind) → 0 < length us → first_set_element us ≡ Err k
+set_elements-fault : (us : List SetChar) (k : SetFaultKind) → 0 < length us → first_set_element us ≡ Err k
     → set_elements us ≡ Err k ∷ []
 set_elements-fault = grind arith
 
@@ -298,7 +580,7 @@ AreElements-set_elements (p ∷ ps) (u ∷ us) e = by_first u us
 -- ---- the bracketed forms and the first element, as the code finds them
 
 -- a class whose name is not empty
-pub class_with_name-named : (name : List ℕ) (us : List SetChar) → 0 < length name
+class_with_name-named : (name : List ℕ) (us : List SetChar) → 0 < length name
     → class_with_name name us ≡ with_rest (Class (class_named name)) (after_two 58 93 us)
 class_with_name-named = grind arith
 
