@@ -30,8 +30,8 @@ lines-preserved g c =
     rw take_rest (runs_loop_next c.lines.invariant (rw c.args.by.now.ends at c.in-Some.ensures) c.key-next.ensures
     c.eq.ensures c.if-eq.false c.in_ok-pending.ensures.waits refl refl)
 
-pub overflow_sub-result : goal.overflow_sub-result
-overflow_sub-result g c = search (rules, runs_loop_left)
+pub overflow_sub-len : goal.overflow_sub-len
+overflow_sub-len g c = search (rules, runs_loop_left)
 
 none_left : (g : given.Over) (c : In_default g) → IsLine (uniq_job c.args.by.now.job.now).terminator c.lines.rest.now
 none_left g c = search (rules, line_if_not_found)

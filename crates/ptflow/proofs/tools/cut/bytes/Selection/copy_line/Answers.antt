@@ -26,17 +26,14 @@ returns-clause-copied c =
       | else-line-gt0+else-not-is_short w ↦ omega arith
     ] in
     ap (λ n. select_from (is_selected list) (n + 1) bytes) (sym zero) in
-    let copied : take c.if-count-self.end c.if-count-self.into ≡ was ++ selected = elim c.if-count-self.branch [
-      | then-count-self w ↦ (λ i. take (w.end-is i) (w.into-is i)) ∙ w.copy_selected-end.ensures.copied
-      | else-count-self+then-is_short w ↦ (λ i. take (w.end-is i) (w.into-is i))
+    let (near, copied) : (c.if-count-self.end < 8208) × (take c.if-count-self.end c.if-count-self.into ≡ was ++ selected)
+    = elim c.if-count-self.branch [
+      | then-count-self w ↦
+          (omega arith, (λ i. take (w.end-is i) (w.into-is i)) ∙ w.copy_selected-end.ensures.copied)
+      | else-count-self+then-is_short w ↦ (omega arith, (λ i. take (w.end-is i) (w.into-is i))
           ∙ (rw (take_rest, one) at (w.copy16.ensures.copied was (sym (append-nil was))))
-          ∙ ap (◌++◌ was) (begins w.if-count-self.false)
-      | else-count-self+else-is_short w ↦ (λ i. take (w.end-is i) (w.into-is i))
-          ∙ (rw take_rest at w.copy_pieces.ensures.copied) ∙ ap (◌++◌ was) (begins w.if-count-self.false)
-    ] in
-    let near : c.if-count-self.end < 8208 = elim c.if-count-self.branch [
-      | then-count-self w ↦ omega arith
-      | else-count-self+then-is_short w ↦ omega arith
-      | else-count-self+else-is_short w ↦ omega arith
+          ∙ ap (◌++◌ was) (begins w.if-count-self.false))
+      | else-count-self+else-is_short w ↦ (omega arith, (λ i. take (w.end-is i) (w.into-is i))
+          ∙ (rw take_rest at w.copy_pieces.ensures.copied) ∙ ap (◌++◌ was) (begins w.if-count-self.false))
     ] in
     line_ended _ _ selected was _ (omega (arith, near)) copied
