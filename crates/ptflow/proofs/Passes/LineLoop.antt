@@ -339,12 +339,21 @@ module _ {S X E : Type 0} {tool : ToolSpec} {state : S → Slots → X} {rest_fr
           → StoreBounds tool before after given
       kept = grind arith
 
-      keeps_last : {after : Slots} (bytes : List ℕ) → after ≡ with_line store (width - 1) bytes
+      pub keeps_last : {after : Slots} (bytes : List ℕ) → after ≡ with_line store (width - 1) bytes
           → SlotBounds width (max (max_length run.ls) (length bytes)) before after
       keeps_last bytes told =
           let most = max (max_length run.ls) (length bytes) in
           bounds_line _ (width - 1) bytes (bounds_weaker most run.keeps (omega arith)) (omega arith)
           (omega arith) told
+
+      pub same_bounds : SlotBounds width (max (max_length run.ls) 0) before store
+      same_bounds = bounds_weaker (max (max_length run.ls) 0) run.keeps (omega arith)
+
+      same_end : reader.terminator ≡ end
+      same_end = run.reached.advance_ok.reads.terminator ∙ run.terminator
+
+      free : (piece : List ℕ) → IsLine reader.terminator piece → IsLine end piece
+      free piece whole = rw same_end at whole
 
       -- a write failed at some lines, which come before the continuation
       halts : {new : Reader} {piece : List ℕ} {after : Slots} → PassEnding tool midway new before after piece
@@ -367,15 +376,15 @@ module _ {S X E : Type 0} {tool : ToolSpec} {state : S → Slots → X} {rest_fr
         ending = grind arith
 
         -- the first part of a line was read
-        module _ {new : Reader} {piece : List ℕ} (reads : ReaderAdvance reader new piece) (free : IsLine end piece)
-            (is_sound : IsSound new) where
+        module _ {new : Reader} {piece : List ℕ} (reads : ReaderAdvance reader new piece)
+            (whole : IsLine reader.terminator piece) (is_sound : IsSound new) where
           stored : {after : Slots} → SlotBounds width (max (max_length run.ls) (length piece)) before after
               → StoreBounds tool before after (received piece new)
-          stored bounds = kept (received piece new) bounds (piece_longest _ _ _ _ run.came _ _ reads free)
+          stored bounds = kept (received piece new) bounds (piece_longest _ _ _ _ run.came _ _ reads (free _ whole))
 
           piece_ending : {after : Slots} → StoreBounds tool before after (received piece new)
               → PassEnding tool midway new before after piece
-          piece_ending bounded = ending reads bounded (works_piece reads free is_sound)
+          piece_ending bounded = ending reads bounded (works_piece reads (free _ whole) is_sound)
 
           -- and then a read failed
           pub run_read : {after : Slots} → SlotBounds width (max (max_length run.ls) (length piece)) before after
@@ -383,11 +392,7 @@ module _ {S X E : Type 0} {tool : ToolSpec} {state : S → Slots → X} {rest_fr
           unfolding midway
           run_read bounds cause =
               pass_read (piece_ending (stored bounds)) cause bounds.denied
-              (grind (arith, decided_so, whole_before))
-
-          pub run_broken : {after : Slots} → after ≡ with_line store (width - 1) piece → HasReadCause reader new
-              → PassPost tool old new was is before after (Err (Read 0))
-          run_broken told = run_read (keeps_last piece told)
+              (grind (arith, decided_so, whole_before, free _ whole))
 
           -- and then the store could not grow
           pub run_memory : {after : Slots} → after ≡ with_denied (with_line store (width - 1) piece)
@@ -400,15 +405,8 @@ module _ {S X E : Type 0} {tool : ToolSpec} {state : S → Slots → X} {rest_fr
 
         -- a block was read
         module _ {new : Reader} (reads : ReaderAdvance reader new []) (is_sound : IsSound new) where
-          same_bounds : SlotBounds width (max (max_length run.ls) 0) before store
-          same_bounds = bounds_weaker (max (max_length run.ls) 0) run.keeps (omega arith)
-
           block_ending : PassEnding tool midway new before store []
           block_ending = piece_ending reads tt is_sound (stored reads tt is_sound same_bounds)
-
-          -- reading it failed
-          pub run_no_block : HasReadCause reader new → PassPost tool old new was is before store (Err (Read 0))
-          run_no_block = run_read reads tt is_sound same_bounds
 
           -- a write failed at its lines
           pub run_block_halts : {block : List ℕ} → new.buffered ≡ block → new.failed ≡ reader.failed
@@ -463,7 +461,7 @@ module _ {S X E : Type 0} {tool : ToolSpec} {state : S → Slots → X} {rest_fr
             → PassPost tool old new was is' before after (Err Write)
         run_line_halts ready sound is_sound halted =
             let came = next_line.line ++ next_line.terminator in
-            let ends = run.reached.advance_ok.reads.terminator ∙ run.terminator in
+            let ends = same_end run in
             let more = lines_more _ _ _ _ run.came _ _ _ _ next_line ends in
             let bounds = keeps_last run _ next_line.stored in
             halts run
