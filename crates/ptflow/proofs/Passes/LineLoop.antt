@@ -18,6 +18,7 @@ use proofs.Passes.LinesRead.{piece_longest, whole_before, before_line, after_lin
 use proofs.Passes.Exits.{Progress, progress_none, progress_flushed, PassState, LaggedOutput, StoreBounds, PassEnding}
 use proofs.Passes.Exits.{nothing_more, pass_unslotted, pass_read, pass_memory, pass_write, pass_done, pass_unended}
 use proofs.Passes.Readers.{advance_past}
+use Rattle.ptflow.specs.Private.Passes.LineLoop.{RunLinesPre}
 use Rattle.std.proofs.lemmas.List.Edits.{swap_is}
 use Rattle.std.proofs.Common.{rules}
 
@@ -209,13 +210,13 @@ module _ {S X E : Type 0} {tool : ToolSpec} {state : S → Slots → X} {rest_fr
       (omega (arith, ap length (line_filter.apart [] []), length-append (written []) (written [])))
 
   module _ {old : Reader} {was : Output} {before : Slots} where
-    pub run_starts : {store : Slots} → old.terminator ≡ end → PassPre old before → was.write_failed ≡ false
-        → SlotBounds width 0 before store → Run old old was was before store (state start store)
-    run_starts {store} ends ready clean keeps = record {
+    pub run_starts : {store : Slots} → RunLinesPre end old was before → SlotBounds width 0 before store
+        → Run old old was was before store (state start store)
+    run_starts {store} begins keeps = record {
       given = [];
       ls = [];
       passed = [];
-      terminator = ends;
+      terminator = begins.ends;
       came = lines_none end old;
       reached = search (rules, none_written, progress_none);
       first = store;
@@ -225,13 +226,13 @@ module _ {S X E : Type 0} {tool : ToolSpec} {state : S → Slots → X} {rest_fr
     }
 
     -- a slot could not be allocated
-    pub run_unslotted : {store : Slots} → old.terminator ≡ end → PassPre old before → IsSound old
-        → was.write_failed ≡ false → AddedSlots before store width → length store.lines < width
-        → store.peak ≡ before.peak → store.denied ≡ true → PassPost tool old old was was before store (Err Memory)
-    run_unslotted {store} ends ready sound clean adds few same denied =
+    pub run_unslotted : {store : Slots} → RunLinesPre end old was before → AddedSlots before store width
+        → length store.lines < width → store.peak ≡ before.peak → store.denied ≡ true
+        → PassPost tool old old was was before store (Err Memory)
+    run_unslotted {store} begins adds few same denied =
         let nothing : Received = record { bytes = []; eof = false } in
-        pass_unslotted tool was ready sound clean (rw line_filter.slots adds) (rw line_filter.slots few) same denied
-        ends
+        pass_unslotted tool was begins.ready begins.sound begins.clean (rw line_filter.slots adds)
+        (rw line_filter.slots few) same denied begins.ends
         (rw none_written at (line_filter.decided store nothing [] (state start store) (λ more. refl)))
 
     module _ {now : X} {reader : Reader} {is : Output} {store : Slots}

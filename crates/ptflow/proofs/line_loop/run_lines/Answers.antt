@@ -40,9 +40,7 @@ returns-in_err-ensure_slots g c =
     let (_, is_err, is_fault) = returned_err c.from_residual.result c.from_residual.ensures in
     let adds = rw c.requires.slots at c.ensure_slots.ensures.adds in
     rw (is_err, is_fault, c.in_err-ensure_slots.ensures.err)
-    (run_unslotted c.requires.tool c.requires.begins.ends c.requires.begins.ready c.requires.begins.sound
-    c.requires.begins.clean adds
-    (rw c.requires.slots at c.in_err-ensure_slots.ensures.few)
+    (run_unslotted c.requires.tool c.requires.begins adds (rw c.requires.slots at c.in_err-ensure_slots.ensures.few)
     c.ensure_slots.ensures.same_peak c.in_err-ensure_slots.ensures.denied)
 
 pub reading-init : goal.reading-init
