@@ -30,10 +30,16 @@ returns-clause-copied c =
     = elim c.if-count-self.branch [
       | then-count-self w ↦
           (omega arith, (λ i. take (w.end-is i) (w.into-is i)) ∙ w.copy_selected-end.ensures.copied)
-      | else-count-self+then-is_short w ↦ (omega arith, (λ i. take (w.end-is i) (w.into-is i))
-          ∙ (rw (take_rest, one) at (w.copy16.ensures.copied was (sym (append-nil was))))
-          ∙ ap (◌++◌ was) (begins w.if-count-self.false))
-      | else-count-self+else-is_short w ↦ (omega arith, (λ i. take (w.end-is i) (w.into-is i))
-          ∙ (rw take_rest at w.copy_pieces.ensures.copied) ∙ ap (◌++◌ was) (begins w.if-count-self.false))
+      | else-count-self+then-is_short w ↦ (
+        omega arith,
+        (λ i. take (w.end-is i) (w.into-is i))
+            ∙ (rw (take_rest, one) at (w.copy16.ensures.copied was (sym (append-nil was))))
+            ∙ ap (◌++◌ was) (begins w.if-count-self.false),
+      )
+      | else-count-self+else-is_short w ↦ (
+        omega arith,
+        (λ i. take (w.end-is i) (w.into-is i))
+            ∙ (rw take_rest at w.copy_pieces.ensures.copied) ∙ ap (◌++◌ was) (begins w.if-count-self.false),
+      )
     ] in
     line_ended _ _ selected was _ (omega (arith, near)) copied
