@@ -14,11 +14,10 @@ use proofs.Common.{output_from_cursor, min, Option, None, Some, is_some, flat_ma
 use proofs.Common.{line_if_not_found, unlines, IsLine, byte_ne, is_field_delimiter, cut_line, cut_lines, cut_tool}
 use proofs.Common.{cut_fields_from, IsPrefix, IsLineFilter, ◌⊎◌, inl, inr, get_or-take, unwrap_or, complete_lines}
 use proofs.Common.{AreLines, line_before_terminator, complete_lines_cons, the_lines, the_complete_lines, CopyLinesPost}
-use proofs.Common.{the_lines_of_parts, CutOfParts}
+use proofs.Common.{the_lines_of_parts, CutOfParts, rules}
 use proofs.Vectors.Select.{rest_of, not_selected, select_none, select_first, select_slice, select_skip}
 use proofs.Passes.Lines.{ended_next, line_split}
 use Rattle.ptflow.specs.declared.tools.cut.fields.FieldCursor.{FieldCursor}
-use Rattle.std.proofs.Common.{rules}
 
 module _ (d : ℕ) where
   -- the fields before a delimiter, and those after it

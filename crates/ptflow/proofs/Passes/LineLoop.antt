@@ -11,7 +11,7 @@ use proofs.Common.{nil_from_length, get_or-set_same, lines, complete_lines, IsLi
 use proofs.Common.{Received, known_lines, IsPrefix, IsConsistent, Output, PushEffect, Reader, ReaderAdvance, AdvanceOk}
 use proofs.Common.{IsDone, IsSound, HasReadCause, line, with_denied, FillPost, FillLine, advance_ok_trans, push_trans}
 use proofs.Common.{ToolSpec, PassPre, PassPost, AreReceivedLines, LinesWritten, LinesFailed, IsLinesLength}
-use proofs.Common.{IsLineFilter, Read, Write, Memory, received_with, reads_nothing}
+use proofs.Common.{IsLineFilter, Read, Write, Memory, received_with, reads_nothing, rules}
 use proofs.Passes.Lines.{line_split, complete_prefix, max_length-append}
 use proofs.Passes.LinesRead.{lines_none, lines_few, lines_on, lines_more, lines_block, line_prefix, received_longest}
 use proofs.Passes.LinesRead.{piece_longest, whole_before, before_line, after_line}
@@ -20,7 +20,6 @@ use proofs.Passes.Exits.{nothing_more, pass_unslotted, pass_read, pass_memory, p
 use proofs.Passes.Readers.{advance_past}
 use Rattle.ptflow.specs.Private.Passes.LineLoop.{RunLinesPre}
 use Rattle.std.proofs.lemmas.List.Edits.{swap_is}
-use Rattle.std.proofs.Common.{rules}
 
 -- ---- the slots
 

@@ -4,11 +4,10 @@ use Rattle.ptflow.proofs
 use proofs.Common.{◌≡◌, ◌<◌, ◌+◌, ◌*◌, ◌++◌, ◌∙◌, false, take, drop, ap, arith, sym, append-nil, take_rest, false≢true}
 use proofs.Common.{selected_bytes, select_from, is_selected, lt-ltb}
 use proofs.CutLemmas.ShortLines.{line_ended}
-use Rattle.ptflow.proofs.tools.cut.bytes.Selection.copy_line.Goals as goal
-use Rattle.ptflow.proofs.tools.cut.bytes.Selection.copy_line.Goals.{then-line-gt0, else-line-gt0+then-not-is_short}
-use Rattle.ptflow.proofs.tools.cut.bytes.Selection.copy_line.Goals.{else-line-gt0+else-not-is_short, then-count-self}
-use Rattle.ptflow.proofs.tools.cut.bytes.Selection.copy_line.Goals.{else-count-self+then-is_short}
-use Rattle.ptflow.proofs.tools.cut.bytes.Selection.copy_line.Goals.{else-count-self+else-is_short}
+use proofs.tools.cut.bytes.Selection.copy_line
+use copy_line.Goals as goal
+use copy_line.Goals.{then-line-gt0, else-line-gt0+then-not-is_short, else-line-gt0+else-not-is_short, then-count-self}
+use copy_line.Goals.{else-count-self+then-is_short, else-count-self+else-is_short}
 
 pub returns-clause-copied : goal.returns-clause-copied
 returns-clause-copied c =
