@@ -1,6 +1,6 @@
--- On an output that has failed nothing is done. `cut` by fields is a line tool, and `cut` by bytes a block tool: at line
--- offset 0 the output for the rest is that for a text, and the pushed bytes include the output that is decided. Setting
--- the terminator does not change the input, so the contract of each loop carries over.
+-- On an output that has failed nothing is done. `cut` by fields is a line tool, and `cut` by bytes a block tool: at
+-- line offset 0 the output for the rest is that for a text, and the pushed bytes include the output that is decided.
+-- Setting the terminator does not change the input, so the contract of each loop carries over.
 use Rattle.ptflow.proofs
 use proofs.Common.{Bool, true, false, ◌≡◌, ◌++◌, refl, sym, ◌∙◌, ap, cond, cut_job, cut_tool, cut_list_from, Reader}
 use proofs.Common.{terminator}

@@ -25,7 +25,8 @@ returns-clause-copied c =
       | else-line-gt0+else-not-is_short w ↦ omega arith
     ] in
     ap (λ n. select_from (is_selected list) (n + 1) bytes) (sym zero) in
-    let (near, copied) : (c.if-count-self.end < 8208) × (take c.if-count-self.end c.if-count-self.into ≡ was ++ selected)
+    let end = c.if-count-self.end in
+    let (near, copied) : (end < 8208) × (take end c.if-count-self.into ≡ was ++ selected)
     = elim c.if-count-self.branch [
       | then-count-self w ↦
           (omega arith, (λ i. take (w.end-is i) (w.into-is i)) ∙ w.copy_selected-end.ensures.copied)
