@@ -3,6 +3,7 @@ pub use Rattle.std.proofs.Common.{Bool, Err, Fits, List, None, Ok, OnErr, Option
 pub use Rattle.std.proofs.Common.{append_assoc, ap₂, arith, bit_and, bit_or, cond, drop, drop-cons, eqb, false, get_or}
 pub use Rattle.std.proofs.Common.{get_or-drop, get_or-take, inl, inr, leb, length, length-append, length-drop, ltb, map}
 pub use Rattle.std.proofs.Common.{max, min, negsuc, not, pos, refl, replicate, set, slice_index, slice_index_or}
+pub use Rattle.std.proofs.Common.{rules}
 pub use Rattle.std.proofs.Common.{slice_set, subst, suc, sym, take, take-append-drop, true, w8, zero, ℕ, ℤ, ⊎_elim, ◌%◌}
 pub use Rattle.std.proofs.Common.{◌&&◌, ◌*◌, ◌++◌, ◌+◌, ◌-◌, ◌/◌, ◌<◌, ◌==◌, ◌^◌, ◌||◌, ◌∙◌, ◌∷◌, ◌≡◌, ◌≢◌, ◌≤◌, ◌⊎◌}
 pub use Rattle.std.proofs.Math.Nat.{add-mod_left, mod-add-mod, mod-eq_of_lt, mod-lt, mul-le-mul_left, pow-succ'}

@@ -2,11 +2,11 @@
 -- resets it; at offset 0 the output is that of complete lines.
 use Rattle.ptflow.proofs
 use proofs.Common.{◌≡◌, ℕ, ◌+◌, ◌-◌, ◌≤◌, ◌^◌, Bool, false, List, [], ◌∷◌, ◌++◌, map, length, take, drop, Some, refl}
-use proofs.Common.{ap, arith, append_assoc, common_steps, onto_first, flat_map, mask_l, chunk, length-chunk}
-use proofs.Common.{chunk-drop, IsFirstByte, is_byte, unlines, lines, IsLine}
-use proofs.Common.{complete_lines, lines_cons, byte_ne, lines_of_unlines, unlines-append, line_before_terminator}
-use proofs.Common.{select_from, cut_line, cut, cut_decided, cut_lines_from, cut_bytes_from, cut_list_from, IsPrefix}
-use proofs.Common.{Cut, Interval, ExtendsCut, CutPost, selected_bytes, is_selected, drop-drop}
+use proofs.Common.{ap, arith, append_assoc, common_steps, onto_first, flat_map, mask_l, chunk, length-chunk, chunk-drop}
+use proofs.Common.{IsFirstByte, is_byte, unlines, lines, IsLine, complete_lines, lines_cons, byte_ne, lines_of_unlines}
+use proofs.Common.{unlines-append, line_before_terminator, select_from, cut_line, cut, cut_decided, cut_lines_from}
+use proofs.Common.{cut_bytes_from, cut_list_from, IsPrefix, Cut, Interval, ExtendsCut, CutPost, selected_bytes}
+use proofs.Common.{is_selected, drop-drop}
 use Rattle.ptflow.specs.declared.tools.cut.bytes.Line.{Line}
 use proofs.Passes.Lines.{split_of, LineSplit, line_split}
 

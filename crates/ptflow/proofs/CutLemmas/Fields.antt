@@ -14,11 +14,10 @@ use proofs.Common.{output_from_cursor, min, Option, None, Some, is_some, flat_ma
 use proofs.Common.{line_if_not_found, unlines, IsLine, byte_ne, is_field_delimiter, cut_line, cut_lines, cut_tool}
 use proofs.Common.{cut_fields_from, IsPrefix, IsLineFilter, ◌⊎◌, inl, inr, get_or-take, unwrap_or, complete_lines}
 use proofs.Common.{AreLines, line_before_terminator, complete_lines_cons, the_lines, the_complete_lines, CopyLinesPost}
-use proofs.Common.{the_lines_of_parts, CutOfParts}
+use proofs.Common.{the_lines_of_parts, CutOfParts, rules}
 use proofs.Vectors.Select.{rest_of, not_selected, select_none, select_first, select_slice, select_skip}
 use proofs.Passes.Lines.{ended_next, line_split}
 use Rattle.ptflow.specs.declared.tools.cut.fields.FieldCursor.{FieldCursor}
-use Rattle.std.proofs.Common.{rules}
 
 module _ (d : ℕ) where
   -- the fields before a delimiter, and those after it
@@ -123,139 +122,138 @@ module _ (d : ℕ) (line : List ℕ) (cursor : FieldCursor) where
   no_interval none = none_selected
       (select_none (is_selected all) _ _ (λ k low high. ap (λ rs. is_selected rs k) (nil_from_length all none)))
 
-  module _ (w : IsFieldCursor d line cursor) where
-    -- the line ends before the cursor
-    pub no_field : length line < cursor.at → output_from_cursor d line cursor ≡ []
-    no_field past = none_selected (cc (none_left d line w.offset past))
+  -- the line ends before the cursor
+  pub no_field : IsFieldCursor d line cursor → length line < cursor.at → output_from_cursor d line cursor ≡ []
+  no_field w past = none_selected (cc (none_left d line w.offset past))
 
-    module _ (fits : cursor.at ≤ length line) (within : 0 < length all) where
-      -- the next interval, and those after it
-      abbrev r : Interval
-      r = get_or all 0 (record { first = 0; last = 0 })
+  module _ (w : IsFieldCursor d line cursor) (fits : cursor.at ≤ length line) (within : 0 < length all) where
+    -- the next interval, and those after it
+    abbrev r : Interval
+    r = get_or all 0 (record { first = 0; last = 0 })
 
-      abbrev rs : List Interval
-      rs = drop 1 all
+    abbrev rs : List Interval
+    rs = drop 1 all
 
-      -- the fields from the cursor on; how many of them are before the interval, and how many in it
-      abbrev here : List (List ℕ)
-      here = drop cursor.passed (fields d line)
+    -- the fields from the cursor on; how many of them are before the interval, and how many in it
+    abbrev here : List (List ℕ)
+    here = drop cursor.passed (fields d line)
 
-      abbrev skip : ℕ
-      skip = r.first - 1 - cursor.passed
+    abbrev skip : ℕ
+    skip = r.first - 1 - cursor.passed
 
-      abbrev size : ℕ
-      size = r.last - r.first + 1
+    abbrev size : ℕ
+    size = r.last - r.first + 1
 
-      these : all ≡ r ∷ rs
-      these = drop_more all 0 (record { first = 0; last = 0 }) within
+    these : all ≡ r ∷ rs
+    these = drop_more all 0 (record { first = 0; last = 0 }) within
 
-      apart : AreSeparated (cursor.passed + min cursor.passed 1) (r ∷ rs)
-      apart = rw these at w.apart
+    apart : AreSeparated (cursor.passed + min cursor.passed 1) (r ∷ rs)
+    apart = rw these at w.apart
 
-      pub not_past : cursor.passed + min cursor.passed 1 < r.first
-      not_past = omega (arith, apart.0)
+    pub not_past : cursor.passed + min cursor.passed 1 < r.first
+    not_past = omega (arith, apart.0)
 
-      pub in_order : r.first ≤ r.last
-      in_order = apart.1
+    pub in_order : r.first ≤ r.last
+    in_order = apart.1
 
-      module _ {from : ℕ} (near : cursor.at ≤ from)
-          (s : IsFieldOffset d skip (drop cursor.at line) (from - cursor.at)) where
-        starts : IsFieldOffset d (cursor.passed + skip) line from
-        starts = let is : cursor.at + (from - cursor.at) ≡ from = omega (arith, near) in
-            rw is at (offset_add d line w.offset fits s)
+    module _ {from : ℕ} (near : cursor.at ≤ from)
+        (s : IsFieldOffset d skip (drop cursor.at line) (from - cursor.at)) where
+      starts : IsFieldOffset d (cursor.passed + skip) line from
+      starts = let is : cursor.at + (from - cursor.at) ≡ from = omega (arith, near) in
+          rw is at (offset_add d line w.offset fits s)
 
-        left : drop skip here ≡ drop (cursor.passed + skip) (fields d line)
-        left = drop-drop skip _ (fields d line)
+      left : drop skip here ≡ drop (cursor.passed + skip) (fields d line)
+      left = drop-drop skip _ (fields d line)
 
-        -- the line ends before the interval
-        pub ends_before : length line < from → output_from_cursor d line cursor ≡ []
-        ends_before past = none_selected (cc (
-          these,
-          select_skip (is_selected (r ∷ rs)) (cursor.passed + 1) skip here
-              (grind (arith, not_selected, not_past, apart)),
-          left,
-          none_left d line starts past,
-        ))
+      -- the line ends before the interval
+      pub ends_before : length line < from → output_from_cursor d line cursor ≡ []
+      ends_before past = none_selected (cc (
+        these,
+        select_skip (is_selected (r ∷ rs)) (cursor.passed + 1) skip here
+            (grind (arith, not_selected, not_past, apart)),
+        left,
+        none_left d line starts past,
+      ))
 
-        module _ (begun : from ≤ length line) where
-          abbrev rest : List ℕ
-          rest = drop from line
+      module _ (begun : from ≤ length line) where
+        abbrev rest : List ℕ
+        rest = drop from line
 
-          sep_fits : min cursor.passed 1 ≤ from
-          sep_fits = omega (arith, not_past)
+        sep_fits : min cursor.passed 1 ≤ from
+        sep_fits = omega (arith, not_past)
 
-          -- the start of the interval, with or without the delimiter before it
-          sep_drop : drop (from - min cursor.passed 1) line ≡ drop (1 - min cursor.passed 1) (d ∷ rest)
-          sep_drop = by_sep (min cursor.passed 1) from (omega arith) sep_fits (rest_at d line starts begun)
-            where
-              by_sep : (sep n : ℕ) → sep ≤ 1 → sep ≤ n → drop n (d ∷ line) ≡ d ∷ drop n line
-                  → drop (n - sep) line ≡ drop (1 - sep) (d ∷ drop n line)
-              by_sep zero n one fits split = let same : n - 0 ≡ n = omega arith in rw same refl
-              by_sep (suc zero) zero one fits split = absurd (omega arith)
-              by_sep (suc zero) (suc n) one fits split = let same : suc n - 1 ≡ n = omega arith in cc
-              by_sep (suc (suc sep)) n one fits split = absurd (omega arith)
+        -- the start of the interval, with or without the delimiter before it
+        sep_drop : drop (from - min cursor.passed 1) line ≡ drop (1 - min cursor.passed 1) (d ∷ rest)
+        sep_drop = by_sep (min cursor.passed 1) from (omega arith) sep_fits (rest_at d line starts begun)
+          where
+            by_sep : (sep n : ℕ) → sep ≤ 1 → sep ≤ n → drop n (d ∷ line) ≡ d ∷ drop n line
+                → drop (n - sep) line ≡ drop (1 - sep) (d ∷ drop n line)
+            by_sep zero n one fits split = let same : n - 0 ≡ n = omega arith in rw same refl
+            by_sep (suc zero) zero one fits split = absurd (omega arith)
+            by_sep (suc zero) (suc n) one fits split = let same : suc n - 1 ≡ n = omega arith in cc
+            by_sep (suc (suc sep)) n one fits split = absurd (omega arith)
 
-          module _ {at : ℕ} (later : from ≤ at) (p : IsFieldOffset d size rest (at - from)) where
-            ends : IsFieldOffset d r.last line at
-            ends =
-                let is : from + (at - from) ≡ at = omega (arith, later) in
-                let last : cursor.passed + skip + size ≡ r.last = omega (arith, not_past, apart.1) in
-                rw (is, last) at (offset_add d line starts begun p)
+        module _ {at : ℕ} (later : from ≤ at) (p : IsFieldOffset d size rest (at - from)) where
+          ends : IsFieldOffset d r.last line at
+          ends =
+              let is : from + (at - from) ≡ at = omega (arith, later) in
+              let last : cursor.passed + skip + size ≡ r.last = omega (arith, not_past, apart.1) in
+              rw (is, last) at (offset_add d line starts begun p)
 
-            some : 0 < at - from
-            some = omega arith
+          some : 0 < at - from
+          some = omega arith
 
-            -- the fields in the interval, and those that the others select
-            selected : select_from (is_selected (r ∷ rs)) (cursor.passed + 1) here ≡ take size (fields d rest)
-                ++ select_from (is_selected rs) (r.last + 1) (drop r.last (fields d line))
-            selected =
-                let b = r.last + 1 - (cursor.passed + 1) in
-                let many : b - skip ≡ size = omega (arith, not_past, apart.1) in
-                let count : (cursor.passed + 1) + (skip + size) ≡ r.last + 1 = omega (arith, not_past, apart.1) in
-                let all_of : cursor.passed + (skip + size) ≡ r.last = omega (arith, not_past, apart.1) in
-                cc (
-                  select_first r rs (cursor.passed + 1) here apart.2,
-                  select_slice r (cursor.passed + 1) here skip b (omega arith) refl,
-                  left,
-                  starts.later begun,
-                  select_skip (is_selected rs) (cursor.passed + 1) (skip + size) here
-                      (grind (arith, not_selected, apart)),
-                  drop-drop (skip + size) _ (fields d line),
-                )
+          -- the fields in the interval, and those that the others select
+          selected : select_from (is_selected (r ∷ rs)) (cursor.passed + 1) here ≡ take size (fields d rest)
+              ++ select_from (is_selected rs) (r.last + 1) (drop r.last (fields d line))
+          selected =
+              let b = r.last + 1 - (cursor.passed + 1) in
+              let many : b - skip ≡ size = omega (arith, not_past, apart.1) in
+              let count : (cursor.passed + 1) + (skip + size) ≡ r.last + 1 = omega (arith, not_past, apart.1) in
+              let all_of : cursor.passed + (skip + size) ≡ r.last = omega (arith, not_past, apart.1) in
+              cc (
+                select_first r rs (cursor.passed + 1) here apart.2,
+                select_slice r (cursor.passed + 1) here skip b (omega arith) refl,
+                left,
+                starts.later begun,
+                select_skip (is_selected rs) (cursor.passed + 1) (skip + size) here
+                    (grind (arith, not_selected, apart)),
+                drop-drop (skip + size) _ (fields d line),
+              )
 
-            -- the slice, and then the output that is left
-            output : output_from_cursor d line cursor
-                ≡ take ((at - 1) - (from - min cursor.passed 1)) (drop (from - min cursor.passed 1) line)
-                ++ prefixed_fields d (select_from (is_selected rs) (r.last + 1) (drop r.last (fields d line)))
-            output =
-                let sep = min cursor.passed 1 in
-                let slice = take (at - from) (d ∷ rest) in
-                let others = select_from (is_selected rs) (r.last + 1) (drop r.last (fields d line)) in
-                let long : length slice ≡ at - from = length-take-le (at - from) (d ∷ rest) (omega (arith, p.fits)) in
-                let size_is : at - from - (1 - sep) ≡ at - 1 - (from - sep) = omega (arith, some, sep_fits) in
-                cc (
-                  these,
-                  selected,
-                  prefixed_fields-append d (take size (fields d rest)) others,
-                  p.front,
-                  drop-append-le (1 - sep) slice (prefixed_fields d others) (omega (arith, long, some)),
-                  rest_of (1 - sep) (at - from) (d ∷ rest),
-                  sep_drop,
-                  size_is,
-                )
+          -- the slice, and then the output that is left
+          output : output_from_cursor d line cursor
+              ≡ take ((at - 1) - (from - min cursor.passed 1)) (drop (from - min cursor.passed 1) line)
+              ++ prefixed_fields d (select_from (is_selected rs) (r.last + 1) (drop r.last (fields d line)))
+          output =
+              let sep = min cursor.passed 1 in
+              let slice = take (at - from) (d ∷ rest) in
+              let others = select_from (is_selected rs) (r.last + 1) (drop r.last (fields d line)) in
+              let long : length slice ≡ at - from = length-take-le (at - from) (d ∷ rest) (omega (arith, p.fits)) in
+              let size_is : at - from - (1 - sep) ≡ at - 1 - (from - sep) = omega (arith, some, sep_fits) in
+              cc (
+                these,
+                selected,
+                prefixed_fields-append d (take size (fields d rest)) others,
+                p.front,
+                drop-append-le (1 - sep) slice (prefixed_fields d others) (omega (arith, long, some)),
+                rest_of (1 - sep) (at - from) (d ∷ rest),
+                sep_drop,
+                size_is,
+              )
 
-            one : min r.last 1 ≡ 1
-            one = omega (arith, not_past, in_order)
+          one : min r.last 1 ≡ 1
+          one = omega (arith, not_past, in_order)
 
-            pub next_slice : (next : FieldCursor) → next.left.now ≡ rs → next.passed ≡ r.last → next.at ≡ at
-                → IsNextSlice d line cursor (from - min cursor.passed 1) (at - 1) next
-            next_slice next left_is passed_is at_is = record {
-              output = rw (left_is, passed_is, one) output;
-              order = omega (arith, some);
-              within = omega (arith, ends.fits, some);
-              moved = record { offset = rw (passed_is, at_is) ends; apart = rw (left_is, passed_is, one) apart.2 };
-              later = omega (arith, ap length left_is, ap length these);
-            }
+          pub next_slice : (next : FieldCursor) → next.left.now ≡ rs → next.passed ≡ r.last → next.at ≡ at
+              → IsNextSlice d line cursor (from - min cursor.passed 1) (at - 1) next
+          next_slice next left_is passed_is at_is = record {
+            output = rw (left_is, passed_is, one) output;
+            order = omega (arith, some);
+            within = omega (arith, ends.fits, some);
+            moved = record { offset = rw (passed_is, at_is) ends; apart = rw (left_is, passed_is, one) apart.2 };
+            later = omega (arith, ap length left_is, ap length these);
+          }
 
 -- ---- the output of a line is not longer than the line
 

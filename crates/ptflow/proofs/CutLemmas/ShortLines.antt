@@ -1,9 +1,9 @@
 -- The shuffles of `cut`. A row has the selected indices in order, so a shuffle moves the selected bytes of 16 bytes to
 -- the front; the counts are how many of them a piece of each length has. A line is cut piece by piece.
 use Rattle.ptflow.proofs
-use proofs.Common.{◌≡◌, ℕ, zero, suc, ◌+◌, ◌-◌, ◌<◌, ◌≤◌, Bool, true, false, cond, List, [], ◌∷◌, ◌++◌}
-use proofs.Common.{map, length, take, drop, set, ⊎_elim, ◌&&◌, get_or, length-append, append_assoc, refl, sym, ◌∙◌, ap}
-use proofs.Common.{arith, w8, All, nat_le, false≢true, range_with_len, list_all, nat_tests, take-add, pick_l, Each1}
+use proofs.Common.{◌≡◌, ℕ, zero, suc, ◌+◌, ◌-◌, ◌<◌, ◌≤◌, Bool, true, false, cond, List, [], ◌∷◌, ◌++◌, map, length}
+use proofs.Common.{take, drop, set, ⊎_elim, ◌&&◌, get_or, length-append, append_assoc, refl, sym, ◌∙◌, ap, arith, w8}
+use proofs.Common.{All, nat_le, false≢true, range_with_len, list_all, nat_tests, take-add, pick_l, Each1}
 use proofs.Common.{Each1-from_get_or, swz_l, pick_l-range_with_len, take-map, take-take, take-append-le, take_all}
 use proofs.Common.{length-take-le, append-nil, All-set, length-range_with_len, select_from, is_selected, Interval}
 use proofs.Common.{cases_eq, put_chunk, length-drop, length-swz_l, take_more_set}

@@ -3,13 +3,12 @@
 use Rattle.ptflow.proofs
 use proofs.Common.{common_steps, ◌≡◌, ℕ, ◌+◌, ◌-◌, ◌≤◌, false, List, [], ◌++◌, None, Err, length, drop, refl, arith}
 use proofs.Common.{append-nil, append_assoc, take_all, Reader, ReaderAdvance, AdvanceOk, IsSound, HasReadCause}
-use proofs.Common.{IsPrefix, Output, PushEffect, Slots, advance_ok_trans, push_trans, ToolSpec, PassPre, PassPost}
-use proofs.Common.{Read}
+use proofs.Common.{IsPrefix, Output, PushEffect, Slots, advance_ok_trans, push_trans, ToolSpec, PassPre, PassPost, Read}
+use proofs.Common.{rules}
 use Rattle.ptflow.specs.Private.Passes.BlockLoop.{IsBlockFilter}
 use Rattle.ptflow.specs.Private.Passes.StepOutput.{OutputPart}
 use proofs.Passes.Readers.{advance_past}
 use proofs.Passes.Exits.{Progress, progress_none, progress_flushed, PassState, PassEnding, store_unchanged, pass_read}
-use Rattle.std.proofs.Common.{rules}
 
 -- a counter is at most the number of bytes that were processed
 module _ {reader shown : Reader} {block : List ℕ} (advance_ok : AdvanceOk reader shown [])

@@ -4,15 +4,14 @@
 -- prefix of the output for each consistent input, and decided output is written.
 use Rattle.ptflow.proofs
 use proofs.Common.{◌≡◌, ℕ, ◌≤◌, ◌<◌, ◌^◌, true, false, List, [], ◌++◌, length, None, Result, Ok, Err, max, arith}
-use proofs.Common.{append_assoc, common_steps, append-nil, false_from_ne_true, Reader, ReaderAdvance, AdvanceOk}
-use proofs.Common.{IsDone, IsSound, HasReadCause, Received, IsPrefix, IsConsistent, Output, PushEffect, Slots}
-use proofs.Common.{total_bytes, received_with, advance_trans, push_nothing, push_trans, ToolSpec, PassPre, PassPost}
-use proofs.Common.{only_input, pass_end, pass_engine, CallState, call_state, CallOutcome, AddedSlots, CallProgress}
+use proofs.Common.{append_assoc, common_steps, append-nil, false_from_ne_true, Reader, ReaderAdvance, AdvanceOk, IsDone}
+use proofs.Common.{IsSound, HasReadCause, Received, IsPrefix, IsConsistent, Output, PushEffect, Slots, total_bytes}
+use proofs.Common.{received_with, advance_trans, push_nothing, push_trans, ToolSpec, PassPre, PassPost, only_input}
+use proofs.Common.{pass_end, pass_engine, CallState, call_state, CallOutcome, AddedSlots, CallProgress}
 use proofs.Common.{DecidedIfReadFailed, call_ends, call_on_failed_output, call_set, call_without_slots, ProcessLag}
-use proofs.Common.{bounded_lag_after, FlowFault, Read, Write, Memory}
+use proofs.Common.{bounded_lag_after, FlowFault, Read, Write, Memory, rules}
 use Rattle.std.specs.Prelude.{IsErrAnd}
 use proofs.Passes.Readers.{stays_at_eof}
-use Rattle.std.proofs.Common.{rules}
 
 abbrev state : Reader → Output → Slots → CallState (Unit {0})
 state reader out store = call_state (λ u. reader) out store

@@ -11,15 +11,15 @@ use proofs.Common.{nil_from_length, get_or-set_same, lines, complete_lines, IsLi
 use proofs.Common.{Received, known_lines, IsPrefix, IsConsistent, Output, PushEffect, Reader, ReaderAdvance, AdvanceOk}
 use proofs.Common.{IsDone, IsSound, HasReadCause, line, with_denied, FillPost, FillLine, advance_ok_trans, push_trans}
 use proofs.Common.{ToolSpec, PassPre, PassPost, AreReceivedLines, LinesWritten, LinesFailed, IsLinesLength}
-use proofs.Common.{IsLineFilter, Read, Write, Memory, received_with, reads_nothing}
+use proofs.Common.{IsLineFilter, Read, Write, Memory, received_with, reads_nothing, rules}
 use proofs.Passes.Lines.{line_split, complete_prefix, max_length-append}
 use proofs.Passes.LinesRead.{lines_none, lines_few, lines_on, lines_more, lines_block, line_prefix, received_longest}
 use proofs.Passes.LinesRead.{piece_longest, whole_before, before_line, after_line}
 use proofs.Passes.Exits.{Progress, progress_none, progress_flushed, PassState, LaggedOutput, StoreBounds, PassEnding}
 use proofs.Passes.Exits.{nothing_more, pass_unslotted, pass_read, pass_memory, pass_write, pass_done, pass_unended}
 use proofs.Passes.Readers.{advance_past}
+use Rattle.ptflow.specs.Private.Passes.LineLoop.{RunLinesPre}
 use Rattle.std.proofs.lemmas.List.Edits.{swap_is}
-use Rattle.std.proofs.Common.{rules}
 
 -- ---- the slots
 
@@ -209,13 +209,13 @@ module _ {S X E : Type 0} {tool : ToolSpec} {state : S → Slots → X} {rest_fr
       (omega (arith, ap length (line_filter.apart [] []), length-append (written []) (written [])))
 
   module _ {old : Reader} {was : Output} {before : Slots} where
-    pub run_starts : {store : Slots} → old.terminator ≡ end → PassPre old before → was.write_failed ≡ false
-        → SlotBounds width 0 before store → Run old old was was before store (state start store)
-    run_starts {store} ends ready clean keeps = record {
+    pub run_starts : {store : Slots} → RunLinesPre end old was before → SlotBounds width 0 before store
+        → Run old old was was before store (state start store)
+    run_starts {store} begins keeps = record {
       given = [];
       ls = [];
       passed = [];
-      terminator = ends;
+      terminator = begins.ends;
       came = lines_none end old;
       reached = search (rules, none_written, progress_none);
       first = store;
@@ -225,13 +225,13 @@ module _ {S X E : Type 0} {tool : ToolSpec} {state : S → Slots → X} {rest_fr
     }
 
     -- a slot could not be allocated
-    pub run_unslotted : {store : Slots} → old.terminator ≡ end → PassPre old before → IsSound old
-        → was.write_failed ≡ false → AddedSlots before store width → length store.lines < width
-        → store.peak ≡ before.peak → store.denied ≡ true → PassPost tool old old was was before store (Err Memory)
-    run_unslotted {store} ends ready sound clean adds few same denied =
+    pub run_unslotted : {store : Slots} → RunLinesPre end old was before → AddedSlots before store width
+        → length store.lines < width → store.peak ≡ before.peak → store.denied ≡ true
+        → PassPost tool old old was was before store (Err Memory)
+    run_unslotted {store} begins adds few same denied =
         let nothing : Received = record { bytes = []; eof = false } in
-        pass_unslotted tool was ready sound clean (rw line_filter.slots adds) (rw line_filter.slots few) same denied
-        ends
+        pass_unslotted tool was begins.ready begins.sound begins.clean (rw line_filter.slots adds)
+        (rw line_filter.slots few) same denied begins.ends
         (rw none_written at (line_filter.decided store nothing [] (state start store) (λ more. refl)))
 
     module _ {now : X} {reader : Reader} {is : Output} {store : Slots}
@@ -339,12 +339,21 @@ module _ {S X E : Type 0} {tool : ToolSpec} {state : S → Slots → X} {rest_fr
           → StoreBounds tool before after given
       kept = grind arith
 
-      keeps_last : {after : Slots} (bytes : List ℕ) → after ≡ with_line store (width - 1) bytes
+      pub keeps_last : {after : Slots} (bytes : List ℕ) → after ≡ with_line store (width - 1) bytes
           → SlotBounds width (max (max_length run.ls) (length bytes)) before after
       keeps_last bytes told =
           let most = max (max_length run.ls) (length bytes) in
           bounds_line _ (width - 1) bytes (bounds_weaker most run.keeps (omega arith)) (omega arith)
           (omega arith) told
+
+      pub same_bounds : SlotBounds width (max (max_length run.ls) 0) before store
+      same_bounds = bounds_weaker (max (max_length run.ls) 0) run.keeps (omega arith)
+
+      same_end : reader.terminator ≡ end
+      same_end = run.reached.advance_ok.reads.terminator ∙ run.terminator
+
+      free : (piece : List ℕ) → IsLine reader.terminator piece → IsLine end piece
+      free piece whole = rw same_end at whole
 
       -- a write failed at some lines, which come before the continuation
       halts : {new : Reader} {piece : List ℕ} {after : Slots} → PassEnding tool midway new before after piece
@@ -367,15 +376,15 @@ module _ {S X E : Type 0} {tool : ToolSpec} {state : S → Slots → X} {rest_fr
         ending = grind arith
 
         -- the first part of a line was read
-        module _ {new : Reader} {piece : List ℕ} (reads : ReaderAdvance reader new piece) (free : IsLine end piece)
-            (is_sound : IsSound new) where
+        module _ {new : Reader} {piece : List ℕ} (reads : ReaderAdvance reader new piece)
+            (whole : IsLine reader.terminator piece) (is_sound : IsSound new) where
           stored : {after : Slots} → SlotBounds width (max (max_length run.ls) (length piece)) before after
               → StoreBounds tool before after (received piece new)
-          stored bounds = kept (received piece new) bounds (piece_longest _ _ _ _ run.came _ _ reads free)
+          stored bounds = kept (received piece new) bounds (piece_longest _ _ _ _ run.came _ _ reads (free _ whole))
 
           piece_ending : {after : Slots} → StoreBounds tool before after (received piece new)
               → PassEnding tool midway new before after piece
-          piece_ending bounded = ending reads bounded (works_piece reads free is_sound)
+          piece_ending bounded = ending reads bounded (works_piece reads (free _ whole) is_sound)
 
           -- and then a read failed
           pub run_read : {after : Slots} → SlotBounds width (max (max_length run.ls) (length piece)) before after
@@ -383,11 +392,7 @@ module _ {S X E : Type 0} {tool : ToolSpec} {state : S → Slots → X} {rest_fr
           unfolding midway
           run_read bounds cause =
               pass_read (piece_ending (stored bounds)) cause bounds.denied
-              (grind (arith, decided_so, whole_before))
-
-          pub run_broken : {after : Slots} → after ≡ with_line store (width - 1) piece → HasReadCause reader new
-              → PassPost tool old new was is before after (Err (Read 0))
-          run_broken told = run_read (keeps_last piece told)
+              (grind (arith, decided_so, whole_before, free _ whole))
 
           -- and then the store could not grow
           pub run_memory : {after : Slots} → after ≡ with_denied (with_line store (width - 1) piece)
@@ -400,15 +405,8 @@ module _ {S X E : Type 0} {tool : ToolSpec} {state : S → Slots → X} {rest_fr
 
         -- a block was read
         module _ {new : Reader} (reads : ReaderAdvance reader new []) (is_sound : IsSound new) where
-          same_bounds : SlotBounds width (max (max_length run.ls) 0) before store
-          same_bounds = bounds_weaker (max (max_length run.ls) 0) run.keeps (omega arith)
-
           block_ending : PassEnding tool midway new before store []
           block_ending = piece_ending reads tt is_sound (stored reads tt is_sound same_bounds)
-
-          -- reading it failed
-          pub run_no_block : HasReadCause reader new → PassPost tool old new was is before store (Err (Read 0))
-          run_no_block = run_read reads tt is_sound same_bounds
 
           -- a write failed at its lines
           pub run_block_halts : {block : List ℕ} → new.buffered ≡ block → new.failed ≡ reader.failed
@@ -463,7 +461,7 @@ module _ {S X E : Type 0} {tool : ToolSpec} {state : S → Slots → X} {rest_fr
             → PassPost tool old new was is' before after (Err Write)
         run_line_halts ready sound is_sound halted =
             let came = next_line.line ++ next_line.terminator in
-            let ends = run.reached.advance_ok.reads.terminator ∙ run.terminator in
+            let ends = same_end run in
             let more = lines_more _ _ _ _ run.came _ _ _ _ next_line ends in
             let bounds = keeps_last run _ next_line.stored in
             halts run

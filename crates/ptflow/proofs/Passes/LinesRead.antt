@@ -1,15 +1,14 @@
 -- The lines that were read from a reader. A line that was read is complete, so it is a line of the input for every
 -- continuation; the same holds for the complete lines of a block.
 use Rattle.ptflow.proofs
-use proofs.Common.{common_steps, ◌≡◌, inl, inr, ℕ, zero, suc, ◌-◌, ◌≤◌, true, false, List, [], ◌∷◌, ◌++◌, length}
-use proofs.Common.{take, drop, max, refl, arith, append_assoc, length-append, take-append-drop, false≢true}
-use proofs.Common.{append-nil, unlines, lines, IsLine, AreLines, max_length, max_line_length, Received, IsConsistent}
-use proofs.Common.{known_lines, LaggedInput, Reader, ReaderAdvance, AdvanceOk, IsDone, IsSound, Slots, FillLine}
-use proofs.Common.{lines_of_unlines, lines_of_last, lines_cons, lines-unlines, complete_lines_of_unlines}
-use proofs.Common.{AreReceivedLines, received_with}
+use proofs.Common.{common_steps, ◌≡◌, inl, inr, ℕ, zero, suc, ◌-◌, ◌≤◌, true, false, List, [], ◌∷◌, ◌++◌, length, take}
+use proofs.Common.{drop, max, refl, arith, append_assoc, length-append, take-append-drop, false≢true, append-nil}
+use proofs.Common.{unlines, lines, IsLine, AreLines, max_length, max_line_length, Received, IsConsistent, known_lines}
+use proofs.Common.{LaggedInput, Reader, ReaderAdvance, AdvanceOk, IsDone, IsSound, Slots, FillLine, lines_of_unlines}
+use proofs.Common.{lines_of_last, lines_cons, lines-unlines, complete_lines_of_unlines, AreReceivedLines, received_with}
+use proofs.Common.{rules}
 use proofs.Passes.Lines.{piece_le_max_length, max_length-append}
 use proofs.Passes.Readers.{eof_gives_nothing, stays_at_eof}
-use Rattle.std.proofs.Common.{rules}
 
 longest_prefix : (end : ℕ) (ls : List (List ℕ)) (piece rest : List ℕ) → AreLines end ls → IsLine end piece
     → max (max_length ls) (length piece) ≤ max_length (lines end (unlines end ls ++ (piece ++ rest)))

@@ -3,10 +3,9 @@
 use Rattle.ptflow.proofs
 use proofs.Common.{arith, common_steps, ◌≡◌, ℕ, Bool, false, true, List, [], ◌++◌, refl, sym, subst, append_assoc}
 use proofs.Common.{Output, PushEffect, push_nothing, push_trans, push_past_failure, Result, Ok, Err, OnErr}
-use proofs.Common.{err_from_is_err_and}
+use proofs.Common.{err_from_is_err_and, rules}
 use Rattle.ptlines.specs.Outputs.{PushPost}
 use Rattle.std.specs.Prelude.{IsErrAnd}
-use Rattle.std.proofs.Common.{rules}
 
 -- one push after another, even after a fault
 pub wrote_then : (a b c : Output) {xs ys : List ℕ} → PushEffect a b xs → PushEffect b c ys → PushEffect a c (xs ++ ys)

@@ -1,6 +1,7 @@
 -- Facts about readers and outputs that each engine starts from. Each follows from the records of one call.
-use Rattle.ptflow.proofs.Common.{common_steps, ◌≡◌, ℕ, ◌<◌, ◌≤◌, true, List, [], ◌++◌, length, take, drop, arith}
-use Rattle.ptflow.proofs.Common.{Reader, ReaderAdvance, AdvanceOk, IsDone, budget, advance_ok_take}
+use Rattle.ptflow.proofs
+use proofs.Common.{common_steps, ◌≡◌, ℕ, ◌<◌, ◌≤◌, true, List, [], ◌++◌, length, take, drop, arith, Reader}
+use proofs.Common.{ReaderAdvance, AdvanceOk, IsDone, budget, advance_ok_take}
 
 -- after the end of the input, nothing is read
 pub eof_gives_nothing : (now new : Reader) (bytes : List ℕ) → IsDone now → ReaderAdvance now new bytes

@@ -2,11 +2,10 @@
 -- the byte after the n-th field end.
 use Rattle.ptflow.proofs
 use proofs.Common.{◌≡◌, ℕ, zero, suc, ◌+◌, ◌<◌, ◌≤◌, Bool, true, false, cond, min, List, [], ◌∷◌, None, Some, length}
-use proofs.Common.{drop, get_or, refl, sym, ◌∙◌, arith, common_steps, slice_get, option_map_or, drop-drop}
-use proofs.Common.{IsFirstByte, Nowhere, Passes, is_byte, is_byte2, is_blank, ends_word, word_ends, after_fields}
-use proofs.Common.{after_nonblanks, Option, unwrap_or, drop_all}
+use proofs.Common.{drop, get_or, refl, sym, ◌∙◌, arith, common_steps, slice_get, option_map_or, drop-drop, IsFirstByte}
+use proofs.Common.{Nowhere, Passes, is_byte, is_byte2, is_blank, ends_word, word_ends, after_fields, after_nonblanks}
+use proofs.Common.{Option, unwrap_or, drop_all, rules}
 use Rattle.std.specs.Prelude.{◌==◌}
-use Rattle.std.proofs.Common.{rules}
 
 -- the rest of these bytes after n more field ends
 abbrev pub suffix_at : ℕ → List ℕ → List ℕ

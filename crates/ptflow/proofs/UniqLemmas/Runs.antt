@@ -10,15 +10,13 @@ use proofs.Common.{Option, length, take, drop, subst, append_assoc, length-appen
 use proofs.Common.{length-drop, take_at, drop_at, IsFirstByte, is_byte, Output, PushEffect, unlines, complete_lines}
 use proofs.Common.{IsLine, push_nothing, unlines_push, complete_lines_none, has_output, RunsWritten, RunsFailed}
 use proofs.Common.{span_of, IsSpan, IsPending, sym, ◌∙◌, swap, is_some, known_lines, Slots, line, line_if_not_found}
-use proofs.Common.{uniq_tool, IsLineFilter, first_line, current_run_of, count_of, Result}
+use proofs.Common.{uniq_tool, IsLineFilter, first_line, current_run_of, count_of, rules}
 use proofs.Passes.Prefix.{wrote_then}
 use proofs.Passes.Lines.{split_of, ended_next}
 use Rattle.ptlines.proofs.Consume.{length_range}
 use Rattle.ptflow.specs.Private.Uniq.BlockRuns.{EndRunPre, IsLineSpan, first_of}
 use Rattle.ptflow.specs.Private.Uniq.RunsFrom.{count_prefix, run_text}
 use Rattle.ptflow.specs.declared.tools.uniq.block_runs.Span.{Span}
-use Rattle.std.proofs.Common.{rules}
-use Rattle.ptlines.specs.Outputs.{PushPost}
 use Rattle.ptflow.specs.declared.tools.uniq.CurrentRun.{CurrentRun}
 
 some_lines : (n : ℕ) → nat_lt 0 (n + 1) ≡ true

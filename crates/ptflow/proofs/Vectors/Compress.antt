@@ -1,7 +1,7 @@
 -- Compression. A row has the indices of the set flags of a mask, in order; a shuffle by it moves the selected lanes to
--- the front, and a mask of 16 flags is handled as two of eight. Then the bytes that a filter keeps. Each byte is kept or
--- removed by itself and the byte that it is compared with, so a text can be processed in pieces, one after another; a
--- piece is kept whole if all bits of its mask are set.
+-- the front, and a mask of 16 flags is handled as two of eight. Then the bytes that a filter keeps. Each byte is kept
+-- or removed by itself and the byte that it is compared with, so a text can be processed in pieces, one after another;
+-- a piece is kept whole if all bits of its mask are set.
 use Rattle.ptflow.proofs
 use proofs.Common.{common_steps, ◌≡◌, ℕ, zero, suc, ◌+◌, ◌*◌, ◌^◌, ◌/◌, ◌%◌, ◌<◌, ◌≤◌, Bool, true, false, cond, List}
 use proofs.Common.{[], ◌∷◌, ◌++◌, map, length, take, drop, set, get_or, length-drop, drop-cons, append_assoc, add-one}

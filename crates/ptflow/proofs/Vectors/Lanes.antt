@@ -14,11 +14,10 @@ use proofs.Common.{◌≢◌, ⊎_elim, get_or-drop, ◌-◌, bit_or, bit_and, c
 use proofs.Common.{SwzOk-from_below, map-map, and_mask, lt-ltb, le-ltb, cases_eq, cases_lt, nat_tests, pow_pos}
 use proofs.Common.{length-map, set-get_or, get_or-set_same, table_has, set_has, IsSetOf, All, not, length-set}
 use proofs.Common.{get_or-chunk, get_or-map, chunk, ext_get_or, get_or-set_other, get_or_default, get_or_past, inl, inr}
-use proofs.Common.{◌⊎◌, min}
+use proofs.Common.{◌⊎◌, min, rules}
 use Rattle.std.specs.Prelude.{is_some}
 use Rattle.ptflow.specs.declared.simd.shift.ShiftRange.{ShiftRange}
 use Rattle.ptlangs.specs.declared.tr.shifts.Stretch.{Stretch}
-use Rattle.std.proofs.Common.{rules}
 use Rattle.std.proofs.lemmas.Nat.Bits.{and_pow, bit_at-lt, bit_at_set_same, bit_at_set_other}
 use Rattle.std.specs.Int.Bits.{or_zero_r}
 use Rattle.ptflow.specs.declared.simd.byte_set.ByteSet.{ByteSet}

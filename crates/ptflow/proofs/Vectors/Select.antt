@@ -3,8 +3,8 @@
 use Rattle.ptflow.proofs
 use proofs.Common.{common_steps, ◌≡◌, ⊎_elim, ℕ, zero, suc, ◌+◌, ◌-◌, ◌<◌, ◌≤◌, Bool, true, false, cond, ◌&&◌, ◌||◌}
 use proofs.Common.{List, [], ◌∷◌, ◌++◌, length, take, drop, get_or, min, append-nil, refl, sym, ap, arith, nat_le}
-use proofs.Common.{false≢true, nat_tests, drop_all, take-take, drop_more, length-take-le, is_selected}
-use proofs.Common.{AreSeparated, Interval, select_from, cases_lt}
+use proofs.Common.{false≢true, nat_tests, drop_all, take-take, drop_more, length-take-le, is_selected, AreSeparated}
+use proofs.Common.{Interval, select_from, cases_lt}
 use lib.Seq.{take-nil}
 
 -- the position is in the interval

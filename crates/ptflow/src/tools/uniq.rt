@@ -129,7 +129,7 @@ impl<'a> LineFilter for LineUniq<'a> {
         }
         let last = write_runs(self, run.count, first_line(run, store), block, out)?;
         set_current_run(run, last, block);
-        Ok(last.passed)
+        Ok(last.len)
     }
 
     fn finish<A: Allocator + Copy, W: Sink>(

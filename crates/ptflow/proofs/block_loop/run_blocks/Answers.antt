@@ -1,13 +1,12 @@
 -- Each iteration processes one block, and the contract of `process_block` preserves the invariant. Each exit is a lemma
 -- of `Exits` or `BlockLoop`. The budget decreases, since a block that is not empty is consumed.
 use Rattle.ptflow.proofs
-use proofs.Common.{◌≡◌, [], refl, arith, reads_nothing, common_steps}
+use proofs.Common.{◌≡◌, [], refl, arith, reads_nothing, common_steps, rules}
 use proofs.Passes.BlockLoop.{BlockLoopState, blocks_start, block_sent, block_taken, counted_more, block_read, ending}
 use proofs.Passes.Exits.{by_write, nothing_more, pass_write, pass_done, pass_unended}
 use Rattle.ptflow.proofs.block_loop.run_blocks.Given as given
 use Rattle.ptflow.proofs.block_loop.run_blocks.Goals as goal
 use Rattle.ptflow.proofs.block_loop.run_blocks.Goals.{In_ok-write_out_before_blocking}
-use Rattle.std.proofs.Common.{rules}
 
 -- the buffered output was written
 abbrev written_out : (g : given.Over) (c : In_ok-write_out_before_blocking g)

@@ -114,7 +114,7 @@ fn end_run<W: Sink>(
 pub(crate) struct LastRun {
     pub count: u64,
     pub line: Option<Span>,
-    pub passed: usize,
+    pub len: usize,
 }
 
 // Pushes the output of the runs of the lines that end in the block, except for the last run. Before the block the
@@ -136,7 +136,7 @@ pub(crate) fn write_runs<W: Sink>(
         (complete_lines (uniq_job by.now.job.now).terminator block.now) out.old out.new) }
     ensures span { IfOk result
         (λ last. IfSome last.line (λ line. (line.from < line.to) × (line.to ≤ length block.now))) }
-    ensures passed { IfOk result (λ last. IsLinesLength (uniq_job by.now.job.now).terminator block.now last.passed) }
+    ensures passed { IfOk result (λ last. IsLinesLength (uniq_job by.now.job.now).terminator block.now last.len) }
 {
     let LineUniq { job, terminator } = *by;
     let size = block.len();
@@ -160,9 +160,6 @@ pub(crate) fn write_runs<W: Sink>(
         }
     }
     out.push(&block[pending.from..pending.to])?;
-    Ok(LastRun {
-        count,
-        line,
-        passed: size - rest.len(),
-    })
+    let len = size - rest.len();
+    Ok(LastRun { count, line, len })
 }

@@ -1,12 +1,13 @@
--- On an output that has failed nothing is done. `cut` by fields is a line tool, and `cut` by bytes a block tool: at line
--- offset 0 the output for the rest is that for a text, and the pushed bytes include the output that is decided. Setting
--- the terminator does not change the input, so the contract of each loop carries over.
+-- On an output that has failed nothing is done. `cut` by fields is a line tool, and `cut` by bytes a block tool: at
+-- line offset 0 the output for the rest is that for a text, and the pushed bytes include the output that is decided.
+-- Setting the terminator does not change the input, so the contract of each loop carries over.
 use Rattle.ptflow.proofs
-use proofs.Common.{Bool, true, false, ◌≡◌, ◌++◌, refl, sym, ◌∙◌, ap, cond, cut_job, cut_tool, cut_list_from, Reader, terminator}
+use proofs.Common.{Bool, true, false, ◌≡◌, ◌++◌, refl, sym, ◌∙◌, ap, cond, cut_job, cut_tool, cut_list_from, Reader}
+use proofs.Common.{terminator}
 use proofs.CutLemmas.CutBytes.{rest_is_cut, rest_is_decided}
 use proofs.CutLemmas.Fields.{cut_line_tool}
 use proofs.Passes.Exits.{pass_unchanged, pass_set, ready_set}
-use Rattle.ptflow.proofs.tools.cut.cut.Goals as goal
+use proofs.tools.cut.cut.Goals as goal
 
 ends : (zero : Bool) → cond zero 0 10 ≡ terminator zero
 ends true = refl

@@ -4,7 +4,7 @@ use Rattle.ptflow.proofs
 use proofs.Common.{◌++◌, None, refl, sym, ◌∙◌, ap, no_store, tr_tool, tr_from}
 use proofs.Passes.Exits.{pass_unchanged, never_memory}
 use proofs.TrLemmas.TrFrom.{rest_decided}
-use Rattle.ptflow.proofs.tools.tr.tr.Goals as goal
+use proofs.tools.tr.tr.Goals as goal
 
 pub returns-then-has_failed-clause-pass : goal.returns-then-has_failed-clause-pass
 returns-then-has_failed-clause-pass g c =

@@ -5,7 +5,7 @@ use proofs.Common.{range_with_len, mask_l, pick_l, length-take-le, take-map, pic
 use Rattle.std.specs.Prelude.{bit_and}
 use Rattle.std.proofs.lemmas.List.{take-append-drop}
 use proofs.Vectors.Compress.{low_half, high_half, select_by_halves}
-use Rattle.ptflow.proofs.simd.compress.CompressTable.compress16.Goals as goal
+use proofs.simd.compress.CompressTable.compress16.Goals as goal
 
 pub returns-clause-packed : goal.returns-clause-packed
 returns-clause-packed c flags long masked =

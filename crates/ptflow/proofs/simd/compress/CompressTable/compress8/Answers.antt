@@ -4,7 +4,7 @@ use proofs.Common.{◌∙◌, [], refl, sym, subst, slice_index_or, arith, w8, s
 use proofs.Common.{IsCompressRow}
 use Rattle.std.specs.Prelude.{count_ones}
 use proofs.Vectors.Compress.{flags_of, row_lanes, row_of_mask, row_selects, selected_stored}
-use Rattle.ptflow.proofs.simd.compress.CompressTable.compress8.Goals as goal
+use proofs.simd.compress.CompressTable.compress8.Goals as goal
 
 pub swizzle : goal.swizzle
 swizzle c =

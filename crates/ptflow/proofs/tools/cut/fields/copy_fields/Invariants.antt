@@ -1,7 +1,7 @@
 -- The copied bytes, and then the output that is left, are the selected fields of the line.
-use Rattle.ptflow.proofs.Common.{◌≡◌, ◌+◌, ◌≤◌, ◌++◌, length, take, cut_job, cut_fields, IsFieldCursor}
-use Rattle.ptflow.proofs.Common.{output_from_cursor}
-use Rattle.ptflow.proofs.tools.cut.fields.copy_fields.Given as goal
+use Rattle.ptflow.proofs
+use proofs.Common.{◌≡◌, ◌+◌, ◌≤◌, ◌++◌, length, take, cut_job, cut_fields, IsFieldCursor, output_from_cursor}
+use proofs.tools.cut.fields.copy_fields.Given as goal
 
 abbrev pub invariant-slices : goal.invariant-slices
 invariant-slices g l =

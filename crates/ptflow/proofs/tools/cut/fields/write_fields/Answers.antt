@@ -14,7 +14,8 @@ slices-init g c =
     let of = c.new-cursor.ensures in
     let kept = ap is_selected (of.left ∙ c.intervals.ensures.kept) in
     let all : take (length line) line ≡ line = take_all (length line) line (omega arith) in record {
-      front = prefix_starts (rw all (selected_remaining c.new-cursor.result of.passed (cut_job c.args.job.now) line c.requires kept));
+      front = prefix_starts (rw all
+          (selected_remaining c.new-cursor.result of.passed (cut_job c.args.job.now) line c.requires kept));
       cursor = cursor_starts c.new-cursor.result of.passed _ _ of.at (rw of.left c.intervals.ensures.separated);
       clean = λ clean. clean;
     }

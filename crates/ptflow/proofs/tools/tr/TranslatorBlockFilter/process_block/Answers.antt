@@ -3,7 +3,7 @@
 use Rattle.ptflow.proofs
 use proofs.Passes.Prefix.{on_err}
 use proofs.TrLemmas.TrFrom.{passes_make, block_on, block_begins}
-use Rattle.ptflow.proofs.tools.tr.TranslatorBlockFilter.process_block.Goals as goal
+use proofs.tools.tr.TranslatorBlockFilter.process_block.Goals as goal
 use Rattle.std.proofs.Common.{rules}
 
 pub returns-in_err-push-clause-halts : goal.returns-in_err-push-clause-halts

@@ -7,7 +7,7 @@ use Rattle.ptflow.specs.Private.Uniq.RunsFrom.{count_prefix}
 use Rattle.ptflow.specs.Private.Uniq.BlockRuns.{first_of}
 use proofs.Passes.Prefix.{on_err}
 use proofs.UniqLemmas.Runs.{due_is, pending_joined, current_run_is}
-use Rattle.ptflow.proofs.tools.uniq.block_runs.end_run.Goals as goal
+use proofs.tools.uniq.block_runs.end_run.Goals as goal
 use Rattle.ptlangs.specs.contracts.jobs.Show.{the_type}
 use Rattle.ptlangs.specs.declared.jobs.Show.{Show}
 use Rattle.ptlangs.specs.declared.jobs.Show.TheVariants.{All, Counts, Repeated, Single}

@@ -1,10 +1,9 @@
 -- The output of a run is pushed in two parts, and a failed push leaves a prefix of the whole.
 use Rattle.ptflow.proofs
-use proofs.Common.{◌≡◌, ◌∙◌, sym, true, false, push_past_failure, has_output, uniq_job, run_of}
+use proofs.Common.{◌≡◌, ◌∙◌, sym, true, false, push_past_failure, has_output, uniq_job, run_of, rules}
 use proofs.Passes.Prefix.{push_failed, push_then, returned_err}
 use proofs.UniqLemmas.Runs.{current_run_is}
-use Rattle.ptflow.proofs.tools.uniq.block_runs.write_run.Goals as goal
-use Rattle.std.proofs.Common.{rules}
+use proofs.tools.uniq.block_runs.write_run.Goals as goal
 
 pub returns-then-not-has_output : goal.returns-then-not-has_output
 returns-then-not-has_output g c =

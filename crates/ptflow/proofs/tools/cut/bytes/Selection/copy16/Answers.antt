@@ -1,8 +1,9 @@
 -- A shuffle moves the selected bytes of a piece to the front, and they are stored after those of the pieces before.
-use Rattle.ptflow.proofs.Common.{◌*◌, refl, arith, w8, SwzOk-from_below, is_selected}
+use Rattle.ptflow.proofs
+use proofs.Common.{◌*◌, refl, arith, w8, SwzOk-from_below, is_selected}
 use Rattle.ptflow.specs.Private.Cut.ShortLines.{piece_at}
-use Rattle.ptflow.proofs.CutLemmas.ShortLines.{piece_copied, shuffle_few, shuffle_lanes}
-use Rattle.ptflow.proofs.tools.cut.bytes.Selection.copy16.Goals as goal
+use proofs.CutLemmas.ShortLines.{piece_copied, shuffle_few, shuffle_lanes}
+use proofs.tools.cut.bytes.Selection.copy16.Goals as goal
 
 pub swizzle : goal.swizzle
 swizzle c =

@@ -4,11 +4,10 @@ use Rattle.ptflow.proofs
 use proofs.Common.{◌≡◌, ◌<◌, ◌+◌, ◌*◌, ◌++◌, ◌∙◌, false, take, drop, ap, arith, sym, append-nil, take_rest, false≢true}
 use proofs.Common.{selected_bytes, select_from, is_selected, lt-ltb}
 use proofs.CutLemmas.ShortLines.{line_ended}
-use Rattle.ptflow.proofs.tools.cut.bytes.Selection.copy_line.Goals as goal
-use Rattle.ptflow.proofs.tools.cut.bytes.Selection.copy_line.Goals.{then-line-gt0, else-line-gt0+then-not-is_short}
-use Rattle.ptflow.proofs.tools.cut.bytes.Selection.copy_line.Goals.{else-line-gt0+else-not-is_short, then-count-self}
-use Rattle.ptflow.proofs.tools.cut.bytes.Selection.copy_line.Goals.{else-count-self+then-is_short}
-use Rattle.ptflow.proofs.tools.cut.bytes.Selection.copy_line.Goals.{else-count-self+else-is_short}
+use proofs.tools.cut.bytes.Selection.copy_line
+use copy_line.Goals as goal
+use copy_line.Goals.{then-line-gt0, else-line-gt0+then-not-is_short, else-line-gt0+else-not-is_short, then-count-self}
+use copy_line.Goals.{else-count-self+then-is_short, else-count-self+else-is_short}
 
 pub returns-clause-copied : goal.returns-clause-copied
 returns-clause-copied c =
@@ -26,17 +25,21 @@ returns-clause-copied c =
       | else-line-gt0+else-not-is_short w ↦ omega arith
     ] in
     ap (λ n. select_from (is_selected list) (n + 1) bytes) (sym zero) in
-    let copied : take c.if-count-self.end c.if-count-self.into ≡ was ++ selected = elim c.if-count-self.branch [
-      | then-count-self w ↦ (λ i. take (w.end-is i) (w.into-is i)) ∙ w.copy_selected-end.ensures.copied
-      | else-count-self+then-is_short w ↦ (λ i. take (w.end-is i) (w.into-is i))
-          ∙ (rw (take_rest, one) at (w.copy16.ensures.copied was (sym (append-nil was))))
-          ∙ ap (◌++◌ was) (begins w.if-count-self.false)
-      | else-count-self+else-is_short w ↦ (λ i. take (w.end-is i) (w.into-is i))
-          ∙ (rw take_rest at w.copy_pieces.ensures.copied) ∙ ap (◌++◌ was) (begins w.if-count-self.false)
-    ] in
-    let near : c.if-count-self.end < 8208 = elim c.if-count-self.branch [
-      | then-count-self w ↦ omega arith
-      | else-count-self+then-is_short w ↦ omega arith
-      | else-count-self+else-is_short w ↦ omega arith
+    let end = c.if-count-self.end in
+    let (near, copied) : (end < 8208) × (take end c.if-count-self.into ≡ was ++ selected)
+    = elim c.if-count-self.branch [
+      | then-count-self w ↦
+          (omega arith, (λ i. take (w.end-is i) (w.into-is i)) ∙ w.copy_selected-end.ensures.copied)
+      | else-count-self+then-is_short w ↦ (
+        omega arith,
+        (λ i. take (w.end-is i) (w.into-is i))
+            ∙ (rw (take_rest, one) at (w.copy16.ensures.copied was (sym (append-nil was))))
+            ∙ ap (◌++◌ was) (begins w.if-count-self.false),
+      )
+      | else-count-self+else-is_short w ↦ (
+        omega arith,
+        (λ i. take (w.end-is i) (w.into-is i))
+            ∙ (rw take_rest at w.copy_pieces.ensures.copied) ∙ ap (◌++◌ was) (begins w.if-count-self.false),
+      )
     ] in
     line_ended _ _ selected was _ (omega (arith, near)) copied

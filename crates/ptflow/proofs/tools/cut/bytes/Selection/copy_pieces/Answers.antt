@@ -1,7 +1,8 @@
 -- A piece that is not full is the last one; no byte after the last piece is selected.
-use Rattle.ptflow.proofs.Common.{◌++◌, ◌∙◌, ap, arith, take, is_selected}
-use Rattle.ptflow.proofs.CutLemmas.ShortLines.{none_later}
-use Rattle.ptflow.proofs.tools.cut.bytes.Selection.copy_pieces.Goals as goal
+use Rattle.ptflow.proofs
+use proofs.Common.{◌++◌, ◌∙◌, ap, arith, take, is_selected}
+use proofs.CutLemmas.ShortLines.{none_later}
+use proofs.tools.cut.bytes.Selection.copy_pieces.Goals as goal
 
 pub returns-clause-copied : goal.returns-clause-copied
 returns-clause-copied c =

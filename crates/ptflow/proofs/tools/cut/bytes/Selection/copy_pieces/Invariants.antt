@@ -1,6 +1,7 @@
 -- The selected bytes of the pieces so far were copied.
-use Rattle.ptflow.proofs.Common.{◌≡◌, ◌≤◌, ◌+◌, ◌*◌, ◌++◌, take, select_from, is_selected}
-use Rattle.ptflow.proofs.tools.cut.bytes.Selection.copy_pieces.Given as goal
+use Rattle.ptflow.proofs
+use proofs.Common.{◌≡◌, ◌≤◌, ◌+◌, ◌*◌, ◌++◌, take, select_from, is_selected}
+use proofs.tools.cut.bytes.Selection.copy_pieces.Given as goal
 
 abbrev pub invariant-loop-index : goal.invariant-loop-index
 invariant-loop-index l = record {

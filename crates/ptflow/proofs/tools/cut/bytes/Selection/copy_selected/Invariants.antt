@@ -1,8 +1,9 @@
 -- The selected bytes so far were copied, and the intervals that are left select among the bytes after them
 -- (`CopyInvariant`).
+use Rattle.ptflow.proofs
 use Rattle.std.proofs.Common.{take, drop}
-use Rattle.ptflow.proofs.Vectors.Select.{CopyInvariant}
-use Rattle.ptflow.proofs.tools.cut.bytes.Selection.copy_selected.Given as goal
+use proofs.Vectors.Select.{CopyInvariant}
+use proofs.tools.cut.bytes.Selection.copy_selected.Given as goal
 
 abbrev pub invariant-loop-interval : goal.invariant-loop-interval
 invariant-loop-interval l =

@@ -1,7 +1,8 @@
 -- A chunk without a terminator is skipped, and the line continues.
-use Rattle.ptflow.proofs.Common.{[], ap, arith, ◌∙◌, count_ones, chunk, ones-mask_l, is_byte}
-use Rattle.ptflow.proofs.Vectors.FindNth.{count_chunk}
-use Rattle.ptflow.proofs.tools.cut.bytes.Selection.cut_block.Goals as goal
+use Rattle.ptflow.proofs
+use proofs.Common.{[], ap, arith, ◌∙◌, count_ones, chunk, ones-mask_l, is_byte}
+use proofs.Vectors.FindNth.{count_chunk}
+use proofs.tools.cut.bytes.Selection.cut_block.Goals as goal
 
 pub loop-from-preserved-then-mask-eq0 : goal.loop-from-preserved-then-mask-eq0
 loop-from-preserved-then-mask-eq0 c =

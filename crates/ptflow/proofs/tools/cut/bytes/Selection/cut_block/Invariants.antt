@@ -1,6 +1,7 @@
 -- The output is that of the block up to the start of a line, and no terminator is between that start and this chunk.
-use Rattle.ptflow.proofs.Common.{◌-◌, ◌≤◌, length, take, drop, IsCutPart, IsSameLine}
-use Rattle.ptflow.proofs.tools.cut.bytes.Selection.cut_block.Given as goal
+use Rattle.ptflow.proofs
+use proofs.Common.{◌-◌, ◌≤◌, length, take, drop, IsCutPart, IsSameLine}
+use proofs.tools.cut.bytes.Selection.cut_block.Given as goal
 
 abbrev pub invariant-loop-from : goal.invariant-loop-from
 invariant-loop-from l = record {

@@ -42,8 +42,8 @@ loop-end-preserved c =
     let e = next (goal.at.loop-end-preserved c).In-loop-end in
     let turn : suc l._end ≡ l._end + 1 = omega arith in
     record {
-      bits = rw (← turn) (cleared l._end (map (is_byte c.args.self.now.terminator) (chunk c.args.from 64 c.args.block.now))
-          l.auto.mask-fits.fits l.invariant.bits);
+      bits = rw (← turn) (cleared l._end (map (is_byte c.args.self.now.terminator)
+          (chunk c.args.from 64 c.args.block.now)) l.auto.mask-fits.fits l.invariant.bits);
       within = omega arith;
       ends = e.counted;
       on = line_cut _ l.invariant.on e.first c.copy_line.ensures.copied (omega arith) refl (omega arith);

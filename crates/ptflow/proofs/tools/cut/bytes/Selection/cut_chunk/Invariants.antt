@@ -1,8 +1,9 @@
--- The set bits are the terminators that are left. The output is that of the lines before the current one, which after the
--- first iteration is in this chunk.
-use Rattle.ptflow.proofs.Common.{◌≡◌, ◌+◌, ◌<◌, ◌≤◌, map, take, count_by, mask_l, chunk, is_byte, CutPost}
-use Rattle.ptflow.proofs.Vectors.FindNth.{without}
-use Rattle.ptflow.proofs.tools.cut.bytes.Selection.cut_chunk.Given as goal
+-- The set bits are the terminators that are left. The output is that of the lines before the current one, which after
+-- the first iteration is in this chunk.
+use Rattle.ptflow.proofs
+use proofs.Common.{◌≡◌, ◌+◌, ◌<◌, ◌≤◌, map, take, count_by, mask_l, chunk, is_byte, CutPost}
+use proofs.Vectors.FindNth.{without}
+use proofs.tools.cut.bytes.Selection.cut_chunk.Given as goal
 
 abbrev pub invariant-loop-end : goal.invariant-loop-end
 invariant-loop-end l = record {

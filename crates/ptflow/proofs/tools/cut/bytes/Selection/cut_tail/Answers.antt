@@ -1,11 +1,11 @@
 -- Each iteration cuts the line up to the next terminator. The bytes after the last one are a piece of an unfinished
 -- line.
 use Rattle.ptflow.proofs
-use proofs.Common.{◌≡◌, ◌+◌, ◌-◌, ◌<◌, [], length, take, drop, refl, arith, length-drop, take_all, take_rest, is_selected}
-use proofs.Common.{line_if_not_found, select_from}
+use proofs.Common.{◌≡◌, ◌+◌, ◌-◌, ◌<◌, [], length, take, drop, refl, arith, length-drop, take_all, take_rest}
+use proofs.Common.{is_selected, line_if_not_found, select_from}
 use proofs.CutLemmas.CutBytes.{line_cut, rest_piece, cut_next}
 use proofs.CutLemmas.ShortLines.{line_ended}
-use Rattle.ptflow.proofs.tools.cut.bytes.Selection.cut_tail.Goals as goal
+use proofs.tools.cut.bytes.Selection.cut_tail.Goals as goal
 
 pub lines-preserved : goal.lines-preserved
 lines-preserved c =

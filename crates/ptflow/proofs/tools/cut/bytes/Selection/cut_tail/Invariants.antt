@@ -1,6 +1,7 @@
 -- The output is that of the lines so far.
-use Rattle.ptflow.proofs.Common.{◌-◌, ◌≤◌, length, take, CutPost}
-use Rattle.ptflow.proofs.tools.cut.bytes.Selection.cut_tail.Given as goal
+use Rattle.ptflow.proofs
+use proofs.Common.{◌-◌, ◌≤◌, length, take, CutPost}
+use proofs.tools.cut.bytes.Selection.cut_tail.Given as goal
 
 abbrev pub invariant-lines : goal.invariant-lines
 invariant-lines l = record {

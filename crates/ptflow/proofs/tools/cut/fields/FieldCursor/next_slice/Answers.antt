@@ -1,11 +1,12 @@
 -- An interval takes two steps: to the start of its first field, and to the end of its last one. The bytes between are
 -- the slice, with a delimiter before it if it is not the first.
 use Rattle.ptflow.proofs
-use proofs.Common.{◌≡◌, ◌∙◌, refl, sym, arith, length, take, length-take-le, take_rest, common_steps, eqb-true, eqb-false}
+use proofs.Common.{◌≡◌, ◌∙◌, refl, sym, arith, length, take, length-take-le, take_rest, common_steps, eqb-true}
+use proofs.Common.{eqb-false}
 use proofs.CutLemmas.Fields.{no_interval, no_field, ends_before, next_slice}
-use Rattle.ptflow.proofs.tools.cut.fields.FieldCursor.next_slice.Goals as goal
-use Rattle.ptflow.proofs.tools.cut.fields.FieldCursor.next_slice.Goals.{then-is_empty-via-then-is_empty}
-use Rattle.ptflow.proofs.tools.cut.fields.FieldCursor.next_slice.Goals.{then-is_empty-via-else-is_empty+then-self-to}
+use proofs.tools.cut.fields.FieldCursor.next_slice.Goals as goal
+use proofs.tools.cut.fields.FieldCursor.next_slice.Goals.{then-is_empty-via-then-is_empty}
+use proofs.tools.cut.fields.FieldCursor.next_slice.Goals.{then-is_empty-via-else-is_empty+then-self-to}
 
 pub returns-then-is_empty : goal.returns-then-is_empty
 returns-then-is_empty c =
