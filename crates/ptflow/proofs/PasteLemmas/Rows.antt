@@ -6,18 +6,18 @@
 -- The slots hold all bytes of the store, so the total is at most the sum of the columns' bounds.
 use Rattle.ptflow.proofs
 use proofs.Common.{Bool, Err, List, None, Ok, [], ap, arith, cond, drop, false, get_or, get_or-drop, get_or-take, inl}
-use proofs.Common.{length, length-append, length-drop, map, refl, set, subst, suc, sym, take, take-append-drop, true}
-use proofs.Common.{zero, ℕ, ⊎_elim, ◌*◌, ◌++◌, ◌+◌, ◌<◌, ◌==◌, ◌||◌, ◌∙◌, ◌∷◌, ◌≡◌, ◌≢◌, ◌≤◌, ◌⊎◌, cases_eq, eq-eqb}
-use proofs.Common.{ne_eqb, nat_tests, common_steps, append-nil, drop-set-lt, drop_all, ext_get_or, get_or-set_other}
-use proofs.Common.{get_or-set_same, get_or_append_left, get_or_at, get_or_default, get_or_past, get_or_push, length-set}
-use proofs.Common.{length-take-le, take-append-le, take-take, take_all, get_or-le-sum_by, sum_by-append, sum_by-cons}
-use proofs.Common.{sum_by-set, sum_by, top, advance_trans, lines_of_unlines, unlines-append, FillReadErr}
-use proofs.Common.{FillPost, FillLine, AdvanceOk, IsDone, IsSound, Reader, ReaderAdvance, budget, no_reader, reader_at}
-use proofs.Common.{Slots, line, total_bytes, with_line, AddedSlots, AreLines, max_length, unlines, columns}
-use proofs.Common.{join_with_cycle, rows, uses_of, SetTerminatorsPost, FillCellPost, SlotsBound, SlotsKept}
-use proofs.Common.{RowAmid, RowFailed, RowFilled, RowShape, BegunText, CellsFilled, CellsTaken, after_cell, cells_text}
-use proofs.Common.{slots_text, AreReceivedLines, LinesTaken, BufferedRowsPre, AreFirstRows, RowsTaken, CopyColumnsPost}
-use proofs.Common.{CopyRowsPost, FlowFault, Memory, Read, Write}
+use proofs.Common.{inr, length, length-append, length-drop, map, refl, set, subst, suc, sym, take, take-append-drop}
+use proofs.Common.{true, zero, ℕ, ⊎_elim, ◌*◌, ◌++◌, ◌+◌, ◌<◌, ◌==◌, ◌||◌, ◌∙◌, ◌∷◌, ◌≡◌, ◌≢◌, ◌≤◌, ◌⊎◌, cases_eq}
+use proofs.Common.{eq-eqb, ne_eqb, nat_tests, common_steps, append-nil, drop-set-lt, drop_all, ext_get_or}
+use proofs.Common.{get_or-set_other, get_or-set_same, get_or_append_left, get_or_at, get_or_default, get_or_past}
+use proofs.Common.{get_or_push, length-set, length-take-le, take-append-le, take-take, take_all, get_or-le-sum_by}
+use proofs.Common.{sum_by-append, sum_by-cons, sum_by-set, sum_by, top, advance_trans, lines_of_unlines}
+use proofs.Common.{unlines-append, FillReadErr, FillPost, FillLine, AdvanceOk, IsDone, IsSound, Reader, ReaderAdvance}
+use proofs.Common.{budget, no_reader, reader_at, Slots, line, total_bytes, with_line, AddedSlots, AreLines, max_length}
+use proofs.Common.{unlines, columns, join_with_cycle, rows, uses_of, SetTerminatorsPost, FillCellPost}
+use proofs.Common.{SlotsBound, SlotsKept, RowAmid, RowFailed, RowFilled, RowShape, BegunText, CellsFilled, CellsTaken}
+use proofs.Common.{after_cell, cells_text, slots_text, AreReceivedLines, LinesTaken, BufferedRowsPre, AreFirstRows}
+use proofs.Common.{RowsTaken, CopyColumnsPost, CopyRowsPost, FlowFault, Memory, Read, Write}
 use proofs.Passes.LinesRead.{lines_none, lines_are_given, lines_more}
 use proofs.Passes.Readers.{eof_gives_nothing, stays_at_eof}
 use Rattle.std.specs.Prelude.{slice_index_or}
@@ -76,23 +76,24 @@ taken_more {end} {a} {b} {c} {k} {m} {n} {xs} {ys} all p q = record {
   enough = grind (arith, p.enough, q.enough, none_at_eof, stays_at_eof, length-append);
 }
 
--- One line was requested: a line was taken, or none.
-pub taken_one : {end : ℕ} {b c : Reader} {bytes : List ℕ} {ls : List (List ℕ)} → AdvanceOk b c bytes → b.fault ≡ None
-    → IsSound c → AreReceivedLines end c bytes ls
-    → (length ls ≡ 1) ⊎ (IsDone c × (length ls ≤ 1)) → LinesTaken end b c 1 ls
-taken_one = grind arith
+-- Lines were requested: so many were taken, or fewer at the end of the input.
+pub taken_by : {end n : ℕ} {b c : Reader} {bytes : List ℕ} {ls : List (List ℕ)} → AdvanceOk b c bytes → b.fault ≡ None
+    → IsSound c → AreReceivedLines end c bytes ls → (length ls ≡ n) ⊎ (IsDone c × (length ls ≤ n)) → (n ≡ 0 → c ≡ b)
+    → LinesTaken end b c n ls
+taken_by = grind arith
 
 -- A line was read into a slot.
 pub taken_line : {end : ℕ} {b c : Reader} {before after : Slots} {slot : ℕ} (e : FillLine b c before after slot)
     → b.terminator ≡ end → b.fault ≡ None → IsSound c
     → LinesTaken end b c 1 (e.line ∷ [])
-taken_line {end} {b} {c} {before} {after} {slot} e same clean sound = taken_one e.advance_ok clean sound
-    (lines_more end b [] [] (lines_none end b) c before after slot e same) (inl refl)
+taken_line {end} {b} {c} {before} {after} {slot} e same clean sound = taken_by e.advance_ok clean sound
+    (lines_more end b [] [] (lines_none end b) c before after slot e same) (inl refl) (λ none. cc)
 
 -- No line was left.
 pub taken_eof : {end : ℕ} {b c : Reader} → AdvanceOk b c [] → IsDone c → b.fault ≡ None → IsSound c
     → LinesTaken end b c 1 []
-taken_eof = grind (arith, taken_one, lines_none)
+taken_eof advance_ok done clean sound =
+    taken_by advance_ok clean sound (lines_none _ _) (inr (done, omega arith)) (λ none. cc)
 
 -- ---- the text of a row, column by column
 
