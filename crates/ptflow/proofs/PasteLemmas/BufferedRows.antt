@@ -52,7 +52,8 @@ taken_buffered {end} {b} {r} at clean sound first step =
     }) (inl refl) (λ none. cc)
 
 -- The field was copied from a buffer.
-field_in_buffer : (end : ℕ) {b r : Reader} (before after : List ℕ) (has : Bool) → b.fault ≡ None → IsSound b → IsFieldCopied end b r before after has
+field_in_buffer : (end : ℕ) {b r : Reader} (before after : List ℕ) (has : Bool) → b.fault ≡ None → IsSound b
+    → IsFieldCopied end b r before after has
     → (field : List ℕ) × (after ≡ before ++ field) × FieldTaken end b r field has × IsConsumed b r
 field_in_buffer end {b} {r} before after true clean sound p =
     let (found, here) = p.found in

@@ -1,6 +1,6 @@
 -- Lines that were taken from a reader, and rows whose lines were taken. They compose: if lines or rows are taken and
--- then more, the concatenation is taken. A row is filled column by column: a field comes from the slot of its column, or
--- from the buffer of its reader. The text of the first fields was copied, and the slots hold the others. Each step
+-- then more, the concatenation is taken. A row is filled column by column: a field comes from the slot of its column,
+-- or from the buffer of its reader. The text of the first fields was copied, and the slots hold the others. Each step
 -- changes one reader, so the lines of the columns before it stay as they are. One filled row is a row that was taken,
 -- since each column takes one line. Its fields, each with the byte after it, are the joined fields and the terminator.
 -- The slots hold all bytes of the store, so the total is at most the sum of the columns' bounds.
@@ -397,34 +397,37 @@ cell_of cells input_lines c = slice_index_or (input_lines (get_or cells c 0)) (u
     (get_or cells c 0)) []
 
 module _ {row : RowShape} {n : ℕ} {old now : List Reader} {fields : List (List ℕ)} {input_lines : ℕ → List (List ℕ)}
-    (t : CellsTaken row n old now fields input_lines)
-    (low : n < length row.cells) (within : get_or row.cells n 0 < length now) {r : Reader} {ls : List (List ℕ)} {field : List ℕ}
+    (t : CellsTaken row n old now fields input_lines) (low : n < length row.cells)
+    (within : get_or row.cells n 0 < length now) {r : Reader} {ls : List (List ℕ)} {field : List ℕ}
     (lines_taken : LinesTaken row.terminator (reader_at now (get_or row.cells n 0)) r 1 ls)
-    (there : field ≡ slice_index_or (input_lines (get_or row.cells n 0) ++ ls) (uses_of (take n row.cells) (get_or row.cells n 0))
-    []) where
+    (there : field ≡ slice_index_or (input_lines (get_or row.cells n 0) ++ ls)
+    (uses_of (take n row.cells) (get_or row.cells n 0)) []) where
+  abbrev cells : List ℕ
+  cells = row.cells
+
   abbrev input : ℕ
-  input = get_or row.cells n 0
+  input = get_or cells n 0
 
   lines_taken_next : (q : ℕ) → LinesTaken row.terminator (reader_at old q) (reader_at (set now input r) q)
-      (uses_of (take (n + 1) row.cells) q) (lines_at input ls input_lines q)
+      (uses_of (take (n + 1) cells) q) (lines_at input ls input_lines q)
   lines_taken_next = each_reader (λ q x. LinesTaken row.terminator (reader_at old q) x
-      (uses_of (take (n + 1) row.cells) q) (lines_at input ls input_lines q)) now within
+      (uses_of (take (n + 1) cells) q) (lines_at input ls input_lines q)) now within
       (rw (lines_at_here input ls input_lines input refl)
-      (taken_more (uses_here row.cells n input low refl) (t.lines_taken input) lines_taken))
-      (λ q differ. rw (lines_at_other input ls input_lines q differ, uses_other row.cells n q low (λ e. differ (sym e)))
+      (taken_more (uses_here cells n input low refl) (t.lines_taken input) lines_taken))
+      (λ q differ. rw (lines_at_other input ls input_lines q differ, uses_other cells n q low (λ e. differ (sym e)))
       (t.lines_taken q))
 
   -- The line of a column before this one does not change.
-  earlier_cell : (c : ℕ) → c < n → cell_of row.cells (lines_at input ls input_lines) c ≡ cell_of row.cells input_lines c
+  earlier_cell : (c : ℕ) → c < n → cell_of cells (lines_at input ls input_lines) c ≡ cell_of cells input_lines c
   earlier_cell c less = ⊎_elim
       (λ all. ⊎_elim
       (λ same.
-      let front : take (c + 1) (take n row.cells) ≡ take (c + 1) row.cells = take-take (c + 1) n row.cells (omega arith) in
+      let front : take (c + 1) (take n cells) ≡ take (c + 1) cells = take-take (c + 1) n cells (omega arith) in
       let under : j < length (input_lines p) =
       omega (
         arith,
-        uses_here row.cells c p (omega arith) refl,
-        uses_before (take n row.cells) (c + 1) p,
+        uses_here cells c p (omega arith) refl,
+        uses_before (take n cells) (c + 1) p,
         ap (λ (l : List ℕ). uses_of l p) front,
       ) in
       cc (lines_at_here input ls input_lines p same, get_or_append_left (input_lines p) ls [] j under))
@@ -437,10 +440,10 @@ module _ {row : RowShape} {n : ℕ} {old now : List Reader} {fields : List (List
       (t.lines_taken p).enough
     where
       p : ℕ
-      p = get_or row.cells c 0
+      p = get_or cells c 0
 
       j : ℕ
-      j = uses_of (take c row.cells) p
+      j = uses_of (take c cells) p
 
   cells_taken_more : CellsTaken row (n + 1) old (set now input r) (fields ++ field ∷ [])
       (lines_at input ls input_lines)
@@ -545,14 +548,15 @@ module _ {row : RowShape} where
   -- All fields were copied from the buffers, and then the row was moved.
   pub amid_starts : {old : List Reader} {copied : List ℕ} {begun moved : BegunText} {store : Slots}
       (p : CopyRowsPost row old copied begun) → moved ≡ begun → RowAmid row moved.count p.mid store moved store
-  amid_starts {begun = begun} {store = store} p same = subst (λ m. RowAmid row m.count p.mid store m store) (sym same) (record {
-    fields = p.fields;
-    filled = p.filled;
-    within = omega arith;
-    is = cc (take_all begun.count p.fields (omega (arith, p.filled.consumed.width)));
-    held = λ c over under. absurd (omega arith);
-    slots = slots_kept_start;
-  })
+  amid_starts {begun = begun} {store = store} p same =
+      subst (λ m. RowAmid row m.count p.mid store m store) (sym same) (record {
+        fields = p.fields;
+        filled = p.filled;
+        within = omega arith;
+        is = cc (take_all begun.count p.fields (omega (arith, p.filled.consumed.width)));
+        held = λ c over under. absurd (omega arith);
+        slots = slots_kept_start;
+      })
 
   module _ {n : ℕ} {from : List Reader} {first store : Slots} {now : BegunText} (a : RowAmid row n from first now store)
       {b : Reader} (x : IsNextReader row now.readers n b) where

@@ -1,9 +1,9 @@
 -- Each iteration takes the rows that are complete in the buffers, and finishes the next row; then the invariant holds
 -- again. If that row has no line, all readers are at the end of their inputs.
 use Rattle.ptflow.proofs
-use proofs.Common.{true, false, ◌≡◌, ◌≤◌, sym, ap, subst, arith, length, take, Bool, paste_job, job_shape, PushEffect, RowShape}
-use proofs.Common.{RowAmid, CellsFilled, begun_in, shape_of, ◌++◌, Write, Output, slots_text, cells_text, length-take-le}
-use proofs.Common.{call_on_failed_output, List, Reader, Slots, push_nothing}
+use proofs.Common.{true, false, ◌≡◌, ◌≤◌, sym, ap, subst, arith, length, take, Bool, paste_job, job_shape, PushEffect}
+use proofs.Common.{RowShape, RowAmid, CellsFilled, begun_in, shape_of, ◌++◌, Write, Output, slots_text, cells_text}
+use proofs.Common.{length-take-le, call_on_failed_output, List, Reader, Slots, push_nothing}
 use Rattle.std.proofs.lemmas.Bool.{not-false, not-true}
 use proofs.PasteLemmas.Call.{by_fault, of_rows, row_job, paste_without_slots, paste_rows_write_failed, paste_done}
 use proofs.PasteLemmas.Call.{paste_shared_write_failed, paste_fill_failed, paste_row_write_failed, PasteInvariant}
