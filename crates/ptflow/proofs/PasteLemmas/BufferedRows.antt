@@ -20,7 +20,7 @@ use Rattle.ptlines.proofs.CopyFacts.{copied_prefix}
 use Rattle.std.proofs.Math.Seq.{take-append-add}
 use borrow.Rule.Slice.PartMut.{mid_of, put_mid}
 use Rattle.ptflow.specs.Private.Paste.BufferedRows.{LineCopied}
-use proofs.PasteLemmas.Rows.{cells_text-push, rows_taken_trans, row_taken, taken_one, taken_eof, nothing_taken}
+use proofs.PasteLemmas.Rows.{cells_text-push, rows_taken_trans, row_taken, taken_by, taken_eof, nothing_taken}
 use proofs.PasteLemmas.Rows.{rows_taken_none, row_text, IsNextReader, next_reader, each_reader, fill_starts, fill_next}
 use proofs.PasteLemmas.Rows.{FieldTaken}
 use Rattle.std.proofs.Common.{rules}
@@ -41,7 +41,7 @@ taken_buffered : {end : ℕ} {b r : Reader} (at : ℕ) → b.fault ≡ None → 
     → LinesTaken end b r 1 (take at b.buffered ∷ [])
 taken_buffered {end} {b} {r} at clean sound first step =
     let (found, here) = first in
-    taken_one (advance_ok_take b r (at + 1) clean (omega arith) step) clean sound (record {
+    taken_by (advance_ok_take b r (at + 1) clean (omega arith) step) clean sound (record {
       so_far = inl (
         cc (take_with_terminator end b.buffered at first, append-nil (take at b.buffered ++ end ∷ [])),
         (
@@ -49,10 +49,11 @@ taken_buffered {end} {b} {r} at clean sound first step =
           tt,
         ),
       );
-    }) (inl refl)
+    }) (inl refl) (λ none. cc)
 
 -- The field was copied from a buffer.
-field_in_buffer : (end : ℕ) {b r : Reader} (before after : List ℕ) (has : Bool) → b.fault ≡ None → IsSound b → IsFieldCopied end b r before after has
+field_in_buffer : (end : ℕ) {b r : Reader} (before after : List ℕ) (has : Bool) → b.fault ≡ None → IsSound b
+    → IsFieldCopied end b r before after has
     → (field : List ℕ) × (after ≡ before ++ field) × FieldTaken end b r field has × IsConsumed b r
 field_in_buffer end {b} {r} before after true clean sound p =
     let (found, here) = p.found in
@@ -255,15 +256,6 @@ whole_rows_counted end n count bytes last counted =
 are_parts : (end n : ℕ) (ls : List (List ℕ)) → AreLines end ls → AreLines end (take n ls) × AreLines end (drop n ls)
 are_parts = grind (arith, common_steps)
 
--- The lines `ls` in rows of n.
-abbrev pub rows_in : ℕ → ℕ → List (List ℕ) → List (List (List ℕ))
-rows_in n zero ls = []
-rows_in n (suc k) ls = take n ls ∷ rows_in n k (drop n ls)
-
-length-rows : (n k : ℕ) (ls : List (List ℕ)) → length (rows_in n k ls) ≡ k
-length-rows n zero ls = refl
-length-rows n (suc k) ls = ap suc (length-rows n k (drop n ls))
-
 module _ {row : RowShape} {cycle : Cycle} (t : IsSharedCycle row cycle) where
   abbrev n : ℕ
   n = length row.cells
@@ -290,31 +282,6 @@ module _ {row : RowShape} {cycle : Cycle} (t : IsSharedCycle row cycle) where
         append_assoc line (after_cell row c) (cells_text row (c + 1) ls),
       )
 
-  -- All rows from row k on.
-  rows_replaced : (k more : ℕ) (ls : List (List ℕ)) → AreLines row.terminator ls → length ls ≡ more * n
-      → all_replaced (k * n) (unlines row.terminator ls)
-      ≡ unlines row.terminator (map (join_with_cycle row.delims 0) (rows_in n more ls))
-  rows_replaced k zero [] are_lines long = refl
-  rows_replaced k zero (line ∷ ls) are_lines long = absurd (omega arith)
-  rows_replaced k (suc more) ls are_lines long =
-      let end = row.terminator in
-      let first = take n ls in
-      let rest = drop n ls in
-      let (whole_first, whole_rest) = are_parts end n ls are_lines in
-      let first_long = length-take-le n ls (omega arith) in
-      let start : k * n ≡ k * n + 0 = omega arith in
-      let next : k * n + count_by (is_byte end) (unlines end first) ≡ (k + 1) * n =
-      omega (arith, ends_of_lines end first whole_first) in
-      let more_long : length rest ≡ more * n = omega (arith, length-drop n ls) in
-      cc (
-        take-append-drop n ls,
-        unlines-append end first rest,
-        replaced-append end (cycle_byte cycle) (k * n) (unlines end first) (unlines end rest),
-        row_replaced k 0 first whole_first (omega arith),
-        row_text row 0 first (omega arith) (omega arith),
-        rows_replaced (k + 1) more rest whole_rest more_long,
-      )
-
 -- ---- the grid of one input
 
 -- `ls` for this input, and no lines for all others.
@@ -334,23 +301,55 @@ module _ (cells : List ℕ) (input : ℕ) (same : (c : ℕ) → c < length cells
   uses_none : (q : ℕ) → q ≢ input → uses_of cells q ≡ 0
   uses_none q differ = grind (arith, last_use cells q, same)
 
-  -- k * n lines are k rows.
-  rows_are : (some : 0 < length cells) (k : ℕ) (ls : Column) → length ls ≡ k * length cells
-      → rows (columns cells (lines_of_input input ls)) ≡ rows_in (length cells) k ls
-  rows_are some zero ls long = grid_none cells (lines_of_input input ls) (λ q used.
-      let none : ls ≡ [] = nil_from_length ls (omega arith) in grind (arith, nat_tests))
-  rows_are some (suc k) ls long =
+  -- The first n lines are the first row.
+  first_row : (some : 0 < length cells) (ls : Column) → length cells ≤ length ls
+      → rows (columns cells (lines_of_input input ls))
+      ≡ take (length cells) ls ∷ rows (columns cells (lines_of_input input (drop (length cells) ls)))
+  first_row some ls long =
       let n = length cells in
       let ins = lines_of_input input ls in
       let here = update_here input ls (λ q. []) in
       cc (
         grid_step cells ins 0 some (omega (arith, ap length (here (get_or cells 0 0) (same 0 some)))),
-        for_each_cell_unique (top_of cells ins) cells (take n ls) [] (length-take-le n ls (omega arith))
+        for_each_cell_unique (top_of cells ins) cells (take n ls) [] (length-take-le n ls long)
             (λ c low. rw (same c low) (rw (here input refl, uses_before_column c (omega arith))
             (get_or-take n ls c [] low))),
         columns_same cells (after_row cells ins) (lines_of_input input (drop n ls))
             (λ q used. grind (arith, nat_tests, cases_eq q input, uses_all, uses_none q)),
-        rows_are some k (drop n ls) (omega (arith, length-drop n ls)),
+      )
+
+module _ {row : RowShape} {cycle : Cycle} (t : IsSharedCycle row cycle) where
+  abbrev rows_of : Column → List (List (List ℕ))
+  rows_of ls = rows (columns row.cells (lines_of_input (get_or row.cells 0 0) ls))
+
+  -- The text of the rows from row k on.
+  rows_replaced : (k more : ℕ) (ls : Column) → AreLines row.terminator ls → length ls ≡ more * length row.cells
+      → (length (rows_of ls) ≡ more) × (with_replacements row.terminator (cycle_byte cycle) (k * length row.cells)
+      (unlines row.terminator ls) ≡ unlines row.terminator (map (join_with_cycle row.delims 0) (rows_of ls)))
+  rows_replaced k zero [] are_lines long =
+      let none = grid_none row.cells (lines_of_input (get_or row.cells 0 0) []) (λ q used. grind (arith, nat_tests)) in
+      (cc, cc)
+  rows_replaced k zero (line ∷ ls) are_lines long = absurd (omega arith)
+  rows_replaced k (suc more) ls are_lines long =
+      let end = row.terminator in
+      let n = length row.cells in
+      let first = take n ls in
+      let rest = drop n ls in
+      let (whole_first, whole_rest) = are_parts end n ls are_lines in
+      let first_long = length-take-le n ls (omega arith) in
+      let start : k * n ≡ k * n + 0 = omega arith in
+      let next : k * n + count_by (is_byte end) (unlines end first) ≡ (k + 1) * n =
+      omega (arith, ends_of_lines end first whole_first) in
+      let step = first_row row.cells (get_or row.cells 0 0) (λ c low. t.same c 0 low) t.some ls (omega arith) in
+      let (count, text) = rows_replaced (k + 1) more rest whole_rest (omega (arith, length-drop n ls)) in (
+        omega (arith, ap length step),
+        cc (
+          take-append-drop n ls,
+          unlines-append end first rest,
+          replaced-append end (cycle_byte cycle) (k * n) (unlines end first) (unlines end rest),
+          row_replaced t k 0 first whole_first (omega arith),
+          row_text row 0 first (omega arith) (omega (arith, t.some)),
+        ),
       )
 
 -- ---- the complete rows in the buffer
@@ -370,41 +369,32 @@ module _ {row : RowShape} {cycle : Cycle} (t : IsSharedCycle row cycle) {old : L
   same c low = t.same c 0 low
 
   lines_taken_here : LinesTaken end b r (rs.count * length row.cells) rs.ls
-  lines_taken_here = rw step (record {
-    bytes = take count b.buffered;
-    reads = (advance_ok_take b _ count x.clean within refl).reads;
-    failed = refl;
-    fault = refl;
-    short = λ h. h;
-    buffered = λ h. omega (arith, length-drop count b.buffered);
-    none = λ none. absurd (omega (
-      arith,
-      length-take-le count b.buffered within,
-      ap length rs.is,
-      ap (λ l. length (unlines end l)) (nil_from_length rs.ls (rs.long ∙ none)),
-    ));
-    came = record { so_far = inl (rs.is, rs.are_lines) };
-    enough = inl rs.long;
-  })
+  lines_taken_here = taken_by (advance_ok_take b r count x.clean within step) x.clean
+      (sound_after_consume sound (record { size = count; is = step })) (record { so_far = inl (rs.is, rs.are_lines) })
+      (inl rs.long) (λ none. absurd (omega (
+        arith,
+        length-take-le count b.buffered within,
+        ap length rs.is,
+        ap (λ l. length (unlines end l)) (nil_from_length rs.ls (rs.long ∙ none)),
+      )))
 
   rows_of_input : RowsTaken row old (set old shared r)
       (with_replacements end (cycle_byte cycle) 0 (take count b.buffered))
   rows_of_input = record {
-    taken_rows = rows_in (length row.cells) rs.count rs.ls;
+    taken_rows = rows_of t rs.ls;
     ls = lines_of_input shared rs.ls;
     first_rows = record {
       lines_taken = each_reader (λ q x. LinesTaken end (reader_at old q) x
-          (length (rows_in (length row.cells) rs.count rs.ls) * uses_of row.cells q) (lines_of_input shared rs.ls q)) old
-          x.within
+          (length (rows_of t rs.ls) * uses_of row.cells q) (lines_of_input shared rs.ls q)) old x.within
           (rw (
             update_here shared rs.ls (λ q. []) shared refl,
-            length-rows (length row.cells) rs.count rs.ls,
+            (rows_replaced t 0 rs.count rs.ls rs.are_lines rs.long).0,
             uses_all row.cells shared same,
             ← x.is_read,
           ) lines_taken_here)
           (λ q differ. rw (update_there shared rs.ls (λ q. []) q differ, uses_none row.cells shared same q differ)
           (nothing_taken (omega arith)));
-      are = rows_are row.cells shared same t.some rs.count rs.ls rs.long;
+      are = refl;
       count = length-set old shared r;
     };
     least = omega (
@@ -417,7 +407,7 @@ module _ {row : RowShape} {cycle : Cycle} (t : IsSharedCycle row cycle) {old : L
     is =
         let start : 0 ≡ 0 * length row.cells = omega arith in
         (λ i. with_replacements end (cycle_byte cycle) (start i) (rs.is i))
-        ∙ rows_replaced t 0 rs.count rs.ls rs.are_lines rs.long;
+        ∙ (rows_replaced t 0 rs.count rs.ls rs.are_lines rs.long).1;
   }
 
   -- The rows in the buffer, by the bytes that were copied and pushed.

@@ -255,6 +255,10 @@ module _ {job : Paste} {cells : List ℕ} {old set now : List Reader} {was is : 
   abbrev shape : RowShape
   shape = job_shape job cells
 
+  -- The call ended so.
+  abbrev pub Ends : List Reader → Output → Slots → Result (Unit {0}) FlowFault → Type 0
+  Ends new is' after result = PastePost job cells old new was is' first after result
+
   -- The lines that were taken from each reader so far.
   abbrev so_far : (p : ℕ) → LinesTaken job.terminator (reader_at set p) (reader_at now p)
       (length s.taken_rows * uses_of cells p) (s.ls p)
@@ -441,7 +445,7 @@ module _ {job : Paste} {cells : List ℕ} {old set now : List Reader} {was is : 
       exit : (result : Result (Unit {0}) FlowFault)
           → CallOutcome (inputs_at cells) (paste_engine job cells) begin end given pushed (paste_end result)
           → DecidedIfReadFailed (inputs_at cells) (paste_engine job cells) begin end bytes pushed (paste_end result)
-          → PastePost job cells old new was is' first after result
+          → Ends new is' after result
       exit result ends decided =
           since_set s.starts (call_ends _ _ _ _ _ progress (paste_end result) ends decided)
 
@@ -449,7 +453,7 @@ module _ {job : Paste} {cells : List ℕ} {old set now : List Reader} {was is : 
     write_exit : {is' : Output} → PushEffect is is' (rows_text job more) → is'.write_failed ≡ true → {after : Slots}
         → Bound after → ((p : ℕ) → 0 < uses_of cells p → Cut p)
         → ((p : ℕ) → (reader_at new p).failed ≡ (reader_at q.last p).failed)
-        → PastePost job cells old new was is' first after (Err Write)
+        → Ends new is' after (Err Write)
     write_exit wrote fault bound cut same = exit wrote (inl refl) bound cut (Err Write) (record {
       write_failed = fault;
       unfailed = λ p named. same p ∙ failed_last p;
@@ -461,7 +465,7 @@ module _ {job : Paste} {cells : List ℕ} {old set now : List Reader} {was is : 
       → (n : ℕ) {taken : ℕ → Column}
       → ((p : ℕ) → LinesTaken job.terminator (reader_at mid p) (reader_at new p) (uses_of (take n cells) p) (taken p))
       → AreConsumed now new → {is' : Output} → PushEffect is is' copied → is'.write_failed ≡ true
-      → PastePost job cells old new was is' first store (Err Write)
+      → Ends new is' store (Err Write)
   taken_write_failed rows n {taken} b consumed wrote fault =
       let q = whole_columns n b in
       write_exit rows.first_rows q (rw rows.is at wrote) fault
@@ -472,14 +476,14 @@ module _ {job : Paste} {cells : List ℕ} {old set now : List Reader} {was is : 
   -- A write of the rows of one input failed.
   pub paste_shared_write_failed : {new : List Reader} {is' : Output}
       → RowsWritten shape now new is is' → is'.write_failed ≡ true
-      → PastePost job cells old new was is' first store (Err Write)
+      → Ends new is' store (Err Write)
   paste_shared_write_failed p fault =
       taken_write_failed p.rows 0 (λ q. nothing_taken refl) p.consumed p.wrote fault
 
   -- A write of rows of several inputs failed.
   pub paste_rows_write_failed : {copied : List ℕ} {begun : BegunText} {is' : Output}
       → CopyRowsPost shape now copied begun → PushEffect is is' copied → is'.write_failed ≡ true
-      → PastePost job cells old begun.readers was is' first store (Err Write)
+      → Ends begun.readers is' store (Err Write)
   paste_rows_write_failed {begun = begun} p wrote fault =
       taken_write_failed p.rows begun.count p.filled.consumed.lines_taken p.consumed wrote fault
 
@@ -505,7 +509,7 @@ module _ {job : Paste} {cells : List ℕ} {old set now : List Reader} {was is : 
         invariant_more = invariant_after row_taken (row_kept (omega arith) f.consumed) row_wrote
 
         pub paste_row_write_failed : is'.write_failed ≡ true
-            → PastePost job cells old new was is' first after (Err Write)
+            → Ends new is' after (Err Write)
         paste_row_write_failed fault =
             let q = whole_columns 0 (λ (p : ℕ). nothing_taken {end = job.terminator} {r = reader_at new p} refl) in
             write_exit row_taken q row_wrote fault (λ top high. row_kept (omega arith) f.consumed top
@@ -530,7 +534,7 @@ module _ {job : Paste} {cells : List ℕ} {old set now : List Reader} {was is : 
             grind (arith, f.none refl p, (at_end.lines_taken p).enough)
 
         pub paste_done : {is' : Output} {cleared : Slots} → ClearSlotsPost cells after cleared → PushEffect is is' []
-            → is'.write_failed ≡ false → PastePost job cells old new was is' first cleared (Ok tt)
+            → is'.write_failed ≡ false → Ends new is' cleared (Ok tt)
         paste_done {cleared = cleared} e wrote clean =
             let bound : Bound no_more at_end cleared =
             λ top high. e.kept first top
@@ -583,8 +587,9 @@ module _ {job : Paste} {cells : List ℕ} {old set now : List Reader} {was is : 
   -- A row could not be filled: the reader of a column gave only a part of a line.
   module _ {CellFailed : Reader → Reader → Slots → Slots → ℕ → Type 0} {new : List Reader} {after : Slots}
       (b : RowFailed CellFailed shape now new store after) (piece : List ℕ)
-      (piece_reads : ReaderAdvance (reader_at b.begun.readers (get_or cells b.column 0)) (reader_at new (get_or cells b.column 0))
-      piece) (free : IsLine (reader_at b.begun.readers (get_or cells b.column 0)).terminator piece) where
+      (piece_reads : ReaderAdvance (reader_at b.begun.readers (get_or cells b.column 0))
+      (reader_at new (get_or cells b.column 0)) piece)
+      (free : IsLine (reader_at b.begun.readers (get_or cells b.column 0)).terminator piece) where
     abbrev here : ℕ
     here = get_or cells b.column 0
 
@@ -595,23 +600,18 @@ module _ {job : Paste} {cells : List ℕ} {old set now : List Reader} {was is : 
     abbrev part_to : ℕ → List ℕ
     part_to p = cond (p == here) piece []
 
-    taken_to : (p : ℕ)
-        → LinesTaken job.terminator (reader_at now p) (reader_at b.begun.readers p) (uses_of (take b.column cells) p)
-        (b.amid.filled.input_lines p)
-    taken_to = b.amid.filled.consumed.lines_taken
-
     reads_to : (p : ℕ) → ReaderAdvance (reader_at b.begun.readers p) (reader_at new p) (part_to p)
     reads_to p = grind (arith, nat_tests, b.others, reads_nothing)
 
     is_line_to : (p : ℕ) → IsLine job.terminator (part_to p)
-    is_line_to p = grind (arith, nat_tests, taken_to, now_readable, here_used)
+    is_line_to p = grind (arith, nat_tests, b.amid.filled.consumed, now_readable, here_used)
 
     abbrev row_to : RowPart job cells now new
     row_to = record {
       n = b.column;
       last = b.begun.readers;
       taken = b.amid.filled.input_lines;
-      lines_taken = taken_to;
+      lines_taken = b.amid.filled.consumed.lines_taken;
       part = part_to;
       reads = reads_to;
       is_line = is_line_to;
@@ -636,7 +636,7 @@ module _ {job : Paste} {cells : List ℕ} {old set now : List Reader} {was is : 
       arith,
       length-append (s.ls here) (b.amid.filled.input_lines here),
       taken_at_most (so_far here),
-      taken_at_most (taken_to here),
+      taken_at_most (row_to.lines_taken here),
       uses_before_lt cells b.column b.within,
     ))
 
@@ -644,22 +644,24 @@ module _ {job : Paste} {cells : List ℕ} {old set now : List Reader} {was is : 
     cut_to p some = ⊎_elim
         (λ same. rw same cut_here)
         (λ differ. cut_line no_more row_to p some
-        (rw (b.others p differ) ((taken_to p).buffered (now_buffered p some))) (rw (ne_eqb p here differ) refl)
+        (rw (b.others p differ) ((row_to.lines_taken p).buffered (now_buffered p some)))
+        (rw (ne_eqb p here differ) refl)
         (omega (arith, uses_before cells b.column p)))
         (cases_eq p here)
 
     -- The buffered output could not be written.
     paste_send_failed : {is' : Output} → PushEffect is is' [] → is'.write_failed ≡ true → after ≡ b.buffered
         → (reader_at new here).failed ≡ (reader_at b.begun.readers here).failed
-        → PastePost job cells old new was is' first after (Err Write)
+        → Ends new is' after (Err Write)
     paste_send_failed wrote fault stored same =
         rw stored (write_exit no_more row_to wrote fault bound_to cut_to (failed_to same))
 
     -- A growth of a slot failed. That reader has bytes left.
     paste_memory_failed : {is' : Output} → PushEffect is is' [] → is'.write_failed ≡ false
         → after ≡ with_denied (with_line b.buffered b.column piece)
-        → (reader_at new here).failed ≡ (reader_at b.begun.readers here).failed → 0 < length (reader_at new here).buffered
-        → PastePost job cells old new was is' first after (Err Memory)
+        → (reader_at new here).failed ≡ (reader_at b.begun.readers here).failed
+        → 0 < length (reader_at new here).buffered
+        → Ends new is' after (Err Memory)
     paste_memory_failed wrote clean stored same left =
         exit no_more row_to wrote (inr stored) bound_with_piece cut_to (Err Memory) (record {
           denied = cc stored;
@@ -674,8 +676,9 @@ module _ {job : Paste} {cells : List ℕ} {old set now : List Reader} {was is : 
 
     -- The read failed.
     paste_read_failed : {is' : Output} → PushEffect is is' [] → is'.write_failed ≡ false
-        → after ≡ with_line b.buffered b.column piece → HasReadCause (reader_at b.begun.readers here) (reader_at new here)
-        → PastePost job cells old new was is' first after (Err (Read here))
+        → after ≡ with_line b.buffered b.column piece
+        → HasReadCause (reader_at b.begun.readers here) (reader_at new here)
+        → Ends new is' after (Err (Read here))
     paste_read_failed wrote clean stored cause =
         exit no_more row_to wrote (inl stored) bound_with_piece cut_to (Err (Read here)) (record {
           named = used_is_in cells here here_used;
@@ -701,7 +704,7 @@ module _ {job : Paste} {cells : List ℕ} {old set now : List Reader} {was is : 
   pub paste_fill_failed : (new : List Reader) {after : Slots} (into : List ℕ) {is' : Output} (e : FlowFault)
       → RowFilled shape now store new after into (Err e) → PushEffect is is' []
       → (fault : is'.write_failed ≡ is_write_fault {X = Unit {0}} (Err e))
-      → PastePost job cells old new was is' first after (Err e)
+      → Ends new is' after (Err e)
   paste_fill_failed new into (Read input) (f, named) wrote clean =
       let k = f.failure in
       rw named (paste_read_failed f k.piece k.faults.reads k.faults.whole wrote clean k.stored k.cause)

@@ -3,14 +3,14 @@
 -- So, by induction over the number of rows, the rows of inputs that are split after the same row are those of the first
 -- parts and then those of the second ones.
 use Rattle.ptflow.proofs
-use proofs.Common.{◌≡◌, ◌≢◌, ◌⊎◌, ⊎_elim, inr, ℕ, zero, suc, ◌+◌, ◌-◌, ◌*◌, ◌%◌, ◌<◌, ◌≤◌, ◌==◌, Bool, true, false}
-use proofs.Common.{cond, List, [], ◌∷◌, ◌++◌, Option, length, take, drop, get_or, map, max, refl, sym, ◌∙◌, ap, arith}
-use proofs.Common.{length-append, length-drop, fold, enumerate_from, range_with_len, cases_lt, eq-eqb, ne_eqb, le-ltb}
-use proofs.Common.{nat_tests, add-mod_left, mod-eq_of_lt, get_or_past, ext_get_or, get_or-map}
-use proofs.Common.{length-enumerate_from, get_or-enumerate_from, sum_by-cons, count_by_more_yes, count_by_more_no}
-use proofs.Common.{sum_by-take-le, get_or_after_one, map-map, unlines, unlines-append, select_from, update_at}
-use proofs.Common.{join_with_cycle, every_kth, uses_of, columns, row_count, row_at, rows, is_row_known, inl, append-nil}
-use proofs.Common.{nil_from_length, lines, the_lines_of_parts, IsRowSplit, PasteOfParts}
+use proofs.Common.{Bool, List, Option, [], ap, arith, cond, drop, false, get_or, inl, inr, length, length-append}
+use proofs.Common.{length-drop, map, max, refl, suc, sym, take, true, zero, ℕ, ⊎_elim, ◌%◌, ◌*◌, ◌++◌, ◌+◌, ◌-◌, ◌<◌}
+use proofs.Common.{◌==◌, ◌∙◌, ◌∷◌, ◌≡◌, ◌≢◌, ◌≤◌, ◌⊎◌, add-mod_left, mod-eq_of_lt, cases_lt, eq-eqb, le-ltb, ne_eqb}
+use proofs.Common.{nat_tests, get_or_after_one, append-nil, ext_get_or, get_or-map, get_or_past, nil_from_length}
+use proofs.Common.{get_or-enumerate_from, length-enumerate_from, count_by_more_no, count_by_more_yes, sum_by-cons}
+use proofs.Common.{sum_by-take-le, map-map, enumerate_from, range_with_len, fold, the_lines_of_parts}
+use proofs.Common.{unlines-append, lines, unlines, select_from, cut, IsRowSplit, PasteOfParts, update_at, columns}
+use proofs.Common.{every_kth, join_with_cycle, row_count, is_row_known, row_at, rows, uses_of}
 use Rattle.std.specs.Prelude.{slice_index_or}
 use Rattle.std.proofs.lemmas.Grind.{common_steps}
 
@@ -127,9 +127,6 @@ row_count_none (col ∷ cols) none =
     let empty : max 0 (length col) ≡ 0 = omega (arith, ap length (none 0 (omega arith))) in
     cc (row_count_none cols (λ c low. none (suc c) (omega arith)))
 
-pub rows_none : (cols : List Column) → ((c : ℕ) → c < length cols → get_or cols c [] ≡ []) → rows cols ≡ []
-rows_none cols none = ap (λ (n : ℕ). map (row_at cols) (range_with_len 0 n)) (row_count_none cols none)
-
 -- ---- columns and their inputs
 
 -- A value for each column, by its index and the index of its input.
@@ -243,10 +240,11 @@ module _ (cells : List ℕ) where
       (λ d within. every_kth_rest (uses_before_lt d within) (ins (get_or cells d 0)))) i))
 
   pub grid_none : (ins : ℕ → Column) → ((p : ℕ) → 0 < uses_of cells p → ins p ≡ []) → rows (columns cells ins) ≡ []
-  grid_none ins none = rows_none (columns cells ins) (λ c low.
+  grid_none ins none = ap (λ n. map (row_at (columns cells ins)) (range_with_len 0 n)) (row_count_none
+      (columns cells ins) (λ c low.
       let within : c < length cells = omega (arith, length-columns ins) in
       let q = get_or cells c 0 in
-      cc (column_at ins c within, none q (omega (arith, uses_before_lt c within))))
+      cc (column_at ins c within, none q (omega (arith, uses_before_lt c within)))))
 
   -- ---- rows after rows
 

@@ -3,13 +3,14 @@
 use Rattle.ptflow.proofs
 use proofs.Common.{Bool, List, [], ap, append_assoc, arith, drop, false, get_or, length, length-append, length-drop}
 use proofs.Common.{map, refl, subst, suc, sym, take, take-append-drop, true, zero, ℕ, ⊎_elim, ◌*◌, ◌++◌, ◌+◌, ◌-◌, ◌<◌}
-use proofs.Common.{◌∙◌, ◌∷◌, ◌≡◌, ◌≤◌, cases_Bool, cases_eq, cases_lt, nat_tests, common_steps, append-nil, get_or-map}
-use proofs.Common.{length-map, length-take-le, take-append-le, take_all, take_more, length-map-range_with_len}
-use proofs.Common.{take-map-range_with_len, map-map, enumerate_from, range_with_len, filter, Paste}
-use proofs.Common.{received_with, complete_lines_cons, complete_lines_of_unlines, unlines_push, IsPrefix, Received}
-use proofs.Common.{known_lines, ProcessLag, Reader, ReaderAdvance, line, AreLines, IsLine, complete_lines, lines}
-use proofs.Common.{unlines, reads_nothing, update_at, columns, every_kth, row_count, is_row_known, known_rows}
-use proofs.Common.{paste_decided, row_at, rows, rows_text, uses_of, AreReceivedLines}
+use proofs.Common.{◌∙◌, ◌∷◌, ◌≡◌, ◌≢◌, ◌≤◌, cases_Bool, cases_eq, cases_lt, nat_tests, common_steps, append-nil}
+use proofs.Common.{drop_more, get_or-map, get_or_append_left, length-map, length-take-le, take_all, take_more}
+use proofs.Common.{get_or-range_with_len, length-map-range_with_len, length-range_with_len, map-map, enumerate_from}
+use proofs.Common.{range_with_len, filter, Paste, received_with, complete_lines_cons}
+use proofs.Common.{complete_lines_of_unlines, unlines_push, IsPrefix, Received, known_lines, ProcessLag, Reader}
+use proofs.Common.{ReaderAdvance, line, AreLines, IsLine, complete_lines, lines, unlines, reads_nothing, update_at}
+use proofs.Common.{columns, every_kth, row_count, is_row_known, known_rows, paste_decided, row_at, rows, rows_text}
+use proofs.Common.{uses_of, AreReceivedLines}
 use Rattle.std.specs.Prelude.{slice_index_or}
 use proofs.CutLemmas.ShortLines.{select_append}
 use proofs.PasteLemmas.Grid.{Column, for_each_cell, for_each_cell_same, column_of, uses_before_lt, column_at}
@@ -149,46 +150,30 @@ earlier_before {now = now} {new} {given} {more} came reads still buffered few = 
 
 -- ---- the rows that are determined come first
 
-none_known : (f : ℕ → Bool) → ((r : ℕ) → f r ≡ false → f (r + 1) ≡ false) → (a h : ℕ) → f a ≡ false
-    → filter f (range_with_len a h) ≡ []
-none_known f down a zero none = refl
-none_known f down a (suc h) none = rw none (none_known f down (a + 1) h (down a none))
+module _ (f : ℕ → Bool) (down : (r : ℕ) → f r ≡ false → f (r + 1) ≡ false) where
+  none_known : (a h : ℕ) → f a ≡ false → filter f (range_with_len a h) ≡ []
+  none_known a zero none = refl
+  none_known a (suc h) none = rw none (none_known (a + 1) h (down a none))
 
-filter_first : (f : ℕ → Bool) → ((r : ℕ) → f r ≡ false → f (r + 1) ≡ false) → (a h : ℕ)
-    → (m : ℕ) × (m ≤ h) × ((n : ℕ) → a ≤ n → f n ≡ false → a + m ≤ n)
-    × (filter f (range_with_len a h) ≡ range_with_len a m)
-filter_first f down a zero = (0, omega arith, (λ n high none. omega arith), refl)
-filter_first f down a (suc h) = ⊎_elim
-    (λ is. let (m, few, past, later) = filter_first f down (a + 1) h in (
-      suc m,
-      omega arith,
-      (λ n high none. ⊎_elim (λ same. cc (ap f same))
-          (λ differ. omega (arith, past n (omega arith) none)) (cases_eq n a)),
-      rw is (ap (λ l. a ∷ l) later),
-    ))
-    (λ is. (0, omega arith, (λ n high none. omega arith), rw is (none_known f down (a + 1) h (down a is))))
-    (cases_Bool (f a))
+  -- The rows from row a on that pass `f`, each of which is the row that was taken, are the next rows that were taken.
+  known_first : (row : ℕ → List (List ℕ)) (taken : List (List (List ℕ))) → f (length taken) ≡ false
+      → ((r : ℕ) → f r ≡ true → r < length taken → row r ≡ get_or taken r []) → (a h : ℕ) → a ≤ length taken
+      → (rest : List (List (List ℕ))) × (drop a taken ≡ map row (filter f (range_with_len a h)) ++ rest)
+  known_first row taken none same a zero low = (drop a taken, refl)
+  known_first row taken none same a (suc h) low = ⊎_elim
+      (λ is.
+      let differ : a ≢ length taken = λ last. cc (ap f last) in
+      let less : a < length taken = omega arith in
+      let (rest, more) = known_first row taken none same (a + 1) h (omega arith) in
+      (rest, rw is (drop_more taken a [] less ∙ (λ i. sym (same a is less) i ∷ more i))))
+      (λ is. (drop a taken, rw is (rw (none_known (a + 1) h (down a is)) refl)))
+      (cases_Bool (f a))
 
 known_down : (cols : List Column) (eof : List Bool) (r : ℕ) → is_row_known cols eof r ≡ false
     → is_row_known cols eof (r + 1) ≡ false
 known_down [] eof r none = cc
 known_down (col ∷ cols) [] r none = cc
 known_down (col ∷ cols) (e ∷ eof) r none = let later = known_down cols eof r in grind (arith, nat_tests)
-
-known_first : (cols : List Column) (eof : List Bool)
-    → (m : ℕ) × (m ≤ row_count cols) × ((n : ℕ) → is_row_known cols eof n ≡ false → m ≤ n)
-    × (known_rows cols eof ≡ map (row_at cols) (range_with_len 0 m))
-known_first cols eof =
-    let (m, few, past, is) = filter_first (is_row_known cols eof) (known_down cols eof) 0 (row_count cols) in
-    (m, few, (λ n none. omega (arith, past n (omega arith) none)), ap (map (row_at cols)) is)
-
--- ---- two grids with the same rows
-
-same_rows : (f g : ℕ → List (List ℕ)) (a m : ℕ) → ((r : ℕ) → r < a + m → f r ≡ g r)
-    → map f (range_with_len a m) ≡ map g (range_with_len a m)
-same_rows f g a zero same = refl
-same_rows f g a (suc m) same = λ i. same a (omega arith) i ∷ same_rows f g (a + 1) m
-    (λ r low. same r (omega arith)) i
 
 -- A column keeps its lines if more follow.
 every_kth_more : (k j r : ℕ) (xs more : Column) → r < length (every_kth k j xs)
@@ -287,29 +272,31 @@ module _ (job : Paste) (cells : List ℕ) (came : ℕ → Received) where
         row_each ins = map-map (λ (col : Column). slice_index_or col r [])
             (λ (c, p). column_of cells ins c p) (enumerate_from 0 cells)
 
-    pub begins_earlier : IsPrefix (paste_decided job cells earlier) (rows_text job taken_rows)
-    begins_earlier =
-        let (m, within, past, known) = known_first (grid earlier) ends in
-        let few = past (length taken_rows) next_unknown in
-        let high : m ≤ row_count (grid came) = omega (
+    taken_at : (r : ℕ) → r < length taken_rows → row_at (grid came) r ≡ get_or taken_rows r []
+    taken_at r less =
+        let n = row_count (grid came) in
+        let low : r < n = omega (
           arith,
           ap length all,
           length-append taken_rows more,
-          length-map-range_with_len (row_at (grid came)) 0 (row_count (grid came)),
+          length-map-range_with_len (row_at (grid came)) 0 n,
         ) in
-        let is : known_rows (grid earlier) ends ≡ take m taken_rows =
+        let start : 0 + r ≡ r = omega arith in
         cc (
-          same_rows (row_at (grid earlier)) (row_at (grid came)) 0 m
-              (λ r low. row_same r (grind (arith, past r, cases_Bool (is_row_known (grid earlier) ends r)))),
-          take-map-range_with_len (row_at (grid came)) 0 (row_count (grid came)) m high,
-          take-append-le m taken_rows more few,
-        ) in
+          get_or-map (row_at (grid came)) (range_with_len 0 n) r 0 [] (omega (arith, length-range_with_len 0 n)),
+          get_or-range_with_len 0 n r 0 low,
+          get_or_append_left taken_rows more [] r less,
+        )
+
+    pub begins_earlier : IsPrefix (paste_decided job cells earlier) (rows_text job taken_rows)
+    begins_earlier =
+        let (rest, is) = known_first (is_row_known (grid earlier) ends) (known_down (grid earlier) ends)
+        (row_at (grid earlier)) taken_rows next_unknown (λ r known less. row_same r known ∙ taken_at r less) 0
+        (row_count (grid earlier)) (omega arith) in
         record {
-          rest = rows_text job (drop m taken_rows);
-          is = cc (
-            take-append-drop m taken_rows,
-            rows_text-append job.terminator job.delimiters (take m taken_rows) (drop m taken_rows),
-          );
+          rest = rows_text job rest;
+          is = ap (rows_text job) is
+              ∙ rows_text-append job.terminator job.delimiters (known_rows (grid earlier) ends) rest;
         }
 
     pub lags_here : LagsAt job cells came (rows_text job taken_rows) here

@@ -1,23 +1,23 @@
 -- Lines that were taken from a reader, and rows whose lines were taken. They compose: if lines or rows are taken and
--- then more, the concatenation is taken. A row is filled column by column: a field comes from the slot of its column, or
--- from the buffer of its reader. The text of the first fields was copied, and the slots hold the others. Each step
+-- then more, the concatenation is taken. A row is filled column by column: a field comes from the slot of its column,
+-- or from the buffer of its reader. The text of the first fields was copied, and the slots hold the others. Each step
 -- changes one reader, so the lines of the columns before it stay as they are. One filled row is a row that was taken,
 -- since each column takes one line. Its fields, each with the byte after it, are the joined fields and the terminator.
 -- The slots hold all bytes of the store, so the total is at most the sum of the columns' bounds.
 use Rattle.ptflow.proofs
 use proofs.Common.{Bool, Err, List, None, Ok, [], ap, arith, cond, drop, false, get_or, get_or-drop, get_or-take, inl}
-use proofs.Common.{length, length-append, length-drop, map, refl, set, subst, suc, sym, take, take-append-drop, true}
-use proofs.Common.{zero, ℕ, ⊎_elim, ◌*◌, ◌++◌, ◌+◌, ◌<◌, ◌==◌, ◌||◌, ◌∙◌, ◌∷◌, ◌≡◌, ◌≢◌, ◌≤◌, ◌⊎◌, cases_eq, eq-eqb}
-use proofs.Common.{ne_eqb, nat_tests, common_steps, append-nil, drop-set-lt, drop_all, ext_get_or, get_or-set_other}
-use proofs.Common.{get_or-set_same, get_or_append_left, get_or_at, get_or_default, get_or_past, get_or_push, length-set}
-use proofs.Common.{length-take-le, take-append-le, take-take, take_all, get_or-le-sum_by, sum_by-append, sum_by-cons}
-use proofs.Common.{sum_by-set, sum_by, top, advance_trans, lines_of_unlines, unlines-append, FillReadErr}
-use proofs.Common.{FillPost, FillLine, AdvanceOk, IsDone, IsSound, Reader, ReaderAdvance, budget, no_reader, reader_at}
-use proofs.Common.{Slots, line, total_bytes, with_line, AddedSlots, AreLines, max_length, unlines, columns}
-use proofs.Common.{join_with_cycle, rows, uses_of, SetTerminatorsPost, FillCellPost, SlotsBound, SlotsKept}
-use proofs.Common.{RowAmid, RowFailed, RowFilled, RowShape, BegunText, CellsFilled, CellsTaken, after_cell, cells_text}
-use proofs.Common.{slots_text, AreReceivedLines, LinesTaken, BufferedRowsPre, AreFirstRows, RowsTaken, CopyColumnsPost}
-use proofs.Common.{CopyRowsPost, FlowFault, Memory, Read, Write}
+use proofs.Common.{inr, length, length-append, length-drop, map, refl, set, subst, suc, sym, take, take-append-drop}
+use proofs.Common.{true, zero, ℕ, ⊎_elim, ◌*◌, ◌++◌, ◌+◌, ◌<◌, ◌==◌, ◌||◌, ◌∙◌, ◌∷◌, ◌≡◌, ◌≢◌, ◌≤◌, ◌⊎◌, cases_eq}
+use proofs.Common.{eq-eqb, ne_eqb, nat_tests, common_steps, append-nil, drop-set-lt, drop_all, ext_get_or}
+use proofs.Common.{get_or-set_other, get_or-set_same, get_or_append_left, get_or_at, get_or_default, get_or_past}
+use proofs.Common.{get_or_push, length-set, length-take-le, take-append-le, take-take, take_all, get_or-le-sum_by}
+use proofs.Common.{sum_by-append, sum_by-cons, sum_by-set, sum_by, top, advance_trans, lines_of_unlines}
+use proofs.Common.{unlines-append, FillReadErr, FillPost, FillLine, AdvanceOk, IsDone, IsSound, Reader, ReaderAdvance}
+use proofs.Common.{budget, no_reader, reader_at, Slots, line, total_bytes, with_line, AddedSlots, AreLines, max_length}
+use proofs.Common.{unlines, columns, join_with_cycle, rows, uses_of, SetTerminatorsPost, FillCellPost}
+use proofs.Common.{SlotsBound, SlotsKept, RowAmid, RowFailed, RowFilled, RowShape, BegunText, CellsFilled, CellsTaken}
+use proofs.Common.{after_cell, cells_text, slots_text, AreReceivedLines, LinesTaken, BufferedRowsPre, AreFirstRows}
+use proofs.Common.{RowsTaken, CopyColumnsPost, CopyRowsPost, FlowFault, Memory, Read, Write}
 use proofs.Passes.LinesRead.{lines_none, lines_are_given, lines_more}
 use proofs.Passes.Readers.{eof_gives_nothing, stays_at_eof}
 use Rattle.std.specs.Prelude.{slice_index_or}
@@ -76,23 +76,24 @@ taken_more {end} {a} {b} {c} {k} {m} {n} {xs} {ys} all p q = record {
   enough = grind (arith, p.enough, q.enough, none_at_eof, stays_at_eof, length-append);
 }
 
--- One line was requested: a line was taken, or none.
-pub taken_one : {end : ℕ} {b c : Reader} {bytes : List ℕ} {ls : List (List ℕ)} → AdvanceOk b c bytes → b.fault ≡ None
-    → IsSound c → AreReceivedLines end c bytes ls
-    → (length ls ≡ 1) ⊎ (IsDone c × (length ls ≤ 1)) → LinesTaken end b c 1 ls
-taken_one = grind arith
+-- Lines were requested: so many were taken, or fewer at the end of the input.
+pub taken_by : {end n : ℕ} {b c : Reader} {bytes : List ℕ} {ls : List (List ℕ)} → AdvanceOk b c bytes → b.fault ≡ None
+    → IsSound c → AreReceivedLines end c bytes ls → (length ls ≡ n) ⊎ (IsDone c × (length ls ≤ n)) → (n ≡ 0 → c ≡ b)
+    → LinesTaken end b c n ls
+taken_by = grind arith
 
 -- A line was read into a slot.
 pub taken_line : {end : ℕ} {b c : Reader} {before after : Slots} {slot : ℕ} (e : FillLine b c before after slot)
     → b.terminator ≡ end → b.fault ≡ None → IsSound c
     → LinesTaken end b c 1 (e.line ∷ [])
-taken_line {end} {b} {c} {before} {after} {slot} e same clean sound = taken_one e.advance_ok clean sound
-    (lines_more end b [] [] (lines_none end b) c before after slot e same) (inl refl)
+taken_line {end} {b} {c} {before} {after} {slot} e same clean sound = taken_by e.advance_ok clean sound
+    (lines_more end b [] [] (lines_none end b) c before after slot e same) (inl refl) (λ none. cc)
 
 -- No line was left.
 pub taken_eof : {end : ℕ} {b c : Reader} → AdvanceOk b c [] → IsDone c → b.fault ≡ None → IsSound c
     → LinesTaken end b c 1 []
-taken_eof = grind (arith, taken_one, lines_none)
+taken_eof advance_ok done clean sound =
+    taken_by advance_ok clean sound (lines_none _ _) (inr (done, omega arith)) (λ none. cc)
 
 -- ---- the text of a row, column by column
 
@@ -396,34 +397,37 @@ cell_of cells input_lines c = slice_index_or (input_lines (get_or cells c 0)) (u
     (get_or cells c 0)) []
 
 module _ {row : RowShape} {n : ℕ} {old now : List Reader} {fields : List (List ℕ)} {input_lines : ℕ → List (List ℕ)}
-    (t : CellsTaken row n old now fields input_lines)
-    (low : n < length row.cells) (within : get_or row.cells n 0 < length now) {r : Reader} {ls : List (List ℕ)} {field : List ℕ}
+    (t : CellsTaken row n old now fields input_lines) (low : n < length row.cells)
+    (within : get_or row.cells n 0 < length now) {r : Reader} {ls : List (List ℕ)} {field : List ℕ}
     (lines_taken : LinesTaken row.terminator (reader_at now (get_or row.cells n 0)) r 1 ls)
-    (there : field ≡ slice_index_or (input_lines (get_or row.cells n 0) ++ ls) (uses_of (take n row.cells) (get_or row.cells n 0))
-    []) where
+    (there : field ≡ slice_index_or (input_lines (get_or row.cells n 0) ++ ls)
+    (uses_of (take n row.cells) (get_or row.cells n 0)) []) where
+  abbrev cells : List ℕ
+  cells = row.cells
+
   abbrev input : ℕ
-  input = get_or row.cells n 0
+  input = get_or cells n 0
 
   lines_taken_next : (q : ℕ) → LinesTaken row.terminator (reader_at old q) (reader_at (set now input r) q)
-      (uses_of (take (n + 1) row.cells) q) (lines_at input ls input_lines q)
+      (uses_of (take (n + 1) cells) q) (lines_at input ls input_lines q)
   lines_taken_next = each_reader (λ q x. LinesTaken row.terminator (reader_at old q) x
-      (uses_of (take (n + 1) row.cells) q) (lines_at input ls input_lines q)) now within
+      (uses_of (take (n + 1) cells) q) (lines_at input ls input_lines q)) now within
       (rw (lines_at_here input ls input_lines input refl)
-      (taken_more (uses_here row.cells n input low refl) (t.lines_taken input) lines_taken))
-      (λ q differ. rw (lines_at_other input ls input_lines q differ, uses_other row.cells n q low (λ e. differ (sym e)))
+      (taken_more (uses_here cells n input low refl) (t.lines_taken input) lines_taken))
+      (λ q differ. rw (lines_at_other input ls input_lines q differ, uses_other cells n q low (λ e. differ (sym e)))
       (t.lines_taken q))
 
   -- The line of a column before this one does not change.
-  earlier_cell : (c : ℕ) → c < n → cell_of row.cells (lines_at input ls input_lines) c ≡ cell_of row.cells input_lines c
+  earlier_cell : (c : ℕ) → c < n → cell_of cells (lines_at input ls input_lines) c ≡ cell_of cells input_lines c
   earlier_cell c less = ⊎_elim
       (λ all. ⊎_elim
       (λ same.
-      let front : take (c + 1) (take n row.cells) ≡ take (c + 1) row.cells = take-take (c + 1) n row.cells (omega arith) in
+      let front : take (c + 1) (take n cells) ≡ take (c + 1) cells = take-take (c + 1) n cells (omega arith) in
       let under : j < length (input_lines p) =
       omega (
         arith,
-        uses_here row.cells c p (omega arith) refl,
-        uses_before (take n row.cells) (c + 1) p,
+        uses_here cells c p (omega arith) refl,
+        uses_before (take n cells) (c + 1) p,
         ap (λ (l : List ℕ). uses_of l p) front,
       ) in
       cc (lines_at_here input ls input_lines p same, get_or_append_left (input_lines p) ls [] j under))
@@ -436,10 +440,10 @@ module _ {row : RowShape} {n : ℕ} {old now : List Reader} {fields : List (List
       (t.lines_taken p).enough
     where
       p : ℕ
-      p = get_or row.cells c 0
+      p = get_or cells c 0
 
       j : ℕ
-      j = uses_of (take c row.cells) p
+      j = uses_of (take c cells) p
 
   cells_taken_more : CellsTaken row (n + 1) old (set now input r) (fields ++ field ∷ [])
       (lines_at input ls input_lines)
@@ -544,14 +548,15 @@ module _ {row : RowShape} where
   -- All fields were copied from the buffers, and then the row was moved.
   pub amid_starts : {old : List Reader} {copied : List ℕ} {begun moved : BegunText} {store : Slots}
       (p : CopyRowsPost row old copied begun) → moved ≡ begun → RowAmid row moved.count p.mid store moved store
-  amid_starts {begun = begun} {store = store} p same = subst (λ m. RowAmid row m.count p.mid store m store) (sym same) (record {
-    fields = p.fields;
-    filled = p.filled;
-    within = omega arith;
-    is = cc (take_all begun.count p.fields (omega (arith, p.filled.consumed.width)));
-    held = λ c over under. absurd (omega arith);
-    slots = slots_kept_start;
-  })
+  amid_starts {begun = begun} {store = store} p same =
+      subst (λ m. RowAmid row m.count p.mid store m store) (sym same) (record {
+        fields = p.fields;
+        filled = p.filled;
+        within = omega arith;
+        is = cc (take_all begun.count p.fields (omega (arith, p.filled.consumed.width)));
+        held = λ c over under. absurd (omega arith);
+        slots = slots_kept_start;
+      })
 
   module _ {n : ℕ} {from : List Reader} {first store : Slots} {now : BegunText} (a : RowAmid row n from first now store)
       {b : Reader} (x : IsNextReader row now.readers n b) where

@@ -80,7 +80,8 @@ pub record CellsFilled (row : RowShape) (n : ℕ) (old new : List Reader) (field
   pub input_lines : ℕ → List (List ℕ)
   pub consumed : CellsTaken row n old new fields input_lines
   pub some : any_line ≡ true → (c : ℕ) × (c < n)
-      × (length (input_lines (slice_index_or row.cells c 0)) ≡ uses_of (take c row.cells) (slice_index_or row.cells c 0) + 1)
+      × (length (input_lines (slice_index_or row.cells c 0))
+      ≡ uses_of (take c row.cells) (slice_index_or row.cells c 0) + 1)
   pub none : any_line ≡ false → (input : ℕ) → input_lines input ≡ []
   pub least : sum_by budget new ≤ sum_by budget old
   pub less : any_line ≡ true → sum_by budget new < sum_by budget old

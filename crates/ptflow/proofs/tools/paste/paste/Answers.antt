@@ -1,9 +1,9 @@
 -- Each iteration takes the rows that are complete in the buffers, and finishes the next row; then the invariant holds
 -- again. If that row has no line, all readers are at the end of their inputs.
 use Rattle.ptflow.proofs
-use proofs.Common.{true, false, ◌≡◌, ◌≤◌, sym, ap, subst, arith, length, take, Bool, paste_job, job_shape, PushEffect, RowShape}
-use proofs.Common.{RowAmid, CellsFilled, begun_in, shape_of, ◌++◌, Write, Output, slots_text, cells_text}
-use proofs.Common.{call_on_failed_output, List, Reader, Slots, push_nothing}
+use proofs.Common.{true, false, ◌≡◌, ◌≤◌, sym, ap, subst, arith, length, take, Bool, paste_job, job_shape, PushEffect}
+use proofs.Common.{RowShape, RowAmid, CellsFilled, begun_in, shape_of, ◌++◌, Write, Output, slots_text, cells_text}
+use proofs.Common.{length-take-le, call_on_failed_output, List, Reader, Slots, push_nothing}
 use Rattle.std.proofs.lemmas.Bool.{not-false, not-true}
 use proofs.PasteLemmas.Call.{by_fault, of_rows, row_job, paste_without_slots, paste_rows_write_failed, paste_done}
 use proofs.PasteLemmas.Call.{paste_shared_write_failed, paste_fill_failed, paste_row_write_failed, PasteInvariant}
@@ -18,6 +18,9 @@ use Rattle.ptflow.proofs.tools.paste.paste.Goals as goal
 pub returns-then-has_failed : goal.returns-then-has_failed
 returns-then-has_failed g c =
     call_on_failed_output _ _ (cc) c.requires.not_denied
+
+pub set_terminators-requires : goal.set_terminators-requires
+set_terminators-requires g c = c.requires.within
 
 -- The terminators of the readers were set.
 starts : (g : given.Over) (c : After-ensure_slots g)
@@ -58,6 +61,9 @@ returns-in_err-write_shared_rows g c = of_rows c.row_format-row.ensures
 pub copy_rows-copied-requires : goal.copy_rows-copied-requires
 copy_rows-copied-requires g c = now_readable (invariant_written c.rows.invariant.invariant_holds
     c.write_shared_rows.ensures.rows c.in_ok-write_shared_rows.ensures.clean)
+
+pub slice_bounds-push-end : goal.slice_bounds-push-end
+slice_bounds-push-end g c = sym (length-take-le _ c.copy_rows-copied.new.into (omega arith))
 
 pub returns-in_err-push : goal.returns-in_err-push
 returns-in_err-push g c = of_rows c.row_format-row.ensures (by_fault c.from_residual-in_err-push.result Write

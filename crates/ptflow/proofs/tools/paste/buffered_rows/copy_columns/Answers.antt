@@ -35,5 +35,6 @@ returns-in_default-clause-cells g c =
     let none = c.in_default.ensures in
     let readers = c.cells.readers in
     let input = get_or c.args.row.cells.now c.cells.begun.0 0 in
-    let same : set readers input c.copy_cell.new.reader ≡ readers = cc (set-get_or readers input c.index-readers-row.result) in
+    let same : set readers input c.copy_cell.new.reader ≡ readers =
+    cc (set-get_or readers input c.index-readers-row.result) in
     rw (same, none.prefix_kept) c.cells.invariant.copied

@@ -8,7 +8,7 @@ use proofs.PasteLemmas.SerialRest.{serial_is_decided}
 use Rattle.ptflow.proofs.tools.paste.serial.paste_serial.Goals as goal
 
 pub returns-then-has_failed : goal.returns-then-has_failed
-returns-then-has_failed g c = search (rules, pass_unchanged)
+returns-then-has_failed g c = pass_unchanged (paste_serial_tool (paste_job c.args.job.now)) _ _ _ c.requires (cc)
 
 pub returns : goal.returns
 returns g c =
