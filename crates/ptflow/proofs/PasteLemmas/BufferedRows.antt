@@ -3,6 +3,7 @@
 -- terminators of these lines are replaced by the cycle (the delimiters of the row, and a last entry that keeps the
 -- terminator), they become the row. So bytes with count * n terminators, the last at the end, become `count` rows.
 use Rattle.ptflow.proofs
+use proofs.Common.{eq-eqb, ne_eqb, option_to_list, slice_index_or}
 use proofs.Common.{Bool, List, None, Some, [], ap, append_assoc, arith, drop, false, get_or, get_or-take, inl, length}
 use proofs.Common.{length-append, length-drop, map, refl, set, suc, sym, take, take-append-drop, true, zero, ℕ, ◌%◌}
 use proofs.Common.{◌*◌, ◌++◌, ◌+◌, ◌-◌, ◌<◌, ◌||◌, ◌∙◌, ◌∷◌, ◌≡◌, ◌≢◌, ◌≤◌, mod-eq_of_lt, cases_eq, nat_tests}
@@ -144,6 +145,14 @@ vector_line at k n was {count = count} {bytes = bytes} same long room all first 
 }
 
 -- ---- the columns of a row
+
+-- The byte after the last column, and after any other.
+pub after_last : (row : RowShape) (c : ℕ) → c + 1 ≡ length row.cells → row.terminator ∷ [] ≡ after_cell row c
+after_last row c last = rw (eq-eqb (c + 1) (length row.cells) last) refl
+
+pub after_other : (row : RowShape) (c index : ℕ) → ¬ (c + 1 ≡ length row.cells) → index ≡ c % length row.delims
+    → option_to_list (slice_index_or row.delims index None) ≡ after_cell row c
+after_other row c index other at = rw (ne_eqb (c + 1) (length row.cells) other, at) refl
 
 module _ {row : RowShape} where
   pub columns_start : {begun : BegunText} → CopyColumnsPost row begun begun

@@ -124,7 +124,7 @@ fn write_slot<A: Allocator + Copy, W: Sink>(
         (line store.now column ++ after_cell (shape_of row.entry) column) result }
 {
     let line = store.line(column);
-    match row.byte_after(column, column % row.delims.len()) {
+    match row.byte_after(column) {
         Some(byte) => out.push_line(b"", line, &[byte]),
         None => out.push_line(b"", line, b""),
     }

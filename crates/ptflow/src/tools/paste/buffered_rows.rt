@@ -121,9 +121,14 @@ pub(crate) fn copy_columns<S: Source, R: Source>(
         let Some((end, is_line)) = copy_cell(row.terminator, reader, into, begun.end) else {
             return begun;
         };
-        begun.end = copy_option(row.byte_after(begun.count, index), into, end);
         begun.count += 1;
         begun.any_line |= is_line;
+        if begun.count == row.cells.len() {
+            into[end] = row.terminator;
+            begun.end = end + 1;
+            return begun;
+        }
+        begun.end = copy_option(row.delims[index], into, end);
         index = next_index(index, row.delims.len());
     }
     begun
@@ -188,8 +193,7 @@ pub(crate) fn copy_slot(
     }
     copy_short(line, 0, line.len(), into, begun.end);
     let mut next = begun;
-    let byte = row.byte_after(column, column % row.delims.len());
-    next.end = copy_option(byte, into, begun.end + line.len());
+    next.end = copy_option(row.byte_after(column), into, begun.end + line.len());
     next.count += 1;
     Some(next)
 }

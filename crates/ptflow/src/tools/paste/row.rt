@@ -17,17 +17,16 @@ pub(crate) struct RowFormat<'a> {
 impl<'a> RowFormat<'a> {
     ghost use Rattle.ptflow.specs.Private.Paste.RowCells.{after_cell, shape_of};
 
-    // The byte after a column: its delimiter, which has this index, or after the last column the terminator.
+    // The byte after a column: its delimiter, or after the last column the terminator.
     #[inline(always)]
-    pub(crate) fn byte_after(self, column: usize, index: usize) -> Option<u8>
-        requires low { column < length self.cells.now }
-        requires at { index ≡ column % length self.delims.now }
+    pub(crate) fn byte_after(self, column: usize) -> Option<u8>
+        requires { column < length self.cells.now }
         ensures { option_to_list result ≡ after_cell (shape_of self.entry) column }
     {
         if column + 1 == self.cells.len() {
             return Some(self.terminator);
         }
-        self.delims[index]
+        self.delims[column % self.delims.len()]
     }
 }
 

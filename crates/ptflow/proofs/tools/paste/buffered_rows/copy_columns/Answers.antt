@@ -1,9 +1,9 @@
 -- Each step copies the field of one more column and the byte after it. It ends at a field that cannot be copied, and
 -- then nothing was consumed.
 use Rattle.ptflow.proofs
-use proofs.Common.{◌≡◌, length, set, get_or, arith, set-get_or, mod-add-mod}
+use proofs.Common.{◌≡◌, take, take_more_set, length, set, get_or, arith, set-get_or, mod-add-mod}
 use borrow.Author.Rules.{scaled_Fits}
-use proofs.PasteLemmas.BufferedRows.{columns_start, columns_more}
+use proofs.PasteLemmas.BufferedRows.{columns_start, columns_more, after_last, after_other}
 use Rattle.ptflow.proofs.tools.paste.buffered_rows.copy_columns.Goals as goal
 use Rattle.std.proofs.Common.{rules}
 
@@ -22,7 +22,8 @@ cells-preserved g c =
     let inv = c.cells.invariant in
     record {
       copied = columns_more inv.copied c.requires.readable c.cells-test.true _ _ c.in-Some.ensures.was_sound _ _
-          c.in-Some.ensures.cell c.copy_option.ensures.copied c.byte_after.ensures;
+          c.in-Some.ensures.cell c.copy_option.ensures.copied
+          (after_other _ c.cells.begun.0 _ c.if-begun-row.false inv.at);
       within = omega arith;
       grows = omega (arith, c.in-Some.ensures.size_bound);
       size_bound = omega (arith, c.in-Some.ensures.size_bound);
@@ -38,3 +39,10 @@ returns-in_default-clause-cells g c =
     let same : set readers input c.copy_cell.new.reader ≡ readers =
     cc (set-get_or readers input c.index-readers-row.result) in
     rw (same, none.prefix_kept) c.cells.invariant.copied
+
+pub returns-then-begun-row-clause-cells : goal.returns-then-begun-row-clause-cells
+returns-then-begun-row-clause-cells g c =
+    columns_more c.cells.invariant.copied c.requires.readable c.cells-test.true _ _ c.in-Some.ensures.was_sound _
+    (take c.in-Some.end c.copy_cell.new.into) c.in-Some.ensures.cell
+    (take_more_set c.copy_cell.new.into c.in-Some.end c.args.row.terminator (omega arith))
+    (after_last _ c.cells.begun.0 c.if-begun-row.true)
