@@ -166,14 +166,6 @@ module _ {job : Join} {cmp : Cmp} {key : Side → Key} {old : MergeState} {phase
   abbrev call : JoinCall
   call = join_call_of t.opened
 
-  pub end_in : (4 ≤ end) × (end ≤ length now.store.lines)
-  end_in = by phase t.phased
-    where
-      by : (p : JoinPhase) → PhaseInvariant call p now (both one two) end → (4 ≤ end) × (end ≤ length now.store.lines)
-      by phases.BetweenGroups (r, at) = omega (arith, at, r.keeps.four)
-      by phases.ReadGroup r = (omega (arith, r.q.at), end_within r.q.keeps r.q.at)
-      by phases.WritePairs r = (omega (arith, r.q.at), end_within r.q.keeps r.q.at)
-
   pub iteration_continues : {next : JoinPhase} (s : Side) {one2 two2 : Sorted} {reader : Reader} {after : Slots}
       {new : Output} {to : ℕ} → IsReadyToContinue key s one two one2 two2 reader after new
       → PhaseInvariant call next (state_after_read now s reader new after)
@@ -293,6 +285,9 @@ module _ {job : Join} {cmp : Cmp} {key : Side → Key} {old : MergeState} {phase
   module _ (is : phase ≡ phases.ReadGroup) where
     a : ReadGroup call now (both one two) end
     a = rw is at t.phased
+
+    pub read_group_in : (4 ≤ end) × (end ≤ length now.store.lines)
+    read_group_in = end_in a.q
 
     pub read_group_pre : AdvancePre key Second one two (now.reader Second) now.store
     read_group_pre = advance_pre t.between Second (a.heads Second).head
@@ -453,10 +448,10 @@ module _ {job : Join} {cmp : Cmp} {key : Side → Key} {old : MergeState} {phase
             length_push a.g y,
           ))
           (both_begun (λ side. (q.sides side).begun))
-          (λ side fail. cc (none_failed q side, call.w.unfailed side)) (Err Memory)
+          (λ side fail. cc ((q.sides side).lines_read.advance_ok.failed, call.w.unfailed side)) (Err Memory)
           (record {
             denied = e.copy_failed.denied;
-            unfailed = λ side read. none_failed q side;
+            unfailed = λ side read. (q.sides side).lines_read.advance_ok.failed;
             clean = fine;
             left = λ four. inr (
               e.keeps,
@@ -506,7 +501,7 @@ module _ {job : Join} {cmp : Cmp} {key : Side → Key} {old : MergeState} {phase
     pub write_pairs_group : IsGroup (join_key job Second) two now.store end
         (key First (line now.store one.current_slot))
     write_pairs_group = record {
-      within = end_in;
+      within = end_in state.q;
       keyed = λ slot from low. sym
           (t.opened.keys Second (line now.store slot)) ∙ keyed_slot slot from low ∙ sym state.head.is;
     }
@@ -543,7 +538,7 @@ module _ {job : Join} {cmp : Cmp} {key : Side → Key} {old : MergeState} {phase
         above_on = rw on_first.bound state.above
 
         pub group_there : (4 ≤ end) × (end ≤ length after.lines)
-        group_there = grind (arith, end_in, length-set, h.came)
+        group_there = grind (arith, end_in state.q, length-set, h.came)
 
         pub write_pairs_continues : one2.same ≡ true
             → IterationInvariant job cmp key old phase (state_after_read now First reader new after) one2 two2 end

@@ -624,8 +624,8 @@ module _ {call : JoinCall} {now : MergeState} {cursor : Side → Sorted} {end : 
       by Ended st other = tt
       by (Disorder n) st other = rw st at under
 
-  pub none_failed : (side : Side) → (now.reader side).failed ≡ (old.reader side).failed
-  none_failed side = (q.sides side).lines_read.advance_ok.failed
+  pub end_in : (4 ≤ end) × (end ≤ length now.store.lines)
+  end_in = (omega (arith, q.at), end_within q.keeps q.at)
 
   -- the facts of an input, if these lines of the group are processed
   abbrev pub FactsWith : (Side → Lines) → Side → Type 0

@@ -53,11 +53,8 @@ sorted_from_parts : (cmp : Cmp) (key : Key) (last : Option (List ℕ)) (xs ys : 
     → IsSortedFrom cmp key last (xs ++ ys) → IsSortedFrom cmp key last xs
     × IsSortedFrom cmp key (last_or last (map key xs)) ys
 sorted_from_parts cmp key last [] ys r = (tt, r)
-sorted_from_parts cmp key last (x ∷ xs) ys (here, more) = grind (
-  arith,
-  sorted_from_parts cmp key (Some (key x)) xs ys
-      more,
-)
+sorted_from_parts cmp key last (x ∷ xs) ys (here, more) =
+    grind (arith, sorted_from_parts cmp key (Some (key x)) xs ys more)
 
 module _ (cmp : Cmp) (o : IsKeyOrder cmp) (key : Key) where
   from_key : (k : List ℕ) (ls : Lines) → IsSortedFrom cmp key (Some k) ls → EachKey (AtMost cmp k) key ls
@@ -157,14 +154,6 @@ module _ (end : ℕ) (given piece : List ℕ) (ls p : Lines) (now new : Reader) 
 
 -- ---- the decided output is a prefix of the output, if only processed lines decide it
 
--- two lists that differ only in lines that are left out
-kept_same : (w : List ℕ → Bool) (key : Key) (xs ys rest tail : Lines) → xs ++ rest ≡ ys ++ tail
-    → EachKey (λ k. w k ≡ false) key rest → EachKey (λ k. w k ≡ false) key tail
-    → filter (λ line. w (key line)) xs ≡ filter (λ line. w (key line)) ys
-kept_same w key xs ys rest tail same none1 none2 = simp
-    (filter-append, kept_none w key rest none1, kept_none w key tail none2, append-nil) at (ap
-    (filter (λ line. w (key line))) same)
-
 -- two lists that differ only in lines whose keys are not below this one
 pub record Differ (tool : MergeTool) (last : Option (List ℕ)) (key : Key) (xs ys : Lines) : Type 0 where
   pub rest : Lines
@@ -202,9 +191,12 @@ module _ (tool : MergeTool) (o : IsKeyOrder tool.cmp) (eof : Side → Bool) (ls 
       let rest = entries_by_key tool (λ k. not (dec k)) p in
       let is : entries_by_key tool all_keys p ≡ entries_by_key tool dec p ++ rest = downward_splits tool o all_keys
       dec down p in
+      let none = λ (side : Side) (l : Lines) (e : EachKey _ (tool.key side) l). kept_none dec (tool.key side) l
+      (EachKey-weaker _ _ undecided _ _ e) in
+      -- the lists differ only in lines that are left out
       let kept = λ (side : Side). (let d = differ side in
-      kept_same dec (tool.key side) _ _ d.rest d.tail d.same (EachKey-weaker _ _ undecided _ _ d.none_rest)
-      (EachKey-weaker _ _ undecided _ _ d.none_tail)) in
+      simp (filter-append, none side d.rest d.none_rest, none side d.tail d.none_tail, append-nil) at
+      (ap (filter (λ line. dec (tool.key side line))) d.same)) in
       let known : decided_entries tool eof ls ≡ entries_by_key tool dec p =
       sym (by_keys_kept dec tool o (λ side. sorted_prefix cmp (tool.key side) (ls side)) all_keys)
       ∙ (λ i. entries_by_key tool all_keys (λ side. kept side i)) ∙ by_keys_kept dec tool o p all_keys in

@@ -160,14 +160,8 @@ module _ (cmp : Cmp) (o : IsKeyOrder cmp) where
       → (distinct_keys cmp ks ≡ k ∷ distinct_keys cmp (others k ks))
       ⊎ ((distinct_keys cmp ks ≡ distinct_keys cmp (others k ks)) × Each (λ y. bytes_eq y k ≡ false) ks)
   distinct_least k [] e = inr (refl, tt)
-  distinct_least k (y ∷ ks) (here, more) = grind (
-    arith,
-    least_or_above,
-    insert_least,
-    Each-distinct,
-    others_above,
-    distinct_least k ks more,
-  )
+  distinct_least k (y ∷ ks) (here, more) =
+      grind (arith, least_or_above, insert_least, Each-distinct, others_above, distinct_least k ks more)
 
 others-keys : (key1 key2 : Key) (k : List ℕ) (xs ys : Lines)
     → others k (map key1 xs ++ map key2 ys) ≡ map key1 (without key1 k xs) ++ map key2 (without key2 k ys)
@@ -185,14 +179,7 @@ kept_none w key (x ∷ ls) (here, more) = rw here (kept_none w key ls more)
 with_key_without : (key : Key) (k q : List ℕ) (xs : Lines) → bytes_eq q k ≡ false
     → lines_with_key key (without key k xs) q ≡ lines_with_key key xs q
 with_key_without key k q [] n = refl
-with_key_without key k q (x ∷ xs) n = grind (
-  arith,
-  not_same,
-  same_bytes,
-  bytes_decides,
-  with_key_without key k q xs
-      n,
-)
+with_key_without key k q (x ∷ xs) n = grind (arith, not_same, same_bytes, bytes_decides, with_key_without key k q xs n)
 
 module _ (tool : MergeTool) (o : IsKeyOrder tool.cmp) where
   open tool use {cmp}
@@ -207,13 +194,7 @@ module _ (tool : MergeTool) (o : IsKeyOrder tool.cmp) where
   over_others : (w : List ℕ → Bool) (k : List ℕ) (ls : Side → Lines) (ks : Lines) → Each (Above cmp k) ks
       → nothing_follows w ls ks ≡ nothing_follows w (others_of k ls) ks
   over_others w k ls [] e = refl
-  over_others w k ls (q ∷ ks) (here, more) = grind (
-    arith,
-    above_not_same,
-    with_key_without,
-    over_others w k ls ks
-        more,
-  )
+  over_others w k ls (q ∷ ks) (here, more) = grind (arith, above_not_same, with_key_without, over_others w k ls ks more)
 
   -- The entries of a key that is at most all others come first, followed by those of the lines with other keys.
   pub least_first : (w : List ℕ → Bool) (k : List ℕ) (ls : Side → Lines)
@@ -453,14 +434,8 @@ IsDownwardClosed cmp w = (a b : List ℕ) → cmp b a ≡ Greater → w b ≡ tr
 module _ (cmp : Cmp) (o : IsKeyOrder cmp) where
   ascends_insert : (k : List ℕ) (ks : Lines) → Ascends cmp ks → Ascends cmp (insert_key cmp k ks)
   ascends_insert k [] a = (tt, tt)
-  ascends_insert k (x ∷ xs) (above, more) = grind (
-    arith,
-    Each-weaker,
-    above_trans,
-    Each-insert,
-    less_flips,
-    ascends_insert k xs more,
-  )
+  ascends_insert k (x ∷ xs) (above, more) =
+      grind (arith, Each-weaker, above_trans, Each-insert, less_flips, ascends_insert k xs more)
 
   pub ascends_distinct : (ks : Lines) → Ascends cmp (distinct_keys cmp ks)
   ascends_distinct [] = tt
@@ -470,13 +445,8 @@ module _ (cmp : Cmp) (o : IsKeyOrder cmp) where
   downward_first : (w p : List ℕ → Bool) → IsDownwardClosed cmp p → (ks : Lines) → Ascends cmp ks
       → filter w ks ≡ filter (λ k. w k && p k) ks ++ filter (λ k. w k && not (p k)) ks
   downward_first w p down [] a = refl
-  downward_first w p down (k ∷ ks) (above, more) = search (
-    rules,
-    filter_none,
-    Each-weaker,
-    downward_first w p down ks
-        more,
-  )
+  downward_first w p down (k ∷ ks) (above, more) =
+      search (rules, filter_none, Each-weaker, downward_first w p down ks more)
 
   pub up_to_from : (k : List ℕ) (f1 f2 : Option FirstDisorder) → IsDisorderFrom cmp k f1 → IsDisorderFrom cmp k f2
       → is_up_to cmp (earlier_disorder cmp f1 f2) k ≡ true
