@@ -1,9 +1,6 @@
 -- The steps of a merge. A line that precedes everything in the other input is processed, and its input advances; the
 -- next line has no lesser key, so the invariant holds again. A step ends the loop when both inputs are at their ends or
 -- a disorder is reported, and a fault of a write or read ends it with a prefix of the output.
-pub mod ReadLines
-pub mod Invariant
-pub mod SlotLines
 pub mod Exits
 use Rattle.ptmerge.proofs
 use proofs.Common.{AdvancePre, IsReadyToContinue, ◌≡◌, inl, inr, ℕ, ◌+◌, ◌≤◌, true, false, List, [], ◌∷◌, Option, Some}
@@ -21,9 +18,6 @@ use Rattle.std.proofs.lemmas.Grind.{common_steps}
 use Rattle.ptmerge.specs.Cursor.{NextErrPost, initial_cursor, base_slot}
 use Rattle.ptmerge.specs.MergeSteps.{StartErrPost, StartFirstPost, MergeInputs, IsReaderOf, IsReportable}
 use Rattle.ptmerge.specs.MergeSteps.{AreValidCursors, StartOkPost, merge_inputs, previous_key}
-pub use Invariant.*
-pub use ReadLines.*
-pub use SlotLines.*
 pub use Exits.*
 
 -- ---- keys that may follow

@@ -1,5 +1,8 @@
 -- Each input of a merge, and the exits of a tool. At an exit the lines read, the processed ones and a bound on the
 -- others are known for each input, and the contract of the tool follows from these and from the output.
+pub mod Invariant
+pub mod ReadLines
+pub mod SlotLines
 use Rattle.ptmerge.proofs
 use proofs.Common.{◌≡◌, ◌⊎◌, ⊎_elim, inl, inr, ℕ, ◌≤◌, false, List, [], ◌∷◌, ◌++◌, Option, Some, None, length, map}
 use proofs.Common.{refl, sym, ◌∙◌, ap, arith, append_assoc, length-append, last_or, append-nil, Received, known_lines}
@@ -12,18 +15,7 @@ use proofs.Common.{Disorder, status_at, same_key_at, NextOkPost, Result, Err, ma
 use proofs.Common.{advance_trans, push_trans, MergeFault, Write, lines_of, merged_entries, MergeState, MergePost}
 use proofs.Common.{HasNoLine, reads_nothing, EnsureFourSlotsErrPost, ◌*◌, option_map, CallOutcome, merge_state, both}
 use proofs.Common.{terminator, total_bytes, merge_engine, merge_end, disordered_line, HasSlots, length-set}
-use proofs.MergeLemmas.Invariant.{output_of, sorted_after, IsSortedFrom, sorted_from_start, sorted_prefix_is, Bound}
-use proofs.MergeLemmas.Invariant.{IsDisorderFrom, IsUnder, MayFollow, not_below, downward_decided, not_decided}
-use proofs.MergeLemmas.Invariant.{past_none, all_keys, AtLeast, downward_splits, EachKey, Each-all, EachKey-weaker}
-use proofs.MergeLemmas.Invariant.{Each-parts, kept_none, IsKeyOrder, AtMost, at_most_trans, self_at_most, NoBound}
-use proofs.MergeLemmas.Invariant.{AfterDisorder, NothingMore, IsSortedUpTo, is_disordered, IsProcessedPrefix, IsFuture}
-use proofs.MergeLemmas.Invariant.{after_from, LagInvariant, MergeInvariant, IsExactStop, input_split, IsLater}
-use proofs.MergeLemmas.Invariant.{may_follow_none}
-use proofs.MergeLemmas.ReadLines.{IsReadAs, LinesRead, HoldsLines, HasBegun, begun_gives_line, one_line_and_block}
-use proofs.MergeLemmas.ReadLines.{lines_read_more, lines_read_eof, Continues, KnownLines, lines_read_known}
-use proofs.MergeLemmas.ReadLines.{lines_read_of_input}
 use proofs.Parts.{by_keys_kept}
-use proofs.MergeLemmas.SlotLines.{put_each, put_other, put_same, with_side_is, with_own, line_other, AreLow, low_slot}
 use Rattle.ptlines.proofs.LineSearch.{IsLine-append}
 use Rattle.ptmerge.specs.MergeSpec.{MergeDisorder, decided_output, decided_entries, lines_decide_disorder, merge_output}
 use Rattle.ptmerge.specs.MergeSpec.{disorder_is_decided}
@@ -37,6 +29,9 @@ use Rattle.ptlines.proofs.Lag.{bounded_lag_after}
 use Rattle.ptlines.specs.Calls.{CallEnd, ReadFault, AreAllConsistent}
 use Rattle.ptlines.proofs.TextLaws.{complete_lines_of_unlines, the_lines}
 use Rattle.ptlines.specs.Lag.{LaggedInput, ProcessLag}
+pub use Invariant.*
+pub use ReadLines.*
+pub use SlotLines.*
 
 -- Bounded lag. Leave out the buffered bytes, at most a block, and the terminator of a line that is not yet processed:
 -- the complete lines that remain are all processed. No key below the last of these can follow in either input, so with

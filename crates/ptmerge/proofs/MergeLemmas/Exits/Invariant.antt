@@ -14,7 +14,7 @@ use Rattle.std.specs.Cmp.{IsTotalOrder}
 use Rattle.ptmerge.specs.OrderLaws.{reversed_same_bytes, byte_cmp_equal}
 use Rattle.std.proofs.Common.{rules}
 use Rattle.std.proofs.lemmas.Grind.{common_steps}
-use proofs.MergeLemmas.SlotLines.{put_each}
+use proofs.MergeLemmas.Exits.SlotLines.{put_each}
 use Rattle.ptmerge.specs.MergeSpec.{MergeDisorder, is_past}
 use Rattle.std.proofs.lemmas.Cmp.{back_total, nat_list_cmp_total, upto}
 
