@@ -35,9 +35,6 @@ tabs_of job First = []
 tabs_of job Second = tab_if_shown job.hide1 ++ []
 
 module _ (job : Comm) (x : List ℕ) where
-  entries_none : entries job x 0 0 ≡ []
-  entries_none = grind (arith, no_entries)
-
   entries_both : (n k : ℕ) → entries job x (suc n) (suc k) ≡ entries job x 1 1 ++ entries job x n k
   entries_both n k = grind (arith, no_entries, one_more_entry)
 
@@ -124,8 +121,7 @@ module _ {job : Comm} {cmp : Cmp} {key : Side → Key} {old now : MergeState} {o
   -- a step for a line of both inputs, after the first input advanced: the second one is still at the line
   pub second_advance_pre : HaveEqualKeys cmp key (both one two) now.store
       → {one2 two2 : Sorted} {reader : Reader} {after : Slots} {mid : Output}
-      → Advances First one2 two2 reader after mid
-      → AdvancePre key Second one2 two2 (now.reader Second) after
+      → Advances First one2 two2 reader after mid → AdvancePre key Second one2 two2 (now.reader Second) after
   second_advance_pre step h = grind (arith, advance_pre, between_next)
 
   module _ (step : HaveEqualKeys cmp key (both one two) now.store) where
@@ -138,8 +134,7 @@ module _ {job : Comm} {cmp : Cmp} {key : Side → Key} {old now : MergeState} {o
     abbrev both_written : Side → Lines
     both_written = both (ls First) (ls Second)
 
-    wrote_both : {new : Output}
-        → PushEffect now.out new
+    wrote_both : {new : Output} → PushEffect now.out new
         (unlines job.terminator (entries_by_key tool all_keys (both (head First ∷ []) (head Second ∷ []))))
         → MergeInvariant tool b both_written old.out new × AllWritten tool b both_written old.out new
     wrote_both {new} wrote =
@@ -148,7 +143,7 @@ module _ {job : Comm} {cmp : Cmp} {key : Side → Key} {old now : MergeState} {o
         let x = head First in
         write_least_run w.o (key First x) both_written (both (x ∷ []) (head Second ∷ []))
         (elim [ First ↦ line_is_least_run w.o h1.bound refl | Second ↦ line_is_least_run w.o h2.bound (sym step.same) ])
-        (elim [ First ↦ h1.all | Second ↦ h2.all ]) (entries_none job (key First x))
+        (elim [ First ↦ h1.all | Second ↦ h2.all ]) (w.alone.none (key First x))
         (λ r c. entries_both job (key First x) _ _) between.clean merge_invariant wrote
 
     module _ {mid : Output} {tabs : List ℕ} (led : tabs ≡ tab_if_shown job.hide1 ++ tab_if_shown job.hide2)

@@ -355,8 +355,7 @@ module _ {job : Join} {cmp : Cmp} {key : Side → Key} {old : MergeState} {phase
           copied : two2.same ≡ true → kept ≡ cond call.keeps_groups grown []
           lines_in : IsGroupIn call a.k (line after two2.previous_slot) kept grown
 
-        grown_group : {after : Slots} {to : ℕ}
-            → IsInItsSlot call.keeps_groups two2 made after end to
+        grown_group : {after : Slots} {to : ℕ} → IsInItsSlot call.keeps_groups two2 made after end to
             ⊎ IsCopiedToGroup call.keeps_groups two2 made after end to → GrownGroup after to
         grown_group (inl e) =
             let none = ⊎_elim none_copied (λ (_, four). nil_from_length a.kept (omega (arith, four, a.q.at))) e.stays in
@@ -448,8 +447,7 @@ module _ {job : Join} {cmp : Cmp} {key : Side → Key} {old : MergeState} {phase
             length_push a.g y,
           ))
           (both_begun (λ side. (q.sides side).begun))
-          (λ side fail. cc ((q.sides side).lines_read.advance_ok.failed, call.w.unfailed side)) (Err Memory)
-          (record {
+          (λ side fail. cc ((q.sides side).lines_read.advance_ok.failed, call.w.unfailed side)) (Err Memory) (record {
             denied = e.copy_failed.denied;
             unfailed = λ side read. (q.sides side).lines_read.advance_ok.failed;
             clean = fine;
@@ -559,8 +557,7 @@ module _ {job : Join} {cmp : Cmp} {key : Side → Key} {old : MergeState} {phase
         group_closed {cleared} clear same =
             let q = on_first.group in
             let valid_cursors = valid_cursors_kept key one2 two2 after cleared h.continues.valid_cursors
-            (omega arith)
-            (λ i low. clear.others i (inl low)) in
+            (omega arith) (λ i low. clear.others i (inl low)) in
             iteration_continues {next = phases.BetweenGroups} First (assumption (h.continues, valid_cursors)) (
               record {
                 ls = q.ls;

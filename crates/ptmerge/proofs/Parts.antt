@@ -87,8 +87,7 @@ module _ (p : List ℕ → Bool) where
         (filter w ((ap (distinct_keys cmp) keys_of_part ∙ sym (distinct_kept cmp o (keys tool ls))) i)))
         ∙ each_of (distinct_keys cmp (keys tool ls))
       where
-        each_of : (ds : Lines)
-            → flat_map (entries_of_key tool part) (filter w (filter p ds))
+        each_of : (ds : Lines) → flat_map (entries_of_key tool part) (filter w (filter p ds))
             ≡ flat_map (entries_of_key tool ls) (filter (λ k. w k && p k) ds)
         each_of [] = refl
         each_of (d ∷ ds) =

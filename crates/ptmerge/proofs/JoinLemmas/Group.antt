@@ -236,8 +236,7 @@ pub group_store_next : {most : GroupBounds} {tool : MergeTool} {before store aft
     → GroupStore most before after (with_side s n.now_ls ls) g
 group_store_next {ls = ls} s cursor slots k n = group_store_line s cursor slots n.bytes k
     (put_each (λ side (l : Lines). max_length (ls side) ≤ max_length l) s n.now_ls ls n.longer (λ side. omega arith))
-    (rw (put_same s n.now_ls ls) n.fits)
-    (put_more s ls n.now_ls n.more n.continues_key) n.stored
+    (rw (put_same s n.now_ls ls) n.fits) (put_more s ls n.now_ls n.more n.continues_key) n.stored
 
 module _ {most : GroupBounds} {before store : Slots} {ls : Side → Lines} {g : Lines}
     (k : GroupStore most before store ls g) where
@@ -359,7 +358,7 @@ module _ {tool : MergeTool} {old : MergeState} (w : IsOpenMerge tool old) {mid :
     parts : (w : List ℕ → Bool) → entries_by_key tool w (sorted_prefixes tool all) ≡ entries_by_key tool w
         p ++ entries_by_key tool w (λ side. g side ++ coming side)
     parts w = (λ i. entries_by_key tool w (λ side. ((seen side).is ∙ append_assoc (p side) (g side) (coming side)) i))
-        ∙ m.merge_invariant.splits.split w (λ side. g side ++ coming side)
+        ∙ m.merge_invariant.splits w (λ side. g side ++ coming side)
         (λ side. rest_not_less side (coming side) (seen side).may_follow)
 
     wanted : (x : List ℕ) → AtMost cmp x k → is_up_to cmp (disorder tool all) x ≡ true
@@ -577,7 +576,7 @@ module _ (call : JoinCall) {mid : Output} {p g : Side → Lines} {d : Side → B
       all : entries_by_key tool all_keys (λ side. p side ++ g side) ≡ entries_by_key tool all_keys p
           ++ pairs k (g First) (g Second)
       all =
-          let split = m.merge_invariant.splits.split all_keys g
+          let split = m.merge_invariant.splits all_keys g
           (λ side. all_own_keys (AtMost cmp k) (key side) k (g side) (self_at_most cmp o k) (m.own side)) in
           cc (split, alone_is, own_entries (g First) (g Second) (some First) (some Second))
 
@@ -690,10 +689,8 @@ module _ {call : JoinCall} {now : MergeState} {cursor : Side → Sorted} {end : 
       (rw all_processed (read_facts_after_line (q.sides s) o l.head)) (simp put_other (group_read_facts q (other s)))
 
   -- writing failed, or reading the next line, after a prefix of the group's output was written
-  pub group_breaks : {out : Output} {extra : Lines}
-      → OutputStartsWith tool added q.d k extra
-      → PushEffect q.mid out (unlines call.terminator extra)
-      → EndsIfFails tool old now s (cursor s) out
+  pub group_breaks : {out : Output} {extra : Lines} → OutputStartsWith tool added q.d k extra
+      → PushEffect q.mid out (unlines call.terminator extra) → EndsIfFails tool old now s (cursor s) out
   group_breaks {extra = extra} begins wrote = advance_fails w {now = now} {cursor = cursor s}
       {p = λ t. q.p t ++ added t} (record {
         facts = passing_now;
@@ -746,8 +743,7 @@ module _ {call : JoinCall} {now : MergeState} {cursor : Side → Sorted} {end : 
             sides = subst (λ (f : Side → Lines). SidesInvariant tool old.reader (with_side s reader now.reader)
                 (with_side s next cursor) after (with_side s n.now_ls q.ls) f (with_side s n.bound q.d))
                 (λ i side. put_both (λ side (l m : Lines). l ≡ q.p side ++ m) s (q.ls s) (λ side. q.p side ++ g side)
-                (g s ++ x ∷ []) g with_head refl side i)
-                (sides_next o q.sides s l.head comes);
+                (g s ++ x ∷ []) g with_head refl side i) (sides_next o q.sides s l.head comes);
             within = record {
               merge_invariant = q.within.merge_invariant;
               clean = q.within.clean;

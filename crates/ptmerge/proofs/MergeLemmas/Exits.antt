@@ -224,8 +224,7 @@ pub record LinesToCome (tool : MergeTool) (side : Side) (ls q tail : Lines) (bou
 
 -- `q` are the processed lines; the output for `p` is complete, and the rest of `q` follows it
 module _ (tool : MergeTool) (o : IsKeyOrder tool.cmp) (given : Side → Received) (p q tail : Side → Lines)
-    (bound : Side → Bound)
-    (split : (side : Side) → q side ≡ p side ++ tail side)
+    (bound : Side → Bound) (split : (side : Side) → q side ≡ p side ++ tail side)
     (under : (of side : Side) → EachKey (IsUnder tool.cmp (bound of)) (tool.key side) (q side))
     (future : (side : Side) → LinesToCome tool side (known_lines tool.terminator (given side)) (q side) (tail side)
     (bound side)) where
@@ -249,8 +248,7 @@ module _ (tool : MergeTool) (o : IsKeyOrder tool.cmp) (given : Side → Received
     -- no line that follows is below that key
     above : (side : Side) → EachKey (λ k. is_below cmp k last ≡ false) (tool.key side) (tail side ++ (future side).rest)
     above side =
-        past_none cmp o (tool.key of) _ (bound side) whole _
-        (front_has _ (tool.key of) whole point.rest
+        past_none cmp o (tool.key of) _ (bound side) whole _ (front_has _ (tool.key of) whole point.rest
         (rw point.split at (under side of))) (future side).may_follow
 
     -- the lines of an input are the processed ones, except for lines that are not below that key
@@ -283,11 +281,9 @@ module _ (tool : MergeTool) (o : IsKeyOrder tool.cmp) (given : Side → Received
     pub decided_at : IsPrefix (decided_output tool (with_input both_sides of point.before.earlier given))
         (output_of tool p)
     decided_at = subst (λ (m : Side → Received). IsPrefix (decided_output tool m)
-        (output_of tool p))
-        (λ i side. with_side_is of point.before.earlier given side i)
+        (output_of tool p)) (λ i side. with_side_is of point.before.earlier given side i)
         (decided_of_passed tool o (λ side. (mix side).eof) (λ side. known_lines terminator (mix side)) of going
-        (rw whole_now ordered.1) p
-        (rw whole_now (put_each Differs of point.before.earlier given mine others)))
+        (rw whole_now ordered.1) p (rw whole_now (put_each Differs of point.before.earlier given mine others)))
 
     pub lag_bound : ProcessLag {I = Unit {0}} (λ came. decided_output tool (with_input both_sides of (came tt) given))
         (λ u. given of) (output_of tool p)
@@ -389,8 +385,7 @@ pub record SideAfterNext (tool : MergeTool) (s : Side) (old new : Reader) (curso
   pub fits : length bytes ≤ max_length now_ls
 
 status_after_next : (cmp : Cmp) (key : Key) (last : Option (List ℕ)) (cursor : Sorted) (store : Slots) (next : List ℕ)
-    → IsLastKey key last cursor store
-    → status_at key cmp cursor.number (line store cursor.current_slot) next
+    → IsLastKey key last cursor store → status_at key cmp cursor.number (line store cursor.current_slot) next
     ≡ cond (is_disordered cmp last (key next)) (Disorder (cursor.number + 1)) Head
 status_after_next = grind (arith, nat_tests)
 
@@ -472,9 +467,7 @@ module _ (tool : MergeTool) (o : IsKeyOrder tool.cmp) (s : Side) (old now new : 
   next_invariant {last} lines_read number sorted_up_to is (inr e) =
       rw e.cursor (at_next last [] [] (next_cursor Ended cursor.number false) NothingMore
       (simp append-nil (lines_read_eof lines_read e.advance_ok e.done)) (inl e.done) e.sound (refl, refl)
-      (inl (append-nil ls))
-      (simp append-nil number)
-      (grind (arith, common_steps, sorted_up_to)) (λ ended. e.done)
+      (inl (append-nil ls)) (simp append-nil number) (grind (arith, common_steps, sorted_up_to)) (λ ended. e.done)
       (refl, e.done)
       (record { may_follow = λ r none. rw none (may_follow_none cmp own (bound_after last)); under = λ k u. tt })
       e.empty (omega arith))
@@ -714,8 +707,7 @@ module _ {tool : MergeTool} {old : MergeState} (w : IsOpenMerge tool old) (new :
 pub merge_set : {tool : MergeTool} {first second set1 set2 : Reader} {out : Output} {store : Slots} {new : MergeState}
     → (zero : Bool) → tool.terminator ≡ terminator zero → out.write_failed ≡ false
     → set1 ≡ record first { terminator = cond zero 0 10 } → set2 ≡ record second { terminator = cond zero 0 10 }
-    → {result : Result (Unit {0}) MergeFault}
-    → MergePost tool (merge_state set1 set2 out store) new result
+    → {result : Result (Unit {0}) MergeFault} → MergePost tool (merge_state set1 set2 out store) new result
     → MergePost tool (merge_state first second out store) new result
 unfolding call_set
 merge_set {tool} {first} {second} {set1} {set2} {new = new} zero end clean is1 is2 m =

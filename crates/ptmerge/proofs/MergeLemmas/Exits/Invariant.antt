@@ -485,28 +485,25 @@ module _ (tool : MergeTool) where
   MayCome b r = (side : Side) → MayFollow cmp (key side) (b side) (r side)
 
   -- For all lines that may follow, and for every choice of keys, the entries of the processed lines come first.
-  pub record Splits (b : Side → Bound) (p : Side → Lines) : Type 0 where
-    pub split : (w : List ℕ → Bool) (r : Side → Lines) → ((side : Side) → MayFollow cmp (key side) (b side) (r side))
-        → entries_by_key tool w (λ side. p side ++ r side) ≡ entries_by_key tool w p ++ entries_by_key tool w r
+  abbrev pub Splits : (Side → Bound) → (Side → Lines) → Type 0
+  Splits b p = (w : List ℕ → Bool) (r : Side → Lines) → MayCome b r
+      → entries_by_key tool w (λ side. p side ++ r side) ≡ entries_by_key tool w p ++ entries_by_key tool w r
 
   -- lines are processed whose entries precede those of all lines that may follow
   pub splits_step : (b d : Side → Bound) (p f : Side → Lines) → Splits b p
       → ((side : Side) (r : Lines) → MayFollow cmp (key side) (d side) r
-      → MayFollow cmp (key side) (b side) (f side ++ r))
-      → ((w : List ℕ → Bool) (r : Side → Lines) → MayCome d r
+      → MayFollow cmp (key side) (b side) (f side ++ r)) → ((w : List ℕ → Bool) (r : Side → Lines) → MayCome d r
       → entries_by_key tool w (λ side. f side ++ r side) ≡ entries_by_key tool w f ++ entries_by_key tool w r)
       → Splits d (λ side. p side ++ f side)
-  splits_step b d p f s u front = record {
-    split = λ w r c.
-        let none = λ (side : Side). rw append-nil at (u side [] (may_follow_none cmp (key side) (d side))) in
-        (λ i. entries_by_key tool w (λ side. append_assoc (p side) (f side) (r side) i))
-        ∙ cc (
-          s.split w (λ side. f side ++ r side) (λ side. u side (r side) (c side)),
-          s.split w f none,
-          front w r c,
-          append_assoc (entries_by_key tool w p) (entries_by_key tool w f) (entries_by_key tool w r),
-        );
-  }
+  splits_step b d p f s u front w r c =
+      let none = λ (side : Side). rw append-nil at (u side [] (may_follow_none cmp (key side) (d side))) in
+      (λ i. entries_by_key tool w (λ side. append_assoc (p side) (f side) (r side) i))
+      ∙ cc (
+        s w (λ side. f side ++ r side) (λ side. u side (r side) (c side)),
+        s w f none,
+        front w r c,
+        append_assoc (entries_by_key tool w p) (entries_by_key tool w f) (entries_by_key tool w r),
+      )
 
 -- ---- the bytes written
 
@@ -590,7 +587,7 @@ write_least_run {tool} o k q f {b} {p} {was} {is} {new} front all none law clean
     let nothing =
     λ (side : Side). rw append-nil at
     ((front side).may_follow [] (may_follow_none tool.cmp (tool.key side) (b side))) in
-    let texts = ap (unlines tool.terminator) (m.splits.split all_keys f nothing)
+    let texts = ap (unlines tool.terminator) (m.splits all_keys f nothing)
     ∙ unlines-append _ (entries_by_key tool all_keys p) (entries_by_key tool all_keys f) in
     let under : (of side : Side) → EachKey (IsUnder tool.cmp (b of)) (tool.key side) (p side ++ f side) =
     λ of side. EachKey-append _ (tool.key side) _ _ (m.under of side)
@@ -626,7 +623,7 @@ pub bounds_change : {tool : MergeTool} {b d : Side → Bound} {p : Side → Line
     → ((side : Side) → IsLater tool.cmp (tool.key side) (b side) (d side)) → MergeInvariant tool b p was is
     → MergeInvariant tool d p was is
 bounds_change later m = record {
-  splits = record { split = λ w r c. m.splits.split w r (λ side. (later side).may_follow (r side) (c side)) };
+  splits = λ w r c. m.splits w r (λ side. (later side).may_follow (r side) (c side));
   under = λ of side. EachKey-weaker _ _ (later of).under _ _ (m.under of side);
   wrote = m.wrote;
 }
@@ -715,4 +712,4 @@ input_split {tool} o {b} {p} {ls} m s =
     (λ k u1 u2. written_is_wanted _ o _ _ _ _ k (s First).may_disorder (s Second).may_disorder u1 u2)
     _ (m.under First side) (m.under Second side)) in
     (λ i. entries_by_key tool w (λ side. (s side).is i))
-    ∙ cc (m.splits.split w (λ side. (s side).rest) (λ side. (s side).may_follow), first)
+    ∙ cc (m.splits w (λ side. (s side).rest) (λ side. (s side).may_follow), first)

@@ -106,8 +106,7 @@ module _ {end : ℕ} {old now new : Reader} {ls : List (List ℕ)} {piece : List
   front_of is rest = rw is (simp append_assoc)
 
   -- the lines of an input that is consistent with the bytes received
-  pub lines_read_of_input : (input : List ℕ) → IsConsistent came input
-      → HoldsLines now ls piece (lines end input)
+  pub lines_read_of_input : (input : List ℕ) → IsConsistent came input → HoldsLines now ls piece (lines end input)
   lines_read_of_input = search (
     rules,
     front_of,
@@ -148,6 +147,5 @@ module _ {end : ℕ} {old now new : Reader} {ls : List (List ℕ)} {piece : List
       )
 
   -- at most one line was read, or a part of it
-  pub one_line_and_block : IsSound new → length ls + length (lines end piece) ≤ 1
-      → IsFirstLineAndBlock end came
+  pub one_line_and_block : IsSound new → length ls + length (lines end piece) ≤ 1 → IsFirstLineAndBlock end came
   one_line_and_block sound few = search (rules, lines_of_unlines, length-append, done_gives_nothing)

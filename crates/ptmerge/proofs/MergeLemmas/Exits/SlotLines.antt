@@ -85,8 +85,7 @@ pub record LinesTotal (xs : List (List ℕ)) (m : Side → ℕ) (more : ℕ) : T
   pub is : total_bytes xs ≡ ((length (get_or xs 0 []) + length (get_or xs 1 [])) + length (get_or xs 2 [])) + length
       (get_or xs 3 []) + more
 
-pub has_lines_total : (xs : List (List ℕ)) (m : Side → ℕ) (more : ℕ) → HasLines m more xs
-    → LinesTotal xs m more
+pub has_lines_total : (xs : List (List ℕ)) (m : Side → ℕ) (more : ℕ) → HasLines m more xs → LinesTotal xs m more
 has_lines_total = grind (arith, four_total)
 
 -- the next line of an input replaces its previous line

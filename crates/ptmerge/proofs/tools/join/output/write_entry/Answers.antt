@@ -22,8 +22,7 @@ returns-in-None-Some-Some g c =
     let at = c.in-None-Some-Some in
     let one = ap option_copied at.is-1 in
     let two = ap option_copied at.is-2 in
-    pushes_entry job key _ one two (pair_is job key at.is-0 _
-    (c.is_canonical.ensures c.if-is_canonical.true)
+    pushes_entry job key _ one two (pair_is job key at.is-0 _ (c.is_canonical.ensures c.if-is_canonical.true)
     (c.is_canonical-then-is_canonical.ensures c.if-is_canonical-2.true)
     (subst (IsKeyOf job First key) one c.requires.one) (subst (IsKeyOf job Second key) two c.requires.two))
     c.push_line.ensures.pushed
