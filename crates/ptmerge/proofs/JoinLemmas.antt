@@ -1,7 +1,6 @@
 -- The loop invariant of `join`, and its iterations between two groups. Between groups the invariant is that of the
 -- merge. An iteration there writes one unpaired line, opens a group or ends the loop. The remaining work, three times
 -- the reads that are left plus the rank of the phase, decreases in each iteration.
-pub mod PartialWrite
 pub mod Group
 pub mod Fields
 use Rattle.ptmerge.proofs

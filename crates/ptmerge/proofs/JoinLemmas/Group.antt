@@ -11,7 +11,7 @@ use proofs.Common.{HasSlots, with_side, MergeTool, ◌&&◌, Bool, Some, sym, su
 use proofs.Common.{Output, PushEffect, push_trans, unlines-append, CursorStatus, Head, Ended, Disorder, entries_by_key}
 use proofs.Common.{entries_of_key, MergeState, NextOkPost, other, PrecedesInput, disorder, merged_entries}
 use proofs.Common.{sorted_prefixes, is_up_to, line_of_with_line}
-use proofs.JoinLemmas.PartialWrite.{partial_starts}
+use proofs.JoinLemmas.Fields.{partial_starts}
 use proofs.MergeLemmas.{line_other, HasLines, StoreOfLines, has_lines_total, set_line, put_each, put_same, low_slot}
 use proofs.MergeLemmas.{put_both, put_other, side_case, EachKey, same_bytes, Bound, AtLeast, MayFollow, IsUnder}
 use proofs.MergeLemmas.{MergeInvariant, IsFuture, MayCome, all_keys, splits_step, all_wanted, written_is_wanted}

@@ -3,8 +3,7 @@ use Rattle.std.proofs.lemmas.Grind.{common_steps}
 use Rattle.ptmerge.proofs
 use proofs.Common.{◌≡◌, List, [], ◌∷◌, ◌++◌, ℕ, Option, Result, append-nil, ap, refl, subst, First, Join, Output, arith}
 use proofs.Common.{PushPost, Second, entry_with_list, join_job, option_copied}
-use proofs.JoinLemmas.PartialWrite.{then_pushes}
-use proofs.JoinLemmas.Fields.{first_is, pair_is, second_is}
+use proofs.JoinLemmas.Fields.{then_pushes, first_is, pair_is, second_is}
 use Rattle.ptmerge.specs.JoinFields.{IsKeyOf}
 use Rattle.ptmerge.proofs.tools.join.output.write_entry.Goals as goal
 

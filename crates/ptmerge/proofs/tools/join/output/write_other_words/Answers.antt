@@ -2,8 +2,7 @@
 use Rattle.std.proofs.lemmas.Grind.{common_steps}
 use Rattle.ptmerge.proofs
 use proofs.Common.{◌-◌, ◌∷◌, ℕ, List, ap, arith, with_prefix}
-use proofs.JoinLemmas.PartialWrite.{partial_ends, each_fails, each_more}
-use proofs.JoinLemmas.Fields.{others_more, others_rest}
+use proofs.JoinLemmas.Fields.{partial_ends, each_fails, each_more, others_more, others_rest}
 use Rattle.ptmerge.proofs.tools.join.output.write_other_words.Goals as goal
 
 pub returns-in_err-write_prefixed_field : goal.returns-in_err-write_prefixed_field
