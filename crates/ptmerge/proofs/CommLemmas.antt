@@ -118,18 +118,17 @@ module _ {job : Comm} {cmp : Cmp} {key : Side → Key} {old now : MergeState} {o
       pub alone_fails : EndsIfFails tool old now s (both one two s) new
       alone_fails = alone_breaks lines_before step between.clean merge_invariant wrote_line
 
-  -- a step for a line of both inputs, after the first input advanced: the second one is still at the line
-  pub second_advance_pre : HaveEqualKeys cmp key (both one two) now.store
-      → {one2 two2 : Sorted} {reader : Reader} {after : Slots} {mid : Output}
-      → Advances First one2 two2 reader after mid → AdvancePre key Second one2 two2 (now.reader Second) after
-  second_advance_pre step h = grind (arith, advance_pre, between_next)
-
   module _ (step : HaveEqualKeys cmp key (both one two) now.store) where
-    pub pair_decreases : {one2 two2 one3 two3 : Sorted} {reader reader2 : Reader} {after last : Slots}
-        {mid new : Output} → Advances First one2 two2 reader after mid
-        → AdvanceOkPost key cmp Second one2 two2 one3 two3 (now.reader Second) reader2 after last new
-        → reads_ahead (both reader reader2) one3 two3 < reads_ahead now.reader one two
-    pair_decreases h k = grind (arith, reads_less, between_next, second_advance_pre)
+    -- after the first input advanced: the second one is still at the line
+    module _ {one2 two2 : Sorted} {reader : Reader} {after : Slots} {mid : Output}
+        (h : Advances First one2 two2 reader after mid) where
+      pub second_advance_pre : AdvancePre key Second one2 two2 (now.reader Second) after
+      second_advance_pre = grind (arith, advance_pre, between_next)
+
+      pub pair_decreases : {one3 two3 : Sorted} {reader2 : Reader} {last : Slots} {new : Output}
+          → AdvanceOkPost key cmp Second one2 two2 one3 two3 (now.reader Second) reader2 after last new
+          → reads_ahead (both reader reader2) one3 two3 < reads_ahead now.reader one two
+      pair_decreases k = grind (arith, reads_less, between_next, second_advance_pre)
 
     abbrev both_written : Side → Lines
     both_written = both (ls First) (ls Second)

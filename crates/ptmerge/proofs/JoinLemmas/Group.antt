@@ -328,9 +328,9 @@ pub record OutputStartsWith (tool : MergeTool) (g : Side → Lines) (d : Side �
       × (entries_by_key tool w (λ side. g side ++ r side) ≡ extra ++ rest)
 
 -- the group has entries, for all lines that may follow
-pub record HasEntries (tool : MergeTool) (g : Side → Lines) (d : Side → Bound) (k : List ℕ) : Type 0 where
-  pub some : (w : List ℕ → Bool) (r : Side → Lines) → MayCome tool d r → w k ≡ true
-      → 0 < length (entries_by_key tool w (λ side. g side ++ r side))
+abbrev pub HasEntries : MergeTool → (Side → Lines) → (Side → Bound) → List ℕ → Type 0
+HasEntries tool g d k = (w : List ℕ → Bool) (r : Side → Lines) → MayCome tool d r → w k ≡ true
+    → 0 < length (entries_by_key tool w (λ side. g side ++ r side))
 
 module _ {tool : MergeTool} {old : MergeState} (w : IsOpenMerge tool old) {mid : Output} {p g : Side → Lines}
     {d : Side → Bound} {k : List ℕ} (m : OutputInGroup tool old.out mid p g d k) where
@@ -383,7 +383,7 @@ module _ {tool : MergeTool} {old : MergeState} (w : IsOpenMerge tool old) {mid :
     -- the entries of lesser keys are not all, if the group has entries
     pub front_is_not_all : HasEntries tool g d k → ¬ (merged_entries tool all ≡ front ++ [])
     front_is_not_all has same =
-        let some = has.some is_wanted coming (λ side. (seen side).may_follow) (wanted k (self_at_most cmp o k)) in
+        let some = has is_wanted coming (λ side. (seen side).may_follow) (wanted k (self_at_most cmp o k)) in
         let own = entries_by_key tool is_wanted (λ side. g side ++ coming side) in
         absurd (omega (
           arith,
@@ -529,17 +529,15 @@ module _ (call : JoinCall) {mid : Output} {p g : Side → Lines} {d : Side → B
 
   -- the entries of a group of lines of both inputs
   pub has_entries : tool.keeps_groups ≡ true → ((side : Side) → 0 < length (g side)) → HasEntries tool g d k
-  has_entries keeps some = record {
-    some = λ w r c wanted.
-        let f = g First ++ lines_with_key (key First) (r First) k in
-        let s = g Second ++ lines_with_key (key Second) (r Second) k in
-        let own = some_entries keeps f s
-        (omega (arith, some First, length-append (g First) (lines_with_key (key First) (r First) k)))
-        (omega (arith, some Second, length-append (g Second) (lines_with_key (key Second) (r Second) k))) in
-        let rest = entries_by_key tool w (others_of tool o k r) in
-        rw (front_is tool o w k g r m.own (none_less r c) (call.w.alone.none k), wanted)
-        (omega (arith, own, length-append (entries k f s) rest));
-  }
+  has_entries keeps some w r c wanted =
+      let f = g First ++ lines_with_key (key First) (r First) k in
+      let s = g Second ++ lines_with_key (key Second) (r Second) k in
+      let own = some_entries keeps f s
+      (omega (arith, some First, length-append (g First) (lines_with_key (key First) (r First) k)))
+      (omega (arith, some Second, length-append (g Second) (lines_with_key (key Second) (r Second) k))) in
+      let rest = entries_by_key tool w (others_of tool o k r) in
+      rw (front_is tool o w k g r m.own (none_less r c) (call.w.alone.none k), wanted)
+      (omega (arith, own, length-append (entries k f s) rest))
 
   own_entries : (f s : Lines) → 0 < length f → 0 < length s → entries k f s ≡ pairs k f s
   own_entries (a ∷ f) (b ∷ s) some1 some2 = laws.whole k a b f s
