@@ -345,6 +345,10 @@ module _ {job : Join} {cmp : Cmp} {key : Side → Key} {old : MergeState} {phase
             (passing_now first) all w (has_entries call (within_more first) keeps
             (elim [ First ↦ omega arith | Second ↦ omega (arith, length_push a.g y) ]))
 
+        -- the previous line stands for the group, if none is copied
+        one_for_all : a.kept ≡ [] → IsOneForAll call a.k (line made two2.previous_slot) a.kept grown
+        one_for_all = grind (arith, last_stays, a.heads Second, a, all_copied)
+
         -- the group after the line was added to it, with its copied lines
         record GrownGroup (after : Slots) (to : ℕ) : Type 0 where
           kept : Lines
@@ -364,7 +368,7 @@ module _ {job : Join} {cmp : Cmp} {key : Side → Key} {old : MergeState} {phase
               same = λ i low. refl;
               copied = λ same. ⊎_elim (λ without. none ∙ sym (λ i. cond (without i) grown [])) (λ (differs, _). cc)
                   e.stays;
-              lines_in = inr (grind (arith, last_stays, a.heads Second, a, all_copied));
+              lines_in = inr (one_for_all none);
             })
         grown_group {after} (inr e) =
             let all : a.kept ++ y ∷ [] ≡ grown = cc (all_copied e.keeps) in

@@ -120,6 +120,11 @@ record FailedAdvance (cursor : Sorted) (was is : Reader) (before after : Slots) 
   pub count : length after.lines ≡ length (with_line before cursor.previous_slot piece).lines
   pub failed : is.failed ≡ true → was.failed ≡ false → (is.buffered ≡ []) × (is.eof ≡ false)
 
+failed_advance : (s : Side) (cursor : Sorted) (was is : Reader) (before after : Slots) (out : Output)
+    (fault : MergeFault) → IsSound was → AdvanceErrPost s cursor was is before after out fault
+    → FailedAdvance cursor was is before after
+failed_advance = search rules
+
 -- the input `s` is to advance, and all its lines are processed
 pub record IsAdvancing (tool : MergeTool) (old now : MergeState) (s : Side) (cursor : Sorted) (ls p : Side → Lines)
     (b : Side → Bound) : Type 0 where
@@ -151,8 +156,7 @@ module _ {tool : MergeTool} {old : MergeState} (w : IsOpenMerge tool old) {now :
       → ((side : Side) → ReadFactsOf tool old now.reader ls p b side (new.reader side) (piece side))
       → ComeFirst tool now.reader ls done) → EndsIfFails tool old now s cursor out
   advance_fails {out} {done} lag first new after fault e =
-      let sound = (a.facts s).sound in
-      let f : FailedAdvance cursor (now.reader s) new now.store after = search rules in
+      let f = failed_advance s cursor (now.reader s) new _ after out fault (a.facts s).sound e in
       let facts = put_both (ReadFactsOf tool old now.reader ls p b) s new _ f.piece (λ side. [])
       (grind (arith, a.facts s, f)) (a.facts (other s)) in
       let is = state_by_side (with_side s new now.reader) out after in

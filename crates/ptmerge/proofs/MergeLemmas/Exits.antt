@@ -446,7 +446,7 @@ module _ (tool : MergeTool) (o : IsKeyOrder tool.cmp) (s : Side) (old now new : 
         let more : IsSortedUpTo cmp own (ls ++ e.line ∷ []) (Some (own e.line)) =
         grind (arith, common_steps, sorted_up_to) in
         let within : cursor.previous_slot < length before.lines = omega (arith, low) in
-        at_status last Head (AtLeast (own e.line)) (grind (arith, common_steps, after_from, self_at_most, more))
+        at_status last Head (AtLeast (own e.line)) (processed_before_line o more)
         (λ ended. cc) (grind (arith, more, line_of_with_line)) (from_next o own last e.line none)
     at_line None sorted_up_to is true disordered = cc
     at_line (Some k) sorted_up_to is true disordered =

@@ -409,6 +409,11 @@ pub record IsFuture (cmp : Cmp) (key : Key) (all p : Lines) (b : Bound) : Type 0
 pub record IsProcessedPrefix (cmp : Cmp) (key : Key) (ls p : Lines) (b : Bound) : Type 0 where
   pub future : (w : Lines) → (b ≡ NothingMore → w ≡ []) → IsFuture cmp key (ls ++ w) p b
 
+-- the current line is not yet processed
+pub processed_before_line : {cmp : Cmp} (o : IsKeyOrder cmp) {key : Key} {p : Lines} {x : List ℕ}
+    → IsSortedUpTo cmp key (p ++ x ∷ []) (Some (key x)) → IsProcessedPrefix cmp key (p ++ x ∷ []) p (AtLeast (key x))
+processed_before_line = grind (arith, common_steps, after_from, self_at_most)
+
 -- ---- the output
 
 abbrev pub all_keys : List ℕ → Bool
