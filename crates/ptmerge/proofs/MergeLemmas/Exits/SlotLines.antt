@@ -7,7 +7,7 @@ use proofs.Common.{ReaderAdvance, AdvanceOk, IsDone, Slots, unlines, lines, comp
 use proofs.Common.{max_length, received_with, advance_ok_trans, unlines_push, IsSound, HasNoLine, IsFirstLineAndBlock}
 use proofs.Common.{◌≢◌, zero, suc, ◌*◌, get_or, set, line, total_bytes, with_new_slot, with_line, Side, First, Second}
 use proofs.Common.{Sorted, HasSlots, EnsureFourSlotsPost, ClearFourSlotsPost, Bool, both, with_side, other, with_input}
-use proofs.Common.{both_sides}
+use proofs.Common.{both_sides, length-set}
 use Rattle.ptlines.proofs.MaxLength.{max_length-append, piece_le_max_length}
 use Rattle.std.proofs.Common.{rules}
 use Rattle.std.proofs.lemmas.Grind.{common_steps}
@@ -260,7 +260,15 @@ pub store_with_line : {before store after : Slots} (s : Side) (cursor : Sorted) 
     (x : List ℕ)
     → HasSlots s cursor → StoreOfLines before store m → ((side : Side) → m side ≤ k side) → length x ≤ k s
     → after ≡ with_line store cursor.previous_slot x → StoreOfLines before after k
-store_with_line = grind (arith, common_steps, set_line, has_lines_total)
+store_with_line {store = store} s cursor {m} k x slots keeps up fit is =
+    let lines = set_line s cursor store.lines m k 0 x slots keeps.lines up fit in
+    let total = has_lines_total (set store.lines cursor.previous_slot x) k 0 lines in
+    rw is (record {
+      lines = lines;
+      peak = omega (arith, keeps.peak, total, up First, up Second);
+      slots = length-set store.lines cursor.previous_slot x ∙ keeps.slots;
+      denied = keeps.denied;
+    })
 
 -- the first four slots were emptied
 cleared : (lines : List (List ℕ)) (peak : ℕ) (denied : Bool) → 4 ≤ length lines
