@@ -204,7 +204,17 @@ StoreHoldsTwoLines before store ls = StoreOfLines before store (λ side. max_len
 pub holds_two : {tool : MergeTool} (fits : HoldsTwoLines tool) {before store : Slots} {reader : Side → Reader}
     {cursor : Side → Sorted} {ls : Side → Lines} → StoreHoldsTwoLines before store ls
     → ((side : Side) → HasSlots side (cursor side)) → StoreInvariant tool before reader cursor store ls
-holds_two = grind (arith, common_steps, has_lines_total, store_with_line, put_same)
+holds_two fits {cursor = cursor} {ls = ls} keeps slots = record {
+  lines = keeps.lines;
+  denied = keeps.denied;
+  fits = λ after small same all holds. (let total = has_lines_total _ (λ side. max_length (ls side)) 0 keeps.lines in
+      omega (arith, keeps.peak, keeps.slots, total, fits all, (holds First).longest, (holds Second).longest));
+  line = λ s piece all holds.
+      let longest = rw (put_same s piece (λ side. [])) at (holds s).longest in
+      let next = store_with_line s (cursor s) (λ side. max_length (all side)) piece (slots s) keeps
+      (λ side. omega (arith, (holds side).longest)) (omega (arith, longest)) refl in
+      omega (arith, next.peak, next.slots, fits all);
+}
 
 -- the cursors between two steps, for any output
 pub record CursorsInvariant (tool : MergeTool) (old : MergeState) (reader : Side → Reader) (cursor : Side → Sorted)
