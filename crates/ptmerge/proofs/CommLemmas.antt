@@ -35,9 +35,6 @@ tabs_of job First = []
 tabs_of job Second = tab_if_shown job.hide1 ++ []
 
 module _ (job : Comm) (x : List ℕ) where
-  entries_none : entries job x 0 0 ≡ []
-  entries_none = grind (arith, no_entries)
-
   entries_both : (n k : ℕ) → entries job x (suc n) (suc k) ≡ entries job x 1 1 ++ entries job x n k
   entries_both n k = grind (arith, no_entries, one_more_entry)
 
@@ -121,25 +118,22 @@ module _ {job : Comm} {cmp : Cmp} {key : Side → Key} {old now : MergeState} {o
       pub alone_fails : EndsIfFails tool old now s (both one two s) new
       alone_fails = alone_breaks lines_before step between.clean merge_invariant wrote_line
 
-  -- a step for a line of both inputs, after the first input advanced: the second one is still at the line
-  pub second_advance_pre : HaveEqualKeys cmp key (both one two) now.store
-      → {one2 two2 : Sorted} {reader : Reader} {after : Slots} {mid : Output}
-      → Advances First one2 two2 reader after mid
-      → AdvancePre key Second one2 two2 (now.reader Second) after
-  second_advance_pre step h = grind (arith, advance_pre, between_next)
-
   module _ (step : HaveEqualKeys cmp key (both one two) now.store) where
-    pub pair_decreases : {one2 two2 one3 two3 : Sorted} {reader reader2 : Reader} {after last : Slots}
-        {mid new : Output} → Advances First one2 two2 reader after mid
-        → AdvanceOkPost key cmp Second one2 two2 one3 two3 (now.reader Second) reader2 after last new
-        → reads_ahead (both reader reader2) one3 two3 < reads_ahead now.reader one two
-    pair_decreases h k = grind (arith, reads_less, between_next, second_advance_pre)
+    -- after the first input advanced: the second one is still at the line
+    module _ {one2 two2 : Sorted} {reader : Reader} {after : Slots} {mid : Output}
+        (h : Advances First one2 two2 reader after mid) where
+      pub second_advance_pre : AdvancePre key Second one2 two2 (now.reader Second) after
+      second_advance_pre = grind (arith, advance_pre, between_next)
+
+      pub pair_decreases : {one3 two3 : Sorted} {reader2 : Reader} {last : Slots} {new : Output}
+          → AdvanceOkPost key cmp Second one2 two2 one3 two3 (now.reader Second) reader2 after last new
+          → reads_ahead (both reader reader2) one3 two3 < reads_ahead now.reader one two
+      pair_decreases k = grind (arith, reads_less, between_next, second_advance_pre)
 
     abbrev both_written : Side → Lines
     both_written = both (ls First) (ls Second)
 
-    wrote_both : {new : Output}
-        → PushEffect now.out new
+    wrote_both : {new : Output} → PushEffect now.out new
         (unlines job.terminator (entries_by_key tool all_keys (both (head First ∷ []) (head Second ∷ []))))
         → MergeInvariant tool b both_written old.out new × AllWritten tool b both_written old.out new
     wrote_both {new} wrote =
@@ -148,7 +142,7 @@ module _ {job : Comm} {cmp : Cmp} {key : Side → Key} {old now : MergeState} {o
         let x = head First in
         write_least_run w.o (key First x) both_written (both (x ∷ []) (head Second ∷ []))
         (elim [ First ↦ line_is_least_run w.o h1.bound refl | Second ↦ line_is_least_run w.o h2.bound (sym step.same) ])
-        (elim [ First ↦ h1.all | Second ↦ h2.all ]) (entries_none job (key First x))
+        (elim [ First ↦ h1.all | Second ↦ h2.all ]) (w.alone.none (key First x))
         (λ r c. entries_both job (key First x) _ _) between.clean merge_invariant wrote
 
     module _ {mid : Output} {tabs : List ℕ} (led : tabs ≡ tab_if_shown job.hide1 ++ tab_if_shown job.hide2)

@@ -1,7 +1,6 @@
 -- The loop invariant of `join`, and its iterations between two groups. Between groups the invariant is that of the
 -- merge. An iteration there writes one unpaired line, opens a group or ends the loop. The remaining work, three times
 -- the reads that are left plus the rank of the phase, decreases in each iteration.
-pub mod PartialWrite
 pub mod Group
 pub mod Fields
 use Rattle.ptmerge.proofs
@@ -166,14 +165,6 @@ module _ {job : Join} {cmp : Cmp} {key : Side → Key} {old : MergeState} {phase
   abbrev call : JoinCall
   call = join_call_of t.opened
 
-  pub end_in : (4 ≤ end) × (end ≤ length now.store.lines)
-  end_in = by phase t.phased
-    where
-      by : (p : JoinPhase) → PhaseInvariant call p now (both one two) end → (4 ≤ end) × (end ≤ length now.store.lines)
-      by phases.BetweenGroups (r, at) = omega (arith, at, r.keeps.four)
-      by phases.ReadGroup r = (omega (arith, r.q.at), end_within r.q.keeps r.q.at)
-      by phases.WritePairs r = (omega (arith, r.q.at), end_within r.q.keeps r.q.at)
-
   pub iteration_continues : {next : JoinPhase} (s : Side) {one2 two2 : Sorted} {reader : Reader} {after : Slots}
       {new : Output} {to : ℕ} → IsReadyToContinue key s one two one2 two2 reader after new
       → PhaseInvariant call next (state_after_read now s reader new after)
@@ -294,6 +285,9 @@ module _ {job : Join} {cmp : Cmp} {key : Side → Key} {old : MergeState} {phase
     a : ReadGroup call now (both one two) end
     a = rw is at t.phased
 
+    pub read_group_in : (4 ≤ end) × (end ≤ length now.store.lines)
+    read_group_in = end_in a.q
+
     pub read_group_pre : AdvancePre key Second one two (now.reader Second) now.store
     read_group_pre = advance_pre t.between Second (a.heads Second).head
 
@@ -351,6 +345,10 @@ module _ {job : Join} {cmp : Cmp} {key : Side → Key} {old : MergeState} {phase
             (passing_now first) all w (has_entries call (within_more first) keeps
             (elim [ First ↦ omega arith | Second ↦ omega (arith, length_push a.g y) ]))
 
+        -- the previous line stands for the group, if none is copied
+        one_for_all : a.kept ≡ [] → IsOneForAll call a.k (line made two2.previous_slot) a.kept grown
+        one_for_all = grind (arith, last_stays, a.heads Second, a, all_copied)
+
         -- the group after the line was added to it, with its copied lines
         record GrownGroup (after : Slots) (to : ℕ) : Type 0 where
           kept : Lines
@@ -360,8 +358,7 @@ module _ {job : Join} {cmp : Cmp} {key : Side → Key} {old : MergeState} {phase
           copied : two2.same ≡ true → kept ≡ cond call.keeps_groups grown []
           lines_in : IsGroupIn call a.k (line after two2.previous_slot) kept grown
 
-        grown_group : {after : Slots} {to : ℕ}
-            → IsInItsSlot call.keeps_groups two2 made after end to
+        grown_group : {after : Slots} {to : ℕ} → IsInItsSlot call.keeps_groups two2 made after end to
             ⊎ IsCopiedToGroup call.keeps_groups two2 made after end to → GrownGroup after to
         grown_group (inl e) =
             let none = ⊎_elim none_copied (λ (_, four). nil_from_length a.kept (omega (arith, four, a.q.at))) e.stays in
@@ -371,7 +368,7 @@ module _ {job : Join} {cmp : Cmp} {key : Side → Key} {old : MergeState} {phase
               same = λ i low. refl;
               copied = λ same. ⊎_elim (λ without. none ∙ sym (λ i. cond (without i) grown [])) (λ (differs, _). cc)
                   e.stays;
-              lines_in = inr (grind (arith, last_stays, a.heads Second, a, all_copied));
+              lines_in = inr (one_for_all none);
             })
         grown_group {after} (inr e) =
             let all : a.kept ++ y ∷ [] ≡ grown = cc (all_copied e.keeps) in
@@ -453,10 +450,9 @@ module _ {job : Join} {cmp : Cmp} {key : Side → Key} {old : MergeState} {phase
             length_push a.g y,
           ))
           (both_begun (λ side. (q.sides side).begun))
-          (λ side fail. cc (none_failed q side, call.w.unfailed side)) (Err Memory)
-          (record {
+          (λ side fail. cc ((q.sides side).lines_read.advance_ok.failed, call.w.unfailed side)) (Err Memory) (record {
             denied = e.copy_failed.denied;
-            unfailed = λ side read. none_failed q side;
+            unfailed = λ side read. (q.sides side).lines_read.advance_ok.failed;
             clean = fine;
             left = λ four. inr (
               e.keeps,
@@ -506,7 +502,7 @@ module _ {job : Join} {cmp : Cmp} {key : Side → Key} {old : MergeState} {phase
     pub write_pairs_group : IsGroup (join_key job Second) two now.store end
         (key First (line now.store one.current_slot))
     write_pairs_group = record {
-      within = end_in;
+      within = end_in state.q;
       keyed = λ slot from low. sym
           (t.opened.keys Second (line now.store slot)) ∙ keyed_slot slot from low ∙ sym state.head.is;
     }
@@ -543,7 +539,7 @@ module _ {job : Join} {cmp : Cmp} {key : Side → Key} {old : MergeState} {phase
         above_on = rw on_first.bound state.above
 
         pub group_there : (4 ≤ end) × (end ≤ length after.lines)
-        group_there = grind (arith, end_in, length-set, h.came)
+        group_there = grind (arith, end_in state.q, length-set, h.came)
 
         pub write_pairs_continues : one2.same ≡ true
             → IterationInvariant job cmp key old phase (state_after_read now First reader new after) one2 two2 end
@@ -564,8 +560,7 @@ module _ {job : Join} {cmp : Cmp} {key : Side → Key} {old : MergeState} {phase
         group_closed {cleared} clear same =
             let q = on_first.group in
             let valid_cursors = valid_cursors_kept key one2 two2 after cleared h.continues.valid_cursors
-            (omega arith)
-            (λ i low. clear.others i (inl low)) in
+            (omega arith) (λ i low. clear.others i (inl low)) in
             iteration_continues {next = phases.BetweenGroups} First (assumption (h.continues, valid_cursors)) (
               record {
                 ls = q.ls;

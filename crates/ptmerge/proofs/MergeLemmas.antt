@@ -1,9 +1,6 @@
 -- The steps of a merge. A line that precedes everything in the other input is processed, and its input advances; the
 -- next line has no lesser key, so the invariant holds again. A step ends the loop when both inputs are at their ends or
 -- a disorder is reported, and a fault of a write or read ends it with a prefix of the output.
-pub mod ReadLines
-pub mod Invariant
-pub mod SlotLines
 pub mod Exits
 use Rattle.ptmerge.proofs
 use proofs.Common.{AdvancePre, IsReadyToContinue, ◌≡◌, inl, inr, ℕ, ◌+◌, ◌≤◌, true, false, List, [], ◌∷◌, Option, Some}
@@ -21,9 +18,6 @@ use Rattle.std.proofs.lemmas.Grind.{common_steps}
 use Rattle.ptmerge.specs.Cursor.{NextErrPost, initial_cursor, base_slot}
 use Rattle.ptmerge.specs.MergeSteps.{StartErrPost, StartFirstPost, MergeInputs, IsReaderOf, IsReportable}
 use Rattle.ptmerge.specs.MergeSteps.{AreValidCursors, StartOkPost, merge_inputs, previous_key}
-pub use Invariant.*
-pub use ReadLines.*
-pub use SlotLines.*
 pub use Exits.*
 
 -- ---- keys that may follow
@@ -126,6 +120,11 @@ record FailedAdvance (cursor : Sorted) (was is : Reader) (before after : Slots) 
   pub count : length after.lines ≡ length (with_line before cursor.previous_slot piece).lines
   pub failed : is.failed ≡ true → was.failed ≡ false → (is.buffered ≡ []) × (is.eof ≡ false)
 
+failed_advance : (s : Side) (cursor : Sorted) (was is : Reader) (before after : Slots) (out : Output)
+    (fault : MergeFault) → IsSound was → AdvanceErrPost s cursor was is before after out fault
+    → FailedAdvance cursor was is before after
+failed_advance = search rules
+
 -- the input `s` is to advance, and all its lines are processed
 pub record IsAdvancing (tool : MergeTool) (old now : MergeState) (s : Side) (cursor : Sorted) (ls p : Side → Lines)
     (b : Side → Bound) : Type 0 where
@@ -155,20 +154,16 @@ module _ {tool : MergeTool} {old : MergeState} (w : IsOpenMerge tool old) {now :
   pub advance_fails : {out : Output} {done : Lines} → LagInvariant tool b p old.out out done
       → ((new : MergeState) (piece : Side → List ℕ)
       → ((side : Side) → ReadFactsOf tool old now.reader ls p b side (new.reader side) (piece side))
-      → ComeFirst tool now.reader ls done)
-      → EndsIfFails tool old now s cursor out
+      → ComeFirst tool now.reader ls done) → EndsIfFails tool old now s cursor out
   advance_fails {out} {done} lag first new after fault e =
-      let sound = (a.facts s).sound in
-      let f : FailedAdvance cursor (now.reader s) new now.store after = search rules in
+      let f = failed_advance s cursor (now.reader s) new _ after out fault (a.facts s).sound e in
       let facts = put_both (ReadFactsOf tool old now.reader ls p b) s new _ f.piece (λ side. [])
       (grind (arith, a.facts s, f)) (a.facts (other s)) in
       let is = state_by_side (with_side s new now.reader) out after in
-      exit_is_merge_post w is facts lag
-      (first is (with_side s f.piece (λ side. [])) facts)
+      exit_is_merge_post w is facts lag (first is (with_side s f.piece (λ side. [])) facts)
       (λ all holds. omega (arith, a.fits f.piece all holds)) (a.order new f.piece f.line)
       (put_each (λ side (r : Reader). r.failed ≡ true → IsFailedRead r (ls side) (p side)) s new _
-      (grind (arith, f, none_failed_yet s, w.unfailed s))
-      (λ side fail. cc (none_failed_yet side, w.unfailed side)))
+      (grind (arith, f, none_failed_yet s, w.unfailed s)) (λ side fail. cc (none_failed_yet side, w.unfailed side)))
       (Err fault) (advance_ends new after out _ _ fault e)
 
 -- ---- between two steps
@@ -209,7 +204,17 @@ StoreHoldsTwoLines before store ls = StoreOfLines before store (λ side. max_len
 pub holds_two : {tool : MergeTool} (fits : HoldsTwoLines tool) {before store : Slots} {reader : Side → Reader}
     {cursor : Side → Sorted} {ls : Side → Lines} → StoreHoldsTwoLines before store ls
     → ((side : Side) → HasSlots side (cursor side)) → StoreInvariant tool before reader cursor store ls
-holds_two = grind (arith, common_steps, has_lines_total, store_with_line, put_same)
+holds_two fits {cursor = cursor} {ls = ls} keeps slots = record {
+  lines = keeps.lines;
+  denied = keeps.denied;
+  fits = λ after small same all holds. (let total = has_lines_total _ (λ side. max_length (ls side)) 0 keeps.lines in
+      omega (arith, keeps.peak, keeps.slots, total, fits all, (holds First).longest, (holds Second).longest));
+  line = λ s piece all holds.
+      let longest = rw (put_same s piece (λ side. [])) at (holds s).longest in
+      let next = store_with_line s (cursor s) (λ side. max_length (all side)) piece (slots s) keeps
+      (λ side. omega (arith, (holds side).longest)) (omega (arith, longest)) refl in
+      omega (arith, next.peak, next.slots, fits all);
+}
 
 -- the cursors between two steps, for any output
 pub record CursorsInvariant (tool : MergeTool) (old : MergeState) (reader : Side → Reader) (cursor : Side → Sorted)
@@ -243,8 +248,7 @@ module _ {tool : MergeTool} {old : MergeState} {reader : Side → Reader} {curso
   -- the iteration failed, after the lines `q` were processed
   pub iteration_fails : (s : Side) → (cursor s).status ≡ Head → {q : Side → Lines} {out : Output}
       → MergeInvariant tool b q old.out out × AllWritten tool b q old.out out → q s ≡ ls s
-      → ReadFactsBy (other s) (q (other s))
-      → EndsIfFails tool old (state_by_side reader out store) s (cursor s) out
+      → ReadFactsBy (other s) (q (other s)) → EndsIfFails tool old (state_by_side reader out store) s (cursor s) out
   iteration_fails s head {q} {out} (m, lag) same rest =
       advance_fails w {now = state_by_side reader out store} {cursor = cursor s} {p = q} (record {
         facts = side_case _ s (rw same (passing_now s head)) rest;
@@ -268,8 +272,7 @@ module _ {tool : MergeTool} {old : MergeState} {reader : Side → Reader} {curso
         current_key_is_above _ w.o _ _ _ _ _ _ _ _ _ step.before (a.sides (other s)).status_is in
         let none = lines_with_key-above tool w.o (key (other s)) (key s x) in
         write_least_run w.o (key s x) (with_side s (ls s) p) (alone s x)
-        (side_case _ s (simp put_same (line_is_least_run w.o h.bound refl))
-        (simp put_other (record {
+        (side_case _ s (simp put_same (line_is_least_run w.o h.bound refl)) (simp put_other (record {
           -- no line of the other input has the key, and only greater keys follow
           own = tt;
           may_follow = λ r c. c;
@@ -307,8 +310,7 @@ module _ {tool : MergeTool} {old : MergeState} {reader : Side → Reader} {curso
 
     pushed_all : {found : Option (Side × ℕ)} → (found ≡ None → (side : Side) → IsDone (reader side))
         → IsExactStop tool b found → AllPushed both_sides (merge_engine tool) old last
-        (given w last read_facts_current)
-        (output_of tool p) found
+        (given w last read_facts_current) (output_of tool p) found
     pushed_all ended stop =
         let exact = exact_output w last read_facts_current m stop in
         record {
@@ -323,19 +325,15 @@ module _ {tool : MergeTool} {old : MergeState} {reader : Side → Reader} {curso
           empty = omega (arith, (has_lines_total store.lines (λ side. max_length (ls side)) 0 a.holds.lines).is);
         }
 
-    concludes : (result : Result (Unit {0}) MergeFault)
-        → CallOutcome both_sides (merge_engine tool) old last
-        (given w last read_facts_current)
-        (output_of tool p) (merge_end result)
+    concludes : (result : Result (Unit {0}) MergeFault) → CallOutcome both_sides (merge_engine tool) old last
+        (given w last read_facts_current) (output_of tool p) (merge_end result)
         → MergePost tool old last result
     concludes result ends = exit_is_merge_post w _ read_facts_current
-        (lag_invariant_starts m clean (push_nothing out))
-        (processed_come_first w last read_facts_current m)
+        (lag_invariant_starts m clean (push_nothing out)) (processed_come_first w last read_facts_current m)
         (a.holds.fits after clear.peak clear.slots) (both_begun begun)
         (λ side fail. cc (none_failed side, w.unfailed side)) result ends
 
-    pub ends_well : ((side : Side) → (cursor side).status ≡ Ended)
-        → MergePost tool old last (Ok tt)
+    pub ends_well : ((side : Side) → (cursor side).status ≡ Ended) → MergePost tool old last (Ok tt)
     ends_well step =
         let e : (side : Side) → (b side ≡ NothingMore) × IsDone (reader side) =
         λ side. rw (step side) at (a.sides side).status_is in
@@ -400,11 +398,8 @@ pub record BetweenSteps (key : Side → Key) (now : MergeState) (one two : Sorte
 pub between_starts : {key : Side → Key} {first second : Reader} {out : Output} {store : Slots} {one two : Sorted}
     → AreValidCursors key one two store → IsReaderOf one first × IsReaderOf two second → out.write_failed ≡ false
     → BetweenSteps key (merge_state first second out store) one two
-between_starts valid_cursors (reader1, reader2) clean = record {
-  valid_cursors = valid_cursors;
-  own_reader = elim [ First ↦ reader1 | Second ↦ reader2 ];
-  clean = clean;
-}
+between_starts valid_cursors (reader1, reader2) clean =
+    record { valid_cursors = valid_cursors; own_reader = elim [ First ↦ reader1 | Second ↦ reader2 ]; clean = clean }
 
 module _ {key : Side → Key} {now : MergeState} {one two : Sorted} (t : BetweenSteps key now one two) where
   pub advance_pre : (s : Side) → (both one two s).status ≡ Head → AdvancePre key s one two (now.reader s) now.store
@@ -431,8 +426,7 @@ wrote_and_sent was mid is pushed clean wrote written_out =
 
 -- the status at a line that is not the first
 pub later_status : (key : Key) (cmp : Cmp) (number : ℕ) (last next : List ℕ) (r : Ordering) → 0 < number
-    → r ≡ cmp (key last) (key next)
-    → (cond (is_gt r) (Disorder (number + 1)) Head ≡ status_at key cmp number last next)
+    → r ≡ cmp (key last) (key next) → (cond (is_gt r) (Disorder (number + 1)) Head ≡ status_at key cmp number last next)
     × (is_eq r ≡ same_key_at key cmp number last next)
 later_status = grind arith
 
@@ -500,11 +494,7 @@ module _ {tool : MergeTool} {old : MergeState} (w : IsOpenMerge tool old) where
         ls = both f.now_ls k.now_ls;
         p = no_lines;
         b = both f.bound k.bound;
-        sides = elim [
-          | First ↦ grind (arith, side_invariant_kept, line_other, apart)
-          | Second
-              ↦ k.side_invariant
-        ];
+        sides = elim [ First ↦ grind (arith, side_invariant_kept, line_other, apart) | Second ↦ k.side_invariant ];
         merge_invariant = bound_changes Second (half_invariant s) k.later;
         keeps = keeps _ (store_with_line Second (initial_cursor Second) _ k.bytes (fresh_slots Second) (half_store s)
             (elim [ First ↦ omega arith | Second ↦ omega arith ]) k.fits k.stored);
@@ -550,6 +540,5 @@ module _ {tool : MergeTool} {old : MergeState} (w : IsOpenMerge tool old) where
         let s = f.begins in
         let g = began s in
         first_read_fails Second (state_by_side (both new1 (old.reader Second)) old.out s.mid)
-        (elim [ First ↦ g.side_invariant.facts | Second ↦ unread Second ]) refl
-        (λ r piece free. grind (arith, g))
+        (elim [ First ↦ g.side_invariant.facts | Second ↦ unread Second ]) refl (λ r piece free. grind (arith, g))
         (half_store s) (half_invariant s) _ _ _ (inr (w.writable, s.later))

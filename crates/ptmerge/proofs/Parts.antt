@@ -10,11 +10,12 @@ use proofs.Common.{first_disorder, keys, merged_entries, sorted_prefixes, sorted
 use proofs.Common.{unlines, unlines-append, ◌&&◌, not, map, tied_itself, flat_map, is_gt, is_lt, Equal, insert_key}
 use proofs.Common.{distinct_keys, lines_with_key, entries_of_key, filter-append, IsLine, zero, suc, ◌<◌, ◌==◌, nat_lt}
 use proofs.Common.{append_assoc, nat_tests, range_with_len, lines}
-use proofs.MergeLemmas.Invariant.{IsDisorderFrom, after_from, disorder_after, first_disorder_is, IsSortedFrom}
-use proofs.MergeLemmas.Invariant.{sorted_from_start, sorted_from_none, is_disordered, sorted_after, sorted_prefix_is}
-use proofs.MergeLemmas.Invariant.{Ascends, IsDownwardClosed, all_keys, all_wanted, ascends_distinct, downward_splits}
-use proofs.MergeLemmas.Invariant.{up_to_from, Each, Each-weaker, EachKey, Each-all, EachKey-weaker, insert_least}
-use proofs.MergeLemmas.Invariant.{Each-parts, IsKeyOrder, AtMost, above_trans, at_most_trans, greater_flips, line_order}
+use proofs.MergeLemmas.Exits.Invariant.{IsDisorderFrom, after_from, disorder_after, first_disorder_is, IsSortedFrom}
+use proofs.MergeLemmas.Exits.Invariant.{sorted_from_start, sorted_from_none, is_disordered, sorted_after}
+use proofs.MergeLemmas.Exits.Invariant.{sorted_prefix_is, Ascends, IsDownwardClosed, all_keys, all_wanted}
+use proofs.MergeLemmas.Exits.Invariant.{ascends_distinct, downward_splits, up_to_from, Each, Each-weaker, EachKey}
+use proofs.MergeLemmas.Exits.Invariant.{Each-all, EachKey-weaker, insert_least, Each-parts, IsKeyOrder, AtMost}
+use proofs.MergeLemmas.Exits.Invariant.{above_trans, at_most_trans, greater_flips, line_order}
 use Rattle.std.proofs.lemmas.List.Elements.{All-filter, All-from_recursion, recursion_from_All}
 use Rattle.std.proofs.lemmas.List.Sorted.{IsPermutation-refl, IsPermutation-trans, IsPermutation-append_left}
 use Rattle.std.proofs.lemmas.List.Sorted.{IsPermutation-append_right, IsPermutation-append_comm}
@@ -86,8 +87,7 @@ module _ (p : List ℕ → Bool) where
         (filter w ((ap (distinct_keys cmp) keys_of_part ∙ sym (distinct_kept cmp o (keys tool ls))) i)))
         ∙ each_of (distinct_keys cmp (keys tool ls))
       where
-        each_of : (ds : Lines)
-            → flat_map (entries_of_key tool part) (filter w (filter p ds))
+        each_of : (ds : Lines) → flat_map (entries_of_key tool part) (filter w (filter p ds))
             ≡ flat_map (entries_of_key tool ls) (filter (λ k. w k && p k) ds)
         each_of [] = refl
         each_of (d ∷ ds) =

@@ -11,7 +11,7 @@ use proofs.Common.{HasSlots, with_side, MergeTool, ◌&&◌, Bool, Some, sym, su
 use proofs.Common.{Output, PushEffect, push_trans, unlines-append, CursorStatus, Head, Ended, Disorder, entries_by_key}
 use proofs.Common.{entries_of_key, MergeState, NextOkPost, other, PrecedesInput, disorder, merged_entries}
 use proofs.Common.{sorted_prefixes, is_up_to, line_of_with_line}
-use proofs.JoinLemmas.PartialWrite.{partial_starts}
+use proofs.JoinLemmas.Fields.{partial_starts}
 use proofs.MergeLemmas.{line_other, HasLines, StoreOfLines, has_lines_total, set_line, put_each, put_same, low_slot}
 use proofs.MergeLemmas.{put_both, put_other, side_case, EachKey, same_bytes, Bound, AtLeast, MayFollow, IsUnder}
 use proofs.MergeLemmas.{MergeInvariant, IsFuture, MayCome, all_keys, splits_step, all_wanted, written_is_wanted}
@@ -236,8 +236,7 @@ pub group_store_next : {most : GroupBounds} {tool : MergeTool} {before store aft
     → GroupStore most before after (with_side s n.now_ls ls) g
 group_store_next {ls = ls} s cursor slots k n = group_store_line s cursor slots n.bytes k
     (put_each (λ side (l : Lines). max_length (ls side) ≤ max_length l) s n.now_ls ls n.longer (λ side. omega arith))
-    (rw (put_same s n.now_ls ls) n.fits)
-    (put_more s ls n.now_ls n.more n.continues_key) n.stored
+    (rw (put_same s n.now_ls ls) n.fits) (put_more s ls n.now_ls n.more n.continues_key) n.stored
 
 module _ {most : GroupBounds} {before store : Slots} {ls : Side → Lines} {g : Lines}
     (k : GroupStore most before store ls g) where
@@ -329,9 +328,9 @@ pub record OutputStartsWith (tool : MergeTool) (g : Side → Lines) (d : Side �
       × (entries_by_key tool w (λ side. g side ++ r side) ≡ extra ++ rest)
 
 -- the group has entries, for all lines that may follow
-pub record HasEntries (tool : MergeTool) (g : Side → Lines) (d : Side → Bound) (k : List ℕ) : Type 0 where
-  pub some : (w : List ℕ → Bool) (r : Side → Lines) → MayCome tool d r → w k ≡ true
-      → 0 < length (entries_by_key tool w (λ side. g side ++ r side))
+abbrev pub HasEntries : MergeTool → (Side → Lines) → (Side → Bound) → List ℕ → Type 0
+HasEntries tool g d k = (w : List ℕ → Bool) (r : Side → Lines) → MayCome tool d r → w k ≡ true
+    → 0 < length (entries_by_key tool w (λ side. g side ++ r side))
 
 module _ {tool : MergeTool} {old : MergeState} (w : IsOpenMerge tool old) {mid : Output} {p g : Side → Lines}
     {d : Side → Bound} {k : List ℕ} (m : OutputInGroup tool old.out mid p g d k) where
@@ -359,7 +358,7 @@ module _ {tool : MergeTool} {old : MergeState} (w : IsOpenMerge tool old) {mid :
     parts : (w : List ℕ → Bool) → entries_by_key tool w (sorted_prefixes tool all) ≡ entries_by_key tool w
         p ++ entries_by_key tool w (λ side. g side ++ coming side)
     parts w = (λ i. entries_by_key tool w (λ side. ((seen side).is ∙ append_assoc (p side) (g side) (coming side)) i))
-        ∙ m.merge_invariant.splits.split w (λ side. g side ++ coming side)
+        ∙ m.merge_invariant.splits w (λ side. g side ++ coming side)
         (λ side. rest_not_less side (coming side) (seen side).may_follow)
 
     wanted : (x : List ℕ) → AtMost cmp x k → is_up_to cmp (disorder tool all) x ≡ true
@@ -384,7 +383,7 @@ module _ {tool : MergeTool} {old : MergeState} (w : IsOpenMerge tool old) {mid :
     -- the entries of lesser keys are not all, if the group has entries
     pub front_is_not_all : HasEntries tool g d k → ¬ (merged_entries tool all ≡ front ++ [])
     front_is_not_all has same =
-        let some = has.some is_wanted coming (λ side. (seen side).may_follow) (wanted k (self_at_most cmp o k)) in
+        let some = has is_wanted coming (λ side. (seen side).may_follow) (wanted k (self_at_most cmp o k)) in
         let own = entries_by_key tool is_wanted (λ side. g side ++ coming side) in
         absurd (omega (
           arith,
@@ -530,17 +529,15 @@ module _ (call : JoinCall) {mid : Output} {p g : Side → Lines} {d : Side → B
 
   -- the entries of a group of lines of both inputs
   pub has_entries : tool.keeps_groups ≡ true → ((side : Side) → 0 < length (g side)) → HasEntries tool g d k
-  has_entries keeps some = record {
-    some = λ w r c wanted.
-        let f = g First ++ lines_with_key (key First) (r First) k in
-        let s = g Second ++ lines_with_key (key Second) (r Second) k in
-        let own = some_entries keeps f s
-        (omega (arith, some First, length-append (g First) (lines_with_key (key First) (r First) k)))
-        (omega (arith, some Second, length-append (g Second) (lines_with_key (key Second) (r Second) k))) in
-        let rest = entries_by_key tool w (others_of tool o k r) in
-        rw (front_is tool o w k g r m.own (none_less r c) (call.w.alone.none k), wanted)
-        (omega (arith, own, length-append (entries k f s) rest));
-  }
+  has_entries keeps some w r c wanted =
+      let f = g First ++ lines_with_key (key First) (r First) k in
+      let s = g Second ++ lines_with_key (key Second) (r Second) k in
+      let own = some_entries keeps f s
+      (omega (arith, some First, length-append (g First) (lines_with_key (key First) (r First) k)))
+      (omega (arith, some Second, length-append (g Second) (lines_with_key (key Second) (r Second) k))) in
+      let rest = entries_by_key tool w (others_of tool o k r) in
+      rw (front_is tool o w k g r m.own (none_less r c) (call.w.alone.none k), wanted)
+      (omega (arith, own, length-append (entries k f s) rest))
 
   own_entries : (f s : Lines) → 0 < length f → 0 < length s → entries k f s ≡ pairs k f s
   own_entries (a ∷ f) (b ∷ s) some1 some2 = laws.whole k a b f s
@@ -577,7 +574,7 @@ module _ (call : JoinCall) {mid : Output} {p g : Side → Lines} {d : Side → B
       all : entries_by_key tool all_keys (λ side. p side ++ g side) ≡ entries_by_key tool all_keys p
           ++ pairs k (g First) (g Second)
       all =
-          let split = m.merge_invariant.splits.split all_keys g
+          let split = m.merge_invariant.splits all_keys g
           (λ side. all_own_keys (AtMost cmp k) (key side) k (g side) (self_at_most cmp o k) (m.own side)) in
           cc (split, alone_is, own_entries (g First) (g Second) (some First) (some Second))
 
@@ -624,8 +621,8 @@ module _ {call : JoinCall} {now : MergeState} {cursor : Side → Sorted} {end : 
       by Ended st other = tt
       by (Disorder n) st other = rw st at under
 
-  pub none_failed : (side : Side) → (now.reader side).failed ≡ (old.reader side).failed
-  none_failed side = (q.sides side).lines_read.advance_ok.failed
+  pub end_in : (4 ≤ end) × (end ≤ length now.store.lines)
+  end_in = (omega (arith, q.at), end_within q.keeps q.at)
 
   -- the facts of an input, if these lines of the group are processed
   abbrev pub FactsWith : (Side → Lines) → Side → Type 0
@@ -690,10 +687,8 @@ module _ {call : JoinCall} {now : MergeState} {cursor : Side → Sorted} {end : 
       (rw all_processed (read_facts_after_line (q.sides s) o l.head)) (simp put_other (group_read_facts q (other s)))
 
   -- writing failed, or reading the next line, after a prefix of the group's output was written
-  pub group_breaks : {out : Output} {extra : Lines}
-      → OutputStartsWith tool added q.d k extra
-      → PushEffect q.mid out (unlines call.terminator extra)
-      → EndsIfFails tool old now s (cursor s) out
+  pub group_breaks : {out : Output} {extra : Lines} → OutputStartsWith tool added q.d k extra
+      → PushEffect q.mid out (unlines call.terminator extra) → EndsIfFails tool old now s (cursor s) out
   group_breaks {extra = extra} begins wrote = advance_fails w {now = now} {cursor = cursor s}
       {p = λ t. q.p t ++ added t} (record {
         facts = passing_now;
@@ -746,8 +741,7 @@ module _ {call : JoinCall} {now : MergeState} {cursor : Side → Sorted} {end : 
             sides = subst (λ (f : Side → Lines). SidesInvariant tool old.reader (with_side s reader now.reader)
                 (with_side s next cursor) after (with_side s n.now_ls q.ls) f (with_side s n.bound q.d))
                 (λ i side. put_both (λ side (l m : Lines). l ≡ q.p side ++ m) s (q.ls s) (λ side. q.p side ++ g side)
-                (g s ++ x ∷ []) g with_head refl side i)
-                (sides_next o q.sides s l.head comes);
+                (g s ++ x ∷ []) g with_head refl side i) (sides_next o q.sides s l.head comes);
             within = record {
               merge_invariant = q.within.merge_invariant;
               clean = q.within.clean;

@@ -1,5 +1,7 @@
 -- Each input of a merge, and the exits of a tool. At an exit the lines read, the processed ones and a bound on the
 -- others are known for each input, and the contract of the tool follows from these and from the output.
+pub mod Invariant
+pub mod SlotLines
 use Rattle.ptmerge.proofs
 use proofs.Common.{◌≡◌, ◌⊎◌, ⊎_elim, inl, inr, ℕ, ◌≤◌, false, List, [], ◌∷◌, ◌++◌, Option, Some, None, length, map}
 use proofs.Common.{refl, sym, ◌∙◌, ap, arith, append_assoc, length-append, last_or, append-nil, Received, known_lines}
@@ -12,18 +14,7 @@ use proofs.Common.{Disorder, status_at, same_key_at, NextOkPost, Result, Err, ma
 use proofs.Common.{advance_trans, push_trans, MergeFault, Write, lines_of, merged_entries, MergeState, MergePost}
 use proofs.Common.{HasNoLine, reads_nothing, EnsureFourSlotsErrPost, ◌*◌, option_map, CallOutcome, merge_state, both}
 use proofs.Common.{terminator, total_bytes, merge_engine, merge_end, disordered_line, HasSlots, length-set}
-use proofs.MergeLemmas.Invariant.{output_of, sorted_after, IsSortedFrom, sorted_from_start, sorted_prefix_is, Bound}
-use proofs.MergeLemmas.Invariant.{IsDisorderFrom, IsUnder, MayFollow, not_below, downward_decided, not_decided}
-use proofs.MergeLemmas.Invariant.{past_none, all_keys, AtLeast, downward_splits, EachKey, Each-all, EachKey-weaker}
-use proofs.MergeLemmas.Invariant.{Each-parts, kept_none, IsKeyOrder, AtMost, at_most_trans, self_at_most, NoBound}
-use proofs.MergeLemmas.Invariant.{AfterDisorder, NothingMore, IsSortedUpTo, is_disordered, IsProcessedPrefix, IsFuture}
-use proofs.MergeLemmas.Invariant.{after_from, LagInvariant, MergeInvariant, IsExactStop, input_split, IsLater}
-use proofs.MergeLemmas.Invariant.{may_follow_none}
-use proofs.MergeLemmas.ReadLines.{IsReadAs, LinesRead, HoldsLines, HasBegun, begun_gives_line, one_line_and_block}
-use proofs.MergeLemmas.ReadLines.{lines_read_more, lines_read_eof, Continues, KnownLines, lines_read_known}
-use proofs.MergeLemmas.ReadLines.{lines_read_of_input}
 use proofs.Parts.{by_keys_kept}
-use proofs.MergeLemmas.SlotLines.{put_each, put_other, put_same, with_side_is, with_own, line_other, AreLow, low_slot}
 use Rattle.ptlines.proofs.LineSearch.{IsLine-append}
 use Rattle.ptmerge.specs.MergeSpec.{MergeDisorder, decided_output, decided_entries, lines_decide_disorder, merge_output}
 use Rattle.ptmerge.specs.MergeSpec.{disorder_is_decided}
@@ -37,6 +28,8 @@ use Rattle.ptlines.proofs.Lag.{bounded_lag_after}
 use Rattle.ptlines.specs.Calls.{CallEnd, ReadFault, AreAllConsistent}
 use Rattle.ptlines.proofs.TextLaws.{complete_lines_of_unlines, the_lines}
 use Rattle.ptlines.specs.Lag.{LaggedInput, ProcessLag}
+pub use Invariant.*
+pub use SlotLines.*
 
 -- Bounded lag. Leave out the buffered bytes, at most a block, and the terminator of a line that is not yet processed:
 -- the complete lines that remain are all processed. No key below the last of these can follow in either input, so with
@@ -53,11 +46,8 @@ sorted_from_parts : (cmp : Cmp) (key : Key) (last : Option (List ℕ)) (xs ys : 
     → IsSortedFrom cmp key last (xs ++ ys) → IsSortedFrom cmp key last xs
     × IsSortedFrom cmp key (last_or last (map key xs)) ys
 sorted_from_parts cmp key last [] ys r = (tt, r)
-sorted_from_parts cmp key last (x ∷ xs) ys (here, more) = grind (
-  arith,
-  sorted_from_parts cmp key (Some (key x)) xs ys
-      more,
-)
+sorted_from_parts cmp key last (x ∷ xs) ys (here, more) =
+    grind (arith, sorted_from_parts cmp key (Some (key x)) xs ys more)
 
 module _ (cmp : Cmp) (o : IsKeyOrder cmp) (key : Key) where
   from_key : (k : List ℕ) (ls : Lines) → IsSortedFrom cmp key (Some k) ls → EachKey (AtMost cmp k) key ls
@@ -157,14 +147,6 @@ module _ (end : ℕ) (given piece : List ℕ) (ls p : Lines) (now new : Reader) 
 
 -- ---- the decided output is a prefix of the output, if only processed lines decide it
 
--- two lists that differ only in lines that are left out
-kept_same : (w : List ℕ → Bool) (key : Key) (xs ys rest tail : Lines) → xs ++ rest ≡ ys ++ tail
-    → EachKey (λ k. w k ≡ false) key rest → EachKey (λ k. w k ≡ false) key tail
-    → filter (λ line. w (key line)) xs ≡ filter (λ line. w (key line)) ys
-kept_same w key xs ys rest tail same none1 none2 = simp
-    (filter-append, kept_none w key rest none1, kept_none w key tail none2, append-nil) at (ap
-    (filter (λ line. w (key line))) same)
-
 -- two lists that differ only in lines whose keys are not below this one
 pub record Differ (tool : MergeTool) (last : Option (List ℕ)) (key : Key) (xs ys : Lines) : Type 0 where
   pub rest : Lines
@@ -202,9 +184,12 @@ module _ (tool : MergeTool) (o : IsKeyOrder tool.cmp) (eof : Side → Bool) (ls 
       let rest = entries_by_key tool (λ k. not (dec k)) p in
       let is : entries_by_key tool all_keys p ≡ entries_by_key tool dec p ++ rest = downward_splits tool o all_keys
       dec down p in
+      let none = λ (side : Side) (l : Lines) (e : EachKey _ (tool.key side) l). kept_none dec (tool.key side) l
+      (EachKey-weaker _ _ undecided _ _ e) in
+      -- the lists differ only in lines that are left out
       let kept = λ (side : Side). (let d = differ side in
-      kept_same dec (tool.key side) _ _ d.rest d.tail d.same (EachKey-weaker _ _ undecided _ _ d.none_rest)
-      (EachKey-weaker _ _ undecided _ _ d.none_tail)) in
+      simp (filter-append, none side d.rest d.none_rest, none side d.tail d.none_tail, append-nil) at
+      (ap (filter (λ line. dec (tool.key side line))) d.same)) in
       let known : decided_entries tool eof ls ≡ entries_by_key tool dec p =
       sym (by_keys_kept dec tool o (λ side. sorted_prefix cmp (tool.key side) (ls side)) all_keys)
       ∙ (λ i. entries_by_key tool all_keys (λ side. kept side i)) ∙ by_keys_kept dec tool o p all_keys in
@@ -237,8 +222,7 @@ pub record LinesToCome (tool : MergeTool) (side : Side) (ls q tail : Lines) (bou
 
 -- `q` are the processed lines; the output for `p` is complete, and the rest of `q` follows it
 module _ (tool : MergeTool) (o : IsKeyOrder tool.cmp) (given : Side → Received) (p q tail : Side → Lines)
-    (bound : Side → Bound)
-    (split : (side : Side) → q side ≡ p side ++ tail side)
+    (bound : Side → Bound) (split : (side : Side) → q side ≡ p side ++ tail side)
     (under : (of side : Side) → EachKey (IsUnder tool.cmp (bound of)) (tool.key side) (q side))
     (future : (side : Side) → LinesToCome tool side (known_lines tool.terminator (given side)) (q side) (tail side)
     (bound side)) where
@@ -262,8 +246,7 @@ module _ (tool : MergeTool) (o : IsKeyOrder tool.cmp) (given : Side → Received
     -- no line that follows is below that key
     above : (side : Side) → EachKey (λ k. is_below cmp k last ≡ false) (tool.key side) (tail side ++ (future side).rest)
     above side =
-        past_none cmp o (tool.key of) _ (bound side) whole _
-        (front_has _ (tool.key of) whole point.rest
+        past_none cmp o (tool.key of) _ (bound side) whole _ (front_has _ (tool.key of) whole point.rest
         (rw point.split at (under side of))) (future side).may_follow
 
     -- the lines of an input are the processed ones, except for lines that are not below that key
@@ -296,11 +279,9 @@ module _ (tool : MergeTool) (o : IsKeyOrder tool.cmp) (given : Side → Received
     pub decided_at : IsPrefix (decided_output tool (with_input both_sides of point.before.earlier given))
         (output_of tool p)
     decided_at = subst (λ (m : Side → Received). IsPrefix (decided_output tool m)
-        (output_of tool p))
-        (λ i side. with_side_is of point.before.earlier given side i)
+        (output_of tool p)) (λ i side. with_side_is of point.before.earlier given side i)
         (decided_of_passed tool o (λ side. (mix side).eof) (λ side. known_lines terminator (mix side)) of going
-        (rw whole_now ordered.1) p
-        (rw whole_now (put_each Differs of point.before.earlier given mine others)))
+        (rw whole_now ordered.1) p (rw whole_now (put_each Differs of point.before.earlier given mine others)))
 
     pub lag_bound : ProcessLag {I = Unit {0}} (λ came. decided_output tool (with_input both_sides of (came tt) given))
         (λ u. given of) (output_of tool p)
@@ -402,8 +383,7 @@ pub record SideAfterNext (tool : MergeTool) (s : Side) (old new : Reader) (curso
   pub fits : length bytes ≤ max_length now_ls
 
 status_after_next : (cmp : Cmp) (key : Key) (last : Option (List ℕ)) (cursor : Sorted) (store : Slots) (next : List ℕ)
-    → IsLastKey key last cursor store
-    → status_at key cmp cursor.number (line store cursor.current_slot) next
+    → IsLastKey key last cursor store → status_at key cmp cursor.number (line store cursor.current_slot) next
     ≡ cond (is_disordered cmp last (key next)) (Disorder (cursor.number + 1)) Head
 status_after_next = grind (arith, nat_tests)
 
@@ -466,7 +446,7 @@ module _ (tool : MergeTool) (o : IsKeyOrder tool.cmp) (s : Side) (old now new : 
         let more : IsSortedUpTo cmp own (ls ++ e.line ∷ []) (Some (own e.line)) =
         grind (arith, common_steps, sorted_up_to) in
         let within : cursor.previous_slot < length before.lines = omega (arith, low) in
-        at_status last Head (AtLeast (own e.line)) (grind (arith, common_steps, after_from, self_at_most, more))
+        at_status last Head (AtLeast (own e.line)) (processed_before_line o more)
         (λ ended. cc) (grind (arith, more, line_of_with_line)) (from_next o own last e.line none)
     at_line None sorted_up_to is true disordered = cc
     at_line (Some k) sorted_up_to is true disordered =
@@ -485,9 +465,7 @@ module _ (tool : MergeTool) (o : IsKeyOrder tool.cmp) (s : Side) (old now new : 
   next_invariant {last} lines_read number sorted_up_to is (inr e) =
       rw e.cursor (at_next last [] [] (next_cursor Ended cursor.number false) NothingMore
       (simp append-nil (lines_read_eof lines_read e.advance_ok e.done)) (inl e.done) e.sound (refl, refl)
-      (inl (append-nil ls))
-      (simp append-nil number)
-      (grind (arith, common_steps, sorted_up_to)) (λ ended. e.done)
+      (inl (append-nil ls)) (simp append-nil number) (grind (arith, common_steps, sorted_up_to)) (λ ended. e.done)
       (refl, e.done)
       (record { may_follow = λ r none. rw none (may_follow_none cmp own (bound_after last)); under = λ k u. tt })
       e.empty (omega arith))
@@ -727,8 +705,7 @@ module _ {tool : MergeTool} {old : MergeState} (w : IsOpenMerge tool old) (new :
 pub merge_set : {tool : MergeTool} {first second set1 set2 : Reader} {out : Output} {store : Slots} {new : MergeState}
     → (zero : Bool) → tool.terminator ≡ terminator zero → out.write_failed ≡ false
     → set1 ≡ record first { terminator = cond zero 0 10 } → set2 ≡ record second { terminator = cond zero 0 10 }
-    → {result : Result (Unit {0}) MergeFault}
-    → MergePost tool (merge_state set1 set2 out store) new result
+    → {result : Result (Unit {0}) MergeFault} → MergePost tool (merge_state set1 set2 out store) new result
     → MergePost tool (merge_state first second out store) new result
 unfolding call_set
 merge_set {tool} {first} {second} {set1} {set2} {new = new} zero end clean is1 is2 m =

@@ -119,8 +119,7 @@ returns-in_err-write_out_and_advance-in-Both g c =
 
 pub returns-in-End : goal.returns-in-End
 returns-in-End g c =
-    rw (← c.steps.invariant.order)
-    (eof c.steps.invariant.iteration c.clear_four_slots.ensures c.in-End.ensures)
+    rw (← c.steps.invariant.order) (eof c.steps.invariant.iteration c.clear_four_slots.ensures c.in-End.ensures)
 
 pub returns-in-Stop : goal.returns-in-Stop
 returns-in-Stop g c =

@@ -6,12 +6,13 @@ use Rattle.ptmerge.proofs
 use proofs.Common.{refl, sym, ◌∙◌, join_job, arith}
 use proofs.JoinLemmas.{read_group_pre, read_group_fails, read_group_continues, group_closed, group_there}
 use proofs.JoinLemmas.{write_pairs_group, write_pairs_pre, pair_fails, write_pairs_next, write_pairs_continues}
-use proofs.JoinLemmas.{alone_continues, alone_fails, end_in, eof, disordered, measure_decreases, opened, group_opens}
+use proofs.JoinLemmas.{alone_continues, alone_fails, eof, disordered, measure_decreases, opened, group_opens}
 use proofs.MergeLemmas.{advance_pre, err_is, start_fault, start_ok, between_starts}
 use proofs.JoinLemmas.Group.{group_store_starts}
 use Rattle.ptmerge.specs.declared.key_order.Side.TheVariants as sides
 use Rattle.ptmerge.specs.declared.tools.join.JoinPhase.TheVariants as phases
 use Rattle.ptmerge.proofs.tools.join.join_with_order.Goals as goal
+use proofs.JoinLemmas.{read_group_in}
 
 pub returns-in_err-merge : goal.returns-in_err-merge
 returns-in_err-merge g c =
@@ -90,17 +91,15 @@ steps-preserved-in-Both g c = record {
 pub returns-in-End : goal.returns-in-End
 returns-in-End g c =
     let i = c.steps.invariant in
-    rw (← i.order)
-    (eof i.iteration c.in-BetweenGroups.is c.clear_four_slots.ensures c.in-End.ensures)
+    rw (← i.order) (eof i.iteration c.in-BetweenGroups.is c.clear_four_slots.ensures c.in-End.ensures)
 
 pub returns-in-Stop : goal.returns-in-Stop
 returns-in-Stop g c =
     let i = c.steps.invariant in
-    rw (← i.order)
-    (disordered i.iteration c.in-BetweenGroups.is c.clear_four_slots-in-Stop.ensures c.in-Stop.ensures)
+    rw (← i.order) (disordered i.iteration c.in-BetweenGroups.is c.clear_four_slots-in-Stop.ensures c.in-Stop.ensures)
 
 pub read_group_line-requires-clause-group : goal.read_group_line-requires-clause-group
-read_group_line-requires-clause-group g c = end_in c.steps.invariant.iteration
+read_group_line-requires-clause-group g c = read_group_in c.steps.invariant.iteration c.in-ReadGroup.is
 
 pub read_group_line-requires-clause-status_is : goal.read_group_line-requires-clause-status_is
 read_group_line-requires-clause-status_is g c = read_group_pre c.steps.invariant.iteration c.in-ReadGroup.is

@@ -2,7 +2,7 @@
 use Rattle.std.proofs.Common.{rules}
 use Rattle.ptmerge.proofs
 use proofs.Common.{◌++◌, [], ◌∷◌, List, ℕ, ap, arith, sym, map, join_job}
-use proofs.JoinLemmas.PartialWrite.{each_fails, each_more}
+use proofs.JoinLemmas.Fields.{each_fails, each_more}
 use proofs.JoinLemmas.Group.{pair_of, group_from, group_end}
 use Rattle.ptmerge.proofs.tools.join.write_pair_entries.Goals as goal
 

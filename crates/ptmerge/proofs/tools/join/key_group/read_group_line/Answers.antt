@@ -15,7 +15,6 @@ returns-in-Ok-clause-continues g c =
       others = continues.others;
       valid_cursors = valid_cursors_kept (g.K.KeyOrder.key_of c.args.merge.now.order) m.first m.second before after
           continues.valid_cursors (search rules)
-          (λ slot low. kept_line before after c.previous_slot_of.result c.args.end slot
-          (omega (arith, low)) kept);
+          (λ slot low. kept_line before after c.previous_slot_of.result c.args.end slot (omega (arith, low)) kept);
       own_reader = continues.own_reader;
     }

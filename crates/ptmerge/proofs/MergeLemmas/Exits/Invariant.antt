@@ -14,7 +14,7 @@ use Rattle.std.specs.Cmp.{IsTotalOrder}
 use Rattle.ptmerge.specs.OrderLaws.{reversed_same_bytes, byte_cmp_equal}
 use Rattle.std.proofs.Common.{rules}
 use Rattle.std.proofs.lemmas.Grind.{common_steps}
-use proofs.MergeLemmas.SlotLines.{put_each}
+use proofs.MergeLemmas.Exits.SlotLines.{put_each}
 use Rattle.ptmerge.specs.MergeSpec.{MergeDisorder, is_past}
 use Rattle.std.proofs.lemmas.Cmp.{back_total, nat_list_cmp_total, upto}
 
@@ -160,14 +160,8 @@ module _ (cmp : Cmp) (o : IsKeyOrder cmp) where
       → (distinct_keys cmp ks ≡ k ∷ distinct_keys cmp (others k ks))
       ⊎ ((distinct_keys cmp ks ≡ distinct_keys cmp (others k ks)) × Each (λ y. bytes_eq y k ≡ false) ks)
   distinct_least k [] e = inr (refl, tt)
-  distinct_least k (y ∷ ks) (here, more) = grind (
-    arith,
-    least_or_above,
-    insert_least,
-    Each-distinct,
-    others_above,
-    distinct_least k ks more,
-  )
+  distinct_least k (y ∷ ks) (here, more) =
+      grind (arith, least_or_above, insert_least, Each-distinct, others_above, distinct_least k ks more)
 
 others-keys : (key1 key2 : Key) (k : List ℕ) (xs ys : Lines)
     → others k (map key1 xs ++ map key2 ys) ≡ map key1 (without key1 k xs) ++ map key2 (without key2 k ys)
@@ -185,14 +179,7 @@ kept_none w key (x ∷ ls) (here, more) = rw here (kept_none w key ls more)
 with_key_without : (key : Key) (k q : List ℕ) (xs : Lines) → bytes_eq q k ≡ false
     → lines_with_key key (without key k xs) q ≡ lines_with_key key xs q
 with_key_without key k q [] n = refl
-with_key_without key k q (x ∷ xs) n = grind (
-  arith,
-  not_same,
-  same_bytes,
-  bytes_decides,
-  with_key_without key k q xs
-      n,
-)
+with_key_without key k q (x ∷ xs) n = grind (arith, not_same, same_bytes, bytes_decides, with_key_without key k q xs n)
 
 module _ (tool : MergeTool) (o : IsKeyOrder tool.cmp) where
   open tool use {cmp}
@@ -207,13 +194,7 @@ module _ (tool : MergeTool) (o : IsKeyOrder tool.cmp) where
   over_others : (w : List ℕ → Bool) (k : List ℕ) (ls : Side → Lines) (ks : Lines) → Each (Above cmp k) ks
       → nothing_follows w ls ks ≡ nothing_follows w (others_of k ls) ks
   over_others w k ls [] e = refl
-  over_others w k ls (q ∷ ks) (here, more) = grind (
-    arith,
-    above_not_same,
-    with_key_without,
-    over_others w k ls ks
-        more,
-  )
+  over_others w k ls (q ∷ ks) (here, more) = grind (arith, above_not_same, with_key_without, over_others w k ls ks more)
 
   -- The entries of a key that is at most all others come first, followed by those of the lines with other keys.
   pub least_first : (w : List ℕ → Bool) (k : List ℕ) (ls : Side → Lines)
@@ -428,6 +409,11 @@ pub record IsFuture (cmp : Cmp) (key : Key) (all p : Lines) (b : Bound) : Type 0
 pub record IsProcessedPrefix (cmp : Cmp) (key : Key) (ls p : Lines) (b : Bound) : Type 0 where
   pub future : (w : Lines) → (b ≡ NothingMore → w ≡ []) → IsFuture cmp key (ls ++ w) p b
 
+-- the current line is not yet processed
+pub processed_before_line : {cmp : Cmp} (o : IsKeyOrder cmp) {key : Key} {p : Lines} {x : List ℕ}
+    → IsSortedUpTo cmp key (p ++ x ∷ []) (Some (key x)) → IsProcessedPrefix cmp key (p ++ x ∷ []) p (AtLeast (key x))
+processed_before_line = grind (arith, common_steps, after_from, self_at_most)
+
 -- ---- the output
 
 abbrev pub all_keys : List ℕ → Bool
@@ -453,14 +439,8 @@ IsDownwardClosed cmp w = (a b : List ℕ) → cmp b a ≡ Greater → w b ≡ tr
 module _ (cmp : Cmp) (o : IsKeyOrder cmp) where
   ascends_insert : (k : List ℕ) (ks : Lines) → Ascends cmp ks → Ascends cmp (insert_key cmp k ks)
   ascends_insert k [] a = (tt, tt)
-  ascends_insert k (x ∷ xs) (above, more) = grind (
-    arith,
-    Each-weaker,
-    above_trans,
-    Each-insert,
-    less_flips,
-    ascends_insert k xs more,
-  )
+  ascends_insert k (x ∷ xs) (above, more) =
+      grind (arith, Each-weaker, above_trans, Each-insert, less_flips, ascends_insert k xs more)
 
   pub ascends_distinct : (ks : Lines) → Ascends cmp (distinct_keys cmp ks)
   ascends_distinct [] = tt
@@ -470,13 +450,8 @@ module _ (cmp : Cmp) (o : IsKeyOrder cmp) where
   downward_first : (w p : List ℕ → Bool) → IsDownwardClosed cmp p → (ks : Lines) → Ascends cmp ks
       → filter w ks ≡ filter (λ k. w k && p k) ks ++ filter (λ k. w k && not (p k)) ks
   downward_first w p down [] a = refl
-  downward_first w p down (k ∷ ks) (above, more) = search (
-    rules,
-    filter_none,
-    Each-weaker,
-    downward_first w p down ks
-        more,
-  )
+  downward_first w p down (k ∷ ks) (above, more) =
+      search (rules, filter_none, Each-weaker, downward_first w p down ks more)
 
   pub up_to_from : (k : List ℕ) (f1 f2 : Option FirstDisorder) → IsDisorderFrom cmp k f1 → IsDisorderFrom cmp k f2
       → is_up_to cmp (earlier_disorder cmp f1 f2) k ≡ true
@@ -515,28 +490,25 @@ module _ (tool : MergeTool) where
   MayCome b r = (side : Side) → MayFollow cmp (key side) (b side) (r side)
 
   -- For all lines that may follow, and for every choice of keys, the entries of the processed lines come first.
-  pub record Splits (b : Side → Bound) (p : Side → Lines) : Type 0 where
-    pub split : (w : List ℕ → Bool) (r : Side → Lines) → ((side : Side) → MayFollow cmp (key side) (b side) (r side))
-        → entries_by_key tool w (λ side. p side ++ r side) ≡ entries_by_key tool w p ++ entries_by_key tool w r
+  abbrev pub Splits : (Side → Bound) → (Side → Lines) → Type 0
+  Splits b p = (w : List ℕ → Bool) (r : Side → Lines) → MayCome b r
+      → entries_by_key tool w (λ side. p side ++ r side) ≡ entries_by_key tool w p ++ entries_by_key tool w r
 
   -- lines are processed whose entries precede those of all lines that may follow
   pub splits_step : (b d : Side → Bound) (p f : Side → Lines) → Splits b p
       → ((side : Side) (r : Lines) → MayFollow cmp (key side) (d side) r
-      → MayFollow cmp (key side) (b side) (f side ++ r))
-      → ((w : List ℕ → Bool) (r : Side → Lines) → MayCome d r
+      → MayFollow cmp (key side) (b side) (f side ++ r)) → ((w : List ℕ → Bool) (r : Side → Lines) → MayCome d r
       → entries_by_key tool w (λ side. f side ++ r side) ≡ entries_by_key tool w f ++ entries_by_key tool w r)
       → Splits d (λ side. p side ++ f side)
-  splits_step b d p f s u front = record {
-    split = λ w r c.
-        let none = λ (side : Side). rw append-nil at (u side [] (may_follow_none cmp (key side) (d side))) in
-        (λ i. entries_by_key tool w (λ side. append_assoc (p side) (f side) (r side) i))
-        ∙ cc (
-          s.split w (λ side. f side ++ r side) (λ side. u side (r side) (c side)),
-          s.split w f none,
-          front w r c,
-          append_assoc (entries_by_key tool w p) (entries_by_key tool w f) (entries_by_key tool w r),
-        );
-  }
+  splits_step b d p f s u front w r c =
+      let none = λ (side : Side). rw append-nil at (u side [] (may_follow_none cmp (key side) (d side))) in
+      (λ i. entries_by_key tool w (λ side. append_assoc (p side) (f side) (r side) i))
+      ∙ cc (
+        s w (λ side. f side ++ r side) (λ side. u side (r side) (c side)),
+        s w f none,
+        front w r c,
+        append_assoc (entries_by_key tool w p) (entries_by_key tool w f) (entries_by_key tool w r),
+      )
 
 -- ---- the bytes written
 
@@ -620,7 +592,7 @@ write_least_run {tool} o k q f {b} {p} {was} {is} {new} front all none law clean
     let nothing =
     λ (side : Side). rw append-nil at
     ((front side).may_follow [] (may_follow_none tool.cmp (tool.key side) (b side))) in
-    let texts = ap (unlines tool.terminator) (m.splits.split all_keys f nothing)
+    let texts = ap (unlines tool.terminator) (m.splits all_keys f nothing)
     ∙ unlines-append _ (entries_by_key tool all_keys p) (entries_by_key tool all_keys f) in
     let under : (of side : Side) → EachKey (IsUnder tool.cmp (b of)) (tool.key side) (p side ++ f side) =
     λ of side. EachKey-append _ (tool.key side) _ _ (m.under of side)
@@ -656,7 +628,7 @@ pub bounds_change : {tool : MergeTool} {b d : Side → Bound} {p : Side → Line
     → ((side : Side) → IsLater tool.cmp (tool.key side) (b side) (d side)) → MergeInvariant tool b p was is
     → MergeInvariant tool d p was is
 bounds_change later m = record {
-  splits = record { split = λ w r c. m.splits.split w r (λ side. (later side).may_follow (r side) (c side)) };
+  splits = λ w r c. m.splits w r (λ side. (later side).may_follow (r side) (c side));
   under = λ of side. EachKey-weaker _ _ (later of).under _ _ (m.under of side);
   wrote = m.wrote;
 }
@@ -745,4 +717,4 @@ input_split {tool} o {b} {p} {ls} m s =
     (λ k u1 u2. written_is_wanted _ o _ _ _ _ k (s First).may_disorder (s Second).may_disorder u1 u2)
     _ (m.under First side) (m.under Second side)) in
     (λ i. entries_by_key tool w (λ side. (s side).is i))
-    ∙ cc (m.splits.split w (λ side. (s side).rest) (λ side. (s side).may_follow), first)
+    ∙ cc (m.splits w (λ side. (s side).rest) (λ side. (s side).may_follow), first)
