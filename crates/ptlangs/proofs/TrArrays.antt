@@ -286,41 +286,30 @@ class_offsets-are n (Repeat b count ∷ ps) at = grind (
 )
 class_offsets-are n (Fill b ∷ ps) at = grind (arith, common_steps, offsets-members, class_offsets-are n ps (at + n))
 
+offset_first : (at k : ℕ) (o : Option CharClass) (later : List (ℕ × CharClass)) (class : CharClass)
+    → has_other_case_at (offset_of at o ++ later) k class
+    ≡ ((eqb at k && classes_match o (Some class)) || has_other_case_at later k class)
+offset_first = grind arith
+
 -- no class starts before an array
 none_before : (ms : List Member) (at k : ℕ) (class : CharClass) → k < at
     → has_other_case_at (offsets at ms) k class ≡ false
 none_before [] at k class low = refl
-none_before (m ∷ ms) at k class low = by_class m.class (none_before ms _ k class (omega arith))
-  where
-    by_class : (o : Option CharClass) → has_other_case_at (offsets (suc at) ms) k class ≡ false
-        → has_other_case_at (offset_of at o ++ offsets (suc at) ms) k class ≡ false
-    by_class None later = later
-    by_class (Some c) later = grind arith
+none_before (m ∷ ms) at k class low =
+    rw (offset_first at k m.class, ne_eqb at k (λ e. omega arith)) (none_before ms _ k class (omega arith))
 
 stands_here : (ms : List Member) (at i k : ℕ) (class : CharClass) → at + i ≡ k
     → has_other_case_at (offsets at ms) k class ≡ classes_match (class_here ms i) (Some class)
 stands_here [] at i k class e = refl
-stands_here (m ∷ ms) at zero k class e = by_class m.class
+stands_here (m ∷ ms) at zero k class e =
+    rw (offset_first at k m.class, eq-eqb at k (omega arith), none_before ms (suc at) k class (omega arith))
+    (or_false _)
   where
-    later : has_other_case_at (offsets (suc at) ms) k class ≡ false
-    later = none_before ms _ k class (omega arith)
-
     or_false : (t : Bool) → (t || false) ≡ t
     or_false true = refl
     or_false false = refl
-
-    by_class : (o : Option CharClass)
-        → has_other_case_at (offset_of at o ++ offsets (suc at) ms) k class ≡ classes_match o (Some class)
-    by_class None = later
-    by_class (Some c) = rw (eq-eqb at k (omega arith), later) (or_false _)
-stands_here (m ∷ ms) at (suc i) k class e = by_class m.class (stands_here ms _ i k class (omega arith))
-  where
-    by_class : (o : Option CharClass)
-        → has_other_case_at (offsets (suc at) ms) k class ≡ classes_match (class_here ms i) (Some class)
-        → has_other_case_at (offset_of at o ++ offsets (suc at) ms) k class
-        ≡ classes_match (class_here ms i) (Some class)
-    by_class None later = later
-    by_class (Some c) later = rw (ne_eqb at k (λ z. omega arith)) later
+stands_here (m ∷ ms) at (suc i) k class e =
+    rw (offset_first at k m.class, ne_eqb at k (λ z. omega arith)) (stands_here ms _ i k class (omega arith))
 
 -- one byte of the second array against the first array from the same index on
 all_paired-more : (i : ℕ) (from : List Member) (t : Member) (to : List Member)
