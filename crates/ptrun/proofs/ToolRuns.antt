@@ -1,7 +1,7 @@
 -- The steps of the driver, by how a tool reads its operands: each is the step of a tool that reads them one after
 -- another, or of one that reads them together.
 use Rattle.ptrun.proofs
-use proofs.Common.{All, Bool, Completion, DecidesAll, FlowFault, HasSaid, InputsPre, IsRun, JointTool, List, OneByOne}
+use proofs.Common.{All, Bool, Completion, DecidesAll, FlowFault, HasSaid, InputsPre, IsRun, List, OneByOne}
 use proofs.Common.{OperandPost, Output, PassPost, Reader, Result, RunInputsPost, SinkState, Slots, Together, ToolInRun}
 use proofs.Common.{ToolSpec, [], append-nil, arith, common_steps, false, false≢true, get_or, is_reader_unopened}
 use proofs.Common.{is_unopened, joint_spec, length, list_any, map, only_operand, reads_together, refl, sequential_spec}
@@ -9,7 +9,7 @@ use proofs.Common.{set, sinks, spec_of_tool, sym, total_bytes, true, unopened_me
 use proofs.JointRuns.{joint_post, none_unopened}
 use proofs.OperandInputs.{any_same, fresh_all, nothing_read, received_of, unopened_agrees, unopened_same}
 use proofs.RunEnds.{unread}
-use Rattle.ptrun.specs.Driver.{JointPre, OperandPre, ReportUnopenedPost, RunOnPost, RunOnPre, operand_completion}
+use Rattle.ptrun.specs.Driver.{OperandPre, ReportUnopenedPost, RunOnPost, RunOnPre, operand_completion}
 use Rattle.ptrun.specs.Files.{IsNewOrUnopened}
 use Rattle.std.proofs.Math.Seq.{take-length}
 
@@ -65,14 +65,6 @@ module _ (word : List ℕ) (names : List (List ℕ)) (positions : List ℕ) wher
 
   -- ---- processing the inputs
 
-  joint_ready : (t : JointTool) (was : Output) (before : Slots) {inputs : List Reader}
-      {messages_old messages_new : SinkState} {any_unopened : Bool}
-      → InputsPre (spec_of_tool word (Together t) names positions) inputs
-      → ReportUnopenedPost word names positions inputs messages_old messages_new any_unopened
-      → any_unopened ≡ false → was.write_failed ≡ false → before.denied ≡ false → total_bytes before.lines ≡ 0
-      → JointPre t positions inputs was before
-  joint_ready = grind arith
-
   -- there are no more operands than such a tool takes
   pub few_together : (s : ToolInRun) {inputs : List Reader} → reads_together s ≡ true
       → InputsPre (spec_of_tool word s names positions) inputs → length positions ≤ 512
@@ -86,9 +78,7 @@ module _ (word : List ℕ) (names : List (List ℕ)) (positions : List ℕ) wher
       → any_unopened ≡ false → was.write_failed ≡ false → before.denied ≡ false → total_bytes before.lines ≡ 0
       → RunOnPre s positions inputs was before
   together_pre (OneByOne t law) was before together given k none writable not_denied empty = cc
-  together_pre (Together t) was before together given k none writable not_denied empty = record {
-    ready = joint_ready t was before given k none writable not_denied empty;
-  }
+  together_pre (Together t) was before together given k none writable not_denied empty = grind arith
 
   module _ {was : Output} {before : Slots} where
     module _ {old new : List Reader} {is : Output} {store : Slots} {result : Result Completion FlowFault} where
@@ -102,7 +92,7 @@ module _ (word : List ℕ) (names : List (List ℕ)) (positions : List ℕ) wher
       together_post (Together t) messages together given k none writable not_denied empty post = grind (
         arith,
         joint_post,
-        joint_ready,
+        together_pre,
       )
 
       pub sequential_post : (s : ToolInRun) {messages_old messages_new : SinkState} → reads_together s ≡ false
@@ -117,7 +107,7 @@ module _ (word : List ℕ) (names : List (List ℕ)) (positions : List ℕ) wher
 
 pub operand_pre : (s : ToolInRun) {operands : List ℕ} {inputs : List Reader} (out : Output) {store : Slots}
     → reads_together s ≡ false → OperandPre operands inputs store → RunOnPre s operands inputs out store
-operand_pre (OneByOne t law) out in_turn ready = record { ready = ready }
+operand_pre (OneByOne t law) out in_turn ready = ready
 operand_pre (Together t) out in_turn ready = absurd (false≢true (sym in_turn))
 
 pub operand_post : (s : ToolInRun) {p : ℕ} {old new : List Reader} {was is : Output} {before store : Slots}

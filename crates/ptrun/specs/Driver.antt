@@ -227,15 +227,10 @@ pub record OperandPost (t : ToolSpec) (p : ℕ) (old new : List Reader) (was is 
   pub result_is : result ≡ operand_completion p pass_result
   pub pass : PassPost t (reader_at old p) reader was is before store pass_result
 
--- The precondition of a tool on the operands at these positions, by how it reads them.
-abbrev pub ReadingPre : ToolInRun → List ℕ → List Reader → Output → Slots → Type 0
-ReadingPre (OneByOne t law) operands inputs out store = OperandPre operands inputs store
-ReadingPre (Together t) operands inputs out store = JointPre t operands inputs out store
-
--- It is a record, so that a goal about any tool does not write it out.
-pub record RunOnPre (s : ToolInRun) (operands : List ℕ) (inputs : List Reader) (out : Output)
-    (store : Slots) : Type 0 where
-  pub ready : ReadingPre s operands inputs out store
+-- The precondition of a tool on the operands at these positions.
+abbrev pub RunOnPre : ToolInRun → List ℕ → List Reader → Output → Slots → Type 0
+RunOnPre (OneByOne t law) operands inputs out store = OperandPre operands inputs store
+RunOnPre (Together t) operands inputs out store = JointPre t operands inputs out store
 
 -- The postcondition of a tool on the operands at these positions.
 abbrev pub RunOnPost : ToolInRun → List ℕ → List Reader → List Reader → Output → Output → Slots → Slots

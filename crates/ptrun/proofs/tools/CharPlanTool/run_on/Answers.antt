@@ -8,4 +8,4 @@ pub tr-requires : goal.tr-requires
 tr-requires g c = grind (arith, common_steps)
 
 pub offset_bounds-inputs-position : goal.offset_bounds-inputs-position
-offset_bounds-inputs-position g c = let low = c.requires.ready.within in search scaled_Fits
+offset_bounds-inputs-position g c = let low = c.requires.within in search scaled_Fits
