@@ -8,14 +8,14 @@
 -- and single character is one case of both. The code finds the elements that the definition computes, and a string is
 -- rejected with the fault of its first faulty element.
 use Rattle.ptlangs.proofs
-use proofs.Common.{Bool, CharClass, Err, Escaped, Invalid, List, NoChar, None, Ok, Option, Plain, Result, Segment}
-use proofs.Common.{SetChar, SetElement, SetFaultKind, SetRole, Some, SpellsChar, SpellsChars, [], after_backslash, ap}
-use proofs.Common.{arith, byte_of, chars, common_steps, cond, cond_both, digits_value, drop, drop_all, drop_more, false}
-use proofs.Common.{get_or, is_ascii_digit, is_fill, length, ltb-true, map, ne_eqb, octal, refl, result_map_both, rules}
-use proofs.Common.{segments, sequence, set_elements, slice_get, subst, suc, sym, take, true, value, zero, ℕ, ◌*◌, ◌++◌}
-use proofs.Common.{◌+◌, ◌-◌, ◌<◌, ◌||◌, ◌∙◌, ◌∷◌, ◌≡◌, ◌≢◌, ◌≤◌}
+use proofs.Common.{Bool, CharClass, Err, Invalid, List, NoChar, None, Ok, Option, Plain, Result, Segment, SetChar}
+use proofs.Common.{SetElement, SetFaultKind, SetRole, Some, SpellsChar, SpellsChars, [], after_backslash, ap, arith}
+use proofs.Common.{byte_of, char_at, chars, chars_after, common_steps, cond, cond_both, digits_value, drop, drop_all}
+use proofs.Common.{drop_more, false, get_or, is_ascii_digit, is_fill, length, length-append, ltb-true, map, ne_eqb}
+use proofs.Common.{octal, refl, result_map_both, rules, segments, sequence, set_elements, slice_get, subst, suc, sym}
+use proofs.Common.{take, true, value, zero, ℕ, ◌*◌, ◌++◌, ◌+◌, ◌-◌, ◌<◌, ◌||◌, ◌∙◌, ◌∷◌, ◌≡◌, ◌≢◌, ◌≤◌}
 use Rattle.ptlangs.specs.TrChars.{AChar, ALargeOctal, ALoneBackslash, APlainByte, AnEscape, AnOctal, CharsMatchGrammar}
-use Rattle.ptlangs.specs.TrChars.{chars_after, IsOctalRun, OneDigit, ThreeDigits, TwoDigits, char_at, is_octal_digit, octal_run}
+use Rattle.ptlangs.specs.TrChars.{Escaped, IsOctalRun, OneDigit, ThreeDigits, TwoDigits, is_octal_digit, octal_run}
 use Rattle.ptlangs.specs.TrClasses.{class_named}
 use Rattle.ptlangs.specs.TrElements.{AClass, ADescendingRange, ARange, ARepeat, Alone, AnEquivalence, AnInvalidChar}
 use Rattle.ptlangs.specs.TrElements.{AnInvalidEnd, AreElements, ByEscape, ByItself, DenotesByte, HasBracketed}
@@ -31,9 +31,8 @@ use Rattle.std.proofs.Common.{All, inl, inr, nat_le, nat_lt}
 use Rattle.std.proofs.lemmas.Bool.{and_from, and_parts, cases_Bool, cases_eq, eq-eqb, le-leb, le-ltb, lt-leb, ltb-false}
 use Rattle.std.proofs.lemmas.Int.Digits.{digits_value_more}
 use Rattle.std.proofs.lemmas.List.Folds.{length-prefix_len}
-use Rattle.std.proofs.lemmas.List.{take-append-drop}
 use Rattle.std.proofs.lemmas.List.Sums.{AllPass-from_list_all, prefix_len-le-length, prefix_len_passes, take_while-cons}
-use Rattle.std.proofs.lemmas.List.{drop_at, get_or-take, length-append, length-take, take-take, take_rest}
+use Rattle.std.proofs.lemmas.List.{drop_at, get_or-take, length-take, take-append-drop, take-take, take_rest}
 use Rattle.std.proofs.lemmas.Str.Parse.{digit_from_value, digits_value-take-le}
 use Rattle.std.proofs.lemmas.Str.{digit_value_digit}
 use Rattle.std.specs.Char.{digit_value, is_ascii_lowercase}

@@ -16,8 +16,8 @@ positions_of-requires-clause-in_range g c = rw c.deref-order.ensures.value (λ k
 
 pub positions_of-requires-clause-few : goal.positions_of-requires-clause-few
 positions_of-requires-clause-few g c =
-    let few = few_together _ _ _ (g.T.Tool.tool c.args.tool.now) (sym c.reads_together.ensures ∙ c.if-reads_together.true)
-    c.requires.given in
+    let few = few_together _ _ _ (g.T.Tool.tool c.args.tool.now)
+    (sym c.reads_together.ensures ∙ c.if-reads_together.true) c.requires.given in
     rw c.deref-order.ensures.value (grind (arith, few, length-map))
 
 pub run_on-run_result-requires : goal.run_on-run_result-requires
