@@ -42,7 +42,7 @@ use Rattle.std.specs.Option.{option_and_then}
 none_since : (b : Bool) (i : ℕ) → cond b (Some i) None ≡ None → b ≡ false
 none_since = grind arith
 
-pub some_since : {X : Type 0} (b : Bool) {x : X} (y : X) → cond b (Some x) None ≡ Some y → (b ≡ true) × (x ≡ y)
+some_since : {X : Type 0} (b : Bool) {x : X} (y : X) → cond b (Some x) None ≡ Some y → (b ≡ true) × (x ≡ y)
 some_since = grind arith
 
 pub split_whole : {X : Type 0} (p : X → Bool) (xs : List X) → position p xs ≡ None → slice_split p xs ≡ xs ∷ []
@@ -111,24 +111,24 @@ values_are read (x ∷ xs) e = grind (arith, values_are read xs)
 -- ---- the elements that are accepted are those of the grammar
 
 -- the digits of a number all fail a test that every digit fails
-pub digits_fail : (p : ℕ → Bool) → ((b : ℕ) → is_ascii_digit b ≡ true → p b ≡ false) → (n : List ℕ) → is_number n ≡ true
+digits_fail : (p : ℕ → Bool) → ((b : ℕ) → is_ascii_digit b ≡ true → p b ≡ false) → (n : List ℕ) → is_number n ≡ true
     → All (λ b. p b ≡ false) n
 digits_fail = grind (arith, common_steps)
 
 -- a text without a separator
-abbrev pub Unbroken : List ℕ → Type 0
+abbrev Unbroken : List ℕ → Type 0
 Unbroken bs = All (λ b. is_list_separator b ≡ false) bs
 
-pub unbroken_number : (n : List ℕ) → is_number n ≡ true → Unbroken n
+unbroken_number : (n : List ℕ) → is_number n ≡ true → Unbroken n
 unbroken_number = digits_fail is_list_separator (λ b h. grind arith)
 
-pub unbroken_cons : (b : ℕ) (bs : List ℕ) → is_list_separator b ≡ false → Unbroken bs → Unbroken (b ∷ bs)
+unbroken_cons : (b : ℕ) (bs : List ℕ) → is_list_separator b ≡ false → Unbroken bs → Unbroken (b ∷ bs)
 unbroken_cons = All-cons _
 
-pub unbroken_append : (xs ys : List ℕ) → Unbroken xs → Unbroken ys → Unbroken (xs ++ ys)
+unbroken_append : (xs ys : List ℕ) → Unbroken xs → Unbroken ys → Unbroken (xs ++ ys)
 unbroken_append = grind (arith, common_steps)
 
-pub unbroken_nil : Unbroken []
+unbroken_nil : Unbroken []
 unbroken_nil k d below = absurd (omega arith)
 
 -- a list split at separators: one part, or a part, a separator and the split of the rest

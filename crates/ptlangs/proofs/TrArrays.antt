@@ -11,10 +11,10 @@
 -- at its end.
 use Rattle.ptlangs.proofs
 use proofs.Common.{Bool, Bytes, CharClass, Contents, Err, HasPaired, IsErrAnd, List, Member, None, Ok, Option, Result}
-use proofs.Common.{Segment, SetElement, SetFaultKind, SetRole, Some, [], all_paired, ap, append-nil}
-use proofs.Common.{arith, array, bytes_left, common_steps, complement_of, cond, contents_of, count_by, drop, drop_all}
-use proofs.Common.{drop_more, eqb, eqb-true, false, first_array, first_members, flat_map, image_by, is_fill, length}
-use proofs.Common.{map, map-append, marked_array, member_bytes, member_results, ne_eqb, not, plain_members, range_bytes}
+use proofs.Common.{Segment, SetElement, SetFaultKind, SetRole, Some, [], all_paired, ap, append-nil, arith, array}
+use proofs.Common.{bytes_left, common_steps, complement_of, cond, contents_of, count_by, drop, drop_all, drop_more, eqb}
+use proofs.Common.{eqb-true, false, first_array, first_members, flat_map, image_by, is_fill, length, length-append, map}
+use proofs.Common.{map-append, marked_array, member_bytes, member_results, ne_eqb, not, plain_members, range_bytes}
 use proofs.Common.{refl, replicate, result_map_both, rules, segments_of, sequence, slice_get, string_segments, subst}
 use proofs.Common.{suc, sym, take, take_all, true, zero, ℕ, ◌++◌, ◌+◌, ◌-◌, ◌<◌, ◌||◌, ◌∙◌, ◌∷◌, ◌≡◌, ◌≢◌, ◌≤◌}
 use proofs.ListElements.{append_ok as onto, append_ok-nil, cons_ok-append_ok, reads_first}
@@ -27,14 +27,13 @@ use Rattle.ptlangs.specs.declared.tr.images.Images.{Images}
 use Rattle.ptlangs.specs.declared.tr.segments.Segment.TheVariants.{Class, Fill, Range, Repeat}
 use Rattle.std.proofs.Common.{inl, inr, min, ◌&&◌, ◌⊎◌}
 use Rattle.std.proofs.Math.ListN.{get_or, set}
-use Rattle.std.proofs.lemmas.Bool.{cases_eq, eq-eqb, or_right}
+use Rattle.std.proofs.lemmas.Bool.{cases_lt, cases_eq, eq-eqb, or_right}
 use Rattle.std.proofs.lemmas.List.Elements.{filter-append, filter_more}
 use Rattle.std.proofs.lemmas.List.Folds.{list_any-append, list_any_at}
 use Rattle.std.proofs.lemmas.List.FromFn.{get_or-map-range_with_len, get_or-range_with_len, length-map-range_with_len}
 use Rattle.std.proofs.lemmas.List.FromFn.{length-range_with_len}
-use Rattle.std.proofs.lemmas.List.{drop-map, drop-replicate, get_or-replicate, get_or_default, length-append}
-use Rattle.std.proofs.lemmas.List.{length-map, length-replicate, length-set, map-id, same_lists, take-append-drop}
-use Rattle.std.proofs.lemmas.List.{take-map}
+use Rattle.std.proofs.lemmas.List.{drop-map, drop-replicate, get_or-replicate, get_or_default, length-map}
+use Rattle.std.proofs.lemmas.List.{length-replicate, length-set, map-id, same_lists, take-append-drop, take-map}
 use Rattle.std.proofs.lemmas.Map.Views.{any-filter_same}
 use Rattle.std.proofs.lemmas.Option.{slice_get-get_or, slice_get_past, slice_get_within}
 use Rattle.std.specs.List.{last_or}
@@ -286,41 +285,30 @@ class_offsets-are n (Repeat b count ∷ ps) at = grind (
 )
 class_offsets-are n (Fill b ∷ ps) at = grind (arith, common_steps, offsets-members, class_offsets-are n ps (at + n))
 
+offset_first : (at k : ℕ) (o : Option CharClass) (later : List (ℕ × CharClass)) (class : CharClass)
+    → has_other_case_at (offset_of at o ++ later) k class
+    ≡ ((eqb at k && classes_match o (Some class)) || has_other_case_at later k class)
+offset_first = grind arith
+
 -- no class starts before an array
 none_before : (ms : List Member) (at k : ℕ) (class : CharClass) → k < at
     → has_other_case_at (offsets at ms) k class ≡ false
 none_before [] at k class low = refl
-none_before (m ∷ ms) at k class low = by_class m.class (none_before ms _ k class (omega arith))
-  where
-    by_class : (o : Option CharClass) → has_other_case_at (offsets (suc at) ms) k class ≡ false
-        → has_other_case_at (offset_of at o ++ offsets (suc at) ms) k class ≡ false
-    by_class None later = later
-    by_class (Some c) later = grind arith
+none_before (m ∷ ms) at k class low =
+    rw (offset_first at k m.class, ne_eqb at k (λ e. omega arith)) (none_before ms _ k class (omega arith))
 
 stands_here : (ms : List Member) (at i k : ℕ) (class : CharClass) → at + i ≡ k
     → has_other_case_at (offsets at ms) k class ≡ classes_match (class_here ms i) (Some class)
 stands_here [] at i k class e = refl
-stands_here (m ∷ ms) at zero k class e = by_class m.class
+stands_here (m ∷ ms) at zero k class e =
+    rw (offset_first at k m.class, eq-eqb at k (omega arith), none_before ms (suc at) k class (omega arith))
+    (or_false _)
   where
-    later : has_other_case_at (offsets (suc at) ms) k class ≡ false
-    later = none_before ms _ k class (omega arith)
-
     or_false : (t : Bool) → (t || false) ≡ t
     or_false true = refl
     or_false false = refl
-
-    by_class : (o : Option CharClass)
-        → has_other_case_at (offset_of at o ++ offsets (suc at) ms) k class ≡ classes_match o (Some class)
-    by_class None = later
-    by_class (Some c) = rw (eq-eqb at k (omega arith), later) (or_false _)
-stands_here (m ∷ ms) at (suc i) k class e = by_class m.class (stands_here ms _ i k class (omega arith))
-  where
-    by_class : (o : Option CharClass)
-        → has_other_case_at (offsets (suc at) ms) k class ≡ classes_match (class_here ms i) (Some class)
-        → has_other_case_at (offset_of at o ++ offsets (suc at) ms) k class
-        ≡ classes_match (class_here ms i) (Some class)
-    by_class None later = later
-    by_class (Some c) later = rw (ne_eqb at k (λ z. omega arith)) later
+stands_here (m ∷ ms) at (suc i) k class e =
+    rw (offset_first at k m.class, ne_eqb at k (λ z. omega arith)) (stands_here ms _ i k class (omega arith))
 
 -- one byte of the second array against the first array from the same index on
 all_paired-more : (i : ℕ) (from : List Member) (t : Member) (to : List Member)
@@ -331,16 +319,16 @@ all_paired-more zero (f ∷ from) t to = refl
 all_paired-more (suc i) [] t to = refl
 all_paired-more (suc i) (f ∷ from) t to = all_paired-more i from t to
 
+paired_first : (from : List Member) (i : ℕ) (o : Option CharClass) (later : List (ℕ × CharClass))
+    → are_paired (offsets 0 from) (offset_of i o ++ later)
+    ≡ (classes_match (class_here from i) o && are_paired (offsets 0 from) later)
+paired_first from i None later = cc
+paired_first from i (Some c) later = grind (arith, stands_here)
+
 paired_from : (from to : List Member) (i : ℕ) → are_paired (offsets 0 from) (offsets i to) ≡ all_paired (drop i from) to
 paired_from from [] i = refl
-paired_from from (t ∷ to) i = by_class t.class (paired_from from to _) ∙ sym (all_paired-more i from t to)
-  where
-    by_class : (o : Option CharClass)
-        → are_paired (offsets 0 from) (offsets (suc i) to) ≡ all_paired (drop (suc i) from) to
-        → are_paired (offsets 0 from) (offset_of i o ++ offsets (suc i) to)
-        ≡ (classes_match (class_here from i) o && all_paired (drop (suc i) from) to)
-    by_class None later = cc
-    by_class (Some c) later = grind (arith, stands_here)
+paired_from from (t ∷ to) i = paired_first from i t.class _
+    ∙ rw (paired_from from to (suc i)) (sym (all_paired-more i from t to))
 
 -- the classes are paired as the definition states it
 pub paired-arrays : (n : ℕ) (firsts seconds : List Segment)
@@ -499,31 +487,28 @@ slice_get-take (suc n) [] i h = refl
 slice_get-take (suc n) (x ∷ xs) zero h = refl
 slice_get-take (suc n) (x ∷ xs) (suc i) h = slice_get-take n xs i (omega arith)
 
-last_or-is : (o : Option ℕ) (b : ℕ) (bytes : List ℕ) → last_or o (b ∷ bytes) ≡ slice_get (b ∷ bytes) (length bytes)
-last_or-is o b [] = refl
-last_or-is o b (x ∷ bytes) = last_or-is (Some b) x bytes
+last_or-some : (o : Option ℕ) (b : ℕ) (bytes : List ℕ)
+    → last_or o (b ∷ bytes) ≡ Some (get_or (b ∷ bytes) (length bytes) 0)
+last_or-some o b [] = refl
+last_or-some o b (x ∷ bytes) = last_or-some (Some b) x bytes
 
 -- the byte with an index of the padded array: past the end it is the last byte
 padded_to-get : (n i : ℕ) (bytes : List ℕ) → i < n
     → slice_get (padded_to n bytes) i ≡ slice_get bytes (min i (length bytes - 1))
 padded_to-get n i [] h = slice_get-take n [] i h
-padded_to-get n i (b ∷ bytes) h = by_last _ refl
+padded_to-get n i (b ∷ bytes) h =
+    rw (last_or-some None b bytes) (slice_get-take n _ i h ∙ by_index (cases_lt i (length (b ∷ bytes))))
   where
-    beyond : (z : ℕ) → last_or None (b ∷ bytes) ≡ Some z → ((i < length (b ∷ bytes)) ⊎ (length (b ∷ bytes) ≤ i))
-        → slice_get ((b ∷ bytes) ++ (replicate n z ++ [])) i ≡ slice_get (b ∷ bytes) (min i (length (b ∷ bytes) - 1))
-    beyond z l (inl within) = grind (arith, slice_get-left)
-    beyond z l (inr past) =
+    by_index : ((i < length (b ∷ bytes)) ⊎ (length (b ∷ bytes) ≤ i))
+        → slice_get ((b ∷ bytes) ++ (replicate n (get_or (b ∷ bytes) (length bytes) 0) ++ [])) i
+        ≡ slice_get (b ∷ bytes) (min i (length (b ∷ bytes) - 1))
+    by_index (inl within) = grind (arith, slice_get-left)
+    by_index (inr past) =
         let index : length bytes ≡ min i _ = omega arith in
         slice_get-right (b ∷ bytes) _ i _ (omega arith)
-        ∙ slice_get-left _ [] (i - length (b ∷ bytes)) (omega (arith, length-replicate n z))
-        ∙ sym (repeat_there n z _ (omega arith))
-        ∙ sym l ∙ last_or-is None b bytes ∙ ap (slice_get (b ∷ bytes)) index
-
-    by_last : (o : Option ℕ) → last_or None (b ∷ bytes) ≡ o
-        → slice_get (take n ((b ∷ bytes) ++ flat_map (λ (z : ℕ). replicate n z) (option_to_list o))) i
-        ≡ slice_get (b ∷ bytes) (min i (length (b ∷ bytes) - 1))
-    by_last None l = absurd (omega (arith, slice_get-none (b ∷ bytes) _ (sym l ∙ last_or-is None b bytes)))
-    by_last (Some z) l = grind (arith, slice_get-take, beyond)
+        ∙ slice_get-left _ [] (i - length (b ∷ bytes)) (grind (arith, length-replicate))
+        ∙ sym (repeat_there n _ _ (omega arith))
+        ∙ sym (slice_get-get_or (b ∷ bytes) (length bytes) 0 (omega arith)) ∙ ap (slice_get (b ∷ bytes)) index
 
 last_position-same : (b : ℕ) (bytes : List ℕ) → last_position b (bytes ++ b ∷ []) ≡ Some (length bytes)
 last_position-same b [] = rw (eq-eqb b b refl) refl

@@ -8,14 +8,14 @@
 -- and single character is one case of both. The code finds the elements that the definition computes, and a string is
 -- rejected with the fault of its first faulty element.
 use Rattle.ptlangs.proofs
-use proofs.Common.{Bool, CharClass, Err, Escaped, Invalid, List, NoChar, None, Ok, Option, Plain, Result, Segment}
-use proofs.Common.{SetChar, SetElement, SetFaultKind, SetRole, Some, SpellsChar, SpellsChars, [], after_backslash, ap}
-use proofs.Common.{arith, byte_of, chars, common_steps, cond, cond_both, digits_value, drop, drop_all, drop_more, false}
-use proofs.Common.{get_or, is_ascii_digit, is_fill, length, ltb-true, map, ne_eqb, octal, refl, result_map_both, rules}
-use proofs.Common.{segments, sequence, set_elements, slice_get, subst, suc, sym, take, true, value, zero, ℕ, ◌*◌, ◌++◌}
-use proofs.Common.{◌+◌, ◌-◌, ◌<◌, ◌||◌, ◌∙◌, ◌∷◌, ◌≡◌, ◌≢◌, ◌≤◌}
+use proofs.Common.{Bool, CharClass, Err, Invalid, List, NoChar, None, Ok, Option, Plain, Result, Segment, SetChar}
+use proofs.Common.{SetElement, SetFaultKind, SetRole, Some, SpellsChar, SpellsChars, [], after_backslash, ap, arith}
+use proofs.Common.{byte_of, char_at, chars, chars_after, common_steps, cond, cond_both, digits_value, drop, drop_all}
+use proofs.Common.{drop_more, false, get_or, is_ascii_digit, is_fill, length, length-append, ltb-true, map, ne_eqb}
+use proofs.Common.{octal, refl, result_map_both, rules, segments, sequence, set_elements, slice_get, subst, suc, sym}
+use proofs.Common.{take, true, value, zero, ℕ, ◌*◌, ◌++◌, ◌+◌, ◌-◌, ◌<◌, ◌||◌, ◌∙◌, ◌∷◌, ◌≡◌, ◌≢◌, ◌≤◌}
 use Rattle.ptlangs.specs.TrChars.{AChar, ALargeOctal, ALoneBackslash, APlainByte, AnEscape, AnOctal, CharsMatchGrammar}
-use Rattle.ptlangs.specs.TrChars.{IsOctalRun, OneDigit, ThreeDigits, TwoDigits, char_at, is_octal_digit, octal_run}
+use Rattle.ptlangs.specs.TrChars.{Escaped, IsOctalRun, OneDigit, ThreeDigits, TwoDigits, is_octal_digit, octal_run}
 use Rattle.ptlangs.specs.TrClasses.{class_named}
 use Rattle.ptlangs.specs.TrElements.{AClass, ADescendingRange, ARange, ARepeat, Alone, AnEquivalence, AnInvalidChar}
 use Rattle.ptlangs.specs.TrElements.{AnInvalidEnd, AreElements, ByEscape, ByItself, DenotesByte, HasBracketed}
@@ -25,14 +25,14 @@ use Rattle.ptlangs.specs.TrElements.{equivalence_after_equals, equivalence_at, f
 use Rattle.ptlangs.specs.TrElements.{range_to, repeat_after_star, repeat_at, repeat_count, single_or_range, with_rest}
 use Rattle.ptlangs.specs.TrParsing.{char_from}
 use Rattle.ptlangs.specs.TrPlan.{FirstFault, FirstFaultIsReported, LaterFault, NoElement, NoSegment, segment}
-use Rattle.ptlangs.specs.declared.faults.SetFaultKind.TheVariants.{Escape, Octal}
+use Rattle.ptlangs.specs.declared.faults.SetFaultKind.TheVariants.{Octal}
 use Rattle.ptlangs.specs.declared.tr.elements.SetElement.TheVariants.{Class, Equivalence, Repeat, Single}
 use Rattle.std.proofs.Common.{All, inl, inr, nat_le, nat_lt}
 use Rattle.std.proofs.lemmas.Bool.{and_from, and_parts, cases_Bool, cases_eq, eq-eqb, le-leb, le-ltb, lt-leb, ltb-false}
 use Rattle.std.proofs.lemmas.Int.Digits.{digits_value_more}
 use Rattle.std.proofs.lemmas.List.Folds.{length-prefix_len}
 use Rattle.std.proofs.lemmas.List.Sums.{AllPass-from_list_all, prefix_len-le-length, prefix_len_passes, take_while-cons}
-use Rattle.std.proofs.lemmas.List.{drop_at, get_or-take, length-append, length-take, take-take, take_rest}
+use Rattle.std.proofs.lemmas.List.{drop_at, get_or-take, length-take, take-append-drop, take-take, take_rest}
 use Rattle.std.proofs.lemmas.Str.Parse.{digit_from_value, digits_value-take-le}
 use Rattle.std.proofs.lemmas.Str.{digit_value_digit}
 use Rattle.std.specs.Char.{digit_value, is_ascii_lowercase}
@@ -146,80 +146,54 @@ chars_are bs us (AChar ds rest u more s others) = cc (char_is ds u rest s, chars
 
 -- ---- from the computed characters to the grammar
 
--- the octal digits at the start, and the rest
-record OctalPrefix (bs : List ℕ) : Type 0 where
-  digits : List ℕ
-  rest : List ℕ
-  is : bs ≡ digits ++ rest
-  run : IsOctalRun digits rest
-
-octal_prefix_two : (a b : ℕ) (more : List ℕ) → is_octal_digit a ≡ true → is_octal_digit b ≡ true
-    → OctalPrefix (a ∷ b ∷ more)
-octal_prefix_two a b [] ha hb = record { digits = a ∷ b ∷ []; rest = []; is = refl; run = TwoDigits a b [] ha hb refl }
-octal_prefix_two a b (c ∷ more) ha hb = elim (cases_Bool _) [
-  | inl hc ↦ record { digits = a ∷ b ∷ c ∷ []; rest = more; is = refl; run = ThreeDigits a b c more ha hb hc }
-  | inr hc ↦ record { digits = a ∷ b ∷ []; rest = c ∷ more; is = refl; run = TwoDigits a b _ ha hb hc }
+run_spelled : (a : ℕ) (more : List ℕ) → is_octal_digit a ≡ true
+    → IsOctalRun (octal_run (a ∷ more)) (drop (length (octal_run (a ∷ more))) (a ∷ more))
+run_spelled a [] ha = rw ha (OneDigit a [] ha refl)
+run_spelled a (b ∷ []) ha = elim (cases_Bool (is_octal_digit b)) [
+  | inl hb ↦ rw (ha, hb) (TwoDigits a b [] ha hb refl)
+  | inr hb ↦ rw (ha, hb) (OneDigit a (b ∷ []) ha hb)
+]
+run_spelled a (b ∷ c ∷ more) ha = elim (cases_Bool (is_octal_digit b)) [
+  | inl hb ↦ elim (cases_Bool (is_octal_digit c)) [
+    | inl hc ↦ rw (ha, hb, hc) (ThreeDigits a b c more ha hb hc)
+    | inr hc ↦ rw (ha, hb, hc) (TwoDigits a b (c ∷ more) ha hb hc)
+  ]
+  | inr hb ↦ rw (ha, hb) (OneDigit a (b ∷ c ∷ more) ha hb)
 ]
 
-octal_prefix : (a : ℕ) (more : List ℕ) → is_octal_digit a ≡ true → OctalPrefix (a ∷ more)
-octal_prefix a [] ha = record { digits = a ∷ []; rest = []; is = refl; run = OneDigit a [] ha refl }
-octal_prefix a (b ∷ more) ha = elim (cases_Bool _) [
-  | inl hb ↦ octal_prefix_two a b more ha hb
-  | inr hb ↦ record { digits = a ∷ []; rest = b ∷ more; is = refl; run = OneDigit a _ ha hb }
+octal_spelled : (bs : List ℕ) → IsOctalRun (octal_run bs) (drop (length (octal_run bs)) bs)
+    → SpellsChar (92 ∷ bs) (octal (digits_value 8 (octal_run bs))) (drop (length (octal_run bs)) bs)
+octal_spelled bs run =
+    let digits = octal_run bs in
+    let rest = drop (length digits) bs in
+    let all = ap (λ ds. ds ++ rest) (sym (take-octal_run bs)) ∙ take-append-drop (length digits) bs in
+    subst (λ xs. SpellsChar (92 ∷ xs) (octal (digits_value 8 digits)) rest) all
+    (elim (cases_Bool (nat_le (digits_value 8 digits) 255)) [
+      | inl small ↦ rw small (AnOctal digits rest run (grind arith))
+      | inr large ↦ rw large (ALargeOctal digits rest run (grind arith))
+    ])
+
+escape_spelled : (bs : List ℕ) → SpellsChar (92 ∷ bs) (after_backslash bs).0 (drop (after_backslash bs).1 bs)
+escape_spelled [] = ALoneBackslash
+escape_spelled (b ∷ more) = elim (cases_Bool (is_octal_digit b)) [
+  | inl h ↦ rw (after_backslash-octal (b ∷ more) b refl h) (octal_spelled (b ∷ more) (run_spelled b more h))
+  | inr h ↦ rw h (AnEscape b more h)
 ]
 
-record FirstChar (bs : List ℕ) : Type 0 where
-  next_char : SetChar
-  rest : List ℕ
-  spelled : SpellsChar bs next_char rest
-  shorter : length rest < length bs
-
-octal_first_char : (bs : List ℕ) → OctalPrefix bs → FirstChar (92 ∷ bs)
-octal_first_char bs r =
-    let shorter : length r.rest < length (92 ∷ bs) = grind (arith, length-append) in
-    elim (cases_Bool (nat_le (digits_value 8 r.digits) 255)) [
-      | inl small ↦ record {
-        next_char = Escaped (digits_value 8 r.digits);
-        rest = r.rest;
-        spelled = rw r.is (AnOctal r.digits r.rest r.run (grind arith));
-        shorter = shorter;
-      }
-      | inr large ↦ record {
-        next_char = Invalid Octal;
-        rest = r.rest;
-        spelled = rw r.is (ALargeOctal r.digits r.rest r.run (grind arith));
-        shorter = shorter;
-      }
-    ]
-
-escape_first_char : (bs : List ℕ) → FirstChar (92 ∷ bs)
-escape_first_char [] = record { next_char = Invalid Escape; rest = []; spelled = ALoneBackslash; shorter = omega arith }
-escape_first_char (b ∷ more) = elim (cases_Bool _) [
-  | inl h ↦ octal_first_char _ (octal_prefix b more h)
-  | inr h ↦ record {
-    next_char = Escaped _;
-    rest = more;
-    spelled = AnEscape b more h;
-    shorter = omega arith;
-  }
+first_spelled : (b : ℕ) (bs : List ℕ) → SpellsChar (b ∷ bs) (char_at b bs).0 (drop (char_at b bs).1 bs)
+first_spelled b bs = elim (cases_eq b 92) [
+  | inl e ↦ rw e (escape_spelled bs)
+  | inr n ↦ rw (ne_eqb b 92 n) (APlainByte b bs n)
 ]
 
-first_char : (b : ℕ) (bs : List ℕ) → FirstChar (b ∷ bs)
-first_char b bs = elim (cases_eq b 92) [
-  | inl e ↦ rw e (escape_first_char bs)
-  | inr n ↦ record { next_char = Plain b; rest = bs; spelled = APlainByte b bs n; shorter = omega arith }
-]
-
-spelled : (n : ℕ) (bs : List ℕ) → length bs ≤ n → SpellsChars bs (chars bs)
-spelled n [] h = NoChar
-spelled zero (b ∷ bs) h = absurd (omega arith)
-spelled (suc n) (b ∷ bs) h =
-    let f = first_char b bs in
-    rw (char_is _ f.next_char f.rest f.spelled)
-    (AChar _ f.rest f.next_char _ f.spelled (spelled n f.rest (omega arith)))
+spelled : (bs : List ℕ) (skip : ℕ) → SpellsChars (drop skip bs) (chars_after bs skip)
+spelled [] zero = NoChar
+spelled [] (suc skip) = NoChar
+spelled (b ∷ bs) zero = AChar (b ∷ bs) _ _ _ (first_spelled b bs) (spelled bs _)
+spelled (b ∷ bs) (suc skip) = spelled bs skip
 
 pub chars_are_spelled : CharsMatchGrammar
-chars_are_spelled = grind (arith, chars_are, spelled)
+chars_are_spelled bs us = (chars_are bs us, λ e. subst (SpellsChars bs) e (spelled bs 0))
 
 -- a character that starts with a backslash
 abbrev IsEscape : SetChar → Type 0

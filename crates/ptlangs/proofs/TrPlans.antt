@@ -3,15 +3,14 @@
 use Rattle.ptlangs.proofs
 use proofs.Common.{Bool, Contents, Delete, DeleteSqueeze, Err, First, Form, List, None, Ok, Option, Result, Segment}
 use proofs.Common.{SetChar, SetElement, SetFault, SetFaultKind, SetRole, Some, Squeeze, Translate, TranslateSqueeze, []}
-use proofs.Common.{all_bytes, all_paired, and_then, ap, arith, array, byte_of, chars, cond, cons_ok, contents_of, false}
-use proofs.Common.{first_array, first_members, in_string, length, map, marked_array, ok_map, plan, plan_of, refl}
-use proofs.Common.{result_map_both, rules, second_plan, segments, sequence, string_segments, suc, sym, tables, true}
-use proofs.Common.{zero, ℕ, ◌-◌, ◌∙◌, ◌∷◌, ◌≡◌, ◌≢◌}
+use proofs.Common.{all_bytes, all_paired, and_then, ap, arith, array, byte_of, char_at, chars, chars_after, cond}
+use proofs.Common.{cons_ok, contents_of, false, first_array, first_members, in_string, length, map, marked_array}
+use proofs.Common.{ok_map, plan, plan_of, refl, result_map_both, rules, segments, sequence, string_segments, suc, sym}
+use proofs.Common.{tables, true, zero, ℕ, ◌-◌, ◌∙◌, ◌∷◌, ◌≡◌, ◌≢◌}
 use proofs.TrArrays.{paired-arrays, paired-plain}
-use Rattle.ptlangs.specs.TrChars.{char_at, chars_after}
 use Rattle.ptlangs.specs.TrElements.{elements_after, elements_from, or_char}
 use Rattle.ptlangs.specs.TrPlan.{NoMemoryFault, Plan, class_offsets, fill_count, has_valid_classes, image_of}
-use Rattle.ptlangs.specs.TrPlan.{is_deleted, is_squeezed, plan_from, second_role, segment, takes_second}
+use Rattle.ptlangs.specs.TrPlan.{is_deleted, is_squeezed, plan_from, second_plan, second_role, segment, takes_second}
 use Rattle.ptlangs.specs.TrTables.{Tables}
 use Rattle.ptlangs.specs.declared.faults.SetFaultKind.TheVariants.{ClassPlace, Memory}
 use Rattle.ptlangs.specs.declared.faults.SetString.{SetString}

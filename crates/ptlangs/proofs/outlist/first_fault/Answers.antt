@@ -10,7 +10,8 @@ returns c =
     let found = find_from_yields_List is_err _ _ c.find.result c.find.ensures.ran
     (YieldsList-from_map _ element_field
     (YieldsList-at c.map-fields.ensures.source
-    (YieldsList-from_slice_split _ is_list_separator c.args.text.now s.rest s.done s.closure (λ b r q k. search (rules, tests))))
+    (YieldsList-from_slice_split _ is_list_separator c.args.text.now s.rest s.done s.closure
+    (λ b r q k. search (rules, tests))))
     c.map-fields.ensures.closure (λ x r q k. search rules))
     (λ x b q k. search (rules, tests)) in
     let first = first_fault_is element_field (elements c.args.text.now) in

@@ -10,7 +10,8 @@ returns g c =
     let values = items_from_collect c.collect.result c.collect.ensures.ran
     (YieldsList-from_filter_map _ (λ e. result_ok (element_interval e))
     (YieldsList-at c.filter_map-intervals.ensures.source
-    (YieldsList-from_slice_split _ is_list_separator c.args.text.now s.rest s.done s.closure (λ b r q k. search (rules, tests))))
+    (YieldsList-from_slice_split _ is_list_separator c.args.text.now s.rest s.done s.closure
+    (λ b r q k. search (rules, tests))))
     c.filter_map-intervals.ensures.closure (λ x r q k. search (rules, tests))) in
     let all = values_are element_interval (elements c.args.text.now) c.requires in
     first_of (search rules, grind (arith, common_steps))

@@ -1,16 +1,14 @@
 -- Each iteration processes one more operand. If one fails, the run stops there, and the operands after it are
 -- unchanged.
 use Rattle.ptrun.proofs
-use proofs.Common.{scaled_Fits, ◌<◌, ◌+◌, length, drop, sym, ◌∙◌, arith, positions, Standard}
-use Rattle.std.proofs.lemmas.Result.{err_from_is_err_and}
-use Rattle.ptrun.proofs.driver.run_one_by_one.Goals as goal
-use proofs.OperandInputs.{names_counted, operand_low, operand_step, only_within, position_in_range}
-use proofs.OperandInputs.{positions_end}
-use proofs.Sequential.{done_as, done_nothing, operand_ready, done_all, done_unopened, done_operand, done_stopped}
-use proofs.ToolRuns.{sequential_post, operand_pre, operand_post, decides_all}
+use proofs.Common.{Standard, arith, drop, err_from_is_err_and, length, positions, scaled_Fits, sym, ◌+◌, ◌<◌, ◌∙◌}
+use proofs.OperandInputs.{names_counted, only_within, operand_low, operand_step, position_in_range, positions_end}
+use proofs.Sequential.{done_all, done_as, done_nothing, done_operand, done_stopped, done_unopened, operand_ready}
+use proofs.ToolRuns.{decides_all, operand_post, operand_pre, sequential_post}
 use Rattle.ptrun.proofs.driver.run_one_by_one.Given as given
 use Rattle.ptrun.proofs.driver.run_one_by_one.Goals.{After-position_of-position, then-is_refused}
 use Rattle.ptrun.proofs.driver.run_one_by_one.Goals.{else-is_refused+in_ok-run_on}
+use Rattle.ptrun.proofs.driver.run_one_by_one.Goals as goal
 
 -- The position of the operand is that of an input.
 low : (g : given.Over) (c : After-position_of-position g) → c.position_of-position.result < length c.args.inputs.now
@@ -18,7 +16,9 @@ low g c = operand_low c.args.order.now c.loop-input.input-index Standard c.requi
     c.loop-input-test.true c.position_of-position.ensures
 
 pub loop-input-init : goal.loop-input-init
-loop-input-init g c = grind (arith, done_nothing)
+loop-input-init g c =
+    let ready = c.requires.ready in
+    done_nothing ready.given.fresh ready.writable ready.not_denied ready.empty
 
 pub run_on-requires-clause-within : goal.run_on-requires-clause-within
 run_on-requires-clause-within g c = only_within (omega (

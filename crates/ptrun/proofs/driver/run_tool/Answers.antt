@@ -1,13 +1,12 @@
 -- A tool that reads its operands together reads nothing if one could not be opened. Otherwise, and if it reads one
 -- operand after another, its inputs are processed, and the end of the run follows from the result.
 use Rattle.ptrun.proofs
-use proofs.Common.{ℕ, arith, ap, false≢true, sym, ◌∙◌, subst, HasIndexBelow, length, outcome, Output}
-use proofs.RunEnds.{run_in_store}
-use proofs.OperandInputs.{names_counted, position_in_range}
+use proofs.Common.{HasIndexBelow, Output, ap, arith, common_steps, false≢true, length, outcome, subst, sym, ℕ, ◌∙◌}
 use proofs.MessageWrites.{said_nothing}
-use proofs.ToolRuns.{unopened_run, together_post, together_says, reads_if}
+use proofs.OperandInputs.{names_counted, position_in_range}
+use proofs.RunEnds.{run_in_store}
+use proofs.ToolRuns.{reads_if, together_post, together_says, unopened_run}
 use Rattle.ptrun.proofs.driver.run_tool.Goals as goal
-use Rattle.std.proofs.lemmas.Grind.{common_steps}
 
 pub positions_of-requires-clause-in_range : goal.positions_of-requires-clause-in_range
 positions_of-requires-clause-in_range g c = rw c.deref-order.ensures.value (λ k d within. omega (

@@ -1,9 +1,9 @@
 -- Two readers are lent from one list, split at the higher position. Either position may be the lower one, and both
 -- cases are the same merge.
-use Rattle.ptrun.proofs.Common.{◌≡◌, ℕ, ◌<◌, ◌≤◌, length, sym, arith}
-use borrow.Author.Rules.{scaled_Fits}
+use Rattle.ptrun.proofs
+use proofs.Common.{arith, length, scaled_Fits, sym, ℕ, ◌<◌, ◌≡◌, ◌≤◌}
+use proofs.JointRuns.{split_readers, were}
 use Rattle.ptrun.proofs.merge.MergeJob.merge_at.Goals as goal
-use Rattle.ptrun.proofs.TwoInputRuns.{split_readers}
 
 -- the other position is the lower one
 below : (first second : ℕ) → second ≤ first → (first ≡ second → ⊥) → second < first

@@ -1,8 +1,8 @@
 -- The tool accepts exactly two operands whose positions among the readers differ. So there are two readers, which are
 -- not the same, and the run of the tool is the merge of the two.
-use Rattle.std.proofs.lemmas.Grind.{common_steps}
-use Rattle.std.proofs.Common.{arith}
-use Rattle.ptrun.proofs.TwoInputRuns.{length_two, two_of, ready_at, two_inputs_post}
+use Rattle.ptrun.proofs
+use proofs.Common.{arith, common_steps}
+use proofs.JointRuns.{length_two, ready_at, two_inputs_post, two_of}
 use Rattle.ptrun.specs.Merges.{merge_tool}
 use Rattle.ptrun.proofs.merge.MergeJobTool.run_on.Goals as goal
 

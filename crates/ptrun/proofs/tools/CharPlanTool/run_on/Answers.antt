@@ -1,6 +1,4 @@
-use Rattle.std.proofs.lemmas.Grind.{common_steps}
-use Rattle.ptrun.proofs.Common.{arith}
-use borrow.Author.Rules.{scaled_Fits}
+use Rattle.ptrun.proofs.Common.{arith, common_steps, scaled_Fits}
 use Rattle.ptrun.proofs.tools.CharPlanTool.run_on.Goals as goal
 
 pub returns : goal.returns

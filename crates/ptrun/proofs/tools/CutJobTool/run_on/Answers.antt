@@ -1,4 +1,4 @@
-use borrow.Author.Rules.{scaled_Fits}
+use Rattle.ptrun.proofs.Common.{scaled_Fits}
 use Rattle.ptrun.proofs.ToolRuns.{operand_passed}
 use Rattle.ptrun.proofs.tools.CutJobTool.run_on.Goals as goal
 

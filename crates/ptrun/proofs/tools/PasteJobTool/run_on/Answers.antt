@@ -1,13 +1,10 @@
 -- In series, the pass over the reader of the only operand is that of the tool. In parallel each operand is a column, so
 -- facts about columns are facts about operands.
-use Rattle.std.proofs.lemmas.Grind.{common_steps}
 use Rattle.ptrun.proofs
-use proofs.Common.{paste_job, arith}
-use Rattle.std.proofs.lemmas.Result.{err_from_is_err_and}
-use Rattle.ptrun.proofs.tools.PasteJobTool.run_on.Goals as goal
-use proofs.PasteRuns.{cells_ready, rows_post}
+use proofs.Common.{arith, common_steps, err_from_is_err_and, paste_job, scaled_Fits}
+use proofs.JointRuns.{cells_ready, rows_post}
 use proofs.ToolRuns.{operand_passed}
-use borrow.Author.Rules.{scaled_Fits}
+use Rattle.ptrun.proofs.tools.PasteJobTool.run_on.Goals as goal
 
 pub offset_bounds-inputs-position : goal.offset_bounds-inputs-position
 offset_bounds-inputs-position g c =

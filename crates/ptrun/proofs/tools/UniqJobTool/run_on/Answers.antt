@@ -1,8 +1,7 @@
 -- `uniq` accepts one operand only, so its pass over the reader of this operand is the pass over all operands.
-use Rattle.std.proofs.lemmas.Grind.{common_steps}
-use Rattle.ptrun.proofs.Common.{arith}
-use Rattle.ptrun.proofs.OneOperand.{only_operand_within, only_operand_ready, only_operand_post}
-use borrow.Author.Rules.{scaled_Fits}
+use Rattle.ptrun.proofs
+use proofs.Common.{arith, common_steps, scaled_Fits}
+use proofs.JointRuns.{only_operand_post, only_operand_ready, only_operand_within}
 use Rattle.ptrun.proofs.tools.UniqJobTool.run_on.Goals as goal
 
 pub bounds-inputs-position : goal.bounds-inputs-position

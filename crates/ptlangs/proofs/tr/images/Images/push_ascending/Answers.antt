@@ -32,14 +32,16 @@ paired c bytes to e h =
     elim c.if-first-from.branch [
       | then-first-from+in_ok-push w ↦
           let more =
-          others_below-more bytes b false (omega arith) (is_kept c.args.first.now bytes b c.from.result true c.from.ensures
+          others_below-more bytes b false (omega arith)
+          (is_kept c.args.first.now bytes b c.from.result true c.from.ensures
           (omega arith) w.if-first-from.true e) in
           paired_same _ to (ap plain_members more
           ∙ map-append _ before _) w.self-is
           (w.in_ok-push.ensures _ to (c.loop-byte.invariant bytes to e h))
       | else-first-from w ↦
           let more =
-          others_below-more bytes b true (omega arith) (is_kept c.args.first.now bytes b c.from.result false c.from.ensures
+          others_below-more bytes b true (omega arith)
+          (is_kept c.args.first.now bytes b c.from.result false c.from.ensures
           (omega arith) w.if-first-from.false e) in
           paired_same _ to (ap plain_members (more ∙ append-nil before)) w.self-is
           (c.loop-byte.invariant bytes to e h)

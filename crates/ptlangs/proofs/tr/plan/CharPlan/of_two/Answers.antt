@@ -2,12 +2,12 @@
 -- are the same each time, so the plan is that of the definition.
 use Rattle.ptlangs.proofs
 use proofs.Common.{Contents, DeleteSqueeze, Err, Form, List, Ok, Segment, Translate, TranslateSqueeze, [], all_bytes}
-use proofs.Common.{ap, array, contents_of, false, first_array, image_by, map, ok_map, plan_of, rules, second_plan}
-use proofs.Common.{string_segments, sym, tables, ◌∙◌, ◌≡◌}
+use proofs.Common.{ap, array, contents_of, false, first_array, image_by, map, ok_map, plan_of, rules, string_segments}
+use proofs.Common.{sym, tables, ◌∙◌, ◌≡◌}
 use proofs.TrArrays.{answer_fault, answer_ok, member_bytes-array, none_contained, on_fault, string-ok}
 use proofs.TrPlans.{SecondRead, is_translate, mapped_at, planned, second_read, tables_are, valid-paired}
 use Rattle.ptlangs.proofs.tr.plan.CharPlan.of_two.Goals.{After-saturating_sub-fill, In_ok-second}
-use Rattle.ptlangs.specs.TrPlan.{class_offsets, has_valid_classes}
+use Rattle.ptlangs.specs.TrPlan.{class_offsets, has_valid_classes, second_plan}
 use Rattle.ptlangs.proofs.tr.plan.CharPlan.of_two.Goals as goal
 
 seen : (c : After-saturating_sub-fill) (firsts : List Segment)
