@@ -15,16 +15,14 @@ use proofs.Common.{PushEffect, IsDone, IsSound, Reader, budget, no_reader, reade
 use proofs.Common.{lines, unlines, update_at, columns, join_with_cycle, rows, uses_of, IsWholeRows}
 use proofs.Common.{IsSharedCycle, cycle_byte, with_replacements, RowShape, BegunText, after_cell, cells_text}
 use proofs.Common.{LinesTaken, BufferedRowsPre, IsConsumed, AreConsumed, RowsTaken, IsFieldCopied, CopyColumnsPost}
-use proofs.Common.{CopyRowsPost, RowsWritten}
+use proofs.Common.{CopyRowsPost, RowsWritten, take-append-add, rules}
 use Rattle.memchr.specs.Find.{IsFirst, Passes}
 use Rattle.ptlines.proofs.CopyFacts.{copied_prefix}
-use Rattle.std.proofs.Math.Seq.{take-append-add}
 use borrow.Rule.Slice.PartMut.{mid_of, put_mid}
 use Rattle.ptflow.specs.Private.Paste.BufferedRows.{LineCopied}
 use proofs.PasteLemmas.Rows.{cells_text-push, rows_taken_trans, row_taken, taken_by, taken_eof, nothing_taken}
 use proofs.PasteLemmas.Rows.{rows_taken_none, row_text, IsNextReader, next_reader, each_reader, fill_starts, fill_next}
 use proofs.PasteLemmas.Rows.{FieldTaken}
-use Rattle.std.proofs.Common.{rules}
 use proofs.Vectors.FindNth.{none_counted}
 use proofs.PasteLemmas.Grid.{Column, for_each_cell_unique, top_of, grid_step, grid_none, after_row, columns_same}
 use proofs.PasteLemmas.Grid.{uses_here, last_use, update_here, update_there}

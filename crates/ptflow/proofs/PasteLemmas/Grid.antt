@@ -10,9 +10,8 @@ use proofs.Common.{nat_tests, get_or_after_one, append-nil, ext_get_or, get_or-m
 use proofs.Common.{get_or-enumerate_from, length-enumerate_from, count_by_more_no, count_by_more_yes, sum_by-cons}
 use proofs.Common.{sum_by-take-le, map-map, enumerate_from, range_with_len, fold, the_lines_of_parts}
 use proofs.Common.{unlines-append, lines, unlines, select_from, cut, IsRowSplit, PasteOfParts, update_at, columns}
-use proofs.Common.{every_kth, join_with_cycle, row_count, is_row_known, row_at, rows, uses_of}
+use proofs.Common.{every_kth, join_with_cycle, row_count, is_row_known, row_at, rows, uses_of, common_steps}
 use Rattle.std.specs.Prelude.{slice_index_or}
-use Rattle.std.proofs.lemmas.Grind.{common_steps}
 
 abbrev pub Column : Type 0
 Column = List (List ℕ)

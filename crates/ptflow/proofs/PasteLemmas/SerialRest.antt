@@ -6,12 +6,11 @@ use proofs.Common.{length-append, refl, sym, ◌∙◌, ap, arith, append_assoc,
 use proofs.Common.{append_cancel_right, is_byte, lines, complete_lines, IsPrefix, lines_of_unlines, Paste, delimiter}
 use proofs.Common.{join_with_cycle, mod-add-mod, paste_serial_decided, with_replacements, row_rest, mod-eq_of_lt}
 use proofs.Common.{byte_eq, option_to_list, None, Some, IsFirstByte, take, drop, line_before_terminator}
-use proofs.Common.{sum_by-append, mod-lt}
+use proofs.Common.{sum_by-append, mod-lt, common_steps}
 use proofs.Vectors.FindNth.{none_counted}
 use Rattle.std.specs.Prelude.{slice_index_or}
 use proofs.Passes.Lines.{line_split, split_of}
 use proofs.PasteLemmas.Replaced.{counted, replaced_line, replaced_mod}
-use Rattle.std.proofs.lemmas.Grind.{common_steps}
 
 module _ (end : ℕ) (delims : List (Option ℕ)) where
   -- A byte of a line.

@@ -1,11 +1,10 @@
 -- Each step copies the field of one more column and the byte after it. It ends at a field that cannot be copied, and
 -- then nothing was consumed.
 use Rattle.ptflow.proofs
-use proofs.Common.{◌≡◌, take, take_more_set, length, set, get_or, arith, set-get_or, mod-add-mod}
+use proofs.Common.{◌≡◌, take, take_more_set, length, set, get_or, arith, set-get_or, mod-add-mod, rules}
 use borrow.Author.Rules.{scaled_Fits}
 use proofs.PasteLemmas.BufferedRows.{columns_start, columns_more, after_last, after_other}
 use Rattle.ptflow.proofs.tools.paste.buffered_rows.copy_columns.Goals as goal
-use Rattle.std.proofs.Common.{rules}
 
 pub cells-init : goal.cells-init
 cells-init g c = search (rules, columns_start)

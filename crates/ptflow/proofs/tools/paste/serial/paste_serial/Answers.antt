@@ -2,7 +2,7 @@
 -- the delimiters and the terminator do not change from block to block.
 use Rattle.ptflow.proofs
 use proofs.Common.{◌≡◌, ◌++◌, cond, [], ◌∷◌, refl, sym, ◌∙◌, paste_job, paste_serial_tool, row_rest, serial_rest}
-use Rattle.std.proofs.Common.{rules}
+use proofs.Common.{rules}
 use proofs.Passes.Exits.{pass_unchanged, pass_set, ready_set}
 use proofs.PasteLemmas.SerialRest.{serial_is_decided}
 use Rattle.ptflow.proofs.tools.paste.serial.paste_serial.Goals as goal
