@@ -1,4 +1,3 @@
 -- Facts about `cut`.
 pub mod CutBytes
-pub mod ShortLines
 pub mod Fields

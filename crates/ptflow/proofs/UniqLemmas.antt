@@ -1,4 +1,3 @@
 -- Facts about `uniq`.
-pub mod Parts
 pub mod Keys
 pub mod Runs

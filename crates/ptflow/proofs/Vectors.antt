@@ -1,5 +1,4 @@
 -- Facts about the vector code in `simd`.
-pub mod Select
 pub mod Compress
 pub mod Lanes
 pub mod FindNth

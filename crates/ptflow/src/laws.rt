@@ -28,7 +28,7 @@ pub fn parts_of_tr()
 /// terminator, and its last line has a different key than the first line of the next part, so that no run of lines
 /// spans two parts.
 /// This function does nothing at run time. Its contract states the theorem.
-#[tactic(auto, using(crate::proofs::UniqLemmas::Parts::uniq_of_parts))]
+#[tactic(auto, using(crate::proofs::UniqLemmas::Runs::uniq_of_parts))]
 pub fn parts_of_uniq()
     ensures { UniqOfParts }
 {}
@@ -37,7 +37,7 @@ pub fn parts_of_uniq()
 /// the order of the file: the output of `uniq` for the lines with some keys is its output for the runs with these keys.
 /// So the parts together have the output for the file, and each of them has its share in order.
 /// This function does nothing at run time. Its contract states the theorem.
-#[tactic(auto, using(crate::proofs::UniqLemmas::Parts::uniq_by_key))]
+#[tactic(auto, using(crate::proofs::UniqLemmas::Runs::uniq_by_key))]
 pub fn uniq_by_key()
     ensures { UniqByKey }
 {}

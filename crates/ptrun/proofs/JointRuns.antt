@@ -26,7 +26,7 @@ use proofs.OperandInputs.{any_same, at_set, by_position, consistent_bytes, each_
 use proofs.OperandInputs.{lagged_output, neither, never_long, none_passes, none_received, not_long, opened_set}
 use proofs.OperandInputs.{put_here, put_other, received_of, receives_none, same_here, some_same, unopened_agrees}
 use proofs.OperandInputs.{unopened_received}
-use Rattle.ptflow.proofs.PasteLemmas.Named.{cell_in, decided_same}
+use Rattle.ptflow.proofs.PasteLemmas.Grid.{cell_in, decided_same}
 use Rattle.ptflow.specs.PasteCall.{PastePost, PastePre, paste_end, paste_engine, update_at}
 use Rattle.ptlines.specs.Calls.{AreAllConsistent, CallEnd, CallPost, Complete, EngineSpec, InputNames, IsCallUnfinished}
 use Rattle.ptlines.specs.Calls.{MemoryFault, NoReadFailed, OutOfOrder, ReadFault, WriteFault, inputs_at, with_input}

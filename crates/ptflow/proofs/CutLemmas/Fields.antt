@@ -15,8 +15,8 @@ use proofs.Common.{line_if_not_found, unlines, IsLine, byte_ne, is_field_delimit
 use proofs.Common.{cut_fields_from, IsPrefix, IsLineFilter, ◌⊎◌, inl, inr, get_or-take, unwrap_or, complete_lines}
 use proofs.Common.{AreLines, line_before_terminator, complete_lines_cons, the_lines, the_complete_lines, CopyLinesPost}
 use proofs.Common.{the_lines_of_parts, CutOfParts, rules}
-use proofs.Vectors.Select.{rest_of, not_selected, select_none, select_first, select_slice, select_skip}
-use proofs.Passes.Lines.{ended_next, line_split}
+use proofs.CutLemmas.CutBytes.{rest_of, not_selected, select_none, select_first, select_slice, select_skip}
+use proofs.Passes.Exits.{ended_next, line_split}
 use Rattle.ptflow.specs.declared.tools.cut.fields.FieldCursor.{FieldCursor}
 
 module _ (d : ℕ) where

@@ -12,12 +12,11 @@ use proofs.Common.{Received, known_lines, IsPrefix, IsConsistent, Output, PushEf
 use proofs.Common.{IsDone, IsSound, HasReadCause, line, with_denied, FillPost, FillLine, advance_ok_trans, push_trans}
 use proofs.Common.{ToolSpec, PassPre, PassPost, AreReceivedLines, LinesWritten, LinesFailed, IsLinesLength}
 use proofs.Common.{IsLineFilter, Read, Write, Memory, received_with, reads_nothing, rules}
-use proofs.Passes.Lines.{line_split, complete_prefix, max_length-append}
-use proofs.Passes.LinesRead.{lines_none, lines_few, lines_on, lines_more, lines_block, line_prefix, received_longest}
-use proofs.Passes.LinesRead.{piece_longest, whole_before, before_line, after_line}
-use proofs.Passes.Exits.{Progress, progress_none, progress_flushed, PassState, LaggedOutput, StoreBounds, PassEnding}
-use proofs.Passes.Exits.{nothing_more, pass_unslotted, pass_read, pass_memory, pass_write, pass_done, pass_unended}
-use proofs.Passes.Readers.{advance_past}
+use proofs.Passes.Exits.{line_split, complete_prefix, max_length-append, lines_none, lines_few, lines_on, lines_more}
+use proofs.Passes.Exits.{lines_block, line_prefix, received_longest, piece_longest, whole_before, before_line}
+use proofs.Passes.Exits.{after_line, Progress, progress_none, progress_flushed, PassState, LaggedOutput, StoreBounds}
+use proofs.Passes.Exits.{PassEnding, nothing_more, pass_unslotted, pass_read, pass_memory, pass_write, pass_done}
+use proofs.Passes.Exits.{pass_unended, advance_past}
 use Rattle.ptflow.specs.Private.Passes.LineLoop.{RunLinesPre}
 use Rattle.std.proofs.lemmas.List.Edits.{swap_is}
 

@@ -3,19 +3,18 @@
 -- terminators of these lines are replaced by the cycle (the delimiters of the row, and a last entry that keeps the
 -- terminator), they become the row. So bytes with count * n terminators, the last at the end, become `count` rows.
 use Rattle.ptflow.proofs
-use proofs.Common.{eq-eqb, ne_eqb, option_to_list, slice_index_or}
-use proofs.Common.{Bool, List, None, Some, [], ap, append_assoc, arith, drop, false, get_or, get_or-take, inl, length}
-use proofs.Common.{length-append, length-drop, map, refl, set, suc, sym, take, take-append-drop, true, zero, ℕ, ◌%◌}
-use proofs.Common.{◌*◌, ◌++◌, ◌+◌, ◌-◌, ◌<◌, ◌||◌, ◌∙◌, ◌∷◌, ◌≡◌, ◌≢◌, ◌≤◌, mod-eq_of_lt, cases_eq, nat_tests}
-use proofs.Common.{common_steps, append-nil, drop_at, length-set, length-take-le, nil_from_length, take-append-le}
-use proofs.Common.{take-take, sum_by-set, mod-mul-add, length-chunk, length-put_chunk, take_more_put_chunk, count_by}
-use proofs.Common.{chunk, put_chunk, IsFirstByte, is_byte, push_nothing, line_before_terminator}
-use proofs.Common.{advance_ok_take, take_with_terminator, lines_are, byte_eq, unlines-append, the_lines, Output}
+use proofs.Common.{eq-eqb, ne_eqb, option_to_list, slice_index_or, Bool, List, None, Some, [], ap, append_assoc, arith}
+use proofs.Common.{drop, false, get_or, get_or-take, inl, length, length-append, length-drop, map, refl, set, suc, sym}
+use proofs.Common.{take, take-append-drop, true, zero, ℕ, ◌%◌, ◌*◌, ◌++◌, ◌+◌, ◌-◌, ◌<◌, ◌||◌, ◌∙◌, ◌∷◌, ◌≡◌, ◌≢◌, ◌≤◌}
+use proofs.Common.{mod-eq_of_lt, cases_eq, nat_tests, common_steps, append-nil, drop_at, length-set, length-take-le}
+use proofs.Common.{nil_from_length, take-append-le, take-take, sum_by-set, mod-mul-add, length-chunk, length-put_chunk}
+use proofs.Common.{take_more_put_chunk, count_by, chunk, put_chunk, IsFirstByte, is_byte, push_nothing, advance_ok_take}
+use proofs.Common.{line_before_terminator, take_with_terminator, lines_are, byte_eq, unlines-append, the_lines, Output}
 use proofs.Common.{PushEffect, IsDone, IsSound, Reader, budget, no_reader, reader_at, line, AreLines, EndsWithByte}
-use proofs.Common.{lines, unlines, update_at, columns, join_with_cycle, rows, uses_of, IsWholeRows}
-use proofs.Common.{IsSharedCycle, cycle_byte, with_replacements, RowShape, BegunText, after_cell, cells_text}
-use proofs.Common.{LinesTaken, BufferedRowsPre, IsConsumed, AreConsumed, RowsTaken, IsFieldCopied, CopyColumnsPost}
-use proofs.Common.{CopyRowsPost, RowsWritten, take-append-add, rules}
+use proofs.Common.{lines, unlines, update_at, columns, join_with_cycle, rows, uses_of, IsWholeRows, IsSharedCycle}
+use proofs.Common.{cycle_byte, with_replacements, RowShape, BegunText, after_cell, cells_text, LinesTaken, IsConsumed}
+use proofs.Common.{BufferedRowsPre, AreConsumed, RowsTaken, IsFieldCopied, CopyColumnsPost, CopyRowsPost, RowsWritten}
+use proofs.Common.{take-append-add, rules}
 use Rattle.memchr.specs.Find.{IsFirst, Passes}
 use Rattle.ptlines.proofs.CopyFacts.{copied_prefix}
 use borrow.Rule.Slice.PartMut.{mid_of, put_mid}

@@ -21,13 +21,11 @@ use proofs.PasteLemmas.Rows.{slots_bound_start, slots_kept_by_lines, slots_bound
 use proofs.PasteLemmas.Rows.{no_rows, rows_on, first_rows_trans, filled_row_is_first, filled_row_text}
 use proofs.PasteLemmas.Rows.{lines_trans, taken_at_most, taken_more, nothing_taken}
 use proofs.PasteLemmas.Grid.{Column, columns_same, last_use, uses_before_lt, uses_before, grid_none, rows_text-append}
+use proofs.PasteLemmas.Grid.{is_in_used, not_in, used_is_in, consistent_itself}
 use proofs.PasteLemmas.Lag.{EarlierPart, LagsAt, ended_more, lags_here, decided_is_prefix, earlier_now, complete_few}
 use proofs.PasteLemmas.Lag.{earlier_before, earlier_lines, begins_earlier, no_lines}
-use proofs.PasteLemmas.Named.{is_in_used, not_in, used_is_in, consistent_itself}
 use proofs.PasteLemmas.BufferedRows.{still_pulled}
-use proofs.Passes.Lines.{max_length-append}
-use proofs.Passes.LinesRead.{lines_on, lines_are_given, piece_longest}
-use proofs.Passes.Readers.{eof_gives_nothing, may_follow}
+use proofs.Passes.Exits.{max_length-append, lines_on, lines_are_given, piece_longest, eof_gives_nothing, may_follow}
 use Rattle.ptlines.specs.Received.{empty_input}
 use Rattle.ptlines.specs.Calls.{InputNames, EngineSpec}
 use Rattle.std.specs.Prelude.{IsErrAnd}

@@ -8,9 +8,10 @@ use proofs.Common.{length-drop, map, max, refl, suc, sym, take, true, zero, ℕ,
 use proofs.Common.{◌==◌, ◌∙◌, ◌∷◌, ◌≡◌, ◌≢◌, ◌≤◌, ◌⊎◌, add-mod_left, mod-eq_of_lt, cases_lt, eq-eqb, le-ltb, ne_eqb}
 use proofs.Common.{nat_tests, get_or_after_one, append-nil, ext_get_or, get_or-map, get_or_past, nil_from_length}
 use proofs.Common.{get_or-enumerate_from, length-enumerate_from, count_by_more_no, count_by_more_yes, sum_by-cons}
-use proofs.Common.{sum_by-take-le, map-map, enumerate_from, range_with_len, fold, the_lines_of_parts}
-use proofs.Common.{unlines-append, lines, unlines, select_from, cut, IsRowSplit, PasteOfParts, update_at, columns}
-use proofs.Common.{every_kth, join_with_cycle, row_count, is_row_known, row_at, rows, uses_of, common_steps}
+use proofs.Common.{sum_by-take-le, map-map, enumerate_from, range_with_len, fold, the_lines_of_parts, unlines-append}
+use proofs.Common.{lines, unlines, select_from, cut, IsRowSplit, PasteOfParts, update_at, columns, every_kth}
+use proofs.Common.{join_with_cycle, row_count, is_row_known, row_at, rows, uses_of, common_steps, subst, list_any_at}
+use proofs.Common.{Paste, IsConsistent, Received, is_in, paste_decided}
 use Rattle.std.specs.Prelude.{slice_index_or}
 
 abbrev pub Column : Type 0
@@ -359,3 +360,37 @@ paste_of_parts job cells n a b cut =
         ⊎ ((lines job.terminator (b p) ≡ []) × (length (lines job.terminator (a p)) ≤ n * uses_of cells p))
     reach p (inl (whole, count)) = inl count
     reach p (inr (none, few)) = inr (ap (lines job.terminator) none, few)
+
+-- The inputs that columns name. Only what was received from them decides the output.
+
+module _ (cells : List ℕ) where
+  pub cell_in : (c : ℕ) → c < length cells → is_in cells (get_or cells c 0) ≡ true
+  cell_in c low = list_any_at (λ q. q == get_or cells c 0) cells c 0 low (eq-eqb (get_or cells c 0) _ refl)
+
+  pub used_is_in : (p : ℕ) → 0 < uses_of cells p → is_in cells p ≡ true
+  used_is_in p some = let (c, low, is, count) = last_use cells p some in
+      subst (λ q. is_in cells q ≡ true) is (cell_in c low)
+
+pub is_in_used : (cells : List ℕ) (p : ℕ) → is_in cells p ≡ true → 0 < uses_of cells p
+is_in_used [] p named = cc
+is_in_used (x ∷ cells) p named = grind (arith, common_steps, is_in_used cells p)
+
+pub not_in : (cells : List ℕ) (p : ℕ) → is_in cells p ≡ false → uses_of cells p ≡ 0
+not_in = grind (arith, used_is_in)
+
+-- ---- functions that are equal at these inputs
+
+map_same : {X : Type 0} (f g : ℕ → X) (cells : List ℕ) → ((p : ℕ) → is_in cells p ≡ true → f p ≡ g p)
+    → map f cells ≡ map g cells
+map_same f g [] same = refl
+map_same f g (c ∷ cells) same = λ i.
+    same c (grind (arith, nat_tests)) i ∷ map_same f g cells (λ p named. same p (grind (arith, nat_tests))) i
+
+-- The received bytes may be the whole input.
+pub consistent_itself : (given : Received) → IsConsistent given given.bytes
+consistent_itself given = record { rest = []; is = sym (append-nil _); whole = λ eof. refl }
+
+module _ (job : Paste) (cells : List ℕ) where
+  pub decided_same : (f g : ℕ → Received) → ((p : ℕ) → is_in cells p ≡ true → f p ≡ g p)
+      → paste_decided job cells f ≡ paste_decided job cells g
+  decided_same f g same = grind (arith, columns_same, used_is_in, map_same)

@@ -1,24 +1,21 @@
 -- Bounded lag of `paste`: all output that was determined two blocks of an input earlier is pushed. Without its last two
 -- blocks that input has fewer lines than one more row takes, so only rows that were already pushed are determined.
 use Rattle.ptflow.proofs
-use proofs.Common.{Bool, List, [], ap, append_assoc, arith, drop, false, get_or, length, length-append, length-drop}
-use proofs.Common.{map, refl, subst, suc, sym, take, take-append-drop, true, zero, ℕ, ⊎_elim, ◌*◌, ◌++◌, ◌+◌, ◌-◌, ◌<◌}
-use proofs.Common.{◌∙◌, ◌∷◌, ◌≡◌, ◌≢◌, ◌≤◌, cases_Bool, cases_eq, cases_lt, nat_tests, common_steps, append-nil}
-use proofs.Common.{drop_more, get_or-map, get_or_append_left, length-map, length-take-le, take_all, take_more}
-use proofs.Common.{get_or-range_with_len, length-map-range_with_len, length-range_with_len, map-map, enumerate_from}
-use proofs.Common.{range_with_len, filter, Paste, received_with, complete_lines_cons}
-use proofs.Common.{complete_lines_of_unlines, unlines_push, IsPrefix, Received, known_lines, ProcessLag, Reader}
-use proofs.Common.{ReaderAdvance, line, AreLines, IsLine, complete_lines, lines, unlines, reads_nothing, update_at}
-use proofs.Common.{columns, every_kth, row_count, is_row_known, known_rows, paste_decided, row_at, rows, rows_text}
-use proofs.Common.{uses_of, AreReceivedLines}
+use proofs.Common.{Bool, List, [], ap, append_assoc, arith, drop, false, get_or, length, length-append, length-drop, ℕ}
+use proofs.Common.{map, refl, subst, suc, sym, take, take-append-drop, true, zero, ⊎_elim, ◌*◌, ◌++◌, ◌+◌, ◌-◌, ◌<◌}
+use proofs.Common.{◌∙◌, ◌∷◌, ◌≡◌, ◌≢◌, ◌≤◌, cases_Bool, cases_eq, cases_lt, nat_tests, common_steps, append-nil, filter}
+use proofs.Common.{drop_more, get_or-map, get_or_append_left, length-map, length-take-le, take_all, take_more, map-map}
+use proofs.Common.{get_or-range_with_len, length-map-range_with_len, length-range_with_len, enumerate_from, Paste, line}
+use proofs.Common.{range_with_len, received_with, complete_lines_cons, complete_lines_of_unlines, unlines_push, Reader}
+use proofs.Common.{IsPrefix, Received, known_lines, ProcessLag, ReaderAdvance, AreLines, IsLine, complete_lines, lines}
+use proofs.Common.{unlines, reads_nothing, update_at, columns, every_kth, row_count, is_row_known, known_rows, row_at}
+use proofs.Common.{paste_decided, rows, rows_text, uses_of, AreReceivedLines}
 use Rattle.std.specs.Prelude.{slice_index_or}
-use proofs.CutLemmas.ShortLines.{select_append}
+use proofs.CutLemmas.CutBytes.{select_append}
 use proofs.PasteLemmas.Grid.{Column, for_each_cell, for_each_cell_same, column_of, uses_before_lt, column_at}
 use proofs.PasteLemmas.Grid.{length-columns, every_kth_short, is_row_unknown, update_here, update_there, last_use}
 use proofs.PasteLemmas.Grid.{rows_text-append}
-use proofs.Passes.Lines.{complete_prefix, line_split}
-use proofs.Passes.LinesRead.{line_take}
-use proofs.Passes.Readers.{eof_gives_nothing}
+use proofs.Passes.Exits.{complete_prefix, line_split, line_take, eof_gives_nothing}
 
 -- ---- one input without its last bytes
 

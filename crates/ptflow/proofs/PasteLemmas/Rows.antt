@@ -18,8 +18,7 @@ use proofs.Common.{unlines, columns, join_with_cycle, rows, uses_of, SetTerminat
 use proofs.Common.{SlotsBound, SlotsKept, RowAmid, RowFailed, RowFilled, RowShape, BegunText, CellsFilled, CellsTaken}
 use proofs.Common.{after_cell, cells_text, slots_text, AreReceivedLines, LinesTaken, BufferedRowsPre, AreFirstRows}
 use proofs.Common.{RowsTaken, CopyColumnsPost, CopyRowsPost, FlowFault, Memory, Read, Write, rules}
-use proofs.Passes.LinesRead.{lines_none, lines_are_given, lines_more}
-use proofs.Passes.Readers.{eof_gives_nothing, stays_at_eof}
+use proofs.Passes.Exits.{lines_none, lines_are_given, lines_more, eof_gives_nothing, stays_at_eof}
 use Rattle.std.specs.Prelude.{slice_index_or}
 use proofs.PasteLemmas.Grid.{Column, for_each_cell_unique, uses_before, grid_step, grid_none, after_row, rows-append}
 use proofs.PasteLemmas.Grid.{rows_text-append, uses_here, uses_other, uses_before_lt}

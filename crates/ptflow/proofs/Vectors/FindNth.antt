@@ -14,7 +14,7 @@ use Rattle.std.proofs.Math.Nat.{div-div-eq-div-mul, zero-div}
 use proofs.Vectors.Lanes.{map-id}
 use lib.Bits.{bit_and, and_step, and_self, and_zero_l}
 use lib.Count.{count_trailing_zeros}
-use proofs.Vectors.Select.{rest_of}
+use proofs.CutLemmas.CutBytes.{rest_of}
 
 -- ---- bits of a mask
 

@@ -1,8 +1,8 @@
 -- Each iteration processes one block, and the contract of `process_block` preserves the invariant. Each exit is a lemma
--- of `Exits` or `BlockLoop`. The budget decreases, since a block that is not empty is consumed.
+-- of `Exits`. The budget decreases, since no block is empty.
 use Rattle.ptflow.proofs
 use proofs.Common.{◌≡◌, [], refl, arith, reads_nothing, common_steps, rules}
-use proofs.Passes.BlockLoop.{BlockLoopState, blocks_start, block_sent, block_taken, counted_more, block_read, ending}
+use proofs.Passes.Exits.{BlockLoopState, blocks_start, block_sent, block_taken, counted_more, block_read, ending}
 use proofs.Passes.Exits.{by_write, nothing_more, pass_write, pass_done, pass_unended}
 use Rattle.ptflow.proofs.block_loop.run_blocks.Given as given
 use Rattle.ptflow.proofs.block_loop.run_blocks.Goals as goal

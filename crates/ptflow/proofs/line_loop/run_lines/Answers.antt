@@ -5,13 +5,11 @@ use proofs.Passes.LineLoop.{LineLoopState, short_block, filled_line, run_starts,
 use proofs.Passes.LineLoop.{run_room, run_flush_failed, run_line, run_line_halts, filled_count, same_room, some_line}
 use proofs.Passes.LineLoop.{run_read, keeps_last, same_bounds, run_memory, run_done, run_unended, run_block}
 use proofs.Passes.LineLoop.{run_block_halts, bounds_start, swapped_room}
-use proofs.Passes.Exits.{by_write}
-use proofs.Passes.Readers.{budget_of_line}
-use proofs.Passes.Prefix.{returned_err}
+use proofs.Passes.Exits.{by_write, budget_of_line, returned_err}
 use Rattle.ptflow.proofs.line_loop.run_lines.Given as given
 use Rattle.ptflow.proofs.line_loop.run_lines.Goals as goal
 use Rattle.ptflow.proofs.line_loop.run_lines.Goals.{In_ok-write_out_before_blocking, In_ok-process_line-in-Ok-true}
-use Rattle.std.proofs.Common.{rules}
+use proofs.Common.{rules}
 
 -- the state after the buffered output was written, and after the line in the last slot
 written_out : (g : given.Over) (c : In_ok-write_out_before_blocking g) → let T = g.T.LineFilter in

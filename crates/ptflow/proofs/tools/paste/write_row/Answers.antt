@@ -4,7 +4,7 @@ use proofs.Common.{◌≡◌, ℕ, ◌+◌, ◌<◌, ◌≤◌, [], ◌++◌, le
 use proofs.Common.{length-take-le, get_or-take, err_from_is_err_and, Slots, line, RowShape, after_cell, cells_text}
 use proofs.Common.{shape_of, slots_text}
 use Rattle.std.proofs.lemmas.List.{length-take}
-use proofs.Passes.Prefix.{prefix_starts, front_more, front_fails, push_failed}
+use proofs.Passes.Exits.{prefix_starts, front_more, front_fails, push_failed}
 use Rattle.ptflow.proofs.tools.paste.write_row.Goals as goal
 
 -- The field in the next slot comes first.

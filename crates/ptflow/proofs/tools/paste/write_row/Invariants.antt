@@ -1,6 +1,6 @@
 -- The copied text was pushed, and then the fields of the columns so far.
 use Rattle.ptflow.proofs.Common.{◌≡◌, ◌++◌, false, take, shape_of, slots_text}
-use Rattle.ptflow.proofs.Passes.Prefix.{WrittenPrefix}
+use Rattle.ptflow.proofs.Passes.Exits.{WrittenPrefix}
 use Rattle.ptflow.proofs.tools.paste.write_row.Given as goal
 
 abbrev pub invariant-loop-column : goal.invariant-loop-column

@@ -2,7 +2,7 @@
 use Rattle.ptflow.proofs
 use proofs.Common.{◌≡◌, ◌+◌, ◌-◌, take, drop, length, arith, length-drop, length-take-le}
 use proofs.CutLemmas.Fields.{offset_start, offset_end, offset_after_nth}
-use proofs.Vectors.Select.{rest_of}
+use proofs.CutLemmas.CutBytes.{rest_of}
 use proofs.tools.cut.fields.skip_fields.Goals as goal
 
 pub returns-then-count-eq0-clause-offset : goal.returns-then-count-eq0-clause-offset

@@ -2,7 +2,7 @@
 use Rattle.ptflow.proofs
 use proofs.Common.{◌≡◌, ◌-◌, ◌++◌, take, drop, length, ◌∙◌, ap, arith, take_all, is_selected, cut_job}
 use proofs.Common.{output_from_cursor}
-use proofs.Passes.Prefix.{prefix_starts, front_more, front_fails}
+use proofs.Passes.Exits.{prefix_starts, front_more, front_fails}
 use proofs.CutLemmas.Fields.{cursor_starts, selected_remaining}
 use Rattle.ptflow.proofs.tools.cut.fields.write_fields.Given as given
 use Rattle.ptflow.proofs.tools.cut.fields.write_fields.Goals as goal

@@ -1,7 +1,7 @@
 -- The pushed bytes, and then the output that is left, are the selected fields of the line.
 use Rattle.ptflow.proofs
 use proofs.Common.{◌≡◌, false, length, take, cut_job, cut_fields, IsFieldCursor, output_from_cursor}
-use proofs.Passes.Prefix.{WrittenPrefix}
+use proofs.Passes.Exits.{WrittenPrefix}
 use proofs.tools.cut.fields.write_fields.Given as goal
 
 abbrev pub invariant-slices : goal.invariant-slices

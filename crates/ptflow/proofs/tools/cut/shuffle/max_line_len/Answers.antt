@@ -1,5 +1,5 @@
 use Rattle.ptflow.proofs
-use proofs.CutLemmas.ShortLines.{none_after}
+use proofs.CutLemmas.CutBytes.{none_after}
 use proofs.tools.cut.shuffle.max_line_len.Goals as goal
 
 pub returns-then-fits_all : goal.returns-then-fits_all

@@ -3,7 +3,7 @@
 use Rattle.ptflow.proofs
 use proofs.Common.{[], ◌∷◌, ◌&&◌, ◌≡◌, refl, sym, subst, arith, line, nat_lt, is_same, uniq_job, first_line}
 use proofs.Common.{RunsWritten, current_run_of, run_of, push_nothing, rules}
-use proofs.Passes.Prefix.{on_err}
+use proofs.Passes.Exits.{on_err}
 use proofs.UniqLemmas.Runs.{RunSteps, steps_none, steps_more, steps_next, steps_written, steps_failed, swapped_first}
 use Rattle.ptflow.proofs.tools.uniq.LineUniqLineFilter.process_line.Given as given
 use Rattle.ptflow.proofs.tools.uniq.LineUniqLineFilter.process_line.Goals as goal

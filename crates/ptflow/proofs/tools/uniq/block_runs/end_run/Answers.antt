@@ -5,7 +5,7 @@ use proofs.Common.{ℕ, true, not, ◌≡◌, [], refl, sym, ◌∙◌, subst, P
 use proofs.Common.{uniq_job, arith, common_steps, push_nothing, append-nil, false, has_output, run_of}
 use Rattle.ptflow.specs.Private.Uniq.RunsFrom.{count_prefix}
 use Rattle.ptflow.specs.Private.Uniq.BlockRuns.{first_of}
-use proofs.Passes.Prefix.{on_err}
+use proofs.Passes.Exits.{on_err}
 use proofs.UniqLemmas.Runs.{due_is, pending_joined, current_run_is}
 use proofs.tools.uniq.block_runs.end_run.Goals as goal
 use Rattle.ptlangs.specs.contracts.jobs.Show.{the_type}

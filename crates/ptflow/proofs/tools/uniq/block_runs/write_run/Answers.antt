@@ -1,7 +1,7 @@
 -- The output of a run is pushed in two parts, and a failed push leaves a prefix of the whole.
 use Rattle.ptflow.proofs
 use proofs.Common.{◌≡◌, ◌∙◌, sym, true, false, push_past_failure, has_output, uniq_job, run_of, rules}
-use proofs.Passes.Prefix.{push_failed, push_then, returned_err}
+use proofs.Passes.Exits.{push_failed, push_then, returned_err}
 use proofs.UniqLemmas.Runs.{current_run_is}
 use proofs.tools.uniq.block_runs.write_run.Goals as goal
 

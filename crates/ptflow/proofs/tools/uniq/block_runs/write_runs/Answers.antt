@@ -2,7 +2,7 @@
 -- output of the run that ended is pushed or deferred. Each case preserves `RunsInvariant`.
 use Rattle.ptflow.proofs
 use proofs.Common.{IsLine, refl, arith, take_rest, line_if_not_found, uniq_job, common_steps, rules}
-use proofs.Passes.Prefix.{on_err}
+use proofs.Passes.Exits.{on_err}
 use proofs.UniqLemmas.Runs.{runs_loop_starts, runs_loop_few, runs_loop_left, runs_loop_more, runs_loop_next}
 use proofs.UniqLemmas.Runs.{runs_loop_failed, running_done, running_unended, runs_loop_passed}
 use Rattle.ptflow.proofs.tools.uniq.block_runs.write_runs.Given as given

@@ -2,7 +2,7 @@
 use Rattle.ptflow.proofs
 use proofs.Common.{◌*◌, refl, arith, w8, SwzOk-from_below, is_selected}
 use Rattle.ptflow.specs.Private.Cut.ShortLines.{piece_at}
-use proofs.CutLemmas.ShortLines.{piece_copied, shuffle_few, shuffle_lanes}
+use proofs.CutLemmas.CutBytes.{piece_copied, shuffle_few, shuffle_lanes}
 use proofs.tools.cut.bytes.Selection.copy16.Goals as goal
 
 pub swizzle : goal.swizzle

@@ -3,7 +3,7 @@
 use Rattle.ptflow.proofs
 use proofs.Common.{◌≡◌, ◌<◌, ◌+◌, ◌*◌, ◌++◌, ◌∙◌, false, take, drop, ap, arith, sym, append-nil, take_rest, false≢true}
 use proofs.Common.{selected_bytes, select_from, is_selected, lt-ltb}
-use proofs.CutLemmas.ShortLines.{line_ended}
+use proofs.CutLemmas.CutBytes.{line_ended}
 use proofs.tools.cut.bytes.Selection.copy_line
 use copy_line.Goals as goal
 use copy_line.Goals.{then-line-gt0, else-line-gt0+then-not-is_short, else-line-gt0+else-not-is_short, then-count-self}

@@ -1,7 +1,7 @@
 -- A piece that is not full is the last one; no byte after the last piece is selected.
 use Rattle.ptflow.proofs
 use proofs.Common.{◌++◌, ◌∙◌, ap, arith, take, is_selected}
-use proofs.CutLemmas.ShortLines.{none_later}
+use proofs.CutLemmas.CutBytes.{none_later}
 use proofs.tools.cut.bytes.Selection.copy_pieces.Goals as goal
 
 pub returns-clause-copied : goal.returns-clause-copied

@@ -1,7 +1,7 @@
 -- Each iteration copies the slice of one interval; an interval that reaches the end of the piece is the last one.
 use Rattle.ptflow.proofs
 use proofs.Common.{arith, common_steps, ◌≤◌, drop, length, length-drop, take_rest, ℕ, ◌∙◌, ap, min}
-use proofs.Vectors.Select.{copied_done, copied_ends, copied_more}
+use proofs.CutLemmas.CutBytes.{copied_done, copied_ends, copied_more}
 use Rattle.ptflow.proofs.tools.cut.bytes.Selection.copy_selected.Goals as goal
 use Rattle.ptflow.proofs.tools.cut.bytes.Selection.copy_selected.Goals.{Start}
 

@@ -2,7 +2,7 @@
 -- (`CopyInvariant`).
 use Rattle.ptflow.proofs
 use Rattle.std.proofs.Common.{take, drop}
-use proofs.Vectors.Select.{CopyInvariant}
+use proofs.CutLemmas.CutBytes.{CopyInvariant}
 use proofs.tools.cut.bytes.Selection.copy_selected.Given as goal
 
 abbrev pub invariant-loop-interval : goal.invariant-loop-interval

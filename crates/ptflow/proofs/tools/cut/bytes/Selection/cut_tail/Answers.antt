@@ -3,8 +3,7 @@
 use Rattle.ptflow.proofs
 use proofs.Common.{◌≡◌, ◌+◌, ◌-◌, ◌<◌, [], length, take, drop, refl, arith, length-drop, take_all, take_rest}
 use proofs.Common.{is_selected, line_if_not_found, select_from}
-use proofs.CutLemmas.CutBytes.{line_cut, rest_piece, cut_next}
-use proofs.CutLemmas.ShortLines.{line_ended}
+use proofs.CutLemmas.CutBytes.{line_cut, rest_piece, cut_next, line_ended}
 use proofs.tools.cut.bytes.Selection.cut_tail.Goals as goal
 
 pub lines-preserved : goal.lines-preserved

@@ -2,7 +2,7 @@
 use Rattle.ptflow.proofs
 use proofs.Common.{◌∷◌, [], line, cut_job, cut_lines, arith, common_steps}
 use proofs.CutLemmas.Fields.{cut_lines-append}
-use proofs.Passes.Prefix.{on_err}
+use proofs.Passes.Exits.{on_err}
 use proofs.tools.cut.fields.FieldCutLineFilter.process_line.Goals as goal
 
 pub returns-in_err-write_line-clause-halts : goal.returns-in_err-write_line-clause-halts

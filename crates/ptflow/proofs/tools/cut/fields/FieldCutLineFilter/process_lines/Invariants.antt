@@ -1,7 +1,7 @@
 -- The buffer has the output of the lines so far, for every continuation, and is not longer than they are.
 use Rattle.ptflow.proofs
 use proofs.Common.{◌≡◌, ◌+◌, ◌≤◌, ◌++◌, ℕ, List, length, take, complete_lines, cut_job, cut_lines}
-use proofs.Passes.Lines.{TakenLines}
+use proofs.Passes.Exits.{TakenLines}
 use proofs.tools.cut.fields.FieldCutLineFilter.process_lines.Given as goal
 
 abbrev pub invariant-lines : goal.invariant-lines

@@ -3,7 +3,7 @@ use Rattle.ptflow.proofs
 use proofs.Common.{◌≡◌, ◌+◌, set, ◌∙◌, ap, arith, is_selected}
 use mir.Val.{bool_byte}
 use Rattle.ptflow.specs.Private.Cut.ShortLines.{selected_after}
-use proofs.CutLemmas.ShortLines.{shuffle_next}
+use proofs.CutLemmas.CutBytes.{shuffle_next}
 use proofs.tools.cut.shuffle.PieceShuffle.of.Goals as goal
 
 pub loop-index-preserved : goal.loop-index-preserved

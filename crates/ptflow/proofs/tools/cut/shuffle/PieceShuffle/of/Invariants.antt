@@ -2,7 +2,7 @@
 use Rattle.ptflow.proofs
 use Rattle.ptlangs.specs.CutLists.{is_selected}
 use Rattle.ptflow.specs.Private.Cut.ShortLines.{selected_after}
-use proofs.CutLemmas.ShortLines.{PickBegun}
+use proofs.CutLemmas.CutBytes.{PickBegun}
 use proofs.tools.cut.shuffle.PieceShuffle.of.Given as goal
 
 abbrev pub invariant-loop-index : goal.invariant-loop-index
