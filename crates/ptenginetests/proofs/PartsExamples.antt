@@ -20,9 +20,9 @@ use Rattle.ptflow.specs.PasteText.{paste, paste_serial, uses_of}
 use Rattle.ptflow.specs.TrOutput.{tr}
 use Rattle.ptflow.specs.Uniqs.{Run, uniq, key, runs, output_of}
 use Rattle.ptflow.specs.Parts.{KeysChange, IsRowSplit}
-use Rattle.ptflow.proofs.UniqLemmas.Parts.{uniq_of_parts}
-use Rattle.ptflow.proofs.PasteLemmas.PasteOfParts.{paste_of_parts}
-use Rattle.ptflow.proofs.CutLemmas.FieldLines.{cut_of_parts}
+use Rattle.ptflow.proofs.UniqLemmas.Runs.{uniq_of_parts}
+use Rattle.ptflow.proofs.PasteLemmas.Grid.{paste_of_parts}
+use Rattle.ptflow.proofs.CutLemmas.Fields.{cut_of_parts}
 use Rattle.ptflow.proofs.TrLemmas.TrFrom.{tr_after_byte, tr_meets_twice, same_last}
 
 -- ---- cut

@@ -1,11 +1,12 @@
 -- Names of other crates and of this one that many proofs use. They import them from here.
 pub use Rattle.std.proofs.Common.{Bool, Err, Fits, List, None, Ok, OnErr, Option, Result, Some, [], add-one, ap}
-pub use Rattle.std.proofs.Common.{append_assoc, ap₂, arith, bit_and, bit_or, cond, drop, drop-cons, eqb, false, get_or}
+pub use Rattle.std.proofs.Common.{append_assoc, arith, bit_and, bit_or, cond, drop, drop-cons, eqb, false, get_or}
 pub use Rattle.std.proofs.Common.{get_or-drop, get_or-take, inl, inr, leb, length, length-append, length-drop, ltb, map}
 pub use Rattle.std.proofs.Common.{max, min, negsuc, not, pos, refl, replicate, set, slice_index, slice_index_or}
+pub use Rattle.std.proofs.Common.{rules}
 pub use Rattle.std.proofs.Common.{slice_set, subst, suc, sym, take, take-append-drop, true, w8, zero, ℕ, ℤ, ⊎_elim, ◌%◌}
 pub use Rattle.std.proofs.Common.{◌&&◌, ◌*◌, ◌++◌, ◌+◌, ◌-◌, ◌/◌, ◌<◌, ◌==◌, ◌^◌, ◌||◌, ◌∙◌, ◌∷◌, ◌≡◌, ◌≢◌, ◌≤◌, ◌⊎◌}
-pub use Rattle.std.proofs.Math.Nat.{add-mod_left, mod-add-mod, mod-eq_of_lt, mod-lt, mul-le-mul_left, pow-succ'}
+pub use Rattle.std.proofs.Math.Nat.{add-mod_left, mod-add-mod, mod-eq_of_lt, mod-lt, pow-succ'}
 pub use Rattle.std.proofs.Math.Seq.{take-add, take-append-add, take-set-lt}
 pub use Rattle.std.proofs.lemmas.Bool.{and_right, cases_Bool, cases_eq, cases_lt, eq-eqb, eqb-false, eqb-true}
 pub use Rattle.std.proofs.lemmas.Bool.{false_from_ne_true, false≢true, le-ltb, lt-ltb, ne_eqb}
@@ -18,10 +19,10 @@ pub use Rattle.std.proofs.lemmas.List.{get_or_past, get_or_push, length-map, len
 pub use Rattle.std.proofs.lemmas.List.{nil_from_length, set-append_right, set-get_or, take-append-le, take-map}
 pub use Rattle.std.proofs.lemmas.List.{take-set, take-take, take_all, take_at, take_more, take_more_set, take_rest}
 pub use Rattle.std.proofs.lemmas.List.Concat.{flat_map-append}
-pub use Rattle.std.proofs.lemmas.List.Elements.{All-from_get_or, All-get_or, All-set, filter-append}
+pub use Rattle.std.proofs.lemmas.List.Elements.{All-from_get_or, All-set, filter-append}
 pub use Rattle.std.proofs.lemmas.List.Folds.{drop_split, list_any_at}
 pub use Rattle.std.proofs.lemmas.List.FromFn.{get_or-enumerate_from, get_or-range_with_len, length-enumerate_from}
-pub use Rattle.std.proofs.lemmas.List.FromFn.{length-map-range_with_len, length-range_with_len, take-map-range_with_len}
+pub use Rattle.std.proofs.lemmas.List.FromFn.{length-map-range_with_len, length-range_with_len}
 pub use Rattle.std.proofs.lemmas.List.Splits.{length-slice_split}
 pub use Rattle.std.proofs.lemmas.List.Sums.{count_by-le-length, count_by_more_no, count_by_more_yes, get_or-le-sum_by}
 pub use Rattle.std.proofs.lemmas.List.Sums.{sum_by-append, sum_by-cons, sum_by-set, sum_by-take-le}
@@ -58,7 +59,7 @@ pub use Rattle.ptlines.proofs.Lag.{bounded_lag_after}
 pub use Rattle.ptlines.proofs.TextLaws.{complete_lines_cons, complete_lines_none, complete_lines_of_unlines}
 pub use Rattle.ptlines.proofs.TextLaws.{lines-unlines, lines_are, lines_cons, lines_of_last, lines_of_unlines, byte_ne}
 pub use Rattle.ptlines.proofs.TextLaws.{byte_eq, unlines-append, unlines_push, the_complete_lines, the_lines}
-pub use Rattle.ptlines.specs.ReadLine.{FillMemoryErr, FillReadErr, FillPost, FillLine}
+pub use Rattle.ptlines.specs.ReadLine.{FillReadErr, FillPost, FillLine}
 pub use Rattle.ptlines.specs.Received.{IsConsistent, IsPrefix, Received, known_lines}
 pub use Rattle.ptlines.specs.Lag.{LaggedInput, ProcessLag}
 pub use Rattle.ptlines.specs.Outputs.{Output, PushEffect}
@@ -78,7 +79,7 @@ pub use Rattle.ptlines.proofs.Calls.{CallProgress, DecidedIfReadFailed, reads_no
 pub use Rattle.ptlines.proofs.Calls.{call_set, call_without_slots}
 pub use Rattle.ptflow.specs.PasteCall.{PastePre, PastePost, IsReadable, paste_end, paste_engine, update_at}
 pub use Rattle.ptflow.specs.PasteText.{columns, delimiter, every_kth, join_with_cycle, row_count, is_row_known}
-pub use Rattle.ptflow.specs.PasteText.{known_rows, paste, paste_decided, paste_size, row_at, rows, paste_serial_decided}
+pub use Rattle.ptflow.specs.PasteText.{known_rows, paste, paste_decided, row_at, rows, paste_serial_decided}
 pub use Rattle.ptflow.specs.PasteText.{paste_serial_tool, rows_text, uses_of}
 pub use Rattle.ptflow.specs.ToolSpec.{ToolSpec}
 pub use Rattle.ptflow.specs.TrOutput.{squeeze, squeeze_after, is_not_repeat, tr, tr_decided, tr_tool, translation}
@@ -89,21 +90,20 @@ pub use Rattle.ptflow.specs.Private.Vectors.ByteSets.{table_has}
 pub use Rattle.ptflow.specs.Private.Vectors.Shift.{IsMappedTo, range_delta, shift_by_ranges, stretch_delta}
 pub use Rattle.ptflow.specs.Private.Vectors.FindNth.{IsNth}
 pub use Rattle.ptflow.specs.Private.Vectors.Compress.{IsCompressTable, IsCompressRow, select_by, true_indices}
-pub use Rattle.ptflow.specs.Private.Cut.CutFrom.{ExtendsCut, CutChunkPost, HasTerminators, IsCutPart, IsSameLine}
-pub use Rattle.ptflow.specs.Private.Cut.CutFrom.{CopyLinesPost, cut_piece, cut_fields_from, cut_bytes_from}
+pub use Rattle.ptflow.specs.Private.Cut.CutFrom.{ExtendsCut, CutPost, HasTerminators, IsCutPart, IsSameLine}
+pub use Rattle.ptflow.specs.Private.Cut.CutFrom.{CopyLinesPost, selected_bytes, cut_fields_from, cut_bytes_from}
 pub use Rattle.ptflow.specs.Private.Cut.CutFrom.{cut_list_from, cut_lines_from}
 pub use Rattle.ptflow.specs.Private.Cut.FieldOffsets.{IsFieldOffset, fields, prefixed_fields}
 pub use Rattle.ptflow.specs.Private.Cut.FieldSlices.{IsFieldCursor, IsNextSlice, output_from_cursor}
-pub use Rattle.ptflow.specs.Private.Passes.StepOutput.{OutputFailed}
 pub use Rattle.ptflow.specs.Private.Passes.LineLoop.{SlotsCleared, IsLineFilter, IsSwapped, LinesFailed, LinesWritten}
 pub use Rattle.ptflow.specs.Private.Passes.LineLoop.{IsLinesLength}
 pub use Rattle.ptflow.specs.Private.Paste.SharedInput.{IsWholeRows, IsSharedCycle}
 pub use Rattle.ptflow.specs.Private.Paste.Replaced.{IsDelimiterCycle, IsReplacedTo, cycle_byte, with_replacements}
-pub use Rattle.ptflow.specs.Private.Paste.FillRow.{SetTerminatorsPost, FillCellPost, FillRowPost, SlotsBound, SlotsKept}
-pub use Rattle.ptflow.specs.Private.Paste.FillRow.{NotRead, RowAmid, RowFailed, RowFilled, ClearSlotsPost}
+pub use Rattle.ptflow.specs.Private.Paste.FillRow.{SetTerminatorsPost, FillCellPost, SlotsBound, SlotsKept}
+pub use Rattle.ptflow.specs.Private.Paste.FillRow.{RowAmid, RowFailed, RowFilled, ClearSlotsPost}
 pub use Rattle.ptflow.specs.Private.Paste.FillRow.{is_write_fault}
 pub use Rattle.ptflow.specs.Private.Paste.RowCells.{RowShape, BegunText, CellsFilled, CellsTaken, after_cell}
-pub use Rattle.ptflow.specs.Private.Paste.RowCells.{begun_after, begun_in, cells_text, job_shape, shape_of, slots_text}
+pub use Rattle.ptflow.specs.Private.Paste.RowCells.{begun_in, cells_text, job_shape, shape_of, slots_text}
 pub use Rattle.ptflow.specs.Private.Paste.SerialRest.{row_rest, serial_rest}
 pub use Rattle.ptflow.specs.Private.Paste.TakenLines.{AreReceivedLines, LinesTaken}
 pub use Rattle.ptflow.specs.Private.Paste.BufferedRows.{BufferedRowsPre, IsConsumed, AreConsumed, AreFirstRows}

@@ -1,10 +1,3 @@
 -- Facts about the loops over one input, by blocks and by lines.
-pub mod BlockLoop
-pub mod StepOutput
-pub mod Prefix
-pub mod Lines
 pub mod LineLoop
-pub mod LinesRead
 pub mod Exits
-pub mod Readers
-pub mod Slots

@@ -1,13 +1,7 @@
 -- Lemmas about `paste`.
-pub mod RowsTaken
+pub mod Rows
 pub mod Grid
-pub mod Named
-pub mod SharedInput
-pub mod PasteOfParts
-pub mod Exits
+pub mod Call
 pub mod Lag
-pub mod Invariant
-pub mod FillRow
-pub mod SerialRest
 pub mod Replaced
 pub mod BufferedRows

@@ -6,7 +6,7 @@ ghost use Rattle.ptflow.specs.Parts.{UniqByKey, PasteOfParts};
 /// `cut` can be run on parts of a file, by bytes and by fields, if each part but the last ends with the line
 /// terminator: the output for the file is the outputs for the parts, in order.
 /// This function does nothing at run time. Its contract states the theorem.
-#[tactic(auto, using(crate::proofs::CutLemmas::FieldLines::cut_of_parts))]
+#[tactic(auto, using(crate::proofs::CutLemmas::Fields::cut_of_parts))]
 pub fn parts_of_cut()
     ensures { CutOfParts }
 {}
@@ -28,7 +28,7 @@ pub fn parts_of_tr()
 /// terminator, and its last line has a different key than the first line of the next part, so that no run of lines
 /// spans two parts.
 /// This function does nothing at run time. Its contract states the theorem.
-#[tactic(auto, using(crate::proofs::UniqLemmas::Parts::uniq_of_parts))]
+#[tactic(auto, using(crate::proofs::UniqLemmas::Runs::uniq_of_parts))]
 pub fn parts_of_uniq()
     ensures { UniqOfParts }
 {}
@@ -37,7 +37,7 @@ pub fn parts_of_uniq()
 /// the order of the file: the output of `uniq` for the lines with some keys is its output for the runs with these keys.
 /// So the parts together have the output for the file, and each of them has its share in order.
 /// This function does nothing at run time. Its contract states the theorem.
-#[tactic(auto, using(crate::proofs::UniqLemmas::Parts::uniq_by_key))]
+#[tactic(auto, using(crate::proofs::UniqLemmas::Runs::uniq_by_key))]
 pub fn uniq_by_key()
     ensures { UniqByKey }
 {}

@@ -1,13 +1,13 @@
 -- The lists of `paste`: each escape is one case of the grammar, so `delim_list` agrees with the grammar in both
 -- directions. The fault of a list is the first one found from left to right, and is never an allocation failure.
 use Rattle.ptlangs.proofs
-use proofs.Common.{◌≡◌, Bool, Err, List, None, Ok, Option, Result, Some, [], ap, arith, cond, eqb, length, refl, subst}
-use proofs.Common.{sym, true, ℕ, ◌++◌, ◌<◌, ◌∙◌, ◌∷◌, eqb-true, append-nil, result_err, delim_list, and_then, cons_ok}
-use Rattle.ptlangs.specs.DelimLists.{delims, Backslash, IsDelim, IsDelimList, Last, More, Newline, Nothing, Tab}
-use Rattle.ptlangs.specs.DelimLists.{backslash, escape, delim_list_fault, Plain, DelimListMatchesGrammar}
-use Rattle.ptlangs.specs.declared.delims.DelimFault.{DelimFault}
-use Rattle.std.proofs.lemmas.Bool.{cond_both}
+use proofs.Common.{Bool, Err, List, None, Ok, Option, Result, Some, [], and_then, ap, append-nil, arith, cond}
+use proofs.Common.{cond_both, cons_ok, delim_list, eqb, eqb-true, length, refl, result_err, subst, sym, true, ℕ, ◌++◌}
+use proofs.Common.{◌<◌, ◌∙◌, ◌∷◌, ◌≡◌}
 use proofs.ListElements.{reads_first}
+use Rattle.ptlangs.specs.DelimLists.{Backslash, DelimListMatchesGrammar, IsDelim, IsDelimList, Last, More, Newline}
+use Rattle.ptlangs.specs.DelimLists.{Nothing, Plain, Tab, backslash, delim_list_fault, delims, escape}
+use Rattle.ptlangs.specs.declared.delims.DelimFault.{DelimFault}
 
 pub delims_of_some : (bs : List ℕ) → 0 < length bs → delims bs ≡ delim_list bs
 delims_of_some = grind arith

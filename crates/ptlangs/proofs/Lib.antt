@@ -1,14 +1,7 @@
 pub mod Common
-pub mod CutGrammar
-pub mod DelimGrammar
 pub mod ListElements
-pub mod OutGrammar
-pub mod TrPlainRuns
-pub mod TrCharGrammar
-pub mod TrElementGrammar
-pub mod TrContents
-pub mod TrByteWalk
-pub mod TrImages
-pub mod TrByteRanges
+pub mod DelimGrammar
+pub mod TrGrammar
+pub mod TrArrays
 pub mod TrShifts
 pub mod TrPlans

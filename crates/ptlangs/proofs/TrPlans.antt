@@ -1,26 +1,20 @@
 -- The plan of two strings, step by step, and its tables. Reading never fails for lack of memory: no character, no
 -- element and no segment has that fault.
 use Rattle.ptlangs.proofs
-use proofs.Common.{◌≡◌, Bool, Err, List, None, Ok, Option, Result, Some, [], ap, arith, cond, false, length, map}
-use proofs.Common.{refl, sym, true, ℕ, ◌++◌, ◌-◌, ◌∙◌, ◌∷◌, ◌≢◌, result_map_both, and_then, StartsElement}
-use proofs.Common.{StartsInvalid, FirstFault, LaterFault, NoElement, NoSegment, array, class_offsets, first_array}
-use proofs.Common.{in_string, has_valid_classes, plan, plan_of, second_plan, string_segments, tables, AChar, NoChar}
-use proofs.Common.{SpellsChar, SpellsChars, chars, SetFault, SetFaultKind, ClassPlace, SetElement, Segment, SetRole}
-use proofs.Common.{First, Form, Delete, DeleteSqueeze, Squeeze, Translate, TranslateSqueeze, SetChar, Escaped}
-use proofs.Common.{Invalid, Plain}
-use Rattle.ptlangs.specs.TrPlan.{image_of, is_deleted, is_squeezed, NoMemoryFault, Plan, fill_count, plan_from}
-use Rattle.ptlangs.specs.TrPlan.{plan_with, second_role, takes_second}
-use Rattle.ptlangs.specs.declared.faults.SetFaultKind.TheVariants.{Memory}
-use Rattle.ptlangs.specs.TrClasses.{all_bytes}
-use Rattle.ptlangs.specs.declared.tr.contents.Contents.{Contents}
-use Rattle.ptlangs.specs.declared.faults.SetString.TheVariants as string
-use Rattle.ptlangs.specs.declared.faults.SetString.{SetString}
-use proofs.TrElementGrammar.{StartsElement-front, faults_are_first}
-use Rattle.ptlangs.specs.TrParsing.{all_paired, contents_of, first_members, marked_array, ok_map}
+use proofs.Common.{Bool, Contents, Delete, DeleteSqueeze, Err, First, Form, List, None, Ok, Option, Result, Segment}
+use proofs.Common.{SetChar, SetElement, SetFault, SetFaultKind, SetRole, Some, Squeeze, Translate, TranslateSqueeze, []}
+use proofs.Common.{all_bytes, all_paired, and_then, ap, arith, array, byte_of, char_at, chars, chars_after, cond}
+use proofs.Common.{cons_ok, contents_of, false, first_array, first_members, in_string, length, map, marked_array}
+use proofs.Common.{ok_map, plan, plan_of, refl, result_map_both, rules, segments, sequence, string_segments, suc, sym}
+use proofs.Common.{tables, true, zero, ℕ, ◌-◌, ◌∙◌, ◌∷◌, ◌≡◌, ◌≢◌}
+use proofs.TrArrays.{paired-arrays, paired-plain}
+use Rattle.ptlangs.specs.TrElements.{elements_after, elements_from, or_char}
+use Rattle.ptlangs.specs.TrPlan.{NoMemoryFault, Plan, class_offsets, fill_count, has_valid_classes, image_of}
+use Rattle.ptlangs.specs.TrPlan.{is_deleted, is_squeezed, plan_from, second_plan, second_role, segment, takes_second}
 use Rattle.ptlangs.specs.TrTables.{Tables}
-use proofs.TrByteWalk.{paired-arrays, paired-plain}
-use proofs.TrCharGrammar.{chars_are_spelled}
-use Rattle.std.proofs.Common.{rules}
+use Rattle.ptlangs.specs.declared.faults.SetFaultKind.TheVariants.{ClassPlace, Memory}
+use Rattle.ptlangs.specs.declared.faults.SetString.{SetString}
+use Rattle.ptlangs.specs.declared.faults.SetString.TheVariants as string
 
 -- ---- strings without a fault
 
@@ -105,90 +99,69 @@ pub is_translate : (form : Form) → takes_second form ≡ true → (form ≡ De
     → form ≡ Translate
 is_translate = grind arith
 
--- ---- characters and elements never have the fault `Memory`
+-- ---- no result has the fault `Memory`
 
-abbrev IsNotMemory : SetChar → Type 0
-IsNotMemory (Plain b) = Unit {0}
-IsNotMemory (Escaped b) = Unit {0}
-IsNotMemory (Invalid k) = k ≢ Memory
+abbrev IsNotMemory : {A : Type 0} → Result A SetFaultKind → Type 0
+IsNotMemory (Ok x) = Unit {0}
+IsNotMemory (Err k) = k ≢ Memory
 
+-- nor has a character
 abbrev AreNotMemory : List SetChar → Type 0
 AreNotMemory [] = Unit {0}
-AreNotMemory (u ∷ us) = IsNotMemory u × AreNotMemory us
+AreNotMemory (u ∷ us) = IsNotMemory (byte_of u) × AreNotMemory us
 
-spelled_not_memory : (bs rest : List ℕ) (u : SetChar) → SpellsChar bs u rest → IsNotMemory u
-spelled_not_memory = grind arith
+char_not_memory : (b : ℕ) (bs : List ℕ) → IsNotMemory (byte_of (char_at b bs).0)
+char_not_memory = grind arith
 
-all_not_memory : (bs : List ℕ) (us : List SetChar) → SpellsChars bs us → AreNotMemory us
-all_not_memory bs us NoChar = tt
-all_not_memory bs us (AChar all rest u more first later) =
-    (spelled_not_memory all rest u first, all_not_memory rest more later)
+chars_not_memory : (bs : List ℕ) (skip : ℕ) → AreNotMemory (chars_after bs skip)
+chars_not_memory [] skip = tt
+chars_not_memory (b ∷ bs) zero = (char_not_memory b bs, chars_not_memory bs _)
+chars_not_memory (b ∷ bs) (suc skip) = chars_not_memory bs skip
 
-not_memory_after : (us rest : List SetChar) → AreNotMemory (us ++ rest) → AreNotMemory rest
-not_memory_after [] rest fine = fine
-not_memory_after (u ∷ us) rest fine = let (_, others) = fine in not_memory_after us rest others
+element_not_memory : (o : Option (SetElement × List SetChar)) (u : SetChar) (us : List SetChar) → AreNotMemory (u ∷ us)
+    → IsNotMemory (or_char o u us)
+element_not_memory = grind arith
 
-element_not_memory : (us : List SetChar) (p : SetElement) (rest : List SetChar) → StartsElement us p rest
-    → AreNotMemory us → AreNotMemory rest
-element_not_memory = grind (arith, StartsElement-front, not_memory_after)
+segment_not_memory : (role : SetRole) (has_fill : Bool) (p : SetElement) → IsNotMemory (segment role has_fill p)
+segment_not_memory = grind arith
 
--- ---- neither have segments
+first_not_memory : {A : Type 0} (x : Result A SetFaultKind) (r : Result (List A) SetFaultKind) → IsNotMemory x
+    → IsNotMemory r → IsNotMemory (and_then x (λ y. cons_ok y r))
+first_not_memory = grind arith
 
-element_fault : (us : List SetChar) (k : SetFaultKind) → StartsInvalid us k → AreNotMemory us → k ≢ Memory
-element_fault = grind arith
+segments_not_memory : (role : SetRole) (has_fill : Bool) (us : List SetChar) (skip : ℕ) → AreNotMemory us
+    → IsNotMemory (sequence (segments role has_fill (elements_after us skip)))
+segments_not_memory role has_fill [] skip fine = tt
+segments_not_memory role has_fill (u ∷ us) (suc skip) (_, fine) = segments_not_memory role has_fill us skip fine
+segments_not_memory role has_fill (u ∷ us) zero (first, fine) =
+    by_first _ (element_not_memory _ u us (first, fine)) (λ f n. segments_not_memory role f us n fine)
+  where
+    by_first : (r : Result (SetElement × List SetChar) SetFaultKind) → IsNotMemory r
+        → ((f : Bool) (n : ℕ) → IsNotMemory (sequence (segments role f (elements_after us n))))
+        → IsNotMemory (sequence (segments role has_fill
+        (elements_from r (λ rest. elements_after us (length us - length rest)))))
+    by_first (Err k) fine later = fine
+    by_first (Ok (p, rest)) fine later = first_not_memory _ _ (segment_not_memory role has_fill p) (later _ _)
 
--- the fault of the result, if there is one, is not `Memory`
-abbrev FaultIsNotMemory : {A : Type 0} → Result A SetFaultKind → Type 0
-FaultIsNotMemory (Ok x) = Unit {0}
-FaultIsNotMemory (Err k) = k ≢ Memory
+string_not_memory : (role : SetRole) (text : List ℕ) → IsNotMemory (string_segments role text)
+string_not_memory role [] = grind arith
+string_not_memory role (b ∷ text) = segments_not_memory role false (chars (b ∷ text)) 0 (chars_not_memory (b ∷ text) 0)
 
-first_not_memory : (role : SetRole) (has_fill : Bool) (us : List SetChar) (k : SetFaultKind)
-    → FirstFault role has_fill us k → AreNotMemory us → k ≢ Memory
-first_not_memory role has_fill us k (NoElement f vs j b) fine = element_fault vs j b fine
-first_not_memory role has_fill us k (NoSegment f vs rest p j b e) fine = grind arith
-first_not_memory role has_fill us k (LaterFault f vs rest p x j b e later) fine =
-    first_not_memory role _ rest j later (element_not_memory vs p rest b fine)
+second_not_memory : (form : Form) (complement : Bool) (firsts : List Segment) (text : List ℕ)
+    → IsNotMemory (second_plan form complement firsts text)
+second_not_memory = grind (arith, string_not_memory)
 
--- ---- neither have strings
-
-string_not_memory : (role : SetRole) (text : List ℕ) (r : Result (List Segment) SetFaultKind)
-    → string_segments role text ≡ r → FaultIsNotMemory r
-string_not_memory role text (Ok ps) e = tt
-string_not_memory role [] (Err k) e = grind arith
-string_not_memory role (b ∷ text) (Err k) e =
-    let us = chars (b ∷ text) in
-    let (_, first) = faults_are_first role b text k in
-    let (_, spelled) = chars_are_spelled _ us in
-    first_not_memory role false us k (first e) (all_not_memory (b ∷ text) us (spelled refl))
-
-second_not_memory : (form : Form) (complement : Bool) (firsts : List Segment) (r : Result (List Segment) SetFaultKind)
-    → FaultIsNotMemory r
-    → FaultIsNotMemory
-    (and_then r (λ seconds. plan_with form complement firsts (first_array complement firsts) seconds))
-second_not_memory = grind arith
-
-of_string : {A : Type 0} (string : SetString) (r : Result A SetFaultKind) (fault : SetFault) → FaultIsNotMemory r
+of_string : {A : Type 0} (string : SetString) (r : Result A SetFaultKind) (fault : SetFault) → IsNotMemory r
     → in_string string r ≡ Err fault → fault.kind ≢ Memory
 of_string = grind arith
 
-rest_not_memory : (form : Form) (complement : Bool) (firsts : List Segment) (s2 : Option (List ℕ)) (fault : SetFault)
-    → plan_from form complement firsts s2 ≡ Err fault → fault.kind ≢ Memory
-rest_not_memory form complement firsts None fault e = cc
-rest_not_memory form complement firsts (Some text) fault e = grind (
-  arith,
-  of_string,
-  second_not_memory,
-  string_not_memory,
-)
-
-plan_not_memory : (string : SetString) (form : Form) (complement : Bool) (s2 : Option (List ℕ))
-    (r : Result (List Segment) SetFaultKind) (fault : SetFault)
-    → FaultIsNotMemory r → and_then (in_string string r) (λ firsts. plan_from form complement firsts s2) ≡ Err fault
-    → fault.kind ≢ Memory
-plan_not_memory string form complement s2 (Ok firsts) fault speaks e = search (rules, rest_not_memory)
-plan_not_memory string form complement s2 (Err k) fault speaks e = λ memory. speaks (cc)
-
 pub never_memory : NoMemoryFault
-never_memory form complement s1 s2 fault e =
-    plan_not_memory _ form complement s2 _ fault
-    (string_not_memory First s1 _ refl) e
+never_memory form complement s1 s2 fault e = by_first _ s2 (string_not_memory First s1) e
+  where
+    by_first : (r : Result (List Segment) SetFaultKind) (s2 : Option (List ℕ)) → IsNotMemory r
+        → and_then (in_string string.First r) (λ firsts. plan_from form complement firsts s2) ≡ Err fault
+        → fault.kind ≢ Memory
+    by_first (Err k) s2 first is = grind arith
+    by_first (Ok firsts) None first is = cc
+    by_first (Ok firsts) (Some text) first is =
+        of_string string.Second _ fault (second_not_memory form complement firsts text) is

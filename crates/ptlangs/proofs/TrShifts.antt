@@ -1,14 +1,12 @@
 -- The stretches of a table of images give these images. A prepended byte is below all stretches after it, so none of
 -- these contains it, and its own stretch adds its shift to it and nothing to the bytes above.
 use Rattle.ptlangs.proofs
-use proofs.Common.{◌≡◌, ℕ, zero, suc, ◌+◌, ◌<◌, ◌≤◌, ◌%◌, ◌&&◌, Bool, cond, List, [], ◌∷◌, length, drop, get_or}
-use proofs.Common.{refl, ◌∙◌, ap, arith, sum_by, Stretch, shift_of, prepend_shift, stretches_from, shift_at}
-use proofs.Common.{image_of_shifts, eqb-true, ne_eqb, ◌-◌}
-use Rattle.std.proofs.Common.{◌==◌, reverse}
+use proofs.Common.{Bool, List, Stretch, [], ap, arith, common_steps, cond, cond_both, drop, eqb-true, get_or}
+use proofs.Common.{image_of_shifts, length, ne_eqb, prepend_shift, refl, shift_at, shift_of, stretches_from, suc}
+use proofs.Common.{sum_by, zero, ℕ, ◌%◌, ◌+◌, ◌-◌, ◌<◌, ◌∙◌, ◌∷◌, ◌≡◌, ◌≤◌}
+use Rattle.std.proofs.Common.{reverse, ◌&&◌, ◌==◌}
+use Rattle.std.proofs.lemmas.List.Sorted.{IsPermutation-reverse, sum_by-IsPermutation}
 use Rattle.std.proofs.lemmas.List.Sums.{sum_by-cons}
-use Rattle.std.proofs.lemmas.List.Sorted.{sum_by-IsPermutation, IsPermutation-reverse}
-use Rattle.std.proofs.lemmas.Bool.{cond_both}
-use Rattle.std.proofs.lemmas.Grind.{common_steps}
 
 -- the sum of the numbers that the stretches add to a byte
 abbrev pub moved : List Stretch → ℕ → ℕ

@@ -5,7 +5,7 @@ ghost use Rattle.ptlangs.specs.Results.{ValidatedParsePost};
 ghost use Rattle.ptlangs.specs.OutLists.{OutListMatchesGrammar, out_list_fault, field_of, element_field, out_list};
 ghost use Rattle.ptlangs.specs.OutLists.{field_at};
 
-use crate::numbers::{decimal, first_element, is_decimal};
+use crate::numbers::{decimal, is_decimal, is_list_separator};
 use std::alloc::{AllocFailed, Allocator, Global};
 use std::marker::Model;
 
@@ -78,17 +78,13 @@ impl<A: Allocator> OutList<A> {
     pub fn read(alloc: A, text: &[u8]) -> Result<OutList<A>, OutFault>
         ensures { ValidatedParsePost (λ l. l) out_list_fault result (out_list text.now) }
     {
-        check(text)?;
-        let mut kept = Vec::new(alloc);
-        let mut left = text;
-        loop {
-            let (element, rest) = first_element(left);
-            kept.push(read_element(element)?)?;
-            let Some(rest) = rest else {
-                return Ok(OutList { kept });
-            };
-            left = rest;
+        if let Some(fault) = first_fault(text) {
+            return Err(fault);
         }
+        let elements = text.split(is_list_separator);
+        let fields = elements.filter_map(|element| read_element(element).ok());
+        let kept = fields.collect(alloc).map_err(|_| OutFault::Memory)?;
+        Ok(OutList { kept })
     }
 
     /// The field with this index in the list, counted from 0, as a pair: (0, 0) for the join field, otherwise the file,
@@ -117,21 +113,12 @@ pub fn accepts_the_grammar()
     ensures { OutListMatchesGrammar }
 {}
 
-/// Returns the first fault of a list, if there is one. Nothing is allocated.
-fn check(text: &[u8]) -> Result<(), OutFault>
-    ensures { MatchResult result
-        (λ _. result_err (out_list text.now) ≡ None)
-        (λ e. result_err (out_list text.now) ≡ out_list_fault e) }
+/// The first fault of a list, if there is one. Nothing is allocated.
+fn first_fault(text: &[u8]) -> Option<OutFault>
+    ensures { result ≡ result_err (out_list text.now) }
 {
-    let mut left = text;
-    loop {
-        let (element, rest) = first_element(left);
-        read_element(element)?;
-        let Some(rest) = rest else {
-            return Ok(());
-        };
-        left = rest;
-    }
+    let mut fields = text.split(is_list_separator).map(read_element);
+    fields.find(Result::is_err).and_then(Result::err)
 }
 
 /// The field that one element names.

@@ -1,13 +1,13 @@
 //! The list of `cut` (options `-b`, `-c` and `-f`), as `ptopts` reads it and `ptflow` uses it.
-ghost use Rattle.std.specs.Prelude.{◌≡◌, ◌≤◌, ◌<◌, None, IfErr, IfOk, IsTrue, MatchResult};
+ghost use Rattle.std.specs.Prelude.{◌≡◌, ◌≤◌, ◌<◌, None, IfErr, IfOk, IsTrue, MatchResult, Ok};
 ghost use Rattle.std.specs.Result.{result_err};
-ghost use Rattle.ptlangs.specs.Results.{ParsePost, ValidatedParsePost};
+ghost use Rattle.ptlangs.specs.Results.{ValidatedParsePost};
 ghost use Rattle.ptlangs.specs.CutLists.{CutListMatchesGrammar, cut_list_fault, is_bound, value_or, interval_of_bounds};
 ghost use Rattle.ptlangs.specs.CutLists.{checked_interval, element_interval, cut_list, is_selected, selection};
 ghost use Rattle.ptlangs.specs.CutLists.{AreSeparated, AreSortedFrom};
 ghost use Rattle.ptlangs.specs.Numbers.{max_u64};
 
-use crate::numbers::{decimal, first_element, is_decimal};
+use crate::numbers::{decimal, is_decimal, is_list_separator};
 use std::alloc::{AllocFailed, Allocator, Global};
 use std::marker::Model;
 
@@ -76,7 +76,9 @@ impl<A: Allocator + Copy> Ranges<A> {
     pub fn read(alloc: A, text: &[u8]) -> Result<Ranges<A>, ListFault>
         ensures { ValidatedParsePost is_selected cut_list_fault result (selection text.now) }
     {
-        check(text)?;
+        if let Some(fault) = first_fault(text) {
+            return Err(fault);
+        }
         let mut listed = read_elements(alloc, text)?;
         listed.sort_unstable_by_key(|interval| interval.first);
         let kept = merge(alloc, listed.as_slice())?;
@@ -108,37 +110,22 @@ pub fn accepts_the_grammar()
     ensures { CutListMatchesGrammar }
 {}
 
-/// Returns the first fault of a list, if there is one. Nothing is allocated.
-fn check(text: &[u8]) -> Result<(), ListFault>
-    ensures { MatchResult result
-        (λ _. result_err (cut_list text.now) ≡ None)
-        (λ e. result_err (cut_list text.now) ≡ cut_list_fault e) }
+/// The first fault of a list, if there is one. Nothing is allocated.
+fn first_fault(text: &[u8]) -> Option<ListFault>
+    ensures { result ≡ result_err (cut_list text.now) }
 {
-    let mut left = text;
-    loop {
-        let (element, rest) = first_element(left);
-        read_element(element)?;
-        let Some(rest) = rest else {
-            return Ok(());
-        };
-        left = rest;
-    }
+    let mut intervals = text.split(is_list_separator).map(read_element);
+    intervals.find(Result::is_err).and_then(Result::err)
 }
 
-/// The intervals of the elements, in order.
+/// The intervals of the elements, in order, if no element has a fault.
 fn read_elements<A: Allocator>(alloc: A, text: &[u8]) -> Result<Vec<Interval, A>, ListFault>
-    ensures { ParsePost (λ v. v.items) cut_list_fault result (cut_list text.now) }
+    requires { result_err (cut_list text.now) ≡ None }
+    ensures { MatchResult result (λ v. cut_list text.now ≡ Ok v.items) (λ e. e ≡ ListFault.Memory) }
 {
-    let mut listed = Vec::new(alloc);
-    let mut left = text;
-    loop {
-        let (element, rest) = first_element(left);
-        listed.push(read_element(element)?)?;
-        let Some(rest) = rest else {
-            return Ok(listed);
-        };
-        left = rest;
-    }
+    let elements = text.split(is_list_separator);
+    let intervals = elements.filter_map(|element| read_element(element).ok());
+    intervals.collect(alloc).map_err(|_| ListFault::Memory)
 }
 
 /// The interval of one element.

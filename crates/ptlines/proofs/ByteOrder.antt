@@ -2,14 +2,13 @@
 -- chunks can be skipped, and if the shorter slice is a prefix of the longer, the lengths decide.
 use Rattle.ptlines.proofs.Common.{◌≡◌, ℕ, zero, suc, ◌+◌, ◌*◌, ◌<◌, ◌≤◌, List, [], ◌∷◌, ◌++◌, length, take, drop, min}
 use Rattle.ptlines.proofs.Common.{refl, sym, ◌∙◌, ap, arith, get_or, Fits, take-add, nat_tests, take-take, chunk-fits}
-use Rattle.ptlines.proofs.Common.{length-chunk, Each1}
+use Rattle.ptlines.proofs.Common.{length-chunk, Each1, common_steps}
 use Rattle.std.proofs.lemmas.Cmp.{nat_list_cmp_total, tied_itself}
 use Rattle.std.specs.Int.{w8, w32, w64, from_be_bytes}
 use Rattle.std.specs.Ordering.{nat_cmp, ordering_then}
 use Rattle.std.specs.declared.cmp.Ordering.{Ordering}
 use Rattle.std.specs.declared.cmp.Ordering.TheVariants.{Less, Equal, Greater}
 use Rattle.ptlines.specs.ByteOrder.{byte_cmp, byte_cmp_equal}
-use Rattle.std.proofs.lemmas.Grind.{common_steps}
 
 -- the number whose digits to the base of 256 are these, appended to the digits of `p`
 abbrev number : ℕ → List ℕ → ℕ

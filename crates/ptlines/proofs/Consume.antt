@@ -1,9 +1,8 @@
 -- Consuming bytes from the block moves its start, so what is consumed and what is still buffered are the two parts of
 -- what was buffered.
 use Rattle.ptlines.proofs.Common.{◌≡◌, ℕ, ◌+◌, ◌-◌, ◌≤◌, List, length, take, drop, sym, ◌∙◌, ap, arith, slice_range}
-use Rattle.ptlines.proofs.Common.{drop-drop, drop-take, Reader, IsSound, ReaderAdvance}
+use Rattle.ptlines.proofs.Common.{drop-drop, drop-take, Reader, IsSound, ReaderAdvance, common_steps}
 use Rattle.ptlines.proofs.KnownBytes.{prepend_known-append}
-use Rattle.std.proofs.lemmas.Grind.{common_steps}
 
 pub length_range : (b : List ℕ) (s e : ℕ) → s ≤ e → e ≤ length b → length (slice_range b s e) + s ≡ e
 length_range b s e order fits = grind (arith, common_steps)

@@ -2,7 +2,7 @@
 -- copy all bytes.
 use Rattle.ptlines.proofs.Common.{◌≡◌, ℕ, ◌+◌, ◌≤◌, List, length, take, drop, ◌++◌, sym, ◌∙◌, ap, arith}
 use Rattle.ptlines.proofs.Common.{length-take-le, take-take, take_more_put_chunk, put_chunk, take-append-add}
-use Rattle.std.proofs.lemmas.Grind.{common_steps}
+use Rattle.ptlines.proofs.Common.{common_steps}
 
 pub copied_prefix : (at few many : ℕ) (was is bytes : List ℕ) → at ≤ length was → few ≤ many
     → take (at + many) is ≡ take at was ++ take many bytes → take (at + few) is ≡ take at was ++ take few bytes

@@ -1,7 +1,6 @@
 -- Facts about bytes that may be unknown, and about unflushed bytes: appending twice is appending the concatenation.
 use Rattle.ptlines.proofs.Common.{◌≡◌, ℕ, Bool, List, [], ◌++◌, Option, append_known, prepend_known, unflushed_after}
-use Rattle.std.proofs.Common.{arith, rules}
-use Rattle.std.proofs.lemmas.Grind.{common_steps}
+use Rattle.ptlines.proofs.Common.{arith, rules, common_steps}
 
 pub append_known-append : (known : Option (List ℕ)) (xs ys : List ℕ)
     → append_known (append_known known xs) ys ≡ append_known known (xs ++ ys)

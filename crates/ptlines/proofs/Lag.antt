@@ -2,12 +2,10 @@
 -- sink, since the block holds at most 8,192 bytes.
 use Rattle.ptlines.proofs.Common.{◌≡◌, ℕ, ◌+◌, ◌≤◌, false, List, ◌++◌, Option, None, Some, length, max, sym, ◌∙◌, ap}
 use Rattle.ptlines.proofs.Common.{arith, length-append, append_known, Received, IsPrefix, Output, IsKnownPrefix}
-use Rattle.ptlines.proofs.Common.{PushEffect}
+use Rattle.ptlines.proofs.Common.{PushEffect, rules, common_steps}
 use Rattle.ptlines.specs.Lag.{ProcessLag, BufferLag, BoundedLag}
 use Rattle.ptlines.proofs.KnownBytes.{append_known-append}
 use Rattle.ptlines.proofs.Push.{known_prefix_refl}
-use Rattle.std.proofs.Common.{rules}
-use Rattle.std.proofs.lemmas.Grind.{common_steps}
 
 unfoldable pub known_length : Option (List ℕ) → ℕ
 known_length None = 0

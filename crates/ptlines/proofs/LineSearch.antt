@@ -2,9 +2,8 @@
 -- part of one if there is none.
 use Rattle.ptlines.proofs.Common.{◌≡◌, ℕ, suc, ◌+◌, ◌<◌, ◌≤◌, List, [], ◌∷◌, ◌++◌, None, Some, length, get_or, take}
 use Rattle.ptlines.proofs.Common.{drop, arith, drop_all, eqb-true, eq-eqb, IsFirstByte, is_byte, IsLine, Slots}
-use Rattle.ptlines.proofs.Common.{Reader, AdvanceOk, PiecePartial, PieceLine, IsAppended}
+use Rattle.ptlines.proofs.Common.{Reader, AdvanceOk, PiecePartial, PieceLine, IsAppended, common_steps}
 use Rattle.ptlines.proofs.Consume.{advance_take}
-use Rattle.std.proofs.lemmas.Grind.{common_steps}
 
 pub is_line_if_none : (end : ℕ) (bytes : List ℕ) → ((k : ℕ) → k < length bytes → get_or bytes k 0 ≡ end → ⊥)
     → IsLine end bytes

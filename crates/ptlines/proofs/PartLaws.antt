@@ -1,9 +1,8 @@
 -- A text that has only complete lines is the text of its lines. So the lines of the concatenation are those of both
 -- parts.
-use Rattle.ptlines.proofs.Common.{◌≡◌, ℕ, List, ◌++◌, sym, ◌∙◌, ap, unlines, lines}
+use Rattle.ptlines.proofs.Common.{◌≡◌, ℕ, List, ◌++◌, sym, ◌∙◌, ap, unlines, lines, arith}
 use Rattle.ptlines.specs.Parts.{HasOnlyCompleteLines, LinesOfParts}
 use Rattle.ptlines.proofs.TextLaws.{lines_are, lines_of_unlines, unlines-lines}
-use Rattle.std.proofs.Common.{arith}
 
 -- a text that has only complete lines is the text of its lines
 pub unlines_of_complete : (end : ℕ) (bytes : List ℕ) → HasOnlyCompleteLines end bytes

@@ -2,12 +2,11 @@
 -- any more.
 use Rattle.ptlines.proofs.Common.{◌≡◌, ℕ, true, false, List, [], ◌++◌, Option, sym, ◌∙◌, ap, arith, append_assoc}
 use Rattle.ptlines.proofs.Common.{Result, Ok, Err, OnOk, OnErr, append_known, Output, with_written_out}
-use Rattle.ptlines.proofs.Common.{with_direct_write, IsKnownPrefix, PushEffect, PushPost, OutputErr}
+use Rattle.ptlines.proofs.Common.{with_direct_write, IsKnownPrefix, PushEffect, PushPost, OutputErr, rules}
+use Rattle.ptlines.proofs.Common.{common_steps}
 use Rattle.ptlines.specs.declared.out.WriteFault.{WriteFault}
 use Rattle.ptlines.specs.Outputs.{output_bytes}
 use Rattle.ptlines.proofs.KnownBytes.{append_known-append, append_known-nil}
-use Rattle.std.proofs.Common.{rules}
-use Rattle.std.proofs.lemmas.Grind.{common_steps}
 
 pub known_prefix_refl : (known : Option (List ℕ)) → IsKnownPrefix known known
 known_prefix_refl = grind (arith, append_known-nil)

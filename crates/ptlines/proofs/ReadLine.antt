@@ -4,13 +4,11 @@ use Rattle.ptlines.proofs.Common.{◌≡◌, ℕ, ◌+◌, ◌-◌, ◌^◌, ◌
 use Rattle.ptlines.proofs.Common.{length, sym, ◌∙◌, ap, subst, arith, append_assoc, length-append, nat_tests, set-set}
 use Rattle.ptlines.proofs.Common.{Slots, line, with_line, false, not, ◌==◌, Ok, IsLine, Reader, ReaderAdvance}
 use Rattle.ptlines.proofs.Common.{AdvanceOk, IsDone, budget, PiecePartial, PieceLine, FillLine, FillPost, IsAppended}
-use Rattle.ptlines.proofs.Common.{IsFirst, IsFirstByte, Passes, is_byte, slice_range}
+use Rattle.ptlines.proofs.Common.{IsFirst, IsFirstByte, Passes, is_byte, slice_range, rules, common_steps}
 use Rattle.ptlines.proofs.KnownBytes.{prepend_known-append}
 use Rattle.ptlines.proofs.SlotTotals.{total_bytes_set}
 use Rattle.ptlines.proofs.LineSearch.{IsLine-append, line_before_terminator, take_with_terminator, advance_ok_take}
 use Rattle.ptlines.proofs.Consume.{length_range, rest_of_range}
-use Rattle.std.proofs.Common.{rules}
-use Rattle.std.proofs.lemmas.Grind.{common_steps}
 
 pub advance_trans : (a b c : Reader) (xs ys : List ℕ) → ReaderAdvance a b xs → ReaderAdvance b c ys
     → ReaderAdvance a c (xs ++ ys)

@@ -1,9 +1,8 @@
 -- A call that consumes bytes receives these bytes and those that it leaves buffered. The terminator plays no part in
 -- that, so the facts also hold for a reader after `set_ending`.
 use Rattle.ptlines.proofs.Common.{◌≡◌, ℕ, List, ◌++◌, arith, length-append, Reader, ReaderAdvance, HasReadCause}
-use Rattle.ptlines.proofs.Common.{IsSound, Received, HasReceived}
+use Rattle.ptlines.proofs.Common.{IsSound, Received, HasReceived, rules}
 use Rattle.ptlines.proofs.KnownBytes.{prepend_known-append}
-use Rattle.std.proofs.Common.{rules}
 
 -- what was received if these bytes were consumed: they, and those still buffered
 abbrev pub received_with : List ℕ → Reader → Received

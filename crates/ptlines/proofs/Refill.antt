@@ -3,11 +3,10 @@
 use Rattle.ptlines.proofs.Common.{◌≡◌, ℕ, ◌+◌, ◌<◌, ◌≤◌, Bool, List, [], Option, take, refl, sym, ◌∙◌, ap, arith}
 use Rattle.ptlines.proofs.Common.{length-take-le, take-take, SourceState, PullOk, ◌^◌, true, false, None, Some, Ok}
 use Rattle.ptlines.proofs.Common.{Err, inr, slice_range, IsAtEnd, LineFault, Read, Reader, reader_of, remaining_bytes}
-use Rattle.ptlines.proofs.Common.{ReaderAdvance, RefillPost, IsSound}
+use Rattle.ptlines.proofs.Common.{ReaderAdvance, RefillPost, IsSound, rules}
 use Rattle.std.proofs.lemmas.Slice.{between_from_start}
 use Rattle.ptlines.specs.Readers.{RefillPre}
 use Rattle.ptlines.proofs.KnownBytes.{prepend_known-nil}
-use Rattle.std.proofs.Common.{rules}
 
 -- a reader with an empty block has only the bytes left in its source
 pub remaining_of_empty : (r : Reader) → r.buffered ≡ [] → remaining_bytes r ≡ r.left

@@ -3,9 +3,7 @@
 use Rattle.ptlines.proofs.Common.{◌≡◌, ◌≢◌, ◌⊎◌, inl, inr, ℕ, ◌==◌, ◌<◌, Bool, true, false, cond, List, [], ◌∷◌, ◌++◌}
 use Rattle.ptlines.proofs.Common.{length, drop, get_or, refl, sym, ◌∙◌, ap, arith, onto_first, eq-eqb, eqb-true}
 use Rattle.ptlines.proofs.Common.{eqb-false, nat_tests, append-nil, unlines, lines, complete_lines, IsLine, AreLines}
-use Rattle.ptlines.proofs.Common.{AreLinesOf, EndsWithByte, LinesAreUnique, CompleteLinesAreLines}
-use Rattle.std.proofs.Common.{rules}
-use Rattle.std.proofs.lemmas.Grind.{common_steps}
+use Rattle.ptlines.proofs.Common.{AreLinesOf, EndsWithByte, LinesAreUnique, CompleteLinesAreLines, rules, common_steps}
 
 pub byte_eq : (end : ℕ) → (end == end) ≡ true
 byte_eq end = eq-eqb end end refl

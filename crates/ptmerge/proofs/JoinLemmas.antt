@@ -1,6 +1,579 @@
-pub mod PartialWrite
+-- The loop invariant of `join`, and its iterations between two groups. Between groups the invariant is that of the
+-- merge. An iteration there writes one unpaired line, opens a group or ends the loop. The remaining work, three times
+-- the reads that are left plus the rank of the phase, decreases in each iteration.
+pub mod Group
 pub mod Fields
-pub mod GroupSlots
-pub mod GroupInvariant
-pub mod Iteration
-pub mod Words
+use Rattle.ptmerge.proofs
+use proofs.Common.{NextOkPost, ◌≡◌, ℕ, Bool, true, false, cond, List, [], ◌∷◌, ◌++◌, map, refl, ap, sym, ◌∙◌, ◌+◌, ◌*◌}
+use proofs.Common.{◌≤◌, ◌<◌, Ok, Err, length, arith, append-nil, flat_map-append, Join, Side, First, Second}
+use proofs.Common.{pair_entries, Lines, entries_by_key, Cmp, Key, Output, PushEffect, Reader, Slots, line, unlines}
+use proofs.Common.{MergeFault, Sorted, Head, Ended, IsReadyToContinue, AdvanceOkPost, MergeState, MergePost}
+use proofs.Common.{merge_state, both, with_side, lines_of, Memory, HaveEqualKeys, HasOnlyLeastKey, IsDisorderDecided}
+use proofs.Common.{ClearFourSlotsPost, ◌⊎◌, MergeRunPre, AdvancePre, push_nothing, if◌then◌else◌, max_group_bytes}
+use proofs.Common.{max_group_lines, inl, inr, ClearGroupPost, group, ⊎_elim, ◌-◌, ◌==◌, push_trans, nat_tests}
+use proofs.Common.{length_push, unlines-append, append_assoc, merged_entries, nil_from_length, length-set}
+use Rattle.ptmerge.specs.JoinGroup.{IsInItsSlot, IsCopiedToGroup, ReadGroupLineOkPost, ReadGroupLinePost, IsGroup}
+use Rattle.ptmerge.specs.JoinGroup.{JoinStepPre, JoinLinePre, group_end_slot, group_first_slot}
+use proofs.MergeLemmas.{BetweenSteps, between_next, advance_pre, reads_less, open_merge, alone, wrote_alone}
+use proofs.MergeLemmas.{alone_breaks, IsAbove, reads_ahead, place_is, LoopInvariant, CursorsInvariant, EndsIfFails}
+use proofs.MergeLemmas.{runs_on, n, ends_well, ends_fallen, valid_cursors_kept, wrote_and_sent, others_stay}
+use proofs.MergeLemmas.{IsLineByLine, at_current_line, IsOpenMerge as OpenMerge, ComeFirst, exit_is_merge_post}
+use proofs.MergeLemmas.{continues, none_missing, both_begun, all_keys, AtLeast, same_bound, bounds_change, IsKeyOrder}
+use proofs.MergeLemmas.{same_bytes, EachKey-at, low_slot, Continues}
+use Rattle.ptmerge.specs.declared.tools.join.JoinPhase.{JoinPhase}
+use Rattle.ptmerge.specs.declared.faults.MergeFault.TheVariants as faults
+use Rattle.ptmerge.specs.declared.tools.join.JoinPhase.TheVariants as phases
+use Rattle.std.proofs.Common.{rules}
+use Rattle.ptmerge.specs.Join.{unpaired_entries1, unpaired_entry, join_with, join_entries, join_key}
+use Group.*
+
+-- ---- the output, by lines and by pairs
+
+cond_of_empty : (t : Bool) → cond {A = Lines} t [] [] ≡ []
+cond_of_empty t = grind arith
+
+module _ (job : Join) (cmp : Cmp) (key : Side → Key) where
+  first_alone : (k : List ℕ) (g : Lines) → join_entries job k g [] ≡ unpaired_entries1 job k g
+  first_alone k [] = cond_of_empty job.unpaired2 ∙ sym (cond_of_empty job.unpaired1)
+  first_alone k (a ∷ g) = refl
+
+  is_line_by_line : IsLineByLine (join_with job cmp key)
+  is_line_by_line = record {
+    none = λ k. cond_of_empty job.unpaired2;
+    first = λ k x g. let rest = first_alone k g in grind (arith, rest);
+    second = λ k x g. grind arith;
+  }
+
+  -- the bounds of a group, if pairs are written; otherwise none is kept
+  abbrev pub most_in_group : GroupBounds
+  most_in_group = record {
+    bytes = λ ls. if job.pairs then max_group_bytes (key Second) ls else 0;
+    lines = λ ls. if job.pairs then max_group_lines (key Second) ls else 0;
+  }
+
+  pub join_pairs : IsPairTool (join_with job cmp key) most_in_group (pair_entries job)
+  join_pairs = record {
+    none = λ k g. cond_of_empty job.pairs;
+    more = λ k f g c.
+        let each = λ (a : List ℕ). map (pair_of job k a) c in
+        grind (arith, flat_map-append each f g);
+    whole = λ k a b f g. refl;
+    written = λ keeps k a b f g. rw keeps (omega arith);
+    unwritten = λ none k f g. rw none;
+    size = λ ls. refl;
+    slots = λ ls. refl;
+    largest = λ keeps g ls within. rw keeps within;
+  }
+
+  -- the entries of one unpaired line of one input
+  pub entries_alone : (s : Side) (x : List ℕ) → key s x ≡ join_key job s x
+      → entries_by_key (join_with job cmp key) all_keys (alone s x) ≡ unpaired_entry job s x
+  entries_alone First x is = grind (arith, same_bytes (refl {a = key First x}), append-nil)
+  entries_alone Second x is = grind (arith, same_bytes (refl {a = key Second x}), append-nil)
+
+-- ---- the phases
+
+-- between groups the store holds two lines of each input
+abbrev pub IsOutsideGroup : JoinCall → Slots → (Side → Lines) → Type 0
+IsOutsideGroup call store ls = GroupStore call.most call.old.store store ls []
+
+-- between two groups
+abbrev pub BetweenGroups : JoinCall → MergeState → (Side → Sorted) → Type 0
+BetweenGroups call now cursor = LoopInvariant call.tool (IsOutsideGroup call) call.old now cursor
+
+-- both inputs are at a line with the key `k`, and the second input's lines with it are being read
+pub record ReadGroup (call : JoinCall) (now : MergeState) (cursor : Side → Sorted) (end : ℕ) : Type 0 where
+  pub k : List ℕ
+  pub g : Lines
+  pub kept : Lines
+  pub q : GroupState call now cursor end k (both [] g) kept
+  pub copied : kept ≡ cond call.keeps_groups g []
+  pub heads : (side : Side) → IsAtGroupLine q side
+
+-- no line of the group is copied, and `last`, the previous line of the second input, stands for all of them: it is the
+-- only one, or no pairs are written
+pub record IsOneForAll (call : JoinCall) (k last : List ℕ) (kept g : Lines) : Type 0 where
+  pub none : kept ≡ []
+  pub own : call.key Second last ≡ k
+  pub same_pairs : (f : Lines) → call.pairs k f (last ∷ []) ≡ call.pairs k f g
+
+-- the group's lines are the copied ones, or the previous line of the second input stands for them
+abbrev pub IsGroupIn : JoinCall → List ℕ → List ℕ → Lines → Lines → Type 0
+IsGroupIn call k last kept g = (kept ≡ g) ⊎ IsOneForAll call k last kept g
+
+-- the group is read, and the first input is at a line with its key
+pub record WritePairs (call : JoinCall) (now : MergeState) (cursor : Side → Sorted) (end : ℕ) : Type 0 where
+  pub k : List ℕ
+  pub g : Side → Lines
+  pub kept : Lines
+  pub q : GroupState call now cursor end k g kept
+  pub lines_in : IsGroupIn call k (line now.store (cursor Second).previous_slot) kept (g Second)
+  pub some : 0 < length (g Second)
+  pub above : IsAbove call.cmp (call.key Second) k (q.d Second)
+  pub head : IsAtGroupLine q First
+
+-- the invariant in each phase
+abbrev pub PhaseInvariant : JoinCall → JoinPhase → MergeState → (Side → Sorted) → ℕ → Type 0
+PhaseInvariant call phases.BetweenGroups now cursor end = BetweenGroups call now cursor × (end ≡ 4)
+PhaseInvariant call phases.ReadGroup now cursor end = ReadGroup call now cursor end
+PhaseInvariant call phases.WritePairs now cursor end = WritePairs call now cursor end
+
+abbrev pub rank : JoinPhase → ℕ
+rank phases.BetweenGroups = 1
+rank p = 0
+
+rank_few : (p : JoinPhase) → rank p ≤ 1
+rank_few p = grind arith
+
+-- ---- an iteration
+
+-- the conditions at the start
+pub record IsOpenMerge (job : Join) (cmp : Cmp) (key : Side → Key) (old : MergeState) : Type 0 where
+  pub w : OpenMerge (join_with job cmp key) old
+  pub keys : (side : Side) (x : List ℕ) → key side x ≡ join_key job side x
+
+pub opened : (job : Join) {cmp : Cmp} {key : Side → Key} {first second : Reader} {out : Output} {store : Slots}
+    → IsKeyOrder cmp → ((side : Side) (x : List ℕ) → key side x ≡ join_key job side x)
+    → MergeRunPre job.terminator first second out store → IsOpenMerge job cmp key (merge_state first second out store)
+opened job {cmp} {key} o keys begins = grind (arith, open_merge, begins, is_line_by_line job cmp key)
+
+-- the call
+abbrev pub join_call_of : {job : Join} {cmp : Cmp} {key : Side → Key} {old : MergeState} → IsOpenMerge job cmp key old
+    → JoinCall
+join_call_of {job} {cmp} {key} {old} a = record {
+  tool = join_with job cmp key;
+  most = most_in_group job cmp key;
+  pairs = pair_entries job;
+  laws = join_pairs job cmp key;
+  old = old;
+  w = a.w;
+}
+
+-- the loop invariant
+pub record IterationInvariant (job : Join) (cmp : Cmp) (key : Side → Key) (old : MergeState) (phase : JoinPhase)
+    (now : MergeState) (one two : Sorted) (end : ℕ) : Type 0 where
+  pub opened : IsOpenMerge job cmp key old
+  pub phased : PhaseInvariant (join_call_of opened) phase now (both one two) end
+  pub between : BetweenSteps key now one two
+  pub open between use *
+
+module _ {job : Join} {cmp : Cmp} {key : Side → Key} {old : MergeState} {phase : JoinPhase} {now : MergeState}
+    {one two : Sorted} {end : ℕ}
+    (t : IterationInvariant job cmp key old phase now one two end) where
+  open t.opened.w use {o}
+
+  abbrev call : JoinCall
+  call = join_call_of t.opened
+
+  pub iteration_continues : {next : JoinPhase} (s : Side) {one2 two2 : Sorted} {reader : Reader} {after : Slots}
+      {new : Output} {to : ℕ} → IsReadyToContinue key s one two one2 two2 reader after new
+      → PhaseInvariant call next (state_after_read now s reader new after)
+      (with_side s (both one2 two2 s) (both one two)) to → IterationInvariant job cmp key old next
+      (state_after_read now s reader new after) one2 two2 to
+  iteration_continues {next} s {one2} {two2} {reader} {after} {new} {to} continues phased = record {
+    opened = t.opened;
+    phased = rw (← place_is s one two one2 two2 continues.others) phased;
+    between = between_next t.between s continues;
+  }
+
+  -- advancing an input decreases the remaining work, in every phase
+  pub measure_decreases : (s : Side) (next : JoinPhase) {one2 two2 : Sorted} {reader : Reader} {made after : Slots}
+      {out : Output} → (both one two s).status ≡ Head
+      → NextOkPost (key s) cmp (both one two s) (both one2 two2 s) (now.reader s) reader now.store made
+      → IsReadyToContinue key s one two one2 two2 reader after out
+      → 3 * reads_ahead (with_side s reader now.reader) one2 two2 + rank next
+      < 3 * reads_ahead now.reader one two + rank phase
+  measure_decreases s next head came continues =
+      omega (arith, reads_less t.between s continues head came, rank_few next)
+
+  pub joins : JoinStepPre job key now.out
+  joins = record { keys = t.opened.keys; clean = t.clean }
+
+  -- ---- between groups
+
+  module _ (is : phase ≡ phases.BetweenGroups) where
+    between : BetweenGroups call now (both one two) × (end ≡ 4)
+    between = rw is at t.phased
+
+    r : BetweenGroups call now (both one two)
+    r = between.0
+
+    lines_before : CursorsInvariant (join_with job cmp key) old now.reader (both one two) now.store r.ls r.p r.b
+    lines_before = record {
+      w = t.opened.w;
+      sides = r.sides;
+      holds = store_between_groups call r.keeps (λ side. (r.sides side).slots);
+    }
+
+    -- a step for an unpaired line
+    module _ {s : Side} (step : HasOnlyLeastKey cmp key (both one two) now.store s) {new : Output}
+        (pushed : PushEffect now.out new (unlines (now.reader s).terminator
+        (unpaired_entry job s (head_of now (both one two) s)))) where
+      wrote_unpaired : PushEffect now.out new (unlines (now.reader s).terminator
+          (entries_by_key (join_with job cmp key) all_keys (alone s (head_of now (both one two) s))))
+      wrote_unpaired = rw (entries_alone job cmp key s _ (t.opened.keys s _)) pushed
+
+      pub alone_continues : {one2 two2 : Sorted} {reader : Reader} {after : Slots}
+          → AdvanceOkPost key cmp s one two one2 two2 (now.reader s) reader now.store after new
+          → IterationInvariant job cmp key old phase (state_after_read now s reader new after) one2 two2 end
+      alone_continues h =
+          let keeps = group_store_next s (both one two s) (r.sides s).slots r.keeps
+          (n lines_before s step.status_is h.came) in
+          let (m, _) = wrote_alone lines_before step t.clean r.merge_invariant wrote_unpaired in
+          iteration_continues {next = phase} s h.continues
+          (rw is (runs_on lines_before s step.status_is h.came keeps m, between.1))
+
+      pub alone_fails : EndsIfFails (join_with job cmp key) old now s (both one two s) new
+      alone_fails = alone_breaks lines_before step t.clean r.merge_invariant wrote_unpaired
+
+    -- both inputs have the same key, and a group of it begins
+    pub group_opens : HaveEqualKeys cmp key (both one two) now.store
+        → IterationInvariant job cmp key old phases.ReadGroup now one two end
+    group_opens step =
+        let k = key First (head_of now (both one two) First) in
+        let bounds : (side : Side) → r.b side ≡ AtLeast
+        k = elim [
+          | First ↦ (at_current_line (r.sides First) step.first).bound
+          | Second ↦ rw step.same (at_current_line (r.sides Second) step.second).bound
+        ] in
+        let none : (side : Side) → r.p side ≡ r.p side ++ both [] []
+        side = elim [ First ↦ sym (append-nil (r.p First)) | Second ↦ sym (append-nil (r.p Second)) ] in
+        record {
+          opened = t.opened;
+          phased = record {
+            k = k;
+            g = [];
+            kept = [];
+            copied = sym (cond_of_empty _);
+            q = record {
+              ls = r.ls;
+              p = r.p;
+              d = r.b;
+              mid = now.out;
+              sides = λ side. rw (← none side) (r.sides side);
+              within = record {
+                merge_invariant = bounds_change (λ side. rw (bounds side) same_bound) r.merge_invariant;
+                clean = t.clean;
+                own = elim [ First ↦ tt | Second ↦ tt ];
+                later = λ side. rw (bounds side) same_bound;
+              };
+              keeps = r.keeps;
+              wrote = rw ((join_pairs job cmp key).none k []) (push_nothing now.out);
+              at = between.1;
+            };
+            heads = elim [
+              | First ↦ record { head = step.first; is = refl }
+              | Second ↦ record { head = step.second; is = sym step.same }
+            ];
+          };
+          between = t.between;
+        }
+
+    -- the end of the loop
+    module _ {after : Slots} (clear : ClearFourSlotsPost now.store after) where
+      pub eof : ((side : Side) → (both one two side).status ≡ Ended)
+          → MergePost (join_with job cmp key) old (record now { store = after }) (Ok tt)
+      eof step = ends_well lines_before r.merge_invariant t.clean clear step
+
+      pub disordered : {s : Side} {n : ℕ} → IsDisorderDecided cmp key (both one two) now.store s n
+          → MergePost (join_with job cmp key) old (record now { store = after }) (Err (faults.Disorder s n))
+      disordered step = ends_fallen lines_before r.merge_invariant t.clean clear step
+
+  -- ---- reading the group
+
+  module _ (is : phase ≡ phases.ReadGroup) where
+    a : ReadGroup call now (both one two) end
+    a = rw is at t.phased
+
+    pub read_group_in : (4 ≤ end) × (end ≤ length now.store.lines)
+    read_group_in = end_in a.q
+
+    pub read_group_pre : AdvancePre key Second one two (now.reader Second) now.store
+    read_group_pre = advance_pre t.between Second (a.heads Second).head
+
+    -- the copied lines are all lines read, or none
+    all_copied : call.keeps_groups ≡ true → a.kept ≡ a.g
+    all_copied keeps = a.copied ∙ (λ i. cond (keeps i) a.g [])
+
+    none_copied : call.keeps_groups ≡ false → a.kept ≡ []
+    none_copied none = a.copied ∙ (λ i. cond (none i) a.g [])
+
+    abbrev y : List ℕ
+    y = line now.store two.current_slot
+
+    -- the group with the current line of the second input
+    abbrev grown : Lines
+    grown = a.g ++ y ∷ []
+
+    -- the output buffered before the group was written out
+    module _ {out : Output} (written_out : PushEffect now.out out []) where
+      -- no output of the group is written
+      wrote_none : PushEffect a.q.mid out []
+      wrote_none = wrote_and_sent _ _ _ _ t.clean (rw (call.laws.none a.k a.g) at a.q.wrote) written_out
+
+      -- the second input advanced
+      module _ {reader : Reader} {two2 : Sorted} {made : Slots}
+          (comes : NextOkPost (key Second) cmp two two2 (now.reader Second) reader now.store made) where
+        on_second : AdvancedGroup (a.heads Second) comes out
+        on_second = advanced_group (a.heads Second) comes (rw (call.laws.none a.k grown) wrote_none)
+
+        inside : (l : Lines) → InGroup (largest_group (key Second)) grown (on_second.group.ls Second ++ l)
+        inside l =
+            rw (on_second.more.is, append_assoc (a.q.ls Second) on_second.more.more l, with_head (a.heads Second))
+            (group_in (key Second) a.k (a.q.p Second) grown (on_second.more.more ++ l)
+            (own_more (a.heads Second) Second) (omega (arith, length_push a.g y)))
+
+        -- the current lines keep their slots in a store with the same first slots
+        module _ (after : Slots) (same : (i : ℕ) → i < 4 → line after i ≡ line made i) where
+          key1_on : key First (line after one.current_slot) ≡ a.k
+          key1_on = rw (
+            same one.current_slot (low_slot First one (a.q.sides First).slots).current,
+            (others_stay o a.q.sides Second (a.heads Second).head comes).0,
+          ) (a.heads First).is
+
+          stays : line after two2.current_slot ≡ line made two2.current_slot
+          stays = same _ (low_slot Second two2 (on_second.group.sides Second).slots).current
+
+        -- the pairs of the first input's current line and the group are not written yet
+        pairs_are_missing : call.keeps_groups ≡ true → (all : Side → Lines)
+            → ((side : Side) → Continues (with_side Second reader now.reader side) (on_second.group.ls side) (all side))
+            → ¬ (merged_entries call.tool all ≡ entries_by_key call.tool all_keys on_second.group.p ++ [])
+        pairs_are_missing keeps all w =
+            let first : IsAtGroupLine on_second.group First =
+            record { head = (a.heads First).head; is = key1_on made (λ i low. refl) } in
+            front_is_not_all call.w (within_more first) (state_after_read now Second reader out made)
+            (passing_now first) all w (has_entries call (within_more first) keeps
+            (elim [ First ↦ omega arith | Second ↦ omega (arith, length_push a.g y) ]))
+
+        -- the previous line stands for the group, if none is copied
+        one_for_all : a.kept ≡ [] → IsOneForAll call a.k (line made two2.previous_slot) a.kept grown
+        one_for_all = grind (arith, last_stays, a.heads Second, a, all_copied)
+
+        -- the group after the line was added to it, with its copied lines
+        record GrownGroup (after : Slots) (to : ℕ) : Type 0 where
+          kept : Lines
+          q : GroupState call (state_after_read now Second reader out after) (with_side Second two2 (both one two)) to
+              a.k (both [] grown) kept
+          same : (i : ℕ) → i < 4 → line after i ≡ line made i
+          copied : two2.same ≡ true → kept ≡ cond call.keeps_groups grown []
+          lines_in : IsGroupIn call a.k (line after two2.previous_slot) kept grown
+
+        grown_group : {after : Slots} {to : ℕ} → IsInItsSlot call.keeps_groups two2 made after end to
+            ⊎ IsCopiedToGroup call.keeps_groups two2 made after end to → GrownGroup after to
+        grown_group (inl e) =
+            let none = ⊎_elim none_copied (λ (_, four). nil_from_length a.kept (omega (arith, four, a.q.at))) e.stays in
+            rw (e.end_is, e.store_is) (record {
+              kept = a.kept;
+              q = on_second.group;
+              same = λ i low. refl;
+              copied = λ same. ⊎_elim (λ without. none ∙ sym (λ i. cond (without i) grown [])) (λ (differs, _). cc)
+                  e.stays;
+              lines_in = inr (one_for_all none);
+            })
+        grown_group {after} (inr e) =
+            let all : a.kept ++ y ∷ [] ≡ grown = cc (all_copied e.keeps) in
+            let new : CopiedLine on_second.group.keeps after y = group_store_copied _ on_second.group.at
+            (low_slot Second two2 (on_second.group.sides Second).slots).previous e.copied
+            (last_stays (a.heads Second) comes)
+            (λ l. rw (all_copied e.keeps) (call.laws.largest e.keeps _ _ (inside l))) in
+            rw e.end_is (record {
+              kept = a.kept ++ y ∷ [];
+              q = group_kept on_second.group new.same new.store_holds (omega (arith, a.q.at, length_push a.kept y));
+              same = new.same;
+              copied = λ same. all ∙ sym (λ i. cond (e.keeps i) grown []);
+              lines_in = inl all;
+            })
+
+      module _ {one2 two2 : Sorted} {reader : Reader} {after : Slots} {to : ℕ}
+          (h : ReadGroupLineOkPost call.keeps_groups (key Second) cmp two two2 (now.reader Second) reader now.store
+          after end to) (continues : IsReadyToContinue key Second one two one2 two2 reader after out) where
+        pub read_group_continues : two2.same ≡ true
+            → IterationInvariant job cmp key old phase (state_after_read now Second reader out after) one2 two2 to
+        read_group_continues same =
+            let r = grown_group h.came h.kept in
+            let (head, has_key) = continues_key (a.heads Second) h.came same in
+            iteration_continues {next = phase} Second continues (rw is (record {
+              k = a.k;
+              g = grown;
+              kept = r.kept;
+              q = r.q;
+              copied = r.copied same;
+              heads = elim [
+                | First ↦ record { head = (a.heads First).head; is = key1_on h.came after r.same }
+                | Second ↦ record { head = head; is = rw (stays h.came after r.same) has_key }
+              ];
+            }))
+
+        pub write_pairs_next : two2.same ≡ false → IterationInvariant job cmp key old phases.WritePairs
+            (state_after_read now Second reader out after) one2 two2 to
+        write_pairs_next same =
+            let r = grown_group h.came h.kept in
+            iteration_continues {next = phases.WritePairs} Second continues (record {
+              k = a.k;
+              g = both [] grown;
+              kept = r.kept;
+              q = r.q;
+              lines_in = r.lines_in;
+              some = omega (arith, length_push a.g y);
+              above = is_past r.q Second
+                  (λ e has. leaves_key (a.heads Second) h.came same e (rw (stays h.came after r.same) at has));
+              head = record { head = (a.heads First).head; is = key1_on h.came after r.same };
+            })
+
+      read_fails : EndsIfFails call.tool old now Second two out
+      read_fails = group_breaks (a.heads Second) (starts_none call (within_more (a.heads Second))) wrote_none
+
+      -- a line could not be copied, or the next one could not be read
+      pub read_group_fails : {two2 : Sorted} {reader : Reader} {after : Slots} {fault : MergeFault}
+          → ReadGroupLinePost call.keeps_groups (key Second) cmp two two2 (now.reader Second) reader now.store after out
+          end (Err fault) → MergePost (join_with job cmp key) old (state_after_read now Second reader out after)
+          (Err fault)
+      read_group_fails (inl e) = read_fails _ _ _ (inl e)
+      read_group_fails (inr (fine, inr e)) = read_fails _ _ _ (inr (fine, e))
+      read_group_fails {reader = reader} {after} (inr (fine, inl e)) =
+          let q = (on_second e.came).group in
+          let new = state_after_read now Second reader out after in
+          let lag = group_written call.w q.within [] (rw (call.laws.none a.k grown) at q.wrote) in
+          let first : ComeFirst call.tool (with_side Second reader now.reader) q.ls
+          (entries_by_key call.tool all_keys q.p ++ []) =
+          λ all more. group_comes_first call.w q.within new (group_read_facts q) all more
+          (starts_none call q.within) in
+          rw e.memory (exit_is_merge_post call.w _ (group_read_facts q) lag first (λ all more.
+          let size = size_of call q.keeps all (λ side. omega (arith, (more side).longest)) (extends (more Second)) in
+          let (_, many) = call.laws.largest e.keeps _ _ (inside e.came (more Second).continues.more) in
+          omega (
+            arith,
+            ap length (all_copied e.keeps),
+            size,
+            ap call.most.lines (more Second).continues.is,
+            call.laws.slots all,
+            length_push a.g y,
+          ))
+          (both_begun (λ side. (q.sides side).begun))
+          (λ side fail. cc ((q.sides side).lines_read.advance_ok.failed, call.w.unfailed side)) (Err Memory) (record {
+            denied = e.copy_failed.denied;
+            unfailed = λ side read. (q.sides side).lines_read.advance_ok.failed;
+            clean = fine;
+            left = λ four. inr (
+              e.keeps,
+              λ texts agree same. pairs_are_missing e.came e.keeps (lines_of call.tool texts)
+                  (continues call.w new (group_read_facts q) texts agree)
+                  (none_missing call.w new (group_read_facts q) lag first texts agree same),
+            );
+          }))
+
+  -- ---- writing pairs
+
+  module _ (is : phase ≡ phases.WritePairs) where
+    state : WritePairs call now (both one two) end
+    state = rw is at t.phased
+
+    pub write_pairs_pre : JoinLinePre job key First one two (now.reader First) now.store now.out
+    write_pairs_pre = record { status_is = advance_pre t.between First state.head.head; joins = joins }
+
+    is_kept : state.kept ≡ state.g Second → (end == 4) ≡ false
+    is_kept same = search (rules, state)
+
+    is_alone : state.kept ≡ [] → (end == 4) ≡ true
+    is_alone none = let four : end ≡ 4 = omega (arith, state.q.at, ap length none) in grind (arith, nat_tests)
+
+    -- the lines of the group have its key
+    keyed_slot : (slot : ℕ) → group_first_slot two end ≤ slot → slot < group_end_slot two end
+        → key Second (line now.store slot) ≡ state.k
+    keyed_slot slot from low = ⊎_elim (λ same.
+        let own = rw (← same) at (state.q.within.own Second) in
+        let keyed = EachKey-at (λ x. x ≡ state.k) (key Second) state.kept (slot - 4) in
+        grind (arith, is_kept same, kept_line state.q.keeps, keyed, own, state.q.at))
+        (λ h. let is : slot ≡ two.previous_slot = grind (arith, is_alone h.none) in rw is h.own) state.lines_in
+
+    abbrev in_slots : Lines
+    in_slots = group now.store (group_first_slot two end) (group_end_slot two end)
+
+    -- the lines in the slots of the group have the pairs of the group
+    group_pairs_are : (f : Lines) → pair_entries job state.k f in_slots ≡ pair_entries job state.k f (state.g Second)
+    group_pairs_are f = ⊎_elim (λ same. rw (is_kept same, group_is state.q.keeps state.q.at, same) refl)
+        (λ h. rw (
+          is_alone h.none,
+          group_one now.store two.previous_slot
+              (omega (arith, state.q.keeps.four, (low_slot Second two (state.q.sides Second).slots).previous)),
+        ) (h.same_pairs f))
+        state.lines_in
+
+    pub write_pairs_group : IsGroup (join_key job Second) two now.store end
+        (key First (line now.store one.current_slot))
+    write_pairs_group = record {
+      within = end_in state.q;
+      keyed = λ slot from low. sym
+          (t.opened.keys Second (line now.store slot)) ∙ keyed_slot slot from low ∙ sym state.head.is;
+    }
+
+    abbrev z : Lines
+    z = line now.store one.current_slot ∷ []
+
+    module _ {new : Output}
+        (pushed : PushEffect now.out new (unlines (now.reader First).terminator
+        (pair_entries job (key First (line now.store one.current_slot)) z in_slots))) where
+      wrote_more : PushEffect state.q.mid new
+          (unlines job.terminator (pair_entries job state.k (state.g First ++ z) (state.g Second)))
+      wrote_more = rw (
+        call.laws.more state.k (state.g First) z (state.g Second),
+        unlines-append job.terminator
+            (pair_entries job state.k (state.g First) (state.g Second)) (pair_entries job state.k z (state.g Second)),
+      )
+          (push_trans _ _ _ _ _ t.clean state.q.wrote
+          (rw ((state.q.sides First).lines_read.terminator, state.head.is, group_pairs_are z) at pushed))
+
+      pairs_begin : OutputStartsWith (join_with job cmp key) (with_added_line now (both one two) First state.g)
+          state.q.d state.k (pair_entries job state.k (state.g First ++ z) (state.g Second))
+      pairs_begin = starts call (within_more state.head) state.some state.above
+
+      pub pair_fails : EndsIfFails (join_with job cmp key) old now First one new
+      pair_fails = group_breaks state.head pairs_begin wrote_more
+
+      module _ {one2 two2 : Sorted} {reader : Reader} {after : Slots}
+          (h : AdvanceOkPost key cmp First one two one2 two2 (now.reader First) reader now.store after new) where
+        on_first : AdvancedGroup state.head h.came new
+        on_first = advanced_group state.head h.came wrote_more
+
+        above_on : IsAbove cmp (key Second) state.k (on_first.group.d Second)
+        above_on = rw on_first.bound state.above
+
+        pub group_there : (4 ≤ end) × (end ≤ length after.lines)
+        group_there = grind (arith, end_in state.q, length-set, h.came)
+
+        pub write_pairs_continues : one2.same ≡ true
+            → IterationInvariant job cmp key old phase (state_after_read now First reader new after) one2 two2 end
+        write_pairs_continues same = iteration_continues {next = phase} First h.continues (rw is (record {
+          k = state.k;
+          g = with_added_line now (both one two) First state.g;
+          kept = state.kept;
+          q = on_first.group;
+          lines_in = rw (others_stay o state.q.sides First state.head.head h.came).1 state.lines_in;
+          some = state.some;
+          above = above_on;
+          head = let (head, is) = continues_key state.head h.came same in record { head = head; is = is };
+        }))
+
+        pub group_closed : {cleared : Slots} → ClearGroupPost after cleared end → one2.same ≡ false
+            → IterationInvariant job cmp key old phases.BetweenGroups (state_after_read now First reader new cleared)
+            one2 two2 4
+        group_closed {cleared} clear same =
+            let q = on_first.group in
+            let valid_cursors = valid_cursors_kept key one2 two2 after cleared h.continues.valid_cursors
+            (omega arith) (λ i low. clear.others i (inl low)) in
+            iteration_continues {next = phases.BetweenGroups} First (assumption (h.continues, valid_cursors)) (
+              record {
+                ls = q.ls;
+                p = λ side. q.p side ++ with_added_line now (both one two) First state.g side;
+                b = q.d;
+                sides = same_cursors call.tool q.sides (omega (arith, clear.slots, q.keeps.four))
+                    (λ i low. clear.others i (inl low));
+                merge_invariant = closes call q.within (elim [
+                  | First ↦ omega (arith, length_push (state.g First) (line now.store one.current_slot))
+                  | Second ↦ state.some
+                ])
+                    (elim [ First ↦ is_past q First (leaves_key state.head h.came same) | Second ↦ above_on ]) q.wrote;
+                keeps = group_store_cleared q.keeps q.at clear;
+              },
+              refl,
+            )

@@ -1,7 +1,544 @@
-pub mod LinesRead
-pub mod Orders
-pub mod Invariant
-pub mod Slots
+-- The steps of a merge. A line that precedes everything in the other input is processed, and its input advances; the
+-- next line has no lesser key, so the invariant holds again. A step ends the loop when both inputs are at their ends or
+-- a disorder is reported, and a fault of a write or read ends it with a prefix of the output.
 pub mod Exits
-pub mod Step
-pub mod Lag
+use Rattle.ptmerge.proofs
+use proofs.Common.{AdvancePre, IsReadyToContinue, ◌≡◌, inl, inr, ℕ, ◌+◌, ◌≤◌, true, false, List, [], ◌∷◌, Option, Some}
+use proofs.Common.{None, Err, length, refl, sym, ◌∙◌, arith, is_le, append-nil, Output, PushEffect, Reader}
+use proofs.Common.{ReaderAdvance, IsDone, IsSound, Slots, line, with_line, unlines, IsLine, push_nothing, MergeFault}
+use proofs.Common.{Side, First, Second, Sorted, CursorStatus, Head, Ended, Disorder, Lines, MergeTool, FirstDisorder}
+use proofs.Common.{entries_by_key, earlier_disorder, first_disorder, MergeState, MergePost, Cmp, Key, NextOkPost}
+use proofs.Common.{HasSlots, with_side, other, PrecedesInput, IsDisorderDecided, ap, ◌⊎◌, max, total_bytes, max_length}
+use proofs.Common.{Write, MergeRunPre, merge_state, WriteFaultPost, both, budget, push_trans, cond, Ordering, is_eq}
+use proofs.Common.{is_gt, CopyToGroupPost, same_key_at, status_at, ◌<◌, Result, ClearFourSlotsPost, Ok, CallOutcome}
+use proofs.Common.{AllPushed, Received, both_sides, reads_nothing, merge_engine, merge_end, IsErrAnd, HasOnlyLeastKey}
+use Rattle.ptmerge.specs.declared.faults.MergeFault.TheVariants as faults
+use Rattle.std.proofs.Common.{rules}
+use Rattle.std.proofs.lemmas.Grind.{common_steps}
+use Rattle.ptmerge.specs.Cursor.{NextErrPost, initial_cursor, base_slot}
+use Rattle.ptmerge.specs.MergeSteps.{StartErrPost, StartFirstPost, MergeInputs, IsReaderOf, IsReportable}
+use Rattle.ptmerge.specs.MergeSteps.{AreValidCursors, StartOkPost, merge_inputs, previous_key}
+pub use Exits.*
+
+-- ---- keys that may follow
+
+-- all lines that may follow have keys above x
+abbrev pub IsAbove : Cmp → Key → List ℕ → Bound → Type 0
+IsAbove cmp key x b = (r : Lines) → MayFollow cmp key b r → EachKey (Above cmp x) key r
+
+-- a key that precedes an input's current line precedes all lines that may follow
+pub current_key_is_above : (cmp : Cmp) (o : IsKeyOrder cmp) (key : Key) (x : List ℕ) (status : CursorStatus)
+    (cursor : Sorted) (store : Slots) (now : Reader) (ls p : Lines) (b : Bound)
+    → PrecedesInput cmp x status (key (line store cursor.current_slot)) (key (line store cursor.previous_slot))
+    → MatchesStatus cmp key status cursor store now ls p b → IsAbove cmp key x b × IsLater cmp key (AtLeast x) b
+current_key_is_above cmp o key x Head cursor store now ls p b before line_is =
+    let head = key (line store cursor.current_slot) in
+    let above : Above cmp x head = is_greater (cmp head x) before in
+    let below = above_at_most cmp o x head above in
+    rw line_is.bound (
+      λ r c. EachKey-weaker _ _ (λ k h. above_up cmp o x head k above h) _ _ c,
+      record {
+        may_follow = λ r c. EachKey-weaker _ _ (λ k h. at_most_trans cmp o x head k below h) _ _ c;
+        under = λ k h. at_most_trans cmp o k x head h below;
+      },
+    )
+current_key_is_above cmp o key x Ended cursor store now ls p b before (bound, _) = grind arith
+current_key_is_above cmp o key x (Disorder n) cursor store now ls p b before st = grind (arith, at_most_trans)
+
+-- ---- one line
+
+-- a line of one input
+abbrev pub alone : Side → List ℕ → Side → Lines
+alone s x = with_side s (x ∷ []) (λ side. [])
+
+-- ---- the invariant of both inputs
+
+abbrev pub SidesInvariant : MergeTool → (Side → Reader) → (Side → Reader) → (Side → Sorted) → Slots → (Side → Lines)
+    → (Side → Lines) → (Side → Bound) → Type 0
+SidesInvariant tool old now cursor store ls p b =
+    (side : Side) → SideInvariant tool side (old side) (now side) (cursor side) store (ls side) (p side) (b side)
+
+-- the input `s`, at a line, advances
+module _ {tool : MergeTool} (o : IsKeyOrder tool.cmp) {old now : Side → Reader} {cursor : Side → Sorted} {store : Slots}
+    {ls p : Side → Lines} {b : Side → Bound} (sides : SidesInvariant tool old now cursor store ls p b) (s : Side)
+    (head : (cursor s).status ≡ Head) {new : Reader} {next : Sorted} {after : Slots}
+    (comes : NextOkPost (tool.key s) tool.cmp (cursor s) next (now s) new store after) where
+  pub next_at : SideAfterNext tool s (old s) new next (cursor s).previous_slot store after (ls s)
+      (Some (tool.key s (line store (cursor s).current_slot)))
+  next_at = let h = at_current_line (sides s) head in
+      next_invariant tool o s _ _ _ _ _ _ _ _ (sides s).slots (sides s).four (sides s).lines_read (sides s).number
+      h.sorted_up_to (h.some, refl) comes
+
+  -- the lines of the other input keep their slots
+  pub others_stay : (line after (cursor (other s)).current_slot ≡ line store (cursor (other s)).current_slot)
+      × (line after (cursor (other s)).previous_slot ≡ line store (cursor (other s)).previous_slot)
+  others_stay = let (one, two) = slots_apart s (cursor s) (cursor (other s)) (sides s).slots (sides (other s)).slots in
+      rw next_at.stored (line_other store _ _ _ one, line_other store _ _ _ two)
+
+  pub sides_next : SidesInvariant tool old (with_side s new now) (with_side s next cursor) after
+      (with_side s next_at.now_ls ls) (with_side s (ls s) p) (with_side s next_at.bound b)
+  sides_next = side_case _ s (simp put_same next_at.side_invariant)
+      (simp put_other (side_invariant_kept (sides (other s)) others_stay.0 others_stay.1 next_at.side_invariant.four))
+
+-- ---- the end of the loop
+
+module _ (cmp : Cmp) (o : IsKeyOrder cmp) where
+  -- the disorder of the other input, if there is one, is not the one to report
+  named_is : (key : Key) (s : Side) (d : FirstDisorder) (status : CursorStatus) (cursor : Sorted) (store : Slots)
+      (now : Reader) (ls p : Lines) (b : Bound)
+      → IsReportable cmp s d.last_key status (key (line store cursor.current_slot))
+      (key (line store cursor.previous_slot))
+      → MatchesStatus cmp key status cursor store now ls p b → (f : Side → Option FirstDisorder) → f s ≡ Some d
+      → MayDisorder cmp b (f (other s))
+      → earlier_disorder cmp (f First) (f Second) ≡ Some (record { file = s; first_disorder = d })
+  named_is = grind (arith, above_up, is_greater, not_below, greater_flips)
+
+-- ---- a failed read
+
+-- a reader with buffered bytes is not at its end
+pub buffered_not_done : {r : Reader} → 0 < length r.buffered → ¬ IsDone r
+buffered_not_done some done = absurd (omega (arith, some, ap length done.buffered))
+
+-- a write failed, or reading the next line did
+abbrev pub AdvanceErrPost : Side → Sorted → Reader → Reader → Slots → Slots → Output → MergeFault → Type 0
+AdvanceErrPost s cursor was is before after out fault = ((fault ≡ Write) × WriteFaultPost was is before after out)
+    ⊎ ((out.write_failed ≡ false) × NextErrPost s cursor was is before after fault)
+
+-- each such failure ends the call as the contract says
+abbrev pub EndsIfFails : MergeTool → MergeState → MergeState → Side → Sorted → Output → Type 0
+EndsIfFails tool old now s cursor out = (new : Reader) (after : Slots) (fault : MergeFault)
+    → AdvanceErrPost s cursor (now.reader s) new now.store after out fault
+    → MergePost tool old (state_by_side (with_side s new now.reader) out after) (Err fault)
+
+-- In both cases a piece of the next line was read, and is in the store.
+record FailedAdvance (cursor : Sorted) (was is : Reader) (before after : Slots) : Type 0 where
+  pub piece : List ℕ
+  pub reads : ReaderAdvance was is piece
+  pub line : IsLine was.terminator piece
+  pub sound : IsSound is
+  pub peak : after.peak ≤ (with_line before cursor.previous_slot piece).peak
+  pub count : length after.lines ≡ length (with_line before cursor.previous_slot piece).lines
+  pub failed : is.failed ≡ true → was.failed ≡ false → (is.buffered ≡ []) × (is.eof ≡ false)
+
+failed_advance : (s : Side) (cursor : Sorted) (was is : Reader) (before after : Slots) (out : Output)
+    (fault : MergeFault) → IsSound was → AdvanceErrPost s cursor was is before after out fault
+    → FailedAdvance cursor was is before after
+failed_advance = search rules
+
+-- the input `s` is to advance, and all its lines are processed
+pub record IsAdvancing (tool : MergeTool) (old now : MergeState) (s : Side) (cursor : Sorted) (ls p : Side → Lines)
+    (b : Side → Bound) : Type 0 where
+  pub facts : (side : Side) → ReadFactsOf tool old now.reader ls p b side (now.reader side) []
+  pub all : p s ≡ ls s
+  pub order : (r : Reader) (piece : List ℕ) → IsLine (now.reader s).terminator piece
+      → FirstReads tool.terminator old.reader now.reader (with_side s r now.reader) ls (with_side s piece (λ side. []))
+  pub denied : now.store.denied ≡ false
+  pub fits : (piece : List ℕ) → Fits tool old.store now.reader ls (with_side s piece (λ side. []))
+      (with_line now.store cursor.previous_slot piece)
+
+module _ {tool : MergeTool} {old : MergeState} (w : IsOpenMerge tool old) {now : MergeState} {s : Side}
+    {cursor : Sorted} {ls p : Side → Lines} {b : Side → Bound} (a : IsAdvancing tool old now s cursor ls p b) where
+  open tool use {cmp, key}
+
+  none_failed_yet : (side : Side) → (now.reader side).failed ≡ (old.reader side).failed
+  none_failed_yet side = (a.facts side).lines_read.advance_ok.failed
+
+  -- how the call ends
+  advance_ends : (new : Reader) (after : Slots) (out : Output) (given : Side → Received) (pushed : List ℕ)
+      (fault : MergeFault) → AdvanceErrPost s cursor (now.reader s) new now.store after out fault
+      → CallOutcome both_sides (merge_engine tool) old (state_by_side (with_side s new now.reader) out after) given
+      pushed (merge_end (Err fault))
+  advance_ends = grind (arith, put_same, none_failed_yet, side_case, put_other, buffered_not_done)
+
+  -- the merge ends with this fault
+  pub advance_fails : {out : Output} {done : Lines} → LagInvariant tool b p old.out out done
+      → ((new : MergeState) (piece : Side → List ℕ)
+      → ((side : Side) → ReadFactsOf tool old now.reader ls p b side (new.reader side) (piece side))
+      → ComeFirst tool now.reader ls done) → EndsIfFails tool old now s cursor out
+  advance_fails {out} {done} lag first new after fault e =
+      let f = failed_advance s cursor (now.reader s) new _ after out fault (a.facts s).sound e in
+      let facts = put_both (ReadFactsOf tool old now.reader ls p b) s new _ f.piece (λ side. [])
+      (grind (arith, a.facts s, f)) (a.facts (other s)) in
+      let is = state_by_side (with_side s new now.reader) out after in
+      exit_is_merge_post w is facts lag (first is (with_side s f.piece (λ side. [])) facts)
+      (λ all holds. omega (arith, a.fits f.piece all holds)) (a.order new f.piece f.line)
+      (put_each (λ side (r : Reader). r.failed ≡ true → IsFailedRead r (ls side) (p side)) s new _
+      (grind (arith, f, none_failed_yet s, w.unfailed s)) (λ side fail. cc (none_failed_yet side, w.unfailed side)))
+      (Err fault) (advance_ends new after out _ _ fault e)
+
+-- ---- between two steps
+
+-- the loop invariant of a tool, with `Keep` as the invariant of its store
+pub record LoopInvariant (tool : MergeTool) (Keep : Slots → (Side → Lines) → Type 0) (old now : MergeState)
+    (cursor : Side → Sorted) : Type 0 where
+  pub ls : Side → Lines
+  pub p : Side → Lines
+  pub b : Side → Bound
+  pub sides : SidesInvariant tool old.reader now.reader cursor now.store ls p b
+  pub merge_invariant : MergeInvariant tool b p old.out now.out
+  pub keeps : Keep now.store ls
+
+-- ---- a tool that stores two lines of each input
+
+-- the conditions at the start
+pub open_merge : {tool : MergeTool} {first second : Reader} {out : Output} {store : Slots} → IsKeyOrder tool.cmp
+    → HoldsTwoLines tool → IsLineByLine tool → MergeRunPre tool.terminator first second out store
+    → IsOpenMerge tool (merge_state first second out store)
+open_merge = grind (arith, both_each)
+
+-- The store between two steps: it holds two lines of each input, and is within the measure for all lists that continue
+-- these lines, also when it is emptied and when it holds a piece of a further line.
+pub record StoreInvariant (tool : MergeTool) (before : Slots) (reader : Side → Reader) (cursor : Side → Sorted)
+    (store : Slots) (ls : Side → Lines) : Type 0 where
+  pub lines : HasLines (λ side. max_length (ls side)) 0 store.lines
+  pub denied : store.denied ≡ false
+  pub fits : (after : Slots) → after.peak ≤ max store.peak (total_bytes store.lines)
+      → length after.lines ≡ length store.lines → Fits tool before reader ls (λ side. []) after
+  pub line : (s : Side) (piece : List ℕ)
+      → Fits tool before reader ls (with_side s piece (λ side. [])) (with_line store (cursor s).previous_slot piece)
+
+-- the store holds two lines of each input and nothing else
+abbrev pub StoreHoldsTwoLines : Slots → Slots → (Side → Lines) → Type 0
+StoreHoldsTwoLines before store ls = StoreOfLines before store (λ side. max_length (ls side))
+
+pub holds_two : {tool : MergeTool} (fits : HoldsTwoLines tool) {before store : Slots} {reader : Side → Reader}
+    {cursor : Side → Sorted} {ls : Side → Lines} → StoreHoldsTwoLines before store ls
+    → ((side : Side) → HasSlots side (cursor side)) → StoreInvariant tool before reader cursor store ls
+holds_two fits {cursor = cursor} {ls = ls} keeps slots = record {
+  lines = keeps.lines;
+  denied = keeps.denied;
+  fits = λ after small same all holds. (let total = has_lines_total _ (λ side. max_length (ls side)) 0 keeps.lines in
+      omega (arith, keeps.peak, keeps.slots, total, fits all, (holds First).longest, (holds Second).longest));
+  line = λ s piece all holds.
+      let longest = rw (put_same s piece (λ side. [])) at (holds s).longest in
+      let next = store_with_line s (cursor s) (λ side. max_length (all side)) piece (slots s) keeps
+      (λ side. omega (arith, (holds side).longest)) (omega (arith, longest)) refl in
+      omega (arith, next.peak, next.slots, fits all);
+}
+
+-- the cursors between two steps, for any output
+pub record CursorsInvariant (tool : MergeTool) (old : MergeState) (reader : Side → Reader) (cursor : Side → Sorted)
+    (store : Slots) (ls p : Side → Lines) (b : Side → Bound) : Type 0 where
+  pub w : IsOpenMerge tool old
+  pub sides : SidesInvariant tool old.reader reader cursor store ls p b
+  pub holds : StoreInvariant tool old.store reader cursor store ls
+
+module _ {tool : MergeTool} {old : MergeState} {reader : Side → Reader} {cursor : Side → Sorted} {store : Slots}
+    {ls p : Side → Lines} {b : Side → Bound} (a : CursorsInvariant tool old reader cursor store ls p b) where
+  open tool use {cmp, key}
+  open a use {w}
+
+  pub none_failed : (side : Side) → (reader side).failed ≡ (old.reader side).failed
+  none_failed side = (a.sides side).lines_read.advance_ok.failed
+
+  begun : (side : Side) → HasBegun (reader side) (ls side)
+  begun side = (a.sides side).begun
+
+  -- an input of which the lines `q` are processed
+  abbrev ReadFactsBy : Side → Lines → Type 0
+  ReadFactsBy side q = ReadFactsOf tool old reader ls (λ t. q) b side (reader side) []
+
+  -- an input at its current line, and one whose current line is processed
+  pub read_facts_current : (side : Side) → ReadFactsBy side (p side)
+  read_facts_current side = (a.sides side).facts
+
+  pub passing_now : (s : Side) → (cursor s).status ≡ Head → ReadFactsBy s (ls s)
+  passing_now s head = read_facts_after_line (a.sides s) w.o head
+
+  -- the iteration failed, after the lines `q` were processed
+  pub iteration_fails : (s : Side) → (cursor s).status ≡ Head → {q : Side → Lines} {out : Output}
+      → MergeInvariant tool b q old.out out × AllWritten tool b q old.out out → q s ≡ ls s
+      → ReadFactsBy (other s) (q (other s)) → EndsIfFails tool old (state_by_side reader out store) s (cursor s) out
+  iteration_fails s head {q} {out} (m, lag) same rest =
+      advance_fails w {now = state_by_side reader out store} {cursor = cursor s} {p = q} (record {
+        facts = side_case _ s (rw same (passing_now s head)) rest;
+        all = same;
+        order = λ r piece free. both_begun begun;
+        denied = a.holds.denied;
+        fits = a.holds.line s;
+      }) lag (λ new piece g. processed_come_first w new g m)
+
+  -- the current line of the input `s`, whose key precedes everything in the other input, is written
+  module _ {s : Side} (step : HasOnlyLeastKey cmp key cursor store s) {is new : Output}
+      (clean : is.write_failed ≡ false) (m : MergeInvariant tool b p old.out is)
+      (wrote : PushEffect is new (unlines (reader s).terminator (entries_by_key tool all_keys
+      (alone s (line store (cursor s).current_slot))))) where
+    pub wrote_alone : MergeInvariant tool b (with_side s (ls s) p) old.out new
+        × AllWritten tool b (with_side s (ls s) p) old.out new
+    wrote_alone =
+        let x = line store (cursor s).current_slot in
+        let h = at_current_line (a.sides s) step.status_is in
+        let (above, later) =
+        current_key_is_above _ w.o _ _ _ _ _ _ _ _ _ step.before (a.sides (other s)).status_is in
+        let none = lines_with_key-above tool w.o (key (other s)) (key s x) in
+        write_least_run w.o (key s x) (with_side s (ls s) p) (alone s x)
+        (side_case _ s (simp put_same (line_is_least_run w.o h.bound refl)) (simp put_other (record {
+          -- no line of the other input has the key, and only greater keys follow
+          own = tt;
+          may_follow = λ r c. c;
+          later = later;
+        })))
+        (side_case _ s (simp put_same h.all) (simp (put_other, append-nil))) (w.alone.none (key s x))
+        (λ r c. grind (arith, w.alone, none (r (other s)) (above (r (other s)) (c (other s))))) clean m
+        (rw (a.sides s).lines_read.terminator at wrote)
+
+    pub alone_breaks : EndsIfFails tool old (state_by_side reader new store) s (cursor s) new
+    alone_breaks = iteration_fails s step.status_is wrote_alone (put_same s (ls s) p)
+        (rw (put_other s (ls s) p) (read_facts_current (other s)))
+
+  -- an input is out of order, and no key that may follow is up to its last key
+  stops_at : {s : Side} {n : ℕ} → IsDisorderDecided cmp key cursor store s n → IsExactStop tool b (Some (s, n))
+  stops_at {s} {n} dec l r c f =
+      let d : FirstDisorder = record { last_key = previous_key key cursor store s; line = n } in
+      let disordered : b s ≡ AfterDisorder d = rw dec.status_is at (a.sides s).status_is in
+      let st = (a.sides (other s)).status_is in
+      let (above, _) = current_key_is_above _ w.o _ d.last_key _ _ _ _ _ _ _
+      (grind (arith, greater_flips, is_greater, dec.named)) st in
+      rw (named_is _ w.o _ s d _ _ _ _ _ _ _ dec.named st (λ side. first_disorder cmp (key side) (l side))
+      (rw disordered at (f s)) (f (other s))) (
+        none_wanted tool (λ k. is_le (cmp k d.last_key)) r
+            (side_case _ s (rw (rw disordered at (c s)) tt)
+            (EachKey-weaker _ _ (λ k h. ap is_le h) _ _ (above _ (c (other s))))),
+        refl,
+      )
+
+  -- the slots are emptied at the end
+  module _ {out : Output} (m : MergeInvariant tool b p old.out out) (clean : out.write_failed ≡ false) {after : Slots}
+      (clear : ClearFourSlotsPost store after) where
+    abbrev last : MergeState
+    last = state_by_side reader out after
+
+    pushed_all : {found : Option (Side × ℕ)} → (found ≡ None → (side : Side) → IsDone (reader side))
+        → IsExactStop tool b found → AllPushed both_sides (merge_engine tool) old last
+        (given w last read_facts_current) (output_of tool p) found
+    pushed_all ended stop =
+        let exact = exact_output w last read_facts_current m stop in
+        record {
+          out = λ texts agree. (exact texts agree).0;
+          disorder = λ texts agree. (exact texts agree).1;
+          ended = λ none side read. ended none side;
+          fault = λ side read. (a.sides side).lines_read.advance_ok.fault;
+          short = λ side read. (a.sides side).lines_read.advance_ok.short ((w.sound side).long (w.readable side));
+          unfailed = λ side read. none_failed side;
+          clean = clean;
+          not_denied = clear.denied ∙ a.holds.denied;
+          empty = omega (arith, (has_lines_total store.lines (λ side. max_length (ls side)) 0 a.holds.lines).is);
+        }
+
+    concludes : (result : Result (Unit {0}) MergeFault) → CallOutcome both_sides (merge_engine tool) old last
+        (given w last read_facts_current) (output_of tool p) (merge_end result)
+        → MergePost tool old last result
+    concludes result ends = exit_is_merge_post w _ read_facts_current
+        (lag_invariant_starts m clean (push_nothing out)) (processed_come_first w last read_facts_current m)
+        (a.holds.fits after clear.peak clear.slots) (both_begun begun)
+        (λ side fail. cc (none_failed side, w.unfailed side)) result ends
+
+    pub ends_well : ((side : Side) → (cursor side).status ≡ Ended) → MergePost tool old last (Ok tt)
+    ends_well step =
+        let e : (side : Side) → (b side ≡ NothingMore) × IsDone (reader side) =
+        λ side. rw (step side) at (a.sides side).status_is in
+        concludes (Ok tt) (pushed_all (λ none side. (e side).1) (grind (arith, e)))
+
+    pub ends_fallen : {s : Side} {n : ℕ} → IsDisorderDecided cmp key cursor store s n
+        → MergePost tool old last (Err (faults.Disorder s n))
+    ends_fallen {s} {n} step = concludes (Err (faults.Disorder s n)) (record {
+      named = refl;
+      pushed_all = pushed_all (λ none. cc) (stops_at step);
+    })
+
+  -- an input advances
+  module _ (s : Side) (head : (cursor s).status ≡ Head) {next : Sorted} {new : Reader} {after : Slots}
+      (comes : NextOkPost (key s) cmp (cursor s) next (reader s) new store after) where
+    abbrev pub n : SideAfterNext tool s (old.reader s) new next (cursor s).previous_slot store after (ls s)
+        (Some (key s (line store (cursor s).current_slot)))
+    n = next_at w.o a.sides s head comes
+
+    pub keeps_two : StoreHoldsTwoLines old.store store ls → StoreHoldsTwoLines old.store after (with_side s n.now_ls ls)
+    keeps_two keeps = store_with_line s (cursor s) _ n.bytes (a.sides s).slots keeps
+        (side_case _ s (simp put_same n.longer) (simp put_other (omega arith))) (simp put_same n.fits) n.stored
+
+    pub advance_ok : StoreHoldsTwoLines old.store store ls
+        → CursorsInvariant tool old (with_side s new reader) (with_side s next cursor) after (with_side s n.now_ls ls)
+        (with_side s (ls s) p) (with_side s n.bound b)
+    advance_ok keeps = let sides = sides_next w.o a.sides s head comes in
+        record { w = w; sides = sides; holds = holds_two w.fits (keeps_two keeps) (λ side. (sides side).slots) }
+
+    -- the output comes first, as before
+    pub goes_merging : {q : Side → Lines} {out : Output} → MergeInvariant tool b q old.out out
+        → MergeInvariant tool (with_side s n.bound b) q old.out out
+    goes_merging m = bound_changes s m (rw (at_current_line (a.sides s) head).bound n.later)
+
+    pub runs_on : {Keep : Slots → (Side → Lines) → Type 0} {out : Output} → Keep after (with_side s n.now_ls ls)
+        → MergeInvariant tool b (with_side s (ls s) p) old.out out
+        → LoopInvariant tool Keep old (state_by_side (with_side s new reader) out after) (with_side s next cursor)
+    runs_on keeps m = let sides = sides_next w.o a.sides s head comes in search (rules, n, goes_merging)
+
+-- ---- after one input advanced
+
+-- the fault of a call is returned
+pub err_is : {r : Result (Unit {0}) MergeFault} {fault : MergeFault} → IsErrAnd r (λ y. y ≡ fault) → r ≡ Err fault
+err_is {r} returned = search rules
+
+-- the remaining work
+abbrev pub reads_ahead : (Side → Reader) → Sorted → Sorted → ℕ
+reads_ahead reader one two =
+    (budget (reader First) + reads_left one.status) + (budget (reader Second) + reads_left two.status)
+
+-- the cursors after this input advanced
+pub place_is : (s : Side) (one two one2 two2 : Sorted) → both one2 two2 (other s) ≡ both one two (other s)
+    → with_side s (both one2 two2 s) (both one two) ≡ both one2 two2
+place_is s one two one2 two2 same = grind (arith, same)
+
+-- the cursors, the readers and the output between two steps
+pub record BetweenSteps (key : Side → Key) (now : MergeState) (one two : Sorted) : Type 0 where
+  pub valid_cursors : AreValidCursors key one two now.store
+  pub own_reader : (side : Side) → IsReaderOf (both one two side) (now.reader side)
+  pub clean : now.out.write_failed ≡ false
+
+pub between_starts : {key : Side → Key} {first second : Reader} {out : Output} {store : Slots} {one two : Sorted}
+    → AreValidCursors key one two store → IsReaderOf one first × IsReaderOf two second → out.write_failed ≡ false
+    → BetweenSteps key (merge_state first second out store) one two
+between_starts valid_cursors (reader1, reader2) clean =
+    record { valid_cursors = valid_cursors; own_reader = elim [ First ↦ reader1 | Second ↦ reader2 ]; clean = clean }
+
+module _ {key : Side → Key} {now : MergeState} {one two : Sorted} (t : BetweenSteps key now one two) where
+  pub advance_pre : (s : Side) → (both one two s).status ≡ Head → AdvancePre key s one two (now.reader s) now.store
+  advance_pre s head = search rules
+
+  -- the input `s` advanced
+  module _ (s : Side) {one2 two2 : Sorted} {reader : Reader} {after : Slots} {new : Output}
+      (continues : IsReadyToContinue key s one two one2 two2 reader after new) where
+    pub between_next : BetweenSteps key (state_by_side (with_side s reader now.reader) new after) one2 two2
+    between_next = grind (arith, side_case, put_same, put_other)
+
+    pub reads_less : {cmp : Cmp} {made : Slots} → (both one two s).status ≡ Head
+        → NextOkPost (key s) cmp (both one two s) (both one2 two2 s) (now.reader s) reader now.store made
+        → reads_ahead (with_side s reader now.reader) one2 two2 < reads_ahead now.reader one two
+    reads_less head came = grind (arith, came)
+
+-- writing out buffered output does not change what was pushed
+pub wrote_and_sent : (was mid is : Output) (pushed : List ℕ) → mid.write_failed ≡ false → PushEffect was mid pushed
+    → PushEffect mid is [] → PushEffect was is pushed
+wrote_and_sent was mid is pushed clean wrote written_out =
+    rw append-nil at (push_trans was mid is pushed [] clean wrote written_out)
+
+-- ---- keys in slots
+
+-- the status at a line that is not the first
+pub later_status : (key : Key) (cmp : Cmp) (number : ℕ) (last next : List ℕ) (r : Ordering) → 0 < number
+    → r ≡ cmp (key last) (key next) → (cond (is_gt r) (Disorder (number + 1)) Head ≡ status_at key cmp number last next)
+    × (is_eq r ≡ same_key_at key cmp number last next)
+later_status = grind arith
+
+-- the slots after the first four may change
+pub valid_cursors_kept : (key : Side → Key) (one two : Sorted) (before after : Slots)
+    → AreValidCursors key one two before → length before.lines ≤ length after.lines
+    → ((slot : ℕ) → slot < 4 → line after slot ≡ line before slot) → AreValidCursors key one two after
+valid_cursors_kept = grind (arith, low_slot)
+
+-- copying a line changes one slot, or adds one
+pub kept_line : (before after : Slots) (from to slot : ℕ) → slot < to → CopyToGroupPost before after from to
+    → line after slot ≡ line before slot
+kept_line = grind (arith, line_added, line_other)
+
+-- ---- the start
+
+-- Slots are added and the first line of each input is read. Nothing is processed yet, so the invariant holds with an
+-- empty output.
+
+fresh_slots : (s : Side) → HasSlots s (initial_cursor s)
+fresh_slots s = inr (refl, refl)
+
+module _ {tool : MergeTool} {old : MergeState} (w : IsOpenMerge tool old) where
+  open tool use {cmp, key, terminator}
+
+  abbrev unstarted : MergeInputs
+  unstarted = record { reader = old.reader; store = old.store }
+
+  none_read : (side : Side) → LinesRead terminator (old.reader side) (old.reader side) []
+  none_read side = grind (arith, w.readable side, w.terminator side)
+
+  -- an input was advanced to its first line
+  first_line : (side : Side) {new : Reader} {cursor : Sorted} {before after : Slots} → 4 ≤ length before.lines
+      → NextOkPost (key side) cmp (initial_cursor side) cursor (old.reader side) new before after
+      → SideAfterNext tool side (old.reader side) new cursor (base_slot side) before after [] None
+  first_line side four comes = next_invariant tool w.o side _ _ _ _ _ _ _ _ (fresh_slots side) four (none_read side)
+      refl sorted_up_to_none refl comes
+
+  abbrev no_lines : Side → Lines
+  no_lines side = []
+
+  -- the first input was advanced to its first line
+  module _ {first : Sorted} {new : MergeInputs} {Then : Slots → Type 0}
+      (s : StartFirstPost key cmp first unstarted new Then) where
+    began : SideAfterNext tool First (old.reader First) (new.reader First) first (base_slot First) s.made s.mid [] None
+    began = first_line First (omega arith) s.came
+
+    half_store : StoreOfLines old.store s.mid (λ side. max_length (both began.now_ls [] side))
+    half_store = store_with_line First (initial_cursor First) _ began.bytes (fresh_slots First)
+        (store_of_no_lines s.four w.allowed w.empty) (elim [ First ↦ omega arith | Second ↦ omega arith ]) began.fits
+        began.stored
+
+    half_invariant : MergeInvariant tool (both began.bound NoBound) no_lines old.out old.out
+    half_invariant = search (rules, bound_changes, began, merge_invariant_starts)
+
+  pub start_ok : {Keep : Slots → (Side → Lines) → Type 0} {first second : Reader} {store : Slots} {one two : Sorted}
+      → ((ls : Side → Lines) → StoreHoldsTwoLines old.store store ls → Keep store ls)
+      → StartOkPost key cmp (both one two) unstarted (merge_inputs first second store)
+      → LoopInvariant tool Keep old (merge_state first second old.out store) (both one two)
+  start_ok {one = one} keeps s =
+      let f = began s in
+      let k = first_line Second f.side_invariant.four s.later in
+      let apart = slots_apart Second (initial_cursor Second) one (fresh_slots Second) f.side_invariant.slots in
+      record {
+        ls = both f.now_ls k.now_ls;
+        p = no_lines;
+        b = both f.bound k.bound;
+        sides = elim [ First ↦ grind (arith, side_invariant_kept, line_other, apart) | Second ↦ k.side_invariant ];
+        merge_invariant = bound_changes Second (half_invariant s) k.later;
+        keeps = keeps _ (store_with_line Second (initial_cursor Second) _ k.bytes (fresh_slots Second) (half_store s)
+            (elim [ First ↦ omega arith | Second ↦ omega arith ]) k.fits k.stored);
+      }
+
+  -- nothing was read of an input
+  unread : (side : Side) → ReadFactsOf tool old old.reader no_lines no_lines (λ t. NoBound) side (old.reader side) []
+  unread side = grind (arith, none_read, reads_nothing, w.sound side, sorted_up_to_none)
+
+  -- the first read of an input failed
+  first_read_fails : (s : Side) (now : MergeState) {ls : Side → Lines} {b : Side → Bound}
+      → ((side : Side) → ReadFactsOf tool old now.reader ls no_lines b side (now.reader side) []) → ls s ≡ []
+      → ((r : Reader) (piece : List ℕ) → IsLine (now.reader s).terminator piece
+      → FirstReads terminator old.reader now.reader (with_side s r now.reader) ls (with_side s piece (λ side. [])))
+      → StoreHoldsTwoLines old.store now.store ls → MergeInvariant tool b no_lines old.out old.out
+      → EndsIfFails tool old now s (initial_cursor s) old.out
+  first_read_fails s now {ls} facts none order kept m =
+      let holds : StoreInvariant tool old.store now.reader initial_cursor now.store ls =
+      holds_two w.fits kept fresh_slots in
+      advance_fails w {now = now} {cursor = initial_cursor s} (record {
+        facts = facts;
+        all = sym none;
+        order = order;
+        denied = kept.denied;
+        fits = holds.line s;
+      }) (lag_invariant_starts m w.writable (push_nothing old.out)) (λ new piece g. processed_come_first w new g m)
+
+  -- the merge could not start
+  abbrev StartErr : Reader → Reader → Slots → MergeFault → Type 0
+  StartErr new1 new2 after fault =
+      StartErrPost key cmp unstarted (record { reader = both new1 new2; store = after }) fault
+
+  module _ {new1 new2 : Reader} {after : Slots} {fault : MergeFault} where
+    pub start_fault : StartErr new1 new2 after fault
+        → MergePost tool old (state_by_side (both new1 new2) old.out after) (Err fault)
+    start_fault (inl u) = rw u.memory (merge_without_slots w refl u.unread u.slots)
+    start_fault (inr (inl f)) =
+        rw f.unread (first_read_fails First (state_by_side old.reader old.out f.made) unread refl
+        (λ r piece free. grind (arith, one_line_at_most, free, w.terminator First))
+        (store_of_no_lines f.four w.allowed w.empty) (merge_invariant_starts tool old.out) _ _ _
+        (inr (w.writable, f.fails)))
+    start_fault (inr (inr f)) =
+        let s = f.begins in
+        let g = began s in
+        first_read_fails Second (state_by_side (both new1 (old.reader Second)) old.out s.mid)
+        (elim [ First ↦ g.side_invariant.facts | Second ↦ unread Second ]) refl (λ r piece free. grind (arith, g))
+        (half_store s) (half_invariant s) _ _ _ (inr (w.writable, s.later))

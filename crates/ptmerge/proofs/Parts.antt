@@ -4,25 +4,27 @@
 -- of the key: a filter by keys commutes with computing the distinct keys, so each part has the entries of its keys,
 -- and the entries of all parts are a permutation of all entries.
 use Rattle.ptmerge.proofs
-use proofs.Common.{arith, append-nil, ◌≡◌, ℕ, ◌+◌, List, [], ◌∷◌, ◌++◌, Bool, true, false, cond, Option, Some, None}
-use proofs.Common.{refl, ap, sym, ◌∙◌, filter, Less, Side, First, Second, Lines, MergeTool, FirstDisorder}
-use proofs.Common.{entries_by_key, disorder, earlier_disorder, first_disorder, keys, merged_entries, sorted_prefixes}
-use proofs.Common.{sorted_prefix, is_up_to, lines_of, Cmp, Key, unlines, the_lines_of_parts, unlines-append}
-use proofs.Common.{IsConcatOfParts, CommOfParts, JoinOfParts, ◌&&◌, not, map, tied_itself}
-use proofs.Common.{flat_map, is_gt, is_lt, Equal, insert_key, distinct_keys, lines_with_key}
-use proofs.Common.{entries_of_key, filter-append, IsLine, zero, suc, ◌<◌, ◌==◌, nat_lt, append_assoc, nat_tests}
-use proofs.Common.{range_with_len, lines, CommByKey, IsSplittableByKey, JoinByKey, text_of_part, output_lines}
-use proofs.MergeLemmas.Invariant.{IsDisorderFrom, after_from, disorder_after, disorder_at, first_disorder_is}
-use proofs.MergeLemmas.Invariant.{is_disordered, sorted_after, sorted_prefix_is, Ascends, IsDownwardClosed, all_keys}
-use proofs.MergeLemmas.Invariant.{all_wanted, ascends_distinct, downward_splits, up_to_from}
-use proofs.MergeLemmas.Orders.{Each, Each-weaker, EachKey, Each-all, EachKey-weaker, insert_least, Each-parts}
-use proofs.MergeLemmas.Orders.{IsKeyOrder, AtMost, above_trans, at_most_trans, greater_flips, line_order}
+use proofs.Common.{arith, ◌≡◌, ℕ, ◌+◌, List, [], ◌∷◌, ◌++◌, Bool, true, false, cond, Option, Some, None, refl, ap, sym}
+use proofs.Common.{◌∙◌, filter, Less, Side, First, Second, Lines, MergeTool, FirstDisorder, entries_by_key, disorder}
+use proofs.Common.{first_disorder, keys, merged_entries, sorted_prefixes, sorted_prefix, is_up_to, lines_of, Cmp, Key}
+use proofs.Common.{unlines, unlines-append, ◌&&◌, not, map, tied_itself, flat_map, is_gt, is_lt, Equal, insert_key}
+use proofs.Common.{distinct_keys, lines_with_key, entries_of_key, filter-append, IsLine, zero, suc, ◌<◌, ◌==◌, nat_lt}
+use proofs.Common.{append_assoc, nat_tests, range_with_len, lines}
+use proofs.MergeLemmas.Exits.Invariant.{IsDisorderFrom, after_from, disorder_after, first_disorder_is, IsSortedFrom}
+use proofs.MergeLemmas.Exits.Invariant.{sorted_from_start, sorted_from_none, is_disordered, sorted_after}
+use proofs.MergeLemmas.Exits.Invariant.{sorted_prefix_is, Ascends, IsDownwardClosed, all_keys, all_wanted}
+use proofs.MergeLemmas.Exits.Invariant.{ascends_distinct, downward_splits, up_to_from, Each, Each-weaker, EachKey}
+use proofs.MergeLemmas.Exits.Invariant.{Each-all, EachKey-weaker, insert_least, Each-parts, IsKeyOrder, AtMost}
+use proofs.MergeLemmas.Exits.Invariant.{above_trans, at_most_trans, greater_flips, line_order}
 use Rattle.std.proofs.lemmas.List.Elements.{All-filter, All-from_recursion, recursion_from_All}
 use Rattle.std.proofs.lemmas.List.Sorted.{IsPermutation-refl, IsPermutation-trans, IsPermutation-append_left}
 use Rattle.std.proofs.lemmas.List.Sorted.{IsPermutation-append_right, IsPermutation-append_comm}
 use Rattle.std.specs.List.Sorted.{IsPermutation}
 use Rattle.ptlines.proofs.TextLaws.{lines-unlines, lines_are}
 use Rattle.std.proofs.Common.{rules}
+use Rattle.ptlines.proofs.PartLaws.{the_lines_of_parts}
+use Rattle.ptmerge.specs.Parts.{CommByKey, IsSplittableByKey, IsConcatOfParts, JoinByKey, CommOfParts, JoinOfParts}
+use Rattle.ptmerge.specs.Parts.{text_of_part, output_lines}
 
 -- ---- lines with some of the keys
 
@@ -85,8 +87,7 @@ module _ (p : List ℕ → Bool) where
         (filter w ((ap (distinct_keys cmp) keys_of_part ∙ sym (distinct_kept cmp o (keys tool ls))) i)))
         ∙ each_of (distinct_keys cmp (keys tool ls))
       where
-        each_of : (ds : Lines)
-            → flat_map (entries_of_key tool part) (filter w (filter p ds))
+        each_of : (ds : Lines) → flat_map (entries_of_key tool part) (filter w (filter p ds))
             ≡ flat_map (entries_of_key tool ls) (filter (λ k. w k && p k) ds)
         each_of [] = refl
         each_of (d ∷ ds) =
@@ -123,25 +124,10 @@ module _ (cmp : Cmp) (o : IsKeyOrder cmp) where
 
 -- ---- lists in order
 
--- no reported disorder means that neither list has one
-no_fall_first : (cmp : Cmp) (f g : Option FirstDisorder) → earlier_disorder cmp f g ≡ None → (f ≡ None) × (g ≡ None)
-no_fall_first cmp f g e = grind arith
-
 -- the last key in order before a disorder, without the line number
 abbrev without_line_number : Option FirstDisorder → Option FirstDisorder
 without_line_number None = None
 without_line_number (Some d) = Some (record { last_key = d.last_key; line = 0 })
-
--- the keys up to a disorder do not depend on its line number
-by_limits : (cmp : Cmp) (f g : Option FirstDisorder) (k : List ℕ)
-    → is_up_to cmp (earlier_disorder cmp f g) k ≡ is_up_to cmp
-    (earlier_disorder cmp (without_line_number f) (without_line_number g)) k
-by_limits cmp f g k = grind arith
-
--- the first line is in order, and so are those after it
-no_disorder : (b : Bool) (d : FirstDisorder) (f : Option FirstDisorder) → cond b (Some d) f ≡ None
-    → (b ≡ false) × (f ≡ None)
-no_disorder b d f e = grind arith
 
 module _ (cmp : Cmp) (o : IsKeyOrder cmp) (key : Key) where
   -- the last key in order does not depend on the number of lines before
@@ -151,29 +137,23 @@ module _ (cmp : Cmp) (o : IsKeyOrder cmp) (key : Key) where
   uncounted last n m (y ∷ ys) = grind (arith, uncounted (Some (key y)) (n + 1) (m + 1) ys)
 
   -- A list appended to a sorted list with keys of at most its own has its own disorder.
-  appended : (last : Option (List ℕ)) (n : ℕ) (xs ys : Lines) → disorder_after cmp key last n xs ≡ None
+  appended : (last : Option (List ℕ)) (n : ℕ) (xs ys : Lines) → IsSortedFrom cmp key last xs
       → EachKey (λ k. is_disordered cmp last k ≡ false) key ys → EachKey (λ k. EachKey (AtMost cmp k) key ys) key xs
       → (sorted_after cmp key last (xs ++ ys) ≡ xs ++ sorted_after cmp key None ys)
       × (without_line_number (disorder_after cmp key last n (xs ++ ys))
       ≡ without_line_number (disorder_after cmp key None 0 ys))
   appended last n [] [] e h b = grind arith
   appended last n [] (y ∷ ys) e (here, _) b = rw here (refl, uncounted (Some (key y)) (n + 1) 1 ys)
-  appended last n (x ∷ xs) ys e h (below, below_all) =
-      let (calm, later) = no_disorder (is_disordered cmp last (key x)) (disorder_at last n)
-      (disorder_after cmp key (Some (key x)) (n + 1) xs) e in
-      let ih = appended (Some (key x)) (n + 1) xs ys later below below_all in grind arith
+  appended last n (x ∷ xs) ys (here, more) h (below, below_all) =
+      let ih = appended (Some (key x)) (n + 1) xs ys more below below_all in grind arith
 
   together : (xs ys : Lines) → first_disorder cmp key xs ≡ None → EachKey (λ k. EachKey (AtMost cmp k) key ys) key xs
       → (sorted_prefix cmp key (xs ++ ys) ≡ xs ++ sorted_prefix cmp key ys)
       × (without_line_number (first_disorder cmp key (xs ++ ys)) ≡ without_line_number (first_disorder cmp key ys))
   together xs ys e b =
-      let all = appended None 0 xs ys (sym (first_disorder_is cmp key xs) ∙ e)
+      let all = appended None 0 xs ys (sorted_from_none cmp key xs e)
       (Each-all _ (λ k. refl) (map key ys)) b in
       grind (arith, all, first_disorder_is, sorted_prefix_is)
-
-  -- a list without a disorder is its own sorted prefix
-  ordered_whole : (xs : Lines) → first_disorder cmp key xs ≡ None → sorted_prefix cmp key xs ≡ xs
-  ordered_whole xs e = simp append-nil at (together xs [] e (Each-all _ (λ k. tt) (map key xs))).0
 
   -- a property of each line holds for each line of the sorted prefix
   each_ordered : (P : List ℕ → Type 0) (ys : Lines) → EachKey P key ys → EachKey P key (sorted_prefix cmp key ys)
@@ -188,41 +168,32 @@ module _ (cmp : Cmp) (o : IsKeyOrder cmp) (key : Key) where
   from_below k (y ∷ ys) (here, _) =
       rw (first_disorder_is cmp key (y ∷ ys)) (rw here at (after_from cmp o key k 0 (y ∷ ys)).1)
 
-  kept_after : (p : List ℕ → Bool) (last from : Option (List ℕ)) (n m : ℕ) (xs : Lines)
+  kept_after : (p : List ℕ → Bool) (last from : Option (List ℕ)) (xs : Lines)
       → ((k : List ℕ) → is_disordered cmp last k ≡ false → is_disordered cmp from k ≡ false)
-      → disorder_after cmp key last n xs ≡ None
-      → disorder_after cmp key from m (filter p xs) ≡ None
-  kept_after p last from n m [] up e = refl
-  kept_after p last from n m (x ∷ xs) up e =
-      let (calm, later) = no_disorder (is_disordered cmp last (key x)) (disorder_at last n)
-      (disorder_after cmp key (Some (key x)) (n + 1) xs) e in
-      let rise = up (key x) calm in
-      let left_out = kept_after p (Some (key x)) from (n + 1) m xs (λ k g. grind (arith, at_most_trans, g))
-      later in
-      grind (arith, kept_after p (Some (key x)) (Some (key x)) (n + 1) (m + 1) xs (λ k g. g) later)
+      → IsSortedFrom cmp key last xs → IsSortedFrom cmp key from (filter p xs)
+  kept_after p last from [] up s = tt
+  kept_after p last from (x ∷ xs) up (here, more) =
+      let rise = up (key x) here in
+      let left_out = kept_after p (Some (key x)) from xs (λ k g. grind (arith, at_most_trans, g)) more in
+      grind (arith, kept_after p (Some (key x)) (Some (key x)) xs (λ k g. g) more)
 
   -- a sublist of a sorted list is sorted
   in_order_kept : (p : List ℕ → Bool) (xs : Lines) → first_disorder cmp key xs ≡ None
       → first_disorder cmp key (filter p xs) ≡ None
-  in_order_kept p xs e = grind (arith, first_disorder_is, kept_after)
+  in_order_kept p xs e =
+      (sorted_from_start cmp key _ (kept_after p None None xs (λ k g. g) (sorted_from_none cmp key xs e))).1
 
 module _ (tool : MergeTool) (o : IsKeyOrder tool.cmp) where
   open tool use {cmp, key}
 
   none_disordered : (ls : Side → Lines) → disorder tool ls ≡ None → (side : Side)
       → first_disorder cmp (key side) (ls side) ≡ None
-  none_disordered ls e First = (no_fall_first cmp _ _ e).0
-  none_disordered ls e Second = (no_fall_first cmp _ _ e).1
-
-  -- sublists of sorted lists are sorted
-  pub kept_in_order : (p : Side → List ℕ → Bool) (ls : Side → Lines) → disorder tool ls ≡ None
-      → disorder tool (λ side. filter (p side) (ls side)) ≡ None
-  kept_in_order p ls e = grind (arith, in_order_kept, none_disordered)
+  none_disordered ls e side = grind arith
 
   -- the output for sorted lists is that of all their keys
   pub merged_in_order : (ls : Side → Lines) → disorder tool ls ≡ None
       → merged_entries tool ls ≡ entries_by_key tool all_keys ls
-  merged_in_order ls e = grind (arith, ordered_whole, none_disordered)
+  merged_in_order ls e = grind (arith, sorted_from_start, sorted_from_none, none_disordered)
 
   -- sorted lists whose keys pass a test, and lists whose keys, which are at least those, do not
   module _ (p : List ℕ → Bool) (down : IsDownwardClosed cmp p) (a b : Side → Lines) (in_order : disorder tool a ≡ None)
@@ -242,18 +213,14 @@ module _ (tool : MergeTool) (o : IsKeyOrder tool.cmp) where
     -- the same keys are wanted
     same_wanted : (k : List ℕ)
         → is_up_to cmp (disorder tool (λ side. a side ++ b side)) k ≡ is_up_to cmp (disorder tool b) k
-    same_wanted k = grind (arith, by_limits, both_go_on)
-
-    -- all keys of the first lists are wanted
-    low_wanted : (k : List ℕ) → p k ≡ true → is_up_to cmp (disorder tool b) k ≡ true
-    low_wanted k h = search (rules, from_below, at_most_high, up_to_from)
+    same_wanted k = grind (arith, both_go_on First, both_go_on Second)
 
     -- The entries of the appended lists are those of the first lists, followed by those of the second.
     entries_together : merged_entries tool (λ side. a side ++ b side) ≡ merged_entries tool a ++ merged_entries tool b
     entries_together =
         let w = is_up_to cmp (disorder tool b) in
-        let first_wanted = λ (side : Side). EachKey-weaker _ _ low_wanted _ _
-        (low side) in
+        let first_wanted = λ (side : Side). EachKey-weaker _ _
+        (λ k h. search (rules, from_below, at_most_high, up_to_from)) _ _ (low side) in
         let all : Side → Lines = λ side. a side ++ sorted_prefixes tool b side in
         let parts = λ (side : Side). kept_parts p (key side) (a side) (sorted_prefixes tool b side) (low side)
         (each_ordered cmp o (key side) (λ k. p k ≡ false) (b side) (high side)) in
@@ -353,7 +320,7 @@ split_by_key tool o inputs part_of parts in_order below = simp (whole, of_part)
         let own : List ℕ → Bool = λ k. part_of k == i in
         let in_part : Side → List ℕ → Bool = λ side line. own (tool.key side line) in
         let entries = merged_in_order tool o (λ side. filter (in_part side) (ls side))
-        (kept_in_order tool o in_part ls in_order) ∙ by_keys_kept own tool o ls all_keys in
+        (grind (arith, in_order_kept, none_disordered, in_order)) ∙ by_keys_kept own tool o ls all_keys in
         (λ t. lines tool.terminator (unlines tool.terminator
         (merged_entries tool (λ side. lines_dealt tool.terminator (in_part side) (inputs side) t))))
         ∙ ap (λ es. lines tool.terminator (unlines tool.terminator es)) entries

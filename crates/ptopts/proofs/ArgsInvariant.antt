@@ -1,12 +1,12 @@
 -- The loop over the words. The options so far and the parse of the remaining words are the parse of all words, and the
 -- first fault is the same.
 use Rattle.ptopts.proofs
-use proofs.Common.{◌≡◌, ℕ, List, [], ◌∷◌, ◌++◌, Bool, true, false, refl, Option, Some, None, drop, ◌<◌, ◌≤◌, length}
-use proofs.Common.{arith, slice_get, OnSome, Bor, Tool, is_option_arg, is_end_of_options, ParsedOption, Token}
-use proofs.Common.{tokens_of, takes_next, parsed_args, parsed_args_from, prepend_tokens, options, Fault, parse_fault}
-use proofs.Common.{words_view, words_after_value, GroupPost}
+use proofs.Common.{Bool, Bor, Fault, GroupPost, List, None, OnSome, Option, ParsedOption, Some, Token, Tool, [], arith}
+use proofs.Common.{common_steps, drop, false, is_end_of_options, is_option_arg, length, options, parse_fault}
+use proofs.Common.{parsed_args, parsed_args_from, prepend_tokens, refl, slice_get, takes_next, tokens_of, true}
+use proofs.Common.{words_view, ℕ, ◌++◌, ◌<◌, ◌∷◌, ◌≡◌, ◌≤◌}
+use Rattle.ptopts.specs.ParseSteps.{words_after_value}
 use Rattle.std.proofs.lemmas.List.Elements.{filter_map-append}
-use Rattle.std.proofs.lemmas.Grind.{common_steps}
 
 -- the options so far and the parse of the remaining words are the parse of all words
 pub record ArgsRead (tool : Tool) (words : List (List ℕ)) (os : List ParsedOption) (left : List (List ℕ)) : Type 0 where

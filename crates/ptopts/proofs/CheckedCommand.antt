@@ -1,12 +1,12 @@
 -- The command after parsing: without a fault of parsing and of the constraints, `command_of_args` reduces to
 -- `checked_command`, and a fault of the constraints is the first fault.
 use Rattle.ptopts.proofs
-use proofs.Common.{◌≡◌, ℕ, List, [], ◌∷◌, Option, Some, None, Ok, Err, ap, sym, ◌∙◌, Tool, IsFault, ParsedOption}
-use proofs.Common.{tool_of_name, Fault, first_some, constraints_fault, values_fault, operands_fault, strings_fault}
-use proofs.Common.{Job, job, input_operands, output, checked_command, ok_unless, command, command_of_args}
-use proofs.Common.{with_inputs, AreInputs, ArgsPost}
+use proofs.Common.{AreInputs, ArgsPost, Err, Fault, Job, List, None, Ok, Option, ParsedOption, Some, Tool, [], ap}
+use proofs.Common.{arith, checked_command, command, command_of_args, constraints_fault, first_some, input_operands, job}
+use proofs.Common.{ok_unless, operands_fault, output, sym, tool_of_name, values_fault, with_inputs, ℕ, ◌∙◌, ◌∷◌, ◌≡◌}
+use Rattle.ptlangs.specs.Results.{IsFault}
+use Rattle.ptopts.specs.Faults.{strings_fault}
 use Rattle.ptopts.specs.declared.inputs.Inputs.{Inputs}
-use Rattle.std.proofs.Common.{arith}
 
 pub checked_command_ok : {A : Type 0} (tool : Tool) (os : List ParsedOption) (operands : List (List ℕ))
     (i : Inputs A) {told : Job}

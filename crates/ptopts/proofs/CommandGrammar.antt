@@ -1,14 +1,13 @@
 -- Words specify a command if and only if the grammar gives them options and operands that the tool allows: no fault of
 -- parsing means that no option is repeated, and the other four faults are the other four conditions.
 use Rattle.ptopts.proofs
-use proofs.Common.{◌≡◌, ℕ, List, [], ◌∷◌, ◌++◌, Bool, true, false, refl, ap, sym, map, append_assoc, append-nil}
-use proofs.Common.{Option, Some, None, ◌&&◌, Ok, is_some, IsTrue, if◌then◌else◌, Tool, ParsedOption, Valid, Spells}
-use proofs.Common.{ParsedArgs, parsed_args, options, tool_of_name, Fault, first_some, is_repeated, token_fault}
-use proofs.Common.{parse_fault, Command, command, ok_unless, first_fault, command_of_args, command_of_tool}
-use proofs.Common.{AreAllowed, SpellsCommand, Spelled, CommandsMatchGrammar}
+use proofs.Common.{AreAllowed, Bool, Command, CommandsMatchGrammar, Fault, IsTrue, List, None, Ok, Option, ParsedArgs}
+use proofs.Common.{ParsedOption, Some, Spelled, Spells, SpellsCommand, Tool, Valid, [], ap, append-nil, append_assoc}
+use proofs.Common.{arith, command, command_of_args, command_of_tool, false, first_fault, first_some, if◌then◌else◌}
+use proofs.Common.{is_repeated, is_some, map, ok_unless, options, parse_fault, parsed_args, refl, rules, sym}
+use proofs.Common.{token_fault, tool_of_name, true, ℕ, ◌&&◌, ◌++◌, ◌∷◌, ◌≡◌}
+use proofs.ParsedIsSpelled.{option_or-none, options-map, spelled_unless_faulty}
 use proofs.SpelledIsParsed.{spelled}
-use proofs.ParsedIsSpelled.{options-map, option_or-none, spelled_unless_faulty}
-use Rattle.std.proofs.Common.{rules, arith}
 
 -- like `AreGivenOnce`, for options after others
 abbrev AreGivenOnceAfter : Tool → List ParsedOption → List ParsedOption → Type 0

@@ -1,13 +1,12 @@
 -- One of the three lists of `cut` is present, by `-b` (98), `-c` (99) or `-f` (102). They conflict, so the other two
 -- are absent and have no fault.
 use Rattle.ptopts.proofs
-use proofs.Common.{◌≡◌, ℕ, List, [], ◌∷◌, Bool, true, false, ◌&&◌, refl, Some, None, IsSome, if◌then◌else◌, Cut}
-use proofs.Common.{Fault, ParsedOption, constraints_fault, constraint_fault, has_option, value_of}
+use proofs.Common.{Bool, Cut, Fault, IsSome, List, None, ParsedOption, Some, [], arith, constraint_fault}
+use proofs.Common.{constraints_fault, false, has_option, if◌then◌else◌, refl, true, value_of, ℕ, ◌&&◌, ◌∷◌, ◌≡◌}
+use proofs.ParsedIsSpelled.{option_or-none}
+use Rattle.ptopts.specs.Faults.{is_cut_list, value_fault}
 use Rattle.ptopts.specs.declared.tool.Constraint.TheVariants.{Conflict}
 use Rattle.std.specs.Prelude.{All}
-use Rattle.ptopts.specs.Faults.{value_fault, is_cut_list}
-use proofs.ParsedIsSpelled.{option_or-none}
-use Rattle.std.proofs.Common.{arith}
 
 valueless : (letter : ℕ) (os : List ParsedOption) → has_option letter os ≡ false → value_of letter os ≡ None
 valueless letter [] none = refl

@@ -1,9 +1,9 @@
 -- Facts about the syntax of each tool, by computation: one line for each tool.
 use Rattle.ptopts.proofs
-use proofs.Common.{◌≡◌, ℕ, true, false, List, None, length, refl, not, ⊤, nat_le, nat_lt, list_all, Tool, Cut, Paste}
-use proofs.Common.{Uniq, Comm, Join, Tr, Input, syntax, ParsedOption, is_flag, takes_value, operands_fault, Job}
-use proofs.Common.{RunPaste, RunUniq, RunComm, RunJoin, job, input_operands, order_from}
-use proofs.InputCounts.{AreTwo, sole_input, few_inputs, two_inputs}
+use proofs.Common.{Comm, Cut, Input, Job, Join, List, None, ParsedOption, Paste, RunComm, RunJoin, RunPaste, RunUniq}
+use proofs.Common.{Tool, Tr, Uniq, false, input_operands, is_flag, job, length, list_all, nat_le, nat_lt, not}
+use proofs.Common.{operands_fault, order_from, refl, syntax, takes_value, true, ℕ, ⊤, ◌≡◌}
+use proofs.InputCounts.{AreTwo, few_inputs, sole_input, two_inputs}
 
 -- no option is both with and without a value, a dash is not an option, and options with a value are ASCII
 pub record IsSyntaxOf (tool : Tool) : Type 0 where

@@ -1,6 +1,5 @@
 -- The first of three optional values, on the code and on the definition: `Option::or` is associative.
-use Rattle.ptopts.proofs.Common.{◌≡◌, Option, Some, None, refl, option_map, unwrap_or, option_or}
-use Rattle.std.proofs.Common.{arith}
+use Rattle.ptopts.proofs.Common.{None, Option, Some, arith, option_map, option_or, refl, unwrap_or, ◌≡◌}
 
 option_map-or : {A B : Type 0} (f : A → B) (x y : Option A)
     → option_map f (option_or x y) ≡ option_or (option_map f x) (option_map f y)

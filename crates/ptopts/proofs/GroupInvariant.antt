@@ -1,12 +1,11 @@
 -- The loop over the letters of one word. The options so far and the tokens of the remaining letters are those of the
 -- whole word, and the first fault of later tokens is the same after either.
 use Rattle.ptopts.proofs
-use proofs.Common.{◌≡◌, ℕ, List, [], ◌∷◌, ◌++◌, true, false, refl, Option, Some, None, drop, length, ◌<◌, ◌+◌}
-use proofs.Common.{slice_index, nat_eq, add-one, drop-cons, arith, OnSome, eq-eqb, ne_eqb, Tool, is_empty, is_flag}
-use proofs.Common.{takes_value, ParsedOption, flag, Token, Valid, value_token, tokens_in, tokens_of, takes_next}
-use proofs.Common.{Fault, token_fault, parse_fault, options_of_tokens, option_view, options_view, GroupPost}
+use proofs.Common.{Fault, GroupPost, List, None, OnSome, Option, ParsedOption, Some, Token, Tool, Valid, [], add-one}
+use proofs.Common.{arith, common_steps, drop, drop-cons, eq-eqb, false, flag, is_empty, is_flag, length, nat_eq, ne_eqb}
+use proofs.Common.{option_view, options_of_tokens, options_view, parse_fault, refl, slice_index, takes_next}
+use proofs.Common.{takes_value, token_fault, tokens_in, tokens_of, true, value_token, ℕ, ◌++◌, ◌+◌, ◌<◌, ◌∷◌, ◌≡◌}
 use Rattle.ptopts.specs.declared.parsing.ParsedOption as given
-use Rattle.std.proofs.lemmas.Grind.{common_steps}
 
 -- the options so far and the tokens of the remaining letters are those of the word
 pub record GroupRead (tool : Tool) (word : List ℕ) (next : Option (List ℕ)) (before os : List ParsedOption)

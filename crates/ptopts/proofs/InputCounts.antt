@@ -1,11 +1,11 @@
 -- The number of inputs of a tool whose operands have no fault. Each operand is one input.
 use Rattle.ptopts.proofs
-use proofs.Common.{◌≡◌, ℕ, ◌+◌, ◌&&◌, Bool, true, false, cond, List, [], ◌∷◌, Some, None, length, take, refl, ◌∙◌}
-use proofs.Common.{arith, nat_le, list_all, Paste, Input, ParsedOption, Operands, StandardTwice, is_within}
-use proofs.Common.{is_standard, operands_fault, or_stdin, order_from}
-use Rattle.std.specs.Prelude.{not}
+use proofs.Common.{Bool, Input, List, None, Operands, ParsedOption, Paste, Some, StandardTwice, [], arith, cond, false}
+use proofs.Common.{is_standard, is_within, length, list_all, nat_le, operands_fault, or_stdin, order_from, refl, take}
+use proofs.Common.{true, ℕ, ◌&&◌, ◌+◌, ◌∙◌, ◌∷◌, ◌≡◌}
+use Rattle.ptopts.specs.declared.inputs.Input.TheVariants.{File, Standard}
 use Rattle.std.proofs.lemmas.Bool.Decides.{nat_tests}
-use Rattle.ptopts.specs.declared.inputs.Input.TheVariants.{Standard, File}
+use Rattle.std.specs.Prelude.{not}
 
 order_length : (n : ℕ) (operands : List (List ℕ)) → length (order_from n operands) ≡ length operands
 order_length n [] = refl

@@ -1,8 +1,8 @@
 -- Lookup of an option gives the same on the options of the code and on their views, option by option.
-use Rattle.ptopts.proofs.Common.{◌≡◌, ℕ, ◌==◌, List, [], ◌∷◌, refl, ap, ◌||◌, Bool, option_map, option_and_then, find}
-use Rattle.ptopts.proofs.Common.{list_any, has_option, value_of, options_view}
+use Rattle.ptopts.proofs
+use proofs.Common.{Bool, List, [], ap, arith, find, has_option, list_any, option_and_then, option_map, options_view}
+use proofs.Common.{refl, value_of, ℕ, ◌==◌, ◌||◌, ◌∷◌, ◌≡◌}
 use Rattle.ptopts.specs.declared.parsing.ParsedOption.{ParsedOption}
-use Rattle.std.proofs.Common.{arith}
 
 pub has_option-view : (letter : ℕ) (os : List ParsedOption)
     → list_any (λ o. o.letter == letter) os ≡ has_option letter (options_view os)

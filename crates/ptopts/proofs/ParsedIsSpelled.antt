@@ -1,16 +1,15 @@
 -- A parse without a faulty token is one of the grammar: each word of options is flags, perhaps with an option that
 -- takes the rest of the word or the next word as its value.
 use Rattle.ptopts.proofs
-use proofs.Common.{◌≡◌, ℕ, ◌==◌, List, [], ◌∷◌, ◌++◌, Bool, true, false, refl, ap, sym, subst, map, append_assoc}
-use proofs.Common.{Option, Some, None, ◌&&◌, ⊎_elim, codes, slice_get, is_some, filter_map, list_all, option_or}
-use proofs.Common.{and_from, eqb-true, cases_Bool, not_from_false, Tool, is_empty, is_flag, takes_value}
-use proofs.Common.{is_option_arg, is_end_of_options, ParsedOption, flag, with_value, AreFlags, Spells, OperandsAlone}
-use proofs.Common.{EndOfOptions, Flags, ValueAttached, ValueNext, Token, Valid, MissingValue, UnknownLetter}
-use proofs.Common.{value_token, tokens_in, takes_next, parsed_args_from, option_of_token, options, parse_fault}
-use proofs.Common.{ParseMatchesGrammar, GrammarIsUnambiguous, FaultlessIsSpelled}
+use proofs.Common.{AreFlags, Bool, EndOfOptions, FaultlessIsSpelled, Flags, GrammarIsUnambiguous, List, MissingValue}
+use proofs.Common.{None, OperandsAlone, Option, ParseMatchesGrammar, ParsedOption, Some, Spells, Token, Tool}
+use proofs.Common.{UnknownLetter, Valid, ValueAttached, ValueNext, [], and_from, ap, append_assoc, arith, cases_Bool}
+use proofs.Common.{codes, eqb-true, false, filter_map, flag, is_empty, is_end_of_options, is_flag, is_option_arg}
+use proofs.Common.{is_some, list_all, map, not_from_false, option_of_token, option_or, options, parse_fault}
+use proofs.Common.{parsed_args_from, refl, rules, slice_get, subst, sym, takes_next, takes_value, tokens_in, true}
+use proofs.Common.{value_token, with_value, ℕ, ⊎_elim, ◌&&◌, ◌++◌, ◌==◌, ◌∷◌, ◌≡◌}
+use proofs.SpelledIsParsed.{spelled, takes_next-all_flags, takes_next-flags, tokens_in-all_flags, tokens_in-flags}
 use Rattle.std.proofs.lemmas.Slice.Eq.{bytes_eq-Decides}
-use proofs.SpelledIsParsed.{spelled, tokens_in-flags, tokens_in-all_flags, takes_next-flags, takes_next-all_flags}
-use Rattle.std.proofs.Common.{rules, arith}
 
 -- each token is an option
 abbrev all_given : List Token → Bool

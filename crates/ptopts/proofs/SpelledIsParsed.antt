@@ -2,15 +2,13 @@
 -- and no option is both with and without a value, so each case of the grammar is the only case of the parse that
 -- applies.
 use Rattle.ptopts.proofs
-use proofs.Common.{◌≡◌, ℕ, ◌==◌, List, [], ◌∷◌, ◌++◌, Bool, true, false, refl, ap, ◌∙◌, subst, map, Option, Some}
-use proofs.Common.{⊎_elim, IsTrue, slice_get, list_all, and_parts, eqb-true, or_cases, not-true, ne_eqb, ltb-true}
-use proofs.Common.{Tool, syntax, has_letter, is_flag, takes_value, ParsedOption, flag, with_value, AreFlags, Spells}
-use proofs.Common.{OperandsAlone, EndOfOptions, Flags, ValueAttached, ValueNext, Token, Valid, tokens_in, takes_next}
-use proofs.Common.{ParsedArgs, parsed_args_from, prepend_tokens, starts_with_operand}
-use Rattle.std.specs.Prelude.{◌<◌}
+use proofs.Common.{AreFlags, Bool, EndOfOptions, Flags, IsTrue, List, OperandsAlone, Option, ParsedArgs, ParsedOption}
+use proofs.Common.{Some, Spells, Token, Tool, Valid, ValueAttached, ValueNext, [], and_parts, ap, append-nil, arith}
+use proofs.Common.{common_steps, eqb-true, false, flag, has_letter, is_flag, list_all, ltb-true, map, ne_eqb, not-true}
+use proofs.Common.{or_cases, parsed_args_from, prepend_tokens, refl, slice_get, starts_with_operand, subst, sym, syntax}
+use proofs.Common.{takes_next, takes_value, tokens_in, true, with_value, ℕ, ⊎_elim, ◌++◌, ◌==◌, ◌∙◌, ◌∷◌, ◌≡◌}
 use proofs.EachTool.{syntax_is}
-use Rattle.std.proofs.Common.{arith}
-use Rattle.std.proofs.lemmas.Grind.{common_steps}
+use Rattle.std.specs.Prelude.{◌<◌}
 
 -- a test that holds for each letter of a list holds for a letter of the list
 pub all_of : (p : ℕ → Bool) (cs : List ℕ) (l : ℕ) → list_all p cs ≡ true → has_letter l cs ≡ true → p l ≡ true
@@ -44,16 +42,11 @@ takes_next-flags tool (f ∷ fs) rest a =
 
 pub tokens_in-all_flags : (tool : Tool) (word : List ℕ) (next : Option (List ℕ)) (fs : List ℕ) → AreFlags tool fs
     → tokens_in tool word next fs ≡ map Valid (map flag fs)
-tokens_in-all_flags tool word next [] a = refl
-tokens_in-all_flags tool word next (f ∷ fs) a =
-    let (first, others) = and_parts (is_flag tool f) (list_all (is_flag tool) fs) a in
-    rw first (ap (λ (es : List Token). Valid (flag f) ∷ es) (tokens_in-all_flags tool word next fs others))
+tokens_in-all_flags tool word next fs a = ap (tokens_in tool word next) (sym (append-nil fs))
+    ∙ tokens_in-flags tool word next fs [] a ∙ append-nil (map Valid (map flag fs))
 
 pub takes_next-all_flags : (tool : Tool) (fs : List ℕ) → AreFlags tool fs → takes_next tool fs ≡ false
-takes_next-all_flags tool [] a = refl
-takes_next-all_flags tool (f ∷ fs) a =
-    let (first, others) = and_parts (is_flag tool f) (list_all (is_flag tool) fs) a in
-    rw first (takes_next-all_flags tool fs others)
+takes_next-all_flags tool fs a = ap (takes_next tool) (sym (append-nil fs)) ∙ takes_next-flags tool fs [] a
 
 -- a word of options is a dash and at least one letter
 group_is_read : (tool : Tool) (l : ℕ) (ls : List ℕ) (ws : List (List ℕ)) → ((l ≡ 45) → ⊥)
@@ -70,11 +63,6 @@ valued_group : (tool : Tool) (fs : List ℕ) (l : ℕ) (rest : List ℕ) (ws : L
     (parsed_args_from tool (takes_next tool (fs ++ l ∷ rest)) ws)
 valued_group tool [] l rest ws a t = grind (arith, group_is_read, not_dash, syntax_is)
 valued_group tool (f ∷ fs) l rest ws a t = grind (arith, group_is_read, not_dash, syntax_is)
-
--- the parse of a word of options, from its tokens and whether it takes the next word
-group_gives : (tool : Tool) (ws : List (List ℕ)) (es es' : List Token) (t t' : Bool) → es ≡ es' → t ≡ t'
-    → prepend_tokens es (parsed_args_from tool t ws) ≡ prepend_tokens es' (parsed_args_from tool t' ws)
-group_gives tool ws es es' t t' e f = cc
 
 pub map-Valid-append : (xs ys : List ParsedOption) → map Valid (xs ++ ys) ≡ map Valid xs ++ map Valid ys
 map-Valid-append [] ys = refl
@@ -114,34 +102,33 @@ ends_here tool ([] ∷ ws) first = refl
 ends_here tool ((b ∷ []) ∷ ws) first = grind arith
 ends_here tool ((b ∷ c ∷ bs) ∷ ws) first = grind arith
 
+-- the parse of flags and an option with a value, from the token of that option and the parse of the words after it
+valued : (tool : Tool) (fs : List ℕ) (l : ℕ) (rest : List ℕ) (ws : List (List ℕ)) (o : ParsedOption) (t : Bool)
+    (options : List ParsedOption) (operands : List (List ℕ)) → AreFlags tool fs → takes_value tool l ≡ true
+    → tokens_in tool (45 ∷ fs ++ l ∷ rest) (slice_get ws 0) (l ∷ rest) ≡ Valid o ∷ []
+    → takes_next tool (l ∷ rest) ≡ t → parsed_args_from tool t ws ≡ args_of options operands
+    → parsed_args_from tool false ((45 ∷ fs ++ l ∷ rest) ∷ ws) ≡ args_of (map flag fs ++ o ∷ options) operands
+valued tool fs l rest ws o t options operands a v token next parsed =
+    let tokens = tokens_in-flags tool (45 ∷ fs ++ l ∷ rest) (slice_get ws 0) fs (l ∷ rest) a in
+    let after = takes_next-flags tool fs (l ∷ rest) a in
+    valued_group tool fs l rest ws a v
+    ∙ rw (tokens, token, after, next, parsed) (join_group fs o options operands)
+
 pub spelled : (tool : Tool) {ws : List (List ℕ)} {options : List ParsedOption} {operands : List (List ℕ)}
     → Spells tool ws options operands → parsed_args_from tool false ws ≡ args_of options operands
 spelled tool (OperandsAlone operands first) = ends_here tool operands first
 spelled tool (EndOfOptions operands) = refl
 spelled tool (Flags f fs words options operands a s) =
     let (first, _) = and_parts (is_flag tool f) (list_all (is_flag tool) fs) a in
+    let tokens = tokens_in-all_flags tool (45 ∷ f ∷ fs) (slice_get words 0) (f ∷ fs) a in
     group_is_read tool f fs words (not_dash f (syntax tool).flags first (syntax_is tool).dash_is_no_flag)
-    ∙ (group_gives tool words _ _ _ _ (tokens_in-all_flags tool (45 ∷ f ∷ fs) (slice_get words 0) (f ∷ fs) a)
-    (takes_next-all_flags tool (f ∷ fs) a)
-    ∙ (ap (prepend_tokens (map Valid (map flag (f ∷ fs)))) (spelled tool s) ∙ join_flags (f ∷ fs) options operands))
+    ∙ rw (tokens, takes_next-all_flags tool (f ∷ fs) a, spelled tool s) (join_flags (f ∷ fs) options operands)
 spelled tool (ValueAttached fs l b bs words options operands a t s) =
-    let word : List ℕ = 45 ∷ fs ++ l ∷ b ∷ bs in
-    valued_group tool fs l (b ∷ bs) words a t
-    ∙ (group_gives tool words _ _ _ _
-    (tokens_in-flags tool word (slice_get words 0) fs (l ∷ b ∷ bs) a
-    ∙ ap (λ (es : List Token). map Valid (map flag fs) ++ es) (value_here tool word (slice_get words 0) l b bs t))
-    (takes_next-flags tool fs (l ∷ b ∷ bs) a ∙ takes_none tool l b bs t)
-    ∙ (ap (prepend_tokens (map Valid (map flag fs) ++ Valid (with_value l (b ∷ bs)) ∷ [])) (spelled tool s)
-    ∙ join_group fs (with_value l (b ∷ bs)) options operands))
+    valued tool fs l (b ∷ bs) words (with_value l (b ∷ bs)) false options operands a t (value_here tool _ _ l b bs t)
+    (takes_none tool l b bs t) (spelled tool s)
 spelled tool (ValueNext fs l value words options operands a t s) =
-    let word : List ℕ = 45 ∷ fs ++ l ∷ [] in
-    valued_group tool fs l [] (value ∷ words) a t
-    ∙ (group_gives tool (value ∷ words) _ _ _ _
-    (tokens_in-flags tool word (Some value) fs (l ∷ []) a
-    ∙ ap (λ (es : List Token). map Valid (map flag fs) ++ es) (value_next tool word value l t))
-    (takes_next-flags tool fs (l ∷ []) a ∙ takes_one tool l t)
-    ∙ (ap (prepend_tokens (map Valid (map flag fs) ++ Valid (with_value l value) ∷ [])) (spelled tool s)
-    ∙ join_group fs (with_value l value) options operands))
+    valued tool fs l [] (value ∷ words) (with_value l value) true options operands a t (value_next tool _ value l t)
+    (takes_one tool l t) (spelled tool s)
 
 -- options with a value are ASCII
 pub valued_is_ascii : (tool : Tool) (l : ℕ) → takes_value tool l ≡ true → l < 128

@@ -1,26 +1,376 @@
+-- A call over named inputs, as a call over the inputs at the positions that these names have.
+-- A tool with one input that accepts one operand: the pass over the reader of this operand is its run.
+-- `paste`: each operand is a column, so the call of its engine over the columns is the run of the tool.
+-- Tools with two inputs. What the merge has done to its two readers is what the tool has to do with the list from which
+-- both were lent; no other reader changes.
 -- Tools that read all their operands together.
 --
 -- If an operand could not be opened, nothing but messages is required. Otherwise what the engine of such a tool has
 -- done at the positions of its operands is what processing the inputs has to do.
 use Rattle.ptrun.proofs
-use proofs.Common.{AreReadToEnd, ended_operands, IsDone, Disorder, cases_eq, ◌≡◌, ◌⊎◌, ⊎_elim, inl, inr, ℕ, zero, suc}
-use proofs.Common.{◌+◌, ◌<◌, ◌≤◌, ◌^◌, ◌||◌, Bool, true, false, cond, List, [], ◌∷◌, Option, Some, None, Result, Ok}
-use proofs.Common.{Err, length, take, drop, set, refl, sym, ◌∙◌, ap, subst, arith, take-append-drop, slice_get}
-use proofs.Common.{list_any, list_any-append, false≢true, eqb_tells, Reader, Output, Slots, SinkState, Received}
-use proofs.Common.{FlowFault, Read, Memory, Completion, AllWritten, InputBytes, ReceivedInputs, at, is_unopened}
-use proofs.Common.{AreInputsConsistent, is_in, reader_at, is_reader_unopened, HaveReceived, IsNewOrUnopened}
-use proofs.Common.{HasReadFailed, IsTooLong, unopened_messages, positions, JointTool, bytes_of, received_in}
-use proofs.Common.{has_unopened, disorder_text, disorder_status, joint_spec, JointPre, HasIndexBelow, result_message}
-use proofs.Common.{result_status, RunInputsEnd, RunInputsPost, JointPost, run_state, result_of_end, update_at}
-use Rattle.ptlines.specs.Calls.{CallEnd, Complete, OutOfOrder, ReadFault, WriteFault, MemoryFault, CallPost}
-use Rattle.ptlines.specs.Calls.{CallOutcome, AllPushed, AreAllConsistent, NoReadFailed, IsCallUnfinished, inputs_at}
-use Rattle.ptrun.specs.Engines.{in_run}
-use proofs.OneInput.{at_set, opened_set, lagged_output, none_received, received_of, receives_none, never_long}
-use proofs.OneInput.{not_long, consistent_bytes, unopened_agrees, unopened_received}
+use proofs.Common.{All-cons, All-nil, AllPushed, AllWritten, AreInputsConsistent, AreReadToEnd, Bool, BoundedLag}
+use proofs.Common.{CallOutcome, Completion, Disorder, Err, First, FlowFault, HasIndexBelow, HasReadFailed, HasReceived}
+use proofs.Common.{HaveReceived, InputBytes, IsDone, IsPrefix, IsTooLong, JointTool, List, Memory, MergeTool, None, Ok}
+use proofs.Common.{Option, Output, PassPost, PassPre, Paste, Read, Reader, Received, ReceivedInputs, Result}
+use proofs.Common.{RunInputsEnd, RunInputsPost, Second, SinkState, Slots, Some, ToolSpec, Write, [], ap, arith}
+use proofs.Common.{bytes_of, call_state, cases_eq, common_steps, cond, decided_output, disorder_status, disorder_text}
+use proofs.Common.{drop, ended_operands, eqb-true, eqb_tells, false, false≢true, get_or, get_or_default, has_unopened}
+use proofs.Common.{inl, inr, is_in, is_reader_unopened, is_unopened, joint_spec, length, length-append, length-set}
+use proofs.Common.{list_any, list_any-append, nat_tests, no_reader, not, one_input_tool, only_input, operand}
+use proofs.Common.{option_map, or-false, pass_end, pass_engine, paste_rows_tool, positions, reader_at, received_in}
+use proofs.Common.{refl, result_message, result_status, rules, set, slice_get, subst, suc, sym, take, take-append-drop}
+use proofs.Common.{true, two_input_tool, unopened_messages, zero, ℕ, ⊎_elim, ◌&&◌, ◌++◌, ◌+◌, ◌-◌, ◌<◌, ◌==◌, ◌^◌, ◌||◌}
+use proofs.Common.{◌∙◌, ◌∷◌, ◌≡◌, ◌≤◌, ◌⊎◌}
 use proofs.MessageWrites.{said_nothing}
-use proofs.OperandInputs.{some_same, any_same, by_position, neither, each_listed, none_passes, put_here, put_other}
-use proofs.OperandInputs.{fresh_all}
-use Rattle.std.proofs.Common.{rules}
+use proofs.OperandInputs.{any_same, at_set, by_position, consistent_bytes, each_listed, fresh_all, is_in-same}
+use proofs.OperandInputs.{lagged_output, neither, never_long, none_passes, none_received, not_long, opened_set}
+use proofs.OperandInputs.{put_here, put_other, received_of, receives_none, same_here, some_same, unopened_agrees}
+use proofs.OperandInputs.{unopened_received}
+use Rattle.ptflow.proofs.PasteLemmas.Grid.{cell_in, decided_same}
+use Rattle.ptflow.specs.PasteCall.{PastePost, PastePre, paste_end, paste_engine, update_at}
+use Rattle.ptlines.specs.Calls.{AreAllConsistent, CallEnd, CallPost, Complete, EngineSpec, InputNames, IsCallUnfinished}
+use Rattle.ptlines.specs.Calls.{MemoryFault, NoReadFailed, OutOfOrder, ReadFault, WriteFault, inputs_at, with_input}
+use Rattle.ptmerge.specs.MergeCall.{MergePost, MergePre, both_sides, is_same_side, merge_end, merge_engine, merge_state}
+use Rattle.ptmerge.specs.Sides.{both}
+use Rattle.ptmerge.specs.declared.faults.MergeFault.{MergeFault}
+use Rattle.ptmerge.specs.declared.key_order.Side.{Side}
+use Rattle.ptrun.specs.Driver.{JointPost, JointPre, merge_completion, operand_completion, result_of_end, run_state}
+use Rattle.ptrun.specs.Engines.{at_positions, end_at, in_run, line_at}
+use Rattle.ptrun.specs.Files.{IsNew, IsNewOrUnopened, at}
+use Rattle.std.proofs.lemmas.List.{get_or-set_other, get_or-set_same, set-append_left, set-append_right}
+
+-- The names that are read are those of the positions in a list, one for each.
+pub record Placement {I : Type 0} (names : InputNames I) (position : I → ℕ) (positions : List ℕ) : Type 0 where
+  pub listed : (i : I) → names.is_read i ≡ true → is_in positions (position i) ≡ true
+  pub name_at : (q : ℕ) → is_in positions q ≡ true → (i : I) × (names.is_read i ≡ true) × (position i ≡ q)
+  pub same : (i j : I) → (position i == position j) ≡ names.is_same i j
+  -- a function of names as one of positions
+  pub placed : (I → Received) → ℕ → Received
+  pub placed_at : (f : I → Received) (i : I) → placed f (position i) ≡ f i
+
+module _ {I : Type 0} {names : InputNames I} {position : I → ℕ} {positions : List ℕ}
+    (by : Placement names position positions) where
+  each : (P : ℕ → Type 0) → ((i : I) → names.is_read i ≡ true → P (position i)) → (q : ℕ) → is_in positions q ≡ true
+      → P q
+  each P all q named = search rules
+
+none_found : {I : Type 0} (position : I → ℕ) (found : Option (I × ℕ))
+    → option_map (line_at position) found ≡ None → found ≡ None
+none_found position None none = refl
+none_found position (Some f) none = cc
+
+module _ {I : Type 0} {names : InputNames I} (engine : EngineSpec I) (position : I → ℕ) {positions : List ℕ}
+    (by : Placement names position positions) (old new : List Reader) {was is : Output} {before store : Slots}
+    {end : CallEnd I} (others : (q : ℕ) → is_in positions q ≡ false → reader_at new q ≡ reader_at old q)
+    (clean : was.write_failed ≡ false)
+    (unread_input : length store.lines < engine.first_slots
+    → (i : I) × (names.is_read i ≡ true) × ((reader_at old (position i)).eof ≡ false))
+    (call : CallPost names engine (call_state (λ i. reader_at old (position i)) was before)
+    (call_state (λ i. reader_at new (position i)) is store) end) where
+  abbrev given : ℕ → Received
+  given = by.placed call.given
+
+  given_is : (λ i. given (position i)) ≡ call.given
+  given_is = λ k i. by.placed_at call.given i k
+
+  placed_agree : (texts : ℕ → List ℕ) → AreAllConsistent (inputs_at positions) given texts
+      → AreAllConsistent names call.given (λ i. texts (position i))
+  placed_agree texts a i read = grind arith
+
+  placed_pushed : (found : Option (I × ℕ))
+      → AllPushed names engine (call_state (λ i. reader_at old (position i)) was before)
+      (call_state (λ i. reader_at new (position i)) is store) call.given call.pushed found
+      → AllPushed (inputs_at positions) (in_run (at_positions engine position)) (run_state old was before)
+      (run_state new is store) given call.pushed (option_map (line_at position) found)
+  placed_pushed found e = grind (arith, placed_agree, each, none_found)
+
+  unfinished : IsCallUnfinished names engine (call_state (λ i. reader_at new (position i)) is store) call.given
+      call.pushed
+      → IsCallUnfinished (inputs_at positions) (in_run (at_positions engine position)) (run_state new is store) given
+      call.pushed
+  unfinished (inl (i, read, left)) = search rules
+  unfinished (inr (keeps, unwritten)) = grind (arith, placed_agree)
+
+  -- without its first slots the call has read nothing, and all inputs are new
+  unread : length store.lines < engine.first_slots
+      → IsCallUnfinished (inputs_at positions) (in_run (at_positions engine position)) (run_state new is store) given
+      call.pushed
+  unread few = grind arith
+
+  ends : (e : CallEnd I)
+      → CallOutcome names engine (call_state (λ i. reader_at old (position i)) was before)
+      (call_state (λ i. reader_at new (position i)) is store) call.given call.pushed e
+      → CallOutcome (inputs_at positions) (in_run (at_positions engine position)) (run_state old was before)
+      (run_state new is store) given call.pushed (end_at position e)
+  ends Complete e = placed_pushed None e
+  ends (OutOfOrder i line) e =
+      record { named = by.listed i e.named; pushed_all = placed_pushed (Some (i, line)) e.pushed_all }
+  ends (ReadFault i) e = grind (arith, each)
+  ends WriteFault e = grind (arith, each)
+  ends MemoryFault e = grind (arith, each, unread, unfinished)
+
+  -- less was received from one input, and the others are unchanged
+  placed_decided : (i : I) → ◌≡◌ {A = (Unit {0} → Received) → List ℕ}
+      (λ came. engine.decided (with_input names i (came tt) call.given))
+      (λ came. engine.decided (λ j. with_input (inputs_at positions) (position i) (came tt) given (position j)))
+  placed_decided i = grind arith
+
+  placed_call : CallPost (inputs_at positions) (in_run (at_positions engine position)) (run_state old was before)
+      (run_state new is store) (end_at position end)
+  placed_call = record {
+    given = given;
+    came = each by (λ q. HasReceived (reader_at old q) (reader_at new q) (given q)) (λ i read. subst
+        (λ g. HasReceived (reader_at old (position i)) (reader_at new (position i)) g)
+        (sym (by.placed_at call.given i)) (call.came i read));
+    untouched = others;
+    pushed = call.pushed;
+    wrote = call.wrote;
+    ends = ends end call.ends;
+    is_prefix = λ texts a. call.is_prefix (λ i. texts (position i)) (placed_agree texts a);
+    decided_is_written = each by (λ q. (reader_at new q).failed ≡ true → is.write_failed ≡ false
+        → IsPrefix (engine.decided (λ i. given (position i))) call.pushed) (λ i read failed fine.
+        subst (λ g. IsPrefix (engine.decided g) call.pushed) (sym given_is)
+        (call.decided_is_written i read failed fine));
+    bounded_lag = each by (λ q. was.write_failed ≡ false → BoundedLag {I = Unit {0}}
+        (λ came. engine.decided (λ j. with_input (inputs_at positions) q (came tt) given (position j)))
+        (λ u. given q) was is call.pushed) (λ i read fine.
+        subst (λ (g : Received). BoundedLag {I = Unit {0}} (λ came. engine.decided
+        (λ j. with_input (inputs_at positions) (position i) (came tt) given (position j)))
+        (λ u. g) was is call.pushed) (sym (by.placed_at call.given i))
+        (subst (λ (f : (Unit {0} → Received) → List ℕ). BoundedLag f (λ u. call.given i) was is call.pushed)
+        (placed_decided i) (call.bounded_lag i read fine)));
+    peak = λ texts a. call.peak (λ i. texts (position i)) (placed_agree texts a);
+    slots = λ texts a. call.slots (λ i. texts (position i)) (placed_agree texts a);
+    added = λ fine. record { least = (call.added fine).least; all = λ allowed. omega arith };
+    unread = λ fine none. absurd (omega arith);
+    unchanged_if_failed = λ fault. cc;
+  }
+
+-- ---- the only operand
+
+only_operand_of : (positions : List ℕ) (d : ℕ) → (length positions == 1) ≡ true
+    → positions ≡ get_or positions 0 d ∷ []
+only_operand_of (p ∷ []) d one = refl
+only_operand_of positions d one = grind (arith, eqb-true)
+
+one_placed : (p : ℕ) → Placement only_input (λ u. p) (p ∷ [])
+one_placed p = record {
+  listed = λ u read. is_in-same [] p;
+  name_at = λ q named. (tt, refl, eqb-true p q (sym (or-false (p == q)) ∙ named));
+  same = λ u v. same_here p;
+  placed = λ f q. f tt;
+  placed_at = λ f u. refl;
+}
+
+-- the pass over the reader of the only operand
+module _ {j : JointTool} {positions : List ℕ} {old : List Reader} {was : Output} {before : Slots}
+    (ready : JointPre j positions old was before) (one : (length positions == 1) ≡ true) where
+  only_operand_exists : 0 < length positions
+  only_operand_exists = omega (arith, eqb-true (length positions) 1 one)
+
+  pub only_operand_within : (d : ℕ) → get_or positions 0 d < length old
+  only_operand_within d = ready.in_range 0 d only_operand_exists
+
+  module _ (d : ℕ) where
+    abbrev p : ℕ
+    p = get_or positions 0 d
+
+    opened : (reader_at old p).refused ≡ false
+    opened = grind (arith, neither, only_operand_of)
+
+    new_here : IsNew (reader_at old p)
+    new_here = fresh_all old ready.fresh p opened
+
+    pub only_operand_ready : (e : Reader) → PassPre (get_or old p e) before
+    only_operand_ready e = grind (arith, common_steps, only_operand_within, opened, new_here)
+
+    named : is_in positions p ≡ true
+    named = rw (only_operand_of positions d one) (is_in-same [] p)
+
+    pub only_operand_post : (e : Reader) {t : ToolSpec} {is : Output} {store : Slots} {new : Reader}
+        {result : Result (Unit {0}) FlowFault} → PassPost t (get_or old p e) new was is before store result
+        → JointPost (one_input_tool t) positions old (set old p new) was is before store (operand_completion p result)
+    only_operand_post e {t} {is} {store} {new} {result} pass =
+        subst (λ ps. JointPost (one_input_tool t) ps old (set old p new) was is before store
+        (operand_completion p result)) (sym (only_operand_of positions d one)) (record {
+          end = end_at (λ u. p) (pass_end result);
+          result_is = refl;
+          call = placed_call (pass_engine t) (λ u. p) (one_placed p) old (set old p new)
+              (λ q other. get_or-set_other old p q new no_reader
+              (λ same. false≢true (sym other ∙ ap (is_in (p ∷ [])) same ∙ is_in-same [] p))) ready.writable
+              (λ few. (tt, refl, new_here.eof))
+              (rw here (rw (get_or_default old p e no_reader (only_operand_within d)) at pass).call);
+          same = λ f g same. ap t.decided (same p (is_in-same [] p));
+        })
+      where
+        here : reader_at (set old p new) p ≡ new
+        here = get_or-set_same old p new no_reader (only_operand_within d)
+
+abbrev rows_completion : Result (Unit {0}) FlowFault → Result Completion FlowFault
+rows_completion (Ok u) = Ok AllWritten
+rows_completion (Err fault) = Err fault
+
+module _ (job : Paste) {positions : List ℕ} {old : List Reader} {was : Output} {before : Slots}
+    (ready : JointPre (paste_rows_tool job) positions old was before) where
+  cell_open : (q : ℕ) → is_in positions q ≡ true → is_reader_unopened old q ≡ false
+  cell_open = search (rules, none_passes)
+
+  pub cells_ready : PastePre positions old before
+  cells_ready = grind (arith, common_steps, cell_open, cell_in, fresh_all)
+
+  in_place : Placement (inputs_at positions) (λ p. p) positions
+  in_place = record {
+    listed = λ q named. named;
+    name_at = λ q named. (q, named, refl);
+    same = λ p q. refl;
+    placed = λ f. f;
+    placed_at = λ f q. refl;
+  }
+
+  completes : (r : Result (Unit {0}) FlowFault) → rows_completion r ≡ result_of_end (end_at (λ p. p) (paste_end r))
+  completes (Ok u) = refl
+  completes (Err (Read p)) = refl
+  completes (Err Write) = refl
+  completes (Err Memory) = refl
+
+  pub rows_post : {new : List Reader} {is : Output} {store : Slots} (result : Result (Unit {0}) FlowFault)
+      → PastePost job positions old new was is before store result
+      → JointPost (paste_rows_tool job) positions old new was is before store (rows_completion result)
+  rows_post {new} result k = record {
+    end = end_at (λ p. p) (paste_end result);
+    result_is = completes result;
+    call = placed_call (paste_engine job positions) (λ p. p) in_place old new k.untouched ready.writable
+        (λ few. let first = cell_in positions 0 (omega arith) in let q = get_or positions 0 0 in
+        (q, first, (fresh_all old ready.fresh q (cell_open q first)).eof)) k;
+    same = decided_same job positions;
+  }
+
+-- ---- two operands
+
+-- two different positions
+pub record TwoPositions (positions : List ℕ) (p q : ℕ) : Type 0 where
+  pub are : positions ≡ p ∷ q ∷ []
+  pub apart : p ≡ q → ⊥
+
+abbrev AcceptsTwo : List ℕ → Type 0
+AcceptsTwo positions =
+    ((length positions == 2) && not (operand positions First == operand positions Second)) ≡ true
+
+pub two_of : (positions : List ℕ) (d : ℕ) → AcceptsTwo positions
+    → TwoPositions positions (get_or positions 0 d) (get_or positions 1 d)
+two_of (p ∷ q ∷ []) d accepts_operands = grind arith
+two_of positions d accepts_operands = absurd (grind (arith, nat_tests, accepts_operands))
+
+pub length_two : (positions : List ℕ) → AcceptsTwo positions → length positions ≡ 2
+length_two positions accepts_operands = search (rules, two_of)
+
+module _ (t : MergeTool) {old : List Reader} {was : Output} {before : Slots} {p q : ℕ} (apart : p ≡ q → ⊥)
+    (ready : JointPre (two_input_tool t) (p ∷ q ∷ []) old was before) where
+  abbrev two : List ℕ
+  two = p ∷ q ∷ []
+
+  side_named : (side : Side) → is_in two (operand two side) ≡ true
+  side_named First = search (rules, same_here)
+  side_named Second = is_in-same (p ∷ []) q
+
+  side_open : (side : Side) → (reader_at old (operand two side)).refused ≡ false
+  side_open side = grind (arith, none_passes, side_named)
+
+  new_at : (side : Side) → IsNew (reader_at old (operand two side))
+  new_at side = search (rules, fresh_all, side_open)
+
+  -- both can be read
+  pub ready_at : MergePre (reader_at old p) (reader_at old q) before
+  ready_at = grind (arith, side_open, new_at)
+
+  not_same : (a b : ℕ) → (a ≡ b → ⊥) → (a == b) ≡ false
+  not_same a b differs = grind (arith, eqb_tells)
+
+  abbrev IsSide : ℕ → Type 0
+  IsSide k = (side : Side) × (true ≡ true) × (operand two side ≡ k)
+
+  two_placed : Placement both_sides (operand two) two
+  two_placed = record {
+    listed = λ side read. side_named side;
+    name_at = each_listed IsSide two (All-cons IsSide p (q ∷ []) (First, refl, refl)
+        (All-cons IsSide q [] (Second, refl, refl) (All-nil IsSide)));
+    same = same;
+    placed = λ f. update_at p (f First) (λ k. f Second);
+    placed_at = placed_at;
+  }
+    where
+      same : (i j : Side) → (operand two i == operand two j) ≡ is_same_side i j
+      same First First = same_here p
+      same First Second = not_same p q apart
+      same Second First = not_same q p (λ is. apart (sym is))
+      same Second Second = same_here q
+
+      placed_at : (f : Side → Received) (side : Side) → update_at p (f First) (λ k. f Second) (operand two side)
+          ≡ f side
+      placed_at f First = put_here p (f First) (λ k. f Second)
+      placed_at f Second = put_other p q (f First) (λ k. f Second) apart
+
+  -- what holds of both readers, by side
+  by_side : (readers : List Reader) (side : Side)
+      → both (reader_at readers p) (reader_at readers q) side ≡ reader_at readers (operand two side)
+  by_side readers First = refl
+  by_side readers Second = refl
+
+  position_is : (side : Side) → both p q side ≡ operand two side
+  position_is First = refl
+  position_is Second = refl
+
+  pub two_inputs_post : {new : List Reader} {is : Output} {store : Slots} {result : Result (Unit {0}) MergeFault}
+      → ((k : ℕ) → (p ≡ k → ⊥) → (q ≡ k → ⊥) → reader_at new k ≡ reader_at old k)
+      → MergePost t (merge_state (reader_at old p) (reader_at old q) was before)
+      (merge_state (reader_at new p) (reader_at new q) is store) result
+      → JointPost (two_input_tool t) two old new was is before store (merge_completion (both p q) result)
+  two_inputs_post {new} {is} {store} {result} others post = record {
+    end = end_at (operand two) (merge_end result);
+    result_is = λ i. result_of_end (end_at (λ side. position_is side i) (merge_end result));
+    call = placed_call (merge_engine t) (operand two) two_placed old new (λ k other. others k
+        (λ same. false≢true (sym other ∙ ap (is_in two) (sym same) ∙ side_named First))
+        (λ same. false≢true (sym other ∙ ap (is_in two) (sym same) ∙ side_named Second))) ready.writable
+        (λ few. (First, refl, (new_at First).eof))
+        (subst (λ (rs : Side → Reader). CallPost both_sides (merge_engine t) (call_state rs was before)
+        (call_state (λ side. reader_at new (operand two side)) is store) (merge_end result))
+        (λ i side. by_side old side i)
+        (subst (λ (rs : Side → Reader). CallPost both_sides (merge_engine t)
+        (call_state (both (reader_at old p) (reader_at old q)) was before) (call_state rs is store) (merge_end result))
+        (λ i side. by_side new side i)
+        post.call));
+    same = λ f g same. ap (decided_output t) (λ i side. same (operand two side) (side_named side) i);
+  }
+
+-- ---- two readers of a list that was split between them
+
+-- the readers that were lent from the two parts, and the list after the call
+pub record SplitReaders (inputs new : List Reader) (low high : ℕ) (a b x y : Reader) : Type 0 where
+  pub was_low : a ≡ reader_at inputs low
+  pub was_high : b ≡ reader_at inputs high
+  pub is_low : reader_at new low ≡ x
+  pub is_high : reader_at new high ≡ y
+  pub others : (k : ℕ) → (low ≡ k → ⊥) → (high ≡ k → ⊥) → reader_at new k ≡ reader_at inputs k
+
+module _ {inputs : List Reader} (front back : List Reader) {low high : ℕ} (split : inputs ≡ front ++ back)
+    (size : length front ≡ high) (below : low < high) (within : high < length inputs) where
+  none_left : high - high ≡ 0
+  none_left = omega arith
+
+  pub were : (d e : Reader) → (get_or front low d ≡ reader_at inputs low) × (get_or back 0 e ≡ reader_at inputs high)
+  were d e = grind (arith, common_steps, length-append, none_left)
+
+  module _ (x y : Reader) where
+    set_both : set (set inputs low x) high y ≡ set front low x ++ set back 0 y
+    set_both =
+        ap (λ l. set (set l low x) high y) split
+        ∙ ap (λ l. set l high y) (set-append_left front back low x (omega (arith, size, below)))
+        ∙ set-append_right (set front low x) back high high y (length-set front low x ∙ size) (omega arith)
+        ∙ ap (λ n. set front low x ++ set back n y) none_left
+
+    pub split_readers : (d e : Reader)
+        → SplitReaders inputs (set front low x ++ set back 0 y) low high (get_or front low d) (get_or back 0 e) x y
+    split_readers d e = grind (arith, common_steps, were, set_both)
 
 -- ---- an operand could not be opened
 

@@ -1,12 +1,11 @@
 -- Texts written to a sink one after another: together they are one text, of which a failure leaves a prefix.
 use Rattle.ptrun.proofs
-use proofs.Common.{◌≡◌, ℕ, ◌+◌, ◌<◌, ◌≤◌, Bool, true, false, List, [], ◌∷◌, ◌++◌, length, take, drop, refl, sym, ◌∙◌}
-use proofs.Common.{ap, arith, append_assoc, length-append, take-append-drop, flat_map, Bor, get_or, take_more}
-use proofs.Common.{get_or-map, length-map, append-nil, flat_map-append, false≢true, append_known, SinkState}
-use proofs.Common.{WriteOutErr, WriteOutOk, unflushed_after, append_known-append, append_known-nil}
-use proofs.Common.{unflushed_after-append, SayPost, HasSaid, texts, line_of}
-use Rattle.std.proofs.Common.{rules}
-use Rattle.std.proofs.lemmas.Grind.{common_steps}
+use proofs.Common.{Bool, Bor, HasSaid, List, SayPost, SinkState, WriteOutOk, [], ap, append-nil, append_assoc}
+use proofs.Common.{append_known, arith, common_steps, drop, false, false≢true, flat_map, flat_map-append, get_or}
+use proofs.Common.{get_or-map, length, length-append, length-map, line_of, refl, rules, sym, take, take-append-drop}
+use proofs.Common.{take_more, texts, true, ℕ, ◌++◌, ◌+◌, ◌<◌, ◌∙◌, ◌∷◌, ◌≡◌, ◌≤◌}
+use Rattle.ptlines.proofs.KnownBytes.{append_known-append, append_known-nil, unflushed_after-append}
+use Rattle.ptlines.specs.Sinks.{WriteOutErr, unflushed_after}
 
 -- the pieces before this one and a prefix of it are a prefix of the text
 pub say_post_part : {old mid new : SinkState} {text piece : List ℕ} (done more : List ℕ)
@@ -63,7 +62,7 @@ said_trans {a} {b} {c} {xs} {ys} p q = by_failed b.failed refl
 abbrev pub joined : List (Bor (List ℕ)) → ℕ → List ℕ
 joined parts n = flat_map (λ p. p) (take n (texts parts))
 
-abbrev pub part_at : List (Bor (List ℕ)) → ℕ → List ℕ
+abbrev part_at : List (Bor (List ℕ)) → ℕ → List ℕ
 part_at parts i = (get_or parts i (record { ref_ptr = (0, 0); now = [] })).now
 
 pub joined_more : (parts : List (Bor (List ℕ))) (i : ℕ) → i < length parts

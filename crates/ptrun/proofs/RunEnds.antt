@@ -6,37 +6,36 @@
 -- main theorem holds because the bytes that the readers have are consistent with the bytes received, and because each
 -- cause of a failure contradicts a premise.
 use Rattle.ptrun.proofs
-use proofs.Common.{AreReadToEnd, ended_operands, cases_Bool, ◌≡◌, ⊎_elim, ℕ, Bool, true, false, cond, List, [], ◌++◌}
-use proofs.Common.{Option, Some, None, Result, Ok, Err, length, map, refl, sym, ◌∙◌, ap, arith, append_assoc}
-use proofs.Common.{length-append, All, append_known, prepend_known, IsAtEnd, append-nil, append_cancel_left}
-use proofs.Common.{nil_from_length, false≢true, Reader, Output, PushEffect, Slots, SinkState, append_known-nil}
-use proofs.Common.{push_trans, Received, IsConsistent, IsPrefix, FlowFault, Read, Write, Memory, Completion}
-use proofs.Common.{InputBytes, ReceivedInputs, at, IsConsistentAt, AreInputsConsistent, reader_at, is_reader_unopened}
-use proofs.Common.{is_unopened, HasReceivedAt, IsNewOrUnopened, HasReadFailed, IsTooLong, HasBytesAt, HasSaid}
-use proofs.Common.{CommandSpec, messages, Sinks, sinks, Outcome, HasCause, RunEnd, IsRun, IsRunInStore, IsExact}
-use proofs.Common.{IsExactUnlessFailed, EndRunPost, RunInputsEnd, RunInputsPost, FinishPost, result_message}
-use proofs.Common.{result_status, IsWrittenUpToBlock, message_only, ◌<◌, ◌==◌, is_none, All-map, nat_tests}
-use proofs.Common.{eqb_tells, Input, Standard, File, Fault, Command, Job, RunCut, RunPaste, RunUniq, RunComm, RunJoin}
-use proofs.Common.{RunTr, command_of_args, fault_view, command_view, CommandPost, usage_message, usage_status}
-use proofs.Common.{position, positions, InputsPre, two_input_tool, command_spec, tool_of_job, word_of_job}
-use proofs.Common.{spec_of_tool, leb-true, ◌≤◌, spec_of_result, tool_name, spec_of_args, spec_of_parsed}
-use proofs.Common.{is_memory_fault, AreNewInputs}
-use Rattle.std.specs.Prelude.{if◌then◌else◌}
-use Rattle.ptlines.specs.Sinks.{flushes_after}
-use Rattle.ptlangs.specs.Results.{IsFault}
-use Rattle.ptopts.specs.declared.fault.UseFault.{UseFault}
-use Rattle.ptmerge.specs.MergeSpec.{MergeTool as TwoInputs}
-use Rattle.ptopts.specs.Theorems.{SpellsCommand, Spelled}
-use Rattle.ptopts.proofs.CommandGrammar.{meant_as_spelled}
-use Rattle.ptopts.proofs.InputCounts.{AreTwo}
-use Rattle.ptopts.proofs.EachTool.{AreInputsOf, are_inputs}
-use Rattle.ptopts.specs.declared.command.Command as code
-use proofs.OneInput.{kept_up, earlier_map, nothing_decided, nothing_read, never_long, received_at, received_of}
-use proofs.OneInput.{unopened_received}
+use proofs.Common.{All, All-map, AreInputsConsistent, AreReadToEnd, Bool, Command, CommandPost, CommandSpec, Completion}
+use proofs.Common.{EndRunPost, Err, File, FinishPost, FlowFault, HasCause, HasReadFailed, HasSaid, Input, InputBytes}
+use proofs.Common.{InputsPre, IsAtEnd, IsConsistent, IsPrefix, IsRun, IsTooLong, IsWrittenUpToBlock, Job, List, Memory}
+use proofs.Common.{MergeTool as TwoInputs, None, Ok, Option, Output, PushEffect, Read, Reader, Received, ReceivedInputs}
+use proofs.Common.{Result, RunComm, RunCut, RunInputsEnd, RunInputsPost, RunJoin, RunPaste, RunTr, RunUniq, SinkState}
+use proofs.Common.{Slots, Some, Standard, Write, [], ap, append-nil, append_assoc, append_known, arith, cases_Bool}
+use proofs.Common.{command_of_args, command_spec, command_view, common_steps, cond, ended_operands, eqb_tells, false}
+use proofs.Common.{false≢true, fault_view, is_memory_fault, is_none, is_reader_unopened, is_unopened, length}
+use proofs.Common.{length-append, map, message_only, messages, nat_tests, position, positions, prepend_known}
+use proofs.Common.{push_trans, reader_at, refl, result_message, result_status, rules, sinks, spec_of_args}
+use proofs.Common.{spec_of_parsed, spec_of_result, spec_of_tool, sym, tool_name, tool_of_job, true, two_input_tool}
+use proofs.Common.{usage_message, usage_status, word_of_job, ℕ, ⊎_elim, ◌++◌, ◌<◌, ◌==◌, ◌∙◌, ◌≡◌, ◌≤◌}
 use proofs.MessageWrites.{said_trans}
-use proofs.OperandInputs.{some_same, fresh_all, positions_within}
-use Rattle.std.proofs.Common.{rules}
-use Rattle.std.proofs.lemmas.Grind.{common_steps}
+use proofs.OperandInputs.{earlier_map, fresh_all, kept_up, never_long, nothing_decided, nothing_read, positions_within}
+use proofs.OperandInputs.{received_at, received_of, some_same, unopened_received}
+use Rattle.ptlangs.specs.Results.{IsFault}
+use Rattle.ptlines.proofs.KnownBytes.{append_known-nil}
+use Rattle.ptlines.specs.Sinks.{flushes_after}
+use Rattle.ptopts.proofs.CommandGrammar.{meant_as_spelled}
+use Rattle.ptopts.proofs.EachTool.{AreInputsOf, are_inputs}
+use Rattle.ptopts.proofs.InputCounts.{AreTwo}
+use Rattle.ptopts.specs.Faults.{Fault}
+use Rattle.ptopts.specs.Theorems.{Spelled, SpellsCommand}
+use Rattle.ptopts.specs.declared.fault.UseFault.{UseFault}
+use Rattle.ptrun.specs.Files.{AreNewInputs, HasBytesAt, HasReceivedAt, IsConsistentAt, IsNewOrUnopened, at}
+use Rattle.ptrun.specs.Runs.{IsExact, IsExactUnlessFailed, IsRunInStore, Outcome, RunEnd, Sinks}
+use Rattle.std.proofs.lemmas.Bool.{leb-true}
+use Rattle.std.proofs.lemmas.List.{append_cancel_left, nil_from_length}
+use Rattle.std.specs.Prelude.{if◌then◌else◌}
+use Rattle.ptopts.specs.declared.command.Command as code
 
 -- ---- the bytes that reached the sink
 
@@ -48,7 +47,7 @@ pub record Reached (was new : Output) (pushed : List ℕ) : Type 0 where
   pub whole : new.write_failed ≡ false → new.buffered ≡ [] → rest ≡ []
   pub unknown : was.accepted ≡ None → rest ≡ []
 
-pub reached_of : (was new : Output) (pushed : List ℕ) → was.buffered ≡ [] → PushEffect was new pushed
+reached_of : (was new : Output) (pushed : List ℕ) → was.buffered ≡ [] → PushEffect was new pushed
     → Reached was new pushed
 reached_of was new pushed empty w = by_known was.accepted refl
   where
@@ -103,7 +102,7 @@ not_too_long (Some g) (Some b) old a (opened, left, short) long = grind (arith, 
 
 -- ---- no call failed
 
-pub exact_of_run : (m : CommandSpec) (old new : List Reader) (before : Sinks) (o : Outcome) → All IsNewOrUnopened old
+exact_of_run : (m : CommandSpec) (old new : List Reader) (before : Sinks) (o : Outcome) → All IsNewOrUnopened old
     → IsRun m old new before o → IsExactUnlessFailed m old new before o
 exact_of_run m old new before o fresh k w bytes none fine not_denied = by_fault k.fault k.ends
   where

@@ -2,48 +2,47 @@
 -- operand whose input was read by an earlier one receives nothing more. An operand that fails leaves a prefix of the
 -- output, with all that was decided by then.
 use Rattle.ptrun.proofs
-use proofs.Common.{IsDone, cases_lt, sequential_slots, take-append-add, cases_eq, cases_Bool, ◌≡◌, ◌≢◌, ◌⊎◌, ⊎_elim}
-use proofs.Common.{inl, inr, ℕ, ◌<◌, ◌≤◌, Bool, true, false, cond, List, [], ◌∷◌, ◌++◌, Some, None, Result, Ok, Err}
-use proofs.Common.{◌+◌, length, take, map, set, max, refl, sym, ◌∙◌, ap, subst, arith, append_assoc, length-append}
-use proofs.Common.{length-set, flat_map, list_any, append-nil, take_all, map-append, length-map}
-use proofs.Common.{take-append_seam, take-length, flat_map-append, false≢true, Reader, IsSound, HasReadCause, Output}
-use proofs.Common.{PushEffect, Slots, total_bytes, SinkState, push_trans, push_nothing, Received, empty_input}
-use proofs.Common.{IsConsistent, IsPrefix, HasReceived, AllPushed, CallOutcome, PassPost, ToolSpec, FlowFault, Read}
-use proofs.Common.{Write, Memory, InputBytes, ReceivedInputs, at, is_unopened, AreInputsConsistent, is_in}
-use proofs.Common.{input_of_operand, inputs_of_operands, opened_values, opened_inputs, reader_at}
-use proofs.Common.{is_reader_unopened, HaveReceived, IsNewOrUnopened, HasReadFailed, IsTooLong, HasSaid}
-use proofs.Common.{unopened_messages, unopened_message, name_of, BoundedLag, IsPushedUpToBlock, decided_in_order}
-use proofs.Common.{up_to_unended, sequential_output, sequential_bound, sequential_decided, sequential_spec}
-use proofs.Common.{Completion, AllWritten, Unopened, HasCause, fault_at, result_message, result_status, HasIndexBelow}
-use proofs.Common.{RunInputsPost, get_or, All, DecidesAll, OperandPre, OperandPost}
-use proofs.Common.{operand_completion, CallState, call_state, only_input, pass_engine, pass_end}
-use proofs.OneInput.{all_earlier, last_earlier, sends_now, sends_after, IsAtEof, none_received, completion_with}
-use proofs.OneInput.{received_of, received_at, nothing_read, never_long, not_long, OpenedInput, opened_receives}
-use proofs.OneInput.{still_unopened, receives_trans, ended_gives_nothing, unopened_agrees, none_of, consistent_bytes}
-use proofs.OneInput.{consistent_before, least_consistent, ended_at, nth_here}
+use proofs.Common.{All, AllPushed, AllWritten, AreInputsConsistent, Bool, BoundedLag, CallOutcome, CallState}
+use proofs.Common.{Completion, DecidesAll, Err, FlowFault, HasCause, HasIndexBelow, HasReadCause, HasReadFailed}
+use proofs.Common.{HasReceived, HasSaid, HaveReceived, InputBytes, IsConsistent, IsDone, IsPrefix, IsPushedUpToBlock}
+use proofs.Common.{IsSound, IsTooLong, List, Memory, None, Ok, OperandPost, Output, PassPost, PushEffect, Read, Reader}
+use proofs.Common.{Received, ReceivedInputs, Result, RunInputsPost, SinkState, Slots, Some, ToolSpec, Unopened, Write}
+use proofs.Common.{[], ap, append-nil, append_assoc, arith, call_state, cases_Bool, cases_eq, cases_lt, common_steps}
+use proofs.Common.{cond, decided_in_order, empty_input, false, false≢true, flat_map, flat_map-append, get_or, inl, inr}
+use proofs.Common.{is_in, is_reader_unopened, is_unopened, length, length-append, length-map, length-set, list_any, map}
+use proofs.Common.{map-append, max, name_of, only_input, pass_end, pass_engine, push_nothing, push_trans, reader_at}
+use proofs.Common.{refl, result_message, result_status, rules, sequential_spec, set, subst, sym, take, take_all}
+use proofs.Common.{total_bytes, true, unopened_message, unopened_messages, up_to_unended, ℕ, ⊎_elim, ◌++◌, ◌+◌, ◌<◌}
+use proofs.Common.{◌∙◌, ◌∷◌, ◌≡◌, ◌≢◌, ◌≤◌, ◌⊎◌}
 use proofs.MessageWrites.{said_nothing}
-use proofs.OperandInputs.{least_bytes, some_same, holds_more, is_in-same, is_in-other, not_more, by_position}
-use proofs.OperandInputs.{opened_inputs_some, opened_inputs_none, unopened_same, any_same, any_now, any_before}
-use proofs.OperandInputs.{said_more, maximum-append, IsEndedAt, decided_inputs, fresh_all}
-use Rattle.std.proofs.Common.{rules}
-use Rattle.std.proofs.lemmas.Grind.{common_steps}
+use proofs.OperandInputs.{IsAtEof, IsEndedAt, OpenedInput, all_earlier, any_before, any_now, any_same, by_position}
+use proofs.OperandInputs.{completion_with, consistent_before, consistent_bytes, decided_inputs, ended_at}
+use proofs.OperandInputs.{ended_gives_nothing, fresh_all, holds_more, is_in-other, is_in-same, last_earlier}
+use proofs.OperandInputs.{least_bytes, least_consistent, maximum-append, never_long, none_of, none_received, not_long}
+use proofs.OperandInputs.{not_more, nothing_read, nth_here, opened_inputs_none, opened_inputs_some, opened_receives}
+use proofs.OperandInputs.{received_at, received_of, receives_trans, said_more, sends_after, sends_now, some_same}
+use proofs.OperandInputs.{still_unopened, unopened_agrees, unopened_same}
+use Rattle.ptrun.specs.Driver.{OperandPre, fault_at, operand_completion}
+use Rattle.ptrun.specs.Files.{IsNewOrUnopened, at, input_of_operand, inputs_of_operands, opened_inputs, opened_values}
+use Rattle.ptrun.specs.Operands.{sequential_bound, sequential_decided, sequential_output, sequential_slots}
+use Rattle.std.proofs.Math.Seq.{take-append-add, take-append_seam, take-length}
 
 -- the state once these operands are done
 pub record OperandsDone (word : List ℕ) (t : ToolSpec) (names : List (List ℕ)) (old now : List Reader) (was is : Output)
     (messages_old messages_new : SinkState) (before store : Slots)
     (done : List ℕ) (so_far : Completion) : Type 0 where
-  pub inputs_read : ReceivedInputs
+  inputs_read : ReceivedInputs
   pub same_length : length now ≡ length old
   pub long : length inputs_read ≡ length old
   pub came : HaveReceived old now inputs_read
   pub at_eof : (q : ℕ) → is_in done q ≡ true → is_reader_unopened old q ≡ false → IsAtEof (reader_at now q)
   pub unread : (q : ℕ) → is_in done q ≡ false → reader_at now q ≡ reader_at old q
-  pub unreceived : (q : ℕ) → is_in done q ≡ false → at inputs_read q ≡ received_of (reader_at old q)
+  unreceived : (q : ℕ) → is_in done q ≡ false → at inputs_read q ≡ received_of (reader_at old q)
   pub pushed : List ℕ
   pub wrote : PushEffect was is pushed
   pub out : (w : InputBytes) → AreInputsConsistent inputs_read w → pushed ≡ sequential_output t w done
   pub has_said : HasSaid messages_old messages_new (unopened_messages word names (is_reader_unopened old) done)
-  pub so_far_is : so_far ≡ completion_with (list_any (is_reader_unopened old) done)
+  so_far_is : so_far ≡ completion_with (list_any (is_reader_unopened old) done)
   pub clean : is.write_failed ≡ false
   pub not_denied : store.denied ≡ false
   pub empty : total_bytes store.lines ≡ 0

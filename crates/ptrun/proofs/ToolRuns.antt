@@ -1,18 +1,17 @@
 -- The steps of the driver, by how a tool reads its operands: each is the step of a tool that reads them one after
 -- another, or of one that reads them together.
 use Rattle.ptrun.proofs
-use proofs.Common.{◌≡◌, ℕ, Bool, true, false, List, [], ◌∷◌, Result, refl, sym, false≢true, list_any, Reader, Output}
-use proofs.Common.{Slots, SinkState, ToolSpec, FlowFault, Completion, HasSaid, is_reader_unopened, unopened_messages}
-use proofs.Common.{sequential_spec, InputsPre, ReportUnopenedPost, RunInputsPost, OperandPre, OperandPost, RunOnPre}
-use proofs.Common.{RunOnPost, DecidesAll, OneByOne, Together, ToolInRun, reads_together, spec_of_tool, get_or, set}
-use proofs.Common.{PassPost, only_operand, operand_completion, ◌∙◌, is_unopened, All, map, take-length, append-nil}
-use proofs.Common.{IsNewOrUnopened, total_bytes, IsRun, sinks, joint_spec}
-use proofs.JointRuns.{none_unopened, joint_post}
-use proofs.OneInput.{received_of, nothing_read, unopened_agrees}
-use proofs.OperandInputs.{any_same, fresh_all, unopened_same}
+use proofs.Common.{All, Bool, Completion, DecidesAll, FlowFault, HasSaid, InputsPre, IsRun, List, OneByOne}
+use proofs.Common.{OperandPost, Output, PassPost, Reader, Result, RunInputsPost, SinkState, Slots, Together, ToolInRun}
+use proofs.Common.{ToolSpec, [], append-nil, arith, common_steps, false, false≢true, get_or, is_reader_unopened}
+use proofs.Common.{is_unopened, joint_spec, length, list_any, map, only_operand, reads_together, refl, sequential_spec}
+use proofs.Common.{set, sinks, spec_of_tool, sym, total_bytes, true, unopened_messages, ℕ, ◌∙◌, ◌∷◌, ◌≡◌, ◌≤◌}
+use proofs.JointRuns.{joint_post, none_unopened}
+use proofs.OperandInputs.{any_same, fresh_all, nothing_read, received_of, unopened_agrees, unopened_same}
 use proofs.RunEnds.{unread}
-use Rattle.std.proofs.Common.{arith}
-use Rattle.std.proofs.lemmas.Grind.{common_steps}
+use Rattle.ptrun.specs.Driver.{OperandPre, ReportUnopenedPost, RunOnPost, RunOnPre, operand_completion}
+use Rattle.ptrun.specs.Files.{IsNewOrUnopened}
+use Rattle.std.proofs.Math.Seq.{take-length}
 
 -- the tool, if it reads one operand after another
 abbrev pub one_tool : ToolInRun → ToolSpec

@@ -41,6 +41,7 @@ impl<B: Allocator + Copy> MergeJob<B> {
     }
 
     // Merges the inputs at two different positions.
+    #[tactic(auto, using(crate::proofs::JointRuns::were))]
     fn merge_at<A: Allocator + Copy, S: Source, R: Source, W: Sink>(
         &self,
         inputs: &mut [LineReader<S, R>],

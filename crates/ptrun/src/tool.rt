@@ -1,6 +1,6 @@
 //! The trait of all tools, by which `driver` runs each of them. `tools` and `merge` implement it.
 
-ghost use Rattle.std.specs.Prelude.{◌≡◌, ℕ, List, false};
+ghost use Rattle.std.specs.Prelude.{◌≡◌, ◌<◌, ℕ, List, false, All, length};
 ghost use Rattle.ptrun.specs.Tools.{ToolInRun, reads_together};
 ghost use Rattle.ptrun.specs.Driver.{RunOnPre, RunOnPost};
 
@@ -45,7 +45,8 @@ pub(crate) trait Tool<A: Allocator + Copy>: Drop {
         store: &mut Store<A>,
         out: &mut Out<W>,
     ) -> Result<Completion, FlowFault>
-        requires { RunOnPre (tool self.now) operands.now inputs.old out.old store.old }
+        requires within { All (λ p. p < length inputs.old) operands.now }
+        requires ready { RunOnPre (tool self.now) operands.now inputs.old out.old store.old }
         ensures { RunOnPost (tool self.now) operands.now inputs.old inputs.new out.old out.new
             store.old store.new result };
 }

@@ -2,12 +2,192 @@
 -- resets it; at offset 0 the output is that of complete lines.
 use Rattle.ptflow.proofs
 use proofs.Common.{◌≡◌, ℕ, ◌+◌, ◌-◌, ◌≤◌, ◌^◌, Bool, false, List, [], ◌∷◌, ◌++◌, map, length, take, drop, Some, refl}
-use proofs.Common.{ap, arith, append_assoc, common_steps, onto_first, flat_map, mask_l, chunk, length-chunk}
-use proofs.Common.{chunk-drop, append-nil, take_all, drop_all, IsFirstByte, is_byte, unlines, lines, IsLine}
-use proofs.Common.{complete_lines, lines_cons, byte_ne, lines_of_unlines, unlines-append, line_before_terminator}
-use proofs.Common.{select_from, cut_line, cut, cut_decided, cut_lines_from, cut_bytes_from, cut_list_from, IsPrefix}
-use proofs.Common.{Cut, Interval, ExtendsCut}
-use proofs.Passes.Lines.{split_of, line_of, end_of, LineSplit, line_split}
+use proofs.Common.{ap, arith, append_assoc, common_steps, onto_first, flat_map, mask_l, chunk, length-chunk, chunk-drop}
+use proofs.Common.{IsFirstByte, is_byte, unlines, lines, IsLine, complete_lines, lines_cons, byte_ne, lines_of_unlines}
+use proofs.Common.{unlines-append, line_before_terminator, select_from, cut_line, cut, cut_decided, cut_lines_from}
+use proofs.Common.{cut_bytes_from, cut_list_from, IsPrefix, Cut, Interval, ExtendsCut, CutPost, selected_bytes}
+use proofs.Common.{is_selected, drop-drop, zero, suc, ◌<◌, true, cond, set, ⊎_elim, ◌&&◌, get_or, length-append, sym}
+use proofs.Common.{◌∙◌, w8, All, nat_le, false≢true, range_with_len, list_all, nat_tests, take-add, pick_l, Each1}
+use proofs.Common.{Each1-from_get_or, swz_l, pick_l-range_with_len, take-map, take-take, take-append-le, take_all}
+use proofs.Common.{length-take-le, append-nil, All-set, length-range_with_len, cases_eq, put_chunk, length-drop}
+use proofs.Common.{length-swz_l, take_more_set, ◌||◌, min, drop_all, drop_more, AreSeparated, cases_lt}
+use Rattle.ptflow.specs.declared.tools.cut.bytes.Line.{Line}
+use proofs.Passes.Exits.{split_of, LineSplit, line_split}
+use Rattle.std.proofs.Common.{get_or-set_same, get_or-set_other, length-set}
+use proofs.Vectors.Lanes.{stored_more}
+use mir.Val.{bool_byte}
+use Rattle.ptflow.specs.Private.Cut.ShortLines.{selected_indices, selected_after, IsPieceShuffle}
+use Rattle.ptflow.specs.declared.tools.cut.shuffle.PieceShuffle.{PieceShuffle}
+use proofs.Vectors.Compress.{selected_stored, shuffle_result}
+use lib.Seq.{take-nil}
+
+-- The items of a list that intervals select. Disjoint ascending intervals select one after another, and each selects a
+-- slice; so the selected items are these slices in order.
+
+-- the position is in the interval
+abbrev pub is_within : Interval → ℕ → Bool
+is_within r n = nat_le r.first n && nat_le n r.last
+
+inside : (r : Interval) (n : ℕ) → r.first ≤ n → n ≤ r.last → is_within r n ≡ true
+inside r n low high = grind (arith, nat_tests)
+
+below : (r : Interval) (n : ℕ) → n < r.first → is_within r n ≡ false
+below r n low = grind (arith, nat_tests)
+
+last_of : (r : Interval) (n : ℕ) → is_within r n ≡ true → n ≤ r.last
+last_of r n inside = grind (arith, nat_tests)
+
+pub above : (r : Interval) (n : ℕ) → r.last < n → is_within r n ≡ false
+above r n high = grind (arith, nat_tests)
+
+-- intervals that begin after a position do not select it
+pub not_selected : (rs : List Interval) (low n : ℕ) → AreSeparated low rs → n ≤ low → is_selected rs n ≡ false
+not_selected [] low n apart out = refl
+not_selected (r ∷ rs) low n apart out =
+    grind (arith, not_selected rs (r.last + 1) n apart.2 (omega (arith, apart.0, apart.1)), below, apart)
+
+-- no item is selected
+pub select_none : {X : Type 0} (test : ℕ → Bool) (n : ℕ) (xs : List X)
+    → ((k : ℕ) → n ≤ k → k < n + length xs → test k ≡ false) → select_from test n xs ≡ []
+select_none test n [] out = refl
+select_none test n (x ∷ xs) out = grind (arith, select_none test (n + 1) xs (grind arith))
+
+pub select_past : {X : Type 0} (r : Interval) (n : ℕ) (xs : List X) → r.last < n → select_from (is_within r) n xs ≡ []
+select_past r n xs past = select_none (is_within r) n xs (λ k low high. above r k (omega arith))
+
+-- one item more: if the first test selects it, the other does not, and if the other does, the first selects nothing
+-- later
+select_step : {X : Type 0} (x : X) {all : List X} (first others : List X) (a b : Bool) → (a ≡ true → b ≡ false)
+    → (b ≡ true → first ≡ []) → all ≡ first ++ others
+    → cond (a || b) (x ∷ all) all ≡ cond a (x ∷ first) first ++ cond b (x ∷ others) others
+select_step x first others true true apart none more = absurd (false≢true (sym (apart refl)))
+select_step x first others true false apart none more = ap (◌∷◌ x) more
+select_step x first others false true apart none more = grind (arith, common_steps)
+select_step x first others false false apart none more = more
+
+-- the items of the first interval, and then those of the others
+pub select_first : {X : Type 0} (r : Interval) (rs : List Interval) (n : ℕ) (xs : List X) → AreSeparated (r.last + 1) rs
+    → select_from (is_selected (r ∷ rs)) n xs ≡ select_from (is_within r) n xs ++ select_from (is_selected rs) n xs
+select_first r rs n [] apart = refl
+select_first r rs n (x ∷ xs) apart = select_step x (select_from (is_within r) (n + 1) xs)
+    (select_from (is_selected rs) (n + 1) xs) (is_within r n) (is_selected rs n) here there
+    (select_first r rs (n + 1) xs apart)
+  where
+    here : is_within r n ≡ true → is_selected rs n ≡ false
+    here inside = not_selected rs (r.last + 1) n apart (omega (arith, last_of r n inside))
+
+    there : is_selected rs n ≡ true → select_from (is_within r) (n + 1) xs ≡ []
+    there other = ⊎_elim
+        (λ high. select_past r (n + 1) xs (omega (arith, high)))
+        (λ low. absurd (false≢true (cc (not_selected rs (r.last + 1) n apart (omega (arith, low))))))
+        (cases_lt r.last n)
+
+-- the first items are not selected
+pub select_skip : {X : Type 0} (test : ℕ → Bool) (n count : ℕ) (xs : List X)
+    → ((k : ℕ) → n ≤ k → k < n + count → test k ≡ false)
+    → select_from test n xs ≡ select_from test (n + count) (drop count xs)
+select_skip test n zero xs out = let same : n + 0 ≡ n = omega arith in rw same refl
+select_skip test n (suc count) [] out = refl
+select_skip test n (suc count) (x ∷ xs) out = grind (arith, select_skip test (n + 1) count xs (grind arith))
+
+-- the items of one interval are a slice, from index i to index j
+pub select_slice : {X : Type 0} (r : Interval) (n : ℕ) (xs : List X) (i j : ℕ) → i ≡ r.first - n → j ≡ r.last + 1 - n
+    → select_from (is_within r) n xs ≡ take (j - i) (drop i xs)
+select_slice r n [] zero j is js = sym (take-nil (j - 0))
+select_slice r n [] (suc i) j is js = sym (take-nil (j - suc i))
+select_slice r n (x ∷ xs) i zero is js = grind (arith, select_past)
+select_slice r n (x ∷ xs) zero (suc j) is js =
+    grind (arith, common_steps, select_slice r (n + 1) xs zero j (omega arith) (omega arith), inside)
+select_slice r n (x ∷ xs) (suc i) (suc j) is js =
+    grind (arith, select_slice r (n + 1) xs i j (omega arith) (omega arith), below)
+
+-- the rest of the first bytes from an index on
+pub rest_of : (from to : ℕ) (bytes : List ℕ) → drop from (take to bytes) ≡ take (to - from) (drop from bytes)
+rest_of zero to bytes = let whole : to - 0 ≡ to = omega arith in cc
+rest_of (suc n) zero bytes = let none : 0 - suc n ≡ 0 = omega arith in cc
+rest_of (suc n) (suc to) [] = sym (take-nil (suc to - suc n))
+rest_of (suc n) (suc to) (b ∷ bytes) = let less : suc to - suc n ≡ to - n = omega arith in cc (rest_of n to bytes)
+
+-- a slice of the bytes that is in the piece at their start
+slice_is : (r : Interval) (before count : ℕ) (bytes : List ℕ) → count ≤ length bytes → r.last < before + count
+    → take ((r.last - before) - (r.first - (before + 1))) (drop (r.first - (before + 1)) bytes)
+    ≡ select_from (is_within r) (before + 1) (take count bytes)
+slice_is r before count bytes within short = grind (arith, common_steps, r, select_slice, rest_of, take-take)
+
+drop_min : (i : ℕ) (xs : List ℕ) → drop (min i (length xs)) xs ≡ drop i xs
+drop_min zero xs = let least : min 0 (length xs) ≡ 0 = omega arith in cc
+drop_min (suc i) [] = let least : min (suc i) 0 ≡ 0 = omega arith in cc
+drop_min (suc i) (x ∷ xs) = let least : min (suc i) (suc (length xs))
+    ≡ suc (min i (length xs)) = omega arith in cc (drop_min i xs)
+
+-- the rest of the piece, if the interval reaches its end
+rest_is : (r : Interval) (before count : ℕ) (bytes : List ℕ) → count ≤ length bytes → before + count ≤ r.last
+    → let from = min (r.first - (before + 1)) count in
+    take (count - from) (drop from bytes) ≡ select_from (is_within r) (before + 1) (take count bytes)
+rest_is r before count bytes within reaches =
+    let i = r.first - (before + 1) in
+    let long : length (take count bytes) ≡ count = length-take-le count bytes within in
+    let piece : select_from (is_within r) (before + 1) (take count bytes) ≡ drop i (take count bytes) =
+    grind (arith, common_steps, select_slice, long) in
+    cc (piece, drop_min i (take count bytes), rest_of (min i count) count bytes)
+
+-- The invariant of `copy_selected`: the selected bytes of the intervals so far were copied, and the others select the
+-- rest of the piece. The copied bytes are no longer than the part of the piece that the intervals so far cover.
+pub record CopyInvariant (all : List Interval) (i before : ℕ) (piece was is : List ℕ) (start at : ℕ) : Type 0 where
+  pub front : is ++ select_from (is_selected (drop i all)) (before + 1) piece ≡ was
+      ++ select_from (is_selected all) (before + 1) piece
+  pub low : ℕ
+  pub apart : AreSeparated low (drop i all)
+  pub near : at ≤ start + (low - (before + 1))
+  pub within : at ≤ start + length piece
+
+module _ {all : List Interval} {before count : ℕ} (bytes : List ℕ) {was : List ℕ} {start : ℕ}
+    (in_bytes : count ≤ length bytes) {i : ℕ} {is : List ℕ} {at : ℕ}
+    (k : CopyInvariant all i before (take count bytes) was is start at) where
+  abbrev piece : List ℕ
+  piece = take count bytes
+
+  piece_long : length piece ≡ count
+  piece_long = length-take-le count bytes in_bytes
+
+  -- all intervals were processed
+  pub copied_done : length all ≤ i → is ≡ was ++ select_from (is_selected all) (before + 1) piece
+  copied_done past = grind (arith, common_steps, select_none, piece, drop_all, append-nil)
+
+  module _ (within : i < length all) where
+    abbrev r : Interval
+    r = get_or all i (record { first = 0; last = 0 })
+
+    abbrev rs : List Interval
+    rs = drop (i + 1) all
+
+    apart : AreSeparated k.low (r ∷ rs)
+    apart = rw (drop_more all i (record { first = 0; last = 0 }) within) at k.apart
+
+    next : (is ++ select_from (is_within r) (before + 1) piece) ++ select_from (is_selected rs) (before + 1) piece
+        ≡ was ++ select_from (is_selected all) (before + 1) piece
+    next = grind (arith, common_steps, select_first, apart)
+
+    module _ (is' : List ℕ) where
+      -- the interval reaches the end of the piece
+      pub copied_ends : {from : ℕ} → from ≡ min (r.first - (before + 1)) count → before + count ≤ r.last
+          → is' ≡ is ++ take (count - from) (drop from bytes)
+          → is' ≡ was ++ select_from (is_selected all) (before + 1) piece
+      copied_ends {from} from_is reaches copied =
+          cc (
+            rest_is r before count bytes in_bytes reaches,
+            select_none (is_selected rs) (before + 1) piece
+                (grind (arith, not_selected, apart, piece_long)),
+            append-nil is',
+            next,
+          )
+
+      -- it ends before
+      pub copied_more : {from to : ℕ} → from ≡ r.first - (before + 1) → to ≡ r.last - before → r.last < before + count
+          → is' ≡ is ++ take (to - from) (drop from bytes)
+          → CopyInvariant all (i + 1) before piece was is' start (at + (to - from))
+      copied_more {from} {to} from_is to_is short copied =
+          grind (arith, common_steps, next, apart, slice_is, piece_long)
 
 module _ (end : ℕ) (selected : ℕ → Bool) where
   -- the output for lines
@@ -47,7 +227,7 @@ module _ (end : ℕ) (selected : ℕ → Bool) where
 module _ (end : ℕ) (bytes : List ℕ) (at : ℕ) (first : IsFirstByte (is_byte end) bytes (Some at)) where
   pub line_on : (selected : ℕ → Bool) (line_offset : ℕ) (more : List ℕ)
       → cut_bytes_from end selected line_offset (bytes ++ more)
-      ≡ (select_from selected (line_offset + 1) (take at (take (at + 1) bytes)) ++ drop at (take (at + 1) bytes))
+      ≡ (select_from selected (line_offset + 1) (take at bytes) ++ end ∷ [])
       ++ cut_bytes_from end selected 0 (drop (at + 1) bytes ++ more)
   line_on selected line_offset more =
       cc (
@@ -55,8 +235,6 @@ module _ (end : ℕ) (bytes : List ℕ) (at : ℕ) (first : IsFirstByte (is_byte
         append_assoc (take at bytes) (end ∷ drop (at + 1) bytes) more,
         rest_line end selected line_offset (take at bytes) (drop (at + 1) bytes ++ more)
             (line_before_terminator end bytes at first),
-        line_of end bytes at first,
-        end_of end bytes at first,
       )
 
 -- empty lines
@@ -85,14 +263,6 @@ terminators_next end selected block {start} room here none is all more =
           every,
     )
 
--- the selected bytes of a piece of a line
-pub piece_next : (end : ℕ) (selected : ℕ → Bool) (line_offset : ℕ) (bytes : List ℕ) → IsLine end bytes → (more : List ℕ)
-    → cut_bytes_from end selected line_offset (bytes ++ more)
-    ≡ (select_from selected (line_offset + 1) (take (length bytes) bytes) ++ drop (length bytes) bytes)
-    ++ cut_bytes_from end selected (line_offset + length bytes) more
-piece_next end selected line_offset bytes whole more =
-    grind (arith, common_steps, take_all, drop_all, rest_piece, end, append-nil)
-
 -- output that is extended by one step
 pub cut_next : (end : ℕ) (list : List Interval) (line_offset now next : ℕ) (from rest rest' old was : List ℕ)
     {is : List ℕ} (bytes : List ℕ) → ExtendsCut end list line_offset from old now rest was → is ≡ was ++ bytes
@@ -100,6 +270,26 @@ pub cut_next : (end : ℕ) (list : List Interval) (line_offset now next : ℕ) (
     ++ cut_list_from end list next (rest' ++ more)) → ExtendsCut end list line_offset from old next rest' is
 cut_next end list line_offset now next from rest rest' old was bytes cut copied on start block so_far more =
     grind (arith, common_steps)
+
+-- one line more was cut
+pub line_cut : {end : ℕ} {list : List Interval} {block : List ℕ} {was now next : Line} {old new is : List ℕ} (count : ℕ)
+    → CutPost end list block was old now new → IsFirstByte (is_byte end) (drop now.start block) (Some count)
+    → is ≡ new ++ (selected_bytes list block now count ++ end ∷ []) → next.start ≡ now.start + count + 1
+    → next.line_offset ≡ 0 → next.at ≤ now.at + count + 1 → CutPost end list block was old next is
+line_cut {end} {list} {block} {was} {now} {next} {old} {new} count post first is start none near = record {
+  cut = cut_next end list _ now.line_offset next.line_offset _ (drop now.start block) (drop next.start block) _ new
+      (selected_bytes list block now count ++ end ∷ []) post.cut is
+      (λ more. cc (
+        line_on end (drop now.start block) count first (is_selected list) now.line_offset more,
+        drop-drop (count + 1) now.start block,
+        left,
+      ));
+  bound = omega arith;
+  near = omega arith;
+}
+  where
+    left : now.start + (count + 1) ≡ next.start
+    left = omega (arith, start)
 
 module _ (job : Cut) (by_bytes : job.fields ≡ false) where
   abbrev end : ℕ
@@ -135,3 +325,209 @@ module _ (job : Cut) (by_bytes : job.fields ≡ false) where
         rest = select_from job.selected 1 p.piece;
         is = grind (arith, common_steps, rest_line, rest_of_all, unlines-append, made_is);
       }
+
+-- The shuffles of `cut`. A row has the selected indices in order, so a shuffle moves the selected bytes of 16 bytes to
+-- the front; the counts are how many of them a piece of each length has. A line is cut piece by piece.
+
+last_low : (r : Interval) {limit index : ℕ} → nat_le r.last limit ≡ true → limit < index → r.last < index
+last_low r low later = grind (arith, nat_tests)
+
+length-take-le' : {X : Type 0} (n : ℕ) (xs : List X) → length (take n xs) ≤ n
+length-take-le' zero xs = omega arith
+length-take-le' (suc n) [] = omega arith
+length-take-le' (suc n) (x ∷ xs) = omega (arith, length-take-le' n xs)
+
+module _ (selected : ℕ → Bool) where
+  pub select_append : {X : Type 0} (n : ℕ) (xs ys : List X)
+      → select_from selected n (xs ++ ys) ≡ select_from selected n xs ++ select_from selected (n + length xs) ys
+  select_append n [] ys = let same : n ≡ n + 0 = omega arith in cc
+  select_append n (x ∷ xs) ys = grind (arith, select_append (n + 1) xs ys)
+
+  map_select : (f : ℕ → ℕ) (n : ℕ) (xs : List ℕ) → map f (select_from selected n xs) ≡ select_from selected n (map f xs)
+  map_select f n [] = refl
+  map_select f n (x ∷ xs) = grind (arith, map_select f (n + 1) xs)
+
+  few_selected : {X : Type 0} (n : ℕ) (xs : List X) → length (select_from selected n xs) ≤ length xs
+  few_selected n [] = omega arith
+  few_selected n (x ∷ xs) = grind (arith, few_selected (n + 1) xs)
+
+  range_parts : (a n m : ℕ) → range_with_len a (n + m) ≡ range_with_len a n ++ range_with_len (a + n) m
+  range_parts a zero m = let same : a + 0 ≡ a = omega arith in let none : 0 + m ≡ m = omega arith in cc
+  range_parts a (suc n) m =
+      let next : suc n + m ≡ suc (n + m) = omega arith in
+      let there : a + 1 + n ≡ a + suc n = omega arith in
+      cc (next, range_parts (a + 1) n m)
+
+  -- the selected indices of a line begin with those of a shorter one
+  picked_parts : (n m : ℕ) → selected_indices selected (n + m) ≡ selected_indices selected n
+      ++ select_from selected (1 + n) (range_with_len n m)
+  picked_parts n m =
+      let here : 0 + n ≡ n = omega arith in
+      cc (range_parts 0 n m, select_append 1 (range_with_len 0 n) (range_with_len n m), length-range_with_len 0 n)
+
+  few_indices : (n : ℕ) → length (selected_indices selected n) ≤ n
+  few_indices n = omega (arith, few_selected 1 (range_with_len 0 n), length-range_with_len 0 n)
+
+  -- ---- the row and the counts, index by index
+
+  pub record PickBegun (index count : ℕ) (row counts : List ℕ) : Type 0 where
+    pub is : count ≡ length (selected_indices selected index)
+    pub few : count ≤ index
+    pub lanes : All (λ p. p < 16) row
+    pub long : length row ≡ 16
+    pub all_counts : length counts ≡ 17
+    pub indices : take count row ≡ selected_indices selected index
+    pub counted : (k : ℕ) → k ≤ index → get_or counts k 0 ≡ length (selected_indices selected k)
+
+  one_index : (index : ℕ) → selected_indices selected (index + 1) ≡ selected_indices selected index
+      ++ cond (selected (index + 1)) (index ∷ []) []
+  one_index index = let next : 1 + index ≡ index + 1 = omega arith in cc (picked_parts index 1, next)
+
+  pub shuffle_next : {index count : ℕ} {row counts after : List ℕ} {one : ℕ} → index < 16
+      → PickBegun index count row counts → one ≡ bool_byte (selected (index + 1))
+      → after ≡ set counts (index + 1) (count + one) → PickBegun (index + 1) (count + one) (set row count index) after
+  shuffle_next {index} {count} {row} {counts} {after} {one} low begun told after_is = record {
+    is = whole;
+    few = omega (arith, told, (bit (selected (index + 1))).2);
+    lanes = All-set (λ p. p < 16) row count index (omega arith) begun.lanes;
+    long = cc (length-set row count index);
+    all_counts = cc (length-set counts (index + 1) (count + one));
+    indices = cc (
+      (bit (selected (index + 1))).0,
+      stored_more (selected (index + 1)) row count index (omega arith),
+      one_index index,
+    );
+    counted = λ k upto. ⊎_elim
+        (λ same. cc (get_or-set_same counts (index + 1) (count + one) 0 (omega arith), whole))
+        (λ other. cc (
+          get_or-set_other counts (index + 1) k (count + one) 0 (λ e. other (omega arith)),
+          begun.counted k (omega (arith, other)),
+        )) (cases_eq k (index + 1));
+  }
+    where
+      bit : (t : Bool) → (bool_byte t ≡ cond t 1 0) × (length (cond t (index ∷ []) []) ≡ bool_byte t) ×
+          (bool_byte t ≤ 1)
+      bit true = (refl, refl, omega arith)
+      bit false = (refl, refl, omega arith)
+
+      whole : count + one ≡ length (selected_indices selected (index + 1))
+      whole = omega (
+        arith,
+        told,
+        ap length (one_index index),
+        length-append (selected_indices selected index)
+            (cond (selected (index + 1)) (index ∷ []) []),
+        (bit (selected (index + 1))).1,
+      )
+
+  -- no byte of a line after its first `start` bytes is selected
+  pub none_later : {X : Type 0} {max_len start count : ℕ} (xs : List X)
+      → ((index : ℕ) → start < index → index ≤ max_len → selected index ≡ false) → start ≤ count → count ≤ max_len
+      → count ≤ length xs → select_from selected 1 (take start xs) ≡ select_from selected 1 (take count xs)
+  none_later {start} {count} xs past later upto within =
+      let whole : start + (count - start) ≡ count = omega arith in
+      let others = take (count - start) (drop start xs) in
+      let front : length (take start xs) ≡ start = length-take-le start xs (omega arith) in
+      let long : length others ≤ count - start = length-take-le' (count - start) (drop start xs) in
+      let none : select_from selected (1 + length (take start xs)) others ≡ [] =
+      select_none selected (1 + length (take start xs)) others
+      (λ k low upper. past k (omega (arith, front)) (omega (arith, long, whole, front))) in
+      cc (
+        append-nil (select_from selected 1 (take start xs)),
+        select_append 1 (take start xs) others,
+        take-add start
+            (count - start) xs,
+        whole,
+      )
+
+  -- ---- the bytes of a line that the row moves to the front
+
+  module _ {piece : PieceShuffle} (is : IsPieceShuffle selected piece) where
+    prefix_indices : {count : ℕ} → count ≤ 16
+        → take (length (selected_indices selected count)) piece.row ≡ selected_indices selected count
+    prefix_indices {count} short =
+        let all : count + (16 - count) ≡ 16 = omega arith in
+        let parts = ap (selected_indices selected) (sym all) ∙ picked_parts count (16 - count) in
+        let later = select_from selected (1 + count) (range_with_len count (16 - count)) in
+        let few : length (selected_indices selected count) ≤ length (selected_indices selected 16) = omega
+        (arith, ap length parts, length-append (selected_indices selected count) later) in
+        cc (
+          take-take (length (selected_indices selected count)) (length (selected_indices selected 16)) _ few,
+          take-append-le (length (selected_indices selected count)) (selected_indices selected count) later
+              (omega arith),
+          take_all (length (selected_indices selected count)) (selected_indices selected count) (omega arith),
+        )
+
+    pub pick_line : {count : ℕ} (v : List ℕ) → count ≤ 16 → length v ≡ 16
+        → take (get_or piece.counts count 0) (swz_l w8 16 v 0 piece.row) ≡ select_from selected 1 (take count v)
+    pick_line {count} v short long =
+        let indices = selected_indices selected count in
+        let n = length indices in
+        ap (λ k. take k (swz_l w8 16 v 0 piece.row)) (is.counts count short)
+        ∙ ap (take n)
+        (shuffle_result v 0 piece.row (omega arith)
+        (Each1-from_get_or (λ index. index < 16) piece.row 0 (λ i low. is.lanes i 0 low)))
+        ∙ take-map (λ k. get_or v k 0) n piece.row ∙ ap (pick_l 0 v) (prefix_indices short)
+        ∙ map_select (λ k. get_or v k 0) 1 (range_with_len 0 count)
+        ∙ ap (select_from selected 1) (pick_l-range_with_len 0 v 0 count (omega (arith, short, long)))
+
+    pub shuffle_few : (count : ℕ) → count ≤ 16 → get_or piece.counts count 0 ≤ count
+    shuffle_few count short = omega (arith, is.counts count short, few_indices count)
+
+    pub shuffle_lanes : Each1 (λ index. index < 16) piece.row
+    shuffle_lanes = Each1-from_get_or (λ index. index < 16) _ 0 (λ i low. is.lanes i 0 low)
+
+-- positions after a limit, if no interval includes them
+pub none_after : (rs : List Interval) {limit index : ℕ} → list_all (λ r. nat_le r.last limit) rs ≡ true → limit < index
+    → is_selected rs index ≡ false
+none_after [] all later = refl
+none_after (r ∷ rs) {limit} {index} all later = by_test (nat_le r.last limit) refl all
+    (λ more. none_after rs more later)
+  where
+    by_test : (t : Bool) → nat_le r.last limit ≡ t → (t && list_all (λ x. nat_le x.last limit) rs) ≡ true
+        → (list_all (λ x. nat_le x.last limit) rs ≡ true → is_selected rs index ≡ false)
+        → is_selected (r ∷ rs) index ≡ false
+    by_test true low more next = rw (above r _ (last_low r low later)) (next more)
+    by_test false low more next = absurd (false≢true more)
+
+-- ---- a line, piece by piece
+
+-- positions that are counted from a later byte on
+select_later : (selected : ℕ → Bool) (start n : ℕ) (xs : List ℕ)
+    → select_from (selected_after selected start) n xs ≡ select_from selected (start + n) xs
+select_later selected start n [] = refl
+select_later selected start n (x ∷ xs) =
+    let next : start + (n + 1) ≡ start + n + 1 = omega arith in
+    cc (select_later selected start (n + 1) xs, next)
+
+-- the selected bytes of the next piece are stored after those of the bytes before
+pub piece_copied : (selected : ℕ → Bool) (start m at : ℕ) (bytes was into : List ℕ) {piece : PieceShuffle} {size : ℕ}
+    → IsPieceShuffle (selected_after selected start) piece
+    → size ≡ get_or piece.counts m 0 → m ≤ 16 → start + 16 ≤ length bytes → at + 16 ≤ length into → take at into ≡ was
+    ++ select_from selected 1 (take start bytes)
+    → take (at + size) (put_chunk at into (swz_l w8 16 (take 16 (drop start bytes)) 0 piece.row)) ≡ was
+    ++ select_from selected 1 (take (start + m) bytes)
+piece_copied selected start m at bytes was into {piece} {size} is counted short within room before =
+    let v = take 16 (drop start bytes) in
+    let long : length v ≡ 16 = length-take-le 16 (drop start bytes) (omega (arith, length-drop start bytes)) in
+    let few = shuffle_few (selected_after selected start) is m short in
+    let front : length (take start bytes) ≡ start = length-take-le start bytes (omega arith) in
+    let first : start + 1 ≡ 1 + length (take start bytes) = omega (arith, front) in
+    cc (
+      counted,
+      selected_stored at (get_or piece.counts m 0) into (swz_l w8 16 v 0 piece.row) (length-swz_l w8 16 v 0 piece.row
+          ∙ is.long) (omega (arith, few)) room,
+      pick_line (selected_after selected start) is v short long,
+      take-take m 16 (drop start bytes) short,
+      select_later selected start 1 (take m (drop start bytes)),
+      first,
+      take-add start m bytes,
+      select_append selected 1 (take start bytes) (take m (drop start bytes)),
+      append_assoc was (select_from selected 1 (take start bytes))
+          (select_from selected (1 + length (take start bytes)) (take m (drop start bytes))),
+    )
+
+-- the selected bytes of a complete line, and the terminator
+pub line_ended : (end b : ℕ) (bytes was into : List ℕ) → end < length into → take end into ≡ was ++ bytes
+    → take (end + 1) (set into end b) ≡ was ++ (bytes ++ b ∷ [])
+line_ended end b bytes was into room put = cc (take_more_set into end b room, append_assoc was bytes (b ∷ []))

@@ -3,16 +3,50 @@
 -- the rest, are the output for every continuation of the input. So the output is exact at the end of the input, it is a
 -- prefix of the output for each consistent input, and decided output is written.
 use Rattle.ptflow.proofs
-use proofs.Common.{◌≡◌, ℕ, ◌≤◌, ◌<◌, ◌^◌, true, false, List, [], ◌++◌, length, None, Result, Ok, Err, max, arith}
-use proofs.Common.{append_assoc, common_steps, append-nil, false_from_ne_true, Reader, ReaderAdvance, AdvanceOk}
-use proofs.Common.{IsDone, IsSound, HasReadCause, Received, IsPrefix, IsConsistent, Output, PushEffect, Slots}
-use proofs.Common.{total_bytes, received_with, advance_trans, push_nothing, push_trans, ToolSpec, PassPre, PassPost}
-use proofs.Common.{only_input, pass_end, pass_engine, CallState, call_state, CallOutcome, AddedSlots, CallProgress}
-use proofs.Common.{DecidedIfReadFailed, call_ends, call_on_failed_output, call_set, call_without_slots, ProcessLag}
-use proofs.Common.{bounded_lag_after, FlowFault, Read, Write, Memory}
+use proofs.Common.{◌≡◌, ℕ, ◌≤◌, ◌<◌, ◌^◌, true, false, List, [], ◌++◌, length, None, Result, Ok, Err, max, arith, Slots}
+use proofs.Common.{append_assoc, common_steps, append-nil, false_from_ne_true, Reader, ReaderAdvance, AdvanceOk, IsDone}
+use proofs.Common.{IsSound, HasReadCause, Received, IsPrefix, IsConsistent, Output, PushEffect, total_bytes, push_trans}
+use proofs.Common.{received_with, advance_trans, push_nothing, ToolSpec, PassPre, PassPost, only_input, pass_end, Read}
+use proofs.Common.{pass_engine, CallState, call_state, CallOutcome, AddedSlots, CallProgress, DecidedIfReadFailed, take}
+use proofs.Common.{call_ends, call_on_failed_output, call_set, call_without_slots, ProcessLag, bounded_lag_after, Write}
+use proofs.Common.{FlowFault, Memory, rules, drop, budget, advance_ok_take, Bool, refl, sym, subst, push_past_failure}
+use proofs.Common.{OnErr, err_from_is_err_and, ◌+◌, ◌-◌, take_all, advance_ok_trans, inl, inr, zero, suc, ◌∷◌, unlines}
+use proofs.Common.{length-append, take-append-drop, false≢true, lines, IsLine, AreLines, max_length, max_line_length}
+use proofs.Common.{known_lines, LaggedInput, FillLine, lines_of_unlines, lines_of_last, lines_cons, lines-unlines, ◌==◌}
+use proofs.Common.{complete_lines_of_unlines, AreReceivedLines, cond, ap, Some, eqb-true, eqb-false, complete_lines}
+use proofs.Common.{onto_first_if_any, complete_lines_none, complete_lines_cons, take_at, IsFirstByte, is_byte}
+use proofs.Common.{line_before_terminator, drop_at_terminator}
 use Rattle.std.specs.Prelude.{IsErrAnd}
-use proofs.Passes.Readers.{stays_at_eof}
-use Rattle.std.proofs.Common.{rules}
+use Rattle.ptlines.specs.Outputs.{PushPost}
+use Rattle.ptflow.specs.Private.Passes.BlockLoop.{IsBlockFilter}
+use Rattle.ptflow.specs.Private.Passes.StepOutput.{OutputPart}
+pub use Rattle.ptlines.proofs.MaxLength.{max_length-append, piece_le_max_length}
+
+-- Facts about readers and outputs that each engine starts from. Each follows from the records of one call.
+
+-- after the end of the input, nothing is read
+pub eof_gives_nothing : (now new : Reader) (bytes : List ℕ) → IsDone now → ReaderAdvance now new bytes
+    → (bytes ≡ []) × (new.buffered ≡ []) × (new.eof ≡ true)
+eof_gives_nothing now new bytes done reads = grind (arith, common_steps)
+
+pub stays_at_eof : (now new : Reader) (bytes : List ℕ) → IsDone now → ReaderAdvance now new bytes → IsDone new
+stays_at_eof now new bytes done reads = grind (arith, common_steps)
+
+-- once the input has ended, the bytes of a read and any continuation after them are empty
+pub may_follow : (now new : Reader) (bytes rest : List ℕ) → ReaderAdvance now new bytes → (IsDone new → rest ≡ [])
+    → IsDone now → bytes ++ rest ≡ []
+may_follow now new bytes rest reads may done = grind (arith, common_steps)
+
+-- the first bytes of a block were consumed
+pub advance_past : {now shown new : Reader} {block : List ℕ} (count : ℕ) → AdvanceOk now shown []
+    → shown.buffered ≡ block → count ≤ length block → new ≡ record shown { buffered = drop count shown.buffered }
+    → AdvanceOk now new (take count block)
+advance_past {shown} count advance_ok buffered fits consumed = grind (arith, common_steps, advance_ok_take)
+
+-- a line was read, and after it some of the next block
+pub budget_of_line : (old : Reader) {now shown new : Reader} (count : ℕ) → budget now < budget old
+    → AdvanceOk now shown [] → new ≡ record shown { buffered = drop count shown.buffered } → budget new < budget old
+budget_of_line old {shown} count less advance_ok consumed = grind (arith, common_steps)
 
 abbrev state : Reader → Output → Slots → CallState (Unit {0})
 state reader out store = call_state (λ u. reader) out store
@@ -209,3 +243,335 @@ module _ {X : Type 0} {rest_from : X → List ℕ → List ℕ} {start now : X} 
     -- and a write failed there
     pub pass_unended : is'.write_failed ≡ true → PassPost tool old new was is' before store (Err Write)
     pass_unended fault = pass_write wrote all_of_it fault same not_denied
+
+-- Bytes that are pushed piece by piece: the pushed bytes are a prefix, and the rest is left. A failed push leaves a
+-- prefix too, so the result of several pushes is that of one.
+
+-- one push after another, even after a fault
+pub wrote_then : (a b c : Output) {xs ys : List ℕ} → PushEffect a b xs → PushEffect b c ys → PushEffect a c (xs ++ ys)
+wrote_then a b c {xs} {ys} p q = by_fault b.write_failed refl
+  where
+    by_fault : (fault : Bool) → b.write_failed ≡ fault → PushEffect a c (xs ++ ys)
+    by_fault false clean = push_trans a b c xs ys clean p q
+    by_fault true fault =
+        subst (λ o. PushEffect a o (xs ++ ys)) (sym (q.stays fault)) (push_past_failure a b xs ys fault p)
+
+pub push_then : {E : Type 0} {a b c : Output} {xs ys : List ℕ} {r : Result (Unit {0}) E} → PushEffect a b xs
+    → PushPost b c ys r → PushPost a c (xs ++ ys) r
+push_then p q = record { wrote = wrote_then _ _ _ p q.wrote; clean = q.clean; fault = q.fault }
+
+-- a push failed, and so did the call
+pub push_failed : {E : Type 0} {a b : Output} {xs : List ℕ} {r : Result (Unit {0}) E} {e : E} → r ≡ Err e
+    → PushEffect a b xs → b.write_failed ≡ true → PushPost a b xs r
+push_failed = grind (arith, common_steps)
+
+pub record WrittenPrefix (whole rest : List ℕ) (was is : Output) : Type 0 where
+  pub pushed : List ℕ
+  pub wrote : PushEffect was is pushed
+  pub split : whole ≡ pushed ++ rest
+
+pub prefix_starts : {whole rest : List ℕ} {was : Output} → whole ≡ rest → WrittenPrefix whole rest was was
+prefix_starts {was} same = record { pushed = []; wrote = push_nothing was; split = same }
+
+module _ {whole rest : List ℕ} {was is : Output} (f : WrittenPrefix whole rest was is) where
+  module _ {is' : Output} {bytes : List ℕ} (more : List ℕ) (same : rest ≡ bytes ++ more)
+      (wrote : PushEffect is is' bytes) where
+    all_split : whole ≡ (f.pushed ++ bytes) ++ more
+    all_split = cc (append_assoc f.pushed bytes more)
+
+    pub front_more : WrittenPrefix whole more was is'
+    front_more = search (rules, wrote_then, all_split)
+
+    pub front_fails : is'.write_failed ≡ true → PushEffect was is' whole
+    front_fails fault = rw all_split (push_past_failure _ _ _ more fault (wrote_then _ _ _ f.wrote wrote))
+
+-- ---- results
+
+pub on_err : {T E : Type 0} (r : Result T E) {P : Type 0} → P → OnErr r P
+on_err (Ok u) p = tt
+on_err (Err e) p = p
+
+-- what `?` returns on an error
+pub returned_err : {T E A : Type 0} {Q : E → Type 0} (r : Result T E) → A × IsErrAnd r Q → (e : E) × (r ≡ Err e) × Q e
+returned_err r (_, is_err) = err_from_is_err_and r is_err
+
+-- A tool that works block by block. The output of each block is pushed before the next is read, so the input with no
+-- output yet is in the reader's buffer.
+
+-- a counter is at most the number of bytes that were processed
+module _ {reader shown : Reader} {block : List ℕ} (advance_ok : AdvanceOk reader shown [])
+    (buffered : shown.buffered ≡ block) (sound : IsSound reader) {counted : ℕ}
+    (few : counted ≤ reader.pulled - length reader.buffered) where
+  pub counted_more : {new : Reader} {more : ℕ} → new ≡ record shown { buffered = drop (length block) shown.buffered }
+      → more ≤ counted + length block → more ≤ new.pulled - length new.buffered
+  counted_more consumed least = grind (arith, common_steps)
+
+-- The state between two blocks. The configuration of the tool is unchanged.
+pub record BlockLoopState {X : Type 0} (rest_from : X → List ℕ → List ℕ) (IsUnchanged : X → X → Type 0) (start now : X)
+    (old reader : Reader) (was is : Output) : Type 0 where
+  pub given : List ℕ
+  pub pushed : List ℕ
+  pub reached : Progress old reader was is given pushed
+  pub on : (rest : List ℕ) → rest_from start (given ++ rest) ≡ pushed ++ rest_from now rest
+  pub holds : IsUnchanged start start → IsUnchanged start now
+
+module _ {X : Type 0} {rest_from : X → List ℕ → List ℕ} {IsUnchanged : X → X → Type 0} {start : X} {old : Reader}
+    {was : Output} where
+  pub blocks_start : old.fault ≡ None → was.write_failed ≡ false
+      → BlockLoopState rest_from IsUnchanged start start old old was was
+  blocks_start readable clean = record {
+    given = [];
+    pushed = [];
+    reached = progress_none old was readable clean;
+    on = λ rest. refl;
+    holds = λ same. same;
+  }
+
+  module _ {now : X} {reader : Reader} {is : Output}
+      (run : BlockLoopState rest_from IsUnchanged start now old reader was is) where
+    -- the buffered output was written
+    pub block_sent : {is' : Output} → PushEffect is is' [] → is'.write_failed ≡ false
+        → BlockLoopState rest_from IsUnchanged start now old reader was is'
+    block_sent wrote clean = record {
+      given = run.given;
+      pushed = run.pushed;
+      reached = progress_flushed run.reached wrote clean;
+      on = run.on;
+      holds = run.holds;
+    }
+
+    -- the output of a block was pushed, and the block consumed
+    pub block_taken : {shown new : Reader} {block : List ℕ} {next : X} {is' : Output} → AdvanceOk reader shown []
+        → shown.buffered ≡ block → new ≡ record shown { buffered = drop (length block) shown.buffered }
+        → OutputPart rest_from now next block is is' → (IsUnchanged start now → IsUnchanged start next)
+        → BlockLoopState rest_from IsUnchanged start next old new was is'
+    block_taken {block} {next} advance_ok buffered consumed part unchanged = record {
+      given = run.given ++ block;
+      pushed = run.pushed ++ part.pushed;
+      reached = record {
+        advance_ok = grind (arith, common_steps, advance_ok_trans, take_all, advance_past);
+        wrote = search (rules, push_trans);
+        clean = part.clean;
+      };
+      on = grind (arith, common_steps, append_assoc);
+      holds = λ same. unchanged (run.holds same);
+    }
+
+    abbrev midway : PassState rest_from start now old reader was is
+    midway = record { given = run.given; pushed = run.pushed; reached = run.reached; on = λ rest may. run.on rest }
+
+    -- the block was read
+    module _ {tool : ToolSpec} (block_filter : IsBlockFilter tool rest_from IsUnchanged start) {store : Slots}
+        (ready : PassPre old store) (sound : IsSound reader) {new : Reader} (reads : ReaderAdvance reader new [])
+        (is_sound : IsSound new) where
+      decided_so : IsPrefix (tool.decided (record { bytes = run.given; eof = false })) run.pushed
+      decided_so = grind (arith, common_steps)
+
+      -- the output that was pushed before this block
+      pub ending : PassEnding tool midway new store store []
+      ending = record {
+        is_text = block_filter.text;
+        ready = ready;
+        sound = sound;
+        reads = reads;
+        stored = store_unchanged block_filter.slots;
+        keeps_store = λ none. refl;
+        processing = record {
+          before = λ u. record {
+            earlier = record { bytes = run.given; eof = false };
+            last = new.buffered;
+            split = cc (append-nil _);
+            short = omega arith;
+            eof = λ never. cc;
+          };
+          begins = decided_so;
+        };
+      }
+
+      pub block_read : HasReadCause reader new → PassPost tool old new was is store store (Err (Read 0))
+      block_read cause = pass_read ending cause ready.not_denied
+          (search (rules, decided_so))
+
+-- The lines that were read from a reader. A line that was read is complete, so it is a line of the input for every
+-- continuation; the same holds for the complete lines of a block.
+
+-- Laws of the lines of a text: complete lines and the unfinished line after them, the maximum length, and the lines of
+-- a block one by one. All of them use the first terminator in some bytes, before which there is no other.
+
+-- the complete lines of a text, and the unfinished line after them
+pub record LineSplit (end : ℕ) (bytes : List ℕ) : Type 0 where
+  pub piece : List ℕ
+  pub is : bytes ≡ unlines end (complete_lines end bytes) ++ piece
+  pub whole : AreLines end (complete_lines end bytes)
+  pub line : IsLine end piece
+
+pub line_split : (end : ℕ) (bytes : List ℕ) → LineSplit end bytes
+line_split end [] = record { piece = []; is = refl; whole = tt; line = tt }
+line_split end (b ∷ bytes) =
+    let split = line_split end bytes in
+    let (piece, is, whole, line) =
+    put (b == end) (complete_lines end bytes) split.piece refl split.is split.whole split.line in
+    record { piece = piece; is = is; whole = whole; line = line }
+  where
+    put : (t : Bool) (ls : List (List ℕ)) (piece : List ℕ) → (b == end) ≡ t → bytes ≡ unlines end ls ++ piece
+        → AreLines end ls → IsLine end piece
+        → let more = cond t ([] ∷ ls) (onto_first_if_any b ls) in
+        (rest : List ℕ) × (b ∷ bytes ≡ unlines end more ++ rest) × AreLines end more × IsLine end rest
+    put true ls piece same is whole line = (piece, (λ i. eqb-true b end same i ∷ is i), (tt, whole), line)
+    put false [] piece other is whole line = (b ∷ piece, ap (◌∷◌ b) is, tt, (eqb-false b end other, line))
+    put false (l ∷ ls) piece other is (first, others) line =
+        (piece, ap (◌∷◌ b) is, ((eqb-false b end other, first), others), line)
+
+-- the complete lines come before those of the continuation
+pub complete_prefix : (end : ℕ) (bytes rest : List ℕ)
+    → lines end (bytes ++ rest) ≡ complete_lines end bytes ++ lines end ((line_split end bytes).piece ++ rest)
+complete_prefix = grind (arith, common_steps, line_split, append_assoc, lines_of_unlines)
+
+-- the bytes before the first terminator, and those after it
+module _ (end : ℕ) (bytes : List ℕ) (at : ℕ) (first : IsFirstByte (is_byte end) bytes (Some at)) where
+  pub split_of : bytes ≡ take at bytes ++ end ∷ drop (at + 1) bytes
+  split_of = cc (take-append-drop at bytes, drop_at_terminator end bytes at first)
+
+-- some of the lines were processed, and these bytes are the rest of the block
+pub record TakenLines (end : ℕ) (block rest : List ℕ) : Type 0 where
+  pub front : List ℕ
+  pub split : block ≡ front ++ rest
+  pub texts : unlines end (complete_lines end block) ≡ front ++ unlines end (complete_lines end rest)
+
+module _ (end : ℕ) where
+  pub ended_next : (rest : List ℕ) (at : ℕ) → IsFirstByte (is_byte end) rest (Some at)
+      → complete_lines end rest ≡ take at rest ∷ complete_lines end (drop (at + 1) rest)
+  ended_next rest at first =
+      cc (
+        split_of end rest at first,
+        complete_lines_cons end (take at rest) (drop (at + 1) rest)
+            (line_before_terminator end rest at first),
+      )
+
+  -- these first lines were processed too
+  pub taken_more : {block rest : List ℕ} (size : ℕ)
+      → unlines end (complete_lines end rest) ≡ take size rest ++ unlines end (complete_lines end (drop size rest))
+      → TakenLines end block rest → TakenLines end block (drop size rest)
+  taken_more {rest} size texts taken =
+      let front = take size rest in record {
+        front = taken.front ++ front;
+        split = grind (arith, common_steps, take-append-drop, append_assoc);
+        texts = grind (arith, common_steps, append_assoc);
+      }
+
+  -- no complete line is left
+  pub taken_all : {block rest : List ℕ} → IsLine end rest → TakenLines end block rest
+      → take (length block - length rest) block ≡ unlines end (complete_lines end block)
+  taken_all = grind (arith, common_steps, length-append, take_at, complete_lines_none, append-nil)
+
+longest_prefix : (end : ℕ) (ls : List (List ℕ)) (piece rest : List ℕ) → AreLines end ls → IsLine end piece
+    → max (max_length ls) (length piece) ≤ max_length (lines end (unlines end ls ++ (piece ++ rest)))
+longest_prefix end ls piece rest whole free = grind (arith, lines_of_unlines, max_length-append, piece_le_max_length)
+
+pub lines_none : (end : ℕ) (reader : Reader) → AreReceivedLines end reader [] []
+lines_none end reader = record { so_far = inl (refl, tt) }
+
+lines_length : (end : ℕ) (bytes : List ℕ) → length (lines end bytes) ≤ length bytes
+lines_length end [] = omega arith
+lines_length end (b ∷ bytes) = grind (arith, lines_length end bytes)
+
+module _ (end : ℕ) (now : Reader) (given : List ℕ) (ls : List (List ℕ))
+    (received : AreReceivedLines end now given ls) where
+  pub lines_are_given : lines end given ≡ ls
+  lines_are_given = grind (arith, lines-unlines)
+
+  pub lines_few : length ls ≤ length given
+  lines_few = rw lines_are_given at (lines_length end given)
+
+  -- for every continuation
+  pub lines_on : (rest : List ℕ) → (IsDone now → rest ≡ []) → lines end (given ++ rest) ≡ ls ++ lines end rest
+  lines_on rest may = grind (arith, common_steps, lines_of_unlines, append-nil)
+
+  pub received_longest : (input : List ℕ) → IsConsistent (received_with given now) input
+      → max_length ls ≤ max_line_length end input
+  received_longest input consistent = grind (arith, common_steps, append_assoc, lines_on, max_length-append)
+
+  -- the first part of a line was read
+  module _ (new : Reader) (piece : List ℕ) (reads : ReaderAdvance now new piece) (free : IsLine end piece) where
+    pub piece_longest : (input : List ℕ) → IsConsistent (received_with (given ++ piece) new) input
+        → max (max_length ls) (length piece) ≤ max_line_length end input
+    piece_longest input consistent =
+        grind (arith, common_steps, append_assoc, longest_prefix, free, eof_gives_nothing, append-nil)
+
+    -- and the read of its rest failed
+    pub whole_before : new.buffered ≡ [] → new.eof ≡ false → known_lines end (received_with (given ++ piece) new) ≡ ls
+    whole_before empty going = search (rules, complete_lines_of_unlines, free, stays_at_eof)
+
+  -- one line was read
+  module _ (new : Reader) (before after : Slots) (slot : ℕ) (next_line : FillLine now new before after slot)
+      (same : now.terminator ≡ end) where
+    free : IsLine end next_line.line
+    free = rw same at next_line.whole
+
+    -- its bytes are a line for every continuation
+    pub line_prefix : (rest : List ℕ) → (IsDone new → rest ≡ [])
+        → lines end ((next_line.line ++ next_line.terminator) ++ rest) ≡ next_line.line ∷ lines end rest
+    line_prefix rest may = grind (arith, common_steps, append_assoc, lines_cons, free, append-nil, lines_of_last)
+
+    pub lines_more : AreReceivedLines end new (given ++ (next_line.line ++ next_line.terminator))
+        (ls ++ next_line.line ∷ [])
+    lines_more = grind (arith, common_steps, lines_of_unlines, lines_of_last)
+
+-- some complete lines were read after those
+pub lines_block : {end : ℕ} {reader : Reader} {given : List ℕ} {ls : List (List ℕ)}
+    → AreReceivedLines end reader given ls → {new : Reader} (more : List (List ℕ))
+    → AdvanceOk reader new (unlines end more) → AreLines end more
+    → AreReceivedLines end new (given ++ unlines end more) (ls ++ more)
+lines_block {end} {ls} received more advance_ok are = grind (arith, common_steps, lines-unlines)
+
+-- ---- the input two blocks earlier
+
+-- the complete lines of the input that was read two blocks earlier, or less
+pub record EarlierLines (end : ℕ) (ls : List (List ℕ)) (came : Received) : Type 0 where
+  pub before : LaggedInput came
+  pub whole : known_lines end before.earlier ≡ ls
+
+pub line_take : (end n : ℕ) (bytes : List ℕ) → IsLine end bytes → IsLine end (take n bytes)
+line_take end zero bytes are = tt
+line_take end (suc n) [] are = tt
+line_take end (suc n) (b ∷ bytes) (differs, are) = (differs, line_take end n bytes are)
+
+-- the terminator of a line and the buffered bytes after it are at most 8,193 bytes
+pub after_line : {now new : Reader} {before after : Slots} {slot : ℕ} (next_line : FillLine now new before after slot)
+    → IsSound new → length (next_line.terminator ++ new.buffered) ≤ 8193
+after_line {new} next_line sound = grind arith
+
+module _ {end : ℕ} {now new : Reader} {given : List ℕ} {ls : List (List ℕ)}
+    (received : AreReceivedLines end now given ls)
+    {piece : List ℕ} (reads : ReaderAdvance now new piece) (line behind : List ℕ)
+    (is : piece ++ new.buffered ≡ line ++ behind) (whole : IsLine end line) (short : length behind ≤ 8193) where
+  -- all but the terminator of a line that was read, and the bytes after it
+  pub before_line : EarlierLines end ls (received_with (given ++ piece) new)
+  before_line = elim received.so_far [
+    | inl (text, are) ↦ let n = length line - 8191 in record {
+      before = record {
+        earlier = record { bytes = given ++ take n line; eof = false };
+        last = drop n line ++ behind;
+        split =
+            cc (
+              append_assoc given piece new.buffered,
+              take-append-drop n line,
+              append_assoc (take n line) (drop n line) behind,
+              append_assoc given (take n line) (drop n line ++ behind),
+            );
+        short = grind (arith, common_steps, length-append);
+        eof = λ never. absurd (false≢true never);
+      };
+      whole = grind (arith, common_steps, complete_lines_of_unlines, line_take);
+    }
+    | inr (same, done) ↦ let none = eof_gives_nothing _ _ _ done reads in record {
+      before = record {
+        earlier = record { bytes = given; eof = true };
+        last = [];
+        split = cc (append-nil (given ++ []));
+        short = omega arith;
+        eof = λ e. (stays_at_eof _ _ _ done reads).eof;
+      };
+      whole = same;
+    }
+  ]

@@ -1,22 +1,158 @@
 -- A tool that works line by line. The items written for the lines so far, and then those of the rest, are the items of
 -- the whole for every continuation; so the state between two lines is a `PassState`, and each exit is a lemma of
--- `Exits`.
+-- `Exits`. At most one line is in each slot of the tool, and nothing in the others, so the store holds at most `width`
+-- times the maximum length of these lines.
 use Rattle.ptflow.proofs
-use proofs.Common.{◌≡◌, Bool, ℕ, ◌+◌, ◌-◌, ◌<◌, ◌≤◌, ◌^◌, true, false, List, [], ◌∷◌, ◌++◌, Ok, Err, length, drop, max}
-use proofs.Common.{refl, ◌∙◌, ap, subst, arith, append_assoc, length-append, nil_from_length, get_or-set_same, lines}
-use proofs.Common.{complete_lines, IsLine, max_length, max_line_length, Received, known_lines, IsPrefix, IsConsistent}
-use proofs.Common.{Output, PushEffect, Reader, ReaderAdvance, AdvanceOk, IsDone, IsSound, HasReadCause, Slots, line}
-use proofs.Common.{with_line, with_denied, FillPost, FillLine, advance_ok_trans, push_trans, ToolSpec, PassPre}
-use proofs.Common.{PassPost, AddedSlots, AreReceivedLines, LinesWritten, LinesFailed, IsLinesLength, IsSwapped}
-use proofs.Common.{SlotsCleared, IsLineFilter, Read, Write, Memory, received_with, reads_nothing, common_steps}
-use proofs.Passes.Lines.{line_split, complete_prefix, max_length-append}
-use proofs.Passes.LinesRead.{lines_none, lines_few, lines_on, lines_more, lines_block, line_prefix, received_longest}
-use proofs.Passes.LinesRead.{piece_longest, whole_before, before_line, after_line}
-use proofs.Passes.Exits.{Progress, progress_none, progress_flushed, PassState, LaggedOutput, StoreBounds, PassEnding}
-use proofs.Passes.Exits.{nothing_more, pass_unslotted, pass_read, pass_memory, pass_write, pass_done, pass_unended}
-use proofs.Passes.Readers.{advance_past}
-use proofs.Passes.Slots.{SlotBounds, bounds_weaker, bounds_line, bounds_swapped, bounds_cleared}
-use Rattle.std.proofs.Common.{rules}
+use proofs.Common.{◌≡◌, ℕ, zero, suc, ◌+◌, ◌-◌, ◌*◌, ◌<◌, ◌≤◌, false, List, [], ◌∷◌, length, take, drop, set, get_or}
+use proofs.Common.{max, refl, sym, ◌∙◌, ap, subst, arith, inl, inr, take-append-drop, common_steps, drop_more}
+use proofs.Common.{length-set, drop-set-lt, sum_by-cons, sum_by-append, get_or-le-sum_by, Slots, total_bytes, with_line}
+use proofs.Common.{AddedSlots, IsSwapped, SlotsCleared, Bool, ◌^◌, true, ◌++◌, Ok, Err, append_assoc, length-append}
+use proofs.Common.{nil_from_length, get_or-set_same, lines, complete_lines, IsLine, max_length, max_line_length}
+use proofs.Common.{Received, known_lines, IsPrefix, IsConsistent, Output, PushEffect, Reader, ReaderAdvance, AdvanceOk}
+use proofs.Common.{IsDone, IsSound, HasReadCause, line, with_denied, FillPost, FillLine, advance_ok_trans, push_trans}
+use proofs.Common.{ToolSpec, PassPre, PassPost, AreReceivedLines, LinesWritten, LinesFailed, IsLinesLength}
+use proofs.Common.{IsLineFilter, Read, Write, Memory, received_with, reads_nothing, rules}
+use proofs.Passes.Exits.{line_split, complete_prefix, max_length-append, lines_none, lines_few, lines_on, lines_more}
+use proofs.Passes.Exits.{lines_block, line_prefix, received_longest, piece_longest, whole_before, before_line}
+use proofs.Passes.Exits.{after_line, Progress, progress_none, progress_flushed, PassState, LaggedOutput, StoreBounds}
+use proofs.Passes.Exits.{PassEnding, nothing_more, pass_unslotted, pass_read, pass_memory, pass_write, pass_done}
+use proofs.Passes.Exits.{pass_unended, advance_past}
+use Rattle.ptflow.specs.Private.Passes.LineLoop.{RunLinesPre}
+use Rattle.std.proofs.lemmas.List.Edits.{swap_is}
+
+-- ---- the slots
+
+-- each of the first `width` slots holds at most `most` bytes, and the others are empty
+pub record SlotBounds (width most : ℕ) (before store : Slots) : Type 0 where
+  pub denied : store.denied ≡ false
+  pub size : length store.lines ≡ max (length before.lines) width
+  pub short : (k : ℕ) → k < width → length (get_or store.lines k []) ≤ most
+  pub others : total_bytes (drop width store.lines) ≡ 0
+  pub peak : store.peak ≤ max before.peak (width * most)
+
+total_split : (width : ℕ) (ls : List (List ℕ))
+    → total_bytes ls ≡ total_bytes (take width ls) + total_bytes (drop width ls)
+total_split width ls = cc (take-append-drop width ls, sum_by-append length (take width ls) (drop width ls))
+
+prefix_total : (width most : ℕ) (ls : List (List ℕ)) → ((k : ℕ) → k < width → length (get_or ls k []) ≤ most)
+    → total_bytes (take width ls) ≤ width * most
+prefix_total zero most ls short = omega arith
+prefix_total (suc width) most [] short = omega arith
+prefix_total (suc width) most (l ∷ ls) short =
+    let more : suc width * most ≡ most + width * most = omega arith in
+    rw more
+    (omega (
+      arith,
+      sum_by-cons length l (take width ls),
+      short 0 (omega arith),
+      prefix_total width most ls (λ k low. short (suc k) (omega arith)),
+    ))
+
+-- the total of slots with bounded lines is bounded
+pub bounded_total : (width most : ℕ) (ls : List (List ℕ)) → ((k : ℕ) → k < width → length (get_or ls k []) ≤ most)
+    → total_bytes (drop width ls) ≡ 0 → total_bytes ls ≤ width * most
+bounded_total width most ls short others = omega (arith, total_split width ls, prefix_total width most ls short, others)
+
+pub bounds_start : {width : ℕ} {before store : Slots} → AddedSlots before store width → store.denied ≡ false
+    → total_bytes store.lines ≡ 0 → store.peak ≡ before.peak → SlotBounds width 0 before store
+bounds_start {width} {store} adds denied empty peak = record {
+  denied = denied;
+  size = adds.all denied;
+  short = grind (arith, common_steps, get_or-le-sum_by);
+  others = omega (arith, total_split width store.lines);
+  peak = omega (arith, peak);
+}
+
+pub bounds_weaker : {width most : ℕ} (more : ℕ) {before store : Slots} → SlotBounds width most before store
+    → most ≤ more → SlotBounds width more before store
+bounds_weaker = grind arith
+
+-- a line was put into a slot
+pub bounds_line : {width most : ℕ} {before store : Slots} (new : Slots) (slot : ℕ) (bytes : List ℕ)
+    → SlotBounds width most before store → slot < width → length bytes ≤ most → new ≡ with_line store slot bytes
+    → SlotBounds width most before new
+bounds_line {width} {most} {store} new slot bytes bounds within fits is = record {
+  denied = cc;
+  size = same_length ∙ bounds.size;
+  short = short;
+  others = others;
+  peak =
+      omega (
+        arith,
+        ap (λ s. s.peak) is,
+        ap (λ s. total_bytes s.lines) is,
+        bounded_total width most new.lines short others,
+      );
+}
+  where
+    same_length : length new.lines ≡ length store.lines
+    same_length = cc (length-set store.lines slot bytes)
+
+    short : (i : ℕ) → i < width → length (get_or new.lines i []) ≤ most
+    short i low = grind (arith, common_steps)
+
+    others : total_bytes (drop width new.lines) ≡ 0
+    others = cc (drop-set-lt width store.lines slot bytes within)
+
+-- the first and the last slot may have been swapped
+pub swapped_room : {width : ℕ} {before after : Slots} → IsSwapped width before after → 0 < width
+    → width ≤ length before.lines → width ≤ length after.lines
+swapped_room = grind (arith, common_steps, swap_is, length-set)
+
+pub bounds_swapped : {width most : ℕ} {before store : Slots} (new : Slots) → 0 < width
+    → SlotBounds width most before store → IsSwapped width store new → SlotBounds width most before new
+bounds_swapped {width} {most} {before} {store} new some bounds either = elim either [
+  | inl same ↦ subst (SlotBounds width most before) (sym same) bounds
+  | inr is ↦
+      let room : width ≤ length store.lines = omega (arith, bounds.size) in
+      let swapped = swap_is store.lines 0 (width - 1) [] (omega arith) (omega arith) in
+      let same : new.lines ≡ set (set store.lines 0 last) (width - 1) first = cc in
+      record {
+        denied = cc;
+        size = cc (same, bounds_both.size);
+        short = λ i low. rw same (bounds_both.short i low);
+        others = cc (same, bounds_both.others);
+        peak = omega (arith, ap (λ s. s.peak) is, bounds.peak);
+      }
+]
+  where
+    first : List ℕ
+    first = get_or store.lines 0 []
+
+    last : List ℕ
+    last = get_or store.lines (width - 1) []
+
+    bounds_both : SlotBounds width most before (with_line (with_line store 0 last) (width - 1) first)
+    bounds_both =
+        bounds_line (with_line (with_line store 0 last) (width - 1) first) (width - 1) first
+        (bounds_line (with_line store 0 last) 0 last bounds some (bounds.short (width - 1) (omega arith)) refl)
+        (omega arith) (bounds.short 0 some) refl
+
+-- the last slot was empty, and the others were cleared
+pub bounds_cleared : {width most : ℕ} {before store new : Slots} → SlotBounds width most before store → 0 < width
+    → get_or store.lines (width - 1) [] ≡ [] → SlotsCleared (width - 1) store new
+    → SlotBounds width most before new × (total_bytes new.lines ≡ 0)
+bounds_cleared {width} {most} {store} {new} bounds some last cleared = (
+  record {
+    denied = cc;
+    size = cleared.size ∙ bounds.size;
+    short =
+        grind (arith, common_steps);
+    others = omega (arith, none, total_split width new.lines);
+    peak = omega (arith, bounded_total width most store.lines bounds.short bounds.others);
+  },
+  none,
+)
+  where
+    none : total_bytes new.lines ≡ 0
+    none =
+        let one : width - 1 + 1 ≡ width = omega arith in
+        let more = drop_more store.lines (width - 1) [] (omega arith) in
+        let behind = ap total_bytes more ∙ sum_by-cons length (get_or store.lines (width - 1) [])
+        (drop (width - 1 + 1) store.lines) in
+        omega (arith, behind, ap length last, ap (λ n. total_bytes (drop n store.lines)) one)
+
+-- ---- the lines
 
 -- These lines were read, and each of `width` slots has at most one line.
 pub record LineLoopState {S X E : Type 0} (state : S → Slots → X) (rest_from : X → List (List ℕ) → List E)
@@ -72,13 +208,13 @@ module _ {S X E : Type 0} {tool : ToolSpec} {state : S → Slots → X} {rest_fr
       (omega (arith, ap length (line_filter.apart [] []), length-append (written []) (written [])))
 
   module _ {old : Reader} {was : Output} {before : Slots} where
-    pub run_starts : {store : Slots} → old.terminator ≡ end → PassPre old before → was.write_failed ≡ false
-        → SlotBounds width 0 before store → Run old old was was before store (state start store)
-    run_starts {store} ends ready clean keeps = record {
+    pub run_starts : {store : Slots} → RunLinesPre end old was before → SlotBounds width 0 before store
+        → Run old old was was before store (state start store)
+    run_starts {store} begins keeps = record {
       given = [];
       ls = [];
       passed = [];
-      terminator = ends;
+      terminator = begins.ends;
       came = lines_none end old;
       reached = search (rules, none_written, progress_none);
       first = store;
@@ -88,13 +224,13 @@ module _ {S X E : Type 0} {tool : ToolSpec} {state : S → Slots → X} {rest_fr
     }
 
     -- a slot could not be allocated
-    pub run_unslotted : {store : Slots} → old.terminator ≡ end → PassPre old before → IsSound old
-        → was.write_failed ≡ false → AddedSlots before store width → length store.lines < width
-        → store.peak ≡ before.peak → store.denied ≡ true → PassPost tool old old was was before store (Err Memory)
-    run_unslotted {store} ends ready sound clean adds few same denied =
+    pub run_unslotted : {store : Slots} → RunLinesPre end old was before → AddedSlots before store width
+        → length store.lines < width → store.peak ≡ before.peak → store.denied ≡ true
+        → PassPost tool old old was was before store (Err Memory)
+    run_unslotted {store} begins adds few same denied =
         let nothing : Received = record { bytes = []; eof = false } in
-        pass_unslotted tool was ready sound clean (rw line_filter.slots adds) (rw line_filter.slots few) same denied
-        ends
+        pass_unslotted tool was begins.ready begins.sound begins.clean (rw line_filter.slots adds)
+        (rw line_filter.slots few) same denied begins.ends
         (rw none_written at (line_filter.decided store nothing [] (state start store) (λ more. refl)))
 
     module _ {now : X} {reader : Reader} {is : Output} {store : Slots}
@@ -202,12 +338,21 @@ module _ {S X E : Type 0} {tool : ToolSpec} {state : S → Slots → X} {rest_fr
           → StoreBounds tool before after given
       kept = grind arith
 
-      keeps_last : {after : Slots} (bytes : List ℕ) → after ≡ with_line store (width - 1) bytes
+      pub keeps_last : {after : Slots} (bytes : List ℕ) → after ≡ with_line store (width - 1) bytes
           → SlotBounds width (max (max_length run.ls) (length bytes)) before after
       keeps_last bytes told =
           let most = max (max_length run.ls) (length bytes) in
           bounds_line _ (width - 1) bytes (bounds_weaker most run.keeps (omega arith)) (omega arith)
           (omega arith) told
+
+      pub same_bounds : SlotBounds width (max (max_length run.ls) 0) before store
+      same_bounds = bounds_weaker (max (max_length run.ls) 0) run.keeps (omega arith)
+
+      same_end : reader.terminator ≡ end
+      same_end = run.reached.advance_ok.reads.terminator ∙ run.terminator
+
+      free : (piece : List ℕ) → IsLine reader.terminator piece → IsLine end piece
+      free piece whole = rw same_end at whole
 
       -- a write failed at some lines, which come before the continuation
       halts : {new : Reader} {piece : List ℕ} {after : Slots} → PassEnding tool midway new before after piece
@@ -230,15 +375,15 @@ module _ {S X E : Type 0} {tool : ToolSpec} {state : S → Slots → X} {rest_fr
         ending = grind arith
 
         -- the first part of a line was read
-        module _ {new : Reader} {piece : List ℕ} (reads : ReaderAdvance reader new piece) (free : IsLine end piece)
-            (is_sound : IsSound new) where
+        module _ {new : Reader} {piece : List ℕ} (reads : ReaderAdvance reader new piece)
+            (whole : IsLine reader.terminator piece) (is_sound : IsSound new) where
           stored : {after : Slots} → SlotBounds width (max (max_length run.ls) (length piece)) before after
               → StoreBounds tool before after (received piece new)
-          stored bounds = kept (received piece new) bounds (piece_longest _ _ _ _ run.came _ _ reads free)
+          stored bounds = kept (received piece new) bounds (piece_longest _ _ _ _ run.came _ _ reads (free _ whole))
 
           piece_ending : {after : Slots} → StoreBounds tool before after (received piece new)
               → PassEnding tool midway new before after piece
-          piece_ending bounded = ending reads bounded (works_piece reads free is_sound)
+          piece_ending bounded = ending reads bounded (works_piece reads (free _ whole) is_sound)
 
           -- and then a read failed
           pub run_read : {after : Slots} → SlotBounds width (max (max_length run.ls) (length piece)) before after
@@ -246,11 +391,7 @@ module _ {S X E : Type 0} {tool : ToolSpec} {state : S → Slots → X} {rest_fr
           unfolding midway
           run_read bounds cause =
               pass_read (piece_ending (stored bounds)) cause bounds.denied
-              (grind (arith, decided_so, whole_before))
-
-          pub run_broken : {after : Slots} → after ≡ with_line store (width - 1) piece → HasReadCause reader new
-              → PassPost tool old new was is before after (Err (Read 0))
-          run_broken told = run_read (keeps_last piece told)
+              (grind (arith, decided_so, whole_before, free _ whole))
 
           -- and then the store could not grow
           pub run_memory : {after : Slots} → after ≡ with_denied (with_line store (width - 1) piece)
@@ -263,15 +404,8 @@ module _ {S X E : Type 0} {tool : ToolSpec} {state : S → Slots → X} {rest_fr
 
         -- a block was read
         module _ {new : Reader} (reads : ReaderAdvance reader new []) (is_sound : IsSound new) where
-          same_bounds : SlotBounds width (max (max_length run.ls) 0) before store
-          same_bounds = bounds_weaker (max (max_length run.ls) 0) run.keeps (omega arith)
-
           block_ending : PassEnding tool midway new before store []
           block_ending = piece_ending reads tt is_sound (stored reads tt is_sound same_bounds)
-
-          -- reading it failed
-          pub run_no_block : HasReadCause reader new → PassPost tool old new was is before store (Err (Read 0))
-          run_no_block = run_read reads tt is_sound same_bounds
 
           -- a write failed at its lines
           pub run_block_halts : {block : List ℕ} → new.buffered ≡ block → new.failed ≡ reader.failed
@@ -326,7 +460,7 @@ module _ {S X E : Type 0} {tool : ToolSpec} {state : S → Slots → X} {rest_fr
             → PassPost tool old new was is' before after (Err Write)
         run_line_halts ready sound is_sound halted =
             let came = next_line.line ++ next_line.terminator in
-            let ends = run.reached.advance_ok.reads.terminator ∙ run.terminator in
+            let ends = same_end run in
             let more = lines_more _ _ _ _ run.came _ _ _ _ next_line ends in
             let bounds = keeps_last run _ next_line.stored in
             halts run

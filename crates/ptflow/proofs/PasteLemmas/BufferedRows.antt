@@ -1,67 +1,76 @@
--- Columns that are copied from the buffers of the readers. A line that is complete in a buffer is the line that `fill`
--- would return, so a column is filled by it in the same way.
+-- Rows that are copied from the buffers of the readers. A column takes a line that is complete in a buffer as it would
+-- take it from a slot. Rows of n columns that all read one input take n lines each, one for each column; if the
+-- terminators of these lines are replaced by the cycle (the delimiters of the row, and a last entry that keeps the
+-- terminator), they become the row. So bytes with count * n terminators, the last at the end, become `count` rows.
 use Rattle.ptflow.proofs
-use proofs.Common.{◌≡◌, inl, ℕ, ◌+◌, ◌<◌, ◌≤◌, ◌^◌, ◌||◌, Bool, true, false, List, [], ◌∷◌, ◌++◌, ◌%◌, eq-eqb, ne_eqb}
-use proofs.Common.{option_to_list, slice_index_or, None, Some, Ok, length, take, drop, set, get_or, refl, sym, ap}
-use proofs.Common.{arith, append_assoc, length-append, length-drop, take-take, take-append-le, length-take-le}
-use proofs.Common.{drop_at, IsFirstByte, is_byte, Reader, IsSound, Slots, with_line, FillLine, FillPost, common_steps}
-use proofs.Common.{line_before_terminator, take_with_terminator, advance_ok_take, reader_at, CellsFilled, after_cell}
-use proofs.Common.{cells_text, RowShape, BegunText, BufferedRowsPre, IsConsumed, AreConsumed, IsFieldCopied}
-use proofs.Common.{CopyColumnsPost, CopyRowsPost, RowsTaken, put_chunk, chunk, length-chunk, length-put_chunk}
-use proofs.Common.{take_more_put_chunk}
+use proofs.Common.{eq-eqb, ne_eqb, option_to_list, slice_index_or, Bool, List, None, Some, [], ap, append_assoc, arith}
+use proofs.Common.{drop, false, get_or, get_or-take, inl, length, length-append, length-drop, map, refl, set, suc, sym}
+use proofs.Common.{take, take-append-drop, true, zero, ℕ, ◌%◌, ◌*◌, ◌++◌, ◌+◌, ◌-◌, ◌<◌, ◌||◌, ◌∙◌, ◌∷◌, ◌≡◌, ◌≢◌, ◌≤◌}
+use proofs.Common.{mod-eq_of_lt, cases_eq, nat_tests, common_steps, append-nil, drop_at, length-set, length-take-le}
+use proofs.Common.{nil_from_length, take-append-le, take-take, sum_by-set, mod-mul-add, length-chunk, length-put_chunk}
+use proofs.Common.{take_more_put_chunk, count_by, chunk, put_chunk, IsFirstByte, is_byte, push_nothing, advance_ok_take}
+use proofs.Common.{line_before_terminator, take_with_terminator, lines_are, byte_eq, unlines-append, the_lines, Output}
+use proofs.Common.{PushEffect, IsDone, IsSound, Reader, budget, no_reader, reader_at, line, AreLines, EndsWithByte}
+use proofs.Common.{lines, unlines, update_at, columns, join_with_cycle, rows, uses_of, IsWholeRows, IsSharedCycle}
+use proofs.Common.{cycle_byte, with_replacements, RowShape, BegunText, after_cell, cells_text, LinesTaken, IsConsumed}
+use proofs.Common.{BufferedRowsPre, AreConsumed, RowsTaken, IsFieldCopied, CopyColumnsPost, CopyRowsPost, RowsWritten}
+use proofs.Common.{take-append-add, rules}
 use Rattle.memchr.specs.Find.{IsFirst, Passes}
 use Rattle.ptlines.proofs.CopyFacts.{copied_prefix}
-use Rattle.std.proofs.Math.Seq.{take-append-add}
 use borrow.Rule.Slice.PartMut.{mid_of, put_mid}
 use Rattle.ptflow.specs.Private.Paste.BufferedRows.{LineCopied}
-use proofs.PasteLemmas.RowsTaken.{cells_text-push, rows_taken_trans, row_taken}
-use proofs.PasteLemmas.FillRow.{IsNextReader, next_reader, each_reader, fill_starts, fill_next}
-use Rattle.std.proofs.Common.{rules}
-
--- A line that is complete in a buffer is the line that `fill` would return.
-buffered_line : (b r : Reader) (at : ℕ) (store : Slots) (slot : ℕ) → b.fault ≡ None → b.pulled < 2 ^ 63
-    → IsFirstByte (is_byte b.terminator) b.buffered (Some at)
-    → r ≡ record b { buffered = drop (at + 1) b.buffered } → FillLine b r store
-    (with_line store slot (take at b.buffered)) slot
-buffered_line b r at store slot clean short first step =
-    let (found, here) = first in
-    let advance_ok = rw (take_with_terminator b.terminator b.buffered at first) at
-    (advance_ok_take b r (at + 1) clean (omega arith) step) in
-    record {
-      line = take at b.buffered;
-      terminator = b.terminator ∷ [];
-      advance_ok = advance_ok;
-      whole = line_before_terminator b.terminator b.buffered at first;
-      ends = inl refl;
-      stored = refl;
-      less = omega (arith, length-append (take at b.buffered) (b.terminator ∷ []));
-    }
+use proofs.PasteLemmas.Rows.{cells_text-push, rows_taken_trans, row_taken, taken_by, taken_eof, nothing_taken}
+use proofs.PasteLemmas.Rows.{rows_taken_none, row_text, IsNextReader, next_reader, each_reader, fill_starts, fill_next}
+use proofs.PasteLemmas.Rows.{FieldTaken}
+use proofs.Vectors.FindNth.{none_counted}
+use proofs.PasteLemmas.Grid.{Column, for_each_cell_unique, top_of, grid_step, grid_none, after_row, columns_same}
+use proofs.PasteLemmas.Grid.{uses_here, last_use, update_here, update_there}
+use proofs.PasteLemmas.Replaced.{counted, replaced-append, replaced_line}
+use Rattle.ptflow.specs.declared.simd.replace.Cycle.{Cycle}
 
 sound_after_consume : {b r : Reader} → IsSound b → IsConsumed b r → IsSound r
 sound_after_consume {b} s step = grind (arith, common_steps)
 
 -- ---- one column
 
--- An empty store, which only serves to state what `fill` would return.
-abbrev no_slots : Slots
-no_slots = record { lines = [] ∷ []; peak = 0; denied = false }
+-- A line that is complete in a buffer was consumed.
+taken_buffered : {end : ℕ} {b r : Reader} (at : ℕ) → b.fault ≡ None → IsSound r
+    → IsFirstByte (is_byte end) b.buffered (Some at) → r ≡ record b { buffered = drop (at + 1) b.buffered }
+    → LinesTaken end b r 1 (take at b.buffered ∷ [])
+taken_buffered {end} {b} {r} at clean sound first step =
+    let (found, here) = first in
+    taken_by (advance_ok_take b r (at + 1) clean (omega arith) step) clean sound (record {
+      so_far = inl (
+        cc (take_with_terminator end b.buffered at first, append-nil (take at b.buffered ++ end ∷ [])),
+        (
+          line_before_terminator end b.buffered at first,
+          tt,
+        ),
+      );
+    }) (inl refl) (λ none. cc)
 
--- A column was copied as `fill` would have filled it, and some bytes of its reader were consumed.
-record FieldCopied (old new : Reader) (before after : List ℕ) (has : Bool) : Type 0 where
-  field : List ℕ
-  fills : FillPost old new no_slots (with_line no_slots 0 field) 0 (Ok has)
-  is : after ≡ before ++ field
-  consumed : IsConsumed old new
-
-field_copied : {end : ℕ} {b r : Reader} {before after : List ℕ} (has : Bool) → b.fault ≡ None → b.terminator ≡ end
-    → IsSound b → IsFieldCopied end b r before after has → FieldCopied b r before after has
-field_copied {b = b} {r = r} true clean ends sound p = record {
-  field = take p.at b.buffered;
-  fills = buffered_line b r p.at no_slots 0 clean (sound.long clean) (rw ends p.found) p.consumed;
-  is = p.is;
-  consumed = record { size = p.at + 1; is = p.consumed };
-}
-field_copied {b = b} {r = r} {before = before} false clean ends sound p = search (rules, advance_ok_take)
+-- The field was copied from a buffer.
+field_in_buffer : (end : ℕ) {b r : Reader} (before after : List ℕ) (has : Bool) → b.fault ≡ None → IsSound b
+    → IsFieldCopied end b r before after has
+    → (field : List ℕ) × (after ≡ before ++ field) × FieldTaken end b r field has × IsConsumed b r
+field_in_buffer end {b} {r} before after true clean sound p =
+    let (found, here) = p.found in
+    let consumed : IsConsumed b r = record { size = p.at + 1; is = p.consumed } in (
+      take p.at b.buffered,
+      p.is,
+      (
+        taken_buffered p.at clean (sound_after_consume sound consumed) p.found p.consumed,
+        omega (arith, length-drop (p.at + 1) b.buffered, ap budget p.consumed),
+      ),
+      consumed,
+    )
+field_in_buffer end {b} before after false clean sound p =
+    let done : IsDone b = grind arith in (
+      [],
+      cc (append-nil before),
+      rw p.same (taken_eof (advance_ok_take b b 0 clean (omega arith) refl) done clean sound, refl, omega arith),
+      rw p.same (record { size = 0; is = refl }),
+    )
 
 pub consumed_none : {old : List Reader} → AreConsumed old old
 consumed_none = record { count = refl; buffered = λ p. record { size = 0; is = refl } }
@@ -167,38 +176,27 @@ module _ {row : RowShape} where
       text = next;
     }
 
-    module _ (f : FieldCopied b r now.text copied has) where
-      filled_more : (from : List Reader) (front : List (List ℕ))
-          → CellsFilled row.cells begun.count from begun.readers front begun.any_line
-          → CellsFilled row.cells (now.count + 1) from (set now.readers input r)
-          (front ++ (s.fields ++ f.field ∷ [])) (now.any_line || has)
-      filled_more from front given =
-          let (field, stored, filled) = fill_next (s.filled from front given) x
-          (sound_after_consume sound f.consumed) no_slots (with_line no_slots 0 f.field) 0 has f.fills in
-          let same : field ≡ f.field = sym (ap (λ x. get_or x.lines 0 []) stored) in
-          rw (same, append_assoc front s.fields (f.field ∷ [])) at filled
-
-      one_more : {next : List ℕ} → next ≡ copied ++ after_cell row now.count
-          → CopyColumnsPost row begun (with_column next)
-      one_more after = record {
-        fields = s.fields ++ f.field ∷ [];
-        is =
-            let text = cells_text row begun.count s.fields in
-            let end = after_cell row now.count in
-            cc (
-              cells_text-push row begun.count s.fields f.field s.width,
-              append_assoc (begun.text ++ text) f.field end,
-              append_assoc begun.text text (f.field ++ end),
-            );
-        consumed = consumed_more s.consumed x.within x.is_read f.consumed;
-        width = omega (arith, length-append s.fields (f.field ∷ []));
-        filled = filled_more;
-      }
-
     -- One more column was copied, and the byte after it.
     pub columns_more : {next byte : List ℕ} → IsFieldCopied row.terminator b r now.text copied has
         → next ≡ copied ++ byte → byte ≡ after_cell row now.count → CopyColumnsPost row begun (with_column next)
-    columns_more field stored after = let here = x in grind (arith, one_more, field_copied, here.clean, here.ends)
+    columns_more field_is stored after =
+        let (field, is, taken, consumed) = field_in_buffer row.terminator now.text copied has x.clean sound field_is in
+        record {
+          fields = s.fields ++ field ∷ [];
+          is =
+              let text = cells_text row begun.count s.fields in
+              let end = after_cell row now.count in
+              cc (
+                cells_text-push row begun.count s.fields field s.width,
+                append_assoc (begun.text ++ text) field end,
+                append_assoc begun.text text (field ++ end),
+              );
+          consumed = consumed_more s.consumed x.within x.is_read consumed;
+          width = omega (arith, length-append s.fields (field ∷ []));
+          filled = λ from front given.
+              rw (append_assoc front s.fields (field ∷ [])) at
+              (fill_next (s.filled from front given) x r field has taken);
+        }
 
   -- The first columns of a row were copied after whole rows.
   pub rows_and_begun : {old now new : List Reader} {n at to : ℕ} {any_line : Bool} (into next : List ℕ)
@@ -223,4 +221,212 @@ module _ {row : RowShape} where
       → (p : CopyColumnsPost row (record { readers = now; count = 0; any_line = false; text = copied }) next)
       → next.count ≡ length row.cells → next.any_line ≡ true → RowsTaken row old next.readers next.text
   rows_more rows ready p all some = rw p.is (rows_taken_trans rows
-      (row_taken row ready.same_end (rw (all, some) at (p.filled _ [] fill_starts))))
+      (row_taken (rw (all, some) at (p.filled _ [] fill_starts))))
+
+-- ---- complete rows are known by the number of terminators
+
+-- A text of complete lines has one terminator for each line.
+ends_of_lines : (end : ℕ) (ls : List (List ℕ)) → AreLines end ls → count_by (is_byte end) (unlines end ls) ≡ length ls
+ends_of_lines end [] are_lines = refl
+ends_of_lines end (line ∷ ls) (free, are_lines) = grind (
+  arith,
+  common_steps,
+  byte_eq,
+  none_counted,
+  ends_of_lines end
+      ls are_lines,
+)
+
+ends_with : (end : ℕ) (bytes : List ℕ) → bytes ≢ [] → (0 < length bytes → get_or bytes (length bytes - 1) 0 ≡ end)
+    → EndsWithByte end bytes
+ends_with = grind (arith, common_steps)
+
+-- Bytes that end with a terminator and have count * n terminators are `count` complete rows.
+pub whole_rows_counted : (end n count : ℕ) (bytes : List ℕ)
+    → (0 < length bytes → get_or bytes (length bytes - 1) 0 ≡ end) → count_by (is_byte end) bytes ≡ count * n
+    → IsWholeRows end n bytes
+whole_rows_counted end n count bytes last counted =
+    let ((are_lines, text), only) = the_lines end bytes in
+    let is : unlines end (lines end bytes) ≡ bytes =
+    grind (arith, text, ends_with end bytes) in
+    record {
+      count = count;
+      ls = lines end bytes;
+      is = sym is;
+      are_lines = lines_are end bytes;
+      long = cc (ends_of_lines end (lines end bytes) (lines_are end bytes), counted);
+    }
+
+-- ---- the text of rows
+
+are_parts : (end n : ℕ) (ls : List (List ℕ)) → AreLines end ls → AreLines end (take n ls) × AreLines end (drop n ls)
+are_parts = grind (arith, common_steps)
+
+module _ {row : RowShape} {cycle : Cycle} (t : IsSharedCycle row cycle) where
+  abbrev n : ℕ
+  n = length row.cells
+
+  abbrev all_replaced : ℕ → List ℕ → List ℕ
+  all_replaced = with_replacements row.terminator (cycle_byte cycle)
+
+  -- The fields of a row from column c on.
+  row_replaced : (k c : ℕ) (ls : List (List ℕ)) → AreLines row.terminator ls → c + length ls ≡ n
+      → all_replaced (k * n + c) (unlines row.terminator ls) ≡ cells_text row c ls
+  row_replaced k c [] are_lines all = refl
+  row_replaced k c (line ∷ ls) (free, are_lines) all =
+      let rest = unlines row.terminator ls in
+      let low : c < n = omega arith in
+      let less : c < cycle.len = omega arith in
+      let index : (k * n + c) % cycle.len ≡ c % cycle.len =
+      cc (mod-mul-add k n c low, mod-eq_of_lt less) in
+      let byte = ap (λ m. get_or cycle.unrolled m 0 ∷ []) index ∙ t.bytes c low in
+      let number : k * n + c + 1 ≡ k * n + (c + 1) = omega arith in
+      let more = ap (λ m. all_replaced m rest) number ∙ row_replaced k (c + 1) ls are_lines (omega arith) in
+      cc (
+        append_assoc line (row.terminator ∷ []) rest,
+        replaced_line row.terminator (cycle_byte cycle) (k * n + c) line rest free,
+        append_assoc line (after_cell row c) (cells_text row (c + 1) ls),
+      )
+
+-- ---- the grid of one input
+
+-- `ls` for this input, and no lines for all others.
+abbrev pub lines_of_input : ℕ → Column → ℕ → Column
+lines_of_input input ls = update_at input ls (λ q. [])
+
+module _ (cells : List ℕ) (input : ℕ) (same : (c : ℕ) → c < length cells → get_or cells c 0 ≡ input) where
+  uses_before_column : (c : ℕ) → c ≤ length cells → uses_of (take c cells) input ≡ c
+  uses_before_column zero low = refl
+  uses_before_column (suc c) low =
+      let next : suc c ≡ c + 1 = omega arith in
+      cc (uses_here cells c input (omega arith) (same c (omega arith)), uses_before_column c (omega arith))
+
+  uses_all : uses_of cells input ≡ length cells
+  uses_all = grind (arith, common_steps, uses_before_column)
+
+  uses_none : (q : ℕ) → q ≢ input → uses_of cells q ≡ 0
+  uses_none q differ = grind (arith, last_use cells q, same)
+
+  -- The first n lines are the first row.
+  first_row : (some : 0 < length cells) (ls : Column) → length cells ≤ length ls
+      → rows (columns cells (lines_of_input input ls))
+      ≡ take (length cells) ls ∷ rows (columns cells (lines_of_input input (drop (length cells) ls)))
+  first_row some ls long =
+      let n = length cells in
+      let ins = lines_of_input input ls in
+      let here = update_here input ls (λ q. []) in
+      cc (
+        grid_step cells ins 0 some (omega (arith, ap length (here (get_or cells 0 0) (same 0 some)))),
+        for_each_cell_unique (top_of cells ins) cells (take n ls) [] (length-take-le n ls long)
+            (λ c low. rw (same c low) (rw (here input refl, uses_before_column c (omega arith))
+            (get_or-take n ls c [] low))),
+        columns_same cells (after_row cells ins) (lines_of_input input (drop n ls))
+            (λ q used. grind (arith, nat_tests, cases_eq q input, uses_all, uses_none q)),
+      )
+
+module _ {row : RowShape} {cycle : Cycle} (t : IsSharedCycle row cycle) where
+  abbrev rows_of : Column → List (List (List ℕ))
+  rows_of ls = rows (columns row.cells (lines_of_input (get_or row.cells 0 0) ls))
+
+  -- The text of the rows from row k on.
+  rows_replaced : (k more : ℕ) (ls : Column) → AreLines row.terminator ls → length ls ≡ more * length row.cells
+      → (length (rows_of ls) ≡ more) × (with_replacements row.terminator (cycle_byte cycle) (k * length row.cells)
+      (unlines row.terminator ls) ≡ unlines row.terminator (map (join_with_cycle row.delims 0) (rows_of ls)))
+  rows_replaced k zero [] are_lines long =
+      let none = grid_none row.cells (lines_of_input (get_or row.cells 0 0) []) (λ q used. grind (arith, nat_tests)) in
+      (cc, cc)
+  rows_replaced k zero (line ∷ ls) are_lines long = absurd (omega arith)
+  rows_replaced k (suc more) ls are_lines long =
+      let end = row.terminator in
+      let n = length row.cells in
+      let first = take n ls in
+      let rest = drop n ls in
+      let (whole_first, whole_rest) = are_parts end n ls are_lines in
+      let first_long = length-take-le n ls (omega arith) in
+      let start : k * n ≡ k * n + 0 = omega arith in
+      let next : k * n + count_by (is_byte end) (unlines end first) ≡ (k + 1) * n =
+      omega (arith, ends_of_lines end first whole_first) in
+      let step = first_row row.cells (get_or row.cells 0 0) (λ c low. t.same c 0 low) t.some ls (omega arith) in
+      let (count, text) = rows_replaced (k + 1) more rest whole_rest (omega (arith, length-drop n ls)) in (
+        omega (arith, ap length step),
+        cc (
+          take-append-drop n ls,
+          unlines-append end first rest,
+          replaced-append end (cycle_byte cycle) (k * n) (unlines end first) (unlines end rest),
+          row_replaced t k 0 first whole_first (omega arith),
+          row_text row 0 first (omega arith) (omega (arith, t.some)),
+        ),
+      )
+
+-- ---- the complete rows in the buffer
+
+module _ {row : RowShape} {cycle : Cycle} (t : IsSharedCycle row cycle) {old : List Reader}
+    {b r : Reader} (x : IsNextReader row old 0 b) (sound : IsSound b) {count : ℕ} (some : 0 < count)
+    (within : count ≤ length b.buffered)
+    (rs : IsWholeRows row.terminator (length row.cells) (take count b.buffered))
+    (step : r ≡ record b { buffered = drop count b.buffered }) where
+  abbrev end : ℕ
+  end = row.terminator
+
+  abbrev shared : ℕ
+  shared = get_or row.cells 0 0
+
+  same : (c : ℕ) → c < length row.cells → get_or row.cells c 0 ≡ shared
+  same c low = t.same c 0 low
+
+  lines_taken_here : LinesTaken end b r (rs.count * length row.cells) rs.ls
+  lines_taken_here = taken_by (advance_ok_take b r count x.clean within step) x.clean
+      (sound_after_consume sound (record { size = count; is = step })) (record { so_far = inl (rs.is, rs.are_lines) })
+      (inl rs.long) (λ none. absurd (omega (
+        arith,
+        length-take-le count b.buffered within,
+        ap length rs.is,
+        ap (λ l. length (unlines end l)) (nil_from_length rs.ls (rs.long ∙ none)),
+      )))
+
+  rows_of_input : RowsTaken row old (set old shared r)
+      (with_replacements end (cycle_byte cycle) 0 (take count b.buffered))
+  rows_of_input = record {
+    taken_rows = rows_of t rs.ls;
+    ls = lines_of_input shared rs.ls;
+    first_rows = record {
+      lines_taken = each_reader (λ q x. LinesTaken end (reader_at old q) x
+          (length (rows_of t rs.ls) * uses_of row.cells q) (lines_of_input shared rs.ls q)) old x.within
+          (rw (
+            update_here shared rs.ls (λ q. []) shared refl,
+            (rows_replaced t 0 rs.count rs.ls rs.are_lines rs.long).0,
+            uses_all row.cells shared same,
+            ← x.is_read,
+          ) lines_taken_here)
+          (λ q differ. rw (update_there shared rs.ls (λ q. []) q differ, uses_none row.cells shared same q differ)
+          (nothing_taken (omega arith)));
+      are = refl;
+      count = length-set old shared r;
+    };
+    least = omega (
+      arith,
+      length-drop count b.buffered,
+      ap budget x.is_read,
+      ap budget step,
+      sum_by-set budget old shared r no_reader x.within,
+    );
+    is =
+        let start : 0 ≡ 0 * length row.cells = omega arith in
+        (λ i. with_replacements end (cycle_byte cycle) (start i) (rs.is i))
+        ∙ (rows_replaced t 0 rs.count rs.ls rs.are_lines rs.long).1;
+  }
+
+  -- The rows in the buffer, by the bytes that were copied and pushed.
+  pub copied_rows : {written : List ℕ}
+      → written ≡ with_replacements cycle.terminator (cycle_byte cycle) 0 (take count b.buffered)
+      → {out pushed : Output} → PushEffect out pushed written → RowsWritten row old (set old shared r) out pushed
+  copied_rows {written} copied wrote = record {
+    written = written;
+    rows = rw (copied, t.terminator) rows_of_input;
+    consumed = consumed_more consumed_none x.within x.is_read (record { size = count; is = step });
+    wrote = wrote;
+  }
+
+-- Nothing is in the buffer, or the columns share no reader.
+pub no_rows_written : {row : RowShape} {old : List Reader} {out : Output} → RowsWritten row old old out out
+no_rows_written = search (rules, rows_taken_none, consumed_none, push_nothing)

@@ -1,15 +1,18 @@
 -- The columns and rows of a grid of lines. If each input gives one line to each of its columns, exactly the first row
 -- is removed: the first line of each column is that of the row, and the rest of each column is the column of the rest.
+-- So, by induction over the number of rows, the rows of inputs that are split after the same row are those of the first
+-- parts and then those of the second ones.
 use Rattle.ptflow.proofs
-use proofs.Common.{◌≡◌, ◌≢◌, ◌⊎◌, ⊎_elim, inr, ℕ, zero, suc, ◌+◌, ◌-◌, ◌*◌, ◌%◌, ◌<◌, ◌≤◌, ◌==◌, Bool, true, false}
-use proofs.Common.{cond, List, [], ◌∷◌, ◌++◌, Option, length, take, drop, get_or, map, max, refl, sym, ◌∙◌, ap, arith}
-use proofs.Common.{length-append, length-drop, fold, enumerate_from, range_with_len, cases_lt, eq-eqb, ne_eqb, le-ltb}
-use proofs.Common.{nat_tests, add-mod_left, mod-eq_of_lt, drop_all, get_or_past, ext_get_or, get_or-map}
-use proofs.Common.{length-enumerate_from, get_or-enumerate_from, sum_by-cons, count_by_more_yes, count_by_more_no}
-use proofs.Common.{sum_by-take-le, get_or_after_one, map-map, unlines, unlines-append, select_from, update_at}
-use proofs.Common.{join_with_cycle, every_kth, uses_of, columns, row_count, row_at, rows, is_row_known}
+use proofs.Common.{Bool, List, Option, [], ap, arith, cond, drop, false, get_or, inl, inr, length, length-append}
+use proofs.Common.{length-drop, map, max, refl, suc, sym, take, true, zero, ℕ, ⊎_elim, ◌%◌, ◌*◌, ◌++◌, ◌+◌, ◌-◌, ◌<◌}
+use proofs.Common.{◌==◌, ◌∙◌, ◌∷◌, ◌≡◌, ◌≢◌, ◌≤◌, ◌⊎◌, add-mod_left, mod-eq_of_lt, cases_lt, eq-eqb, le-ltb, ne_eqb}
+use proofs.Common.{nat_tests, get_or_after_one, append-nil, ext_get_or, get_or-map, get_or_past, nil_from_length}
+use proofs.Common.{get_or-enumerate_from, length-enumerate_from, count_by_more_no, count_by_more_yes, sum_by-cons}
+use proofs.Common.{sum_by-take-le, map-map, enumerate_from, range_with_len, fold, the_lines_of_parts, unlines-append}
+use proofs.Common.{lines, unlines, select_from, cut, IsRowSplit, PasteOfParts, update_at, columns, every_kth}
+use proofs.Common.{join_with_cycle, row_count, is_row_known, row_at, rows, uses_of, common_steps, subst, list_any_at}
+use proofs.Common.{Paste, IsConsistent, Received, is_in, paste_decided}
 use Rattle.std.specs.Prelude.{slice_index_or}
-use Rattle.std.proofs.lemmas.Grind.{common_steps}
 
 abbrev pub Column : Type 0
 Column = List (List ℕ)
@@ -124,9 +127,6 @@ row_count_none (col ∷ cols) none =
     let empty : max 0 (length col) ≡ 0 = omega (arith, ap length (none 0 (omega arith))) in
     cc (row_count_none cols (λ c low. none (suc c) (omega arith)))
 
-pub rows_none : (cols : List Column) → ((c : ℕ) → c < length cols → get_or cols c [] ≡ []) → rows cols ≡ []
-rows_none cols none = ap (λ (n : ℕ). map (row_at cols) (range_with_len 0 n)) (row_count_none cols none)
-
 -- ---- columns and their inputs
 
 -- A value for each column, by its index and the index of its input.
@@ -217,49 +217,96 @@ module _ (cells : List ℕ) where
   pub length-columns : (ins : ℕ → Column) → length (columns cells ins) ≡ length cells
   length-columns ins = length-for_each_cell (column_of ins) cells
 
-  -- The lines `input_lines` of one row: each column of an input takes one, until the input has ended.
-  pub record IsOneRow (input_lines more : ℕ → Column) : Type 0 where
-    pub all : (p : ℕ) → (length (input_lines p) ≡ uses_of cells p) ⊎ ((more p ≡ [])
-        × (length (input_lines p) ≤ uses_of cells p))
+  -- The lines after the first row.
+  abbrev pub after_row : (ℕ → Column) → ℕ → Column
+  after_row ins p = drop (uses_of cells p) (ins p)
 
-  module _ (input_lines more : ℕ → Column) (t : IsOneRow input_lines more) where
-    abbrev ins : ℕ → Column
-    ins p = input_lines p ++ more p
-
-    rest_is : (p : ℕ) → drop (uses_of cells p) (input_lines p ++ more p) ≡ more p
-    rest_is p = grind (arith, common_steps, drop_all, length-append)
-
-    input_lines_at : (p j : ℕ) → j < uses_of cells p → slice_index_or (input_lines p ++ more p) j [] ≡ slice_index_or
-        (input_lines p) j []
-    input_lines_at p j low = grind (arith, common_steps)
-
-    pub grid_step : (c : ℕ) → c < length cells → uses_of (take c cells) (get_or cells c 0) < length
-        (input_lines (get_or cells c 0))
-        → rows (columns cells (λ p. input_lines p ++ more p)) ≡ for_each_cell (top_of input_lines) cells ∷ rows
-        (columns cells more)
-    grid_step c low some =
-        let input = get_or cells c 0 in
-        let high = every_kth_some (uses_before_lt c low) (input_lines input ++ more input)
-        (omega (arith, length-append (input_lines input) (more input))) in
-        rows_step (columns cells ins) (omega (
-          arith,
-          row_count_bound 0 (columns cells ins) c,
-          ap length (column_at ins c low),
-        ))
-        ∙ (λ i. (map-map (λ col. slice_index_or col 0 []) (λ cell. column_of ins cell.0 cell.1)
-        (enumerate_from 0 cells)
-        ∙ for_each_cell_same (λ c p. slice_index_or (column_of ins c p) 0 []) (top_of input_lines) cells
-        (λ d within. let q = get_or cells d 0 in every_kth_first (uses_before_lt d within) (ins q)
-        ∙ input_lines_at q (uses_of (take d cells) q) (uses_before_lt d within))) i
-        ∷ rows ((map-map (drop 1) (λ cell. column_of ins cell.0 cell.1) (enumerate_from 0 cells)
-        ∙ for_each_cell_same (λ c p. drop 1 (column_of ins c p)) (column_of more) cells
-        (λ d within. let q = get_or cells d 0 in cc (every_kth_rest (uses_before_lt d within) (ins q), rest_is q))) i))
+  -- The first row, if some column has a line in it, and the rows after it.
+  pub grid_step : (ins : ℕ → Column) (c : ℕ) → c < length cells → uses_of (take c cells) (get_or cells c 0) < length
+      (ins (get_or cells c 0))
+      → rows (columns cells ins) ≡ for_each_cell (top_of ins) cells ∷ rows (columns cells (after_row ins))
+  grid_step ins c low some =
+      rows_step (columns cells ins) (omega (
+        arith,
+        row_count_bound 0 (columns cells ins) c,
+        ap length (column_at ins c low),
+        every_kth_some (uses_before_lt c low) (ins (get_or cells c 0)) some,
+      ))
+      ∙ (λ i. (map-map (λ col. slice_index_or col 0 []) (λ cell. column_of ins cell.0 cell.1) (enumerate_from 0 cells)
+      ∙ for_each_cell_same (λ c p. slice_index_or (column_of ins c p) 0 []) (top_of ins) cells
+      (λ d within. every_kth_first (uses_before_lt d within) (ins (get_or cells d 0)))) i
+      ∷ rows ((map-map (drop 1) (λ cell. column_of ins cell.0 cell.1) (enumerate_from 0 cells)
+      ∙ for_each_cell_same (λ c p. drop 1 (column_of ins c p)) (column_of (after_row ins)) cells
+      (λ d within. every_kth_rest (uses_before_lt d within) (ins (get_or cells d 0)))) i))
 
   pub grid_none : (ins : ℕ → Column) → ((p : ℕ) → 0 < uses_of cells p → ins p ≡ []) → rows (columns cells ins) ≡ []
-  grid_none ins none = rows_none (columns cells ins) (λ c low.
+  grid_none ins none = ap (λ n. map (row_at (columns cells ins)) (range_with_len 0 n)) (row_count_none
+      (columns cells ins) (λ c low.
       let within : c < length cells = omega (arith, length-columns ins) in
       let q = get_or cells c 0 in
-      cc (column_at ins c within, none q (omega (arith, uses_before_lt c within))))
+      cc (column_at ins c within, none q (omega (arith, uses_before_lt c within)))))
+
+  -- ---- rows after rows
+
+  -- Some column has a line in the first row, or none has.
+  some_cell : (f : ℕ → Column) (n : ℕ) → n ≤ length cells
+      → ((c : ℕ) × (c < length cells) × (uses_of (take c cells) (get_or cells c 0) < length (f (get_or cells c 0))))
+      ⊎ ((c : ℕ) → c < n → length (f (get_or cells c 0)) ≤ uses_of (take c cells) (get_or cells c 0))
+  some_cell f zero high = inr (λ c low. absurd (omega arith))
+  some_cell f (suc n) high = ⊎_elim
+      (λ here. inl (n, omega arith, here))
+      (λ past. ⊎_elim inl (λ before. inr (λ c low. ⊎_elim (λ less. before c less) (λ same. let is : c
+      ≡ n = omega arith in rw is past) (cases_lt c n))) (some_cell f n (omega arith)))
+      (cases_lt (uses_of (take n cells) (get_or cells n 0)) (length (f (get_or cells n 0))))
+
+  -- n rows take all lines of an input; more lines follow only if it has all the lines that n rows take.
+  abbrev pub TakesAll : ℕ → (ℕ → Column) → (ℕ → Column) → Type 0
+  TakesAll n ins more = (p : ℕ) → 0 < uses_of cells p → (length (ins p) ≡ n * uses_of cells p) ⊎ ((more p ≡ [])
+      × (length (ins p) ≤ n * uses_of cells p))
+
+  module _ (n : ℕ) (ins more : ℕ → Column) (all : TakesAll (suc n) ins more) where
+    -- The first row is that of `ins`.
+    top_same : (c : ℕ) → c < length cells
+        → top_of (λ p. ins p ++ more p) c (get_or cells c 0) ≡ top_of ins c (get_or cells c 0)
+    top_same c low = grind (arith, common_steps, all (get_or cells c 0), uses_before_lt c low)
+
+    rest_same : (p : ℕ) → 0 < uses_of cells p → drop (uses_of cells p) (ins p ++ more p) ≡ after_row ins p ++ more p
+    rest_same p some = grind (arith, common_steps, all p)
+
+    rest_takes : TakesAll n (after_row ins) more
+    rest_takes = grind (arith, common_steps)
+
+    -- If no column has a line, no input continues.
+    none_follows : ((c : ℕ) → c < length cells → length (ins (get_or cells c 0)) ≤ uses_of (take c cells)
+        (get_or cells c 0)) → (p : ℕ) → 0 < uses_of cells p → more p ≡ []
+    none_follows short p some =
+        let (c, low, is, count) = last_use cells p some in
+        let few = rw is at (short c low) in
+        grind (arith, all p)
+
+  pub rows-append : (n : ℕ) (ins more : ℕ → Column) → TakesAll n ins more
+      → rows (columns cells (λ p. ins p ++ more p)) ≡ rows (columns cells ins) ++ rows (columns cells more)
+  rows-append zero ins more all =
+      let none : (p : ℕ) → 0 < uses_of cells p → ins p ≡ [] = λ p some.
+      nil_from_length (ins p) (grind (arith, all p some)) in
+      cc (
+        columns_same (λ p. ins p ++ more p) more (λ p some. ap (λ l. l ++ more p) (none p some)),
+        grid_none ins none,
+      )
+  rows-append (suc n) ins more all = ⊎_elim
+      (λ (c, low, some). let p = get_or cells c 0 in cc (
+        grid_step (λ q. ins q ++ more q) c low (omega (arith, length-append (ins p) (more p))),
+        grid_step ins c low some,
+        for_each_cell_same (top_of (λ q. ins q ++ more q)) (top_of ins) cells (top_same n ins more all),
+        columns_same (after_row (λ q. ins q ++ more q)) (λ q. after_row ins q ++ more q) (rest_same n ins more all),
+        rows-append n (after_row ins) more (rest_takes n ins more all),
+      ))
+      (λ short. let over = none_follows n ins more all short in cc (
+        columns_same (λ p. ins p ++ more p) ins (λ p some. cc (over p some, append-nil (ins p))),
+        append-nil (rows (columns cells ins)),
+        grid_none more over,
+      ))
+      (some_cell ins (length cells) (omega arith))
 
 -- ---- the text of rows
 
@@ -289,3 +336,61 @@ update_here input x f q same = ap (λ t. cond t x (f q)) (eq-eqb q input same)
 
 pub update_there : {X : Type 0} (input : ℕ) (x : X) (f : ℕ → X) (q : ℕ) → q ≢ input → update_at input x f q ≡ f q
 update_there input x f q differ = ap (λ t. cond t x (f q)) (ne_eqb q input differ)
+
+-- ---- inputs that are split after the same row
+
+pub paste_of_parts : PasteOfParts
+paste_of_parts job cells n a b cut =
+    let ins : ℕ → Column = λ p. lines job.terminator (a p) in
+    let more : ℕ → Column = λ p. lines job.terminator (b p) in
+    cc (
+      columns_same cells (λ p. lines job.terminator (a p ++ b p)) (λ p. ins p ++ more p)
+          (λ p named. both p (cut p named)),
+      rows-append cells n ins more (λ p named. reach p (cut p named)),
+      rows_text-append job.terminator job.delimiters (rows (columns cells ins)) (rows (columns cells more)),
+    )
+  where
+    both : (p : ℕ) → IsRowSplit job.terminator n (uses_of cells p) (a p) (b p)
+        → lines job.terminator (a p ++ b p) ≡ lines job.terminator (a p) ++ lines job.terminator (b p)
+    both p (inl (whole, count)) = the_lines_of_parts job.terminator (a p) (b p) whole
+    both p (inr (none, few)) = rw none (simp append-nil)
+
+    reach : (p : ℕ) → IsRowSplit job.terminator n (uses_of cells p) (a p) (b p)
+        → (length (lines job.terminator (a p)) ≡ n * uses_of cells p)
+        ⊎ ((lines job.terminator (b p) ≡ []) × (length (lines job.terminator (a p)) ≤ n * uses_of cells p))
+    reach p (inl (whole, count)) = inl count
+    reach p (inr (none, few)) = inr (ap (lines job.terminator) none, few)
+
+-- The inputs that columns name. Only what was received from them decides the output.
+
+module _ (cells : List ℕ) where
+  pub cell_in : (c : ℕ) → c < length cells → is_in cells (get_or cells c 0) ≡ true
+  cell_in c low = list_any_at (λ q. q == get_or cells c 0) cells c 0 low (eq-eqb (get_or cells c 0) _ refl)
+
+  pub used_is_in : (p : ℕ) → 0 < uses_of cells p → is_in cells p ≡ true
+  used_is_in p some = let (c, low, is, count) = last_use cells p some in
+      subst (λ q. is_in cells q ≡ true) is (cell_in c low)
+
+pub is_in_used : (cells : List ℕ) (p : ℕ) → is_in cells p ≡ true → 0 < uses_of cells p
+is_in_used [] p named = cc
+is_in_used (x ∷ cells) p named = grind (arith, common_steps, is_in_used cells p)
+
+pub not_in : (cells : List ℕ) (p : ℕ) → is_in cells p ≡ false → uses_of cells p ≡ 0
+not_in = grind (arith, used_is_in)
+
+-- ---- functions that are equal at these inputs
+
+map_same : {X : Type 0} (f g : ℕ → X) (cells : List ℕ) → ((p : ℕ) → is_in cells p ≡ true → f p ≡ g p)
+    → map f cells ≡ map g cells
+map_same f g [] same = refl
+map_same f g (c ∷ cells) same = λ i.
+    same c (grind (arith, nat_tests)) i ∷ map_same f g cells (λ p named. same p (grind (arith, nat_tests))) i
+
+-- The received bytes may be the whole input.
+pub consistent_itself : (given : Received) → IsConsistent given given.bytes
+consistent_itself given = record { rest = []; is = sym (append-nil _); whole = λ eof. refl }
+
+module _ (job : Paste) (cells : List ℕ) where
+  pub decided_same : (f g : ℕ → Received) → ((p : ℕ) → is_in cells p ≡ true → f p ≡ g p)
+      → paste_decided job cells f ≡ paste_decided job cells g
+  decided_same f g same = grind (arith, columns_same, used_is_in, map_same)

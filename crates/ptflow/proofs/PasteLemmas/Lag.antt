@@ -1,22 +1,21 @@
 -- Bounded lag of `paste`: all output that was determined two blocks of an input earlier is pushed. Without its last two
 -- blocks that input has fewer lines than one more row takes, so only rows that were already pushed are determined.
 use Rattle.ptflow.proofs
-use proofs.Common.{◌≡◌, ⊎_elim, ℕ, zero, suc, ◌+◌, ◌-◌, ◌*◌, ◌<◌, ◌≤◌, Bool, true, false, List, [], ◌∷◌, ◌++◌, length}
-use proofs.Common.{take, drop, get_or, map, refl, sym, ◌∙◌, ap, subst, arith, append_assoc, take-append-drop}
-use proofs.Common.{length-append, length-drop, filter, range_with_len, enumerate_from, cases_eq, cases_Bool}
-use proofs.Common.{nat_tests, append-nil, append_cancel_right, take-append-le, length-take-le, take_all, take_more}
-use proofs.Common.{get_or-map, length-map, take-map-range_with_len, length-map-range_with_len, map-map, unlines}
-use proofs.Common.{lines, complete_lines, IsLine, AreLines, Received, IsPrefix, known_lines, ProcessLag, Reader}
-use proofs.Common.{ReaderAdvance, IsDone, received_with, unlines_push, complete_lines_of_unlines, the_lines, Paste}
-use proofs.Common.{update_at, every_kth, uses_of, columns, row_count, row_at, rows, rows_text, is_row_known}
-use proofs.Common.{known_rows, paste_decided, AreReceivedLines, complete_lines_cons, common_steps}
+use proofs.Common.{Bool, List, [], ap, append_assoc, arith, drop, false, get_or, length, length-append, length-drop, ℕ}
+use proofs.Common.{map, refl, subst, suc, sym, take, take-append-drop, true, zero, ⊎_elim, ◌*◌, ◌++◌, ◌+◌, ◌-◌, ◌<◌}
+use proofs.Common.{◌∙◌, ◌∷◌, ◌≡◌, ◌≢◌, ◌≤◌, cases_Bool, cases_eq, cases_lt, nat_tests, common_steps, append-nil, filter}
+use proofs.Common.{drop_more, get_or-map, get_or_append_left, length-map, length-take-le, take_all, take_more, map-map}
+use proofs.Common.{get_or-range_with_len, length-map-range_with_len, length-range_with_len, enumerate_from, Paste, line}
+use proofs.Common.{range_with_len, received_with, complete_lines_cons, complete_lines_of_unlines, unlines_push, Reader}
+use proofs.Common.{IsPrefix, Received, known_lines, ProcessLag, ReaderAdvance, AreLines, IsLine, complete_lines, lines}
+use proofs.Common.{unlines, reads_nothing, update_at, columns, every_kth, row_count, is_row_known, known_rows, row_at}
+use proofs.Common.{paste_decided, rows, rows_text, uses_of, AreReceivedLines}
 use Rattle.std.specs.Prelude.{slice_index_or}
-use proofs.CutLemmas.ShortLines.{select_append}
+use proofs.CutLemmas.CutBytes.{select_append}
 use proofs.PasteLemmas.Grid.{Column, for_each_cell, for_each_cell_same, column_of, uses_before_lt, column_at}
 use proofs.PasteLemmas.Grid.{length-columns, every_kth_short, is_row_unknown, update_here, update_there, last_use}
 use proofs.PasteLemmas.Grid.{rows_text-append}
-use proofs.Passes.Lines.{complete_prefix, line_split}
-use proofs.Passes.LinesRead.{line_take, lines_are_given}
+use proofs.Passes.Exits.{complete_prefix, line_split, line_take, eof_gives_nothing}
 
 -- ---- one input without its last bytes
 
@@ -30,84 +29,83 @@ pub record EarlierPart (end most : ℕ) (came : Received) : Type 0 where
   pub few : length (complete_lines end front) < most
 
 -- Without the bytes that are still in the buffer.
-abbrev pub earlier_partial : {end most : ℕ} {now : Reader} (new : Reader) {given : List ℕ} {ls : Column}
-    → AreReceivedLines end now given ls → (IsDone now → ⊥)
-    → (piece : List ℕ) {bytes : List ℕ} → bytes ≡ given ++ piece → IsLine end piece → length new.buffered ≤ 8192
-    → length ls < most → EarlierPart end most (received_with bytes new)
-earlier_partial {end} new {given} {ls} k going piece {bytes} is free buffered few = record {
-  front = bytes;
-  last = new.buffered;
-  split = refl;
-  short = omega arith;
-  few = let lines_are : complete_lines end (given ++ piece) ≡ ls =
-      grind (arith, k.so_far, going, complete_lines_of_unlines end ls piece) in
-      omega (arith, ap length (ap (complete_lines end) is ∙ lines_are));
-}
-
--- If nothing was given, only the buffer is left.
-abbrev pub earlier_buffered : (end most : ℕ) (reader : Reader) → length reader.buffered ≤ 8192 → 0 < most
-    → EarlierPart end most (received_with [] reader)
-earlier_buffered end most reader buffered some = record {
-  front = [];
+abbrev pub earlier_now : {end most : ℕ} (reader : Reader) (given : List ℕ) → length reader.buffered ≤ 8192
+    → length (complete_lines end given) < most → EarlierPart end most (received_with given reader)
+earlier_now reader given buffered few = record {
+  front = given;
   last = reader.buffered;
   split = refl;
   short = omega arith;
-  few = omega arith;
+  few = few;
 }
+
+-- The complete lines of what was received and a part of the next line.
+pub complete_few : {end : ℕ} {now new : Reader} {given piece : List ℕ} {ls : Column} → AreReceivedLines end now given ls
+    → ReaderAdvance now new piece → IsLine end piece → length (complete_lines end (given ++ piece)) ≤ length ls
+complete_few {end} {given = given} {piece} {ls} k reads free = ⊎_elim
+    (λ (is, are). omega (
+      arith,
+      ap (λ b. length (complete_lines end (b ++ piece))) is,
+      ap length (complete_lines_of_unlines end ls piece are free),
+    ))
+    (λ (is, done).
+    let (none, empty, eof) = eof_gives_nothing _ _ _ done reads in
+    rw (none, append-nil given) (omega (
+      arith,
+      ap length is,
+      ap (λ b. length (lines end b)) (append-nil given),
+      ap length (complete_prefix end given []),
+      length-append (complete_lines end given) (lines end ((line_split end given).piece ++ [])),
+    )))
+    k.so_far
 
 are_split : (end : ℕ) (xs : Column) (l : List ℕ) → AreLines end (xs ++ l ∷ []) → AreLines end xs × IsLine end l
 are_split end [] l (last, none) = (tt, last)
 are_split end (x ∷ xs) l (first, are) = let (more, last) = are_split end xs l are in ((first, more), last)
 
--- If there are no lines, nothing was given.
-pub none_received : {end : ℕ} {reader : Reader} {given : List ℕ} → AreReceivedLines end reader given [] → given ≡ []
-none_received = grind (arith, common_steps, the_lines, length-append)
+-- A text without lines is empty.
+pub no_lines : (end : ℕ) (bytes : List ℕ) → length (lines end bytes) ≤ 0 → bytes ≡ []
+no_lines end [] none = refl
+no_lines end (b ∷ bytes) none = grind arith
 
-module _ (end : ℕ) (reader : Reader) (given : List ℕ) (buffered : length reader.buffered ≤ 8192) where
-  module _ (most : ℕ) (xs : Column) (l : List ℕ) (few : length xs < most) where
-    -- The given bytes are fewer than `most` lines and one more, perhaps with its terminator.
-    earlier_line : (suffix : List ℕ) → length suffix ≤ 1 → given ≡ unlines end xs ++ (l ++ suffix)
-        → AreLines end xs × IsLine end l → EarlierPart end most (received_with given reader)
-    earlier_line suffix one is (are, line) = let n = length l - 8191 in record {
-      front = unlines end xs ++ take n l;
-      last = drop n l ++ (suffix ++ reader.buffered);
-      split = ap (λ b. b ++ reader.buffered) (is ∙ ap (λ b. unlines end xs ++ (b ++ suffix))
-          (sym (take-append-drop n l))) ∙ simp append_assoc;
-      short = omega (
+-- Without the last line that was given, or if there are fewer lines without the buffer.
+pub earlier_lines : {end most : ℕ} (reader : Reader) (given : List ℕ) → length reader.buffered ≤ 8192 → 0 < most
+    → length (lines end given) ≤ most → EarlierPart end most (received_with given reader)
+earlier_lines {end} {most} reader given buffered some few = ⊎_elim
+    (earlier_now reader given buffered)
+    (λ all.
+    let split = line_split end given in
+    let ls = complete_lines end given in
+    let n = length ls - 1 in
+    let l = get_or ls n [] in
+    let m = length l - 8191 in
+    let xs = take n ls in
+    let count : length (lines end given) ≡ length ls + length (lines end split.piece) = omega (
+      arith,
+      ap (λ b. length (lines end b)) (append-nil given),
+      ap (λ b. length (lines end b)) (append-nil split.piece),
+      ap length (complete_prefix end given []),
+      length-append ls (lines end (split.piece ++ [])),
+    ) in
+    let none = no_lines end split.piece (omega (arith, few, all)) in
+    let parts : ls ≡ xs ++ l ∷ [] = sym (take_all (n + 1) ls (omega arith)) ∙ take_more ls n [] (omega arith) in
+    let (are, line) = are_split end xs l (subst (AreLines end) parts split.whole) in
+    let is : given ≡ unlines end xs ++ (l ++ end ∷ []) =
+    split.is ∙ ap (◌++◌ (unlines end ls)) none ∙ append-nil (unlines end ls) ∙ ap (unlines end) parts
+    ∙ unlines_push end xs l in
+    record {
+      front = unlines end xs ++ take m l;
+      last = drop m l ++ (end ∷ reader.buffered);
+      split = ap (λ b. b ++ reader.buffered) (is ∙ ap (λ b. unlines end xs ++ (b ++ end ∷ []))
+          (sym (take-append-drop m l))) ∙ simp append_assoc;
+      short = omega (arith, length-append (drop m l) (end ∷ reader.buffered), length-drop m l);
+      few = omega (
         arith,
-        length-append (drop n l) (suffix ++ reader.buffered),
-        length-append suffix reader.buffered,
-        length-drop n l,
+        ap length (complete_lines_of_unlines end xs (take m l) are (line_take end m l line)),
+        length-take-le n ls (omega arith),
       );
-      few = omega (arith, few, ap length (complete_lines_of_unlines end xs (take n l) are (line_take end n l line)));
-    }
-
-    -- Without the last line that was given.
-    earlier_last : AreReceivedLines end reader given (xs ++ l ∷ []) → EarlierPart end most (received_with given reader)
-    earlier_last k = ⊎_elim
-        (λ (is, are). earlier_line (end ∷ []) (omega arith) (is ∙ unlines_push end xs l) (are_split end xs l are))
-        (λ (last, done).
-        let (exists, unique) = the_lines end given in
-        let (all, whole) = exists in
-        let are = are_split end xs l (subst (AreLines end) last all) in
-        let put : unlines end (lines end given) ≡ unlines end xs ++ (l ++ end ∷ []) = cc (unlines_push end xs l) in
-        ⊎_elim
-        (λ same. earlier_line (end ∷ []) (omega arith) (sym same ∙ put) are)
-        (λ (some, other, is). earlier_line [] (omega arith) (rw (append-nil l) (append_cancel_right given
-        (unlines end xs ++ l) (end ∷ []) (cc (append_assoc (unlines end xs) l (end ∷ []))))) are)
-        whole)
-        k.so_far
-
-  -- Without the last line, or if there are no lines without the buffer.
-  pub earlier_lines : (most : ℕ) (ls : Column) → AreReceivedLines end reader given ls → 0 < most → length ls ≤ most
-      → EarlierPart end most (received_with given reader)
-  earlier_lines most [] k some few = rw (none_received k) (earlier_buffered end most reader buffered some)
-  earlier_lines most (l ∷ ls) k some few =
-      let n = length ls in
-      earlier_last most (take n (l ∷ ls)) (get_or (l ∷ ls) n [])
-      (omega (arith, length-take-le n (l ∷ ls) (omega arith)))
-      (subst (AreReceivedLines end reader given) (sym (take_all (n + 1) (l ∷ ls) (omega arith))
-      ∙ take_more (l ∷ ls) n [] (omega arith)) k)
+    })
+    (cases_lt (length (complete_lines end given)) most)
 
 -- ---- complete lines of a prefix
 
@@ -139,62 +137,40 @@ whole_lines_prefix end false front last =
 pub earlier_before : {end most : ℕ} {now new : Reader} {given more : List ℕ} {ls : Column}
     → AreReceivedLines end now given ls → ReaderAdvance now new more → new.pulled ≡ now.pulled
     → length now.buffered ≤ 8192 → length ls < most → EarlierPart end most (received_with (given ++ more) new)
-earlier_before {end} {now = now} {new = new} {given = given} {more = more} {ls = ls} came reads still buffered few =
-    let (rest, is) = whole_lines_prefix end true given [] in record {
-      front = given;
-      last = more ++ new.buffered;
-      split = append_assoc given more new.buffered;
-      short = omega (arith, length-append more new.buffered);
-      few = omega (
-        arith,
-        (let count : length ls ≡ length (complete_lines end given ++ rest) =
-            cc (lines_are_given _ _ _ _ came, append-nil given) in count),
-        length-append (complete_lines end given) rest,
-      );
-    }
+earlier_before {now = now} {new} {given} {more} came reads still buffered few = record {
+  front = given;
+  last = more ++ new.buffered;
+  split = append_assoc given more new.buffered;
+  short = omega (arith, length-append more new.buffered);
+  few = omega (arith, few, rw (append-nil given) at (complete_few came (reads_nothing now) tt));
+}
 
 -- ---- the rows that are determined come first
 
-none_known : (f : ℕ → Bool) → ((r : ℕ) → f r ≡ false → f (r + 1) ≡ false) → (a h : ℕ) → f a ≡ false
-    → filter f (range_with_len a h) ≡ []
-none_known f down a zero none = refl
-none_known f down a (suc h) none = rw none (none_known f down (a + 1) h (down a none))
+module _ (f : ℕ → Bool) (down : (r : ℕ) → f r ≡ false → f (r + 1) ≡ false) where
+  none_known : (a h : ℕ) → f a ≡ false → filter f (range_with_len a h) ≡ []
+  none_known a zero none = refl
+  none_known a (suc h) none = rw none (none_known (a + 1) h (down a none))
 
-filter_first : (f : ℕ → Bool) → ((r : ℕ) → f r ≡ false → f (r + 1) ≡ false) → (a h : ℕ)
-    → (m : ℕ) × (m ≤ h) × ((n : ℕ) → a ≤ n → f n ≡ false → a + m ≤ n)
-    × (filter f (range_with_len a h) ≡ range_with_len a m)
-filter_first f down a zero = (0, omega arith, (λ n high none. omega arith), refl)
-filter_first f down a (suc h) = ⊎_elim
-    (λ is. let (m, few, past, later) = filter_first f down (a + 1) h in (
-      suc m,
-      omega arith,
-      (λ n high none. ⊎_elim (λ same. cc (ap f same))
-          (λ differ. omega (arith, past n (omega arith) none)) (cases_eq n a)),
-      rw is (ap (λ l. a ∷ l) later),
-    ))
-    (λ is. (0, omega arith, (λ n high none. omega arith), rw is (none_known f down (a + 1) h (down a is))))
-    (cases_Bool (f a))
+  -- The rows from row a on that pass `f`, each of which is the row that was taken, are the next rows that were taken.
+  known_first : (row : ℕ → List (List ℕ)) (taken : List (List (List ℕ))) → f (length taken) ≡ false
+      → ((r : ℕ) → f r ≡ true → r < length taken → row r ≡ get_or taken r []) → (a h : ℕ) → a ≤ length taken
+      → (rest : List (List (List ℕ))) × (drop a taken ≡ map row (filter f (range_with_len a h)) ++ rest)
+  known_first row taken none same a zero low = (drop a taken, refl)
+  known_first row taken none same a (suc h) low = ⊎_elim
+      (λ is.
+      let differ : a ≢ length taken = λ last. cc (ap f last) in
+      let less : a < length taken = omega arith in
+      let (rest, more) = known_first row taken none same (a + 1) h (omega arith) in
+      (rest, rw is (drop_more taken a [] less ∙ (λ i. sym (same a is less) i ∷ more i))))
+      (λ is. (drop a taken, rw is (rw (none_known (a + 1) h (down a is)) refl)))
+      (cases_Bool (f a))
 
 known_down : (cols : List Column) (eof : List Bool) (r : ℕ) → is_row_known cols eof r ≡ false
     → is_row_known cols eof (r + 1) ≡ false
 known_down [] eof r none = cc
 known_down (col ∷ cols) [] r none = cc
 known_down (col ∷ cols) (e ∷ eof) r none = let later = known_down cols eof r in grind (arith, nat_tests)
-
-known_first : (cols : List Column) (eof : List Bool)
-    → (m : ℕ) × (m ≤ row_count cols) × ((n : ℕ) → is_row_known cols eof n ≡ false → m ≤ n)
-    × (known_rows cols eof ≡ map (row_at cols) (range_with_len 0 m))
-known_first cols eof =
-    let (m, few, past, is) = filter_first (is_row_known cols eof) (known_down cols eof) 0 (row_count cols) in
-    (m, few, (λ n none. omega (arith, past n (omega arith) none)), ap (map (row_at cols)) is)
-
--- ---- two grids with the same rows
-
-same_rows : (f g : ℕ → List (List ℕ)) (a m : ℕ) → ((r : ℕ) → r < a + m → f r ≡ g r)
-    → map f (range_with_len a m) ≡ map g (range_with_len a m)
-same_rows f g a zero same = refl
-same_rows f g a (suc m) same = λ i. same a (omega arith) i ∷ same_rows f g (a + 1) m
-    (λ r low. same r (omega arith)) i
 
 -- A column keeps its lines if more follow.
 every_kth_more : (k j r : ℕ) (xs more : Column) → r < length (every_kth k j xs)
@@ -293,29 +269,31 @@ module _ (job : Paste) (cells : List ℕ) (came : ℕ → Received) where
         row_each ins = map-map (λ (col : Column). slice_index_or col r [])
             (λ (c, p). column_of cells ins c p) (enumerate_from 0 cells)
 
-    pub begins_earlier : IsPrefix (paste_decided job cells earlier) (rows_text job taken_rows)
-    begins_earlier =
-        let (m, within, past, known) = known_first (grid earlier) ends in
-        let few = past (length taken_rows) next_unknown in
-        let high : m ≤ row_count (grid came) = omega (
+    taken_at : (r : ℕ) → r < length taken_rows → row_at (grid came) r ≡ get_or taken_rows r []
+    taken_at r less =
+        let n = row_count (grid came) in
+        let low : r < n = omega (
           arith,
           ap length all,
           length-append taken_rows more,
-          length-map-range_with_len (row_at (grid came)) 0 (row_count (grid came)),
+          length-map-range_with_len (row_at (grid came)) 0 n,
         ) in
-        let is : known_rows (grid earlier) ends ≡ take m taken_rows =
+        let start : 0 + r ≡ r = omega arith in
         cc (
-          same_rows (row_at (grid earlier)) (row_at (grid came)) 0 m
-              (λ r low. row_same r (grind (arith, past r, cases_Bool (is_row_known (grid earlier) ends r)))),
-          take-map-range_with_len (row_at (grid came)) 0 (row_count (grid came)) m high,
-          take-append-le m taken_rows more few,
-        ) in
+          get_or-map (row_at (grid came)) (range_with_len 0 n) r 0 [] (omega (arith, length-range_with_len 0 n)),
+          get_or-range_with_len 0 n r 0 low,
+          get_or_append_left taken_rows more [] r less,
+        )
+
+    pub begins_earlier : IsPrefix (paste_decided job cells earlier) (rows_text job taken_rows)
+    begins_earlier =
+        let (rest, is) = known_first (is_row_known (grid earlier) ends) (known_down (grid earlier) ends)
+        (row_at (grid earlier)) taken_rows next_unknown (λ r known less. row_same r known ∙ taken_at r less) 0
+        (row_count (grid earlier)) (omega arith) in
         record {
-          rest = rows_text job (drop m taken_rows);
-          is = cc (
-            take-append-drop m taken_rows,
-            rows_text-append job.terminator job.delimiters (take m taken_rows) (drop m taken_rows),
-          );
+          rest = rows_text job rest;
+          is = ap (rows_text job) is
+              ∙ rows_text-append job.terminator job.delimiters (known_rows (grid earlier) ends) rest;
         }
 
     pub lags_here : LagsAt job cells came (rows_text job taken_rows) here

@@ -2,11 +2,10 @@
 -- the byte after the n-th field end.
 use Rattle.ptflow.proofs
 use proofs.Common.{◌≡◌, ℕ, zero, suc, ◌+◌, ◌<◌, ◌≤◌, Bool, true, false, cond, min, List, [], ◌∷◌, None, Some, length}
-use proofs.Common.{drop, get_or, refl, sym, ◌∙◌, arith, common_steps, slice_get, option_map_or, drop-drop}
-use proofs.Common.{IsFirstByte, Nowhere, Passes, is_byte, is_byte2, is_blank, ends_word, word_ends, after_fields}
-use proofs.Common.{after_nonblanks}
+use proofs.Common.{drop, get_or, refl, sym, ◌∙◌, arith, common_steps, slice_get, option_map_or, drop-drop, IsFirstByte}
+use proofs.Common.{Nowhere, Passes, is_byte, is_byte2, is_blank, ends_word, word_ends, after_fields, after_nonblanks}
+use proofs.Common.{Option, unwrap_or, drop_all, rules}
 use Rattle.std.specs.Prelude.{◌==◌}
-use Rattle.std.proofs.Common.{rules}
 
 -- the rest of these bytes after n more field ends
 abbrev pub suffix_at : ℕ → List ℕ → List ℕ
@@ -89,12 +88,11 @@ after_none [] none = refl
 after_none (b ∷ bytes) none = other_here b bytes (none 0 (omega arith))
     ∙ after_none bytes (λ k lt. none (suc k) (omega arith))
 
-pub after_found : (line : List ℕ) (at : ℕ) → IsFirstByte (is_byte2 32 9) line (Some at)
-    → after_nonblanks line ≡ drop at line
-after_found = grind (arith, after_at)
-
-pub after_not_found : (line : List ℕ) → IsFirstByte (is_byte2 32 9) line None → after_nonblanks line ≡ []
-after_not_found line none = after_none line (λ k lt. none k (omega arith) lt)
+pub after_first : (line : List ℕ) (r : Option ℕ) → IsFirstByte (is_byte2 32 9) line r
+    → after_nonblanks line ≡ drop (unwrap_or r (length line)) line
+after_first line None none =
+    after_none line (λ k lt. none k (omega arith) lt) ∙ sym (drop_all (length line) line (omega arith))
+after_first line (Some at) first = grind (arith, after_at)
 
 -- the bytes before an index at which there are no blanks are skipped
 pub blanks_later : (line : List ℕ) (at : ℕ) → at ≤ length line

@@ -6,15 +6,15 @@ use proofs.Common.{Some, List, [], ◌∷◌, length, map, take, drop, get_or, r
 use proofs.Common.{length-drop, count_ones, count_by, prefix_len, mask_l, chunk, take-add, take-take, length-take-le}
 use proofs.Common.{get_or-le-sum_by, sum_by-cons, sum_by-append, sum_by-take-le, trailing_mask_l, ones-mask_l}
 use proofs.Common.{get_or-chunk, length-chunk, IsFirstByte, NoneBefore, Passes, is_byte, line_before_terminator}
-use proofs.Common.{line_if_not_found, Nowhere, None, option_map, nowhere_trans, IsLine, byte_ne, IsNth}
-use proofs.Common.{HasTerminators, count_by_more_yes, common_steps}
+use proofs.Common.{line_if_not_found, Nowhere, None, option_map, nowhere_trans, IsLine, byte_ne, IsNth, HasTerminators}
+use proofs.Common.{count_by_more_yes, common_steps}
 use Rattle.std.proofs.lemmas.List.{get_or-drop, drop-map}
 use Rattle.std.proofs.Common.{pow-suc, mul_comm, div-one}
 use Rattle.std.proofs.Math.Nat.{div-div-eq-div-mul, zero-div}
 use proofs.Vectors.Lanes.{map-id}
 use lib.Bits.{bit_and, and_step, and_self, and_zero_l}
 use lib.Count.{count_trailing_zeros}
-use proofs.CutLemmas.FieldOffsets.{rest_of}
+use proofs.CutLemmas.CutBytes.{rest_of}
 
 -- ---- bits of a mask
 

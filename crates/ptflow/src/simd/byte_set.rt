@@ -45,10 +45,8 @@ impl ByteSet {
             low[byte % 16] |= u8::from(flags[byte]) << (byte / 16);
             high[byte % 16] |= u8::from(flags[128 + byte]) << (byte / 16);
         }
-        ByteSet {
-            low: u8x16::from_array(low),
-            high: u8x16::from_array(high),
-        }
+        let (low, high) = (u8x16::from_array(low), u8x16::from_array(high));
+        ByteSet { low, high }
     }
 
     // Checks whether a byte is in the set.

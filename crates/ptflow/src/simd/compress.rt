@@ -39,6 +39,35 @@ impl CompressTable {
             rows: array::from_fn(compress_row),
         }
     }
+
+    // Appends to the first `at` bytes of `into` the bytes of those of the first eight lanes of `v` whose bit in `keep`
+    // is set. Returns the new count.
+    #[inline(always)]
+    fn compress8(&self, v: u8x16, keep: u8, into: &mut OutBuf, at: usize) -> usize
+        requires { at ≤ 8208 }
+        ensures packed { (flags : List Bool) → length flags ≡ 8 → keep ≡ mask_l flags
+            → take result into.new ≡ take at into.old ++ select_by flags v }
+        ensures end { (at ≤ result) × (result ≤ at + 8) }
+    {
+        let into: &mut [u8] = into;
+        let indices = u8x16::from_array(self.rows[usize::from(keep)]);
+        v.swizzle_dyn(indices).copy_to_slice(&mut into[at..]);
+        at + keep.count_ones() as usize
+    }
+
+    // Appends to the first `at` bytes of `into` the bytes of those lanes of `v` whose bit in `keep` is set. Returns the
+    // new count. The bytes of `into` after these may change.
+    #[inline(always)]
+    pub(crate) fn compress16(&self, v: u8x16, keep: u64, into: &mut OutBuf, at: usize) -> usize
+        requires { at ≤ 8200 }
+        ensures packed { (flags : List Bool) → length flags ≡ 16 → keep ≡ mask_l flags
+            → take result into.new ≡ take at into.old ++ select_by flags v }
+        ensures end { (at ≤ result) × (result ≤ at + 16) }
+    {
+        let half = self.compress8(v, (keep & 255) as u8, into, at);
+        let rest = v.rotate_elements_left::<8>();
+        self.compress8(rest, (keep >> 8 & 255) as u8, into, half)
+    }
 }
 
 // Appends the 64 bytes at index `at` to the first `count` bytes of `into`. Returns the new count.
@@ -51,39 +80,4 @@ pub(crate) fn copy_chunk(from: &[u8], at: usize, into: &mut OutBuf, count: usize
     let into: &mut [u8] = into;
     u8x64::from_slice(&from[at..]).copy_to_slice(&mut into[count..]);
     count + 64
-}
-
-// Appends to the first `at` bytes of `into` the bytes of those of the first eight lanes of `v` whose bit in `keep` is
-// set. Returns the new count.
-#[inline(always)]
-fn compress8(table: &CompressTable, v: u8x16, keep: u8, into: &mut OutBuf, at: usize) -> usize
-    requires { at ≤ 8208 }
-    ensures packed { (flags : List Bool) → length flags ≡ 8 → keep ≡ mask_l flags
-        → take result into.new ≡ take at into.old ++ select_by flags v }
-    ensures end { (at ≤ result) × (result ≤ at + 8) }
-{
-    let into: &mut [u8] = into;
-    let indices = u8x16::from_array(table.rows[usize::from(keep)]);
-    v.swizzle_dyn(indices).copy_to_slice(&mut into[at..]);
-    at + keep.count_ones() as usize
-}
-
-// Appends to the first `at` bytes of `into` the bytes of those lanes of `v` whose bit in `keep` is set. Returns the new
-// count. The bytes of `into` after these may change.
-#[inline(always)]
-pub(crate) fn compress16(
-    table: &CompressTable,
-    v: u8x16,
-    keep: u64,
-    into: &mut OutBuf,
-    at: usize,
-) -> usize
-    requires { at ≤ 8200 }
-    ensures packed { (flags : List Bool) → length flags ≡ 16 → keep ≡ mask_l flags
-        → take result into.new ≡ take at into.old ++ select_by flags v }
-    ensures end { (at ≤ result) × (result ≤ at + 16) }
-{
-    let half = compress8(table, v, (keep & 255) as u8, into, at);
-    let rest = v.rotate_elements_left::<8>();
-    compress8(table, rest, (keep >> 8 & 255) as u8, into, half)
 }

@@ -7,7 +7,7 @@ ghost use Rattle.ptflow.specs.Private.Vectors.Compress.{ChunkPre};
 ghost use Rattle.ptflow.specs.Private.Tr.TrFrom.{squeeze_from};
 
 use crate::simd::byte_set::ByteSet;
-use crate::simd::compress::{CompressTable, OutBuf, compress16, copy_chunk};
+use crate::simd::compress::{CompressTable, OutBuf, copy_chunk};
 use std::simd::prelude::*;
 
 /// The set of the bytes that may be removed, and the table for compression.
@@ -77,10 +77,10 @@ fn filter64(by: Filter, pairs: Pairs, at: usize, into: &mut OutBuf, count: usize
     let b = u8x16::from_slice(&from[at + 16..]);
     let c = u8x16::from_slice(&from[at + 32..]);
     let d = u8x16::from_slice(&from[at + 48..]);
-    let first = compress16(by.table, a, keep_a, into, count);
-    let second = compress16(by.table, b, keep_b, into, first);
-    let third = compress16(by.table, c, keep_c, into, second);
-    compress16(by.table, d, keep_d, into, third)
+    let first = by.table.compress16(a, keep_a, into, count);
+    let second = by.table.compress16(b, keep_b, into, first);
+    let third = by.table.compress16(c, keep_c, into, second);
+    by.table.compress16(d, keep_d, into, third)
 }
 
 // Appends the bytes from index `start` on that are kept, one by one. Returns the new count.

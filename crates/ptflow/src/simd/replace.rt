@@ -70,11 +70,8 @@ impl Cycle {
         ensures { result ≡ (index + count) % self.now.len }
     {
         let next = index + count;
-        if next < self.len {
-            next
-        } else {
-            next % self.len
-        }
+        let len = self.len;
+        if next < len { next } else { next % len }
     }
 
     // Copies the 64 bytes at index `at`, with their terminators replaced from the byte at `index` on. Returns the index

@@ -13,7 +13,7 @@ use std::simd::prelude::*;
 
 // The entries of each row, indexed by the low nibbles of the bytes.
 #[inline(always)]
-#[tactic(auto, using(crate::proofs::Vectors::Tables::filled_next, std::proofs::lemmas::Grind::common_steps))]
+#[tactic(auto, using(crate::proofs::Vectors::Lanes::filled_next, std::proofs::lemmas::Grind::common_steps))]
 fn look_up_rows<const N: usize>(rows: [u8x16; N], v: u8x16) -> [u8x16; N]
     ensures lanes { All (λ row. length row ≡ 16) result }
     ensures found { (row : ℕ) → row < N

@@ -11,9 +11,11 @@ mod bytes;
 mod fields;
 mod shuffle;
 
+use crate::block_loop::run_blocks;
 use crate::faults::FlowFault;
-use crate::tools::cut::bytes::cut_by_bytes;
-use crate::tools::cut::fields::cut_by_fields;
+use crate::line_loop::run_lines;
+use crate::tools::cut::bytes::ByteCut;
+use crate::tools::cut::fields::FieldCut;
 use ptlangs::jobs::CutJob;
 use ptlines::{LineReader, Out, Sink, Source, Store};
 use std::alloc::Allocator;
@@ -43,8 +45,17 @@ pub fn cut<A: Allocator + Copy, B: Allocator + Copy, S: Source, R: Source, W: Si
         return Err(FlowFault::Write);
     }
     reader.set_ending(job.zero);
+    let terminator = reader.terminator();
     if job.fields {
-        return cut_by_fields(job, reader, store, out);
+        let mut room = [0; 8208];
+        return run_lines(
+            &FieldCut { job, terminator },
+            1,
+            &mut room,
+            reader,
+            store,
+            out,
+        );
     }
-    cut_by_bytes(job, reader, out)
+    run_blocks(&mut ByteCut::new(job, terminator), reader, out)
 }

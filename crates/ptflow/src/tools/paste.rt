@@ -208,7 +208,7 @@ pub fn paste<A: Allocator + Copy, B: Allocator + Copy, S: Source, R: Source, W: 
         let begun = move_to_front(copied, &mut buffer);
         let filled = fill_row(row, begun, readers, &mut buffer, store, out)?;
         if !filled.any_line {
-            clear_slots(cells, store);
+            clear_slots(row.cells, store);
             return Ok(());
         }
         write_row(row, filled, &buffer, store, out)?;

@@ -3,14 +3,13 @@
 //! `line_key` has the part of a line that is compared, and `block_runs` the loop over the runs of the lines of a block.
 
 ghost use Rattle.std.specs.Prelude.{◌≡◌, ◌<◌, ◌≤◌, ◌&&◌, IfSome, length, nat_lt};
-ghost use Rattle.ptlines.specs.Outputs.{PushPost};
 ghost use Rattle.ptlines.specs.Slots.{Slots};
 ghost use Rattle.ptlangs.specs.Jobs.{uniq_job};
 ghost use Rattle.ptflow.specs.Passes.{PassPre, PassPost};
-ghost use Rattle.ptflow.specs.Uniqs.{is_same, output_of, uniq_tool};
+ghost use Rattle.ptflow.specs.Uniqs.{is_same, uniq_tool};
 ghost use Rattle.ptflow.specs.Private.Uniq.BlockRuns.{first_of};
 ghost use Rattle.ptflow.specs.Private.Uniq.FirstLine.{first_line, current_run_of};
-ghost use Rattle.ptflow.specs.Private.Uniq.RunsFrom.{current_run, run_of};
+ghost use Rattle.ptflow.specs.Private.Uniq.RunsFrom.{run_of};
 
 mod block_runs;
 mod line_key;
@@ -62,9 +61,8 @@ fn set_current_run(run: &mut CurrentRun, last: LastRun, block: &[u8])
     if let Some(line) = last.line {
         run.is_copied = true;
         run.bytes.clear();
-        let _ = run
-            .bytes
-            .try_extend_from_slice(&block[line.from..line.to - 1]);
+        let first = &block[line.from..line.to - 1];
+        let _ = run.bytes.try_extend_from_slice(first);
     }
 }
 
@@ -74,21 +72,6 @@ pub(crate) struct LineUniq<'a> {
     pub job: &'a UniqJob,
     pub terminator: u8,
     ghost ends: { terminator ≡ (uniq_job job.now).terminator },
-}
-
-// Pushes the output of the current run.
-fn write_current<A: Allocator + Copy, W: Sink>(
-    by: &LineUniq,
-    run: &CurrentRun,
-    store: &Store<A>,
-    out: &mut Out<W>,
-) -> Result<(), WriteFault>
-    requires { 0 < length store.now.lines }
-    ensures { PushPost out.old out.new
-        (output_of (uniq_job by.now.job.now) (current_run (current_run_of run.now store.now))) result }
-{
-    let first = first_line(run, store);
-    write_run(by.job.show, run.count, first, &[by.terminator], out)
 }
 
 impl<'a> LineFilter for LineUniq<'a> {
@@ -126,7 +109,7 @@ impl<'a> LineFilter for LineUniq<'a> {
             run.count += 1;
             return Ok(());
         }
-        write_current(self, run, store, out)?;
+        write_run(self, run.count, first_line(run, store), out)?;
         store.swap(0, 1);
         run.count = 1;
         run.is_copied = false;
@@ -146,7 +129,7 @@ impl<'a> LineFilter for LineUniq<'a> {
         }
         let last = write_runs(self, run.count, first_line(run, store), block, out)?;
         set_current_run(run, last, block);
-        Ok(last.passed)
+        Ok(last.len)
     }
 
     fn finish<A: Allocator + Copy, W: Sink>(
@@ -155,7 +138,7 @@ impl<'a> LineFilter for LineUniq<'a> {
         store: &mut Store<A>,
         out: &mut Out<W>,
     ) -> Result<(), WriteFault> {
-        write_current(self, run, store, out)?;
+        write_run(self, run.count, first_line(run, store), out)?;
         store.clear(0);
         Ok(())
     }
@@ -191,9 +174,7 @@ pub fn uniq<A: Allocator + Copy, S: Source, R: Source, W: Sink>(
         is_copied: false,
         bytes: ArrayVec::new(),
     };
-    let tool = LineUniq {
-        job,
-        terminator: reader.terminator(),
-    };
+    let terminator = reader.terminator();
+    let tool = LineUniq { job, terminator };
     run_lines(&tool, 2, &mut run, reader, store, out)
 }

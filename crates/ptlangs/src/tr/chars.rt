@@ -10,7 +10,7 @@ ghost use Rattle.ptlangs.specs.TrParsing.{char_from, chars_from};
 use crate::faults::SetFaultKind;
 
 /// The value of the digits in this base, or `None` if it is above `limit`.
-#[tactic(auto, using(crate::proofs::TrCharGrammar::number_steps))]
+#[tactic(auto, using(crate::proofs::TrGrammar::number_steps))]
 pub(crate) fn number(digits: &[u8], base: u32, limit: u32) -> Option<u32>
     requires digits { All (λ d. digit_value d < base) digits.now }
     requires base { base ≤ 10 }
@@ -62,7 +62,7 @@ fn octal_len(bytes: &[u8]) -> usize
 
 /// The byte that a backslash before these bytes denotes, or the fault of the escape, and the number of these bytes that
 /// it takes.
-#[tactic(auto, using(crate::proofs::TrCharGrammar::octal_steps))]
+#[tactic(auto, using(crate::proofs::TrGrammar::octal_steps))]
 fn escape(bytes: &[u8]) -> (Result<u8, SetFaultKind>, usize)
     ensures denoted { result.0 ≡ byte_of (after_backslash bytes.now).0 }
     ensures consumed { result.1 ≡ (after_backslash bytes.now).1 }
@@ -82,7 +82,7 @@ fn escape(bytes: &[u8]) -> (Result<u8, SetFaultKind>, usize)
 }
 
 /// The byte that the character at `at` denotes, or the fault of its escape, and the index after the character.
-#[tactic(auto, using(crate::proofs::TrCharGrammar::char_steps))]
+#[tactic(auto, using(crate::proofs::TrGrammar::char_steps))]
 pub(crate) fn next_char(text: &[u8], at: usize) -> (Result<u8, SetFaultKind>, usize)
     requires { at < length text.now }
     ensures denoted { result.0 ≡ byte_of (char_from text.now at) }

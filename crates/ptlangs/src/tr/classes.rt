@@ -89,7 +89,7 @@ impl CharClass {
 }
 
 /// The number of bytes from `first` to `last`, both included.
-#[tactic(auto, using(crate::proofs::TrByteRanges::span_steps))]
+#[tactic(auto, using(crate::proofs::TrArrays::span_steps))]
 pub(crate) fn span_len(first: u8, last: u8) -> u128
     ensures { result ≡ length (span first last) }
 {
@@ -97,7 +97,7 @@ pub(crate) fn span_len(first: u8, last: u8) -> u128
 }
 
 /// The byte with this index among those from `first` to `last`, or `None` past their end.
-#[tactic(auto, using(crate::proofs::TrByteRanges::span_steps))]
+#[tactic(auto, using(crate::proofs::TrArrays::span_steps))]
 pub(crate) fn span_get(first: u8, last: u8, index: u128) -> Option<u8>
     ensures { result ≡ slice_get (span first last) index }
 {

@@ -17,7 +17,7 @@ pub(crate) struct Contents {
 
 impl Contents {
     /// Appends a byte to the array, and then `more` copies of it.
-    #[tactic(auto, using(crate::proofs::TrContents::contents_steps))]
+    #[tactic(auto, using(crate::proofs::TrArrays::contents_steps))]
     fn push(&mut self, byte: u8, more: u128)
         requires { self.old.length + more < 2 ^ 127 }
         ensures length { self.new.length ≡ self.old.length + (1 + more) }

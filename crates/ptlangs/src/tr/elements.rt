@@ -33,7 +33,7 @@ pub(crate) enum SetElement {
 }
 
 /// The index after `byte`, if the text has it at `at`.
-#[tactic(auto, using(crate::proofs::TrPlainRuns::after_plain_steps))]
+#[tactic(auto, using(crate::proofs::TrGrammar::after_plain_steps))]
 fn after_byte(text: &[u8], at: usize, byte: u8) -> Option<usize>
     requires plain { byte ≢ 92 }
     requires within { at ≤ length text.now }

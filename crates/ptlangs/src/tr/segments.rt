@@ -41,7 +41,7 @@ pub(crate) enum Segment {
 
 impl Segment {
     /// The segment of an element. `has_fill` says whether a fill came before.
-    #[tactic(auto, using(crate::proofs::TrByteRanges::member_steps))]
+    #[tactic(auto, using(crate::proofs::TrArrays::member_steps))]
     pub(crate) fn new(
         role: SetRole,
         has_fill: bool,
@@ -83,7 +83,7 @@ impl Segment {
     }
 
     /// The byte with this index in the segment, if a fill has `fill` bytes, or `None` past its end.
-    #[tactic(auto, using(crate::proofs::TrByteRanges::member_steps))]
+    #[tactic(auto, using(crate::proofs::TrArrays::member_steps))]
     fn byte(self, fill: u128, index: u128) -> Option<u8>
         ensures found { result ≡ slice_get (members fill self) index }
         ensures room { IfSome result (λ _. index + 1 < 2 ^ 128) }

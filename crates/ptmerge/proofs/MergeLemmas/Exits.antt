@@ -1,32 +1,302 @@
 -- Each input of a merge, and the exits of a tool. At an exit the lines read, the processed ones and a bound on the
 -- others are known for each input, and the contract of the tool follows from these and from the output.
+pub mod Invariant
+pub mod SlotLines
 use Rattle.ptmerge.proofs
-use proofs.Common.{◌≡◌, ◌≢◌, inl, inr, ℕ, ◌+◌, ◌<◌, ◌≤◌, ◌&&◌, Bool, true, false, cond, List, [], ◌∷◌, ◌++◌, Option}
-use proofs.Common.{Some, None, length, refl, sym, ◌∙◌, ap, subst, arith, bytes_eq, nat_tests, append-nil, length_push}
-use proofs.Common.{FillLine, Reader, IsDone, IsSound, Slots, line, with_line, max_length, line_of_with_line, Sorted}
-use proofs.Common.{CursorStatus, Head, Ended, Disorder, Lines, Cmp, Key, is_head, status_at, same_key_at, NextOkPost}
-use proofs.Common.{Result, Err, max, Received, known_lines, Output, ReaderAdvance, unlines, ◌⊎◌, ⊎_elim}
-use proofs.Common.{length-append, Memory, lines, IsLine, advance_trans, append_assoc, push_trans, bounded_lag_after}
-use proofs.Common.{unlines-append, MergeFault, Write, Side, First, Second, MergeTool, entries_by_key, decided_output}
-use proofs.Common.{disorder, first_disorder, lines_of, merge_output, merged_entries, MergeState, MergePost, HasNoLine}
-use proofs.Common.{other, reads_nothing, EnsureFourSlotsErrPost, ◌*◌, option_map, CallEnd, ReadFault, CallOutcome}
-use proofs.Common.{AreAllConsistent, given_before, given_by, CallProgress, DecidedIfReadFailed, call_on_failed_output}
-use proofs.Common.{IsPrefix, total_bytes, both_sides, merge_engine, merge_end, disordered_line}
-use proofs.MergeLemmas.Lag.{decided_at, ProcessedNearly, LinesToCome, LagPoint, back, unsettled, lag_bound}
-use proofs.MergeLemmas.Lag.{unread_decides_nothing, unread_decides_no_disorder}
-use proofs.MergeLemmas.Invariant.{output_of, Bound, NoBound, AtLeast, AfterDisorder, NothingMore, MayFollow, IsUnder}
-use proofs.MergeLemmas.Invariant.{IsSortedUpTo, sorted_up_to_more, is_disordered, IsProcessedPrefix, IsFuture}
-use proofs.MergeLemmas.Invariant.{processed_before_line, processed_all, processed_to_line, LagInvariant}
-use proofs.MergeLemmas.Invariant.{MergeInvariant, IsExactStop, input_split, all_keys, under_fall}
-use proofs.MergeLemmas.LinesRead.{LinesRead, HoldsLines, HasBegun, begun_gives_line, one_line_and_block}
-use proofs.MergeLemmas.LinesRead.{lines_read_more, lines_read_eof, Continues, KnownLines, lines_read_known}
-use proofs.MergeLemmas.LinesRead.{lines_read_of_input}
-use proofs.MergeLemmas.Orders.{EachKey, EachKey-weaker, IsKeyOrder, AtMost, at_most_trans, equal_is}
-use proofs.MergeLemmas.Slots.{with_own, line_other}
-use Rattle.ptlines.proofs.Calls.{call_ends, call_set, call_without_slots}
+use proofs.Common.{◌≡◌, ◌⊎◌, ⊎_elim, inl, inr, ℕ, ◌≤◌, false, List, [], ◌∷◌, ◌++◌, Option, Some, None, length, map}
+use proofs.Common.{refl, sym, ◌∙◌, ap, arith, append_assoc, length-append, last_or, append-nil, Received, known_lines}
+use proofs.Common.{Reader, unlines, IsLine, AreLines, received_with, unlines_push, Lines, first_disorder, is_below}
+use proofs.Common.{sorted_prefix, Cmp, Key, Bool, filter-append, filter, IsPrefix, unlines-append, Side, First, Second}
+use proofs.Common.{MergeTool, entries_by_key, disorder, earlier_disorder, is_decided, other, with_side, FirstDisorder}
+use proofs.Common.{with_input, both_sides, subst, not, ◌+◌, ◌<◌, true, cond, nat_tests, length_push, FillLine, IsDone}
+use proofs.Common.{IsSound, Slots, line, with_line, max_length, line_of_with_line, Sorted, CursorStatus, Head, Ended}
+use proofs.Common.{Disorder, status_at, same_key_at, NextOkPost, Result, Err, max, Output, ReaderAdvance, Memory, lines}
+use proofs.Common.{advance_trans, push_trans, MergeFault, Write, lines_of, merged_entries, MergeState, MergePost}
+use proofs.Common.{HasNoLine, reads_nothing, EnsureFourSlotsErrPost, ◌*◌, option_map, CallOutcome, merge_state, both}
+use proofs.Common.{terminator, total_bytes, merge_engine, merge_end, disordered_line, HasSlots, length-set}
+use proofs.Parts.{by_keys_kept}
+use Rattle.ptlines.proofs.LineSearch.{IsLine-append}
+use Rattle.ptmerge.specs.MergeSpec.{MergeDisorder, decided_output, decided_entries, lines_decide_disorder, merge_output}
+use Rattle.ptmerge.specs.MergeSpec.{disorder_is_decided}
+use Rattle.ptlines.proofs.Calls.{call_ends, call_set, call_without_slots, given_before, given_by, CallProgress}
+use Rattle.ptlines.proofs.Calls.{DecidedIfReadFailed, call_on_failed_output}
 use Rattle.ptlines.proofs.MaxLength.{max_length-append}
 use Rattle.std.proofs.Common.{rules}
 use Rattle.std.proofs.lemmas.Grind.{common_steps}
+use Rattle.std.proofs.lemmas.List.{append_cancel_right, map-append}
+use Rattle.ptlines.proofs.Lag.{bounded_lag_after}
+use Rattle.ptlines.specs.Calls.{CallEnd, ReadFault, AreAllConsistent}
+use Rattle.ptlines.proofs.TextLaws.{complete_lines_of_unlines, the_lines}
+use Rattle.ptlines.specs.Lag.{LaggedInput, ProcessLag}
+pub use Invariant.*
+pub use SlotLines.*
+
+-- Bounded lag. Leave out the buffered bytes, at most a block, and the terminator of a line that is not yet processed:
+-- the complete lines that remain are all processed. No key below the last of these can follow in either input, so with
+-- any content of the other input they decide only output that is written.
+
+-- ---- lines in order
+
+sorted_from_after : (cmp : Cmp) (key : Key) (last : Option (List ℕ)) (ls : Lines)
+    → IsSortedFrom cmp key last (sorted_after cmp key last ls)
+sorted_from_after cmp key last [] = tt
+sorted_from_after cmp key last (x ∷ ls) = let ih = sorted_from_after cmp key (Some (key x)) ls in grind arith
+
+sorted_from_parts : (cmp : Cmp) (key : Key) (last : Option (List ℕ)) (xs ys : Lines)
+    → IsSortedFrom cmp key last (xs ++ ys) → IsSortedFrom cmp key last xs
+    × IsSortedFrom cmp key (last_or last (map key xs)) ys
+sorted_from_parts cmp key last [] ys r = (tt, r)
+sorted_from_parts cmp key last (x ∷ xs) ys (here, more) =
+    grind (arith, sorted_from_parts cmp key (Some (key x)) xs ys more)
+
+module _ (cmp : Cmp) (o : IsKeyOrder cmp) (key : Key) where
+  from_key : (k : List ℕ) (ls : Lines) → IsSortedFrom cmp key (Some k) ls → EachKey (AtMost cmp k) key ls
+  from_key k [] r = tt
+  from_key k (x ∷ ls) (here, more) =
+      (here, EachKey-weaker _ _ (λ y h. at_most_trans cmp o k (key x) y here h) _ _ (from_key (key x) ls more))
+
+  -- no later key is below the last one
+  none_below : (xs ys : Lines) → IsSortedFrom cmp key None (xs ++ ys)
+      → EachKey (λ k. is_below cmp k (last_or None (map key xs)) ≡ false) key ys
+  none_below xs ys r =
+      let (_, rest) = sorted_from_parts cmp key None xs ys r in by _ rest
+    where
+      by : (l : Option (List ℕ)) → IsSortedFrom cmp key l ys → EachKey (λ k. is_below cmp k l ≡ false) key ys
+      by None h = Each-all _ (λ k. refl) (map key ys)
+      by (Some x) h = EachKey-weaker _ _ (λ k a. not_below cmp o k x a) _ _ (from_key x ys h)
+
+-- ---- the bytes received
+
+-- all lines have their terminator, or the last one lacks it
+abbrev Shape : ℕ → List ℕ → Lines → Type 0
+Shape end given ls = AreLines end ls × ((given ≡ unlines end ls) ⊎ (given ++ end ∷ [] ≡ unlines end ls))
+
+last_of : {A : Type 0} (xs : List A) → (xs ≡ []) ⊎ ((front : List A) × (x : A) × (xs ≡ front ++ x ∷ []))
+last_of [] = inl refl
+last_of (x ∷ xs) = ⊎_elim (λ none. inr ([], x, cc)) (λ (front, y, is). inr (x ∷ front, y, cc)) (last_of xs)
+
+are_split : (end : ℕ) (xs : Lines) (x : List ℕ) → AreLines end (xs ++ x ∷ []) → AreLines end xs × IsLine end x
+are_split end [] x (line, _) = (tt, line)
+are_split end (y ∷ xs) x (line, more) = let (front, last) = are_split end xs x more in ((line, front), last)
+
+-- the input as it was at most two blocks earlier: all its complete lines are processed, and it has not ended
+pub record LagPoint (end : ℕ) (given : Received) (p : Lines) : Type 0 where
+  pub before : LaggedInput given
+  pub going : before.earlier.eof ≡ false
+  pub whole : Lines
+  pub whole_is : known_lines end before.earlier ≡ whole
+  pub rest : Lines
+  pub split : p ≡ whole ++ rest
+
+-- at most one line that was read is not processed, and nothing is read after it
+abbrev pub ProcessedNearly : Lines → Lines → List ℕ → Type 0
+ProcessedNearly ls p piece = (ls ≡ p) ⊎ ((x : List ℕ) × (ls ≡ p ++ x ∷ []) × (piece ≡ []))
+
+module _ (end : ℕ) (given piece : List ℕ) (ls p : Lines) (now new : Reader) (far : IsReadAs end given ls now)
+    (free : IsLine end piece) (few : length new.buffered ≤ 8192) where
+  abbrev Point : Type 0
+  Point = LagPoint end (received_with (given ++ piece) new) p
+
+  -- complete lines, a part of a line, and `last`, which is left out
+  point : (whole : Lines) (tail last : List ℕ)
+      → (given ++ piece) ++ new.buffered ≡ (unlines end whole ++ tail) ++ last → length last ≤ 8193
+      → AreLines end whole → IsLine end tail → (rest : Lines) → p ≡ whole ++ rest → Point
+  point whole tail last is short all line rest split = record {
+    before = record {
+      earlier = record { bytes = unlines end whole ++ tail; eof = false };
+      last = last;
+      split = is;
+      short = omega arith;
+      eof = λ e. cc;
+    };
+    going = refl;
+    whole = whole;
+    whole_is = complete_lines_of_unlines end whole tail all line;
+    rest = rest;
+    split = split;
+  }
+
+  -- the last line lacks its terminator
+  open_line : (w : Lines) (y : List ℕ) → ls ≡ w ++ y ∷ [] → AreLines end ls → given ++ end ∷ [] ≡ unlines end ls
+      → (rest : Lines) → p ≡ w ++ rest → Point
+  open_line w y last all is rest split =
+      let (lines, line) = are_split end w y (rw last at all) in
+      let ends : given ≡ unlines end w ++ y = append_cancel_right given (unlines end w ++ y) (end ∷ [])
+      (is ∙ (rw (last, unlines_push end w y, append_assoc (unlines end w) y (end ∷ [])))) in
+      point w (y ++ piece) new.buffered (rw (ends, append_assoc (unlines end w) y piece)) (omega arith) lines
+      (IsLine-append end y piece line free) rest split
+
+  pub back : ProcessedNearly ls p piece → Point
+  back processed_nearly = by processed_nearly (grind (arith, the_lines, far))
+    where
+      by : ProcessedNearly ls p piece → Shape end given ls → Point
+      by (inl e) (all, inl is) =
+          point ls piece new.buffered (rw is) (omega arith) all free [] (sym e ∙ sym (append-nil ls))
+      by (inl e) (all, inr is) =
+          ⊎_elim
+          (λ none.
+          (let bad : [] ≡ given ++ end ∷ [] = rw none at (sym is) in absurd (omega
+          (arith, ap length bad, length-append given (end ∷ [])))))
+          (λ (w, y, last). open_line w y last all is (y ∷ []) (sym e ∙ last)) (last_of ls)
+      by (inr (y, split, _)) (all, inr is) = open_line p y split all is [] (sym (append-nil p))
+      by (inr (y, split, none)) (all, inl is) =
+          let (lines, line) = are_split end p y (rw split at all) in
+          point p y (end ∷ new.buffered)
+          (rw (none, append-nil given, is, split, unlines_push end p y) (simp append_assoc)) (omega arith) lines line []
+          (sym (append-nil p))
+
+-- ---- the decided output is a prefix of the output, if only processed lines decide it
+
+-- two lists that differ only in lines whose keys are not below this one
+pub record Differ (tool : MergeTool) (last : Option (List ℕ)) (key : Key) (xs ys : Lines) : Type 0 where
+  pub rest : Lines
+  pub tail : Lines
+  pub same : xs ++ rest ≡ ys ++ tail
+  pub none_rest : EachKey (λ k. is_below tool.cmp k last ≡ false) key rest
+  pub none_tail : EachKey (λ k. is_below tool.cmp k last ≡ false) key tail
+
+-- if one list is in order, a property of the reported disorder is one of the other list's disorder
+of_other : (cmp : Cmp) (s : Side) (f : Side → Option FirstDisorder) (test : Option MergeDisorder → Bool) → f s ≡ None
+    → test None ≡ false
+    → ((d : FirstDisorder) → f (other s) ≡ Some d → test (Some (record { file = other s; first_disorder = d })) ≡ false)
+    → test (earlier_disorder cmp (f First) (f Second)) ≡ false
+of_other cmp First f test none calm some = grind (arith, none, some)
+of_other cmp Second f test none calm some = grind (arith, none, some)
+
+-- one input is in order, and has not ended
+module _ (tool : MergeTool) (o : IsKeyOrder tool.cmp) (eof : Side → Bool) (ls : Side → Lines) (of : Side)
+    (going : eof of ≡ false) (no_disorder : first_disorder tool.cmp (tool.key of) (ls of) ≡ None) where
+  open tool use {cmp, terminator}
+
+  -- a key that is not below its last key is not decided
+  undecided : (k : List ℕ) → is_below cmp k (last_or None (map (tool.key of) (ls of))) ≡ false
+      → is_decided tool eof ls k ≡ false
+  undecided k h = not_decided tool o eof ls of k (rw (going, no_disorder) h)
+
+  -- only processed lines decide the output
+  pub decided_of_passed : (p : Side → Lines) → ((side : Side) → Differ tool (last_or None (map (tool.key of) (ls of)))
+      (tool.key side) (sorted_prefix cmp (tool.key side) (ls side)) (p side))
+      → IsPrefix (unlines terminator (decided_entries tool eof ls))
+      (output_of tool p)
+  decided_of_passed p differ =
+      let dec = is_decided tool eof ls in
+      let down = downward_decided tool o eof ls in
+      let rest = entries_by_key tool (λ k. not (dec k)) p in
+      let is : entries_by_key tool all_keys p ≡ entries_by_key tool dec p ++ rest = downward_splits tool o all_keys
+      dec down p in
+      let none = λ (side : Side) (l : Lines) (e : EachKey _ (tool.key side) l). kept_none dec (tool.key side) l
+      (EachKey-weaker _ _ undecided _ _ e) in
+      -- the lists differ only in lines that are left out
+      let kept = λ (side : Side). (let d = differ side in
+      simp (filter-append, none side d.rest d.none_rest, none side d.tail d.none_tail, append-nil) at
+      (ap (filter (λ line. dec (tool.key side line))) d.same)) in
+      let known : decided_entries tool eof ls ≡ entries_by_key tool dec p =
+      sym (by_keys_kept dec tool o (λ side. sorted_prefix cmp (tool.key side) (ls side)) all_keys)
+      ∙ (λ i. entries_by_key tool all_keys (λ side. kept side i)) ∙ by_keys_kept dec tool o p all_keys in
+      record {
+        rest = unlines terminator rest;
+        is = cc (is, known, unlines-append terminator (decided_entries tool eof ls) rest);
+      }
+
+  -- the disorder of the other input comes after its keys, so no disorder is decided
+  not_settled : EachKey (λ k. IsDisorderFrom cmp k (first_disorder cmp (tool.key (other of)) (ls (other of))))
+      (tool.key of) (ls of) → lines_decide_disorder tool eof ls (disorder tool ls) ≡ false
+  not_settled up =
+      -- a bound of all keys is not below the last one
+      let above = λ (e : List ℕ) (most : EachKey _ (tool.key of) (ls of)).
+      (let (below, _) = past_none cmp o (tool.key of) (λ k. k) (AtLeast e) (ls of) (e ∷ []) most
+      (self_at_most cmp o e, tt) in undecided e below) in
+      of_other cmp of (λ side. first_disorder cmp (tool.key side) (ls side)) (lines_decide_disorder tool eof ls)
+      no_disorder refl (λ d is. above d.last_key (rw is at up))
+
+-- ---- the output decided two blocks earlier
+
+front_has : (P : List ℕ → Type 0) (key : Key) (xs ys : Lines) → EachKey P key (xs ++ ys) → EachKey P key xs
+front_has P key xs ys e = let (front, _) = Each-parts P (map key xs) (map key ys) (rw map-append at e) in front
+
+-- the sorted prefix of the lines `ls` is `q`, whose last lines are `tail`, and then lines that may follow
+pub record LinesToCome (tool : MergeTool) (side : Side) (ls q tail : Lines) (bound : Bound) : Type 0 where
+  pub rest : Lines
+  pub is : sorted_prefix tool.cmp (tool.key side) ls ≡ q ++ rest
+  pub may_follow : MayFollow tool.cmp (tool.key side) bound (tail ++ rest)
+
+-- `q` are the processed lines; the output for `p` is complete, and the rest of `q` follows it
+module _ (tool : MergeTool) (o : IsKeyOrder tool.cmp) (given : Side → Received) (p q tail : Side → Lines)
+    (bound : Side → Bound) (split : (side : Side) → q side ≡ p side ++ tail side)
+    (under : (of side : Side) → EachKey (IsUnder tool.cmp (bound of)) (tool.key side) (q side))
+    (future : (side : Side) → LinesToCome tool side (known_lines tool.terminator (given side)) (q side) (tail side)
+    (bound side)) where
+  open tool use {cmp, terminator}
+
+  module _ (of : Side) (point : LagPoint tool.terminator (given of) (q of)) where
+    abbrev whole : Lines
+    whole = point.whole
+
+    -- the last key of the complete lines
+    abbrev last : Option (List ℕ)
+    last = last_or None (map (tool.key of) whole)
+
+    in_order : IsSortedFrom cmp (tool.key of) None (whole ++ point.rest)
+    in_order = rw (← point.split) (sorted_from_parts cmp (tool.key of) None (q of)
+        (future of).rest (rw (← (future of).is, sorted_prefix_is) (sorted_from_after cmp (tool.key of) None _))).0
+
+    ordered : (sorted_prefix cmp (tool.key of) whole ≡ whole) × (first_disorder cmp (tool.key of) whole ≡ None)
+    ordered = grind (arith, sorted_from_parts, in_order, sorted_from_start)
+
+    -- no line that follows is below that key
+    above : (side : Side) → EachKey (λ k. is_below cmp k last ≡ false) (tool.key side) (tail side ++ (future side).rest)
+    above side =
+        past_none cmp o (tool.key of) _ (bound side) whole _ (front_has _ (tool.key of) whole point.rest
+        (rw point.split at (under side of))) (future side).may_follow
+
+    -- the lines of an input are the processed ones, except for lines that are not below that key
+    abbrev Differs : Side → Received → Type 0
+    Differs side g =
+        Differ tool last (tool.key side) (sorted_prefix cmp (tool.key side) (known_lines terminator g)) (p side)
+
+    mine : Differs of point.before.earlier
+    mine = grind (arith, none_below, front_has, ordered, in_order, above of)
+
+    others : (side : Side) → Differs side (given side)
+    others side = record {
+      rest = [];
+      tail = tail side ++ (future side).rest;
+      same = grind (arith, append-nil, (future side).is, split side, append_assoc);
+      none_rest = tt;
+      none_tail = above side;
+    }
+
+    abbrev mix : Side → Received
+    mix = with_side of point.before.earlier given
+
+    going : (mix of).eof ≡ false
+    going = rw (put_same of point.before.earlier given) point.going
+
+    whole_now : known_lines terminator (mix of) ≡ whole
+    whole_now = rw (put_same of point.before.earlier given) point.whole_is
+
+    -- the output that this part decides was pushed
+    pub decided_at : IsPrefix (decided_output tool (with_input both_sides of point.before.earlier given))
+        (output_of tool p)
+    decided_at = subst (λ (m : Side → Received). IsPrefix (decided_output tool m)
+        (output_of tool p)) (λ i side. with_side_is of point.before.earlier given side i)
+        (decided_of_passed tool o (λ side. (mix side).eof) (λ side. known_lines terminator (mix side)) of going
+        (rw whole_now ordered.1) p (rw whole_now (put_each Differs of point.before.earlier given mine others)))
+
+    pub lag_bound : ProcessLag {I = Unit {0}} (λ came. decided_output tool (with_input both_sides of (came tt) given))
+        (λ u. given of) (output_of tool p)
+    lag_bound = record { before = λ u. point.before; begins = decided_at }
+
+    -- no disorder was decided
+    pub unsettled : EachKey (λ k. IsDisorderFrom cmp k (first_disorder cmp (tool.key (other of))
+        (known_lines terminator (given (other of))))) (tool.key of) (q of)
+        → (before : LaggedInput (given of)) × (disorder_is_decided tool (with_side of before.earlier given) ≡ false)
+    unsettled up = (
+      point.before,
+      not_settled tool o (λ side. (mix side).eof) (λ side. known_lines terminator (mix side)) of going
+          (rw whole_now ordered.1) (rw (put_other, whole_now)
+          (front_has _ (tool.key of) whole point.rest (rw point.split at up))),
+    )
 
 -- the current line becomes a processed line
 pub record IsAtCurrentLine (cmp : Cmp) (key : Key) (number : ℕ) (x : List ℕ) (ls p : Lines) (b : Bound) : Type 0 where
@@ -45,41 +315,42 @@ MatchesStatus cmp key (Disorder n) cursor store now ls p b =
     b ≡ AfterDisorder (record { last_key = key (line store cursor.previous_slot); line = n })
 
 -- an input at an exit: the lines `ls` are read, `p` of them are processed, and a piece of a further line is read
-pub record ReadFacts (end : ℕ) (cmp : Cmp) (key : Key) (old now new : Reader) (piece : List ℕ) (ls p : Lines)
+pub record ReadFacts (tool : MergeTool) (s : Side) (old now new : Reader) (piece : List ℕ) (ls p : Lines)
     (b : Bound) : Type 0 where
-  pub lines_read : LinesRead end old now ls
+  pub lines_read : LinesRead tool.terminator old now ls
   pub reads : ReaderAdvance now new piece
   pub line : IsLine now.terminator piece
   pub sound : IsSound new
   pub processed_nearly : ProcessedNearly ls p piece
-  pub processed_prefix : IsProcessedPrefix cmp key ls p b
+  pub processed_prefix : IsProcessedPrefix tool.cmp (tool.key s) ls p b
   pub nothing_follows : b ≡ NothingMore → IsDone now
 
 -- the invariant of one input
-pub record SideInvariant (end : ℕ) (cmp : Cmp) (key : Key) (old now : Reader) (cursor : Sorted) (store : Slots)
+pub record SideInvariant (tool : MergeTool) (s : Side) (old now : Reader) (cursor : Sorted) (store : Slots)
     (ls p : Lines) (b : Bound) : Type 0 where
-  pub facts : ReadFacts end cmp key old now now [] ls p b
+  pub facts : ReadFacts tool s old now now [] ls p b
   pub open facts use {lines_read, sound}
   pub begun : HasBegun now ls
   pub number : cursor.number ≡ length ls
-  pub status_is : MatchesStatus cmp key cursor.status cursor store now ls p b
+  pub status_is : MatchesStatus tool.cmp (tool.key s) cursor.status cursor store now ls p b
+  pub slots : HasSlots s cursor
+  pub four : 4 ≤ length store.lines
 
-module _ {end : ℕ} {cmp : Cmp} {key : Key} {old now : Reader} {cursor : Sorted} {store : Slots} {ls p : Lines}
-    {b : Bound}
-    (s : SideInvariant end cmp key old now cursor store ls p b) where
+module _ {tool : MergeTool} {s : Side} {old now : Reader} {cursor : Sorted} {store : Slots} {ls p : Lines} {b : Bound}
+    (i : SideInvariant tool s old now cursor store ls p b) where
   -- other slots may change
   pub side_invariant_kept : {after : Slots} → line after cursor.current_slot ≡ line store cursor.current_slot
-      → line after cursor.previous_slot ≡ line store cursor.previous_slot
-      → SideInvariant end cmp key old now cursor after ls p b
+      → line after cursor.previous_slot ≡ line store cursor.previous_slot → 4 ≤ length after.lines
+      → SideInvariant tool s old now cursor after ls p b
   side_invariant_kept = grind (arith, common_steps)
 
   pub at_current_line : cursor.status ≡ Head
-      → IsAtCurrentLine cmp key cursor.number (line store cursor.current_slot) ls p b
-  at_current_line head = rw head at s.status_is
+      → IsAtCurrentLine tool.cmp (tool.key s) cursor.number (line store cursor.current_slot) ls p b
+  at_current_line head = rw head at i.status_is
 
   -- the current line is processed
-  pub read_facts_after_line : IsKeyOrder cmp → cursor.status ≡ Head → ReadFacts end cmp key old now now [] ls ls b
-  read_facts_after_line o head = let h = at_current_line head in grind (arith, processed_to_line)
+  pub read_facts_after_line : IsKeyOrder tool.cmp → cursor.status ≡ Head → ReadFacts tool s old now now [] ls ls b
+  read_facts_after_line o head = let h = at_current_line head in grind (arith, after_from)
 
 -- the bound of an input after the last key, or before any line
 abbrev pub bound_after : Option (List ℕ) → Bound
@@ -98,13 +369,12 @@ reads_left Ended = 0
 reads_left (Disorder n) = 0
 
 -- the input after its next line was read, if all earlier lines are processed
-pub record SideAfterNext (end : ℕ) (cmp : Cmp) (key : Key) (old new : Reader) (cursor : Sorted) (slot : ℕ)
+pub record SideAfterNext (tool : MergeTool) (s : Side) (old new : Reader) (cursor : Sorted) (slot : ℕ)
     (before after : Slots) (ls : Lines) (last : Option (List ℕ)) : Type 0 where
   pub now_ls : Lines
   pub bound : Bound
-  pub side_invariant : SideInvariant end cmp key old new cursor after now_ls ls bound
-  pub may_follow : (r : Lines) → MayFollow cmp key bound r → MayFollow cmp key (bound_after last) r
-  pub under : (k : List ℕ) → IsUnder cmp (bound_after last) k → IsUnder cmp bound k
+  pub side_invariant : SideInvariant tool s old new cursor after now_ls ls bound
+  pub later : IsLater tool.cmp (tool.key s) (bound_after last) bound
   pub bytes : List ℕ
   pub stored : after ≡ with_line before slot bytes
   pub longer : max_length ls ≤ max_length now_ls
@@ -113,25 +383,22 @@ pub record SideAfterNext (end : ℕ) (cmp : Cmp) (key : Key) (old new : Reader) 
   pub fits : length bytes ≤ max_length now_ls
 
 status_after_next : (cmp : Cmp) (key : Key) (last : Option (List ℕ)) (cursor : Sorted) (store : Slots) (next : List ℕ)
-    → IsLastKey key last cursor store
-    → status_at key cmp cursor.number (line store cursor.current_slot) next
+    → IsLastKey key last cursor store → status_at key cmp cursor.number (line store cursor.current_slot) next
     ≡ cond (is_disordered cmp last (key next)) (Disorder (cursor.number + 1)) Head
 status_after_next = grind (arith, nat_tests)
 
--- nothing follows
-nothing_follows : (cmp : Cmp) (key : Key) (last : Option (List ℕ)) (r : Lines) → r ≡ []
-    → MayFollow cmp key (bound_after last) r
-nothing_follows = grind arith
-
 from_next : {cmp : Cmp} (o : IsKeyOrder cmp) (key : Key) (last : Option (List ℕ)) (x : List ℕ)
-    → is_disordered cmp last (key x) ≡ false
-    → ((r : Lines) → EachKey (AtMost cmp (key x)) key r → MayFollow cmp key (bound_after last) r)
-    × ((k : List ℕ) → IsUnder cmp (bound_after last) k → AtMost cmp k (key x))
-from_next o key None x h = (λ r c. tt, λ k u. absurd u)
+    → is_disordered cmp last (key x) ≡ false → IsLater cmp key (bound_after last) (AtLeast (key x))
+from_next o key None x h = record { may_follow = λ r c. tt; under = λ k u. absurd u }
 from_next {cmp} o key (Some j) x h = search (rules, EachKey-weaker, at_most_trans)
 
-module _ (end : ℕ) (cmp : Cmp) (o : IsKeyOrder cmp) (key : Key) (old now new : Reader) (cursor next : Sorted)
-    (before after : Slots) (ls : Lines) where
+module _ (tool : MergeTool) (o : IsKeyOrder tool.cmp) (s : Side) (old now new : Reader) (cursor next : Sorted)
+    (before after : Slots) (ls : Lines) (slots : HasSlots s cursor) (four : 4 ≤ length before.lines) where
+  open tool use {cmp}
+
+  abbrev own : Key
+  own = tool.key s
+
   abbrev next_cursor : CursorStatus → ℕ → Bool → Sorted
   next_cursor status number same = record {
     current_slot = cursor.previous_slot;
@@ -143,77 +410,65 @@ module _ (end : ℕ) (cmp : Cmp) (o : IsKeyOrder cmp) (key : Key) (old now new :
   }
 
   abbrev Goal : Option (List ℕ) → Sorted → Type 0
-  Goal last q = SideAfterNext end cmp key old new q cursor.previous_slot before after ls last
+  Goal last q = SideAfterNext tool s old new q cursor.previous_slot before after ls last
 
   -- at most one more line was read
   at_next : (last : Option (List ℕ)) (more : Lines) (bytes : List ℕ) (q : Sorted) (b : Bound)
-      → LinesRead end old new (ls ++ more) → HasBegun new (ls ++ more) → IsSound new
+      → LinesRead tool.terminator old new (ls ++ more) → HasBegun new (ls ++ more) → IsSound new
+      → (q.current_slot ≡ cursor.previous_slot) × (q.previous_slot ≡ cursor.current_slot)
       → ProcessedNearly (ls ++ more) ls [] → q.number ≡ length (ls ++ more)
-      → IsProcessedPrefix cmp key (ls ++ more) ls b → (b ≡ NothingMore → IsDone new)
-      → MatchesStatus cmp key q.status q after new (ls ++ more) ls b
-      → ((r : Lines) → MayFollow cmp key b r → MayFollow cmp key (bound_after last) r)
-      → ((k : List ℕ) → IsUnder cmp (bound_after last) k → IsUnder cmp b k)
-      → after ≡ with_line before cursor.previous_slot bytes → length bytes ≤ max_length (ls ++ more) → Goal last q
-  at_next = grind (arith, max_length-append, reads_nothing)
+      → IsProcessedPrefix cmp own (ls ++ more) ls b → (b ≡ NothingMore → IsDone new)
+      → MatchesStatus cmp own q.status q after new (ls ++ more) ls b
+      → IsLater cmp own (bound_after last) b → after ≡ with_line before cursor.previous_slot bytes
+      → length bytes ≤ max_length (ls ++ more) → Goal last q
+  at_next = grind (arith, max_length-append, reads_nothing, length-set)
+
+  low : AreLow cursor
+  low = low_slot s cursor slots
 
   -- a line was read
   module _ (e : FillLine now new before after cursor.previous_slot) (sound : IsSound new)
-      (lines_read : LinesRead end old now ls) (number : cursor.number ≡ length ls) (same : Bool) where
-    at_head : (last : Option (List ℕ)) → cursor.previous_slot < length before.lines → IsSortedUpTo cmp key ls last
-        → is_disordered cmp last (key e.line) ≡ false → Goal last (next_cursor Head (cursor.number + 1) same)
-    at_head last within sorted_up_to no_disorder =
-        let more = sorted_up_to_more e.line sorted_up_to no_disorder in
-        let (may_follow, under) = from_next o key last e.line no_disorder in
-        at_next last (e.line ∷ []) e.line (next_cursor Head (cursor.number + 1) same) (AtLeast (key e.line))
-        (lines_read_more lines_read e)
-        (inr (omega (arith, length_push ls e.line))) sound (inr (e.line, refl, refl))
-        (omega (arith, number, length_push ls e.line)) (processed_before_line o more) (λ ended. cc)
-        (grind (arith, more, line_of_with_line)) may_follow under e.stored
+      (lines_read : LinesRead tool.terminator old now ls) (number : cursor.number ≡ length ls) (same : Bool) where
+    at_status : (last : Option (List ℕ)) (status : CursorStatus) (b : Bound)
+        → IsProcessedPrefix cmp own (ls ++ e.line ∷ []) ls b → (b ≡ NothingMore → IsDone new)
+        → MatchesStatus cmp own status (next_cursor status (cursor.number + 1) same) after new (ls ++ e.line ∷ []) ls b
+        → IsLater cmp own (bound_after last) b → Goal last (next_cursor status (cursor.number + 1) same)
+    at_status last status b processed ended status_is later =
+        at_next last (e.line ∷ []) e.line (next_cursor status (cursor.number + 1) same) b (lines_read_more lines_read e)
+        (inr (omega (arith, length_push ls e.line))) sound (refl, refl) (inr (e.line, refl, refl))
+        (omega (arith, number, length_push ls e.line)) processed ended status_is later e.stored
         (omega (arith, max_length-append ls (e.line ∷ [])))
 
-    at_fall : (last : Option (List ℕ)) → cursor.current_slot ≢ cursor.previous_slot → IsSortedUpTo cmp key ls last
-        → IsLastKey key last cursor before → is_disordered cmp last (key e.line) ≡ true
-        → Goal last (next_cursor (Disorder (cursor.number + 1)) (cursor.number + 1) same)
-    at_fall None apart sorted_up_to is falls_now = cc
-    at_fall (Some k) apart sorted_up_to (_, is) falls_now =
-        at_next (Some k) (e.line ∷ []) e.line (next_cursor (Disorder (cursor.number + 1)) (cursor.number + 1) same)
-        (AfterDisorder (record { last_key = k; line = length ls + 1 }))
-        (lines_read_more lines_read e) (inr (omega (arith, length_push ls e.line))) sound (inr (e.line, refl, refl))
-        (omega (arith, number, length_push ls e.line)) (grind (arith, common_steps, sorted_up_to))
-        (λ ended. cc)
-        (grind (arith, line_other, is)) (nothing_follows cmp key (Some k)) (λ j u. u) e.stored
-        (omega (arith, max_length-append ls (e.line ∷ [])))
-
-    at_line : (last : Option (List ℕ)) → cursor.previous_slot < length before.lines
-        → cursor.current_slot ≢ cursor.previous_slot → IsSortedUpTo cmp key ls last → IsLastKey key last cursor before
-        → (t : Bool) → is_disordered cmp last (key e.line) ≡ t
+    at_line : (last : Option (List ℕ)) → IsSortedUpTo cmp own ls last → IsLastKey own last cursor before
+        → (t : Bool) → is_disordered cmp last (own e.line) ≡ t
         → Goal last (next_cursor (cond t (Disorder (cursor.number + 1)) Head) (cursor.number + 1) same)
-    at_line = search (rules, at_fall, at_head)
+    at_line last sorted_up_to is false none =
+        let more : IsSortedUpTo cmp own (ls ++ e.line ∷ []) (Some (own e.line)) =
+        grind (arith, common_steps, sorted_up_to) in
+        let within : cursor.previous_slot < length before.lines = omega (arith, low) in
+        at_status last Head (AtLeast (own e.line)) (processed_before_line o more)
+        (λ ended. cc) (grind (arith, more, line_of_with_line)) (from_next o own last e.line none)
+    at_line None sorted_up_to is true disordered = cc
+    at_line (Some k) sorted_up_to is true disordered =
+        at_status (Some k) (Disorder (cursor.number + 1))
+        (AfterDisorder (record { last_key = k; line = length ls + 1 }))
+        (grind (arith, common_steps, sorted_up_to)) (λ ended. cc) (grind (arith, line_other, is.1, low))
+        (record { may_follow = λ r none. rw none tt; under = λ j u. u })
 
-  pub next_invariant : {last : Option (List ℕ)} → cursor.previous_slot < length before.lines
-      → cursor.current_slot ≢ cursor.previous_slot → LinesRead end old now ls → cursor.number ≡ length ls
-      → IsSortedUpTo cmp key ls last → IsLastKey key last cursor before
-      → NextOkPost key cmp cursor next now new before after → Goal last next
-  next_invariant {last} within apart lines_read number sorted_up_to is (inl e) =
-      let same = same_key_at key cmp cursor.number (line before cursor.current_slot) e.next_line.line in
-      rw (e.cursor, status_after_next cmp key last cursor before e.next_line.line is)
-      (at_line e.next_line e.sound lines_read number same last within apart sorted_up_to is _ refl)
-  next_invariant {last} within apart lines_read number sorted_up_to is (inr e) =
+  pub next_invariant : {last : Option (List ℕ)} → LinesRead tool.terminator old now ls → cursor.number ≡ length ls
+      → IsSortedUpTo cmp own ls last → IsLastKey own last cursor before
+      → NextOkPost own cmp cursor next now new before after → Goal last next
+  next_invariant {last} lines_read number sorted_up_to is (inl e) =
+      let same = same_key_at own cmp cursor.number (line before cursor.current_slot) e.next_line.line in
+      rw (e.cursor, status_after_next cmp own last cursor before e.next_line.line is)
+      (at_line e.next_line e.sound lines_read number same last sorted_up_to is _ refl)
+  next_invariant {last} lines_read number sorted_up_to is (inr e) =
       rw e.cursor (at_next last [] [] (next_cursor Ended cursor.number false) NothingMore
-      (simp append-nil (lines_read_eof lines_read e.advance_ok e.done)) (inl e.done) e.sound (inl (append-nil ls))
-      (simp append-nil number)
-      (simp append-nil (processed_all sorted_up_to)) (λ ended. e.done)
-      (refl, e.done) (nothing_follows cmp key last) (λ k u. tt) e.empty (omega arith))
-
--- ---- whether the current line has the key of the previous one
-
-pub next_same_key : (cmp : Cmp) (o : IsKeyOrder cmp) (key : Key) (cursor next : Sorted) (now new : Reader)
-    (before after : Slots)
-    → 0 < cursor.number → cursor.previous_slot < length before.lines
-    → NextOkPost key cmp cursor next now new before after
-    → next.same ≡ (is_head next.status && bytes_eq (key (line before cursor.current_slot))
-    (key (line after next.current_slot)))
-next_same_key = grind (arith, line_of_with_line, equal_is)
+      (simp append-nil (lines_read_eof lines_read e.advance_ok e.done)) (inl e.done) e.sound (refl, refl)
+      (inl (append-nil ls)) (simp append-nil number) (grind (arith, common_steps, sorted_up_to)) (λ ended. e.done)
+      (refl, e.done)
+      (record { may_follow = λ r none. rw none (may_follow_none cmp own (bound_after last)); under = λ k u. tt })
+      e.empty (omega arith))
 
 -- ---- an exit
 
@@ -264,9 +519,17 @@ abbrev pub HoldsTwoLines : MergeTool → Type 0
 HoldsTwoLines tool = (ls : Side → Lines)
     → (2 * max_length (ls First) + 2 * max_length (ls Second) ≤ tool.size ls) × (4 ≤ tool.slots ls)
 
+-- the output for a key of one input alone is the output of each line
+pub record IsLineByLine (tool : MergeTool) : Type 0 where
+  pub none : (k : List ℕ) → tool.entries k [] [] ≡ []
+  pub first : (k x : List ℕ) (g : Lines) → tool.entries k (x ∷ g) [] ≡ tool.entries k (x ∷ []) [] ++ tool.entries k g []
+  pub second : (k x : List ℕ) (g : Lines)
+      → tool.entries k [] (x ∷ g) ≡ tool.entries k [] (x ∷ []) ++ tool.entries k [] g
+
 -- the conditions at the start
 pub record IsOpenMerge (tool : MergeTool) (old : MergeState) : Type 0 where
   pub o : IsKeyOrder tool.cmp
+  pub alone : IsLineByLine tool
   pub fits : HoldsTwoLines tool
   pub terminator : (side : Side) → (old.reader side).terminator ≡ tool.terminator
   pub sound : (side : Side) → IsSound (old.reader side)
@@ -279,8 +542,8 @@ pub record IsOpenMerge (tool : MergeTool) (old : MergeState) : Type 0 where
 -- the facts of an input
 abbrev pub ReadFactsOf : MergeTool → MergeState → (Side → Reader) → (Side → Lines) → (Side → Lines) → (Side → Bound)
     → Side → Reader → List ℕ → Type 0
-ReadFactsOf tool old now ls p b side new piece = ReadFacts tool.terminator tool.cmp (tool.key side) (old.reader side)
-    (now side) new piece (ls side) (p side) (b side)
+ReadFactsOf tool old now ls p b side new piece =
+    ReadFacts tool side (old.reader side) (now side) new piece (ls side) (p side) (b side)
 
 module _ {tool : MergeTool} {old : MergeState} (w : IsOpenMerge tool old) (new : MergeState) {now : Side → Reader}
     {piece : Side → List ℕ} {ls p : Side → Lines} {b : Side → Bound}
@@ -416,8 +679,8 @@ module _ {tool : MergeTool} {old : MergeState} (w : IsOpenMerge tool old) (new :
       stops_at_disorder = λ of clean_then.
           let f = first_disorder cmp (key (other of)) (known_lines tool.terminator (given (other of))) in
           unsettled tool w.o given front _ tail _ lag.split lag.under_bound future of (backs of)
-          (EachKey-weaker _ _ (λ k u. under_fall cmp w.o (b (other of)) k f u
-          (whole_input_split (other of)).may_disorder) _ _ (lag.under (other of) of));
+          (EachKey-weaker _ _ (λ k u. grind (arith, at_most_trans, (whole_input_split (other of)).may_disorder)) _ _
+          (lag.under (other of) of));
       first_reads = λ clean_then. record {
         second_unread = λ none. ⊎_elim (λ begun. absurd (has_line First begun none))
             (λ same. same ∙ (λ i. record (old.reader Second) { terminator = w.terminator Second i })) order.first;
@@ -439,20 +702,22 @@ module _ {tool : MergeTool} {old : MergeState} (w : IsOpenMerge tool old) (new :
 -- ---- the ends before the start
 
 -- the terminator of both readers was set
-pub merge_set : {tool : MergeTool} {old new : MergeState} {set : Side → Reader} → old.out.write_failed ≡ false
-    → ((side : Side) → set side ≡ record (old.reader side) { terminator = tool.terminator })
-    → {result : Result (Unit {0}) MergeFault} → MergePost tool
-    (record { reader = set; out = old.out; store = old.store }) new result
-    → MergePost tool old new result
+pub merge_set : {tool : MergeTool} {first second set1 set2 : Reader} {out : Output} {store : Slots} {new : MergeState}
+    → (zero : Bool) → tool.terminator ≡ terminator zero → out.write_failed ≡ false
+    → set1 ≡ record first { terminator = cond zero 0 10 } → set2 ≡ record second { terminator = cond zero 0 10 }
+    → {result : Result (Unit {0}) MergeFault} → MergePost tool (merge_state set1 set2 out store) new result
+    → MergePost tool (merge_state first second out store) new result
 unfolding call_set
-merge_set {tool} {old} {new} {set} clean is m = record {
-  call = call_set both_sides _ old _ new clean refl refl (λ side read. is side) (λ side none. cc) m.call;
-  stops_at_disorder = m.stops_at_disorder;
-  first_reads = grind (arith, is Second);
-}
+merge_set {tool} {first} {second} {set1} {set2} {new = new} zero end clean is1 is2 m =
+    let is : (side : Side) → both set1 set2 side ≡ record (both first second side) { terminator = tool.terminator } =
+    λ side. grind (arith, end, is1, is2) in record {
+      call = call_set both_sides _ _ _ new clean refl refl (λ side read. is side) (λ side none. cc) m.call;
+      stops_at_disorder = m.stops_at_disorder;
+      first_reads = grind (arith, is Second);
+    }
 
 -- the output had failed, and nothing was done
-pub merge_halted : (tool : MergeTool) (old : MergeState) → old.store.denied ≡ false → old.out.write_failed ≡ true
+pub merge_halted : {tool : MergeTool} {old : MergeState} → old.store.denied ≡ false → old.out.write_failed ≡ true
     → MergePost tool old old (Err Write)
 merge_halted = grind (arith, call_on_failed_output)
 
@@ -464,21 +729,34 @@ unfolding call_without_slots
 merge_without_slots {tool} {old} w {new} same_output unread slots =
     let set : (side : Side) → new.reader side ≡ record (old.reader side) { terminator = tool.terminator } =
     λ side. unread side ∙ (λ i. record (old.reader side) { terminator = w.terminator side i }) in
+    let none : Side → Lines = λ side. [] in
+    let future : (side : Side)
+    → LinesToCome tool side (known_lines tool.terminator (given_before old side)) [] [] NoBound =
+    λ side. record { rest = _; is = refl; may_follow = tt } in
+    -- nothing is received
+    let point : (side : Side) → LagPoint tool.terminator (given_before old side) [] =
+    λ side. record {
+      before = record {
+        earlier = record { bytes = []; eof = false };
+        last = (old.reader side).buffered;
+        split = refl;
+        short = omega (arith, (w.sound side).buffered);
+        eof = λ never. cc;
+      };
+      going = refl;
+      whole = [];
+      whole_is = refl;
+      rest = [];
+      split = refl;
+    } in
     record {
       call = call_without_slots both_sides (merge_engine tool) old new w.writable same_output (λ side read. set side)
           (λ side none. cc) (λ side read. w.sound side) (λ side read. w.unfailed side) slots.denied slots.peak
           slots.least
           slots.few (λ texts. omega (arith, w.fits (lines_of tool texts)))
-          (λ side read. rw (unread_decides_nothing tool w.o (given_before old) side) (record { rest = []; is = refl }));
-      stops_at_disorder = λ side clean. (
-        record {
-          earlier = record { bytes = []; eof = false };
-          last = (old.reader side).buffered;
-          split = refl;
-          short = omega (arith, (w.sound side).buffered);
-          eof = λ never. cc;
-        },
-        unread_decides_no_disorder tool w.o (given_before old) side,
-      );
+          (λ side read. decided_at tool w.o (given_before old) none none none (λ t. NoBound) (λ t. refl) (λ of t. tt)
+          future side (point side));
+      stops_at_disorder = λ side clean. unsettled tool w.o (given_before old) none none none (λ t. NoBound)
+          (λ t. refl) (λ of t. tt) future side (point side) tt;
       first_reads = search (rules, set);
     }

@@ -8,7 +8,7 @@ use ptlines::{LineFault, Store};
 use std::alloc::Allocator;
 
 // Adds the slots 0 to 3 if they are missing.
-#[tactic(auto, using(std::proofs::lemmas::List::Sums::sum_by_push, crate::proofs::MergeLemmas::Slots::line_added))]
+#[tactic(auto, using(std::proofs::lemmas::List::Sums::sum_by_push, crate::proofs::MergeLemmas::Exits::SlotLines::line_added))]
 pub(crate) fn ensure_four_slots<A: Allocator + Copy>(store: &mut Store<A>) -> Result<(), LineFault>
     ensures ok { OnOk result (EnsureFourSlotsPost store.old store.new) }
     ensures err { OnErr result (EnsureFourSlotsErrPost store.old store.new) }

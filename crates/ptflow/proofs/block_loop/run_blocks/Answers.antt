@@ -1,13 +1,12 @@
 -- Each iteration processes one block, and the contract of `process_block` preserves the invariant. Each exit is a lemma
--- of `Exits` or `BlockLoop`. The budget decreases, since a block that is not empty is consumed.
+-- of `Exits`. The budget decreases, since no block is empty.
 use Rattle.ptflow.proofs
-use proofs.Common.{◌≡◌, [], refl, arith, reads_nothing, common_steps}
-use proofs.Passes.BlockLoop.{BlockLoopState, blocks_start, block_sent, block_taken, counted_more, block_read, ending}
+use proofs.Common.{◌≡◌, [], refl, arith, reads_nothing, common_steps, rules}
+use proofs.Passes.Exits.{BlockLoopState, blocks_start, block_sent, block_taken, counted_more, block_read, ending}
 use proofs.Passes.Exits.{by_write, nothing_more, pass_write, pass_done, pass_unended}
 use Rattle.ptflow.proofs.block_loop.run_blocks.Given as given
 use Rattle.ptflow.proofs.block_loop.run_blocks.Goals as goal
 use Rattle.ptflow.proofs.block_loop.run_blocks.Goals.{In_ok-write_out_before_blocking}
-use Rattle.std.proofs.Common.{rules}
 
 -- the buffered output was written
 abbrev written_out : (g : given.Over) (c : In_ok-write_out_before_blocking g)
@@ -69,9 +68,10 @@ reading-preserved g c =
     let b = c.block.follows.holds-at-none in
     let run = written_out g (goal.at.reading-preserved g c).In_ok-write_out_before_blocking in
     let (refilled, shown, ended) = (rw c.in-Ok.is at b.shows) run.reached.advance_ok.fault in
+    let e = c.in_ok-process_block-in-Ok.ensures in
     record {
-      run = search (rules, block_taken);
-      counted = search (rules, counted_more);
+      run = block_taken run refilled shown c.consume.ensures.consumed e.continues (e.holds c.args.tool.now);
+      counted = counted_more refilled shown b.was_sound c.reading.invariant.counted c.consume.ensures.consumed e.counts;
     }
 
 pub reading-smaller : goal.reading-smaller

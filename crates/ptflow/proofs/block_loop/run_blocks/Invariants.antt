@@ -1,7 +1,8 @@
 -- The tool's counters grow by at most the bytes that it processed.
-use Rattle.ptflow.proofs.Common.{◌≤◌, ◌-◌, length, budget}
-use Rattle.ptflow.proofs.Passes.BlockLoop.{BlockLoopState}
-use Rattle.ptflow.proofs.block_loop.run_blocks.Given as goal
+use Rattle.ptflow.proofs
+use proofs.Common.{◌≤◌, ◌-◌, length, budget}
+use proofs.Passes.Exits.{BlockLoopState}
+use proofs.block_loop.run_blocks.Given as goal
 
 abbrev pub invariant-reading : goal.invariant-reading
 invariant-reading g l = record {

@@ -1,18 +1,15 @@
 -- The buffered output is written before each read, so each exit comes after that. After the line in the last slot it is
 -- written again, and the lines of the block follow. Each exit is an outcome of a pass.
 use Rattle.ptflow.proofs
-use proofs.Common.{◌∙◌, subst, IsLine}
 use proofs.Passes.LineLoop.{LineLoopState, short_block, filled_line, run_starts, run_unslotted, run_sent, run_count}
 use proofs.Passes.LineLoop.{run_room, run_flush_failed, run_line, run_line_halts, filled_count, same_room, some_line}
-use proofs.Passes.LineLoop.{run_broken, run_memory, run_no_block, run_done, run_unended, run_block, run_block_halts}
-use proofs.Passes.Exits.{by_write}
-use proofs.Passes.Readers.{budget_of_line}
-use proofs.Passes.StepOutput.{returned_err}
-use proofs.Passes.Slots.{bounds_start, swapped_room}
+use proofs.Passes.LineLoop.{run_read, keeps_last, same_bounds, run_memory, run_done, run_unended, run_block}
+use proofs.Passes.LineLoop.{run_block_halts, bounds_start, swapped_room}
+use proofs.Passes.Exits.{by_write, budget_of_line, returned_err}
 use Rattle.ptflow.proofs.line_loop.run_lines.Given as given
 use Rattle.ptflow.proofs.line_loop.run_lines.Goals as goal
 use Rattle.ptflow.proofs.line_loop.run_lines.Goals.{In_ok-write_out_before_blocking, In_ok-process_line-in-Ok-true}
-use Rattle.std.proofs.Common.{rules}
+use proofs.Common.{rules}
 
 -- the state after the buffered output was written, and after the line in the last slot
 written_out : (g : given.Over) (c : In_ok-write_out_before_blocking g) → let T = g.T.LineFilter in
@@ -41,9 +38,7 @@ returns-in_err-ensure_slots g c =
     let (_, is_err, is_fault) = returned_err c.from_residual.result c.from_residual.ensures in
     let adds = rw c.requires.slots at c.ensure_slots.ensures.adds in
     rw (is_err, is_fault, c.in_err-ensure_slots.ensures.err)
-    (run_unslotted c.requires.tool c.requires.begins.ends c.requires.begins.ready c.requires.begins.sound
-    c.requires.begins.clean adds
-    (rw c.requires.slots at c.in_err-ensure_slots.ensures.few)
+    (run_unslotted c.requires.tool c.requires.begins adds (rw c.requires.slots at c.in_err-ensure_slots.ensures.few)
     c.ensure_slots.ensures.same_peak c.in_err-ensure_slots.ensures.denied)
 
 pub reading-init : goal.reading-init
@@ -97,17 +92,15 @@ returns-in-Err-Read g c =
     let r = written_out g (goal.at.returns-in-Err-Read g c).In_ok-write_out_before_blocking in
     let e = rw (c.in-Err-Read.field-0-is, c.requires.slots) at
     (c.in-Err-Read.ensures.fills r.reached.advance_ok.fault) in
-    let free = subst (λ b. IsLine b e.piece) (r.reached.advance_ok.reads.terminator ∙ r.terminator) e.faults.whole in
-    run_broken c.requires.tool r c.requires.begins.ready c.fill.ensures.was_sound e.faults.reads free
-    c.fill.ensures.is_sound e.stored e.cause
+    run_read c.requires.tool r c.requires.begins.ready c.fill.ensures.was_sound e.faults.reads e.faults.whole
+    c.fill.ensures.is_sound (keeps_last c.requires.tool r e.piece e.stored) e.cause
 
 pub returns-in-Err-Memory : goal.returns-in-Err-Memory
 returns-in-Err-Memory g c =
     let r = written_out g (goal.at.returns-in-Err-Memory g c).In_ok-write_out_before_blocking in
     let e = rw (c.in-Err-Memory.field-0-is, c.requires.slots) at
     (c.in-Err-Memory.ensures.fills r.reached.advance_ok.fault) in
-    let free = subst (λ b. IsLine b e.piece) (r.reached.advance_ok.reads.terminator ∙ r.terminator) e.faults.whole in
-    run_memory c.requires.tool r c.requires.begins.ready c.fill.ensures.was_sound e.faults.reads free
+    run_memory c.requires.tool r c.requires.begins.ready c.fill.ensures.was_sound e.faults.reads e.faults.whole
     c.fill.ensures.is_sound e.stored e.failed e.left
 
 pub returns-in_err-write_out_before_blocking-2 : goal.returns-in_err-write_out_before_blocking-2
@@ -155,8 +148,8 @@ returns-in-Err g c =
     let u = run_sent c.requires.tool v c.write_out_before_blocking-in-reading.ensures.pushed.wrote
     c.in_ok-write_out_before_blocking-2.ensures.pushed.clean in
     let (failed, cause, _) = (rw c.in-Err.is at c.block.follows.holds-at-none.shows) u.reached.advance_ok.fault in
-    run_no_block c.requires.tool u c.requires.begins.ready c.fill.ensures.is_sound failed.reads
-    c.block.follows.holds-at-none.is_sound cause
+    run_read c.requires.tool u c.requires.begins.ready c.fill.ensures.is_sound failed.reads tt
+    c.block.follows.holds-at-none.is_sound (same_bounds c.requires.tool u) cause
 
 pub reading-preserved : goal.reading-preserved
 reading-preserved g c =

@@ -1,8 +1,9 @@
 -- The items written for the lines so far, and then those of the rest in the current state, are the items of the whole.
 -- An iteration adds the line in the last slot, and the lines of a block.
+use Rattle.ptflow.proofs
 use Rattle.ptlines.specs.Readers.{budget}
-use Rattle.ptflow.proofs.Passes.LineLoop.{LineLoopState}
-use Rattle.ptflow.proofs.line_loop.run_lines.Given as goal
+use proofs.Passes.LineLoop.{LineLoopState}
+use proofs.line_loop.run_lines.Given as goal
 
 abbrev pub invariant-reading : goal.invariant-reading
 invariant-reading g l =

@@ -1,7 +1,8 @@
 -- Slots are added one by one while there are too few, and each is empty. So the total is unchanged, and no slot too
 -- many is added.
-use Rattle.ptflow.proofs.Common.{◌≡◌, ◌≤◌, ◌-◌, false, length, max, total_bytes}
-use Rattle.ptflow.proofs.slots.ensure_slots.Given as goal
+use Rattle.ptflow.proofs
+use proofs.Common.{◌≡◌, ◌≤◌, ◌-◌, false, length, max, total_bytes}
+use proofs.slots.ensure_slots.Given as goal
 
 abbrev pub invariant-loop-store : goal.invariant-loop-store
 invariant-loop-store g l = record {

@@ -9,7 +9,7 @@ use Rattle.ptlangs.specs.CutLists.{is_selected}
 use Rattle.ptlangs.specs.Jobs.{Cut}
 use Rattle.ptlangs.specs.declared.ranges.Interval.{Interval}
 use Rattle.ptflow.specs.Cuts.{select_from, cut_lines}
-use Rattle.ptflow.specs.declared.tools.cut.bytes.LineCursor.{LineCursor}
+use Rattle.ptflow.specs.declared.tools.cut.bytes.Line.{Line}
 
 -- ---- bytes: the state is how many bytes of the unfinished line were read
 
@@ -44,6 +44,11 @@ abbrev pub IsSameLine : ℕ → List ℕ → ℕ → ℕ → Type 0
 IsSameLine end block at start =
     (start ≤ at) × (count_by (is_byte end) (take start block) ≡ count_by (is_byte end) (take at block))
 
+-- the selected bytes among the first `count` bytes of a line of the block
+abbrev pub selected_bytes : List Interval → List ℕ → Line → ℕ → List ℕ
+selected_bytes list block line count =
+    select_from (is_selected list) (line.line_offset + 1) (take count (drop line.start block))
+
 -- Some of the 64 bytes at index `from` are terminators, and `mask` is their match mask; 16 bytes follow them.
 pub record HasTerminators (end : ℕ) (block : List ℕ) (from mask : ℕ) : Type 0 where
   pub within : from + 80 ≤ length block
@@ -51,15 +56,15 @@ pub record HasTerminators (end : ℕ) (block : List ℕ) (from mask : ℕ) : Typ
   pub is : mask ≡ mask_l (map (is_byte end) (chunk from 64 block))
   pub some : 0 < mask
 
--- The cursor is at the line of this index. The output so far is not longer than the lines before.
-pub record IsCursorAt (end : ℕ) (block : List ℕ) (at : ℕ) (cursor : LineCursor) : Type 0 where
-  pub line : IsSameLine end block at cursor.start
-  pub short : cursor.line_offset + length block < 2 ^ 63
-  pub near : cursor.at ≤ cursor.start
+-- This index is in the line. The output so far is not longer than the lines before.
+pub record IsLineAt (end : ℕ) (block : List ℕ) (at : ℕ) (line : Line) : Type 0 where
+  pub same : IsSameLine end block at line.start
+  pub short : line.line_offset + length block < 2 ^ 63
+  pub near : line.at ≤ line.start
 
--- The cursor moved on by some lines, and their output was appended; it is not longer than the lines.
-pub record CutChunkPost (end : ℕ) (list : List Interval) (block : List ℕ) (was : LineCursor) (old : List ℕ)
-    (now : LineCursor) (new : List ℕ) : Type 0 where
+-- The lines before `now` were cut, and their output was appended; it is not longer than the lines.
+pub record CutPost (end : ℕ) (list : List Interval) (block : List ℕ) (was : Line) (old : List ℕ) (now : Line)
+    (new : List ℕ) : Type 0 where
   pub cut : ExtendsCut end list was.line_offset (drop was.start block) old now.line_offset (drop now.start block) new
   pub bound : now.line_offset ≤ was.line_offset
   pub near : now.at ≤ now.start
@@ -80,10 +85,3 @@ pub record CopyLinesPost (job : Cut) (end : ℕ) (bytes : List ℕ) (size : ℕ)
   pub on : (more : List (List ℕ))
       → old ++ cut_lines job (complete_lines end bytes ++ more)
       ≡ new ++ cut_lines job (complete_lines end (drop size bytes) ++ more)
-
--- ---- a piece of a line: the first `count` of some bytes; the others are its terminator, or none
-
--- the selected bytes of a piece and the bytes after it, if `line_offset` bytes of the line are before the piece
-abbrev pub cut_piece : List Interval → ℕ → ℕ → List ℕ → List ℕ
-cut_piece list line_offset count bytes =
-    select_from (is_selected list) (line_offset + 1) (take count bytes) ++ drop count bytes

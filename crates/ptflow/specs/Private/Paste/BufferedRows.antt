@@ -4,11 +4,10 @@ use Rattle.std.specs.Prelude.{map, take, drop, sum_by}
 use Rattle.memchr.specs.Find.{IsFirstByte, is_byte}
 use Rattle.ptlines.specs.Text.{unlines}
 use Rattle.ptlines.specs.Outputs.{Output, PushEffect}
-use Rattle.ptlines.specs.Readers.{Reader, IsDone, budget, reader_at}
+use Rattle.ptlines.specs.Readers.{Reader, budget, reader_at}
 use Rattle.ptflow.specs.PasteText.{uses_of, join_with_cycle, columns, rows}
 use Rattle.ptflow.specs.Private.Paste.RowCells.{RowShape, BegunText, CellsFilled, cells_text}
 use Rattle.ptflow.specs.Private.Paste.TakenLines.{LinesTaken}
-use Rattle.ptflow.specs.declared.tools.paste.row.CopiedField.{CopiedField}
 
 -- Each column has a reader, which is readable and has the terminator of the rows.
 pub record BufferedRowsPre (row : RowShape) (readers : List Reader) : Type 0 where
@@ -26,13 +25,12 @@ pub record AreConsumed (old new : List Reader) : Type 0 where
   pub count : length new ≡ length old
   pub buffered : (input : ℕ) → IsConsumed (reader_at old input) (reader_at new input)
 
--- `taken_rows` are the next rows, for each continuation of the inputs, and their lines were taken from the readers.
+-- The lines of the next rows were taken from the readers, and these are `taken_rows`.
 pub record AreFirstRows (row : RowShape) (old new : List Reader) (ls : ℕ → List (List ℕ))
     (taken_rows : List (List (List ℕ))) : Type 0 where
   pub lines_taken : (input : ℕ) → LinesTaken row.terminator (reader_at old input) (reader_at new input)
       (length taken_rows * uses_of row.cells input) (ls input)
-  pub on : (more : ℕ → List (List ℕ)) → ((input : ℕ) → IsDone (reader_at new input) → more input ≡ [])
-      → rows (columns row.cells (λ input. ls input ++ more input)) ≡ taken_rows ++ rows (columns row.cells more)
+  pub are : rows (columns row.cells ls) ≡ taken_rows
   pub count : length new ≡ length old
 
 -- Some rows were taken, or none, and `written` is their text.
@@ -63,8 +61,8 @@ IsFieldCopied end old new before after true = LineCopied end old new before afte
 IsFieldCopied end old new before after false = EofCopied old new before after
 
 -- The postcondition of `copy_cell`, if the field was copied after the bytes `before` of the buffer `into`.
-abbrev pub CopyCellPost : ℕ → Reader → Reader → List ℕ → List ℕ → CopiedField → Type 0
-CopyCellPost end old new before into field = IsFieldCopied end old new before (take field.end into) field.is_line
+abbrev pub CopyCellPost : ℕ → Reader → Reader → List ℕ → List ℕ → ℕ × Bool → Type 0
+CopyCellPost end old new before into field = IsFieldCopied end old new before (take field.0 into) field.1
 
 -- The postcondition of `copy_columns`. Further columns of a row took their fields from the buffers, regardless of how
 -- the columns before them had been filled, and their text was appended.
@@ -74,8 +72,8 @@ pub record CopyColumnsPost (row : RowShape) (old new : BegunText) : Type 0 where
   pub consumed : AreConsumed old.readers new.readers
   pub width : old.count + length fields ≡ new.count
   pub filled : (from : List Reader) (front : List (List ℕ))
-      → CellsFilled row.cells old.count from old.readers front old.any_line
-      → CellsFilled row.cells new.count from new.readers (front ++ fields) new.any_line
+      → CellsFilled row old.count from old.readers front old.any_line
+      → CellsFilled row new.count from new.readers (front ++ fields) new.any_line
 
 -- The postcondition of `copy_rows`: rows were taken from the buffers, `copied` is their text, and the next row is
 -- begun.
@@ -83,7 +81,7 @@ pub record CopyRowsPost (row : RowShape) (old : List Reader) (copied : List ℕ)
   pub mid : List Reader
   pub rows : RowsTaken row old mid copied
   pub fields : List (List ℕ)
-  pub filled : CellsFilled row.cells begun.count mid begun.readers fields begun.any_line
+  pub filled : CellsFilled row begun.count mid begun.readers fields begun.any_line
   pub is : begun.text ≡ cells_text row 0 fields
   pub consumed : AreConsumed old begun.readers
 

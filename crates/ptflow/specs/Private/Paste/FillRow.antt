@@ -6,7 +6,7 @@ use Rattle.ptlines.specs.Readers.{Reader, IsSound, reader_at}
 use Rattle.ptlines.specs.Slots.{Slots, AddedSlots, line, total_bytes}
 use Rattle.ptlines.specs.ReadLine.{FillPost, FillReadErr, FillMemoryErr}
 use Rattle.ptflow.specs.PasteText.{uses_of}
-use Rattle.ptflow.specs.Private.Paste.RowCells.{RowShape, BegunText, CellsTaken, CellsFilled, begun_in, cells_text}
+use Rattle.ptflow.specs.Private.Paste.RowCells.{RowShape, BegunText, CellsFilled, begun_in, cells_text}
 use Rattle.ptflow.specs.declared.tools.paste.row.BegunRow.{BegunRow}
 use Rattle.ptflow.specs.declared.faults.FlowFault.{FlowFault}
 use Rattle.ptflow.specs.declared.faults.FlowFault.TheVariants.{Read, Write, Memory}
@@ -42,7 +42,7 @@ pub record SlotsKept (cells : List ℕ) (fields : List (List ℕ)) (before store
 pub record RowAmid (row : RowShape) (n : ℕ) (from : List Reader) (first : Slots) (now : BegunText)
     (store : Slots) : Type 0 where
   pub fields : List (List ℕ)
-  pub filled : CellsFilled row.cells n from now.readers fields now.any_line
+  pub filled : CellsFilled row n from now.readers fields now.any_line
   pub within : now.count ≤ n
   pub is : now.text ≡ cells_text row 0 (take now.count fields)
   pub held : (c : ℕ) → now.count ≤ c → c < n → line store c ≡ slice_index_or fields c []
@@ -50,22 +50,19 @@ pub record RowAmid (row : RowShape) (n : ℕ) (from : List Reader) (first : Slot
 
 -- Filling a row failed at `column`: the columns before it are filled, and `CellFailed` holds between the states of its
 -- reader and the store before and after the failed step.
-pub record RowFailed (CellFailed : Reader → Reader → Slots → Slots → ℕ → Type 0) (cells : List ℕ)
+pub record RowFailed (CellFailed : Reader → Reader → Slots → Slots → ℕ → Type 0) (row : RowShape)
     (old new : List Reader) (before store : Slots) : Type 0 where
   pub column : ℕ
-  pub within : column < length cells
-  pub fields : List (List ℕ)
-  pub input_lines : ℕ → List (List ℕ)
-  pub mid : List Reader
+  pub within : column < length row.cells
+  pub begun : BegunText
   pub buffered : Slots
-  pub consumed : CellsTaken cells column old mid fields input_lines
-  pub slots : SlotsKept cells fields before buffered
-  pub failure : CellFailed (reader_at mid (slice_index_or cells column 0))
-      (reader_at new (slice_index_or cells column 0))
-      buffered store column
-  pub others : (input : ℕ) → input ≢ slice_index_or cells column 0 → reader_at new input ≡ reader_at mid input
-  pub few : length (reader_at old (slice_index_or cells column 0)).buffered ≤ 8192
-      → length (reader_at new (slice_index_or cells column 0)).buffered ≤ 8192
+  pub amid : RowAmid row column old before begun buffered
+  pub failure : CellFailed (reader_at begun.readers (slice_index_or row.cells column 0))
+      (reader_at new (slice_index_or row.cells column 0)) buffered store column
+  pub others : (input : ℕ) → input ≢ slice_index_or row.cells column 0
+      → reader_at new input ≡ reader_at begun.readers input
+  pub few : length (reader_at old (slice_index_or row.cells column 0)).buffered ≤ 8192
+      → length (reader_at new (slice_index_or row.cells column 0)).buffered ≤ 8192
 
 -- The reader of the column was not read, and it has not ended.
 abbrev pub NotRead : Reader → Reader → Slots → Slots → ℕ → Type 0
@@ -87,9 +84,9 @@ abbrev pub RowFilled : RowShape → List Reader → Slots → List Reader → Sl
 RowFilled row from first new store into (Ok begun) = RowAmid row (length row.cells) from first (begun_in new begun into)
     store
 RowFilled row from first new store into (Err (Read input))
-    = (b : RowFailed FillReadErr row.cells from new first store) × (input ≡ slice_index_or row.cells b.column 0)
-RowFilled row from first new store into (Err Write) = RowFailed NotRead row.cells from new first store
-RowFilled row from first new store into (Err Memory) = RowFailed FillMemoryErr row.cells from new first store
+    = (b : RowFailed FillReadErr row from new first store) × (input ≡ slice_index_or row.cells b.column 0)
+RowFilled row from first new store into (Err Write) = RowFailed NotRead row from new first store
+RowFilled row from first new store into (Err Memory) = RowFailed FillMemoryErr row from new first store
 
 -- The postcondition of `fill_row`, regardless of how the first columns of the row had been filled.
 abbrev pub FillRowPost : RowShape → BegunText → Slots → List Reader → Slots → List ℕ → Result BegunRow FlowFault

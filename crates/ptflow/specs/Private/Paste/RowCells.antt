@@ -63,26 +63,25 @@ begun_after readers rows into = record (begun_in readers rows.begun into) {
 
 -- The first n columns of a row took their fields from the readers: `input_lines` has the lines by input, and `fields`
 -- by column. A column whose input has ended has an empty field.
-pub record CellsTaken (cells : List ℕ) (n : ℕ) (old new : List Reader) (fields : List (List ℕ))
+pub record CellsTaken (row : RowShape) (n : ℕ) (old new : List Reader) (fields : List (List ℕ))
     (input_lines : ℕ → List (List ℕ)) : Type 0 where
-  pub lines_taken : (input : ℕ)
-      → LinesTaken (reader_at old input).terminator (reader_at old input) (reader_at new input)
-      (uses_of (take n cells) input)
-      (input_lines input)
+  pub lines_taken : (input : ℕ) → LinesTaken row.terminator (reader_at old input) (reader_at new input)
+      (uses_of (take n row.cells) input) (input_lines input)
   pub width : length fields ≡ n
   pub fields_taken : (c : ℕ) → c < n
-      → slice_index_or fields c [] ≡ slice_index_or (input_lines (slice_index_or cells c 0))
-      (uses_of (take c cells) (slice_index_or cells c 0)) []
+      → slice_index_or fields c [] ≡ slice_index_or (input_lines (slice_index_or row.cells c 0))
+      (uses_of (take c row.cells) (slice_index_or row.cells c 0)) []
   pub count : length new ≡ length old
 
 -- The first n columns of a row took their fields, for some lines. `any_line` is true if one of them got a line, and
 -- false if all of their readers had ended.
-pub record CellsFilled (cells : List ℕ) (n : ℕ) (old new : List Reader) (fields : List (List ℕ))
+pub record CellsFilled (row : RowShape) (n : ℕ) (old new : List Reader) (fields : List (List ℕ))
     (any_line : Bool) : Type 0 where
   pub input_lines : ℕ → List (List ℕ)
-  pub consumed : CellsTaken cells n old new fields input_lines
+  pub consumed : CellsTaken row n old new fields input_lines
   pub some : any_line ≡ true → (c : ℕ) × (c < n)
-      × (length (input_lines (slice_index_or cells c 0)) ≡ uses_of (take c cells) (slice_index_or cells c 0) + 1)
+      × (length (input_lines (slice_index_or row.cells c 0))
+      ≡ uses_of (take c row.cells) (slice_index_or row.cells c 0) + 1)
   pub none : any_line ≡ false → (input : ℕ) → input_lines input ≡ []
   pub least : sum_by budget new ≤ sum_by budget old
   pub less : any_line ≡ true → sum_by budget new < sum_by budget old

@@ -3,7 +3,7 @@ use Rattle.std.specs.Prelude.{ℕ, ◌+◌, ◌==◌, List, [], ◌∷◌, ◌++
 use Rattle.ptlangs.specs.declared.jobs.Show.{Show}
 use Rattle.ptlangs.specs.declared.jobs.Show.TheVariants.{All, Counts, Repeated, Single}
 use Rattle.ptlangs.specs.Jobs.{Uniq}
-use Rattle.ptflow.specs.Uniqs.{Run, is_same, runs}
+use Rattle.ptflow.specs.Uniqs.{Run, is_same, runs, output_of}
 
 -- a run of `count` lines that begins with `line`
 abbrev pub run_of : List ℕ → ℕ → Run
@@ -46,6 +46,6 @@ count_prefix Single count = []
 abbrev pub run_output : Show → ℕ → List ℕ → List ℕ
 run_output show count bytes = if has_output show count then count_prefix show count ++ bytes else []
 
--- the output for a run
+-- the output for the current run
 abbrev pub run_text : Uniq → Run → List ℕ
-run_text job run = run_output job.show run.count (run.line ++ job.terminator ∷ [])
+run_text job run = output_of job (current_run run)

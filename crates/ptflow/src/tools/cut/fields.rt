@@ -5,20 +5,17 @@ ghost use Rattle.std.specs.Prelude.{[], ◌∷◌, Some, OnOk, OnErr, MatchOptio
 ghost use Rattle.memchr.specs.Find.{IsFirstByte, is_byte};
 ghost use Rattle.ptlines.specs.Outputs.{PushEffect};
 ghost use Rattle.ptlangs.specs.Jobs.{cut_job};
-ghost use Rattle.ptflow.specs.Cuts.{cut_fields, cut_lines, cut_tool};
-ghost use Rattle.ptflow.specs.Passes.{PassPost};
-ghost use Rattle.ptflow.specs.Private.Passes.LineLoop.{RunLinesPre};
+ghost use Rattle.ptflow.specs.Cuts.{cut_fields, cut_lines};
 ghost use Rattle.ptflow.specs.Private.Cut.FieldOffsets.{IsFieldOffset};
 ghost use Rattle.ptflow.specs.Private.Cut.FieldSlices.{IsFieldCursor, IsNextSlice, output_from_cursor};
 ghost use Rattle.ptflow.specs.Private.Cut.CutFrom.{CopyLinesPost};
 
-use crate::faults::FlowFault;
-use crate::line_loop::{LineFilter, run_lines};
+use crate::line_loop::LineFilter;
 use crate::simd::find_nth::ByteMatches;
 use memchr::memrchr;
 use ptlangs::jobs::CutJob;
 use ptlangs::ranges::Interval;
-use ptlines::{LineReader, Out, Sink, Source, Store, WriteFault, copy_short};
+use ptlines::{Out, Sink, Store, WriteFault, copy_short};
 use std::alloc::Allocator;
 
 // The output of the lines of a block, and 16 bytes more, which a short copy may change.
@@ -42,63 +39,56 @@ fn skip_fields(delimiters: &ByteMatches, from: usize, to: usize, count: u64) -> 
     }
 }
 
-// The fields of a line that the intervals from `index` on select. The field after the first `passed` ones starts at
-// index `at` of the line; if there is no such field, `at` is after its end.
+// What is left of the output for a line: the fields that these intervals select. The field after the first `passed` ones
+// starts at index `at` of the line; if there is no such field, `at` is after its end.
 #[derive(Clone, Copy)]
-struct FieldCursor {
-    index: usize,
+struct FieldCursor<'a> {
+    left: &'a [Interval],
     passed: u64,
     at: usize,
 }
 
-const LINE_START: FieldCursor = FieldCursor {
-    index: 0,
-    passed: 0,
-    at: 0,
-};
-
-// A slice of a line: adjacent selected fields, with the delimiter before them if they are not the first. `next` is the
-// cursor after them.
-#[derive(Clone, Copy)]
-struct FieldSlice {
-    start: usize,
-    end: usize,
-    next: FieldCursor,
-}
-
-// The next slice of the output for a line, which is the first `to` bytes, from the cursor on. `None` if no field is
-// left.
-#[inline(always)]
-fn next_slice(
-    delimiters: &ByteMatches,
-    to: usize,
-    selected: &[Interval],
-    cursor: FieldCursor,
-) -> Option<FieldSlice>
-    requires within { to ≤ length delimiters.now.bytes.now }
-    requires cursor { IsFieldCursor delimiters.now.byte selected.now (take to delimiters.now.bytes.now) cursor }
-    ensures { MatchOption result
-        (output_from_cursor delimiters.now.byte selected.now (take to delimiters.now.bytes.now) cursor ≡ [])
-        (IsNextSlice delimiters.now.byte selected.now (take to delimiters.now.bytes.now) cursor) }
-{
-    if cursor.index >= selected.len() || cursor.at > to {
-        return None;
+impl<'a> FieldCursor<'a> {
+    // The cursor at the start of a line.
+    #[inline(always)]
+    fn new(left: &'a [Interval]) -> FieldCursor<'a>
+        ensures left { result.left.now ≡ left.now }
+        ensures passed { result.passed ≡ 0 }
+        ensures at { result.at ≡ 0 }
+    {
+        FieldCursor {
+            left,
+            passed: 0,
+            at: 0,
+        }
     }
-    let Interval { first, last } = selected[cursor.index];
-    let from = skip_fields(delimiters, cursor.at, to, first - 1 - cursor.passed);
-    if from > to {
-        return None;
+
+    // The start and the end of the next slice of the output for a line, which is the first `to` bytes: of adjacent
+    // selected fields, with the delimiter before them if they are not the first. The cursor moves after them. `None` if
+    // no field is left.
+    #[inline(always)]
+    fn next_slice(&mut self, delimiters: &ByteMatches, to: usize) -> Option<(usize, usize)>
+        requires within { to ≤ length delimiters.now.bytes.now }
+        requires cursor { IsFieldCursor delimiters.now.byte (take to delimiters.now.bytes.now) self.old }
+        ensures { MatchOption result
+            (output_from_cursor delimiters.now.byte (take to delimiters.now.bytes.now) self.old ≡ [])
+            (λ (start, end). IsNextSlice delimiters.now.byte (take to delimiters.now.bytes.now) self.old start end
+            self.new) }
+    {
+        if self.left.is_empty() || self.at > to {
+            return None;
+        }
+        let Interval { first, last } = self.left[0];
+        let from = skip_fields(delimiters, self.at, to, first - 1 - self.passed);
+        if from > to {
+            return None;
+        }
+        let start = from - self.passed.min(1) as usize;
+        self.at = skip_fields(delimiters, from, to, last - first + 1);
+        self.passed = last;
+        self.left = &self.left[1..];
+        Some((start, self.at - 1))
     }
-    let at = skip_fields(delimiters, from, to, last - first + 1);
-    Some(FieldSlice {
-        start: from - cursor.index.min(1),
-        end: at - 1,
-        next: FieldCursor {
-            index: cursor.index + 1,
-            passed: last,
-            at,
-        },
-    })
 }
 
 // Pushes the selected fields of a line of any length.
@@ -112,21 +102,19 @@ fn write_fields<A: Allocator + Copy, W: Sink>(
     ensures clean { OnOk result (out.old.write_failed ≡ false → out.new.write_failed ≡ false) }
     ensures fault { OnErr result (out.new.write_failed ≡ true) }
 {
-    let selected = job.list.intervals();
     let line = delimiters.bytes;
-    let mut cursor = LINE_START;
-    'slices: while let Some(slice) = next_slice(delimiters, line.len(), selected, cursor) {
-        out.push(&line[slice.start..slice.end])?;
-        cursor = slice.next;
+    let mut cursor = FieldCursor::new(job.list.intervals());
+    'slices: while let Some((start, end)) = cursor.next_slice(delimiters, line.len()) {
+        out.push(&line[start..end])?;
     }
     Ok(())
 }
 
-// A job that selects fields, and the terminator.
+/// A job that selects fields, and the terminator.
 #[derive(Drop)]
-struct FieldCut<'a, A: Allocator> {
-    job: &'a CutJob<A>,
-    terminator: u8,
+pub(crate) struct FieldCut<'a, A: Allocator> {
+    pub job: &'a CutJob<A>,
+    pub terminator: u8,
     ghost by_fields: { job.now.fields ≡ true },
     ghost ends: { terminator ≡ (cut_job job.now).terminator },
 }
@@ -170,14 +158,12 @@ fn copy_fields<A: Allocator + Copy>(
         ++ take 1 (drop to delimiters.now.bytes.now)) }
     ensures end { (start ≤ result) × (result ≤ start + to + 1) }
 {
-    let selected = job.list.intervals();
     let bytes = delimiters.bytes;
-    let mut cursor = LINE_START;
+    let mut cursor = FieldCursor::new(job.list.intervals());
     let mut end = start;
-    'slices: while let Some(slice) = next_slice(delimiters, to, selected, cursor) {
-        copy_short(bytes, slice.start, slice.end, room, end);
-        end += slice.end - slice.start;
-        cursor = slice.next;
+    'slices: while let Some((first, last)) = cursor.next_slice(delimiters, to) {
+        copy_short(bytes, first, last, room, end);
+        end += last - first;
     }
     room[end] = bytes[to];
     end + 1
@@ -302,29 +288,4 @@ impl<'a, A: Allocator + Copy> LineFilter for FieldCut<'a, A> {
     ) -> Result<(), WriteFault> {
         Ok(())
     }
-}
-
-// Writes the selected fields of each line of a reader, and after each line the terminator.
-pub(crate) fn cut_by_fields<
-    A: Allocator + Copy,
-    B: Allocator + Copy,
-    S: Source,
-    R: Source,
-    W: Sink,
->(
-    job: &CutJob<B>,
-    reader: &mut LineReader<S, R>,
-    store: &mut Store<A>,
-    out: &mut Out<W>,
-) -> Result<(), FlowFault>
-    requires by_fields { job.now.fields ≡ true }
-    requires begins { RunLinesPre (cut_job job.now).terminator reader.old out.old store.old }
-    ensures { PassPost (cut_tool (cut_job job.now)) reader.old reader.new out.old out.new store.old store.new result }
-{
-    let by = FieldCut {
-        job,
-        terminator: reader.terminator(),
-    };
-    let mut room = [0; 8192 + 16];
-    run_lines(&by, 1, &mut room, reader, store, out)
 }

@@ -36,11 +36,8 @@ fn fits(selected: &[Interval], limit: u64) -> bool
 fn max_line_len(selected: &[Interval], limit: usize) -> usize
     ensures { (index : ℕ) → limit < index → index ≤ result → is_selected selected.now index ≡ false }
 {
-    if fits(selected, limit as u64) {
-        usize::MAX
-    } else {
-        limit
-    }
+    let fits_all = fits(selected, limit as u64);
+    if fits_all { usize::MAX } else { limit }
 }
 
 impl PieceShuffle {
@@ -58,10 +55,8 @@ impl PieceShuffle {
             count += usize::from(list.contains(position as u64));
             counts[usize::from(index) + 1] = count as u8;
         }
-        PieceShuffle {
-            row: u8x16::from_array(row),
-            counts,
-        }
+        let row = u8x16::from_array(row);
+        PieceShuffle { row, counts }
     }
 }
 

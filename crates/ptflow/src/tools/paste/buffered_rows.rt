@@ -9,9 +9,7 @@ ghost use Rattle.ptflow.specs.Private.Paste.RowCells.{after_cell, begun_after, b
 ghost use Rattle.ptflow.specs.Private.Paste.BufferedRows.{BufferedRowsPre, CopyCellPost, CopyColumnsPost, CopyRowsPost};
 ghost use Rattle.ptflow.specs.Private.Paste.BufferedRows.{LineCopied};
 
-use crate::tools::paste::row::{
-    BegunRow, CopiedField, CopiedRows, OutBuf, RowFormat, copy_option, next_index,
-};
+use crate::tools::paste::row::{BegunRow, CopiedRows, OutBuf, RowFormat, copy_option, next_index};
 use ptlines::{LineReader, Source, copy_short, find_byte, find_in_chunk};
 use std::simd::prelude::*;
 
@@ -77,31 +75,28 @@ fn copy_line_long<S: Source, R: Source>(
 }
 
 // Copies the next line of a reader to `at` and consumes it. A reader that is at the end of its input gives an empty
-// field. Returns `None` if the line is not complete in the buffer or does not fit; then nothing is consumed.
+// field. Returns the offset after the field, and whether it is a line; or `None` if the line is not complete in the
+// buffer or does not fit, and then nothing is consumed.
 #[inline(always)]
 fn copy_cell<S: Source, R: Source>(
     terminator: u8,
     reader: &mut LineReader<S, R>,
     into: &mut OutBuf,
     at: usize,
-) -> Option<CopiedField>
+) -> Option<(usize, bool)>
     ensures cell { IfSome result (CopyCellPost terminator reader.old reader.new (take at into.old) into.new) }
-    ensures size_bound { IfSome result (λ field. (at ≤ field.end) × (field.end < 8192)) }
+    ensures size_bound { IfSome result (λ field. (at ≤ field.0) × (field.0 < 8192)) }
     ensures none { IfNone result (reader.new ≡ reader.old) }
     ensures prefix_kept { take at into.new ≡ take at into.old }
     ensures was_sound { IsSound reader.old }
 {
     if let Some(end) = copy_line_in::<16, S, R>(terminator, reader, into, at) {
-        return Some(CopiedField { end, is_line: true });
+        return Some((end, true));
     }
     if reader.buffered().is_empty() && reader.at_eof() && at < 8192 {
-        return Some(CopiedField {
-            end: at,
-            is_line: false,
-        });
+        return Some((at, false));
     }
-    let end = copy_line_long(terminator, reader, into, at)?;
-    Some(CopiedField { end, is_line: true })
+    Some((copy_line_long(terminator, reader, into, at)?, true))
 }
 
 // Copies the next columns of a begun row, each with the byte after it, up to the end of the row or to the first column
@@ -119,31 +114,24 @@ pub(crate) fn copy_columns<S: Source, R: Source>(
         (begun_in readers.new result into.new) }
     ensures within { (result.count ≤ length row.entry.cells.now) × (begun.end ≤ result.end) }
 {
-    let (delims, terminator, cells) = (row.delims, row.terminator, row.cells);
-    let mut column = begun.count;
-    let mut end = begun.end;
-    let mut any_line = begun.any_line;
-    let mut index = begun.count % delims.len();
-    'cells: while column < cells.len() {
-        let input = cells[column];
-        let Some(field) = copy_cell(terminator, &mut readers[input], into, end) else {
-            break;
+    let mut begun = begun;
+    let mut index = begun.count % row.delims.len();
+    'cells: while begun.count < row.cells.len() {
+        let reader = &mut readers[row.cells[begun.count]];
+        let Some((end, is_line)) = copy_cell(row.terminator, reader, into, begun.end) else {
+            return begun;
         };
-        any_line |= field.is_line;
-        column += 1;
-        if column == cells.len() {
-            into[field.end] = terminator;
-            end = field.end + 1;
-            break;
+        begun.count += 1;
+        begun.any_line |= is_line;
+        if begun.count == row.cells.len() {
+            into[end] = row.terminator;
+            begun.end = end + 1;
+            return begun;
         }
-        end = copy_option(delims[index], into, field.end);
-        index = next_index(index, delims.len());
+        begun.end = copy_option(row.delims[index], into, end);
+        index = next_index(index, row.delims.len());
     }
-    BegunRow {
-        count: column,
-        end,
-        any_line,
-    }
+    begun
 }
 
 // Copies rows while all of their lines are complete in the buffers and fit, and the first columns of the next row. Out

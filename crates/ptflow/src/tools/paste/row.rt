@@ -30,13 +30,6 @@ impl<'a> RowFormat<'a> {
     }
 }
 
-// A field that was copied up to `end`, and whether it is a line. The input has ended if it is not.
-#[derive(Clone, Copy)]
-pub(crate) struct CopiedField {
-    pub end: usize,
-    pub is_line: bool,
-}
-
 // A row of which the first `count` columns were copied, up to `end`, and whether any of its columns has a line so far.
 #[derive(Clone, Copy)]
 pub(crate) struct BegunRow {

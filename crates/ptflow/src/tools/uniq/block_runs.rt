@@ -5,7 +5,7 @@ ghost use Rattle.ptlines.specs.Outputs.{PushEffect, PushPost};
 ghost use Rattle.ptlines.specs.Text.{complete_lines};
 ghost use Rattle.ptlangs.specs.Jobs.{uniq_job};
 ghost use Rattle.ptflow.specs.Private.Passes.LineLoop.{IsLinesLength, ProcessLinesPre};
-ghost use Rattle.ptflow.specs.Private.Uniq.RunsFrom.{has_output, count_prefix, run_of, run_output, run_text};
+ghost use Rattle.ptflow.specs.Private.Uniq.RunsFrom.{has_output, count_prefix, run_of, run_text};
 ghost use Rattle.ptflow.specs.Private.Uniq.BlockRuns.{RunsWritten, RunsFailed, EndRunPre, IsPending, first_of, span_of};
 
 use crate::tools::uniq::LineUniq;
@@ -45,21 +45,21 @@ fn flush_with_count<W: Sink>(
     }
 }
 
-// Pushes the output of a run of `count` lines with the first line `bytes`, followed by `terminator`.
+// Pushes the output of a run of `count` lines, of which `first` is the first.
 pub(crate) fn write_run<W: Sink>(
-    show: Show,
+    by: &LineUniq,
     count: u64,
-    bytes: &[u8],
-    terminator: &[u8],
+    first: &[u8],
     out: &mut Out<W>,
 ) -> Result<(), WriteFault>
-    ensures { PushPost out.old out.new (run_output show count (bytes.now ++ terminator.now)) result }
+    ensures { PushPost out.old out.new (run_text (uniq_job by.now.job.now) (run_of first.now count)) result }
 {
+    let show = by.job.show;
     if !has_output(show, count) {
         return out.push(b"");
     }
     flush_with_count(show, count, b"", out)?;
-    out.push_line(b"", bytes, terminator)
+    out.push_line(b"", first, &[by.terminator])
 }
 
 // A range of a block: the index of its first byte, and the index after its last one.
@@ -92,7 +92,7 @@ fn end_run<W: Sink>(
 {
     let show = by.job.show;
     let Some(line) = line else {
-        write_run(show, count, first, &[by.terminator], out)?;
+        write_run(by, count, first, out)?;
         return Ok(pending);
     };
     if !has_output(show, count) {
@@ -114,7 +114,7 @@ fn end_run<W: Sink>(
 pub(crate) struct LastRun {
     pub count: u64,
     pub line: Option<Span>,
-    pub passed: usize,
+    pub len: usize,
 }
 
 // Pushes the output of the runs of the lines that end in the block, except for the last run. Before the block the
@@ -136,7 +136,7 @@ pub(crate) fn write_runs<W: Sink>(
         (complete_lines (uniq_job by.now.job.now).terminator block.now) out.old out.new) }
     ensures span { IfOk result
         (λ last. IfSome last.line (λ line. (line.from < line.to) × (line.to ≤ length block.now))) }
-    ensures passed { IfOk result (λ last. IsLinesLength (uniq_job by.now.job.now).terminator block.now last.passed) }
+    ensures passed { IfOk result (λ last. IsLinesLength (uniq_job by.now.job.now).terminator block.now last.len) }
 {
     let LineUniq { job, terminator } = *by;
     let size = block.len();
@@ -153,18 +153,13 @@ pub(crate) fn write_runs<W: Sink>(
         } else {
             pending = end_run(by, count, first, block, line, pending, out)?;
             let to = size - rest.len();
-            line = Some(Span {
-                from: to - at - 1,
-                to,
-            });
+            let from = to - at - 1;
+            line = Some(Span { from, to });
             run_key = next;
             count = 1;
         }
     }
     out.push(&block[pending.from..pending.to])?;
-    Ok(LastRun {
-        count,
-        line,
-        passed: size - rest.len(),
-    })
+    let len = size - rest.len();
+    Ok(LastRun { count, line, len })
 }

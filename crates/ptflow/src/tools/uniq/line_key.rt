@@ -20,14 +20,12 @@ fn is_blank(byte: u8) -> bool
 
 // Skips the bytes before the first blank. Out of line, so that a blank near the start is found without a call.
 #[inline(never)]
-#[tactic(auto, using(crate::proofs::UniqLemmas::Keys::after_not_found, std::proofs::lemmas::Grind::common_steps))]
+#[tactic(auto, using(crate::proofs::UniqLemmas::Keys::after_first, std::proofs::lemmas::Grind::common_steps))]
 fn skip_nonblanks_cold(line: &[u8]) -> &[u8]
     ensures { result.now ≡ after_nonblanks line.now }
 {
-    match memchr2(b' ', b'\t', line) {
-        Some(at) => &line[at..],
-        None => &line[line.len()..],
-    }
+    let at = memchr2(b' ', b'\t', line).unwrap_or(line.len());
+    &line[at..]
 }
 
 // The index of the first match among the first `N` bytes, or `N`.
@@ -38,10 +36,7 @@ fn find_or_n<const N: usize>(byte: u8, line: &[u8]) -> usize
     ensures found { result < N → Passes (is_byte byte) line.now result }
     ensures within { result ≤ N }
 {
-    match find_in_chunk::<N>(byte, line, 0) {
-        Some(at) => at,
-        None => N,
-    }
+    find_in_chunk::<N>(byte, line, 0).unwrap_or(N)
 }
 
 // Like `skip_nonblanks_cold`, but tests the first `N` bytes inline.

@@ -1,5 +1,6 @@
-use Rattle.ptlangs.proofs.Common.{rules}
-use Rattle.ptlangs.proofs.DelimGrammar.{left_fault, left_without_fault}
+use Rattle.ptlangs.proofs
+use proofs.Common.{rules}
+use proofs.DelimGrammar.{left_fault, left_without_fault}
 use Rattle.ptlangs.proofs.delims.check.Goals as goal
 
 pub returns-in_err-rest : goal.returns-in_err-rest

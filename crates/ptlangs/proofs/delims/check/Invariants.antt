@@ -1,5 +1,5 @@
 -- The delimiters so far have no fault; so the first fault is that of the rest.
-use Rattle.ptlangs.proofs.Common.{◌≡◌, length, result_err, delim_list}
+use Rattle.ptlangs.proofs.Common.{delim_list, length, result_err, ◌≡◌}
 use Rattle.ptlangs.proofs.delims.check.Given as goal
 
 abbrev pub invariant-loop-rest : goal.invariant-loop-rest

@@ -1,5 +1,4 @@
-use Rattle.std.proofs.lemmas.Grind.{common_steps}
-use Rattle.ptlangs.proofs.Common.{arith}
+use Rattle.ptlangs.proofs.Common.{arith, common_steps}
 use Rattle.ptlangs.proofs.delims.first_delim.Goals as goal
 
 pub returns-in-len1-up-clause-first : goal.returns-in-len1-up-clause-first

@@ -1,15 +1,14 @@
 -- A checked multiplication or addition fails only if the number is too large, which further digits do not change.
--- Otherwise the loop ends with the value of all digits.
-use Rattle.std.proofs.lemmas.Grind.{common_steps}
-use Rattle.ptlangs.proofs.Common.{arith, rules}
-use Rattle.ptlangs.proofs.ListElements.{too_large_at, digit_is}
+use Rattle.ptlangs.proofs
+use proofs.Common.{arith, common_steps, rules}
+use proofs.ListElements.{digit_at, too_large_at}
 use Rattle.ptlangs.proofs.numbers.decimal.Goals as goal
 
 pub returns-in_err-checked_mul : goal.returns-in_err-checked_mul
 returns-in_err-checked_mul c = search (rules, too_large_at)
 
 pub returns-in_err-value : goal.returns-in_err-value
-returns-in_err-value c = search (rules, digit_is, too_large_at)
+returns-in_err-value c = search (rules, digit_at, too_large_at)
 
 pub loop-byte-preserved : goal.loop-byte-preserved
-loop-byte-preserved c = grind (arith, common_steps)
+loop-byte-preserved c = grind (arith, common_steps, digit_at)

@@ -1,11 +1,9 @@
--- The value is that of the digits so far, and fits into 64 bits. The text is a number if the remaining bytes are
--- digits.
-use Rattle.ptlangs.proofs.Common.{◌≡◌, ◌≤◌, drop, is_ascii_digit, list_all, digits_value_after, max_u64, value}
+-- The value is that of the digits so far, and fits into 64 bits.
+use Rattle.ptlangs.proofs.Common.{digits_value_after, drop, max_u64, value, ◌≡◌, ◌≤◌}
 use Rattle.ptlangs.proofs.numbers.decimal.Given as goal
 
 abbrev pub invariant-loop-byte : goal.invariant-loop-byte
 invariant-loop-byte l = record {
   fits : l.value ≤ max_u64;
   number : value l.text ≡ digits_value_after 10 l.value (drop l.byte-index l.text);
-  digits : list_all is_ascii_digit l.text ≡ list_all is_ascii_digit (drop l.byte-index l.text);
 }

@@ -1,6 +1,7 @@
-use Rattle.ptlangs.proofs.Common.{rules, ◌∙◌, sym, is_ascii_digit, YieldsList-from_slice}
+use Rattle.ptlangs.proofs
+use proofs.Common.{YieldsList-from_slice, is_ascii_digit, rules, sym, ◌∙◌}
+use proofs.ListElements.{is_empty_by_length}
 use Rattle.std.proofs.lemmas.Iterator.Search.{all_from_yields_List}
-use Rattle.ptlangs.proofs.ListElements.{is_empty_by_length}
 use Rattle.ptlangs.proofs.numbers.is_decimal.Goals as goal
 
 pub returns-then-not-is_empty : goal.returns-then-not-is_empty

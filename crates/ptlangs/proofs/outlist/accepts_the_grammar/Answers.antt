@@ -1,5 +1,5 @@
-use Rattle.ptlangs.proofs.OutGrammar.{accepts_the_grammar}
+use Rattle.ptlangs.proofs.ListElements.{accepts_out_lists}
 use Rattle.ptlangs.proofs.outlist.accepts_the_grammar.Goals as goal
 
 pub returns : goal.returns
-returns c = accepts_the_grammar
+returns c = accepts_out_lists

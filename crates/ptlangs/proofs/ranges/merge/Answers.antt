@@ -1,10 +1,10 @@
 -- The next interval extends the current one if they overlap or are adjacent; otherwise the current one is complete, and
 -- there is a gap before the next. Both keep the selected set.
-use Rattle.std.proofs.lemmas.Grind.{common_steps}
-use Rattle.ptlangs.proofs.Common.{refl, drop_more, drop_all, rules, arith}
-use Rattle.ptlangs.proofs.CutGrammar.{absorbs, starts_next}
+use Rattle.ptlangs.proofs
+use proofs.Common.{arith, common_steps, drop_all, drop_more, refl, rules}
+use proofs.ListElements.{absorbs, starts_next}
+use Rattle.ptlangs.proofs.ranges.merge.Goals.{else-next-current+in_ok-push, then-next-current}
 use Rattle.ptlangs.proofs.ranges.merge.Goals as goal
-use Rattle.ptlangs.proofs.ranges.merge.Goals.{then-next-current, else-next-current+in_ok-push}
 
 pub loop-next-preserved : goal.loop-next-preserved
 loop-next-preserved g c =

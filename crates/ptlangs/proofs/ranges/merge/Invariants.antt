@@ -1,6 +1,7 @@
 -- The merged intervals, the current one and the remaining ones select the same numbers as all sorted intervals.
-use Rattle.std.proofs.Common.{drop}
-use Rattle.ptlangs.proofs.CutGrammar.{Merges}
+use Rattle.ptlangs.proofs
+use proofs.Common.{drop}
+use proofs.ListElements.{Merges}
 use Rattle.ptlangs.proofs.ranges.merge.Given as goal
 
 abbrev pub invariant-loop-next : goal.invariant-loop-next

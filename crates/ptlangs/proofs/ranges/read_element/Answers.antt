@@ -1,8 +1,7 @@
 -- The position of the first dash splits the element into its two bounds; without a dash the element is both bounds.
 use Rattle.ptlangs.proofs
-use proofs.Common.{rules, ◌∙◌, sym, is_dash, YieldsList-from_slice, position_from_yields_List}
-use proofs.CutGrammar.{parts_without_dash, parts_around_dash}
-use proofs.ListElements.{is_empty_by_length}
+use proofs.Common.{YieldsList-from_slice, is_dash, position_from_yields_List, rules, sym, ◌∙◌}
+use proofs.ListElements.{is_empty_by_length, parts_around_dash, parts_without_dash}
 use Rattle.ptlangs.proofs.ranges.read_element.Goals as goal
 
 pub returns-in-None : goal.returns-in-None

@@ -1,9 +1,9 @@
 -- Each call of `put` accepts the first `n` bytes of the rest, so the bytes accepted so far and the new rest are still
 -- all bytes.
 use Rattle.ptlines.proofs.Common.{◌≡◌, ◌<◌, ℕ, List, ◌++◌, take, drop, arith, take_rest, SinkState, PutOk, WriteOutOk}
+use Rattle.ptlines.proofs.Common.{common_steps}
 use Rattle.ptlines.proofs.KnownBytes.{append_known-append, unflushed_after-append}
 use Rattle.ptlines.proofs.out.write_out.Goals as goal
-use Rattle.std.proofs.lemmas.Grind.{common_steps}
 
 took_more : (old mid new : SinkState) (done rest : List ℕ) (n : ℕ) → WriteOutOk old mid done → PutOk mid new rest n
     → 0 < n → WriteOutOk old new (done ++ take n rest)

@@ -27,7 +27,7 @@ fn ensure_slot<A: Allocator + Copy>(store: &mut Store<A>, slot: usize) -> Result
 }
 
 // Copies a line to the slot `to`, which is added if it is missing, and returns `to + 1`.
-#[tactic(auto, using(crate::proofs::JoinLemmas::GroupSlots::failed_copy))]
+#[tactic(auto, using(crate::proofs::JoinLemmas::Group::failed_copy))]
 fn copy_to_group<A: Allocator + Copy>(
     store: &mut Store<A>,
     from: usize,
@@ -91,7 +91,7 @@ pub(crate) fn group_slots<K: KeyOrder>(merge: &Merge<K>, end: usize) -> (usize, 
 }
 
 // Empties the slots of the group.
-#[tactic(auto, using(crate::proofs::JoinLemmas::GroupSlots::clears_none))]
+#[tactic(auto, using(crate::proofs::JoinLemmas::Group::clears_none))]
 pub(crate) fn clear_group<A: Allocator + Copy>(store: &mut Store<A>, end: usize)
     requires { (4 ≤ end) × (end ≤ length store.old.lines) }
     ensures { ClearGroupPost store.old store.new end }

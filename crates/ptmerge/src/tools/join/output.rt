@@ -26,7 +26,7 @@ fn write_prefixed_field<W: Sink>(byte: u8, field: &[u8], out: &mut Out<W>) -> Re
 }
 
 // Writes the words in the rest of a line, each with a space before it.
-#[tactic(auto, using(crate::proofs::JoinLemmas::PartialWrite::partial_starts))]
+#[tactic(auto, using(crate::proofs::JoinLemmas::Fields::partial_starts))]
 fn write_words<W: Sink>(line: Option<&[u8]>, out: &mut Out<W>) -> Result<(), WriteFault>
     ensures { WriteBytesPost out.old out.new (with_prefix 32 (remaining_fields None (option_copied line.entry)))
         result }
@@ -226,7 +226,7 @@ fn is_canonical(separator: Option<u8>, number: u64, line: &[u8]) -> bool
 // Canonical lines are written without splitting them: the first line, and after it the second one without its join
 // field.
 #[inline(always)]
-#[tactic(auto, using(crate::proofs::JoinLemmas::PartialWrite::push_fails, ptlines::proofs::Push::push_past_failure))]
+#[tactic(auto, using(crate::proofs::JoinLemmas::Fields::push_fails, ptlines::proofs::Push::push_past_failure))]
 pub(crate) fn write_entry<'a, A: Allocator, W: Sink>(
     job: &'a JoinJob<A>,
     key: &'a [u8],

@@ -33,7 +33,7 @@ fn blanks_in<const N: usize>(bytes: &[u8], at: usize) -> Blanks
 
 // Returns the blanks among N to 2 * N bytes, from two vectors that may overlap.
 #[inline(always)]
-#[tactic(auto, using(crate::proofs::JoinLemmas::Words::ends_mask))]
+#[tactic(auto, using(crate::proofs::JoinLemmas::Fields::ends_mask))]
 fn blanks_of_ends<const N: usize>(bytes: &[u8]) -> Blanks
     requires few { N ≤ 32 }
     requires ends { IsCoveredByEnds N bytes.now }
@@ -117,7 +117,7 @@ pub(crate) fn find_blank(bytes: &[u8]) -> Option<usize>
 
 // Checks that none of these blanks is a tab, or comes after a blank. `before` is 1 if a blank precedes the bytes.
 #[inline(always)]
-#[tactic(auto, using(crate::proofs::JoinLemmas::Words::single_spaces_is))]
+#[tactic(auto, using(crate::proofs::JoinLemmas::Fields::single_spaces_is))]
 fn are_single_spaces(blanks: Blanks, before: u64) -> bool
     requires { before ≤ 1 }
     ensures { (bytes : List ℕ) → length bytes ≤ 64 → AreBlanks bytes blanks
@@ -187,7 +187,7 @@ fn after_first_run(mask: u64) -> u64
 // Returns the span of the word with this number, counted from 1, in a line of fewer than 64 bytes with these blanks, or
 // `None` if there is none.
 #[inline(always)]
-#[tactic(auto, using(crate::proofs::JoinLemmas::Words::word_steps))]
+#[tactic(auto, using(crate::proofs::JoinLemmas::Fields::word_steps))]
 pub(crate) fn find_word(number: u64, line: &[u8], blanks: Blanks) -> Option<Span>
     requires short { length line.now < 64 }
     requires blanks { AreBlanks line.now blanks }

@@ -1,7 +1,8 @@
 -- The constraints before this one are met, so the first fault is that of this one, or else that of the remaining ones.
 use Rattle.ptopts.proofs
-use proofs.Common.{◌≡◌, ◌<◌, ◌+◌, ℕ, List, Option, None, Some, length, drop, map, get_or, sym, ap, ◌∙◌, refl, IsSome}
-use proofs.Common.{option_or, drop_more, err_from_is_err_and, Fault, first_some, constraint_fault, options_view}
+use proofs.Common.{Fault, IsSome, List, None, Option, Some, ap, constraint_fault, drop, err_from_is_err_and, first_some}
+use proofs.Common.{get_or, length, map, option_or, options_view, refl, sym, ℕ, ◌+◌, ◌<◌, ◌∙◌, ◌≡◌}
+use Rattle.std.proofs.lemmas.List.{drop_more}
 use Rattle.ptopts.proofs.constraints.check_constraints.Goals as goal
 
 -- the first fault from an index on: that of the item there, or else that of the next ones

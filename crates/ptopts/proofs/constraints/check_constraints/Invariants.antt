@@ -1,5 +1,5 @@
 -- The constraints so far are met; so the first fault is that of the remaining ones.
-use Rattle.ptopts.proofs.Common.{◌≡◌, drop, map, first_some, constraint_fault, constraints_fault, options_view}
+use Rattle.ptopts.proofs.Common.{constraint_fault, constraints_fault, drop, first_some, map, options_view, ◌≡◌}
 use Rattle.ptopts.proofs.constraints.check_constraints.Given as goal
 
 abbrev pub invariant-loop-constraint : goal.invariant-loop-constraint

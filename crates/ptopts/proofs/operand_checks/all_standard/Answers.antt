@@ -1,5 +1,5 @@
-use Rattle.ptopts.proofs.Common.{rules, ◌∙◌, tests, List, ℕ, sym, Bor, YieldsList-from_slice, all_from_yields_List}
-use Rattle.ptopts.proofs.Common.{is_standard}
+use Rattle.ptopts.proofs
+use proofs.Common.{Bor, List, YieldsList-from_slice, all_from_yields_List, is_standard, rules, sym, tests, ℕ, ◌∙◌}
 use Rattle.std.proofs.lemmas.List.Folds.{list_all-map}
 use Rattle.ptopts.proofs.operand_checks.all_standard.Goals as goal
 

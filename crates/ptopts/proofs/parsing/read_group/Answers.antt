@@ -1,10 +1,9 @@
 -- A flag is appended and the loop continues. The first letter that is not a flag ends the word: it is an option with
 -- its value, or its fault is returned, which is then the first of the word.
-use Rattle.std.proofs.lemmas.Grind.{common_steps}
 use Rattle.ptopts.proofs
-use proofs.Common.{◌≡◌, ◌<◌, ◌∙◌, ℕ, List, true, slice_index, length, refl, subst, sym, err_from_is_err_and, arith}
-use proofs.Common.{is_flag}
-use proofs.GroupInvariant.{flag_read, value_read, fault_read}
+use proofs.Common.{List, arith, common_steps, err_from_is_err_and, is_flag, length, refl, slice_index, subst, sym, true}
+use proofs.Common.{ℕ, ◌<◌, ◌∙◌, ◌≡◌}
+use proofs.GroupInvariant.{fault_read, flag_read, value_read}
 use Rattle.ptopts.proofs.parsing.read_group.Goals as goal
 
 pub returns-in_err-option-clause-err : goal.returns-in_err-option-clause-err

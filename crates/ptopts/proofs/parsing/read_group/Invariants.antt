@@ -1,6 +1,7 @@
 -- The letters so far are options of the word; the other tokens of the word are those of the remaining letters.
-use Rattle.ptopts.proofs.Common.{drop, option_map, options_view}
-use Rattle.ptopts.proofs.GroupInvariant.{GroupRead}
+use Rattle.ptopts.proofs
+use proofs.Common.{drop, option_map, options_view}
+use proofs.GroupInvariant.{GroupRead}
 use Rattle.ptopts.proofs.parsing.read_group.Given as goal
 
 abbrev pub invariant-loop-index : goal.invariant-loop-index

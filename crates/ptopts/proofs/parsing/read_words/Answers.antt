@@ -1,11 +1,10 @@
 -- Each iteration reads one word of options, and its value if that is the next word. The loop ends at the first operand,
 -- after `--`, or after the last word.
 use Rattle.ptopts.proofs
-use proofs.Common.{err_from_is_err_and}
+use proofs.Common.{arith, err_from_is_err_and}
+use proofs.ArgsInvariant.{group_fails, left_smaller, reads_group}
 use Rattle.std.proofs.lemmas.Option.{slice_get-map}
-use proofs.ArgsInvariant.{reads_group, group_fails, left_smaller}
 use Rattle.ptopts.proofs.parsing.read_words.Goals as goal
-use Rattle.std.proofs.Common.{arith}
 
 pub loop-word-preserved : goal.loop-word-preserved
 loop-word-preserved g c = grind (arith, reads_group, slice_get-map)

@@ -1,6 +1,7 @@
 -- The options so far and the parse of the remaining words are the parse of all words.
-use Rattle.ptopts.proofs.Common.{length, words_view, options_view}
-use Rattle.ptopts.proofs.ArgsInvariant.{ArgsRead}
+use Rattle.ptopts.proofs
+use proofs.Common.{length, options_view, words_view}
+use proofs.ArgsInvariant.{ArgsRead}
 use Rattle.ptopts.proofs.parsing.read_words.Given as goal
 
 abbrev pub invariant-loop-word : goal.invariant-loop-word

@@ -1,9 +1,9 @@
 -- The first option with the letter is the one that the definition finds, if there is one.
 use Rattle.ptopts.proofs
-use proofs.Common.{◌==◌, rules, ◌∙◌, tests, sym, option_map, List, ℕ, ap, option_and_then, Bor, YieldsList-from_slice}
-use proofs.Common.{find_from_yields_List}
-use Rattle.ptopts.specs.declared.parsing.ParsedOption.{ParsedOption}
+use proofs.Common.{Bor, List, YieldsList-from_slice, ap, find_from_yields_List, option_and_then, option_map, rules, sym}
+use proofs.Common.{tests, ℕ, ◌==◌, ◌∙◌}
 use proofs.OptionViews.{value_of-view}
+use Rattle.ptopts.specs.declared.parsing.ParsedOption.{ParsedOption}
 use Rattle.ptopts.proofs.values.value.Goals as goal
 
 pub returns-in_err-find : goal.returns-in_err-find

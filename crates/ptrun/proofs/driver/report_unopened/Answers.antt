@@ -1,12 +1,12 @@
 -- Each iteration reports one more operand if it could not be opened.
 use Rattle.ptrun.proofs
-use proofs.Common.{scaled_Fits, ◌<◌, length, take, sym, ◌∙◌, ap, arith, get_or_default, subst, words_view, positions}
-use proofs.Common.{no_reader, is_reader_unopened, Standard, IsSound, reader_at}
-use Rattle.ptrun.proofs.driver.report_unopened.Goals as goal
-use proofs.OperandInputs.{names_counted, operand_low, operand_step, position_in_range, positions_end, said_more}
-use proofs.OperandInputs.{any_now, any_before, holds_more}
+use proofs.Common.{IsSound, Standard, ap, arith, get_or_default, is_reader_unopened, length, no_reader, positions}
+use proofs.Common.{reader_at, scaled_Fits, subst, sym, take, words_view, ◌<◌, ◌∙◌}
 use proofs.MessageWrites.{said_nothing}
-use Rattle.ptrun.proofs.driver.report_unopened.Goals.{then-is_refused, else-is_refused}
+use proofs.OperandInputs.{any_before, any_now, holds_more, names_counted, operand_low, operand_step, position_in_range}
+use proofs.OperandInputs.{positions_end, said_more}
+use Rattle.ptrun.proofs.driver.report_unopened.Goals.{else-is_refused, then-is_refused}
+use Rattle.ptrun.proofs.driver.report_unopened.Goals as goal
 
 pub loop-input-init : goal.loop-input-init
 loop-input-init g c = grind (arith, said_nothing)

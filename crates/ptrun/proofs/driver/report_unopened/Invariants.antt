@@ -1,7 +1,8 @@
 -- Of the operands so far, each that could not be opened was reported, in order, and the invariants of their readers
 -- hold.
-use Rattle.ptrun.proofs.Common.{◌≡◌, take, list_any, words_view, is_reader_unopened, unopened_messages, HasSaid}
-use Rattle.ptrun.proofs.Common.{positions, AreSoundAt}
+use Rattle.ptrun.proofs
+use proofs.Common.{AreSoundAt, HasSaid, is_reader_unopened, list_any, positions, take, unopened_messages, words_view}
+use proofs.Common.{◌≡◌}
 use Rattle.ptrun.proofs.driver.report_unopened.Given as goal
 
 abbrev pub invariant-loop-input : goal.invariant-loop-input

@@ -1,19 +1,34 @@
 -- Each iteration processes one more operand. If one fails, the run stops there, and the operands after it are
 -- unchanged.
 use Rattle.ptrun.proofs
-use proofs.Common.{scaled_Fits, ◌<◌, ◌+◌, length, drop, sym, ◌∙◌, arith, positions, Standard}
-use Rattle.std.proofs.lemmas.Result.{err_from_is_err_and}
+use proofs.Common.{Standard, arith, drop, err_from_is_err_and, length, positions, scaled_Fits, sym, ◌+◌, ◌<◌, ◌∙◌}
+use proofs.OperandInputs.{names_counted, only_within, operand_low, operand_step, position_in_range, positions_end}
+use proofs.Sequential.{done_all, done_as, done_nothing, done_operand, done_stopped, done_unopened, operand_ready}
+use proofs.ToolRuns.{decides_all, operand_post, operand_pre, sequential_post}
+use Rattle.ptrun.proofs.driver.run_one_by_one.Given as given
+use Rattle.ptrun.proofs.driver.run_one_by_one.Goals.{After-position_of-position, then-is_refused}
+use Rattle.ptrun.proofs.driver.run_one_by_one.Goals.{else-is_refused+in_ok-run_on}
 use Rattle.ptrun.proofs.driver.run_one_by_one.Goals as goal
-use proofs.OperandInputs.{names_counted, operand_low, operand_step, position_in_range, positions_end}
-use proofs.Sequential.{done_as, done_nothing, operand_ready, done_all, done_unopened, done_operand, done_stopped}
-use proofs.ToolRuns.{sequential_post, operand_pre, operand_post, decides_all}
-use Rattle.ptrun.proofs.driver.run_one_by_one.Goals.{then-is_refused, else-is_refused+in_ok-run_on}
+
+-- The position of the operand is that of an input.
+low : (g : given.Over) (c : After-position_of-position g) → c.position_of-position.result < length c.args.inputs.now
+low g c = operand_low c.args.order.now c.loop-input.input-index Standard c.requires.ready.given.in_range
+    c.loop-input-test.true c.position_of-position.ensures
 
 pub loop-input-init : goal.loop-input-init
-loop-input-init g c = grind (arith, done_nothing)
+loop-input-init g c =
+    let ready = c.requires.ready in
+    done_nothing ready.given.fresh ready.writable ready.not_denied ready.empty
 
-pub run_on-requires : goal.run_on-requires
-run_on-requires g c =
+pub run_on-requires-clause-within : goal.run_on-requires-clause-within
+run_on-requires-clause-within g c = only_within (omega (
+  arith,
+  low g (goal.at.run_on-requires-clause-within g c).After-position_of-position,
+  c.loop-input.auto.inputs,
+))
+
+pub run_on-requires-clause-ready : goal.run_on-requires-clause-ready
+run_on-requires-clause-ready g c =
     let s = g.T.Tool.tool c.args.tool.now in
     let turn = operand_step c.args.order.now c.loop-input.input-index _ c.requires.ready.given.in_range
     c.loop-input-test.true
@@ -68,27 +83,19 @@ returns g c =
 
 pub bounds-inputs-position : goal.bounds-inputs-position
 bounds-inputs-position g c =
-    let low : c.position_of-position.result < length c.args.inputs.now =
-    operand_low c.args.order.now c.loop-input.input-index Standard c.requires.ready.given.in_range
-    c.loop-input-test.true
-    c.position_of-position.ensures in
-    omega (arith, low, c.loop-input.auto.inputs)
+    omega (arith, low g (goal.at.bounds-inputs-position g c).After-position_of-position, c.loop-input.auto.inputs)
 
 pub offset_bounds-inputs-position : goal.offset_bounds-inputs-position
 offset_bounds-inputs-position g c =
-    let low : c.position_of-position.result < length c.args.inputs.now =
-    operand_low c.args.order.now c.loop-input.input-index Standard c.requires.ready.given.in_range
-    c.loop-input-test.true
-    c.position_of-position.ensures in
-    search (scaled_Fits, low, arith)
+    let low_now = low g (goal.at.offset_bounds-inputs-position g c).After-position_of-position in
+    search (scaled_Fits, arith)
 
 pub name_at-requires : goal.name_at-requires
-name_at-requires g c =
-    let low : c.position_of-position.result < length c.args.inputs.now =
-    operand_low c.args.order.now c.loop-input.input-index Standard c.requires.ready.given.in_range
-    c.loop-input-test.true
-    c.position_of-position.ensures in
-    omega (arith, low, names_counted c.args.names.now (length c.args.inputs.now) c.requires.ready.given.named)
+name_at-requires g c = omega (
+  arith,
+  low g (goal.at.name_at-requires g c).After-position_of-position,
+  names_counted c.args.names.now (length c.args.inputs.now) c.requires.ready.given.named,
+)
 
 pub position_of-position-requires : goal.position_of-position-requires
 position_of-position-requires g c = grind (arith, position_in_range)

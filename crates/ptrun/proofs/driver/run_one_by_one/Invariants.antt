@@ -1,7 +1,7 @@
 -- The operands so far were processed, or reported if they could not be opened, and the output contains what the tool
 -- writes for them.
 use Rattle.ptrun.proofs
-use proofs.Common.{take, words_view, positions}
+use proofs.Common.{positions, take, words_view}
 use proofs.Sequential.{OperandsDone}
 use proofs.ToolRuns.{one_tool}
 use Rattle.ptrun.proofs.driver.run_one_by_one.Given as goal

@@ -1,11 +1,11 @@
 -- A tool that reads its operands together reads nothing if one could not be opened. Otherwise, and if it reads one
 -- operand after another, its inputs are processed, and the end of the run follows from the result.
 use Rattle.ptrun.proofs
-use proofs.Common.{ℕ, arith, ap, false≢true, sym, ◌∙◌, subst, HasIndexBelow, length, outcome, Output}
-use proofs.RunEnds.{run_in_store}
-use proofs.OperandInputs.{names_counted, position_in_range}
+use proofs.Common.{HasIndexBelow, Output, ap, arith, common_steps, false≢true, length, outcome, subst, sym, ℕ, ◌∙◌}
 use proofs.MessageWrites.{said_nothing}
-use proofs.ToolRuns.{unopened_run, together_pre, together_post, together_says, reads_if}
+use proofs.OperandInputs.{names_counted, position_in_range}
+use proofs.RunEnds.{run_in_store}
+use proofs.ToolRuns.{reads_if, together_post, together_says, unopened_run}
 use Rattle.ptrun.proofs.driver.run_tool.Goals as goal
 
 pub positions_of-requires-clause-in_range : goal.positions_of-requires-clause-in_range
@@ -14,8 +14,12 @@ positions_of-requires-clause-in_range g c = rw c.deref-order.ensures.value (λ k
   position_in_range c.args.operands.now.order.items (length c.args.inputs.now) c.requires.given.in_range k d within,
 ))
 
-pub run_on-run_result-requires : goal.run_on-run_result-requires
-run_on-run_result-requires g c = grind (arith, together_pre)
+pub positions_of-requires-clause-few : goal.positions_of-requires-clause-few
+positions_of-requires-clause-few g c = grind (arith, common_steps)
+
+pub run_on-run_result-requires-clause-within : goal.run_on-run_result-requires-clause-within
+run_on-run_result-requires-clause-within g c =
+    rw (c.deref.ensures.0 ∙ c.positions_of.ensures, c.deref-order.ensures.value) c.requires.given.in_range
 
 pub end_run-requires : goal.end_run-requires
 end_run-requires g c =

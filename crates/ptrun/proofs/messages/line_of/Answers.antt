@@ -1,5 +1,6 @@
-use Rattle.std.proofs.Common.{rules}
-use Rattle.ptrun.proofs.MessageWrites.{joined_more}
+use Rattle.ptrun.proofs
+use proofs.Common.{rules}
+use proofs.MessageWrites.{joined_more}
 use Rattle.ptrun.proofs.messages.line_of.Goals as goal
 
 pub loop-part-preserved : goal.loop-part-preserved

@@ -1,6 +1,7 @@
 -- The line contains the parts so far.
-use Rattle.std.proofs.Common.{◌≡◌}
-use Rattle.ptrun.proofs.MessageWrites.{joined}
+use Rattle.ptrun.proofs
+use proofs.Common.{◌≡◌}
+use proofs.MessageWrites.{joined}
 use Rattle.ptrun.proofs.messages.line_of.Given as goal
 
 abbrev pub invariant-loop-part : goal.invariant-loop-part

@@ -1,10 +1,8 @@
 -- Each part that is taken extends the prefix of the message that the sink has taken; a part that fails ends it.
 use Rattle.ptrun.proofs
-use proofs.Common.{arith}
+use proofs.Common.{arith, common_steps, rules}
+use proofs.MessageWrites.{joined_all, joined_more, line_split, say_post_all, say_post_part, took_trans}
 use Rattle.ptrun.proofs.messages.say_in_parts.Goals as goal
-use proofs.MessageWrites.{say_post_part, say_post_all, took_trans, joined_more, joined_all, line_split}
-use Rattle.std.proofs.Common.{rules}
-use Rattle.std.proofs.lemmas.Grind.{common_steps}
 
 pub returns-in-Err : goal.returns-in-Err
 returns-in-Err g c =

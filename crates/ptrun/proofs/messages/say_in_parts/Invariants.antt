@@ -1,5 +1,5 @@
 -- The sink has taken the parts so far.
-use Rattle.ptrun.proofs.Common.{take, flat_map, WriteOutOk, texts}
+use Rattle.ptrun.proofs.Common.{WriteOutOk, flat_map, take, texts}
 use Rattle.ptrun.proofs.messages.say_in_parts.Given as goal
 
 abbrev pub invariant-loop-part : goal.invariant-loop-part

@@ -1,5 +1,5 @@
 -- The positions so far are those of the operands so far, in order.
-use Rattle.ptrun.proofs.Common.{◌≡◌, take, positions}
+use Rattle.ptrun.proofs.Common.{positions, take, ◌≡◌}
 use Rattle.ptrun.proofs.operands.positions_of.Given as goal
 
 abbrev pub invariant-loop-input : goal.invariant-loop-input

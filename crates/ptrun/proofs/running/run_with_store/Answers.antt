@@ -1,8 +1,9 @@
 -- If the arguments are no command, the message about them is the whole run. Otherwise the run is that of the command.
 -- The main theorem follows from the run in both cases.
-use Rattle.ptrun.proofs.Common.{arith, words_view}
+use Rattle.ptrun.proofs
+use proofs.Common.{arith, words_view}
+use proofs.RunEnds.{exact_for_args, inputs_pre_of_parsed, message_only_run, spec_of_fault, spec_of_ok}
 use Rattle.ptrun.proofs.running.run_with_store.Goals as goal
-use Rattle.ptrun.proofs.RunEnds.{spec_of_ok, spec_of_fault, inputs_pre_of_parsed, exact_for_args, message_only_run}
 
 pub run_command-requires-clause-given : goal.run_command-requires-clause-given
 run_command-requires-clause-given g c =

@@ -1,4 +1,4 @@
-use Rattle.ptrun.proofs.Common.{◌∙◌, ap, encode_utf8}
+use Rattle.ptrun.proofs.Common.{ap, encode_utf8, ◌∙◌}
 use Rattle.ptrun.proofs.usage.say_conflict.Goals as goal
 
 pub returns : goal.returns

@@ -1,6 +1,6 @@
 -- Each fault has one message, which its branch says.
+use Rattle.ptrun.proofs.Common.{rules}
 use Rattle.ptrun.proofs.usage.say_usage_fault.Goals as goal
-use Rattle.std.proofs.Common.{rules}
 
 pub returns-in-Together-clause-message : goal.returns-in-Together-clause-message
 returns-in-Together-clause-message g c = search rules

@@ -1,6 +1,7 @@
+use Rattle.ptflow.proofs
 use Rattle.std.proofs.Common.{◌/◌}
-use Rattle.ptflow.proofs.Vectors.ByteSets.{nibbles_ok, looked_up, high_small, high_nibbles}
-use Rattle.ptflow.proofs.simd.byte_set.by_high_nibble.Goals as goal
+use proofs.Vectors.Lanes.{nibbles_ok, looked_up, high_small, high_nibbles}
+use proofs.simd.byte_set.by_high_nibble.Goals as goal
 
 pub swizzle : goal.swizzle
 swizzle c = let (long, fits) = c.fits-v in

@@ -1,6 +1,7 @@
-use Rattle.ptflow.proofs.Common.{◌/◌, ◌^◌, ◌≡◌, refl, arith, and_numeral}
-use Rattle.ptflow.proofs.Vectors.Compress.{row_next, row_complete}
-use Rattle.ptflow.proofs.simd.compress.compress_row.Goals as goal
+use Rattle.ptflow.proofs
+use proofs.Common.{◌/◌, ◌^◌, ◌≡◌, refl, arith, and_numeral}
+use proofs.Vectors.Compress.{row_next, row_complete}
+use proofs.simd.compress.compress_row.Goals as goal
 
 pub loop-index-preserved : goal.loop-index-preserved
 loop-index-preserved c =

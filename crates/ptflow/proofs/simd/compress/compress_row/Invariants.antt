@@ -1,6 +1,7 @@
 -- The row begins with the indices so far whose flag is set.
-use Rattle.ptflow.proofs.Vectors.Compress.{RowPrefix}
-use Rattle.ptflow.proofs.simd.compress.compress_row.Given as goal
+use Rattle.ptflow.proofs
+use proofs.Vectors.Compress.{RowPrefix}
+use proofs.simd.compress.compress_row.Given as goal
 
 abbrev pub invariant-loop-index : goal.invariant-loop-index
 invariant-loop-index l = RowPrefix l.mask l.index l.count l.row

@@ -1,5 +1,6 @@
-use Rattle.ptflow.proofs.Common.{◌+◌, arith, chunk, take_more_put_chunk, length-chunk}
-use Rattle.ptflow.proofs.simd.compress.copy_chunk.Goals as goal
+use Rattle.ptflow.proofs
+use proofs.Common.{◌+◌, arith, chunk, take_more_put_chunk, length-chunk}
+use proofs.simd.compress.copy_chunk.Goals as goal
 
 pub returns-clause-copied : goal.returns-clause-copied
 returns-clause-copied c =

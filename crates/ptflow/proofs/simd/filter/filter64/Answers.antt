@@ -2,8 +2,8 @@
 -- each of the four vectors appends those of its bytes that are kept.
 use Rattle.ptflow.proofs
 use proofs.Common.{ℕ, ◌+◌, ◌++◌, ◌∙◌, ap, sym, arith, take, set_has, is_not_repeat}
-use proofs.Vectors.Filter.{all_kept_in_four, flags_at, kept_in_four, none_equal_in_four, pairs_long, select_kept_at}
-use Rattle.ptflow.proofs.simd.filter.filter64.Goals as goal
+use proofs.Vectors.Compress.{all_kept_in_four, flags_at, kept_in_four, none_equal_in_four, pairs_long, select_kept_at}
+use proofs.simd.filter.filter64.Goals as goal
 
 pub returns-then-same_ab-same16-eq0-clause-kept : goal.returns-then-same_ab-same16-eq0-clause-kept
 returns-then-same_ab-same16-eq0-clause-kept c =

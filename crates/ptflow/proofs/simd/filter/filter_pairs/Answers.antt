@@ -1,6 +1,7 @@
-use Rattle.ptflow.proofs.Common.{◌∙◌, arith, set_has}
-use Rattle.ptflow.proofs.Vectors.Filter.{filter_piece}
-use Rattle.ptflow.proofs.simd.filter.filter_pairs.Goals as goal
+use Rattle.ptflow.proofs
+use proofs.Common.{◌∙◌, arith, set_has}
+use proofs.Vectors.Compress.{filter_piece}
+use proofs.simd.filter.filter_pairs.Goals as goal
 
 pub loop-at-preserved : goal.loop-at-preserved
 loop-at-preserved c =

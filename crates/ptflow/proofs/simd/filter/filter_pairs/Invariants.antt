@@ -1,7 +1,8 @@
 -- The stored bytes, and then those that are kept of the rest, are the bytes that are kept.
-use Rattle.ptflow.proofs.Common.{◌≤◌, ◌+◌, ◌-◌, ◌++◌, length, take, kept_bytes, set_has}
-use Rattle.ptflow.proofs.Vectors.Filter.{FilterInvariant}
-use Rattle.ptflow.proofs.simd.filter.filter_pairs.Given as goal
+use Rattle.ptflow.proofs
+use proofs.Common.{◌≤◌, ◌+◌, ◌-◌, ◌++◌, length, take, kept_bytes, set_has}
+use proofs.Vectors.Compress.{FilterInvariant}
+use proofs.simd.filter.filter_pairs.Given as goal
 
 abbrev pub invariant-loop-at : goal.invariant-loop-at
 invariant-loop-at l = record {

@@ -1,6 +1,7 @@
-use Rattle.ptflow.proofs.Common.{arith, set_has}
-use Rattle.ptflow.proofs.Vectors.Filter.{filter_done}
-use Rattle.ptflow.proofs.simd.filter.filter_tail.Goals as goal
+use Rattle.ptflow.proofs
+use proofs.Common.{arith, set_has}
+use proofs.Vectors.Compress.{filter_done}
+use proofs.simd.filter.filter_tail.Goals as goal
 
 pub returns-clause-kept : goal.returns-clause-kept
 returns-clause-kept c =

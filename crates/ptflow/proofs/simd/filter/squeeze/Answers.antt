@@ -1,7 +1,8 @@
 -- The first byte is kept or removed by the last one before; each other one by the byte before it.
-use Rattle.ptflow.proofs.Common.{◌≡◌, ◌<◌, ℕ, zero, suc, eqb, false, length, arith, set_has, take_rest}
-use Rattle.ptflow.proofs.TrLemmas.TrFrom.{first_squeezed}
-use Rattle.ptflow.proofs.simd.filter.squeeze.Goals as goal
+use Rattle.ptflow.proofs
+use proofs.Common.{◌≡◌, ◌<◌, ℕ, zero, suc, eqb, false, length, arith, set_has, take_rest}
+use proofs.TrLemmas.TrFrom.{first_squeezed}
+use proofs.simd.filter.squeeze.Goals as goal
 
 some : (n : ℕ) → false ≡ eqb n 0 → 0 < n
 some zero h = cc

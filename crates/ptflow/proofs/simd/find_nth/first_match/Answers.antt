@@ -4,7 +4,7 @@ use proofs.Common.{◌≡◌, ℕ, List, ◌+◌, ◌≤◌, map, take, None, So
 use proofs.Common.{none_if_zero_mask, Nowhere, Passes, take_rest, mask_l, length}
 use lib.Count.{count_trailing_zeros}
 use proofs.Vectors.FindNth.{first_in_rest}
-use Rattle.ptflow.proofs.simd.find_nth.first_match.Goals as goal
+use proofs.simd.find_nth.first_match.Goals as goal
 
 pub returns-then-mask-ne0 : goal.returns-then-mask-ne0
 returns-then-mask-ne0 c =

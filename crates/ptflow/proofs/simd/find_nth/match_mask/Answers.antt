@@ -1,5 +1,6 @@
-use Rattle.ptflow.proofs.Common.{eqb, arith, w8, bitmask_splat, length-chunk, chunk}
-use Rattle.ptflow.proofs.simd.find_nth.match_mask.Goals as goal
+use Rattle.ptflow.proofs
+use proofs.Common.{eqb, arith, w8, bitmask_splat, length-chunk, chunk}
+use proofs.simd.find_nth.match_mask.Goals as goal
 
 pub returns : goal.returns
 returns c =

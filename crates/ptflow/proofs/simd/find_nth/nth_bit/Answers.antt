@@ -1,6 +1,7 @@
+use Rattle.ptflow.proofs
 use Rattle.std.proofs.Common.{◌≡◌, ◌+◌, suc, map, arith}
-use Rattle.ptflow.proofs.Vectors.FindNth.{cleared, after_set}
-use Rattle.ptflow.proofs.simd.find_nth.nth_bit.Goals as goal
+use proofs.Vectors.FindNth.{cleared, after_set}
+use proofs.simd.find_nth.nth_bit.Goals as goal
 
 pub loop-bit-preserved : goal.loop-bit-preserved
 loop-bit-preserved c = λ bits is.

@@ -1,5 +1,6 @@
-use Rattle.ptflow.proofs.Common.{arith, common_steps}
-use Rattle.ptflow.proofs.simd.find_nth.nth_tail.Goals as goal
+use Rattle.ptflow.proofs
+use proofs.Common.{arith, common_steps}
+use proofs.simd.find_nth.nth_tail.Goals as goal
 
 pub loop-at-preserved : goal.loop-at-preserved
 loop-at-preserved c = grind (arith, common_steps)

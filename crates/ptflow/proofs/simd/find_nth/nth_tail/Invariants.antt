@@ -1,6 +1,7 @@
 -- The matches that were skipped and those still to be skipped add up to `before`.
-use Rattle.ptflow.proofs.Common.{◌≡◌, ◌+◌, take, count_by, is_byte}
-use Rattle.ptflow.proofs.simd.find_nth.nth_tail.Given as goal
+use Rattle.ptflow.proofs
+use proofs.Common.{◌≡◌, ◌+◌, take, count_by, is_byte}
+use proofs.simd.find_nth.nth_tail.Given as goal
 
 abbrev pub invariant-loop-at : goal.invariant-loop-at
 invariant-loop-at l =

@@ -1,5 +1,6 @@
-use Rattle.ptflow.proofs.Common.{◌≡◌, ◌+◌, ◌++◌, length, take, ap, ◌∙◌, arith, take_more_put_chunk, length-map}
-use Rattle.ptflow.proofs.simd.shift.map_at.Goals as goal
+use Rattle.ptflow.proofs
+use proofs.Common.{◌≡◌, ◌+◌, ◌++◌, length, take, ap, ◌∙◌, arith, take_more_put_chunk, length-map}
+use proofs.simd.shift.map_at.Goals as goal
 
 pub returns-clause-stored : goal.returns-clause-stored
 returns-clause-stored g c =

@@ -1,6 +1,7 @@
 -- The images of the bytes so far were stored.
-use Rattle.ptflow.proofs.Common.{length, ◌-◌, IsMappedTo}
-use Rattle.ptflow.proofs.simd.shift.map_bytes.Given as goal
+use Rattle.ptflow.proofs
+use proofs.Common.{length, ◌-◌, IsMappedTo}
+use proofs.simd.shift.map_bytes.Given as goal
 
 abbrev pub invariant-loop-at : goal.invariant-loop-at
 invariant-loop-at g l = IsMappedTo l.at (g.M.ByteMap.map_byte l.by) l.from l.to

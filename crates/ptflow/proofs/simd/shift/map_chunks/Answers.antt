@@ -1,7 +1,8 @@
 -- Each iteration stores the images of two vectors after those of the bytes before.
+use Rattle.ptflow.proofs
 use Rattle.std.proofs.Common.{◌+◌, ◌∙◌, arith}
-use Rattle.ptflow.proofs.Vectors.Lanes.{mapped_more}
-use Rattle.ptflow.proofs.simd.shift.map_chunks.Goals as goal
+use proofs.Vectors.Lanes.{mapped_more}
+use proofs.simd.shift.map_chunks.Goals as goal
 
 pub loop-at-preserved : goal.loop-at-preserved
 loop-at-preserved g c =

@@ -1,6 +1,7 @@
-use Rattle.ptflow.proofs.Common.{◌/◌, ◌≤◌, ◌∙◌, ap, arith, get_or, length}
-use Rattle.ptflow.proofs.Vectors.Tables.{filled_next, halved_is, halved_lane, halved_long}
-use Rattle.ptflow.proofs.simd.table.halve.Goals as goal
+use Rattle.ptflow.proofs
+use proofs.Common.{◌/◌, ◌≤◌, ◌∙◌, ap, arith, get_or, length}
+use proofs.Vectors.Lanes.{filled_next, halved_is, halved_lane, halved_long}
+use proofs.simd.table.halve.Goals as goal
 
 pub loop-index-preserved : goal.loop-index-preserved
 loop-index-preserved g c =

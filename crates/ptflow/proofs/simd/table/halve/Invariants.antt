@@ -1,7 +1,8 @@
 -- The vectors so far were made of two each.
-use Rattle.ptflow.proofs.Common.{◌≡◌, length}
-use Rattle.ptflow.proofs.Vectors.Tables.{IsFilledTo, halved}
-use Rattle.ptflow.proofs.simd.table.halve.Given as goal
+use Rattle.ptflow.proofs
+use proofs.Common.{◌≡◌, length}
+use proofs.Vectors.Lanes.{IsFilledTo, halved}
+use proofs.simd.table.halve.Given as goal
 
 abbrev pub invariant-loop-index : goal.invariant-loop-index
 invariant-loop-index g l = record {

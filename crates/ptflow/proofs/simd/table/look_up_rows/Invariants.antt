@@ -1,7 +1,8 @@
 -- The rows so far were looked up.
-use Rattle.ptflow.proofs.Common.{[], ◌%◌, map, slice_index, slice_index_or}
-use Rattle.ptflow.proofs.Vectors.Tables.{IsFilledTo}
-use Rattle.ptflow.proofs.simd.table.look_up_rows.Given as goal
+use Rattle.ptflow.proofs
+use proofs.Common.{[], ◌%◌, map, slice_index, slice_index_or}
+use proofs.Vectors.Lanes.{IsFilledTo}
+use proofs.simd.table.look_up_rows.Given as goal
 
 abbrev pub invariant-loop-row : goal.invariant-loop-row
 invariant-loop-row g l =

@@ -1,7 +1,7 @@
-use Rattle.ptflow.proofs.Common.{[], ◌∙◌, ap, arith, get_or}
-use Rattle.std.proofs.Common.{rules}
-use Rattle.ptflow.proofs.Vectors.Tables.{shifted_lane}
-use Rattle.ptflow.proofs.simd.table.select_rows.Goals as goal
+use Rattle.ptflow.proofs
+use proofs.Common.{[], ◌∙◌, ap, arith, get_or, rules}
+use proofs.Vectors.Lanes.{shifted_lane}
+use proofs.simd.table.select_rows.Goals as goal
 
 pub loop-count-preserved : goal.loop-count-preserved
 loop-count-preserved g c =

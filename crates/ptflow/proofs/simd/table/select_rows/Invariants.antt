@@ -1,7 +1,8 @@
 -- Each lane of the vectors that are left has in its row what was found in its row at the start.
-use Rattle.ptflow.proofs.Common.{◌≡◌, ◌≤◌, ◌<◌, ℕ, All, length, slice_index}
+use Rattle.ptflow.proofs
+use proofs.Common.{◌≡◌, ◌≤◌, ◌<◌, ℕ, All, length, slice_index}
 use Rattle.ptflow.specs.Private.Vectors.Tables.{lane_of}
-use Rattle.ptflow.proofs.simd.table.select_rows.Given as goal
+use proofs.simd.table.select_rows.Given as goal
 
 abbrev pub invariant-loop-count : goal.invariant-loop-count
 invariant-loop-count g l = record {

@@ -1,20 +1,48 @@
--- On an output that has failed nothing is done. Setting the terminator does not change the input, so the contract of
--- each way carries over.
-use Rattle.ptflow.proofs.Common.{sym, ◌∙◌, cut_job, cut_tool}
-use Rattle.std.proofs.Common.{rules}
-use Rattle.ptflow.proofs.Passes.Exits.{pass_unchanged, pass_set, ready_set}
-use Rattle.ptflow.proofs.tools.cut.cut.Goals as goal
+-- On an output that has failed nothing is done. `cut` by fields is a line tool, and `cut` by bytes a block tool: at
+-- line offset 0 the output for the rest is that for a text, and the pushed bytes include the output that is decided.
+-- Setting the terminator does not change the input, so the contract of each loop carries over.
+use Rattle.ptflow.proofs
+use proofs.Common.{Bool, true, false, ◌≡◌, ◌++◌, refl, sym, ◌∙◌, ap, cond, cut_job, cut_tool, cut_list_from, Reader}
+use proofs.Common.{terminator}
+use proofs.CutLemmas.CutBytes.{rest_is_cut, rest_is_decided}
+use proofs.CutLemmas.Fields.{cut_line_tool}
+use proofs.Passes.Exits.{pass_unchanged, pass_set, ready_set}
+use proofs.tools.cut.cut.Goals as goal
+
+ends : (zero : Bool) → cond zero 0 10 ≡ terminator zero
+ends true = refl
+ends false = refl
 
 pub returns-then-has_failed : goal.returns-then-has_failed
 returns-then-has_failed g c = pass_unchanged (cut_tool (cut_job c.args.job.now)) _ c.args.out.now _ c.requires
     (sym c.has_failed.ensures ∙ c.if-has_failed.true)
 
+pub run_lines-requires-clause-tool : goal.run_lines-requires-clause-tool
+run_lines-requires-clause-tool g c = cut_line_tool (cut_job c.args.job.now) _ c.if-job.true
+
 pub returns-then-job : goal.returns-then-job
 returns-then-job g c =
-    pass_set _ c.cut_by_fields.ensures c.set_ending.ensures.set (search rules) (cc)
+    pass_set _ c.run_lines.ensures c.set_ending.ensures.set (ends _) (sym c.has_failed.ensures ∙ c.if-has_failed.false)
 
 pub returns : goal.returns
 returns g c =
+    let job = cut_job c.args.job.now in
+    let by = c.new.result.by in
+    let end : by.terminator ≡ job.terminator =
+    c.new.ensures.terminator ∙ c.terminator-terminator.ensures
+    ∙ ap (λ (r : Reader). r.terminator) c.set_ending.ensures.set ∙ ends _ in
+    let list = c.new.ensures.selected in
+    let start = c.new.ensures.start in
     let ready = ready_set _ c.requires c.set_ending.ensures.set in
-    pass_set _ (c.cut_by_bytes.ensures c.args.store.now ready) c.set_ending.ensures.set
-    (search rules) (cc)
+    let pass = c.run_blocks.ensures (cut_tool job)
+    (record {
+      text = λ bytes. (λ i. cut_list_from (end i) (list i) (start i) bytes) ∙ rest_is_cut job c.if-job.false bytes;
+      decided = λ given pushed now holds on.
+          rest_is_decided job c.if-job.false given pushed now.line_offset
+          (λ rest. (λ i. cut_list_from (sym end i) (sym list i) (sym start i) (given ++ rest)) ∙ on rest
+          ∙ (λ i. pushed ++ cut_list_from ((holds.1 ∙ end) i) ((holds.0 ∙ list) i) now.line_offset rest));
+      holds = (refl, refl);
+      slots = ap (λ b. cond b 1 0) c.if-job.false;
+    })
+    c.args.store.now ready in
+    pass_set _ pass c.set_ending.ensures.set (ends _) (sym c.has_failed.ensures ∙ c.if-has_failed.false)

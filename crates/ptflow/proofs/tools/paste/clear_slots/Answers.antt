@@ -1,5 +1,5 @@
 use Rattle.ptflow.proofs.Common.{[], get_or-set_same, get_or-set_other, length-set, ◌∙◌, arith}
-use Rattle.ptflow.proofs.PasteLemmas.FillRow.{slots_bound_line}
+use Rattle.ptflow.proofs.PasteLemmas.Rows.{slots_bound_line}
 use Rattle.ptflow.proofs.tools.paste.clear_slots.Goals as goal
 
 pub loop-column-preserved : goal.loop-column-preserved

@@ -4,14 +4,13 @@
 use Rattle.ptflow.proofs
 use proofs.Common.{◌≡◌, ◌+◌, List, [], ◌++◌, length, take, get_or, set, ◌∙◌, arith, err_from_is_err_and, PushEffect}
 use proofs.Common.{Reader, Slots, push_nothing, push_trans, ◌||◌, BegunText, BufferedRowsPre, RowAmid, after_cell}
-use proofs.Common.{begun_in, shape_of}
+use proofs.Common.{begun_in, shape_of, rules}
 use borrow.Author.Rules.{scaled_Fits}
-use proofs.PasteLemmas.FillRow.{next_reader, amid_next, amid_failed, amid_resumed, with_slot, readable_after}
+use proofs.PasteLemmas.Rows.{next_reader, amid_next, amid_failed, amid_resumed, with_slot, readable_after}
 use proofs.PasteLemmas.BufferedRows.{still_readable}
 use Rattle.ptflow.proofs.tools.paste.fill_row.Goals.{After-fill_cell, In_ok-has_line}
 use Rattle.ptflow.proofs.tools.paste.fill_row.Given as given
 use Rattle.ptflow.proofs.tools.paste.fill_row.Goals as goal
-use Rattle.std.proofs.Common.{rules}
 
 pub cells-init : goal.cells-init
 cells-init g c = record {

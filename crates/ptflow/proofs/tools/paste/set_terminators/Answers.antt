@@ -1,11 +1,10 @@
 -- Each step sets the terminator of one more reader. Setting it twice, for a reader that several columns use, has no
 -- further effect.
 use Rattle.ptflow.proofs
-use proofs.Common.{◌≡◌, ◌<◌, Bool, true, false, cond, length, get_or, refl, arith, terminator, common_steps}
+use proofs.Common.{◌≡◌, ◌<◌, Bool, true, false, cond, length, get_or, refl, arith, terminator, common_steps, rules}
 use borrow.Author.Rules.{scaled_Fits}
-use proofs.PasteLemmas.FillRow.{at_index, set_terminator_more}
+use proofs.PasteLemmas.Rows.{at_index, set_terminator_more}
 use Rattle.ptflow.proofs.tools.paste.set_terminators.Goals as goal
-use Rattle.std.proofs.Common.{rules}
 
 ending_is : (zero : Bool) → cond zero 0 10 ≡ terminator zero
 ending_is true = refl

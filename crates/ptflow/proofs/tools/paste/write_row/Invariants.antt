@@ -1,11 +1,11 @@
 -- The copied text was pushed, and then the fields of the columns so far.
-use Rattle.ptflow.proofs.Common.{◌≡◌, ◌≤◌, ◌++◌, false, length, take, drop, PushEffect, cells_text, shape_of}
+use Rattle.ptflow.proofs.Common.{◌≡◌, ◌++◌, false, take, shape_of, slots_text}
+use Rattle.ptflow.proofs.Passes.Exits.{WrittenPrefix}
 use Rattle.ptflow.proofs.tools.paste.write_row.Given as goal
 
 abbrev pub invariant-loop-column : goal.invariant-loop-column
 invariant-loop-column g l = record {
-  wrote : PushEffect l.fn.out l.out (take l.fn.begun.end l.into
-      ++ cells_text (shape_of l.row) l.fn.begun.count (drop l.fn.begun.count (take l.column l.store.lines)));
+  front : WrittenPrefix (take l.fn.begun.end l.into ++ slots_text (shape_of l.row) l.fn.begun.count l.store)
+      (slots_text (shape_of l.row) l.column l.store) l.fn.out l.out;
   clean : l.out.write_failed ≡ false;
-  within : l.column ≤ length l.row.cells.now;
 }

@@ -4,11 +4,11 @@ use Rattle.ptflow.proofs
 use proofs.Common.{◌++◌, None, refl, sym, ◌∙◌, ap, no_store, tr_tool, tr_from}
 use proofs.Passes.Exits.{pass_unchanged, never_memory}
 use proofs.TrLemmas.TrFrom.{rest_decided}
-use Rattle.ptflow.proofs.tools.tr.tr.Goals as goal
-use Rattle.std.proofs.Common.{rules}
+use proofs.tools.tr.tr.Goals as goal
 
 pub returns-then-has_failed-clause-pass : goal.returns-then-has_failed-clause-pass
-returns-then-has_failed-clause-pass g c = search (rules, pass_unchanged)
+returns-then-has_failed-clause-pass g c =
+    λ store ready. pass_unchanged (tr_tool c.args.plan.now) _ c.args.out.now _ ready (cc)
 
 pub returns-clause-pass : goal.returns-clause-pass
 returns-clause-pass g c =

@@ -1,11 +1,10 @@
 -- On an output that has failed nothing is done. `uniq` is a line tool, and setting the terminator does not change the
 -- input, so the contract of `run_lines` is that of the call.
 use Rattle.ptflow.proofs
-use proofs.Common.{refl, uniq_job, uniq_tool}
-use Rattle.std.proofs.Common.{rules}
+use proofs.Common.{refl, uniq_job, uniq_tool, rules}
 use proofs.Passes.Exits.{pass_unchanged, pass_set}
-use proofs.UniqLemmas.FirstLine.{uniq_line_tool}
-use Rattle.ptflow.proofs.tools.uniq.uniq.Goals as goal
+use proofs.UniqLemmas.Runs.{uniq_line_tool}
+use proofs.tools.uniq.uniq.Goals as goal
 
 pub returns-then-has_failed : goal.returns-then-has_failed
 returns-then-has_failed g c = pass_unchanged (uniq_tool (uniq_job c.args.job.now)) _ c.args.out.now _ c.requires (cc)

@@ -1,6 +1,7 @@
 -- The delimiters so far come before those of the rest; so a fault of the rest is the fault of the list.
-use Rattle.ptlangs.proofs.Common.{◌≡◌, length, delim_list}
-use Rattle.ptlangs.proofs.ListElements.{append_ok}
+use Rattle.ptlangs.proofs
+use proofs.Common.{delim_list, length, ◌≡◌}
+use proofs.ListElements.{append_ok}
 use Rattle.ptlangs.proofs.delims.Delims.read.Given as goal
 
 abbrev pub invariant-loop-kept : goal.invariant-loop-kept

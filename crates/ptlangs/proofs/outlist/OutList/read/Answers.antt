@@ -1,6 +1,20 @@
-use Rattle.ptlangs.proofs.ListElements.{each_more}
+use Rattle.ptlangs.proofs
+use proofs.Common.{YieldsList-at, YieldsList-from_filter_map, YieldsList-from_slice_split, arith, common_steps}
+use proofs.Common.{element_field, elements, is_list_separator, items_from_collect, result_ok, rules, tests}
+use proofs.ListElements.{fault_of_fields, values_are}
 use Rattle.ptlangs.proofs.outlist.OutList.read.Goals as goal
-use Rattle.std.proofs.Common.{rules}
 
-pub loop-kept-preserved : goal.loop-kept-preserved
-loop-kept-preserved g c = search (rules, each_more)
+pub returns-in-Some : goal.returns-in-Some
+returns-in-Some g c = search (rules, fault_of_fields)
+
+pub returns : goal.returns
+returns g c =
+    let s = c.split-elements.ensures in
+    let values = items_from_collect c.collect.result c.collect.ensures.ran
+    (YieldsList-from_filter_map _ (λ e. result_ok (element_field e))
+    (YieldsList-at c.filter_map-fields.ensures.source
+    (YieldsList-from_slice_split _ is_list_separator c.args.text.now s.rest s.done s.closure
+    (λ b r q k. search (rules, tests))))
+    c.filter_map-fields.ensures.closure (λ x r q k. search (rules, tests))) in
+    let all = values_are element_field (elements c.args.text.now) (search rules) in
+    first_of (search rules, grind (arith, common_steps))

@@ -1,7 +1,6 @@
-use Rattle.std.proofs.lemmas.Grind.{common_steps}
-use Rattle.ptlangs.proofs.Common.{arith, rules}
-use Rattle.std.proofs.Common.{Some, None}
-use Rattle.ptlangs.proofs.TrCharGrammar.{octal_char}
+use Rattle.ptlangs.proofs
+use proofs.Common.{None, Some, arith, common_steps, rules}
+use proofs.TrGrammar.{octal_char}
 use Rattle.ptlangs.proofs.tr.chars.escape.Goals as goal
 
 pub returns-in-Some-number-clause-denoted : goal.returns-in-Some-number-clause-denoted

@@ -1,7 +1,7 @@
-use Rattle.ptlangs.proofs.TrCharGrammar.{char_from-escape, chars_escape}
+use Rattle.ptlangs.proofs
+use proofs.Common.{arith, common_steps}
+use proofs.TrGrammar.{char_from-escape, chars_escape}
 use Rattle.ptlangs.proofs.tr.chars.next_char.Goals as goal
-use Rattle.std.proofs.Common.{arith}
-use Rattle.std.proofs.lemmas.Grind.{common_steps}
 
 pub returns-clause-denoted : goal.returns-clause-denoted
 returns-clause-denoted c = grind (arith, common_steps, char_from-escape)

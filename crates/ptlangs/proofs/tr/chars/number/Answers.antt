@@ -1,5 +1,6 @@
-use Rattle.ptlangs.proofs.Common.{arith, ◌+◌}
-use Rattle.ptlangs.proofs.TrCharGrammar.{too_large, number_step}
+use Rattle.ptlangs.proofs
+use proofs.Common.{arith, ◌+◌}
+use proofs.TrGrammar.{number_step, too_large}
 use Rattle.ptlangs.proofs.tr.chars.number.Goals as goal
 
 pub returns-then-value-limit : goal.returns-then-value-limit

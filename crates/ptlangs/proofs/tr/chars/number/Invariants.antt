@@ -1,5 +1,5 @@
 -- The value is that of the digits so far, and is at most the limit.
-use Rattle.ptlangs.proofs.Common.{◌≡◌, ◌≤◌, take, digits_value}
+use Rattle.ptlangs.proofs.Common.{digits_value, take, ◌≡◌, ◌≤◌}
 use Rattle.ptlangs.proofs.tr.chars.number.Given as goal
 
 abbrev pub invariant-loop-digit : goal.invariant-loop-digit

@@ -1,5 +1,6 @@
-use Rattle.ptlangs.proofs.Common.{arith, drop, ℕ, length-drop, chars}
-use Rattle.ptlangs.proofs.TrElementGrammar.{class_at-found}
+use Rattle.ptlangs.proofs
+use proofs.Common.{arith, chars, drop, length-drop, ℕ}
+use proofs.TrGrammar.{class_at-found}
 use Rattle.ptlangs.proofs.tr.elements.class.Goals as goal
 
 pub returns-clause-reads : goal.returns-clause-reads

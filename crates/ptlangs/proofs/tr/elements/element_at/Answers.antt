@@ -1,6 +1,7 @@
-use Rattle.ptlangs.proofs.Common.{◌∙◌, sym, drop, chars}
+use Rattle.ptlangs.proofs
+use proofs.Common.{chars, drop, sym, ◌∙◌}
+use proofs.TrGrammar.{chars-some, first_set_element-range}
 use Rattle.ptlangs.specs.TrParsing.{char_from}
-use Rattle.ptlangs.proofs.TrElementGrammar.{first_set_element-range, chars-some}
 use Rattle.ptlangs.proofs.tr.elements.element_at.Goals as goal
 
 pub returns-in-Some-after_byte-clause-reads : goal.returns-in-Some-after_byte-clause-reads

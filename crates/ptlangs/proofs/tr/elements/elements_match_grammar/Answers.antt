@@ -1,5 +1,5 @@
-use Rattle.ptlangs.proofs.TrElementGrammar.{set_elements-AreElements, AreElements-set_elements, faults_are_first}
-use Rattle.ptlangs.proofs.TrCharGrammar.{chars_are_spelled}
+use Rattle.ptlangs.proofs
+use proofs.TrGrammar.{AreElements-set_elements, chars_are_spelled, faults_are_first, set_elements-AreElements}
 use Rattle.ptlangs.proofs.tr.elements.elements_match_grammar.Goals as goal
 
 pub returns : goal.returns

@@ -1,5 +1,4 @@
-use Rattle.std.proofs.lemmas.Grind.{common_steps}
-use Rattle.ptlangs.proofs.Common.{arith}
+use Rattle.ptlangs.proofs.Common.{arith, common_steps}
 use Rattle.ptlangs.proofs.tr.elements.read_count.Goals as goal
 
 pub number-requires-clause-digits : goal.number-requires-clause-digits

@@ -1,5 +1,6 @@
-use Rattle.ptlangs.proofs.Common.{drop, is_ascii_digit, chars}
-use Rattle.ptlangs.proofs.TrPlainRuns.{AllPass-run}
+use Rattle.ptlangs.proofs
+use proofs.Common.{chars, drop, is_ascii_digit}
+use proofs.TrGrammar.{AllPass-run}
 use Rattle.ptlangs.proofs.tr.elements.repeat.Goals as goal
 
 pub read_count-count-requires : goal.read_count-count-requires

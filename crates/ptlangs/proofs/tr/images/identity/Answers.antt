@@ -1,6 +1,6 @@
-use Rattle.ptlangs.proofs.Common.{◌≡◌, get_or, rules}
-use Rattle.std.proofs.Common.{tests}
-use Rattle.ptlangs.proofs.TrContents.{same_table}
+use Rattle.ptlangs.proofs
+use proofs.Common.{get_or, rules, tests, ◌≡◌}
+use proofs.TrArrays.{same_table}
 use Rattle.ptlangs.proofs.tr.images.identity.Goals as goal
 
 pub returns : goal.returns

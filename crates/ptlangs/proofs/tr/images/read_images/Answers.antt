@@ -1,11 +1,10 @@
 -- The first array is the complement or that of the string, and its bytes are paired either way.
-use Rattle.ptlangs.proofs.Common.{◌∙◌, Bool, ap, first_array, image_by, map, ◌≡◌, [], List, None, Ok, rules}
-use Rattle.ptlangs.specs.TrClasses.{all_bytes}
-use Rattle.ptlangs.specs.TrParsing.{HasPaired, all_paired, member_bytes, contents_of, first_members, bytes_left}
-use Rattle.ptlangs.proofs.TrImages.{answer_of, first-bytes, paired_same, unpaired_answer}
-use Rattle.ptlangs.specs.declared.tr.segments.Member.{Member}
-use Rattle.ptlangs.proofs.tr.images.read_images.Goals.{After-identity, then-complement+in_ok-push_ascending}
-use Rattle.ptlangs.proofs.tr.images.read_images.Goals.{else-complement+in_ok-push_string}
+use Rattle.ptlangs.proofs
+use proofs.Common.{Bool, HasPaired, List, Member, None, Ok, [], all_bytes, all_paired, ap, bytes_left, contents_of}
+use proofs.Common.{first_array, first_members, image_by, map, member_bytes, rules, ◌∙◌, ◌≡◌}
+use proofs.TrArrays.{answer_of, first-bytes, paired_same, unpaired_answer}
+use Rattle.ptlangs.proofs.tr.images.read_images.Goals.{After-identity, else-complement+in_ok-push_string}
+use Rattle.ptlangs.proofs.tr.images.read_images.Goals.{then-complement+in_ok-push_ascending}
 use Rattle.ptlangs.proofs.tr.images.read_images.Goals as goal
 
 -- before the first pair

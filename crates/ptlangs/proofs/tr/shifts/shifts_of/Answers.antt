@@ -1,9 +1,9 @@
 -- From byte 255 down: a byte with the same shift as the next one extends its stretch, a byte with another shift starts
 -- a new stretch, and a byte that is its own image is in none.
 use Rattle.ptlangs.proofs
-use proofs.Common.{◌-◌, List, length, get_or, sym, ap, arith, drop_all, Stretch, stretches_from, rules}
-use proofs.Common.{prepend_shift, shift_of}
-use proofs.TrShifts.{moves_all, moved_one, no_more_behind}
+use proofs.Common.{List, Stretch, ap, arith, drop_all, get_or, length, prepend_shift, rules, shift_of, stretches_from}
+use proofs.Common.{sym, ◌-◌}
+use proofs.TrShifts.{moved_one, moves_all, no_more_behind}
 use Rattle.ptlangs.proofs.tr.shifts.shifts_of.Goals as goal
 
 pub loop-index-init : goal.loop-index-init

@@ -1,8 +1,7 @@
 -- Three calls of `push` add the three slices in order. After the first that fails nothing more is written.
-use Rattle.ptlines.proofs.Common.{rules}
+use Rattle.ptlines.proofs.Common.{rules, arith}
 use Rattle.ptlines.proofs.Push.{push_post_trans, push_trans, push_past_failure}
 use Rattle.ptlines.proofs.out.Out.push_line_slow.Goals as goal
-use Rattle.std.proofs.Common.{arith}
 
 pub returns-in_err-push : goal.returns-in_err-push
 returns-in_err-push g c = grind (arith, push_past_failure)

@@ -1,10 +1,9 @@
 -- The block is refilled first if it is empty. Then the bytes up to the first terminator, or all if there is none, are
 -- moved to the slot.
-use Rattle.ptlines.proofs.Common.{◌≡◌, ℕ, List, Option, IsFirstByte, is_byte}
+use Rattle.ptlines.proofs.Common.{◌≡◌, ℕ, List, Option, IsFirstByte, is_byte, arith}
 use Rattle.ptlines.proofs.ReadLine.{line_after_refill, partial_after_refill}
 use Rattle.ptlines.proofs.LineSearch.{piece_line, piece_partial}
 use Rattle.ptlines.proofs.reader.LineReader.fill_piece.Goals as goal
-use Rattle.std.proofs.Common.{arith}
 
 -- the byte searched for is the reader's terminator
 found : (a b : ℕ) (hay : List ℕ) (r : Option ℕ) → a ≡ b → IsFirstByte (is_byte a) hay r → IsFirstByte (is_byte b) hay r

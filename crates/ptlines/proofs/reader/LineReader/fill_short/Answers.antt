@@ -1,8 +1,7 @@
 -- The terminator that was found among the 64 bytes lies before the end of the buffered bytes, so it is the first one of
 -- them. The line before it is copied at once.
-use Rattle.std.proofs.lemmas.Grind.{common_steps}
 use Rattle.ptlines.proofs.Common.{◌≡◌, ◌+◌, ◌-◌, Some, subst, ◌<◌, ◌≤◌, ◌^◌, length, take, drop, ◌∙◌, ap, arith}
-use Rattle.ptlines.proofs.Common.{take-take, slice_range, IsFirst, Passes, is_byte}
+use Rattle.ptlines.proofs.Common.{take-take, slice_range, IsFirst, Passes, is_byte, common_steps}
 use Rattle.ptlines.proofs.ReadLine.{fill_short_line}
 use Rattle.ptlines.proofs.Consume.{length_range, sound_shorter}
 use Rattle.ptlines.proofs.reader.LineReader.fill_short.Goals as goal

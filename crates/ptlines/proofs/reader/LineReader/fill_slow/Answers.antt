@@ -1,10 +1,9 @@
 -- Each piece extends the line so far. A terminator completes it; at the end of input the line so far is the last line,
 -- or there is none if it is empty.
 use Rattle.ptlines.proofs.ReadLine.{line_so_far_partial, fill_line, fill_eof}
-use Rattle.ptlines.proofs.Common.{◌∙◌, ◌==◌, ap, arith, length}
+use Rattle.ptlines.proofs.Common.{◌∙◌, ◌==◌, ap, arith, length, common_steps}
 use Rattle.ptlines.proofs.LineSearch.{advance_ok_take}
 use Rattle.ptlines.proofs.reader.LineReader.fill_slow.Goals as goal
-use Rattle.std.proofs.lemmas.Grind.{common_steps}
 
 pub pieces-preserved : goal.pieces-preserved
 pieces-preserved g c = grind (arith, line_so_far_partial)

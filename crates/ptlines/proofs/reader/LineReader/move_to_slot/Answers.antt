@@ -1,5 +1,4 @@
-use Rattle.std.proofs.lemmas.Grind.{common_steps}
-use Rattle.ptlines.proofs.Common.{◌≤◌, length, ◌++◌, ◌∙◌, ap, arith, line, with_line}
+use Rattle.ptlines.proofs.Common.{◌≤◌, length, ◌++◌, ◌∙◌, ap, arith, line, with_line, common_steps}
 use Rattle.ptlines.proofs.Consume.{rest_of_range, front_of_range}
 use Rattle.ptlines.proofs.reader.LineReader.move_to_slot.Goals as goal
 

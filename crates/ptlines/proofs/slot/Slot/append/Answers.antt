@@ -1,5 +1,4 @@
-use Rattle.std.proofs.lemmas.Grind.{common_steps}
-use Rattle.ptlines.proofs.Common.{arith}
+use Rattle.ptlines.proofs.Common.{arith, common_steps}
 use Rattle.ptlines.proofs.slot.Slot.append.Goals as goal
 
 pub returns-clause-buffer : goal.returns-clause-buffer

@@ -1,11 +1,10 @@
 -- The line of one slot grows by the appended bytes, and so does the total. If memory could not be allocated, the line
 -- is as before.
-use Rattle.ptlines.proofs.Common.{◌<◌, ◌^◌, length, ◌++◌, ◌∙◌, ap, arith, length-append, length-map}
+use Rattle.ptlines.proofs.Common.{◌<◌, ◌^◌, length, ◌++◌, ◌∙◌, ap, arith, length-append, length-map, common_steps}
 use Rattle.ptlines.specs.Slots.{slot_lines}
 use Rattle.ptlines.proofs.SlotTotals.{counted_after_set, total_fits, slot_in_range, line_before, denied_line}
 use Rattle.ptlines.proofs.SlotTotals.{store_after_set, line_of}
 use Rattle.ptlines.proofs.store.Store.append.Goals as goal
-use Rattle.std.proofs.lemmas.Grind.{common_steps}
 
 pub overflow_add-self : goal.overflow_add-self
 overflow_add-self g c =

@@ -1,9 +1,8 @@
 -- The line of the slot is part of the total, so the subtraction does not underflow and leaves the new total.
-use Rattle.ptlines.proofs.Common.{length, ap, arith}
+use Rattle.ptlines.proofs.Common.{length, ap, arith, common_steps}
 use Rattle.ptlines.proofs.SlotTotals.{line_le_total, counted_after_set, store_after_set, slot_in_range, same_slot}
 use Rattle.ptlines.proofs.SlotTotals.{line_of}
 use Rattle.ptlines.proofs.store.Store.clear.Goals as goal
-use Rattle.std.proofs.lemmas.Grind.{common_steps}
 
 pub overflow_sub-self : goal.overflow_sub-self
 overflow_sub-self g c =

@@ -2,13 +2,12 @@
 -- memory could not be allocated, the slots are as after emptying.
 use Rattle.ptlines.proofs.Common.{◌≡◌, ◌≢◌, ◌<◌, ◌≤◌, ◌+◌, ◌^◌, ℕ, List, Bool, [], get_or, length, set, max, sym, ◌∙◌}
 use Rattle.ptlines.proofs.Common.{ap, subst, arith, length-set, length-map, with_items_is, Slots, LengthsAreBounded}
-use Rattle.ptlines.proofs.Common.{total_bytes}
+use Rattle.ptlines.proofs.Common.{total_bytes, common_steps}
 use Rattle.std.specs.Vec.{with_items}
 use Rattle.std.proofs.lemmas.List.{get_or-map}
 use Rattle.ptlines.specs.Slots.{SlotBuffer, slot_lines, with_line, AreBuffersBounded}
 use Rattle.ptlines.proofs.SlotTotals.{total_fits, copy_lines, copy_total, line_of, store_of}
 use Rattle.ptlines.proofs.store.Store.copy.Goals as goal
-use Rattle.std.proofs.lemmas.Grind.{common_steps}
 
 -- emptying a slot keeps the number of slots
 slots_after_clear : (slots : List SlotBuffer) (now : Slots) (to : ℕ) {peak : ℕ} {denied : Bool}

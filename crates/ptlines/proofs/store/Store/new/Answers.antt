@@ -1,5 +1,4 @@
-use Rattle.std.proofs.lemmas.Grind.{common_steps}
-use Rattle.ptlines.proofs.Common.{arith}
+use Rattle.ptlines.proofs.Common.{arith, common_steps}
 use Rattle.ptlines.proofs.store.Store.new.Goals as goal
 
 pub loop-i-preserved : goal.loop-i-preserved

@@ -1,12 +1,11 @@
 -- The line of a slot is replaced, so the total changes by the difference of the two lengths. The peak becomes the total
 -- if that is greater.
 use Rattle.ptlines.proofs.Common.{◌≡◌, ◌≤◌, ◌<◌, ◌+◌, ◌-◌, ◌^◌, ℕ, List, length, take, get_or, set, ◌∙◌, ap, arith}
-use Rattle.ptlines.proofs.Common.{length-map, length-take-le}
+use Rattle.ptlines.proofs.Common.{length-map, length-take-le, common_steps}
 use Rattle.ptlines.specs.Slots.{SlotBuffer, slot_lines, AreCounted}
 use Rattle.ptlines.proofs.SlotTotals.{line_le_total, counted_after_set, total_fits, store_after_set, slot_in_range}
 use Rattle.ptlines.proofs.SlotTotals.{same_slot, line_of}
 use Rattle.ptlines.proofs.store.Store.set_short_line.Goals as goal
-use Rattle.std.proofs.lemmas.Grind.{common_steps}
 
 -- the total after the slot was set
 put_counted : (slots : List SlotBuffer) (slot : ℕ) {byte_count before : ℕ} (had : SlotBuffer) → slot < length slots

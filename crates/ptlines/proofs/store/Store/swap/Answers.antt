@@ -1,8 +1,7 @@
 -- Exchanging two slots permutes the lines, so the total is the same.
-use Rattle.ptlines.proofs.Common.{arith}
+use Rattle.ptlines.proofs.Common.{arith, common_steps}
 use Rattle.ptlines.proofs.SlotTotals.{counted_after_swap, slot_lines-swap, slot_in_range}
 use Rattle.ptlines.proofs.store.Store.swap.Goals as goal
-use Rattle.std.proofs.lemmas.Grind.{common_steps}
 
 pub invariant_of-self : goal.invariant_of-self
 invariant_of-self g c =

@@ -1,4 +1,4 @@
-use Rattle.ptmerge.proofs.MergeLemmas.Slots.{four_cleared}
+use Rattle.ptmerge.proofs.MergeLemmas.Exits.SlotLines.{four_cleared}
 use Rattle.ptmerge.proofs.merging.four_slots.clear_four_slots.Goals as goal
 use Rattle.std.proofs.Common.{rules}
 

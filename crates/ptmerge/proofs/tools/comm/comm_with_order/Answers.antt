@@ -1,32 +1,29 @@
--- Each iteration preserves the invariant by one lemma of `Iteration`, and each exit has the postconditions by another.
+-- Each iteration preserves the invariant by one lemma of `CommLemmas`, and each exit has the postconditions by another.
 use Rattle.ptmerge.proofs
-use proofs.Common.{arith, refl, ◌∙◌, comm_job, comm_with, merge_state}
-use proofs.MergeLemmas.Exits.{IsOpenMerge}
-use proofs.MergeLemmas.Step.{advance_pre, open_merge, err_is, start_fault}
-use proofs.CommLemmas.Iteration.{alone_decreases, alone_continues, alone_fails, eof, disordered, pair_decreases}
-use proofs.CommLemmas.Iteration.{pair_continues, pair_fails, second_advance_pre, second_fails, starts}
-use Rattle.ptmerge.proofs.tools.comm.comm_with_order.Goals.{After-start}
-use Rattle.ptmerge.proofs.tools.comm.comm_with_order.Given as given
+use proofs.Common.{refl, ◌∙◌, comm_job}
+use proofs.MergeLemmas.{advance_pre, err_is, start_fault, start_ok, between_starts, reads_less}
+use proofs.CommLemmas.{alone_continues, alone_fails, eof, disordered, pair_decreases, pair_continues}
+use proofs.CommLemmas.{pair_fails, second_advance_pre, second_fails, opened}
 use Rattle.ptmerge.proofs.tools.comm.comm_with_order.Goals as goal
 
-opened : (g : given.Over) (c : After-start g) → IsOpenMerge (comm_with (comm_job c.args.job.now)
-    (g.K.KeyOrder.order c.args.order) (g.K.KeyOrder.key_of c.args.order))
-    (merge_state c.args.first.now c.args.second.now c.args.out.now c.args.store.now)
-opened g c = open_merge (record
-    { total = g.met.K.KeyOrder.total c.args.order; exact = g.met.K.KeyOrder.exact c.args.order })
-    (λ ls. (omega arith, omega arith)) c.requires.begins
-
 pub returns-in_err-merge : goal.returns-in_err-merge
-returns-in_err-merge g c = rw (err_is c.from_residual.ensures.1)
-    (start_fault (opened g (goal.at.returns-in_err-merge g c).After-start) c.in_err-merge.ensures.fails)
+returns-in_err-merge g c =
+    let w = opened (comm_job c.args.job.now) (record
+    { total = g.met.K.KeyOrder.total _; exact = g.met.K.KeyOrder.exact _ }) c.requires.begins in
+    rw (err_is c.from_residual.ensures.1) (start_fault w c.in_err-merge.ensures.fails)
 
 pub steps-init : goal.steps-init
 steps-init g c =
     let p = c.in_ok-merge.ensures in
+    let w = opened (comm_job c.args.job.now) (record
+    { total = g.met.K.KeyOrder.total _; exact = g.met.K.KeyOrder.exact _ }) c.requires.begins in
     rw p.order (record {
-      iteration = starts (comm_job c.args.job.now)
-          (opened g (goal.at.steps-init g c).After-start) c.requires.whole_line_keys p.starts
-          (rw p.order at p.valid_cursors) p.own_reader;
+      iteration = record {
+        opened = w;
+        whole_line_keys = c.requires.whole_line_keys;
+        loop_invariant = start_ok w (λ ls holds. holds) p.starts;
+        between = between_starts (rw p.order at p.valid_cursors) p.own_reader c.requires.begins.writable;
+      };
       order = refl;
     })
 
@@ -79,11 +76,14 @@ steps-preserved g c =
     })
 
 pub steps-smaller-in-Continue-branch-2 : goal.steps-smaller-in-Continue-branch-2
-steps-smaller-in-Continue-branch-2 g c = grind (arith, alone_decreases)
+steps-smaller-in-Continue-branch-2 g c =
+    let h = c.in_ok-write_head-in-First.ensures.advances in
+    reads_less c.steps.invariant.iteration.between _ h.continues c.in-First.ensures.status_is h.came
 
 pub steps-smaller-in-Continue-branch-3 : goal.steps-smaller-in-Continue-branch-3
 steps-smaller-in-Continue-branch-3 g c =
-    alone_decreases c.steps.invariant.iteration c.in-Second.ensures c.in_ok-write_head-in-Second.ensures.advances
+    let h = c.in_ok-write_head-in-Second.ensures.advances in
+    reads_less c.steps.invariant.iteration.between _ h.continues c.in-Second.ensures.status_is h.came
 
 pub steps-smaller : goal.steps-smaller
 steps-smaller g c = pair_decreases c.steps.invariant.iteration c.in-Both.ensures
@@ -119,8 +119,7 @@ returns-in_err-write_out_and_advance-in-Both g c =
 
 pub returns-in-End : goal.returns-in-End
 returns-in-End g c =
-    rw (← c.steps.invariant.order)
-    (eof c.steps.invariant.iteration c.clear_four_slots.ensures c.in-End.ensures)
+    rw (← c.steps.invariant.order) (eof c.steps.invariant.iteration c.clear_four_slots.ensures c.in-End.ensures)
 
 pub returns-in-Stop : goal.returns-in-Stop
 returns-in-Stop g c =

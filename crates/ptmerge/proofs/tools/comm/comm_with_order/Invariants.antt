@@ -2,8 +2,8 @@
 -- a line.
 use Rattle.ptmerge.proofs
 use proofs.Common.{◌≡◌, comm_job, merge_state, both}
-use proofs.CommLemmas.Iteration.{IterationInvariant}
-use proofs.MergeLemmas.Step.{reads_ahead}
+use proofs.CommLemmas.{IterationInvariant}
+use proofs.MergeLemmas.{reads_ahead}
 use Rattle.ptmerge.proofs.tools.comm.comm_with_order.Given as goal
 
 abbrev pub invariant-steps : goal.invariant-steps

@@ -1,24 +1,21 @@
 -- If the output has failed, nothing is done. Otherwise both orders have one proof, over the order that the job selects.
 use Rattle.ptmerge.proofs
-use proofs.Common.{sym, ◌∙◌, join_job, join_tool, merge_state}
-use proofs.MergeLemmas.Step.{set_is}
+use proofs.Common.{refl, sym, ◌∙◌}
 use proofs.MergeLemmas.Exits.{merge_halted, merge_set}
 use Rattle.ptmerge.proofs.tools.join.join.Goals as goal
 
 pub returns-then-has_failed : goal.returns-then-has_failed
 returns-then-has_failed g c =
-    merge_halted (join_tool (join_job c.args.job.now))
-    (merge_state c.args.first.now c.args.second.now c.args.out.now c.args.store.now)
-    c.requires.allowed (sym c.has_failed.ensures ∙ c.if-has_failed.true)
+    merge_halted c.requires.allowed (sym c.has_failed.ensures ∙ c.if-has_failed.true)
 
 pub returns-then-job : goal.returns-then-job
 returns-then-job g c =
-    merge_set (sym c.has_failed.ensures ∙ c.if-has_failed.false)
-    (set_is _ _ _ _ _ c.set_ending.ensures.set c.set_ending-2.ensures.set)
+    merge_set _ refl (sym c.has_failed.ensures ∙ c.if-has_failed.false) c.set_ending.ensures.set
+    c.set_ending-2.ensures.set
     (rw c.if-job.true c.join_with_order.ensures)
 
 pub returns : goal.returns
 returns g c =
-    merge_set (sym c.has_failed.ensures ∙ c.if-has_failed.false)
-    (set_is _ _ _ _ _ c.set_ending.ensures.set c.set_ending-2.ensures.set)
+    merge_set _ refl (sym c.has_failed.ensures ∙ c.if-has_failed.false) c.set_ending.ensures.set
+    c.set_ending-2.ensures.set
     (rw c.if-job.false c.join_with_order-2.ensures)

@@ -1,32 +1,38 @@
--- Each iteration preserves the invariant by one lemma of `Iteration`, and each exit has the
+-- Each iteration preserves the invariant by one lemma of `JoinLemmas`, and each exit has the
 -- postconditions by another.
 use Rattle.std.proofs.lemmas.Grind.{common_steps}
 use Rattle.std.proofs.Common.{rules}
 use Rattle.ptmerge.proofs
 use proofs.Common.{refl, sym, ◌∙◌, join_job, arith}
-use proofs.JoinLemmas.Iteration.{read_group_pre, read_group_fails, read_group_continues, group_closed, group_there}
-use proofs.JoinLemmas.Iteration.{write_pairs_group, write_pairs_pre, pair_fails, write_pairs_next}
-use proofs.JoinLemmas.Iteration.{write_pairs_continues, alone_continues, alone_fails, begins, end_in, eof, disordered}
-use proofs.JoinLemmas.Iteration.{measure_decreases, opened, group_opens}
-use proofs.MergeLemmas.Step.{advance_pre, err_is, start_fault}
+use proofs.JoinLemmas.{read_group_pre, read_group_fails, read_group_continues, group_closed, group_there}
+use proofs.JoinLemmas.{write_pairs_group, write_pairs_pre, pair_fails, write_pairs_next, write_pairs_continues}
+use proofs.JoinLemmas.{alone_continues, alone_fails, eof, disordered, measure_decreases, opened, group_opens}
+use proofs.MergeLemmas.{advance_pre, err_is, start_fault, start_ok, between_starts}
+use proofs.JoinLemmas.Group.{group_store_starts}
 use Rattle.ptmerge.specs.declared.key_order.Side.TheVariants as sides
 use Rattle.ptmerge.specs.declared.tools.join.JoinPhase.TheVariants as phases
 use Rattle.ptmerge.proofs.tools.join.join_with_order.Goals as goal
+use proofs.JoinLemmas.{read_group_in}
 
 pub returns-in_err-merge : goal.returns-in_err-merge
 returns-in_err-merge g c =
-    let a = opened (join_job c.args.job.now) (g.K.KeyOrder.order c.args.order) (g.K.KeyOrder.key_of c.args.order)
-    (record { total = g.met.K.KeyOrder.total c.args.order; exact = g.met.K.KeyOrder.exact c.args.order })
-    c.requires.keys c.requires.begins in
+    let a = opened (join_job c.args.job.now) (record
+    { total = g.met.K.KeyOrder.total _; exact = g.met.K.KeyOrder.exact _ }) c.requires.keys c.requires.begins in
     rw (err_is c.from_residual.ensures.1) (start_fault a.w c.in_err-merge.ensures.fails)
 
 pub steps-init : goal.steps-init
 steps-init g c =
-    let a = opened (join_job c.args.job.now) (g.K.KeyOrder.order c.args.order) (g.K.KeyOrder.key_of c.args.order)
-    (record { total = g.met.K.KeyOrder.total c.args.order; exact = g.met.K.KeyOrder.exact c.args.order })
-    c.requires.keys c.requires.begins in
+    let a = opened (join_job c.args.job.now) (record
+    { total = g.met.K.KeyOrder.total _; exact = g.met.K.KeyOrder.exact _ }) c.requires.keys c.requires.begins in
     let e = c.in_ok-merge.ensures in
-    rw e.order (record { iteration = begins a e.starts (rw e.order at e.valid_cursors) e.own_reader; order = refl })
+    rw e.order (record {
+      iteration = record {
+        opened = a;
+        phased = (start_ok a.w (λ ls. group_store_starts) e.starts, refl);
+        between = between_starts (rw e.order at e.valid_cursors) e.own_reader c.requires.begins.writable;
+      };
+      order = refl;
+    })
 
 pub write_unpaired-requires-clause-status_is : goal.write_unpaired-requires-clause-status_is
 write_unpaired-requires-clause-status_is g c =
@@ -85,17 +91,15 @@ steps-preserved-in-Both g c = record {
 pub returns-in-End : goal.returns-in-End
 returns-in-End g c =
     let i = c.steps.invariant in
-    rw (← i.order)
-    (eof i.iteration c.in-BetweenGroups.is c.clear_four_slots.ensures c.in-End.ensures)
+    rw (← i.order) (eof i.iteration c.in-BetweenGroups.is c.clear_four_slots.ensures c.in-End.ensures)
 
 pub returns-in-Stop : goal.returns-in-Stop
 returns-in-Stop g c =
     let i = c.steps.invariant in
-    rw (← i.order)
-    (disordered i.iteration c.in-BetweenGroups.is c.clear_four_slots-in-Stop.ensures c.in-Stop.ensures)
+    rw (← i.order) (disordered i.iteration c.in-BetweenGroups.is c.clear_four_slots-in-Stop.ensures c.in-Stop.ensures)
 
 pub read_group_line-requires-clause-group : goal.read_group_line-requires-clause-group
-read_group_line-requires-clause-group g c = end_in c.steps.invariant.iteration
+read_group_line-requires-clause-group g c = read_group_in c.steps.invariant.iteration c.in-ReadGroup.is
 
 pub read_group_line-requires-clause-status_is : goal.read_group_line-requires-clause-status_is
 read_group_line-requires-clause-status_is g c = read_group_pre c.steps.invariant.iteration c.in-ReadGroup.is

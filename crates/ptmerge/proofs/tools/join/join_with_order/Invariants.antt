@@ -3,8 +3,8 @@
 -- iteration processes a line, or moves on to the next phase of the group.
 use Rattle.ptmerge.proofs
 use proofs.Common.{◌≡◌, ◌+◌, ◌*◌, join_job, merge_state, both}
-use proofs.JoinLemmas.Iteration.{IterationInvariant, rank}
-use proofs.MergeLemmas.Step.{reads_ahead}
+use proofs.JoinLemmas.{IterationInvariant, rank}
+use proofs.MergeLemmas.{reads_ahead}
 use Rattle.ptmerge.proofs.tools.join.join_with_order.Given as goal
 
 abbrev pub invariant-steps : goal.invariant-steps

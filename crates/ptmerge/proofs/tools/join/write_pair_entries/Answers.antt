@@ -2,8 +2,8 @@
 use Rattle.std.proofs.Common.{rules}
 use Rattle.ptmerge.proofs
 use proofs.Common.{◌++◌, [], ◌∷◌, List, ℕ, ap, arith, sym, map, join_job}
-use proofs.JoinLemmas.PartialWrite.{each_done, each_fails, each_more}
-use proofs.JoinLemmas.GroupSlots.{pair_of, group_from, group_end}
+use proofs.JoinLemmas.Fields.{each_fails, each_more}
+use proofs.JoinLemmas.Group.{pair_of, group_from, group_end}
 use Rattle.ptmerge.proofs.tools.join.write_pair_entries.Goals as goal
 
 pub returns-in_err-write_entry : goal.returns-in_err-write_entry
@@ -26,4 +26,4 @@ loop-slot-preserved g c = record {
 }
 
 pub returns : goal.returns
-returns g c = search (rules, each_done, group_end)
+returns g c = search (rules, group_end)

@@ -1,8 +1,8 @@
 -- The pairs with the group's lines so far were written; those with the others are still to be written.
 use Rattle.ptmerge.proofs
 use proofs.Common.{◌≤◌, [], ◌∷◌, map, join_job, unlines, group, pair_entries}
-use proofs.JoinLemmas.PartialWrite.{PartialWrite}
-use proofs.JoinLemmas.GroupSlots.{pair_of}
+use proofs.JoinLemmas.Fields.{PartialWrite}
+use proofs.JoinLemmas.Group.{pair_of}
 use Rattle.ptmerge.proofs.tools.join.write_pair_entries.Given as goal
 
 abbrev pub invariant-loop-slot : goal.invariant-loop-slot

@@ -1,4 +1,4 @@
-use Rattle.ptmerge.proofs.MergeLemmas.Step.{wrote_and_sent}
+use Rattle.ptmerge.proofs.MergeLemmas.{wrote_and_sent}
 use Rattle.ptmerge.proofs.tools.join.write_unpaired.Goals as goal
 
 pub returns-clause-wrote : goal.returns-clause-wrote

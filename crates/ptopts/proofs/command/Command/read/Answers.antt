@@ -1,7 +1,7 @@
 -- Each step of the code is one step of `command_of_args`: the tool, the parse, the constraints, and `checked_command`
 -- for the rest. A step that fails returns the first fault.
 use Rattle.ptopts.proofs
-use proofs.Common.{err_from_is_err_and, arith}
+use proofs.Common.{arith, err_from_is_err_and}
 use proofs.CheckedCommand.{meaning_read, meaning_refused}
 use Rattle.ptopts.proofs.command.Command.read.Goals as goal
 

@@ -1,12 +1,12 @@
 -- At most one of the three lists is present, and it is the list of the job. If its allocation fails, the lists read
 -- before it have no fault, and those after it are absent.
 use Rattle.ptopts.proofs
-use proofs.Common.{false, ◌∙◌, ◌≡◌, sym, refl, ap, ℕ, Bool, Err, selected_set, options_view, fault_view}
-use proofs.Common.{err_from_is_err_and}
-use Rattle.ptopts.specs.declared.fault.UseFault.TheVariants.{Memory}
-use Rattle.ptlangs.specs.CutLists.{is_selected}
-use proofs.FirstOption.{first_chosen}
+use proofs.Common.{Bool, Err, ap, err_from_is_err_and, false, fault_view, options_view, refl, selected_set, sym, ℕ, ◌∙◌}
+use proofs.Common.{◌≡◌}
 use proofs.CutOptions.{no_fault_beside_b, no_fault_beside_c}
+use proofs.FirstOption.{first_chosen}
+use Rattle.ptlangs.specs.CutLists.{is_selected}
+use Rattle.ptopts.specs.declared.fault.UseFault.TheVariants.{Memory}
 use Rattle.ptopts.proofs.command.cut.cut_job.Goals as goal
 
 pub returns-clause-job : goal.returns-clause-job

@@ -1,5 +1,4 @@
-use Rattle.std.proofs.lemmas.Grind.{common_steps}
-use Rattle.ptopts.proofs.Common.{arith}
+use Rattle.ptopts.proofs.Common.{arith, common_steps}
 use Rattle.ptopts.proofs.command.join.selected_files.Goals as goal
 
 pub returns-in-Some-clause-fault : goal.returns-in-Some-clause-fault

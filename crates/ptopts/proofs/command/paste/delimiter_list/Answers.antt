@@ -1,12 +1,13 @@
 -- A fault of `Delims::read` becomes the fault of the option, by cases on the three faults of a list and on the
 -- definition.
-use Rattle.ptopts.proofs.Common.{◌≡◌, ℕ, ◌∙◌, List, Option, Some, None, Result, Ok, Err, Bool, true, false, cond, refl}
-use Rattle.ptopts.proofs.Common.{sym, ap, option_map, Bor, is_ok, result_err, fault_view}
-use Rattle.ptlangs.specs.declared.delims.DelimFault.{DelimFault}
-use Rattle.ptlangs.specs.declared.delims.DelimFault.TheVariants.{Empty, Escape, Memory}
-use Rattle.ptlangs.specs.DelimLists.{delim_list_fault, delim_list}
-use denote.Enum.Bare.{sameb}
+use Rattle.ptopts.proofs
+use proofs.Common.{Bool, Bor, Err, List, None, Ok, Option, Result, Some, ap, cond, false, fault_view, is_ok, option_map}
+use proofs.Common.{refl, result_err, sym, true, ℕ, ◌∙◌, ◌≡◌}
+use Rattle.ptlangs.specs.DelimLists.{delim_list, delim_list_fault}
 use Rattle.ptlangs.specs.contracts.delims.DelimFault.{the_type}
+use Rattle.ptlangs.specs.declared.delims.DelimFault.TheVariants.{Empty, Escape, Memory}
+use Rattle.ptlangs.specs.declared.delims.DelimFault.{DelimFault}
+use denote.Enum.Bare.{sameb}
 use Rattle.ptopts.specs.declared.fault.UseFault.TheVariants as fault
 use Rattle.ptopts.specs.Faults as faults
 use Rattle.ptopts.proofs.command.paste.delimiter_list.Goals as goal

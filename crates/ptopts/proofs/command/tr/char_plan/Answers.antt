@@ -1,14 +1,13 @@
 -- The operands are the strings: `CharPlan::read` gives the plan, or the fault, that the definition gives for the
 -- operands.
 use Rattle.ptopts.proofs
-use proofs.Common.{◌≡◌, ℕ, List, [], ◌∷◌, Some, None, Result, Ok, Err, refl, slice_index_or, Bor, result_err}
-use proofs.Common.{result_unwrap_or, err_from_is_err_and, identity_plan, words_view}
-use Rattle.std.proofs.Common.{arith}
-use Rattle.std.proofs.Math.ListN.{get_or}
-use Rattle.ptlangs.specs.declared.faults.SetFault.{SetFault}
+use proofs.Common.{Bor, Err, List, None, Ok, Result, Some, [], arith, err_from_is_err_and, identity_plan, refl}
+use proofs.Common.{result_err, result_unwrap_or, slice_index_or, words_view, ℕ, ◌∷◌, ◌≡◌}
+use Rattle.ptlangs.specs.TrParsing.{ok_map}
 use Rattle.ptlangs.specs.TrPlan.{Plan}
 use Rattle.ptlangs.specs.TrTables.{Tables, tables}
-use Rattle.ptlangs.specs.TrParsing.{ok_map}
+use Rattle.ptlangs.specs.declared.faults.SetFault.{SetFault}
+use Rattle.std.proofs.Math.ListN.{get_or}
 use Rattle.ptopts.proofs.command.tr.char_plan.Goals as goal
 
 first_word : (words : List (Bor (List ℕ))) (d : Bor (List ℕ)) → d.now ≡ []

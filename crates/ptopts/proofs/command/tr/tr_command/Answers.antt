@@ -1,5 +1,6 @@
-use Rattle.ptopts.proofs.Common.{refl, ap, sym, Tr, RunTr, words_view, options_view}
-use Rattle.ptopts.proofs.CheckedCommand.{checked_command_ok}
+use Rattle.ptopts.proofs
+use proofs.Common.{RunTr, Tr, ap, options_view, refl, sym, words_view}
+use proofs.CheckedCommand.{checked_command_ok}
 use Rattle.ptopts.proofs.command.tr.tr_command.Goals as goal
 
 pub returns : goal.returns

@@ -1,19 +1,13 @@
 -- Two readers are lent from one list, split at the higher position. Either position may be the lower one, and both
 -- cases are the same merge.
-use Rattle.ptrun.proofs.Common.{◌≡◌, ℕ, ◌<◌, ◌≤◌, length, sym, arith}
-use borrow.Author.Rules.{scaled_Fits}
+use Rattle.ptrun.proofs
+use proofs.Common.{arith, length, scaled_Fits, sym, ℕ, ◌<◌, ◌≡◌, ◌≤◌}
+use proofs.JointRuns.{split_readers, were}
 use Rattle.ptrun.proofs.merge.MergeJob.merge_at.Goals as goal
-use Rattle.ptrun.proofs.TwoInputRuns.{were, split_readers}
 
 -- the other position is the lower one
 below : (first second : ℕ) → second ≤ first → (first ≡ second → ⊥) → second < first
 below first second not_higher apart = omega (arith, not_higher, apart)
-
-pub merge-requires : goal.merge-requires
-merge-requires g c = grind (arith, were)
-
-pub merge-requires-else-first-second : goal.merge-requires-else-first-second
-merge-requires-else-first-second g c = grind (arith, were)
 
 pub returns-then-first-second : goal.returns-then-first-second
 returns-then-first-second g c =

@@ -1,13 +1,8 @@
-use Rattle.std.proofs.lemmas.Grind.{common_steps}
-use Rattle.ptrun.proofs.Common.{arith}
-use borrow.Author.Rules.{scaled_Fits}
+use Rattle.ptrun.proofs.Common.{arith, common_steps, scaled_Fits}
 use Rattle.ptrun.proofs.tools.CharPlanTool.run_on.Goals as goal
 
 pub returns : goal.returns
 returns g c = grind (arith, common_steps)
 
-pub tr-requires : goal.tr-requires
-tr-requires g c = grind (arith, common_steps)
-
 pub offset_bounds-inputs-position : goal.offset_bounds-inputs-position
-offset_bounds-inputs-position g c = let low = c.requires.within in search scaled_Fits
+offset_bounds-inputs-position g c = let low = c.requires.ready.within in search scaled_Fits

@@ -1,14 +1,9 @@
-use Rattle.std.proofs.lemmas.Grind.{common_steps}
-use Rattle.ptrun.proofs.Common.{arith}
-use borrow.Author.Rules.{scaled_Fits}
+use Rattle.ptrun.proofs.Common.{scaled_Fits}
 use Rattle.ptrun.proofs.ToolRuns.{operand_passed}
 use Rattle.ptrun.proofs.tools.CutJobTool.run_on.Goals as goal
 
 pub returns : goal.returns
-returns g c = operand_passed c.requires c.index-inputs-position.result c.cut.ensures c.completion_at.ensures
-
-pub cut-requires : goal.cut-requires
-cut-requires g c = grind (arith, common_steps)
+returns g c = operand_passed c.requires.ready c.index-inputs-position.result c.cut.ensures c.completion_at.ensures
 
 pub offset_bounds-inputs-position : goal.offset_bounds-inputs-position
-offset_bounds-inputs-position g c = let low = c.requires.within in search scaled_Fits
+offset_bounds-inputs-position g c = let low = c.requires.ready.within in search scaled_Fits

@@ -1,26 +1,25 @@
 -- `uniq` accepts one operand only, so its pass over the reader of this operand is the pass over all operands.
-use Rattle.std.proofs.lemmas.Grind.{common_steps}
-use Rattle.ptrun.proofs.Common.{arith}
-use Rattle.ptrun.proofs.OneOperand.{only_operand_within, only_operand_ready, only_operand_post}
-use borrow.Author.Rules.{scaled_Fits}
+use Rattle.ptrun.proofs
+use proofs.Common.{arith, common_steps, scaled_Fits}
+use proofs.JointRuns.{only_operand_post, only_operand_ready, only_operand_within}
 use Rattle.ptrun.proofs.tools.UniqJobTool.run_on.Goals as goal
 
 pub bounds-inputs-position : goal.bounds-inputs-position
-bounds-inputs-position g c = only_operand_within c.requires c.requires.accepts_operands 0
+bounds-inputs-position g c = only_operand_within c.requires.ready c.requires.ready.accepts_operands 0
 
 pub offset_bounds-inputs-position : goal.offset_bounds-inputs-position
 offset_bounds-inputs-position g c =
-    let low = only_operand_within c.requires c.requires.accepts_operands 0 in
+    let low = only_operand_within c.requires.ready c.requires.ready.accepts_operands 0 in
     search scaled_Fits
 
 pub uniq-requires : goal.uniq-requires
 uniq-requires g c =
-    only_operand_ready c.requires c.requires.accepts_operands 0 c.index-inputs-position.result
+    only_operand_ready c.requires.ready c.requires.ready.accepts_operands 0 c.index-inputs-position.result
 
 pub returns : goal.returns
 returns g c =
     rw c.completion_at.ensures
-    (only_operand_post c.requires c.requires.accepts_operands 0 c.index-inputs-position.result c.uniq.ensures)
+    (only_operand_post c.requires.ready c.requires.ready.accepts_operands 0 c.index-inputs-position.result c.uniq.ensures)
 
 pub bounds-operands-0 : goal.bounds-operands-0
 bounds-operands-0 g c = grind (arith, common_steps)

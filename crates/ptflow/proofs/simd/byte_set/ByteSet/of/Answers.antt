@@ -1,8 +1,9 @@
 -- Each iteration sets one bit in each table, that of a byte below 128 and of the byte 128 after it.
-use Rattle.ptflow.proofs.Common.{false, sym, ap, ◌∙◌, length-set, arith, from_bool}
+use Rattle.ptflow.proofs
+use proofs.Common.{false, sym, ap, ◌∙◌, length-set, arith, from_bool}
 use Rattle.std.proofs.lemmas.List.{get_or-drop}
-use Rattle.ptflow.proofs.Vectors.ByteSets.{set_of_nibbles, one_more_flag}
-use Rattle.ptflow.proofs.simd.byte_set.ByteSet.of.Goals as goal
+use proofs.Vectors.Lanes.{set_of_nibbles, one_more_flag}
+use proofs.simd.byte_set.ByteSet.of.Goals as goal
 
 pub loop-byte-preserved : goal.loop-byte-preserved
 loop-byte-preserved c = record {

@@ -1,6 +1,7 @@
 -- The tables have the flags of the bytes so far, and no others.
-use Rattle.ptflow.proofs.Common.{◌≡◌, ℕ, ◌<◌, ◌&&◌, false, length, drop, ltb, get_or, table_has}
-use Rattle.ptflow.proofs.simd.byte_set.ByteSet.of.Given as goal
+use Rattle.ptflow.proofs
+use proofs.Common.{◌≡◌, ℕ, ◌<◌, ◌&&◌, false, length, drop, ltb, get_or, table_has}
+use proofs.simd.byte_set.ByteSet.of.Given as goal
 
 abbrev pub invariant-loop-byte : goal.invariant-loop-byte
 invariant-loop-byte l = record {

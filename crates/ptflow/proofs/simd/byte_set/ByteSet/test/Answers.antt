@@ -1,5 +1,6 @@
-use Rattle.ptflow.proofs.Vectors.ByteSets.{tested}
-use Rattle.ptflow.proofs.simd.byte_set.ByteSet.test.Goals as goal
+use Rattle.ptflow.proofs
+use proofs.Vectors.Lanes.{tested}
+use proofs.simd.byte_set.ByteSet.test.Goals as goal
 
 pub returns : goal.returns
 returns c = let (long, fits) = c.fits-v in

@@ -1,6 +1,7 @@
-use Rattle.ptflow.proofs.Common.{[], refl, mask_l}
-use Rattle.ptflow.proofs.Vectors.Compress.{mask_below}
-use Rattle.ptflow.proofs.simd.compress.CompressTable.new.Goals as goal
+use Rattle.ptflow.proofs
+use proofs.Common.{[], refl, mask_l}
+use proofs.Vectors.Compress.{mask_below}
+use proofs.simd.compress.CompressTable.new.Goals as goal
 
 pub invariant_of-result : goal.invariant_of-result
 invariant_of-result c = record {

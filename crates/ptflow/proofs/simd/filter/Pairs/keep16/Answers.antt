@@ -1,6 +1,7 @@
-use Rattle.ptflow.proofs.Common.{set_has, arith}
-use Rattle.ptflow.proofs.Vectors.Filter.{keep_mask, removed_small}
-use Rattle.ptflow.proofs.simd.filter.Pairs.keep16.Goals as goal
+use Rattle.ptflow.proofs
+use proofs.Common.{set_has, arith}
+use proofs.Vectors.Compress.{keep_mask, removed_small}
+use proofs.simd.filter.Pairs.keep16.Goals as goal
 
 pub overflow_sub-result : goal.overflow_sub-result
 overflow_sub-result c =

@@ -1,6 +1,7 @@
-use Rattle.ptflow.proofs.Common.{chunk, eqb, arith, mask_l-mod, tops_compared, w8, zip2}
-use Rattle.ptflow.proofs.Vectors.Filter.{pairs_long}
-use Rattle.ptflow.proofs.simd.filter.Pairs.same16.Goals as goal
+use Rattle.ptflow.proofs
+use proofs.Common.{chunk, eqb, arith, mask_l-mod, tops_compared, w8, zip2}
+use proofs.Vectors.Compress.{pairs_long}
+use proofs.simd.filter.Pairs.same16.Goals as goal
 
 pub returns : goal.returns
 returns c =

@@ -1,5 +1,6 @@
-use Rattle.ptflow.proofs.Common.{◌%◌, [], ◌∷◌, length, ap, arith, mod-lt, mod-eq_of_lt}
-use Rattle.ptflow.proofs.simd.replace.Cycle.new.Goals as goal
+use Rattle.ptflow.proofs
+use proofs.Common.{◌%◌, [], ◌∷◌, length, ap, arith, mod-lt, mod-eq_of_lt}
+use proofs.simd.replace.Cycle.new.Goals as goal
 
 pub invariant_of-result : goal.invariant_of-result
 invariant_of-result c =

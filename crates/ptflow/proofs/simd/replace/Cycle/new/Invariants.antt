@@ -1,6 +1,7 @@
 -- The first entries of the unrolled cycle are set.
-use Rattle.ptflow.proofs.Common.{◌≡◌, ◌<◌, ◌%◌, ℕ, length, slice_index_or}
-use Rattle.ptflow.proofs.simd.replace.Cycle.new.Given as goal
+use Rattle.ptflow.proofs
+use proofs.Common.{◌≡◌, ◌<◌, ◌%◌, ℕ, length, slice_index_or}
+use proofs.simd.replace.Cycle.new.Given as goal
 
 abbrev pub invariant-loop-number : goal.invariant-loop-number
 invariant-loop-number l = record {

@@ -3,8 +3,9 @@ use Rattle.ptflow.proofs
 use proofs.Common.{◌≡◌, ◌+◌, ◌%◌, ◌<◌, ℕ, [], ◌∷◌, refl, sym, ap, arith, length, length-set, slice_index_or, mod-lt}
 use proofs.Common.{mod-eq_of_lt, count_by, is_byte, take, ◌∙◌}
 use proofs.PasteLemmas.Replaced.{replaced_by_map, replaced_terminator, replaced_other}
-use Rattle.ptflow.proofs.simd.replace.Cycle.replace.Goals.{then-from-at, else-from-at}
-use Rattle.ptflow.proofs.simd.replace.Cycle.replace.Goals as goal
+use proofs.simd.replace.Cycle.replace
+use replace.Goals as goal
+use replace.Goals.{then-from-at, else-from-at}
 
 pub returns-then-self-eq1-clause-replaced : goal.returns-then-self-eq1-clause-replaced
 returns-then-self-eq1-clause-replaced c =

@@ -1,5 +1,6 @@
-use Rattle.ptflow.proofs.Common.{◌-◌, length, IsReplacedTo}
-use Rattle.ptflow.proofs.simd.replace.Cycle.replace.Given as goal
+use Rattle.ptflow.proofs
+use proofs.Common.{◌-◌, length, IsReplacedTo}
+use proofs.simd.replace.Cycle.replace.Given as goal
 
 abbrev pub invariant-loop-at : goal.invariant-loop-at
 invariant-loop-at l = IsReplacedTo l.self l.fn.index l.index l.at l.from l.to

@@ -4,7 +4,7 @@ use Rattle.ptflow.proofs
 use proofs.Common.{◌≡◌, ◌+◌, ◌<◌, arith, count_ones, chunk, count_by, count_by-le-length, length-chunk, ones-mask_l}
 use proofs.Common.{is_byte, refl}
 use proofs.PasteLemmas.Replaced.{replace_starts, end_within, replace_next, replace_end}
-use Rattle.ptflow.proofs.simd.replace.Cycle.replace_chunk.Goals as goal
+use proofs.simd.replace.Cycle.replace_chunk.Goals as goal
 
 pub loop-after-init : goal.loop-after-init
 loop-after-init c = replace_starts c.requires.room c.requires.same c.match_mask-mask.ensures

@@ -1,6 +1,7 @@
+use Rattle.ptflow.proofs
 use Rattle.std.proofs.Common.{arith}
-use Rattle.ptflow.proofs.PasteLemmas.Replaced.{replaced_more}
-use Rattle.ptflow.proofs.simd.replace.Cycle.replace_chunks.Goals as goal
+use proofs.PasteLemmas.Replaced.{replaced_more}
+use proofs.simd.replace.Cycle.replace_chunks.Goals as goal
 
 pub loop-at-preserved : goal.loop-at-preserved
 loop-at-preserved c =

@@ -1,6 +1,7 @@
-use Rattle.ptflow.proofs.Common.{sym, eqb, splat_is_map}
-use Rattle.ptflow.proofs.Vectors.Lanes.{sel_maps, mask_right, map-id}
-use Rattle.ptflow.proofs.simd.replace.ReplaceTerminatorByteMap.map16.Goals as goal
+use Rattle.ptflow.proofs
+use proofs.Common.{sym, eqb, splat_is_map}
+use proofs.Vectors.Lanes.{sel_maps, mask_right, map-id}
+use proofs.simd.replace.ReplaceTerminatorByteMap.map16.Goals as goal
 
 pub returns : goal.returns
 returns c =

@@ -1,7 +1,8 @@
+use Rattle.ptflow.proofs
 use Rattle.std.proofs.Common.{ℕ, ◌+◌, ◌-◌, ◌%◌, nat_le}
 use Rattle.std.proofs.lemmas.Simd.{splat_is_map, zip2_splat}
-use Rattle.ptflow.proofs.Vectors.Lanes.{sel_maps, tests_are}
-use Rattle.ptflow.proofs.simd.shift.ShiftRange.deltas16.Goals as goal
+use proofs.Vectors.Lanes.{sel_maps, tests_are}
+use proofs.simd.shift.ShiftRange.deltas16.Goals as goal
 
 pub returns : goal.returns
 returns c =

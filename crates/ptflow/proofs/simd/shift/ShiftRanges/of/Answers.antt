@@ -1,6 +1,7 @@
-use Rattle.ptflow.proofs.Common.{◌≡◌, ◌+◌, ◌%◌, length-set, take, take_all, arith, ap, ◌∙◌, stretch_delta}
-use Rattle.ptflow.proofs.Vectors.Lanes.{one_stretch_more}
-use Rattle.ptflow.proofs.simd.shift.ShiftRanges.of.Goals as goal
+use Rattle.ptflow.proofs
+use proofs.Common.{◌≡◌, ◌+◌, ◌%◌, length-set, take, take_all, arith, ap, ◌∙◌, stretch_delta}
+use proofs.Vectors.Lanes.{one_stretch_more}
+use proofs.simd.shift.ShiftRanges.of.Goals as goal
 
 pub loop-index-preserved : goal.loop-index-preserved
 loop-index-preserved g c =

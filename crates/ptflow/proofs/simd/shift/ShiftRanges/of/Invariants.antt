@@ -1,7 +1,8 @@
 -- The ranges so far add to each byte what their stretches add; past the last stretch a range adds nothing.
-use Rattle.ptflow.proofs.Common.{◌≡◌, ◌<◌, ℕ, length, take}
-use Rattle.ptflow.proofs.Vectors.Lanes.{range_sum, stretch_sum}
-use Rattle.ptflow.proofs.simd.shift.ShiftRanges.of.Given as goal
+use Rattle.ptflow.proofs
+use proofs.Common.{◌≡◌, ◌<◌, ℕ, length, take}
+use proofs.Vectors.Lanes.{range_sum, stretch_sum}
+use proofs.simd.shift.ShiftRanges.of.Given as goal
 
 abbrev pub invariant-loop-index : goal.invariant-loop-index
 invariant-loop-index g l = record {

@@ -1,6 +1,7 @@
-use Rattle.ptflow.proofs.Common.{arith}
-use Rattle.ptflow.proofs.Vectors.Lanes.{one_range_more}
-use Rattle.ptflow.proofs.simd.shift.ShiftRangesByteMap.map16.Goals as goal
+use Rattle.ptflow.proofs
+use proofs.Common.{arith}
+use proofs.Vectors.Lanes.{one_range_more}
+use proofs.simd.shift.ShiftRangesByteMap.map16.Goals as goal
 
 pub loop-index-preserved : goal.loop-index-preserved
 loop-index-preserved g c =

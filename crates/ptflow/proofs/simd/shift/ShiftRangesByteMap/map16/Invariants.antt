@@ -1,6 +1,7 @@
 -- The shifts of the ranges so far were added.
-use Rattle.ptflow.proofs.Common.{◌≡◌, map, take, shift_by_ranges}
-use Rattle.ptflow.proofs.simd.shift.ShiftRangesByteMap.map16.Given as goal
+use Rattle.ptflow.proofs
+use proofs.Common.{◌≡◌, map, take, shift_by_ranges}
+use proofs.simd.shift.ShiftRangesByteMap.map16.Given as goal
 
 abbrev pub invariant-loop-index : goal.invariant-loop-index
 invariant-loop-index g l = l.images ≡ map (shift_by_ranges (take l.index l.self.ranges)) l.v

@@ -1,6 +1,7 @@
-use Rattle.ptflow.proofs.Common.{◌*◌, ◌+◌, ⊎_elim, arith, inl, inr, length-chunk, refl}
-use Rattle.ptflow.proofs.Vectors.Tables.{filled_next, image_is}
-use Rattle.ptflow.proofs.simd.table.MovedRange.map.Goals as goal
+use Rattle.ptflow.proofs
+use proofs.Common.{◌*◌, ◌+◌, ⊎_elim, arith, inl, inr, length-chunk, refl}
+use proofs.Vectors.Lanes.{filled_next, image_is}
+use proofs.simd.table.MovedRange.map.Goals as goal
 
 pub loop-row-preserved : goal.loop-row-preserved
 loop-row-preserved g c = filled_next c.loop-row.invariant (omega arith) refl

@@ -1,7 +1,8 @@
 -- The rows so far were taken from the table.
-use Rattle.ptflow.proofs.Common.{◌*◌, ◌+◌, chunk}
-use Rattle.ptflow.proofs.Vectors.Tables.{IsFilledTo}
-use Rattle.ptflow.proofs.simd.table.MovedRange.map.Given as goal
+use Rattle.ptflow.proofs
+use proofs.Common.{◌*◌, ◌+◌, chunk}
+use proofs.Vectors.Lanes.{IsFilledTo}
+use proofs.simd.table.MovedRange.map.Given as goal
 
 abbrev pub invariant-loop-row : goal.invariant-loop-row
 invariant-loop-row g l = IsFilledTo g.row.N (λ i. chunk (l.first + 16 * i) 16 l.images) l.row l.rows

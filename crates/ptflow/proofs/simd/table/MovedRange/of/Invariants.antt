@@ -1,6 +1,7 @@
 -- Each byte so far that is not in the range is its own image.
-use Rattle.ptflow.proofs.Common.{◌≡◌, ◌<◌, ℕ, ◌⊎◌, slice_index}
-use Rattle.ptflow.proofs.simd.table.MovedRange.of.Given as goal
+use Rattle.ptflow.proofs
+use proofs.Common.{◌≡◌, ◌<◌, ℕ, ◌⊎◌, slice_index}
+use proofs.simd.table.MovedRange.of.Given as goal
 
 abbrev pub invariant-loop-byte : goal.invariant-loop-byte
 invariant-loop-byte l = record {

@@ -1,8 +1,7 @@
 use Rattle.ptflow.proofs
 use proofs.Common.{◌/◌, ◌^◌, ◌+◌, ◌-◌, ◌%◌, ltb, zip2_of_maps, zip2_splat, splat_is_map}
-use proofs.Vectors.Lanes.{tests_are}
-use proofs.Vectors.Tables.{images_of, offset}
-use Rattle.ptflow.proofs.simd.table.TableMapByteMap.map16.Goals as goal
+use proofs.Vectors.Lanes.{tests_are, images_of, offset}
+use proofs.simd.table.TableMapByteMap.map16.Goals as goal
 
 pub returns : goal.returns
 returns g c =

@@ -1,21 +1,20 @@
 -- Each iteration copies the next slice. The copied bytes are not longer than the line, so there is room for the rest.
 use Rattle.ptflow.proofs
-use proofs.Common.{◌≡◌, ◌+◌, ◌-◌, ◌≤◌, ◌++◌, length, take, drop, refl, ap, arith, append_assoc, length-take-le}
+use proofs.Common.{◌≡◌, ◌+◌, ◌-◌, ◌≤◌, ◌++◌, length, take, drop, refl, ◌∙◌, ap, arith, append_assoc, length-take-le}
 use proofs.Common.{length-drop, is_selected, cut_job, cut_fields, output_from_cursor}
-use proofs.CutLemmas.FieldLoop.{cursor_starts, selected_remaining, output_is_short, output_is_near}
-use proofs.CutLemmas.FieldOffsets.{slice_of}
+use proofs.CutLemmas.Fields.{cursor_starts, selected_remaining, output_is_short, output_is_near, slice_of}
 use Rattle.ptflow.proofs.tools.cut.fields.copy_fields.Given as given
 use Rattle.ptflow.proofs.tools.cut.fields.copy_fields.Goals as goal
 use Rattle.ptflow.proofs.tools.cut.fields.copy_fields.Goals.{In-Some}
 
 pub slices-init : goal.slices-init
 slices-init g c =
-    let list = c.intervals-selected.result.now in
     let line = take c.args.to c.args.delimiters.now.bytes.now in
-    let kept = ap is_selected c.intervals-selected.ensures.kept in record {
+    let of = c.new-cursor.ensures in
+    let kept = ap is_selected (of.left ∙ c.intervals.ensures.kept) in record {
       copied = ap (◌++◌ (take c.args.start c.args.room.now))
-          (selected_remaining (cut_job c.args.job.now) list line c.requires.delimiter kept);
-      cursor = cursor_starts _ line c.intervals-selected.ensures.separated;
+          (selected_remaining c.new-cursor.result of.passed (cut_job c.args.job.now) line c.requires.delimiter kept);
+      cursor = cursor_starts c.new-cursor.result of.passed _ line of.at (rw of.left c.intervals.ensures.separated);
       low = omega arith;
       high = omega arith;
       long = refl;
@@ -23,18 +22,18 @@ slices-init g c =
 
 -- the next slice ends within the room for the line
 slice_near : (g : given.Over) (c : In-Some g)
-    → c.slices.end + (c.in-Some.slice.end - c.in-Some.slice.start) ≤ c.args.start + c.args.to
+    → c.slices.end + (c.in-Some.last - c.in-Some.first) ≤ c.args.start + c.args.to
 slice_near g c =
     let job = cut_job c.args.job.now in
     let line = take c.args.to c.args.delimiters.now.bytes.now in
-    let slice = c.in-Some.slice in
+    let first = c.in-Some.first in
     let next = c.in-Some.ensures in
     let loop = c.slices in
-    let part = take (slice.end - slice.start) (drop slice.start line) in
+    let part = take (c.in-Some.last - first) (drop first line) in
     let long : length line ≡ c.args.to = length-take-le c.args.to c.args.delimiters.now.bytes.now (omega arith) in
-    let size : length part ≡ slice.end - slice.start = length-take-le (slice.end - slice.start) (drop slice.start line)
-    (omega (arith, length-drop slice.start line)) in
-    let rest = output_from_cursor c.args.delimiters.now.byte c.intervals-selected.result.now line slice.next in
+    let size : length part ≡ c.in-Some.last - first = length-take-le (c.in-Some.last - first) (drop first line)
+    (omega (arith, length-drop first line)) in
+    let rest = output_from_cursor c.args.delimiters.now.byte line c.next_slice.new.self in
     let near = output_is_near c.args.start loop.end c.args.room.now loop.room (cut_fields job line) part rest
     (cc (loop.invariant.copied, next.output)) (omega arith) (omega arith) in
     omega (arith, long, size, near, output_is_short job line)
@@ -43,21 +42,20 @@ pub slices-preserved : goal.slices-preserved
 slices-preserved g c =
     let to = c.args.to in
     let bytes = c.args.delimiters.now.bytes.now in
-    let slice = c.in-Some.slice in
+    let first = c.in-Some.first in
     let next = c.in-Some.ensures in
     let loop = c.slices in
-    let size = slice.end - slice.start in
+    let size = c.in-Some.last - first in
     let long : length (take to bytes) ≡ to = length-take-le to bytes (omega arith) in
-    let within : slice.start + size ≤ to = omega (arith, long) in
-    let rest = output_from_cursor c.args.delimiters.now.byte c.intervals-selected.result.now (take to bytes) slice.next
-    in
+    let within : first + size ≤ to = omega (arith, long) in
+    let rest = output_from_cursor c.args.delimiters.now.byte (take to bytes) c.next_slice.new.self in
     record {
       copied =
           cc (
-            slice_of slice.start size bytes within,
-            append_assoc (take loop.end loop.room) (take size (drop slice.start bytes)) rest,
+            slice_of first size bytes within,
+            append_assoc (take loop.end loop.room) (take size (drop first bytes)) rest,
           );
-      cursor = next.next;
+      cursor = next.moved;
       low = omega arith;
       high = slice_near g (goal.at.slices-preserved g c).In-Some;
       long = cc;

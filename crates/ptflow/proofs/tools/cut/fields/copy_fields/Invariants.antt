@@ -1,18 +1,18 @@
 -- The copied bytes, and then the output that is left, are the selected fields of the line.
-use Rattle.ptflow.proofs.Common.{◌≡◌, ◌+◌, ◌≤◌, ◌-◌, ◌++◌, length, take, cut_job, cut_fields, IsFieldCursor}
-use Rattle.ptflow.proofs.Common.{output_from_cursor}
-use Rattle.ptflow.proofs.tools.cut.fields.copy_fields.Given as goal
+use Rattle.ptflow.proofs
+use proofs.Common.{◌≡◌, ◌+◌, ◌≤◌, ◌++◌, length, take, cut_job, cut_fields, IsFieldCursor, output_from_cursor}
+use proofs.tools.cut.fields.copy_fields.Given as goal
 
 abbrev pub invariant-slices : goal.invariant-slices
 invariant-slices g l =
     let line = take l.to l.delimiters.bytes.now in record {
       copied : take l.start l.fn.room ++ cut_fields (cut_job l.job) line
-          ≡ take l.end l.room ++ output_from_cursor l.delimiters.byte l.selected line l.cursor;
-      cursor : IsFieldCursor l.delimiters.byte l.selected line l.cursor;
+          ≡ take l.end l.room ++ output_from_cursor l.delimiters.byte line l.cursor;
+      cursor : IsFieldCursor l.delimiters.byte line l.cursor;
       low : l.start ≤ l.end;
       high : l.end ≤ l.start + l.to;
       long : length l.room ≡ length l.fn.room;
     }
 
 abbrev pub decreases-slices : goal.decreases-slices
-decreases-slices g l = length l.selected - l.cursor.index
+decreases-slices g l = length l.cursor.left.now

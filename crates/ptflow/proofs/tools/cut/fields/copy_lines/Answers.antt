@@ -1,8 +1,8 @@
 -- For a line with the delimiter its fields are copied. Adjacent lines without it are copied at once, or skipped.
 use Rattle.ptflow.proofs
 use proofs.Common.{◌≡◌, ◌-◌, Some, take, arith, cut_job, cut_fields}
-use proofs.CutLemmas.FieldLines.{found, of_fields, puts_line, puts_kept, puts_dropped, free_before, first_within}
-use Rattle.ptflow.proofs.tools.cut.fields.copy_lines.Goals as goal
+use proofs.CutLemmas.Fields.{found, of_fields, puts_line, puts_kept, puts_dropped, free_before, first_within}
+use proofs.tools.cut.fields.copy_lines.Goals as goal
 
 pub returns-then-first-to-clause-put : goal.returns-then-first-to-clause-put
 returns-then-first-to-clause-put g c =

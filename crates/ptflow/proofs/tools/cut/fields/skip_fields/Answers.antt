@@ -1,7 +1,9 @@
 -- Field n starts after the n-th delimiter.
-use Rattle.ptflow.proofs.Common.{◌≡◌, ◌+◌, ◌-◌, take, drop, length, arith, length-drop, length-take-le}
-use Rattle.ptflow.proofs.CutLemmas.FieldOffsets.{offset_start, offset_end, offset_after_nth, rest_of}
-use Rattle.ptflow.proofs.tools.cut.fields.skip_fields.Goals as goal
+use Rattle.ptflow.proofs
+use proofs.Common.{◌≡◌, ◌+◌, ◌-◌, take, drop, length, arith, length-drop, length-take-le}
+use proofs.CutLemmas.Fields.{offset_start, offset_end, offset_after_nth}
+use proofs.CutLemmas.CutBytes.{rest_of}
+use proofs.tools.cut.fields.skip_fields.Goals as goal
 
 pub returns-then-count-eq0-clause-offset : goal.returns-then-count-eq0-clause-offset
 returns-then-count-eq0-clause-offset c =

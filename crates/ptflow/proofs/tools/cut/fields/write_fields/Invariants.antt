@@ -1,15 +1,16 @@
 -- The pushed bytes, and then the output that is left, are the selected fields of the line.
-use Rattle.ptflow.proofs.Common.{◌≡◌, ◌-◌, false, length, take, cut_job, cut_fields, IsFieldCursor, output_from_cursor}
-use Rattle.ptflow.proofs.Passes.Prefix.{WrittenPrefix}
-use Rattle.ptflow.proofs.tools.cut.fields.write_fields.Given as goal
+use Rattle.ptflow.proofs
+use proofs.Common.{◌≡◌, false, length, take, cut_job, cut_fields, IsFieldCursor, output_from_cursor}
+use proofs.Passes.Exits.{WrittenPrefix}
+use proofs.tools.cut.fields.write_fields.Given as goal
 
 abbrev pub invariant-slices : goal.invariant-slices
 invariant-slices g l = record {
   front : WrittenPrefix (cut_fields (cut_job l.job) l.delimiters.bytes.now)
-      (output_from_cursor l.delimiters.byte l.selected (take (length l.line) l.line) l.cursor) l.fn.out l.out;
-  cursor : IsFieldCursor l.delimiters.byte l.selected (take (length l.line) l.line) l.cursor;
+      (output_from_cursor l.delimiters.byte (take (length l.line) l.line) l.cursor) l.fn.out l.out;
+  cursor : IsFieldCursor l.delimiters.byte (take (length l.line) l.line) l.cursor;
   clean : l.fn.out.write_failed ≡ false → l.out.write_failed ≡ false;
 }
 
 abbrev pub decreases-slices : goal.decreases-slices
-decreases-slices g l = length l.selected - l.cursor.index
+decreases-slices g l = length l.cursor.left.now

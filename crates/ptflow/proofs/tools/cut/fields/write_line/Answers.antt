@@ -3,8 +3,8 @@
 use Rattle.ptflow.proofs
 use proofs.Common.{◌≡◌, [], ◌∷◌, push_nothing, push_past_failure, sym, ◌∙◌, cut_job, cut_fields, list_any}
 use proofs.Common.{is_field_delimiter}
-use proofs.Passes.Prefix.{wrote_then}
-use proofs.CutLemmas.FieldLines.{found, of_fields, of_line, of_none, line_written, line_dropped}
+use proofs.Passes.Exits.{wrote_then}
+use proofs.CutLemmas.Fields.{found, of_fields, of_line, of_none, line_written, line_dropped}
 use Rattle.ptflow.proofs.tools.cut.fields.write_line.Given as given
 use Rattle.ptflow.proofs.tools.cut.fields.write_line.Goals as goal
 use Rattle.ptflow.proofs.tools.cut.fields.write_line.Goals.{After-is_some}

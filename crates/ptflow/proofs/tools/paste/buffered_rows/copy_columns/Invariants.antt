@@ -1,18 +1,18 @@
--- The columns so far were copied, each with the byte after it.
-use Rattle.ptflow.proofs.Common.{◌≡◌, ◌≤◌, ◌%◌, ◌-◌, length, take, CopyColumnsPost, begun_in}
+-- The columns so far were copied, each with the byte after it. In the loop `begun` is a tuple: the number of columns,
+-- the end of their copy, and whether one of them has a line.
+use Rattle.ptflow.proofs.Common.{◌≡◌, ◌≤◌, ◌%◌, ◌-◌, length, take, CopyColumnsPost, begun_in, shape_of}
 use Rattle.ptflow.proofs.tools.paste.buffered_rows.copy_columns.Given as goal
 
 abbrev pub invariant-cells : goal.invariant-cells
-invariant-cells g l = record {
-  copied : CopyColumnsPost (record { cells = l.cells; delims = l.delims; terminator = l.terminator })
-      (begun_in l.fn.readers l.fn.begun l.fn.into)
-      (record { readers = l.readers; count = l.column; any_line = l.any_line; text = take l.end l.into });
-  within : l.column ≤ length l.cells;
-  grows : l.fn.begun.end ≤ l.end;
-  size_bound : l.end ≤ 8192;
-  at : l.index ≡ l.column % length l.delims;
+invariant-cells g l = let (count, (end, (any_line, _))) = l.begun in record {
+  copied : CopyColumnsPost (shape_of l.row) (begun_in l.fn.readers l.fn.begun l.fn.into)
+      (record { readers = l.readers; count = count; any_line = any_line; text = take end l.into });
+  within : count ≤ length l.row.cells.now;
+  grows : l.fn.begun.end ≤ end;
+  size_bound : end ≤ 8192;
+  at : l.index ≡ count % length l.row.delims.now;
   buffer_size : length l.into ≡ 8208;
 }
 
 abbrev pub decreases-cells : goal.decreases-cells
-decreases-cells g l = length l.cells - l.column
+decreases-cells g l = length l.row.cells.now - l.begun.0

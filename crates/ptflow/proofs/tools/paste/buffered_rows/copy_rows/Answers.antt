@@ -1,12 +1,10 @@
 -- Each step copies one more row. The loop ends at a row that is not complete.
 use Rattle.std.proofs.Math.Bool.{not-not}
 use Rattle.ptflow.proofs
-use proofs.Common.{◌∙◌, ap, not, [], sym, arith}
-use proofs.PasteLemmas.FillRow.{fill_starts}
-use proofs.PasteLemmas.RowsTaken.{rows_taken_none}
+use proofs.Common.{◌∙◌, ap, not, [], sym, arith, rules}
+use proofs.PasteLemmas.Rows.{fill_starts, rows_taken_none}
 use proofs.PasteLemmas.BufferedRows.{consumed_none, consumed_trans, still_readable, rows_and_begun, rows_more}
 use Rattle.ptflow.proofs.tools.paste.buffered_rows.copy_rows.Goals as goal
-use Rattle.std.proofs.Common.{rules}
 
 pub rows-init : goal.rows-init
 rows-init g c = search (rules, rows_taken_none, consumed_none)

@@ -1,14 +1,13 @@
 -- `SerialPaste` is a block filter for `paste -s`: at the start of a row the rest of the row is the whole output, and
 -- the delimiters and the terminator do not change from block to block.
 use Rattle.ptflow.proofs
-use proofs.Common.{◌≡◌, ◌++◌, cond, [], ◌∷◌, refl, sym, ◌∙◌, paste_job, paste_serial_tool, row_rest, serial_rest}
-use Rattle.std.proofs.Common.{rules}
+use proofs.Common.{◌≡◌, ◌++◌, cond, [], ◌∷◌, refl, sym, ◌∙◌, paste_job, paste_serial_tool, row_rest, serial_rest, rules}
 use proofs.Passes.Exits.{pass_unchanged, pass_set, ready_set}
-use proofs.PasteLemmas.SerialRest.{serial_is_decided}
+use proofs.PasteLemmas.Replaced.{serial_is_decided}
 use Rattle.ptflow.proofs.tools.paste.serial.paste_serial.Goals as goal
 
 pub returns-then-has_failed : goal.returns-then-has_failed
-returns-then-has_failed g c = search (rules, pass_unchanged)
+returns-then-has_failed g c = pass_unchanged (paste_serial_tool (paste_job c.args.job.now)) _ _ _ c.requires (cc)
 
 pub returns : goal.returns
 returns g c =

@@ -2,11 +2,10 @@
 -- rows; and the copy up to there depends only on these bytes.
 use Rattle.ptflow.proofs
 use proofs.Common.{◌≡◌, ◌+◌, ◌/◌, ◌-◌, length, take, ap, ◌∙◌, arith, get_or-take, take-append-le, length-take-le}
-use proofs.Common.{count_by, is_byte}
-use proofs.PasteLemmas.SharedInput.{whole_rows_counted}
+use proofs.Common.{count_by, is_byte, rules}
+use proofs.PasteLemmas.BufferedRows.{whole_rows_counted}
 use proofs.PasteLemmas.Replaced.{length-replaced, take-replaced}
 use Rattle.ptflow.proofs.tools.paste.shared_input.copy_shared_rows.Goals as goal
-use Rattle.std.proofs.Common.{rules}
 
 pub returns-clause-rows : goal.returns-clause-rows
 returns-clause-rows g c =

@@ -1,7 +1,7 @@
 use Rattle.ptflow.proofs
 use proofs.Common.{sym, deletes}
 use proofs.TrLemmas.TrFrom.{filter_all}
-use Rattle.ptflow.proofs.tools.tr.Translation.kept.Goals as goal
+use proofs.tools.tr.Translation.kept.Goals as goal
 
 pub returns-in-None-clause-kept : goal.returns-in-None-clause-kept
 returns-in-None-clause-kept c =

@@ -1,8 +1,8 @@
 -- The map kind has the images of the plan.
-use Rattle.ptflow.proofs.Common.{sym, ◌∙◌}
-use Rattle.ptflow.proofs.Vectors.Lanes.{map-id, images_same}
-use Rattle.ptflow.proofs.tools.tr.Translation.mapped.Goals as goal
-use Rattle.std.proofs.Common.{rules}
+use Rattle.ptflow.proofs
+use proofs.Common.{sym, ◌∙◌, rules}
+use proofs.Vectors.Lanes.{map-id, images_same}
+use proofs.tools.tr.Translation.mapped.Goals as goal
 
 pub returns-in-Identity : goal.returns-in-Identity
 returns-in-Identity c =

@@ -1,10 +1,10 @@
 -- The three passes make the output of the block, and its last byte is the state for the next block. The output is
 -- pushed at once, so a failed push leaves a prefix of it.
 use Rattle.ptflow.proofs
-use proofs.Passes.StepOutput.{on_err}
+use proofs.Passes.Exits.{on_err}
 use proofs.TrLemmas.TrFrom.{passes_make, block_on, block_begins}
-use Rattle.ptflow.proofs.tools.tr.TranslatorBlockFilter.process_block.Goals as goal
-use Rattle.std.proofs.Common.{rules}
+use proofs.tools.tr.TranslatorBlockFilter.process_block.Goals as goal
+use proofs.Common.{rules}
 
 pub returns-in_err-push-clause-halts : goal.returns-in_err-push-clause-halts
 returns-in_err-push-clause-halts g c =

@@ -1,5 +1,6 @@
-use Rattle.ptflow.proofs.Common.{arith, common_steps}
-use Rattle.ptflow.proofs.tools.uniq.LineUniqLineFilter.finish.Goals as goal
+use Rattle.ptflow.proofs
+use proofs.Common.{arith, common_steps}
+use proofs.tools.uniq.LineUniqLineFilter.finish.Goals as goal
 
 pub returns-clause-emptied : goal.returns-clause-emptied
 returns-clause-emptied c = grind (arith, common_steps)

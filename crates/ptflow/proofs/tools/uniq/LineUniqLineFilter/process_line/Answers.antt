@@ -2,14 +2,12 @@
 -- becomes the first line of the next one by a swap of the two slots.
 use Rattle.ptflow.proofs
 use proofs.Common.{[], ◌∷◌, ◌&&◌, ◌≡◌, refl, sym, subst, arith, line, nat_lt, is_same, uniq_job, first_line}
-use proofs.Common.{RunsWritten, current_run_of, run_of, push_nothing}
-use proofs.Passes.StepOutput.{on_err}
-use proofs.UniqLemmas.BlockRuns.{RunSteps, steps_none, steps_more, steps_next, steps_written, steps_failed}
-use proofs.UniqLemmas.FirstLine.{swapped_first}
+use proofs.Common.{RunsWritten, current_run_of, run_of, push_nothing, rules}
+use proofs.Passes.Exits.{on_err}
+use proofs.UniqLemmas.Runs.{RunSteps, steps_none, steps_more, steps_next, steps_written, steps_failed, swapped_first}
 use Rattle.ptflow.proofs.tools.uniq.LineUniqLineFilter.process_line.Given as given
 use Rattle.ptflow.proofs.tools.uniq.LineUniqLineFilter.process_line.Goals as goal
 use Rattle.ptflow.proofs.tools.uniq.LineUniqLineFilter.process_line.Goals.{After-is_same_run}
-use Rattle.std.proofs.Common.{rules}
 
 -- whether the line belongs to the run
 test : (g : given.Over) (c : After-is_same_run g)
@@ -26,18 +24,18 @@ returns-then-is_same_run-clause-continues g c =
     let at = (goal.at.returns-then-is_same_run-clause-continues g c).After-is_same_run in
     steps_written (steps_more (before g at) _ (cc (test g at))) (push_nothing _) refl (λ clean. clean)
 
-pub returns-in_err-write_current-clause-halts : goal.returns-in_err-write_current-clause-halts
-returns-in_err-write_current-clause-halts g c =
-    let at = (goal.at.returns-in_err-write_current-clause-halts g c).After-is_same_run in
+pub returns-in_err-write_run-clause-halts : goal.returns-in_err-write_run-clause-halts
+returns-in_err-write_run-clause-halts g c =
+    let at = (goal.at.returns-in_err-write_run-clause-halts g c).After-is_same_run in
     on_err _ (steps_failed (steps_next (before g at) (line c.args.store.now 1) (cc (test g at)))
-    c.write_current.ensures.wrote [] refl c.in_err-write_current.ensures.fault)
+    (rw c.first_line-2.ensures at c.write_run.ensures.wrote) [] refl c.in_err-write_run.ensures.fault)
 
 pub returns-clause-continues : goal.returns-clause-continues
 returns-clause-continues g c =
     let at = (goal.at.returns-clause-continues g c).After-is_same_run in
     let next = line c.args.store.now 1 in
     subst (λ l. RunsWritten (uniq_job c.args.self.now.job.now) (current_run_of c.args.run.now c.args.store.now)
-    (run_of l 1) (next ∷ []) c.args.out.now c.write_current.new.out)
+    (run_of l 1) (next ∷ []) c.args.out.now c.write_run.new.out)
     (sym (swapped_first c.args.store.now (omega arith) c.swap.ensures))
-    (steps_written (steps_next (before g at) next (cc (test g at))) c.write_current.ensures.wrote refl
-    (λ _. c.in_ok-write_current.ensures.clean))
+    (steps_written (steps_next (before g at) next (cc (test g at)))
+    (rw c.first_line-2.ensures at c.write_run.ensures.wrote) refl (λ _. c.in_ok-write_run.ensures.clean))

@@ -1,9 +1,7 @@
 -- The runs that end in the block are written (`write_runs`), and the last run becomes the current one.
-use Rattle.std.proofs.Common.{rules}
 use Rattle.ptflow.proofs
-use proofs.Common.{[], ◌≡◌, complete_lines, uniq_job, current_run_of, push_nothing}
-use proofs.UniqLemmas.BlockRuns.{steps_none, steps_written}
-use proofs.UniqLemmas.FirstLine.{not_found}
+use proofs.Common.{[], ◌≡◌, complete_lines, uniq_job, current_run_of, push_nothing, rules}
+use proofs.UniqLemmas.Runs.{steps_none, steps_written, not_found}
 use Rattle.ptflow.proofs.tools.uniq.LineUniqLineFilter.process_lines.Given as given
 use Rattle.ptflow.proofs.tools.uniq.LineUniqLineFilter.process_lines.Goals as goal
 use Rattle.ptflow.proofs.tools.uniq.LineUniqLineFilter.process_lines.Goals.{Then-is_none}

@@ -2,11 +2,12 @@
 -- leaves a prefix of both.
 use Rattle.ptflow.proofs
 use proofs.Common.{ℕ, true, not, ◌≡◌, [], refl, sym, ◌∙◌, subst, PushEffect, push_past_failure, append_assoc, span_of}
-use proofs.Common.{uniq_job, arith, common_steps}
+use proofs.Common.{uniq_job, arith, common_steps, push_nothing, append-nil, false, has_output, run_of}
 use Rattle.ptflow.specs.Private.Uniq.RunsFrom.{count_prefix}
-use proofs.Passes.StepOutput.{on_err}
-use proofs.UniqLemmas.BlockRuns.{due_is, pending_joined}
-use Rattle.ptflow.proofs.tools.uniq.block_runs.end_run.Goals as goal
+use Rattle.ptflow.specs.Private.Uniq.BlockRuns.{first_of}
+use proofs.Passes.Exits.{on_err}
+use proofs.UniqLemmas.Runs.{due_is, pending_joined, current_run_is}
+use proofs.tools.uniq.block_runs.end_run.Goals as goal
 use Rattle.ptlangs.specs.contracts.jobs.Show.{the_type}
 use Rattle.ptlangs.specs.declared.jobs.Show.{Show}
 use Rattle.ptlangs.specs.declared.jobs.Show.TheVariants.{All, Counts, Repeated, Single}
@@ -17,6 +18,18 @@ no_count All differs count = refl
 no_count Counts differs count = cc
 no_count Repeated differs count = refl
 no_count Single differs count = refl
+
+pub returns-then-not-has_output-clause-waits : goal.returns-then-not-has_output-clause-waits
+returns-then-not-has_output-clause-waits g c =
+    let job = uniq_job c.args.by.now.job.now in
+    let none : has_output job.show c.args.count ≡ false = sym c.has_output.ensures ∙ c.if-not-has_output.true in
+    record {
+      pushed = [];
+      wrote = push_nothing _;
+      all = rw (current_run_is job (run_of (first_of c.args.first.now c.args.block.now c.args.line) c.args.count), none)
+          (sym (append-nil (span_of c.args.block.now c.args.pending)));
+      span = c.requires.pending_in;
+    }
 
 pub returns-then-pending-line-clause-waits : goal.returns-then-pending-line-clause-waits
 returns-then-pending-line-clause-waits g c =

@@ -1,14 +1,13 @@
 -- A line with the key of the current run adds to its count. Any other line ends it and starts the next one, and the
 -- output of the run that ended is pushed or deferred. Each case preserves `RunsInvariant`.
 use Rattle.ptflow.proofs
-use proofs.Common.{IsLine, refl, arith, take_rest, line_if_not_found, uniq_job, common_steps}
-use proofs.Passes.StepOutput.{on_err}
-use proofs.UniqLemmas.BlockRuns.{runs_loop_starts, runs_loop_few, runs_loop_left, runs_loop_more, runs_loop_next}
-use proofs.UniqLemmas.BlockRuns.{runs_loop_failed, running_done, running_unended, runs_loop_passed}
+use proofs.Common.{IsLine, refl, arith, take_rest, line_if_not_found, uniq_job, common_steps, rules}
+use proofs.Passes.Exits.{on_err}
+use proofs.UniqLemmas.Runs.{runs_loop_starts, runs_loop_few, runs_loop_left, runs_loop_more, runs_loop_next}
+use proofs.UniqLemmas.Runs.{runs_loop_failed, running_done, running_unended, runs_loop_passed}
 use Rattle.ptflow.proofs.tools.uniq.block_runs.write_runs.Given as given
 use Rattle.ptflow.proofs.tools.uniq.block_runs.write_runs.Goals as goal
 use Rattle.ptflow.proofs.tools.uniq.block_runs.write_runs.Goals.{In_default}
-use Rattle.std.proofs.Common.{rules}
 
 pub lines-init : goal.lines-init
 lines-init g c = search (rules, runs_loop_starts)
@@ -30,8 +29,8 @@ lines-preserved g c =
     rw take_rest (runs_loop_next c.lines.invariant (rw c.args.by.now.ends at c.in-Some.ensures) c.key-next.ensures
     c.eq.ensures c.if-eq.false c.in_ok-pending.ensures.waits refl refl)
 
-pub overflow_sub-result : goal.overflow_sub-result
-overflow_sub-result g c = search (rules, runs_loop_left)
+pub overflow_sub-len : goal.overflow_sub-len
+overflow_sub-len g c = search (rules, runs_loop_left)
 
 none_left : (g : given.Over) (c : In_default g) → IsLine (uniq_job c.args.by.now.job.now).terminator c.lines.rest.now
 none_left g c = search (rules, line_if_not_found)
@@ -54,11 +53,11 @@ returns-clause-passed g c = (
       c.push.ensures.pushed.wrote,
 )
 
-pub overflow_sub-line : goal.overflow_sub-line
-overflow_sub-line g c = grind (arith, common_steps)
+pub overflow_sub-from : goal.overflow_sub-from
+overflow_sub-from g c = grind (arith, common_steps)
 
-pub overflow_sub-line-else-eq : goal.overflow_sub-line-else-eq
-overflow_sub-line-else-eq g c = grind (arith, common_steps)
+pub overflow_sub-from-else-eq : goal.overflow_sub-from-else-eq
+overflow_sub-from-else-eq g c = grind (arith, common_steps)
 
 pub overflow_sub-to : goal.overflow_sub-to
 overflow_sub-to g c = grind (arith, common_steps)

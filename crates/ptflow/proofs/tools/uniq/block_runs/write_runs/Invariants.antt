@@ -1,8 +1,9 @@
 -- Of the lines so far, the output of the runs that ended was pushed, except for the deferred part; the others are one
 -- run, which has the key `run_key`.
-use Rattle.ptflow.proofs.Common.{length, uniq_job}
-use Rattle.ptflow.proofs.UniqLemmas.BlockRuns.{RunsInvariant}
-use Rattle.ptflow.proofs.tools.uniq.block_runs.write_runs.Given as goal
+use Rattle.ptflow.proofs
+use proofs.Common.{length, uniq_job}
+use proofs.UniqLemmas.Runs.{RunsInvariant}
+use proofs.tools.uniq.block_runs.write_runs.Given as goal
 
 abbrev pub invariant-lines : goal.invariant-lines
 invariant-lines g l =

@@ -1,7 +1,8 @@
 -- The blanks are skipped one by one, and then the bytes up to the next blank, which are the rest of the field.
-use Rattle.ptflow.proofs.Common.{◌≡◌, [], sym, ◌∙◌, ap, arith, nil_from_length, common_steps}
-use Rattle.ptflow.proofs.UniqLemmas.Keys.{suffix_at, suffix_none, after_one}
-use Rattle.ptflow.proofs.tools.uniq.line_key.skip_field.Goals as goal
+use Rattle.ptflow.proofs
+use proofs.Common.{◌≡◌, [], sym, ◌∙◌, ap, arith, nil_from_length, common_steps}
+use proofs.UniqLemmas.Keys.{suffix_at, suffix_none, after_one}
+use proofs.tools.uniq.line_key.skip_field.Goals as goal
 
 pub returns : goal.returns
 returns c = let none : c.blanks.rest.now ≡ [] = nil_from_length c.blanks.rest.now (omega arith) in

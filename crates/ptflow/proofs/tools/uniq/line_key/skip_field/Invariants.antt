@@ -1,7 +1,8 @@
 -- The blanks at the start belong to the first field, so skipping them does not change the result.
+use Rattle.ptflow.proofs
 use Rattle.std.proofs.Common.{◌≡◌, length}
-use Rattle.ptflow.proofs.UniqLemmas.Keys.{suffix_at}
-use Rattle.ptflow.proofs.tools.uniq.line_key.skip_field.Given as goal
+use proofs.UniqLemmas.Keys.{suffix_at}
+use proofs.tools.uniq.line_key.skip_field.Given as goal
 
 abbrev pub invariant-blanks : goal.invariant-blanks
 invariant-blanks l = suffix_at 1 l.rest ≡ suffix_at 1 l.line

@@ -1,8 +1,8 @@
 -- Each iteration skips one field. An empty rest has no more fields.
-use Rattle.ptflow.proofs.Common.{◌≡◌, ◌-◌, [], length, sym, ◌∙◌, eqb-true, nil_from_length}
-use Rattle.ptflow.proofs.UniqLemmas.Keys.{suffix_none, suffix_zero, suffix_is, suffix_step}
-use Rattle.ptflow.proofs.tools.uniq.line_key.skip_fields_cold.Goals as goal
-use Rattle.std.proofs.Common.{rules}
+use Rattle.ptflow.proofs
+use proofs.Common.{◌≡◌, ◌-◌, [], length, sym, ◌∙◌, eqb-true, nil_from_length, rules}
+use proofs.UniqLemmas.Keys.{suffix_none, suffix_zero, suffix_is, suffix_step}
+use proofs.tools.uniq.line_key.skip_fields_cold.Goals as goal
 
 pub returns-then-is_empty : goal.returns-then-is_empty
 returns-then-is_empty c =

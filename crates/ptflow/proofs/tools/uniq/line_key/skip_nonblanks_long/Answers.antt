@@ -1,9 +1,9 @@
 -- The first blank is the first space or the first tab, whichever is earlier. If neither is among the first bytes, the
 -- search continues after them.
-use Rattle.ptflow.proofs.Common.{◌≡◌, ◌<◌, drop, min, sym, ◌∙◌, ap, arith, take_rest, after_nonblanks}
-use Rattle.ptflow.proofs.UniqLemmas.Keys.{both_later, both_near}
-use Rattle.ptflow.proofs.tools.uniq.line_key.skip_nonblanks_long.Goals as goal
-use Rattle.std.proofs.Common.{rules}
+use Rattle.ptflow.proofs
+use proofs.Common.{◌≡◌, ◌<◌, drop, min, sym, ◌∙◌, ap, arith, take_rest, after_nonblanks, rules}
+use proofs.UniqLemmas.Keys.{both_later, both_near}
+use proofs.tools.uniq.line_key.skip_nonblanks_long.Goals as goal
 
 pub returns-then-at : goal.returns-then-at
 returns-then-at g c =

@@ -1,15 +1,13 @@
 -- A segment without a byte at the index is passed: what is left is what the text gives from the index on.
 use Rattle.ptlangs.proofs
-use proofs.Common.{◌≡◌, ◌∷◌, ◌+◌, ◌*◌, ◌≤◌, cond, ◌||◌, ◌∙◌, Ok, List, Result, length, drop, ap, sym, rules}
-use proofs.Common.{refl, arith, segments, chars, set_elements, is_fill, Segment, SetFaultKind}
-use Rattle.ptlangs.specs.TrParsing.{member_results, most_left}
-use proofs.TrElementGrammar.{segments-element, segments-fault}
+use proofs.Common.{Bytes, List, Ok, Result, Segment, SetFaultKind, ap, arith, chars, common_steps, cond, drop, is_fill}
+use proofs.Common.{length, member_results, most_left, refl, rules, segments, set_elements, sym, ◌*◌, ◌+◌, ◌||◌, ◌∙◌}
+use proofs.Common.{◌∷◌, ◌≡◌, ◌≤◌}
+use proofs.TrArrays.{drop-found, fill_step, length-marked, on_fault, segment-passed}
+use proofs.TrGrammar.{segments-element, segments-fault}
+use Rattle.ptlangs.proofs.tr.bytes.Bytes.next.Goals.{else-self-2, then-self-2}
 use Rattle.std.proofs.Math.Nat.{le_trans}
-use proofs.TrByteWalk.{drop-found, fill_step, length-marked, on_fault, segment-passed}
 use Rattle.ptlangs.proofs.tr.bytes.Bytes.next.Goals as goal
-use Rattle.ptlangs.proofs.tr.bytes.Bytes.next.Goals.{then-self-2, else-self-2}
-use Rattle.ptlangs.specs.declared.tr.bytes.Bytes.{Bytes}
-use Rattle.std.proofs.lemmas.Grind.{common_steps}
 
 -- the segments that are left, or their faults
 abbrev segments_left : Bytes → List (Result Segment SetFaultKind)

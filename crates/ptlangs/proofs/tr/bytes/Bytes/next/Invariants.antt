@@ -1,6 +1,5 @@
 -- The segments that were passed have no bytes left, so what is left to read is the same.
-use Rattle.ptlangs.proofs.Common.{◌≡◌, ◌≤◌, ◌-◌, length}
-use Rattle.ptlangs.specs.TrParsing.{bytes_left, most_left}
+use Rattle.ptlangs.proofs.Common.{bytes_left, length, most_left, ◌-◌, ◌≡◌, ◌≤◌}
 use Rattle.ptlangs.proofs.tr.bytes.Bytes.next.Given as goal
 
 abbrev pub invariant-loop-member : goal.invariant-loop-member

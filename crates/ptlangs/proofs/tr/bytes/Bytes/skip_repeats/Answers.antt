@@ -1,12 +1,9 @@
 -- The copies that are left come first in what is left to read.
 use Rattle.ptlangs.proofs
-use proofs.Common.{◌≡◌, ◌-◌, ◌∙◌, ◌++◌, Ok, Result, ap, arith, map, replicate, chars, drop, append_assoc, map-append}
-use proofs.Common.{segments, set_elements, SetFaultKind}
-use Rattle.ptlangs.specs.declared.tr.segments.Member.{Member}
-use Rattle.ptlangs.specs.TrParsing.{member_results, plain_members}
-use proofs.TrByteWalk.{copies-passed}
+use proofs.Common.{Member, Ok, Result, SetFaultKind, ap, append_assoc, arith, chars, common_steps, drop, map}
+use proofs.Common.{map-append, member_results, plain_members, replicate, segments, set_elements, ◌++◌, ◌-◌, ◌∙◌, ◌≡◌}
+use proofs.TrArrays.{copies-passed}
 use Rattle.ptlangs.proofs.tr.bytes.Bytes.skip_repeats.Goals as goal
-use Rattle.std.proofs.lemmas.Grind.{common_steps}
 
 pub returns-clause-passed : goal.returns-clause-passed
 returns-clause-passed c =

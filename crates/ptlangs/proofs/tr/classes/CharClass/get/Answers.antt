@@ -1,7 +1,7 @@
-use Rattle.ptlangs.proofs.Common.{arith, rules}
-use Rattle.ptlangs.proofs.TrByteRanges.{ranges_found, ranges_next}
+use Rattle.ptlangs.proofs
+use proofs.Common.{arith, common_steps, rules}
+use proofs.TrArrays.{ranges_found, ranges_next}
 use Rattle.ptlangs.proofs.tr.classes.CharClass.get.Goals as goal
-use Rattle.std.proofs.lemmas.Grind.{common_steps}
 
 pub returns-then-left-count : goal.returns-then-left-count
 returns-then-left-count c = search (rules, ranges_found)

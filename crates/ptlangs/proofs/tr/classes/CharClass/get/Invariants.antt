@@ -1,5 +1,5 @@
 -- The byte with the index is the one with the index `left` in the remaining ranges.
-use Rattle.ptlangs.proofs.Common.{◌≡◌, drop, flat_map, slice_get, range_bytes}
+use Rattle.ptlangs.proofs.Common.{drop, flat_map, range_bytes, slice_get, ◌≡◌}
 use Rattle.ptlangs.proofs.tr.classes.CharClass.get.Given as goal
 
 abbrev pub invariant-loop-first : goal.invariant-loop-first

@@ -1,8 +1,7 @@
 -- A byte is in the complement if the array does not contain it, so the tables and the lengths agree.
-use Rattle.ptlangs.proofs.Common.{◌≡◌, false, get_or, not, rules}
-use Rattle.std.proofs.Common.{tests}
-use Rattle.ptlangs.proofs.TrContents.{complement-is}
-use Rattle.std.specs.Prelude.{count_by}
+use Rattle.ptlangs.proofs
+use proofs.Common.{count_by, false, get_or, not, rules, tests, ◌≡◌}
+use proofs.TrArrays.{complement-is}
 use Rattle.ptlangs.proofs.tr.contents.Contents.complement.Goals as goal
 
 pub returns-clause-is : goal.returns-clause-is

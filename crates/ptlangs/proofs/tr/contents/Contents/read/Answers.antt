@@ -1,13 +1,10 @@
 -- The fault of a byte is the fault of the string. At the end all bytes are read.
 use Rattle.ptlangs.proofs
-use proofs.Common.{◌≡◌, ◌∙◌, ◌∷◌, ◌++◌, List, Ok, ap, sym, refl, arith, array, map-append, string_segments, replicate}
-use proofs.Common.{Segment}
-use Rattle.ptlangs.specs.TrParsing.{member_bytes, contents_of, ok_map, plain_members}
-use proofs.TrByteWalk.{member_bytes-array, member_bytes-plain, items_end, items_fault, items_more, on_fault}
-use proofs.TrByteWalk.{string-fault, string-read}
-use proofs.TrContents.{contents-new}
+use proofs.Common.{List, Ok, Segment, ap, arith, array, common_steps, contents_of, map-append, member_bytes, ok_map}
+use proofs.Common.{plain_members, refl, replicate, string_segments, sym, ◌++◌, ◌∙◌, ◌∷◌, ◌≡◌}
+use proofs.TrArrays.{contents-new, items_end, items_fault, items_more, member_bytes-array, member_bytes-plain, on_fault}
+use proofs.TrArrays.{string-fault, string-read}
 use Rattle.ptlangs.proofs.tr.contents.Contents.read.Goals as goal
-use Rattle.std.proofs.lemmas.Grind.{common_steps}
 
 pub returns-in_err-member-clause-is : goal.returns-in_err-member-clause-is
 returns-in_err-member-clause-is c =

@@ -1,8 +1,8 @@
 -- The contents are those of the bytes so far; with the bytes that are left, these are no more than the text allows.
-use Rattle.ptlangs.proofs.Common.{◌≡◌, ◌≤◌, ◌+◌, ◌*◌, List, length, segments_of}
-use Rattle.ptlangs.specs.declared.tr.segments.Member.{Member}
-use Rattle.ptlangs.specs.TrParsing.{bytes_left, member_bytes, contents_of, member_results, most_left}
-use Rattle.ptlangs.proofs.TrByteWalk.{ItemsRead}
+use Rattle.ptlangs.proofs
+use proofs.Common.{List, Member, bytes_left, contents_of, length, member_bytes, member_results, most_left, segments_of}
+use proofs.Common.{◌*◌, ◌+◌, ◌≡◌, ◌≤◌}
+use proofs.TrArrays.{ItemsRead}
 use Rattle.ptlangs.proofs.tr.contents.Contents.read.Given as goal
 
 abbrev pub invariant-loop-member : goal.invariant-loop-member

@@ -1,6 +1,7 @@
 -- A class that starts after the end of the first array has no other case.
-use Rattle.ptlangs.proofs.Common.{◌∙◌, sym, rules}
-use Rattle.ptlangs.proofs.TrImages.{never_fault, passing-copies, passing-end, passing-next, passing-unpaired}
+use Rattle.ptlangs.proofs
+use proofs.Common.{rules, sym, ◌∙◌}
+use proofs.TrArrays.{never_fault, passing-copies, passing-end, passing-next, passing-unpaired}
 use Rattle.ptlangs.proofs.tr.images.Images.finish.Goals as goal
 
 pub returns-in_err-member : goal.returns-in_err-member

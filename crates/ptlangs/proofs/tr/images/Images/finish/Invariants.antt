@@ -1,8 +1,7 @@
 -- No class starts in the bytes of the second array that were passed after the end of the first one.
-use Rattle.ptlangs.proofs.Common.{List}
-use Rattle.ptlangs.specs.declared.tr.segments.Member.{Member}
-use Rattle.ptlangs.specs.TrParsing.{HasPaired, most_left}
-use Rattle.ptlangs.proofs.TrImages.{IsPassing}
+use Rattle.ptlangs.proofs
+use proofs.Common.{HasPaired, List, Member, most_left}
+use proofs.TrArrays.{IsPassing}
 use Rattle.ptlangs.proofs.tr.images.Images.finish.Given as goal
 
 abbrev pub invariant-loop-member : goal.invariant-loop-member

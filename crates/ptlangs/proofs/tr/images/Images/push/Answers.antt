@@ -1,8 +1,9 @@
 -- The next byte of the second array becomes the last one; if none is left, the last one stays.
-use Rattle.ptlangs.proofs.Common.{◌∙◌, sym, arith, rules}
-use Rattle.ptlangs.proofs.TrImages.{never_fault, push-last, push-next, push-unpaired, written}
-use Rattle.ptlangs.proofs.tr.images.Images.push.Goals as goal
+use Rattle.ptlangs.proofs
+use proofs.Common.{arith, rules, sym, ◌∙◌}
+use proofs.TrArrays.{never_fault, push-last, push-next, push-unpaired, written}
 use Rattle.ptlangs.proofs.tr.images.Images.push.Goals.{in-Some+else-not-classes_match, in_default}
+use Rattle.ptlangs.proofs.tr.images.Images.push.Goals as goal
 
 pub returns-in_err-to : goal.returns-in_err-to
 returns-in_err-to c = λ before to h. never_fault _ _ h.left c.in_err-to.ensures.steps

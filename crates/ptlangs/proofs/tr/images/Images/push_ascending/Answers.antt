@@ -1,13 +1,11 @@
 -- A byte that the complement contains is paired after those below it.
 use Rattle.ptlangs.proofs
-use proofs.Common.{◌+◌, [], ◌∙◌, ℕ, ap, arith, true, false, append-nil, map-append, complement_of, ◌≡◌, List, subst}
-use Rattle.ptlangs.specs.TrParsing.{PairPost, all_paired, plain_members, HasPaired, contents_of}
-use proofs.TrByteWalk.{on_fault}
-use proofs.TrContents.{complement-around, is_kept, others_below, others_below-all, others_below-more}
-use proofs.TrImages.{paired_same}
-use Rattle.ptlangs.specs.declared.tr.segments.Member.{Member}
-use Rattle.ptlangs.proofs.tr.images.Images.push_ascending.Goals.{Joined-first-from, then-first-from+in_ok-push}
-use Rattle.ptlangs.proofs.tr.images.Images.push_ascending.Goals.{else-first-from}
+use proofs.Common.{HasPaired, List, Member, PairPost, [], all_paired, ap, append-nil, arith, complement_of, contents_of}
+use proofs.Common.{false, map-append, plain_members, subst, true, ℕ, ◌+◌, ◌∙◌, ◌≡◌}
+use proofs.TrArrays.{complement-around, is_kept, on_fault, others_below, others_below-all, others_below-more}
+use proofs.TrArrays.{paired_same}
+use Rattle.ptlangs.proofs.tr.images.Images.push_ascending.Goals.{Joined-first-from, else-first-from}
+use Rattle.ptlangs.proofs.tr.images.Images.push_ascending.Goals.{then-first-from+in_ok-push}
 use Rattle.ptlangs.proofs.tr.images.Images.push_ascending.Goals as goal
 
 pub returns-in_err-push : goal.returns-in_err-push
@@ -34,14 +32,16 @@ paired c bytes to e h =
     elim c.if-first-from.branch [
       | then-first-from+in_ok-push w ↦
           let more =
-          others_below-more bytes b false (is_kept c.args.first.now bytes b c.from.result true c.from.ensures
+          others_below-more bytes b false (omega arith)
+          (is_kept c.args.first.now bytes b c.from.result true c.from.ensures
           (omega arith) w.if-first-from.true e) in
           paired_same _ to (ap plain_members more
           ∙ map-append _ before _) w.self-is
           (w.in_ok-push.ensures _ to (c.loop-byte.invariant bytes to e h))
       | else-first-from w ↦
           let more =
-          others_below-more bytes b true (is_kept c.args.first.now bytes b c.from.result false c.from.ensures
+          others_below-more bytes b true (omega arith)
+          (is_kept c.args.first.now bytes b c.from.result false c.from.ensures
           (omega arith) w.if-first-from.false e) in
           paired_same _ to (ap plain_members (more ∙ append-nil before)) w.self-is
           (c.loop-byte.invariant bytes to e h)

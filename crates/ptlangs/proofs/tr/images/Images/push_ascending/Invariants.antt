@@ -1,8 +1,7 @@
 -- The bytes of the complement below this one are paired.
-use Rattle.ptlangs.proofs.Common.{◌≡◌, [], ℕ, List, complement_of}
-use Rattle.ptlangs.specs.declared.tr.segments.Member.{Member}
-use Rattle.ptlangs.specs.TrParsing.{HasPaired, contents_of, plain_members}
-use Rattle.ptlangs.proofs.TrContents.{others_below}
+use Rattle.ptlangs.proofs
+use proofs.Common.{HasPaired, List, Member, [], complement_of, contents_of, plain_members, ℕ, ◌≡◌}
+use proofs.TrArrays.{others_below}
 use Rattle.ptlangs.proofs.tr.images.Images.push_ascending.Given as goal
 
 abbrev pub invariant-loop-byte : goal.invariant-loop-byte

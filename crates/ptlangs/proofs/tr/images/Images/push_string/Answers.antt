@@ -1,9 +1,8 @@
 -- The bytes of the string are paired in order; as the string has no fault, these are all of its array.
 use Rattle.ptlangs.proofs
-use proofs.Common.{◌∙◌, ap, refl, First, segments_of, sequence}
-use Rattle.ptlangs.specs.TrParsing.{marked_array, PairPost, all_paired, member_results}
-use proofs.TrByteWalk.{items_at, items_end, items_fault, items_more, on_fault, string-ok}
-use proofs.TrImages.{never_fault, paired_same, sequence-ok}
+use proofs.Common.{First, PairPost, all_paired, ap, marked_array, member_results, refl, segments_of, sequence, ◌∙◌}
+use proofs.TrArrays.{items_at, items_end, items_fault, items_more, never_fault, on_fault, paired_same, sequence-ok}
+use proofs.TrArrays.{string-ok}
 use Rattle.ptlangs.proofs.tr.images.Images.push_string.Goals as goal
 
 pub returns-in_err-member : goal.returns-in_err-member

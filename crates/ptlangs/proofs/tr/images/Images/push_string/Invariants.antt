@@ -1,8 +1,7 @@
 -- The bytes so far are paired.
-use Rattle.ptlangs.proofs.Common.{[], List, First, segments_of}
-use Rattle.ptlangs.specs.declared.tr.segments.Member.{Member}
-use Rattle.ptlangs.specs.TrParsing.{HasPaired, bytes_left, member_results, most_left}
-use Rattle.ptlangs.proofs.TrByteWalk.{ItemsRead}
+use Rattle.ptlangs.proofs
+use proofs.Common.{First, HasPaired, List, Member, [], bytes_left, member_results, most_left, segments_of}
+use proofs.TrArrays.{ItemsRead}
 use Rattle.ptlangs.proofs.tr.images.Images.push_string.Given as goal
 
 abbrev pub invariant-loop-member : goal.invariant-loop-member

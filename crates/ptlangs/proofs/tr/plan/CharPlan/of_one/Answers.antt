@@ -1,8 +1,7 @@
 use Rattle.ptlangs.proofs
-use proofs.Common.{[], ap, sym, ◌∙◌, Form, Squeeze, Delete, plan_of, tables}
-use Rattle.ptlangs.specs.declared.tr.contents.Contents.{Contents}
-use proofs.TrContents.{none_contained}
-use proofs.TrPlans.{tables_are, is_squeeze}
+use proofs.Common.{Contents, Delete, Form, Squeeze, [], ap, plan_of, sym, tables, ◌∙◌}
+use proofs.TrArrays.{none_contained}
+use proofs.TrPlans.{is_squeeze, tables_are}
 use Rattle.ptlangs.proofs.tr.plan.CharPlan.of_one.Goals as goal
 
 pub returns-in-Delete : goal.returns-in-Delete

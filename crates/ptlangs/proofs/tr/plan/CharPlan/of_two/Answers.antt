@@ -1,17 +1,13 @@
 -- The second string is read without a fill, to find the number of bytes that a fill has, and then with it. The segments
 -- are the same each time, so the plan is that of the definition.
 use Rattle.ptlangs.proofs
-use proofs.Common.{◌≡◌, false, ap, sym, [], ◌∙◌, Ok, Err, Form, List, Segment, Translate, TranslateSqueeze, rules}
-use proofs.Common.{DeleteSqueeze, array, class_offsets, first_array, has_valid_classes, image_by, map, plan_of}
-use proofs.Common.{second_plan, string_segments, tables}
-use Rattle.ptlangs.specs.TrClasses.{all_bytes}
-use Rattle.ptlangs.specs.TrParsing.{contents_of, ok_map}
-use Rattle.ptlangs.specs.declared.tr.contents.Contents.{Contents}
-use proofs.TrByteWalk.{member_bytes-array, on_fault, string-ok}
-use proofs.TrContents.{none_contained}
-use proofs.TrImages.{answer_fault, answer_ok}
+use proofs.Common.{Contents, DeleteSqueeze, Err, Form, List, Ok, Segment, Translate, TranslateSqueeze, [], all_bytes}
+use proofs.Common.{ap, array, contents_of, false, first_array, image_by, map, ok_map, plan_of, rules, string_segments}
+use proofs.Common.{sym, tables, ◌∙◌, ◌≡◌}
+use proofs.TrArrays.{answer_fault, answer_ok, member_bytes-array, none_contained, on_fault, string-ok}
 use proofs.TrPlans.{SecondRead, is_translate, mapped_at, planned, second_read, tables_are, valid-paired}
 use Rattle.ptlangs.proofs.tr.plan.CharPlan.of_two.Goals.{After-saturating_sub-fill, In_ok-second}
+use Rattle.ptlangs.specs.TrPlan.{class_offsets, has_valid_classes, second_plan}
 use Rattle.ptlangs.proofs.tr.plan.CharPlan.of_two.Goals as goal
 
 seen : (c : After-saturating_sub-fill) (firsts : List Segment)

@@ -1,6 +1,7 @@
-use Rattle.ptlangs.proofs.Common.{ap, ◌∙◌, in_string, plan, result_map_both, sym, tables, SetFault}
+use Rattle.ptlangs.proofs
+use proofs.Common.{SetFault, ap, in_string, plan, result_map_both, sym, tables, ◌∙◌}
+use proofs.TrPlans.{in_string-ok, mapped_ok, plan_two}
 use Rattle.std.specs.Option.{option_copied}
-use Rattle.ptlangs.proofs.TrPlans.{in_string-ok, mapped_ok, plan_two}
 use Rattle.ptlangs.specs.declared.faults.SetString.TheVariants as string
 use Rattle.ptlangs.proofs.tr.plan.CharPlan.read.Goals as goal
 

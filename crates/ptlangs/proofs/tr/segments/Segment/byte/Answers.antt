@@ -1,5 +1,6 @@
-use Rattle.ptlangs.proofs.Common.{arith}
-use Rattle.ptlangs.proofs.TrByteRanges.{room, length-span, class_bytes-short}
+use Rattle.ptlangs.proofs
+use proofs.Common.{arith}
+use proofs.TrArrays.{class_bytes-short, length-span, room}
 use Rattle.ptlangs.proofs.tr.segments.Segment.byte.Goals as goal
 
 pub returns-in-Range-clause-room : goal.returns-in-Range-clause-room

@@ -1,5 +1,5 @@
 -- The byte plus the numbers that the stretches so far add to it, modulo 256.
-use Rattle.ptlangs.proofs.Common.{◌≡◌, ◌+◌, ◌%◌, take, sum_by, shift_at}
+use Rattle.ptlangs.proofs.Common.{shift_at, sum_by, take, ◌%◌, ◌+◌, ◌≡◌}
 use Rattle.ptlangs.proofs.tr.shifts.Shifts.image.Given as goal
 
 abbrev pub invariant-loop-stretch : goal.invariant-loop-stretch

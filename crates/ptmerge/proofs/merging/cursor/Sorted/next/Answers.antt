@@ -4,8 +4,7 @@ use Rattle.std.proofs.lemmas.Grind.{common_steps}
 use Rattle.ptmerge.proofs
 use proofs.Common.{◌≡◌, ◌<◌, ◌+◌, sym, ap, ◌∙◌, inl, arith, if◌then◌else◌, nat_tests, line, line_of_with_line, Head}
 use proofs.Common.{Disorder}
-use proofs.MergeLemmas.Step.{later_status}
-use proofs.MergeLemmas.Slots.{line_other}
+use proofs.MergeLemmas.{later_status, line_other}
 use Rattle.ptmerge.proofs.merging.cursor.Sorted.next.Goals as goal
 
 pub returns-clause-moves : goal.returns-clause-moves

@@ -1,12 +1,8 @@
 use Rattle.std.proofs.Common.{arith}
-use Rattle.ptmerge.proofs.JoinLemmas.GroupSlots.{clears_more}
+use Rattle.ptmerge.proofs.JoinLemmas.Group.{clears_more}
 use Rattle.ptmerge.proofs.tools.join.key_group.clear_group.Goals as goal
 
 pub loop-slot-preserved : goal.loop-slot-preserved
 loop-slot-preserved g c =
     let i = c.loop-slot.invariant in
-    record {
-      cleared = clears_more _ _ _ _ i.from
-          (omega arith) i.cleared c.clear.ensures;
-      from = omega arith;
-    }
+    record { cleared = clears_more _ _ _ _ i.from (omega arith) i.cleared c.clear.ensures; from = omega arith }

@@ -1,6 +1,6 @@
 -- Copying a line changes only slots from 4 on, so the cursors stay valid.
-use Rattle.std.proofs.Common.{arith}
-use Rattle.ptmerge.proofs.MergeLemmas.Step.{kept_line, kept_least, valid_cursors_kept}
+use Rattle.std.proofs.Common.{arith, rules}
+use Rattle.ptmerge.proofs.MergeLemmas.{kept_line, valid_cursors_kept}
 use Rattle.ptmerge.proofs.tools.join.key_group.read_group_line.Goals as goal
 
 pub returns-in-Ok-clause-continues : goal.returns-in-Ok-clause-continues
@@ -14,8 +14,7 @@ returns-in-Ok-clause-continues g c =
       clean = continues.clean;
       others = continues.others;
       valid_cursors = valid_cursors_kept (g.K.KeyOrder.key_of c.args.merge.now.order) m.first m.second before after
-          continues.valid_cursors (kept_least before after _ _ kept)
-          (λ slot low. kept_line before after c.previous_slot_of.result c.args.end slot
-          (omega (arith, low)) kept);
+          continues.valid_cursors (search rules)
+          (λ slot low. kept_line before after c.previous_slot_of.result c.args.end slot (omega (arith, low)) kept);
       own_reader = continues.own_reader;
     }

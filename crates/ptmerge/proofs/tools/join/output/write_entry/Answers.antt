@@ -3,8 +3,7 @@ use Rattle.std.proofs.lemmas.Grind.{common_steps}
 use Rattle.ptmerge.proofs
 use proofs.Common.{◌≡◌, List, [], ◌∷◌, ◌++◌, ℕ, Option, Result, append-nil, ap, refl, subst, First, Join, Output, arith}
 use proofs.Common.{PushPost, Second, entry_with_list, join_job, option_copied}
-use proofs.JoinLemmas.PartialWrite.{then_pushes}
-use proofs.JoinLemmas.Fields.{first_is, pair_is, second_is}
+use proofs.JoinLemmas.Fields.{then_pushes, first_is, pair_is, second_is}
 use Rattle.ptmerge.specs.JoinFields.{IsKeyOf}
 use Rattle.ptmerge.proofs.tools.join.output.write_entry.Goals as goal
 
@@ -22,8 +21,7 @@ returns-in-None-Some-Some g c =
     let at = c.in-None-Some-Some in
     let one = ap option_copied at.is-1 in
     let two = ap option_copied at.is-2 in
-    pushes_entry job key _ one two (pair_is job key at.is-0 _
-    (c.is_canonical.ensures c.if-is_canonical.true)
+    pushes_entry job key _ one two (pair_is job key at.is-0 _ (c.is_canonical.ensures c.if-is_canonical.true)
     (c.is_canonical-then-is_canonical.ensures c.if-is_canonical-2.true)
     (subst (IsKeyOf job First key) one c.requires.one) (subst (IsKeyOf job Second key) two c.requires.two))
     c.push_line.ensures.pushed

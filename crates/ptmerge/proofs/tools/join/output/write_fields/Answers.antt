@@ -2,8 +2,7 @@
 -- write that fails leaves a prefix of these.
 use Rattle.ptmerge.proofs
 use proofs.Common.{option_copied, refl, join_job}
-use proofs.JoinLemmas.PartialWrite.{partial_ends, partial_fails, partial_first, partial_more}
-use proofs.JoinLemmas.Fields.{entry_plain}
+use proofs.JoinLemmas.Fields.{partial_ends, partial_fails, partial_first, partial_more, entry_plain}
 use Rattle.ptmerge.proofs.tools.join.output.write_fields.Goals as goal
 
 pub returns-in_err-write_other_fields-in-None : goal.returns-in_err-write_other_fields-in-None

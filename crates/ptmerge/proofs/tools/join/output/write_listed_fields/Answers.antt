@@ -3,8 +3,7 @@
 use Rattle.std.proofs.lemmas.Grind.{common_steps}
 use Rattle.ptmerge.proofs
 use proofs.Common.{◌∷◌, ℕ, List, sym, ◌∙◌, join_job, output_separator, arith}
-use proofs.JoinLemmas.PartialWrite.{partial_first, each_fails, each_more}
-use proofs.JoinLemmas.Fields.{between_is, entry_listed, first_then_rest}
+use proofs.JoinLemmas.Fields.{partial_first, each_fails, each_more, between_is, entry_listed, first_then_rest}
 use Rattle.ptmerge.proofs.tools.join.output.write_listed_fields.Goals as goal
 
 pub items-init : goal.items-init

@@ -1,8 +1,7 @@
 -- The items so far were written, with separators between them; the others are still to be written.
 use Rattle.ptmerge.proofs
 use proofs.Common.{option_copied, map, length, join_job, output_separator, entry_with_list, with_prefix, Some}
-use proofs.JoinLemmas.PartialWrite.{PartialWrite}
-use proofs.JoinLemmas.Fields.{output_item}
+use proofs.JoinLemmas.Fields.{PartialWrite, output_item}
 use Rattle.ptmerge.proofs.tools.join.output.write_listed_fields.Given as goal
 
 abbrev pub invariant-items : goal.invariant-items

@@ -2,22 +2,18 @@
 use Rattle.std.proofs.lemmas.Grind.{common_steps}
 use Rattle.ptmerge.proofs
 use proofs.Common.{◌-◌, ◌∷◌, ℕ, List, ap, arith, with_prefix}
-use proofs.JoinLemmas.PartialWrite.{partial_ends, each_fails, each_more}
-use proofs.JoinLemmas.Fields.{others_more, others_rest}
+use proofs.JoinLemmas.Fields.{partial_ends, each_fails, each_more, others_more, others_rest}
 use Rattle.ptmerge.proofs.tools.join.output.write_other_words.Goals as goal
 
 pub returns-in_err-write_prefixed_field : goal.returns-in_err-write_prefixed_field
 returns-in_err-write_prefixed_field g c =
-    each_fails (λ (l : List ℕ). 32 ∷ l)
-    (others_more _ _
-    (omega arith) c.in-Some.ensures.first)
+    each_fails (λ (l : List ℕ). 32 ∷ l) (others_more _ _ (omega arith) c.in-Some.ensures.first)
     c.loop-passed.invariant
     c.write_prefixed_field.ensures.wrote c.in_err-write_prefixed_field.ensures.fault _ c.from_residual.ensures.1
 
 pub loop-passed-preserved : goal.loop-passed-preserved
 loop-passed-preserved g c =
-    each_more (λ (l : List ℕ). 32 ∷ l)
-    (others_more (c.args.number - 1) c.loop-passed._passed
+    each_more (λ (l : List ℕ). 32 ∷ l) (others_more (c.args.number - 1) c.loop-passed._passed
     (omega arith) c.in-Some.ensures.first)
     c.loop-passed.invariant
     c.write_prefixed_field.ensures.wrote c.in_ok-write_prefixed_field.ensures.clean

@@ -1,7 +1,7 @@
 -- The words so far were written, except the join field, which is skipped.
 use Rattle.ptmerge.proofs
 use proofs.Common.{◌-◌, None, Some, option_copied, remove, other_fields, remaining_fields, with_prefix}
-use proofs.JoinLemmas.PartialWrite.{PartialWrite}
+use proofs.JoinLemmas.Fields.{PartialWrite}
 use Rattle.ptmerge.proofs.tools.join.output.write_other_words.Given as goal
 
 abbrev pub invariant-loop-passed : goal.invariant-loop-passed

@@ -1,5 +1,5 @@
 use Rattle.std.proofs.Common.{◌∷◌, ℕ, List}
-use Rattle.ptmerge.proofs.JoinLemmas.PartialWrite.{each_fails, each_more}
+use Rattle.ptmerge.proofs.JoinLemmas.Fields.{each_fails, each_more}
 use Rattle.ptmerge.proofs.tools.join.output.write_words.Goals as goal
 
 pub returns-in_err-write_prefixed_field : goal.returns-in_err-write_prefixed_field

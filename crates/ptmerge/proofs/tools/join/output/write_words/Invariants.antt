@@ -1,7 +1,7 @@
 -- The words so far were written, each after a space; the others are still to be written.
 use Rattle.ptmerge.proofs
 use proofs.Common.{None, option_copied, length, remaining_fields, with_prefix}
-use proofs.JoinLemmas.PartialWrite.{PartialWrite}
+use proofs.JoinLemmas.Fields.{PartialWrite}
 use Rattle.ptmerge.proofs.tools.join.output.write_words.Given as goal
 
 abbrev pub invariant-words : goal.invariant-words

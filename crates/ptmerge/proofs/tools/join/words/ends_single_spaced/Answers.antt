@@ -1,6 +1,6 @@
 use Rattle.ptmerge.proofs
 use proofs.Common.{arith, length-append}
-use proofs.JoinLemmas.Words.{spaced_to_end, with_end}
+use proofs.JoinLemmas.Fields.{spaced_to_end, with_end}
 use Rattle.ptmerge.proofs.tools.join.words.ends_single_spaced.Goals as goal
 
 pub returns : goal.returns

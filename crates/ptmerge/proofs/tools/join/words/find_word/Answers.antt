@@ -2,7 +2,7 @@
 use Rattle.std.proofs.Common.{rules}
 use Rattle.ptmerge.proofs
 use proofs.Common.{arith}
-use proofs.JoinLemmas.Words.{none_left, words_small}
+use proofs.JoinLemmas.Fields.{none_left, words_small}
 use Rattle.ptmerge.proofs.tools.join.words.find_word.Goals as goal
 
 pub returns-then-words-eq0 : goal.returns-then-words-eq0

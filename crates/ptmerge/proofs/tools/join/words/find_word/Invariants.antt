@@ -1,5 +1,5 @@
 -- The words that were passed are no longer in the mask.
-use Rattle.ptmerge.proofs.JoinLemmas.Words.{WordsLeft}
+use Rattle.ptmerge.proofs.JoinLemmas.Fields.{WordsLeft}
 use Rattle.ptmerge.proofs.tools.join.words.find_word.Given as goal
 
 abbrev pub invariant-loop-passed : goal.invariant-loop-passed

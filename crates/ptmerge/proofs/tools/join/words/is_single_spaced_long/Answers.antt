@@ -1,7 +1,7 @@
 use Rattle.std.proofs.Common.{◌/◌}
 use Rattle.ptmerge.proofs
 use proofs.Common.{◌==◌, ◌∙◌, ◌+◌, ◌^◌, ◌≤◌, length, ap, arith, sym}
-use proofs.JoinLemmas.Words.{bit_is, bit_low, chunk_spaced, last_blank, top_bit}
+use proofs.JoinLemmas.Fields.{bit_is, bit_low, chunk_spaced, last_blank, top_bit}
 use Rattle.std.proofs.lemmas.Simd.{length-chunk}
 use Rattle.std.specs.Simd.Lanes.{chunk}
 use Rattle.ptmerge.proofs.tools.join.words.is_single_spaced_long.Goals as goal

@@ -1,9 +1,9 @@
 -- The output of one line is all that is pushed, since no state is carried from line to line.
 use Rattle.ptflow.proofs
 use proofs.Common.{◌∷◌, [], line, cut_job, cut_lines, arith, common_steps}
-use proofs.CutLemmas.FieldLines.{cut_lines-append}
-use proofs.Passes.StepOutput.{on_err}
-use Rattle.ptflow.proofs.tools.cut.fields.FieldCutLineFilter.process_line.Goals as goal
+use proofs.CutLemmas.Fields.{cut_lines-append}
+use proofs.Passes.Exits.{on_err}
+use proofs.tools.cut.fields.FieldCutLineFilter.process_line.Goals as goal
 
 pub returns-in_err-write_line-clause-halts : goal.returns-in_err-write_line-clause-halts
 returns-in_err-write_line-clause-halts g c =

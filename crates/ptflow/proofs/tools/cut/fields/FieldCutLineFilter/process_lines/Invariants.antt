@@ -1,7 +1,8 @@
 -- The buffer has the output of the lines so far, for every continuation, and is not longer than they are.
-use Rattle.ptflow.proofs.Common.{◌≡◌, ◌+◌, ◌≤◌, ◌++◌, ℕ, List, length, take, complete_lines, cut_job, cut_lines}
-use Rattle.ptflow.proofs.Passes.Lines.{TakenLines}
-use Rattle.ptflow.proofs.tools.cut.fields.FieldCutLineFilter.process_lines.Given as goal
+use Rattle.ptflow.proofs
+use proofs.Common.{◌≡◌, ◌+◌, ◌≤◌, ◌++◌, ℕ, List, length, take, complete_lines, cut_job, cut_lines}
+use proofs.Passes.Exits.{TakenLines}
+use proofs.tools.cut.fields.FieldCutLineFilter.process_lines.Given as goal
 
 abbrev pub invariant-lines : goal.invariant-lines
 invariant-lines g l = record {

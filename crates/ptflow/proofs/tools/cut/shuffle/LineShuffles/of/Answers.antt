@@ -1,6 +1,7 @@
 -- The next piece gets its shuffle, and the others keep theirs.
-use Rattle.ptflow.proofs.Common.{⊎_elim, arith, cases_eq, get_or-set_other, get_or-set_same, length-set}
-use Rattle.ptflow.proofs.tools.cut.shuffle.LineShuffles.of.Goals as goal
+use Rattle.ptflow.proofs
+use proofs.Common.{⊎_elim, arith, cases_eq, get_or-set_other, get_or-set_same, length-set}
+use proofs.tools.cut.shuffle.LineShuffles.of.Goals as goal
 
 pub loop-index-preserved : goal.loop-index-preserved
 loop-index-preserved g c =

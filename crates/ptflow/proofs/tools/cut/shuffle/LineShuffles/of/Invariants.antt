@@ -1,7 +1,8 @@
 -- Each piece so far has its shuffle.
-use Rattle.ptflow.proofs.Common.{◌≡◌, ◌<◌, ◌*◌, ℕ, length, is_selected}
+use Rattle.ptflow.proofs
+use proofs.Common.{◌≡◌, ◌<◌, ◌*◌, ℕ, length, is_selected}
 use Rattle.ptflow.specs.Private.Cut.ShortLines.{IsPieceShuffle, piece_at, selected_after}
-use Rattle.ptflow.proofs.tools.cut.shuffle.LineShuffles.of.Given as goal
+use proofs.tools.cut.shuffle.LineShuffles.of.Given as goal
 
 abbrev pub invariant-loop-index : goal.invariant-loop-index
 invariant-loop-index g l = record {

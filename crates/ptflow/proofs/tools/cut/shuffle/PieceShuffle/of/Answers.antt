@@ -1,9 +1,10 @@
 -- Each iteration tests one index, and the next entry of the counts is the number of selected ones so far.
-use Rattle.ptflow.proofs.Common.{◌≡◌, ◌+◌, set, ◌∙◌, ap, arith, is_selected}
+use Rattle.ptflow.proofs
+use proofs.Common.{◌≡◌, ◌+◌, set, ◌∙◌, ap, arith, is_selected}
 use mir.Val.{bool_byte}
 use Rattle.ptflow.specs.Private.Cut.ShortLines.{selected_after}
-use Rattle.ptflow.proofs.CutLemmas.ShortLines.{shuffle_next}
-use Rattle.ptflow.proofs.tools.cut.shuffle.PieceShuffle.of.Goals as goal
+use proofs.CutLemmas.CutBytes.{shuffle_next}
+use proofs.tools.cut.shuffle.PieceShuffle.of.Goals as goal
 
 pub loop-index-preserved : goal.loop-index-preserved
 loop-index-preserved g c =

@@ -1,8 +1,9 @@
 -- The row begins with the selected indices so far, and the counts are the number of selected ones before each index.
+use Rattle.ptflow.proofs
 use Rattle.ptlangs.specs.CutLists.{is_selected}
 use Rattle.ptflow.specs.Private.Cut.ShortLines.{selected_after}
-use Rattle.ptflow.proofs.CutLemmas.ShortLines.{PickBegun}
-use Rattle.ptflow.proofs.tools.cut.shuffle.PieceShuffle.of.Given as goal
+use proofs.CutLemmas.CutBytes.{PickBegun}
+use proofs.tools.cut.shuffle.PieceShuffle.of.Given as goal
 
 abbrev pub invariant-loop-index : goal.invariant-loop-index
 invariant-loop-index g l = PickBegun (selected_after (is_selected l.list) l.start) l.index l.count l.row l.counts

@@ -4,7 +4,7 @@ use proofs.Common.{◌≡◌, ◌+◌, ◌-◌, ◌<◌, ◌++◌, ℕ, Bool, tr
 use proofs.Common.{sym, ◌∙◌, arith, append_assoc, take_more, take_all, take_more_set, from_bool, mod-lt, count_by}
 use proofs.Common.{is_byte, serial_rest, row_rest, Option, ◌==◌, not, set, eqb-true, take-set}
 use Rattle.std.proofs.lemmas.List.{length-take}
-use proofs.PasteLemmas.SerialRest.{copied_on, row_byte}
+use proofs.PasteLemmas.Replaced.{copied_on, row_byte}
 use Rattle.ptflow.proofs.tools.paste.serial.SerialFormat.copy_block.Goals.{After-copy_cells-end}
 use Rattle.ptflow.proofs.tools.paste.serial.SerialFormat.copy_block.Goals as goal
 

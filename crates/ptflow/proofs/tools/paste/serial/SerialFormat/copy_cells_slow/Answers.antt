@@ -4,8 +4,7 @@ use Rattle.ptflow.proofs
 use proofs.Common.{◌≡◌, ◌+◌, ◌-◌, ◌<◌, ◌++◌, length, take, sym, ◌∙◌, ap, arith, length-drop, take_rest, take_all}
 use proofs.Common.{line_if_not_found, mod-eq_of_lt, delimiter, count_by, is_byte}
 use proofs.Vectors.FindNth.{none_counted}
-use proofs.PasteLemmas.Replaced.{replaced_none}
-use proofs.PasteLemmas.SerialRest.{next_piece}
+use proofs.PasteLemmas.Replaced.{replaced_none, next_piece}
 use Rattle.ptflow.proofs.tools.paste.serial.SerialFormat.copy_cells_slow.Goals as goal
 
 pub pieces-preserved : goal.pieces-preserved

@@ -1,6 +1,7 @@
 -- The map has the image of each byte that was checked.
-use Rattle.ptflow.proofs.Common.{◌≡◌, ◌<◌, ℕ, false, get_or, if◌then◌else◌, length}
-use Rattle.ptflow.proofs.tools.tr.map_kind.MapSetToByte.of.Given as goal
+use Rattle.ptflow.proofs
+use proofs.Common.{◌≡◌, ◌<◌, ℕ, false, get_or, if◌then◌else◌, length}
+use proofs.tools.tr.map_kind.MapSetToByte.of.Given as goal
 
 abbrev pub invariant-loop-from : goal.invariant-loop-from
 invariant-loop-from l = record {

@@ -1,6 +1,7 @@
-use Rattle.ptflow.proofs.Common.{sym, splat_is_map, set_has, map}
-use Rattle.ptflow.proofs.Vectors.Lanes.{sel_maps, map-id, lanes_of_mask, tops_of_lanes}
-use Rattle.ptflow.proofs.tools.tr.map_kind.MapSetToByteByteMap.map16.Goals as goal
+use Rattle.ptflow.proofs
+use proofs.Common.{sym, splat_is_map, set_has, map}
+use proofs.Vectors.Lanes.{sel_maps, map-id, lanes_of_mask, tops_of_lanes}
+use proofs.tools.tr.map_kind.MapSetToByteByteMap.map16.Goals as goal
 
 pub returns : goal.returns
 returns c =

@@ -1,0 +1,434 @@
+-- The fields of a line, and the output of `cut` by fields. Each delimiter ends one field, so the rest of the fields,
+-- after the first n, starts after the n-th delimiter. The fields of an interval, with the delimiter before each, are
+-- one slice of the line; so the output is these slices, the first without the delimiter before it. Lines without the
+-- delimiter are unchanged, or nothing with `-s`. No state is carried from line to line, so the output for two lists of
+-- lines is the output for each, one after the other.
+use Rattle.ptflow.proofs
+use proofs.Common.{common_steps, ◌≡◌, ℕ, zero, suc, ◌+◌, ◌<◌, ◌==◌, ◌-◌, ◌≤◌, Bool, true, false, cond, List, [], ◌∷◌}
+use proofs.Common.{◌++◌, length, take, drop, refl, sym, ◌∙◌, ap, arith, onto_first, join_with_byte, append-nil}
+use proofs.Common.{take-take, take-add, take_all, drop_all, drop-drop, length-drop, length-take-le, take-append-drop}
+use proofs.Common.{flat_map-append, length-slice_split, count_by, is_byte, byte_eq, eqb-true, fields, prefixed_fields}
+use proofs.Common.{IsFieldOffset, IsNth, get_or, length-append, drop_more, drop-append-le, nil_from_length, Cut}
+use proofs.Common.{cut_fields, is_selected, AreSeparated, Interval, select_from, IsFieldCursor, IsNextSlice}
+use proofs.Common.{output_from_cursor, min, Option, None, Some, is_some, flat_map, list_any, list_any_at, IsFirstByte}
+use proofs.Common.{line_if_not_found, unlines, IsLine, byte_ne, is_field_delimiter, cut_line, cut_lines, cut_tool}
+use proofs.Common.{cut_fields_from, IsPrefix, IsLineFilter, ◌⊎◌, inl, inr, get_or-take, unwrap_or, complete_lines}
+use proofs.Common.{AreLines, line_before_terminator, complete_lines_cons, the_lines, the_complete_lines, CopyLinesPost}
+use proofs.Common.{the_lines_of_parts, CutOfParts, rules}
+use proofs.CutLemmas.CutBytes.{rest_of, not_selected, select_none, select_first, select_slice, select_skip}
+use proofs.Passes.Exits.{ended_next, line_split}
+use Rattle.ptflow.specs.declared.tools.cut.fields.FieldCursor.{FieldCursor}
+
+module _ (d : ℕ) where
+  -- the fields before a delimiter, and those after it
+  pub fields-append : (xs ys : List ℕ) → fields d (xs ++ d ∷ ys) ≡ fields d xs ++ fields d ys
+  fields-append [] ys = rw (byte_eq d) refl
+  fields-append (x ∷ xs) ys = by_test (x == d) (fields d xs) (omega (arith, length-slice_split (λ b. b == d) xs))
+      (fields-append xs ys)
+    where
+      by_test : (t : Bool) (fs : List (List ℕ)) → 0 < length fs → fields d (xs ++ d ∷ ys) ≡ fs ++ fields d ys
+          → cond t ([] ∷ fields d (xs ++ d ∷ ys)) (onto_first x (fields d (xs ++ d ∷ ys)))
+          ≡ cond t ([] ∷ fs) (onto_first x fs) ++ fields d ys
+      by_test true fs some more = ap (◌∷◌ []) more
+      by_test false [] some more = absurd (omega arith)
+      by_test false (f ∷ fs) some more = ap (onto_first x) more
+
+  pub prefixed_fields-append : (fs gs : List (List ℕ)) → prefixed_fields d (fs ++ gs) ≡ prefixed_fields d fs
+      ++ prefixed_fields d gs
+  prefixed_fields-append fs gs = flat_map-append (◌∷◌ d) fs gs
+
+  -- with one more delimiter before it, a line is its fields with a delimiter before each
+  pub prefixed_of_fields : (xs : List ℕ) → prefixed_fields d (fields d xs) ≡ d ∷ xs
+  prefixed_of_fields [] = refl
+  prefixed_of_fields (x ∷ xs) = grind (arith, prefixed_of_fields xs)
+
+  -- fields joined by the delimiter are the fields with a delimiter before each but the first
+  pub join_prefixed : (fs : List (List ℕ)) → join_with_byte d fs ≡ drop 1 (prefixed_fields d fs)
+  join_prefixed [] = refl
+  join_prefixed (f ∷ []) = sym (append-nil f)
+  join_prefixed (f ∷ g ∷ fs) = cc (join_prefixed (g ∷ fs))
+
+  -- ---- where a field starts
+
+  module _ (line : List ℕ) where
+    pub offset_start : IsFieldOffset d 0 line 0
+    offset_start = grind (arith, prefixed_of_fields)
+
+    -- after the last field
+    pub offset_end : {n : ℕ} → count_by (is_byte d) line < n → IsFieldOffset d n line (length line + 1)
+    offset_end {n} lt = grind (arith, common_steps, length-slice_split, take_all, prefixed_of_fields, drop_all)
+
+    -- after the delimiter that comes after n - 1 others
+    pub offset_after_nth : {n : ℕ} (at : ℕ) → 0 < n → IsNth (is_byte d) 0 (n - 1) line at
+        → IsFieldOffset d n line (at + 1)
+    offset_after_nth {n} at some (within, passes, before) =
+        let xs = take at line in
+        let ys = drop (at + 1) line in
+        let one : at + 1 ≡ suc at = omega arith in
+        let long : length xs ≡ at = length-take-le at line (omega arith) in
+        let here : drop at line ≡ d ∷ ys = grind (arith, common_steps, eqb-true) in
+        let number : length (fields d xs) ≡ n = omega (arith, length-slice_split (is_byte d) xs, before) in
+        let split : fields d line ≡ fields d xs ++ fields d ys = cc (take-append-drop at line, fields-append xs ys) in
+        grind (arith, common_steps, prefixed_of_fields)
+
+    module _ {n at : ℕ} (o : IsFieldOffset d n line at) where
+      pub rest_at : at ≤ length line → drop at (d ∷ line) ≡ d ∷ drop at line
+      rest_at fits = cc (o.later fits, prefixed_of_fields (drop at line))
+
+      -- after the line no field is left
+      pub none_left : length line < at → drop n (fields d line) ≡ []
+      none_left past = none (drop n (fields d line)) (sym o.back ∙ drop_all at (d ∷ line) (omega arith))
+        where
+          none : (fs : List (List ℕ)) → prefixed_fields d fs ≡ [] → fs ≡ []
+          none [] is = refl
+          none (f ∷ fs) is = cc
+
+      -- k fields later
+      pub offset_add : at ≤ length line → {k size : ℕ} → IsFieldOffset d k (drop at line) size
+          → IsFieldOffset d (n + k) line (at + size)
+      offset_add fits {k} {size} next =
+          grind (arith, common_steps, length-drop, take-add, rest_at, prefixed_fields-append, drop-drop)
+
+-- a slice of a line
+pub slice_of : (from size : ℕ) {to : ℕ} (bytes : List ℕ) → from + size ≤ to
+    → take size (drop from (take to bytes)) ≡ take size (drop from bytes)
+slice_of from size {to} bytes le = grind (arith, common_steps, rest_of, take-take)
+
+-- ---- the selected fields of a line, in one pass
+
+-- the cursor at the start of a line
+module _ (cursor : FieldCursor) (none : cursor.passed ≡ 0) where
+  pub cursor_starts : (d : ℕ) (line : List ℕ) → cursor.at ≡ 0 → AreSeparated 0 cursor.left.now
+      → IsFieldCursor d line cursor
+  cursor_starts d line start apart =
+      record { offset = rw (none, start) (offset_start d line); apart = rw none apart }
+
+  -- all selected fields of a line are left, by the list of a job
+  pub selected_remaining : (job : Cut) {d : ℕ} (line : List ℕ) → d ≡ job.delimiter
+      → is_selected cursor.left.now ≡ job.selected → cut_fields job line ≡ output_from_cursor d line cursor
+  selected_remaining job {d} line same selected = rw (none, selected, same) (join_prefixed job.delimiter _)
+
+module _ (d : ℕ) (line : List ℕ) (cursor : FieldCursor) where
+  abbrev all : List Interval
+  all = cursor.left.now
+
+  -- no selected field is left
+  none_selected : select_from (is_selected all) (cursor.passed + 1)
+      (drop cursor.passed (fields d line)) ≡ [] → output_from_cursor d line cursor ≡ []
+  none_selected none = grind arith
+
+  -- no interval is left
+  pub no_interval : length all ≡ 0 → output_from_cursor d line cursor ≡ []
+  no_interval none = none_selected
+      (select_none (is_selected all) _ _ (λ k low high. ap (λ rs. is_selected rs k) (nil_from_length all none)))
+
+  -- the line ends before the cursor
+  pub no_field : IsFieldCursor d line cursor → length line < cursor.at → output_from_cursor d line cursor ≡ []
+  no_field w past = none_selected (cc (none_left d line w.offset past))
+
+  module _ (w : IsFieldCursor d line cursor) (fits : cursor.at ≤ length line) (within : 0 < length all) where
+    -- the next interval, and those after it
+    abbrev r : Interval
+    r = get_or all 0 (record { first = 0; last = 0 })
+
+    abbrev rs : List Interval
+    rs = drop 1 all
+
+    -- the fields from the cursor on; how many of them are before the interval, and how many in it
+    abbrev here : List (List ℕ)
+    here = drop cursor.passed (fields d line)
+
+    abbrev skip : ℕ
+    skip = r.first - 1 - cursor.passed
+
+    abbrev size : ℕ
+    size = r.last - r.first + 1
+
+    these : all ≡ r ∷ rs
+    these = drop_more all 0 (record { first = 0; last = 0 }) within
+
+    apart : AreSeparated (cursor.passed + min cursor.passed 1) (r ∷ rs)
+    apart = rw these at w.apart
+
+    pub not_past : cursor.passed + min cursor.passed 1 < r.first
+    not_past = omega (arith, apart.0)
+
+    pub in_order : r.first ≤ r.last
+    in_order = apart.1
+
+    module _ {from : ℕ} (near : cursor.at ≤ from)
+        (s : IsFieldOffset d skip (drop cursor.at line) (from - cursor.at)) where
+      starts : IsFieldOffset d (cursor.passed + skip) line from
+      starts = let is : cursor.at + (from - cursor.at) ≡ from = omega (arith, near) in
+          rw is at (offset_add d line w.offset fits s)
+
+      left : drop skip here ≡ drop (cursor.passed + skip) (fields d line)
+      left = drop-drop skip _ (fields d line)
+
+      -- the line ends before the interval
+      pub ends_before : length line < from → output_from_cursor d line cursor ≡ []
+      ends_before past = none_selected (cc (
+        these,
+        select_skip (is_selected (r ∷ rs)) (cursor.passed + 1) skip here
+            (grind (arith, not_selected, not_past, apart)),
+        left,
+        none_left d line starts past,
+      ))
+
+      module _ (begun : from ≤ length line) where
+        abbrev rest : List ℕ
+        rest = drop from line
+
+        sep_fits : min cursor.passed 1 ≤ from
+        sep_fits = omega (arith, not_past)
+
+        -- the start of the interval, with or without the delimiter before it
+        sep_drop : drop (from - min cursor.passed 1) line ≡ drop (1 - min cursor.passed 1) (d ∷ rest)
+        sep_drop = by_sep (min cursor.passed 1) from (omega arith) sep_fits (rest_at d line starts begun)
+          where
+            by_sep : (sep n : ℕ) → sep ≤ 1 → sep ≤ n → drop n (d ∷ line) ≡ d ∷ drop n line
+                → drop (n - sep) line ≡ drop (1 - sep) (d ∷ drop n line)
+            by_sep zero n one fits split = let same : n - 0 ≡ n = omega arith in rw same refl
+            by_sep (suc zero) zero one fits split = absurd (omega arith)
+            by_sep (suc zero) (suc n) one fits split = let same : suc n - 1 ≡ n = omega arith in cc
+            by_sep (suc (suc sep)) n one fits split = absurd (omega arith)
+
+        module _ {at : ℕ} (later : from ≤ at) (p : IsFieldOffset d size rest (at - from)) where
+          ends : IsFieldOffset d r.last line at
+          ends =
+              let is : from + (at - from) ≡ at = omega (arith, later) in
+              let last : cursor.passed + skip + size ≡ r.last = omega (arith, not_past, apart.1) in
+              rw (is, last) at (offset_add d line starts begun p)
+
+          some : 0 < at - from
+          some = omega arith
+
+          -- the fields in the interval, and those that the others select
+          selected : select_from (is_selected (r ∷ rs)) (cursor.passed + 1) here ≡ take size (fields d rest)
+              ++ select_from (is_selected rs) (r.last + 1) (drop r.last (fields d line))
+          selected =
+              let b = r.last + 1 - (cursor.passed + 1) in
+              let many : b - skip ≡ size = omega (arith, not_past, apart.1) in
+              let count : (cursor.passed + 1) + (skip + size) ≡ r.last + 1 = omega (arith, not_past, apart.1) in
+              let all_of : cursor.passed + (skip + size) ≡ r.last = omega (arith, not_past, apart.1) in
+              cc (
+                select_first r rs (cursor.passed + 1) here apart.2,
+                select_slice r (cursor.passed + 1) here skip b (omega arith) refl,
+                left,
+                starts.later begun,
+                select_skip (is_selected rs) (cursor.passed + 1) (skip + size) here
+                    (grind (arith, not_selected, apart)),
+                drop-drop (skip + size) _ (fields d line),
+              )
+
+          -- the slice, and then the output that is left
+          output : output_from_cursor d line cursor
+              ≡ take ((at - 1) - (from - min cursor.passed 1)) (drop (from - min cursor.passed 1) line)
+              ++ prefixed_fields d (select_from (is_selected rs) (r.last + 1) (drop r.last (fields d line)))
+          output =
+              let sep = min cursor.passed 1 in
+              let slice = take (at - from) (d ∷ rest) in
+              let others = select_from (is_selected rs) (r.last + 1) (drop r.last (fields d line)) in
+              let long : length slice ≡ at - from = length-take-le (at - from) (d ∷ rest) (omega (arith, p.fits)) in
+              let size_is : at - from - (1 - sep) ≡ at - 1 - (from - sep) = omega (arith, some, sep_fits) in
+              cc (
+                these,
+                selected,
+                prefixed_fields-append d (take size (fields d rest)) others,
+                p.front,
+                drop-append-le (1 - sep) slice (prefixed_fields d others) (omega (arith, long, some)),
+                rest_of (1 - sep) (at - from) (d ∷ rest),
+                sep_drop,
+                size_is,
+              )
+
+          one : min r.last 1 ≡ 1
+          one = omega (arith, not_past, in_order)
+
+          pub next_slice : (next : FieldCursor) → next.left.now ≡ rs → next.passed ≡ r.last → next.at ≡ at
+              → IsNextSlice d line cursor (from - min cursor.passed 1) (at - 1) next
+          next_slice next left_is passed_is at_is = record {
+            output = rw (left_is, passed_is, one) output;
+            order = omega (arith, some);
+            within = omega (arith, ends.fits, some);
+            moved = record { offset = rw (passed_is, at_is) ends; apart = rw (left_is, passed_is, one) apart.2 };
+            later = omega (arith, ap length left_is, ap length these);
+          }
+
+-- ---- the output of a line is not longer than the line
+
+few_prefixed : (d : ℕ) (test : ℕ → Bool) (n : ℕ) (fs : List (List ℕ))
+    → length (prefixed_fields d (select_from test n fs)) ≤ length (prefixed_fields d fs)
+few_prefixed d test n [] = omega arith
+few_prefixed d test n (f ∷ fs) = by_test (select_from test (n + 1) fs) (test n) (few_prefixed d test (n + 1) fs)
+  where
+    by_test : (rest : List (List ℕ)) (t : Bool) → length (prefixed_fields d rest) ≤ length (prefixed_fields d fs)
+        → length (prefixed_fields d (cond t (f ∷ rest) rest)) ≤ length (prefixed_fields d (f ∷ fs))
+    by_test rest true few =
+        omega (arith, few, length-append f (prefixed_fields d rest), length-append f (prefixed_fields d fs))
+    by_test rest false few = omega (arith, few, length-append f (prefixed_fields d fs))
+
+pub output_is_short : (job : Cut) (line : List ℕ) → length (cut_fields job line) ≤ length line
+output_is_short job line =
+    let d = job.delimiter in
+    let selected = select_from job.selected 1 (fields d line) in
+    omega (
+      arith,
+      ap length (join_prefixed d selected),
+      length-drop 1 (prefixed_fields d selected),
+      few_prefixed d job.selected 1 (fields d line),
+      ap length (prefixed_of_fields d line),
+    )
+
+-- the copied output and the next part of it are not longer than all of it
+pub output_is_near : (start end : ℕ) (was now out part rest : List ℕ) → take start was ++ out ≡ take end now
+    ++ (part ++ rest)
+    → start ≤ length was → end ≤ length now → end + length part ≤ start + length out
+output_is_near start end was now out part rest copied room place =
+    omega (
+      arith,
+      ap length copied,
+      length-append (take start was) out,
+      length-append (take end now) (part ++ rest),
+      length-append part rest,
+      length-take-le start was room,
+      length-take-le end now place,
+    )
+
+-- ---- the lines of a text
+
+pub none_of : (d : ℕ) (line : List ℕ) → IsLine d line → list_any (λ b. b == d) line ≡ false
+none_of d [] free = refl
+none_of d (b ∷ line) free = rw (byte_ne d b free.0) (none_of d line free.1)
+
+-- the delimiter is in a line, by a search
+pub found : (d : ℕ) (line : List ℕ) (r : Option ℕ) → IsFirstByte (is_byte d) line r
+    → list_any (λ b. b == d) line ≡ is_some r
+found d line None first = none_of d line (line_if_not_found d line first)
+found d line (Some at) first = list_any_at (λ b. b == d) line at 0 first.0.high first.1
+
+-- the output for a line that is cut by fields
+module _ (job : Cut) (by_fields : job.fields ≡ true) (line : List ℕ) where
+  pub of_fields : list_any (is_field_delimiter job) line ≡ true → cut_line job line ≡ cut_fields job line ∷ []
+  of_fields some = rw (by_fields, some) refl
+
+  pub of_line : list_any (is_field_delimiter job) line ≡ false → job.only ≡ false → cut_line job line ≡ line ∷ []
+  of_line none keeps = rw (by_fields, none, keeps) refl
+
+  pub of_none : list_any (is_field_delimiter job) line ≡ false → job.only ≡ true → cut_line job line ≡ []
+  of_none none only = rw (by_fields, none, only) refl
+
+module _ (job : Cut) (line : List ℕ) where
+  pub line_written : (bytes : List ℕ) → cut_line job line ≡ bytes ∷ [] → cut_lines job (line ∷ []) ≡ bytes
+      ++ job.terminator ∷ []
+  line_written bytes is = grind (arith, common_steps, append-nil)
+
+  pub line_dropped : cut_line job line ≡ [] → cut_lines job (line ∷ []) ≡ []
+  line_dropped is = cc
+
+module _ (job : Cut) where
+  pub cut_lines-append : (xs ys : List (List ℕ)) → cut_lines job (xs ++ ys) ≡ cut_lines job xs ++ cut_lines job ys
+  cut_lines-append xs ys = grind (arith, common_steps)
+
+  -- all output that was pushed is decided
+  cut_sure : (ls : List (List ℕ)) (pushed : List ℕ) → cut_lines job (ls ++ []) ≡ pushed ++ cut_lines job []
+      → IsPrefix (cut_lines job ls) pushed
+  cut_sure ls pushed on = grind (arith, common_steps, append-nil, cut_lines)
+
+  pub cut_line_tool : {S : Type 0} (start : S) → job.fields ≡ true
+      → IsLineFilter {S = S} {X = Unit {0}} {E = ℕ} (cut_tool job) (λ room store. tt) (cut_fields_from job)
+      (λ bytes. bytes) (λ u. 1) 1 start
+  cut_line_tool start by_fields = grind (arith, cut_sure)
+
+-- ---- lines before others
+
+eof-append : (end : ℕ) (ls : List (List ℕ)) (bytes : List ℕ) → AreLines end ls
+    → complete_lines end (unlines end ls ++ bytes) ≡ ls ++ complete_lines end bytes
+eof-append end [] bytes whole = refl
+eof-append end (l ∷ ls) bytes whole = grind (arith, common_steps, eof-append end ls bytes whole.1, complete_lines_cons)
+
+-- bytes that end with a terminator are the text of their lines
+text_of_ended : (end : ℕ) (front : List ℕ) → unlines end (complete_lines end (front ++ end ∷ [])) ≡ front ++ end ∷ []
+text_of_ended end front = grind (arith, the_complete_lines end [] tt, the_lines end (front ++ end ∷ []))
+
+-- ---- lines without the delimiter
+
+free_prefix : (d : ℕ) (n : ℕ) (bytes : List ℕ) → IsLine d bytes → IsLine d (take n bytes)
+free_prefix d n [] free = grind (arith, common_steps)
+free_prefix d zero (b ∷ bytes) free = tt
+free_prefix d (suc n) (b ∷ bytes) free = (free.0, free_prefix d n bytes free.1)
+
+free_lines : (d end : ℕ) (bytes : List ℕ) → IsLine d bytes → AreLines d (complete_lines end bytes)
+free_lines d end [] free = tt
+free_lines d end (b ∷ bytes) free = grind (arith, free_lines d end bytes free.1)
+
+module _ (job : Cut) (by_fields : job.fields ≡ true) where
+  lines_kept : job.only ≡ false → (ls : List (List ℕ)) → AreLines job.delimiter ls → flat_map (cut_line job) ls ≡ ls
+  lines_kept keeps [] free = refl
+  lines_kept keeps (l ∷ ls) free = search (rules, lines_kept keeps ls free.1, of_line, none_of)
+
+  lines_dropped : job.only ≡ true → (ls : List (List ℕ)) → AreLines job.delimiter ls → flat_map (cut_line job) ls ≡ []
+  lines_dropped only [] free = refl
+  lines_dropped only (l ∷ ls) free = search (rules, lines_dropped only ls free.1, of_none, none_of)
+
+-- ---- the first lines of a block
+
+module _ (job : Cut) (by_fields : job.fields ≡ true) {end : ℕ} (same : end ≡ job.terminator) (bytes : List ℕ) (to : ℕ)
+    (first : IsFirstByte (is_byte end) bytes (Some to)) where
+  -- one line, with this output
+  pub puts_line : (out : List ℕ) {old new : List ℕ} → cut_line job (take to bytes) ≡ out ∷ [] → new ≡ old
+      ++ (out ++ take 1 (drop to bytes)) → CopyLinesPost job end bytes (to + 1) old new
+  puts_line out is put = grind (arith, common_steps, ended_next)
+
+  -- all complete lines before an index, none of which has the delimiter
+  module _ {size up_to : ℕ} (high : to < size) (fits : size ≤ length bytes) (eof : get_or bytes (size - 1) 0 ≡ end)
+      (near : (size ≡ to + 1) ⊎ (size ≤ up_to)) (past : to ≤ up_to)
+      (free : IsLine job.delimiter (take up_to bytes)) where
+    abbrev front : List (List ℕ)
+    front = complete_lines end (take size bytes)
+
+    is_ended : take size bytes ≡ take (size - 1) bytes ++ end ∷ []
+    is_ended = grind (arith, common_steps)
+
+    texts : unlines end front ≡ take size bytes
+    texts = cc (is_ended, text_of_ended end (take (size - 1) bytes))
+
+    lines_are : complete_lines end bytes ≡ front ++ complete_lines end (drop size bytes)
+    lines_are =
+        cc (
+          take-append-drop size bytes,
+          texts,
+          eof-append end front (drop size bytes)
+              (line_split end (take size bytes)).whole,
+        )
+
+    free_up_to : {n : ℕ} → n ≤ up_to → IsLine job.delimiter (take n bytes)
+    free_up_to {n} le = rw (take-take n up_to bytes le) at (free_prefix job.delimiter n (take up_to bytes) free)
+
+    are_free : ((size ≡ to + 1) ⊎ (size ≤ up_to)) → AreLines job.delimiter front
+    are_free (inl one) = grind (arith, common_steps, complete_lines_cons, line_before_terminator, free_up_to)
+    are_free (inr le) = free_lines _ end (take size bytes) (free_up_to le)
+
+    pub puts_kept : {old new : List ℕ} → job.only ≡ false → new ≡ old ++ take size bytes
+        → CopyLinesPost job end bytes size old new
+    puts_kept keeps put = grind (arith, common_steps, texts, lines_are, lines_kept, are_free)
+
+    pub puts_dropped : {old : List ℕ} → job.only ≡ true → CopyLinesPost job end bytes size old old
+    puts_dropped {old} only = grind (arith, common_steps, texts, lines_are, lines_dropped, are_free)
+
+-- before the first delimiter there is none
+pub free_before : (d : ℕ) (bytes : List ℕ) (r : Option ℕ) → IsFirstByte (is_byte d) bytes r
+    → IsLine d (take (unwrap_or r (length bytes)) bytes)
+free_before d bytes None none = grind (arith, common_steps, take_all, line_if_not_found)
+free_before d bytes (Some at) first = line_before_terminator d bytes at first
+
+-- the first delimiter of some bytes is the first one of the first line if it is in that line
+pub first_within : (d : ℕ) (bytes : List ℕ) (r : Option ℕ) (to : ℕ) → IsFirstByte (is_byte d) bytes r
+    → unwrap_or r (length bytes) < to → to ≤ length bytes
+    → IsFirstByte (is_byte d) (take to bytes) (Some (unwrap_or r (length bytes)))
+first_within d bytes None to none lt le = absurd (omega arith)
+first_within d bytes (Some at) to first lt le = grind (arith, common_steps, length-take-le, get_or-take)
+
+-- a text that is cut after a line
+pub cut_of_parts : CutOfParts
+cut_of_parts job a b whole = grind (arith, common_steps, the_lines_of_parts, cut_lines-append)

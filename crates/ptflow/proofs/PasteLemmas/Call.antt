@@ -1,0 +1,714 @@
+-- A call of `paste`. After some rows: these were taken and pushed, the remaining rows are those of the lines still to
+-- come, for each continuation of the inputs, and the slots have at most one line for each column. From there each
+-- iteration takes more rows, or the call ends: with success, or with a failed read, write or growth, between rows or
+-- within one. At each exit more rows may have been pushed, and the readers have given the lines of the first columns of
+-- the next row, and perhaps a part of a line.
+use Rattle.ptflow.proofs
+use proofs.Common.{Bool, Err, List, Ok, Result, [], ap, append_assoc, arith, cond, drop, false, get_or, inl, inr}
+use proofs.Common.{length, length-append, max, refl, subst, sym, take, true, ℕ, ⊎_elim, ◌*◌, ◌++◌, ◌+◌, ◌<◌, ◌==◌}
+use proofs.Common.{◌^◌, ◌∙◌, ◌∷◌, ◌≡◌, ◌≤◌, ◌⊎◌, cases_eq, ne_eqb, nat_tests, common_steps, append-nil, drop_at}
+use proofs.Common.{take_all, All, top, Paste, received_with, advance_trans, push_nothing, push_trans}
+use proofs.Common.{bounded_lag_after, IsPrefix, Received, known_lines, Output, PushEffect, HasReadCause, IsDone, Reader}
+use proofs.Common.{ReaderAdvance, reader_at, Slots, total_bytes, with_denied, with_line, AddedSlots, IsLine, lines}
+use proofs.Common.{max_length, max_line_length, cut, CallPost, CallOutcome, CallState, call_state, CallEnd}
+use proofs.Common.{AreAllConsistent, inputs_at, is_in, CallProgress, DecidedIfReadFailed, reads_nothing, call_ends}
+use proofs.Common.{call_set, call_without_slots, PastePre, PastePost, IsReadable, paste_end, paste_engine, update_at}
+use proofs.Common.{columns, paste, paste_decided, rows, rows_text, uses_of, SetTerminatorsPost, SlotsBound}
+use proofs.Common.{SlotsKept, RowFailed, RowFilled, ClearSlotsPost, is_write_fault, RowShape, BegunText, CellsFilled}
+use proofs.Common.{CellsTaken, cells_text, job_shape, AreReceivedLines, LinesTaken, BufferedRowsPre, AreConsumed}
+use proofs.Common.{AreFirstRows, RowsTaken, CopyRowsPost, RowsWritten, FlowFault, Memory, Read, Write}
+use proofs.PasteLemmas.Rows.{slots_bound_start, slots_kept_by_lines, slots_bound_line, cells_total, sum_of_zeros}
+use proofs.PasteLemmas.Rows.{no_rows, rows_on, first_rows_trans, filled_row_is_first, filled_row_text}
+use proofs.PasteLemmas.Rows.{lines_trans, taken_at_most, taken_more, nothing_taken}
+use proofs.PasteLemmas.Grid.{Column, columns_same, last_use, uses_before_lt, uses_before, grid_none, rows_text-append}
+use proofs.PasteLemmas.Grid.{is_in_used, not_in, used_is_in, consistent_itself}
+use proofs.PasteLemmas.Lag.{EarlierPart, LagsAt, ended_more, lags_here, decided_is_prefix, earlier_now, complete_few}
+use proofs.PasteLemmas.Lag.{earlier_before, earlier_lines, begins_earlier, no_lines}
+use proofs.PasteLemmas.BufferedRows.{still_pulled}
+use proofs.Passes.Exits.{max_length-append, lines_on, lines_are_given, piece_longest, eof_gives_nothing, may_follow}
+use Rattle.ptlines.specs.Received.{empty_input}
+use Rattle.ptlines.specs.Calls.{InputNames, EngineSpec}
+use Rattle.std.specs.Prelude.{IsErrAnd}
+
+all_used : (P : ℕ → Type 0) (cells : List ℕ) → All P cells → (p : ℕ) → 0 < uses_of cells p → P p
+all_used P cells all p some =
+    let (c, low, is, count) = last_use cells p some in
+    subst P is (all c 0 low)
+
+-- `?` returns a fault.
+pub by_fault : {A : Type 0} {names : InputNames ℕ} {engine : EngineSpec ℕ} {old new : CallState ℕ}
+    (result : Result (Unit {0}) FlowFault) (e : FlowFault) → A × IsErrAnd result (λ fault. fault ≡ e)
+    → CallPost names engine old new (paste_end (Err e)) → CallPost names engine old new (paste_end result)
+by_fault = grind arith
+
+-- A job that has these rows.
+abbrev pub row_job : RowShape → Paste
+row_job row = record { serial = false; delimiters = row.delims; terminator = row.terminator }
+
+pub of_rows : {row same : RowShape} {old new : CallState ℕ} {end : CallEnd ℕ} → row ≡ same
+    → CallPost (inputs_at row.cells) (paste_engine (row_job row) row.cells) old new end
+    → CallPost (inputs_at same.cells) (paste_engine (row_job same) same.cells) old new end
+of_rows {old = old} {new} {end} is post =
+    subst (λ r. CallPost (inputs_at r.cells) (paste_engine (row_job r) r.cells) old new end) is post
+
+-- ---- the rows of all that was received, if some rows were taken
+
+-- The known lines of all received bytes, if `ls` were received first.
+whole_lines_after : {end : ℕ} {now : Reader} {given : List ℕ} {ls : Column} → AreReceivedLines end now given ls
+    → (rest : List ℕ) (eof : Bool) → (IsDone now → record { bytes = rest; eof = eof } ≡ empty_input)
+    → known_lines end (record { bytes = given ++ rest; eof = eof }) ≡ ls ++ known_lines end
+    (record { bytes = rest; eof = eof })
+whole_lines_after {end} {now} {given} {ls} k rest true may =
+    lines_on end now given ls k rest (λ done. ap (λ g. g.bytes) (may done))
+whole_lines_after {end} {now} {given} {ls} k rest false may = grind (arith, ended_more)
+
+-- The bytes that each reader gave after the rows.
+pub record ReadMore (now new : List Reader) : Type 0 where
+  pub extra : ℕ → List ℕ
+  pub reads : (p : ℕ) → ReaderAdvance (reader_at now p) (reader_at new p) (extra p)
+
+-- A whole input.
+abbrev whole : List ℕ → Received
+whole bytes = record { bytes = bytes; eof = true }
+
+module _ (job : Paste) {cells : List ℕ} {set now : List Reader} {ls : ℕ → Column}
+    {taken_rows : List (List (List ℕ))} (g : AreFirstRows (job_shape job cells) set now ls taken_rows) where
+  rows_after : (given rest : ℕ → Received)
+      → ((p : ℕ) → 0 < uses_of cells p
+      → given p ≡ record { bytes = (g.lines_taken p).bytes ++ (rest p).bytes; eof = (rest p).eof })
+      → ((p : ℕ) → 0 < uses_of cells p → IsDone (reader_at now p) → rest p ≡ empty_input)
+      → rows (columns cells (λ p. known_lines job.terminator (given p)))
+      ≡ taken_rows ++ rows (columns cells (λ p. known_lines job.terminator (rest p)))
+  rows_after given rest is may =
+      ap rows (columns_same cells (λ p. known_lines job.terminator (given p))
+      (λ p. ls p ++ known_lines job.terminator (rest p)) (λ p some. ap (known_lines job.terminator) (is p some)
+      ∙ whole_lines_after (g.lines_taken p).came (rest p).bytes (rest p).eof (may p some)))
+      ∙ rows_on g (λ p. known_lines job.terminator (rest p))
+      (λ p some done. ap (known_lines job.terminator) (may p some done))
+
+  module _ {new : List Reader} (r : ReadMore now new) where
+    abbrev pub given_by : ℕ → Received
+    given_by p = received_with ((g.lines_taken p).bytes ++ r.extra p) (reader_at new p)
+
+    module _ (texts : ℕ → List ℕ) (a : AreAllConsistent (inputs_at cells) given_by texts) where
+      -- The possible continuation of each input after the rows.
+      abbrev later : ℕ → List ℕ
+      later p = drop (length (g.lines_taken p).bytes) (texts p)
+
+      later_is : (p : ℕ) (some : 0 < uses_of cells p) → (texts p ≡ (g.lines_taken p).bytes ++ later p)
+          × (later p ≡ r.extra p ++ ((reader_at new p).buffered ++ (a p (used_is_in cells p some)).rest))
+      later_is p some =
+          let given = (g.lines_taken p).bytes in
+          let more = r.extra p ++ ((reader_at new p).buffered ++ (a p (used_is_in cells p some)).rest) in
+          let is : texts p ≡ given ++ more = simp append_assoc at (a p (used_is_in cells p some)).is in
+          let later = ap (drop (length given)) is ∙ drop_at given more _ refl in
+          (is ∙ ap (◌++◌ given) (sym later), later)
+
+      -- At the end of an input nothing follows.
+      later_none : (p : ℕ) → 0 < uses_of cells p → r.extra p ≡ [] → IsDone (reader_at new p) → later p ≡ []
+      later_none p some none done = let (_, is) = later_is p some in
+          is ∙ (λ i. none i ++ (done.buffered i ++ (a p (used_is_in cells p some)).whole done.eof i))
+
+      rows_by : rows (columns cells (λ p. lines job.terminator (texts p)))
+          ≡ taken_rows ++ rows (columns cells (λ p. lines job.terminator (later p)))
+      rows_by = rows_after (λ p. whole (texts p)) (λ p. whole (later p)) (λ p some. ap whole (later_is p some).0)
+          (λ p some done. ap whole ((later_is p some).1 ∙ may_follow _ _ _
+          ((reader_at new p).buffered ++ (a p (used_is_in cells p some)).rest) (r.reads p)
+          (λ done i. done.buffered i ++ (a p (used_is_in cells p some)).whole done.eof i) done))
+
+      begins_by : IsPrefix (rows_text job taken_rows) (paste job cells texts)
+      begins_by = grind (arith, common_steps, rows_by, rows_text-append)
+
+    abbrev later_rows : List (List (List ℕ))
+    later_rows = rows (columns cells (λ p. known_lines job.terminator (received_with (r.extra p) (reader_at new p))))
+
+    rows_whole : rows (columns cells (λ p. known_lines job.terminator (given_by p))) ≡ taken_rows ++ later_rows
+    rows_whole = rows_after given_by (λ p. received_with (r.extra p) (reader_at new p))
+        (λ p some i. record {
+          bytes = append_assoc (g.lines_taken p).bytes (r.extra p) (reader_at new p).buffered i;
+          eof = (reader_at new p).eof;
+        })
+        (λ p some done.
+        let (none, empty, eof) = eof_gives_nothing _ _ _ done (r.reads p) in
+        λ i. record { bytes = none i ++ empty i; eof = eof i })
+
+    abbrev pub EarlierBy : ℕ → Type 0
+    EarlierBy p = EarlierPart job.terminator ((length taken_rows + 1) * uses_of cells p) (given_by p)
+
+    -- Without the last bytes of this input alone, no more output is determined than was pushed.
+    lags_by : (p : ℕ) → 0 < uses_of cells p → EarlierBy p → LagsAt job cells given_by (rows_text job taken_rows) p
+    lags_by = lags_here job cells given_by taken_rows later_rows rows_whole
+
+    begins_by_earlier : (p : ℕ) (some : 0 < uses_of cells p) (cut : EarlierBy p) → cut.front ≡ (given_by p).bytes
+        → (given_by p).eof ≡ false
+        → IsPrefix (paste_decided job cells given_by) (rows_text job taken_rows)
+    begins_by_earlier = decided_is_prefix job cells given_by taken_rows later_rows rows_whole
+
+-- ---- after the terminators of the readers were set
+
+-- The precondition held, and the terminators were set.
+pub record HasStarted (job : Paste) (cells : List ℕ) (old set : List Reader) (was : Output) (first : Slots) : Type 0
+  where
+    pub writable : was.write_failed ≡ false
+    pub ready : PastePre cells old first
+    pub are_set : SetTerminatorsPost job.terminator cells old set
+    pub count : length set ≡ length old
+
+module _ {job : Paste} {cells : List ℕ} {old set : List Reader} {was : Output} {first : Slots}
+    (s : HasStarted job cells old set was first) where
+  readable : (p : ℕ) → 0 < uses_of cells p → IsReadable (reader_at old p)
+  readable = all_used (λ q. IsReadable (reader_at old q)) cells s.ready.readable
+
+  set_readable : BufferedRowsPre (job_shape job cells) set
+  set_readable = grind (arith, readable)
+
+  never_failed : (p : ℕ) → is_in cells p ≡ true → (reader_at set p).failed ≡ false
+  never_failed p named = grind (arith, is_in_used, readable, set_readable)
+
+  -- A call from there on is the whole call.
+  since_set : {new : CallState ℕ} {end : CallEnd ℕ}
+      → CallPost (inputs_at cells) (paste_engine job cells) (call_state (reader_at set) was first) new end
+      → CallPost (inputs_at cells) (paste_engine job cells) (call_state (reader_at old) was first) new end
+  since_set = call_set _ _ (call_state (reader_at old) was first) (call_state (reader_at set) was first) _ s.writable
+      refl refl (λ p named. (s.are_set p).set (is_in_used cells p named)) (λ p other. (s.are_set p).left
+      (not_in cells p other))
+
+  -- A slot could not be allocated.
+  pub paste_without_slots : {store : Slots} → AddedSlots first store (length cells) → store.peak ≡ first.peak
+      → store.denied ≡ true → length store.lines < length cells → {result : Result (Unit {0}) FlowFault}
+      → result ≡ Err Memory → PastePost job cells old set was was first store result
+  paste_without_slots adds same denied missing is =
+      rw (is, paste_end) (since_set (call_without_slots _ _ _ _ s.writable refl
+      (λ p named i.
+      record (reader_at set p) { terminator = set_readable.same_end p (is_in_used cells p named) i })
+      (λ p other. refl) (λ p named. (s.are_set p).sound (is_in_used cells p named)) never_failed denied same
+      adds.least missing (λ texts. omega arith) (λ p named. let some = is_in_used cells p named in
+      begins_earlier job cells (λ q. received_with [] (reader_at set q)) []
+      (rows (columns cells (λ q. known_lines job.terminator (received_with [] (reader_at set q))))) refl p some
+      (earlier_now (reader_at set p) [] ((s.are_set p).sound some).buffered (omega arith)))))
+
+-- ---- rows that were taken
+
+-- The rows `taken_rows` were taken and pushed; `ls` are their lines, by input.
+pub record PasteInvariant (job : Paste) (cells : List ℕ) (old set now : List Reader) (was is : Output)
+    (first store : Slots) : Type 0 where
+  pub starts : HasStarted job cells old set was first
+  pub ls : ℕ → Column
+  pub taken_rows : List (List (List ℕ))
+  pub first_rows : AreFirstRows (job_shape job cells) set now ls taken_rows
+  pub wrote : PushEffect was is (rows_text job taken_rows)
+  pub clean : is.write_failed ≡ false
+  pub kept : (top : ℕ → ℕ) → ((p : ℕ) → 0 < uses_of cells p → max_length (ls p) ≤ top p)
+      → SlotsBound cells top first store
+
+pub invariant_starts : {job : Paste} {cells : List ℕ} {old set : List Reader} {was : Output} {first store : Slots}
+    → HasStarted job cells old set was first
+    → AddedSlots first store (length cells) → store.denied ≡ false → total_bytes store.lines ≡ 0
+    → store.peak ≡ first.peak → PasteInvariant job cells old set set was was first store
+invariant_starts {was = was} starts adds allowed empty peak = record {
+  starts = starts;
+  ls = λ p. [];
+  taken_rows = [];
+  first_rows = no_rows;
+  wrote = push_nothing was;
+  clean = starts.writable;
+  kept = λ top high. slots_bound_start adds allowed empty peak;
+}
+
+-- After whole rows the first `n` columns of a row took their lines, and then perhaps a reader gave a part of a line.
+record RowPart (job : Paste) (cells : List ℕ) (mid new : List Reader) : Type 0 where
+  n : ℕ
+  last : List Reader
+  taken : ℕ → Column
+  lines_taken : (p : ℕ)
+      → LinesTaken job.terminator (reader_at mid p) (reader_at last p) (uses_of (take n cells) p) (taken p)
+  part : ℕ → List ℕ
+  reads : (p : ℕ) → ReaderAdvance (reader_at last p) (reader_at new p) (part p)
+  is_line : (p : ℕ) → IsLine job.terminator (part p)
+  left : (p : ℕ) → uses_of cells p ≡ 0 → reader_at new p ≡ reader_at last p
+
+-- No reader gave a part of a line.
+abbrev whole_columns : {job : Paste} {cells : List ℕ} {mid new : List Reader} (n : ℕ) {taken : ℕ → Column}
+    → ((p : ℕ) → LinesTaken job.terminator (reader_at mid p) (reader_at new p) (uses_of (take n cells) p) (taken p))
+    → RowPart job cells mid new
+whole_columns {new = new} n {taken} lines_taken = record {
+  n = n;
+  last = new;
+  taken = taken;
+  lines_taken = lines_taken;
+  part = λ p. [];
+  reads = λ p. reads_nothing (reader_at new p);
+  is_line = λ p. tt;
+  left = λ p none. refl;
+}
+
+abbrev read_more : {job : Paste} {cells : List ℕ} {mid new : List Reader} → RowPart job cells mid new → ReadMore mid new
+read_more q = record {
+  extra = λ p. (q.lines_taken p).bytes ++ q.part p;
+  reads = λ p. advance_trans _ _ _ _ _ (q.lines_taken p).reads (q.reads p);
+}
+
+module _ {job : Paste} {cells : List ℕ} {old set now : List Reader} {was is : Output} {first store : Slots}
+    (s : PasteInvariant job cells old set now was is first store) where
+  abbrev shape : RowShape
+  shape = job_shape job cells
+
+  -- The call ended so.
+  abbrev pub Ends : List Reader → Output → Slots → Result (Unit {0}) FlowFault → Type 0
+  Ends new is' after result = PastePost job cells old new was is' first after result
+
+  -- The lines that were taken from each reader so far.
+  abbrev so_far : (p : ℕ) → LinesTaken job.terminator (reader_at set p) (reader_at now p)
+      (length s.taken_rows * uses_of cells p) (s.ls p)
+  so_far = s.first_rows.lines_taken
+
+  -- The readers are still readable.
+  pub now_readable : BufferedRowsPre shape now
+  now_readable = let r = set_readable s.starts in record {
+    within = λ c d low. omega arith;
+    unfailed = λ p some. (so_far p).fault ∙ r.unfailed p some;
+    same_end = λ p some. (so_far p).reads.terminator ∙ r.same_end p some;
+  }
+
+  now_short : (p : ℕ) → 0 < uses_of cells p → (reader_at now p).pulled < 2 ^ 63
+  now_short p some = (so_far p).short
+      (((s.starts.are_set p).sound some).long ((set_readable s.starts).unfailed p some))
+
+  now_buffered : (p : ℕ) → 0 < uses_of cells p → length (reader_at now p).buffered ≤ 8192
+  now_buffered p some = (so_far p).buffered ((s.starts.are_set p).sound some).buffered
+
+  -- Each column has a slot.
+  pub invariant_slots : length cells ≤ length store.lines
+  invariant_slots = let k = s.kept (λ p. max_length (s.ls p)) (λ p some. omega arith) in omega arith
+
+  -- A bound on the slots, if further lines were taken.
+  abbrev Kept : (ℕ → Column) → Slots → Type 0
+  Kept ls stored = (top : ℕ → ℕ) → ((p : ℕ) → 0 < uses_of cells p → max_length (s.ls p ++ ls p) ≤ top p)
+      → SlotsBound cells top first stored
+
+  still_kept : (ls : ℕ → Column) → Kept ls store
+  still_kept ls top high = s.kept top (λ p some. omega (arith, high p some, max_length-append (s.ls p) (ls p)))
+
+  -- More rows were taken and pushed.
+  invariant_after : {new : List Reader} {ls : ℕ → Column} {more : List (List (List ℕ))}
+      → AreFirstRows shape now new ls more → {buffered : Slots} → Kept ls buffered
+      → {is' : Output} → PushEffect is is' (rows_text job more) → is'.write_failed ≡ false
+      → PasteInvariant job cells old set new was is' first buffered
+  invariant_after {ls = ls} {more} g kept wrote clean = record {
+    starts = s.starts;
+    ls = λ p. s.ls p ++ ls p;
+    taken_rows = s.taken_rows ++ more;
+    first_rows = first_rows_trans s.first_rows g;
+    wrote = rw (rows_text-append job.terminator job.delimiters s.taken_rows more)
+        (push_trans _ _ _ _ _ s.clean s.wrote wrote);
+    clean = clean;
+    kept = kept;
+  }
+
+  abbrev no_more : AreFirstRows shape now now (λ p. []) []
+  no_more = no_rows
+
+  -- Buffered output was written out.
+  pub invariant_sent : {written_out : Output} → PushEffect is written_out [] → written_out.write_failed ≡ false
+      → PasteInvariant job cells old set now was written_out first store
+  invariant_sent = invariant_after no_more (still_kept (λ p. []))
+
+  -- Rows from the buffers.
+  pub invariant_rows : {new : List Reader} {written : List ℕ} → RowsTaken shape now new written
+      → {is' : Output} → PushEffect is is' written → is'.write_failed ≡ false
+      → PasteInvariant job cells old set new was is' first store
+  invariant_rows p wrote clean = invariant_after p.first_rows (still_kept p.ls) (rw p.is at wrote) clean
+
+  pub invariant_written : {new : List Reader} {is' : Output} → RowsWritten shape now new is is'
+      → is'.write_failed ≡ false → PasteInvariant job cells old set new was is' first store
+  invariant_written p clean = invariant_rows p.rows p.wrote clean
+
+  -- ---- at an exit
+
+  -- Rows were taken and pushed, and then a part of a row was read.
+  module _ {mid new : List Reader} {ls : ℕ → Column} {more : List (List (List ℕ))}
+      (g : AreFirstRows shape now mid ls more) (q : RowPart job cells mid new) where
+    abbrev all_taken : (p : ℕ) → LinesTaken job.terminator (reader_at now p) (reader_at q.last p)
+        (length more * uses_of cells p + uses_of (take q.n cells) p) (ls p ++ q.taken p)
+    all_taken p = taken_more refl (g.lines_taken p) (q.lines_taken p)
+
+    abbrev read_on : ReadMore now new
+    read_on = record {
+      extra = λ p. (g.lines_taken p).bytes ++ (read_more q).extra p;
+      reads = λ p. advance_trans _ _ _ _ _ (g.lines_taken p).reads ((read_more q).reads p);
+    }
+
+    abbrev given : ℕ → Received
+    given = given_by job s.first_rows read_on
+
+    -- All lines that were taken, and their bytes.
+    abbrev all_lines : ℕ → Column
+    all_lines p = s.ls p ++ (ls p ++ q.taken p)
+
+    abbrev line_bytes : ℕ → List ℕ
+    line_bytes p = (so_far p).bytes ++ (all_taken p).bytes
+
+    lines_to : (p : ℕ) → AreReceivedLines job.terminator (reader_at q.last p) (line_bytes p) (all_lines p)
+    lines_to p = lines_trans (so_far p).came (all_taken p).reads (all_taken p).came
+
+    given_is : (p : ℕ) → (so_far p).bytes ++ read_on.extra p ≡ line_bytes p ++ q.part p
+    given_is p = simp append_assoc
+
+    failed_last : (p : ℕ) → (reader_at q.last p).failed ≡ (reader_at set p).failed
+    failed_last p = (all_taken p).failed ∙ (so_far p).failed
+
+    abbrev Cut : ℕ → Type 0
+    Cut = EarlierBy job s.first_rows read_on
+
+    -- An input without its buffer, if it gave fewer lines than one more row takes.
+    abbrev cut_now : (p : ℕ) → length (reader_at new p).buffered ≤ 8192
+        → length (all_lines p) < (length s.taken_rows + 1) * uses_of cells p → Cut p
+    cut_now p buffered few = earlier_now (reader_at new p) _ buffered
+        (rw (given_is p) (omega (arith, few, complete_few (lines_to p) (q.reads p) (q.is_line p))))
+
+    -- An input without its last line, if it gave no more lines than one more row takes.
+    cut_line : (p : ℕ) → 0 < uses_of cells p → length (reader_at new p).buffered ≤ 8192 → q.part p ≡ []
+        → length more * uses_of cells p + uses_of (take q.n cells) p ≤ uses_of cells p → Cut p
+    cut_line p some buffered none few = earlier_lines (reader_at new p) _ buffered (omega arith) (rw (
+      given_is p,
+      none,
+      append-nil (line_bytes p),
+      lines_are_given _ _ _ _ (lines_to p),
+    ) (omega (
+      arith,
+      length-append (s.ls p) (ls p ++ q.taken p),
+      taken_at_most (so_far p),
+      taken_at_most (all_taken p),
+    )))
+
+    -- A fact of all texts that are consistent with what was received.
+    abbrev ForTexts : ((ℕ → List ℕ) → Type 0) → Type 0
+    ForTexts P = (texts : ℕ → List ℕ) → AreAllConsistent (inputs_at cells) given texts → P texts
+
+    -- A bound on the slots, if the lines and the part of a line are no longer than that.
+    abbrev Bound : Slots → Type 0
+    Bound stored = (top : ℕ → ℕ) → ((p : ℕ) → 0 < uses_of cells p
+        → max (max_length (all_lines p)) (length (q.part p)) ≤ top p) → SlotsBound cells top first stored
+
+    bound_for : {stored : Slots} → Bound stored
+        → ForTexts (λ texts. SlotsBound cells (λ p. max_line_length job.terminator (texts p)) first stored)
+    bound_for bound texts a = bound (λ p. max_line_length job.terminator (texts p)) (λ p some.
+        piece_longest _ _ _ _ (lines_to p) _ _ (q.reads p) (q.is_line p) _
+        (rw (given_is p) at (a p (used_is_in cells p some))))
+
+    bound_now : {stored : Slots} → Bound stored
+        → SlotsBound cells (λ p. max_line_length job.terminator (given p).bytes) first stored
+    bound_now bound = bound_for bound (λ p. (given p).bytes) (λ p named. consistent_itself (given p))
+
+    -- Perhaps the store could not grow.
+    module _ {is' : Output} (wrote : PushEffect is is' (rows_text job more)) {after stored : Slots}
+        (same : (after ≡ stored) ⊎ (after ≡ with_denied stored)) (bound : Bound stored)
+        (cut : (p : ℕ) → 0 < uses_of cells p → Cut p) where
+      abbrev begin : CallState ℕ
+      begin = call_state (reader_at set) was first
+
+      abbrev end : CallState ℕ
+      end = call_state (reader_at new) is' after
+
+      abbrev bytes : ℕ → List ℕ
+      bytes p = (so_far p).bytes ++ read_on.extra p
+
+      abbrev pushed : List ℕ
+      pushed = rows_text job s.taken_rows ++ rows_text job more
+
+      same_size_and_peak : (length after.lines ≡ length stored.lines) × (after.peak ≡ stored.peak)
+      same_size_and_peak = grind (arith, same)
+
+      progress : CallProgress (inputs_at cells) (paste_engine job cells) begin end bytes pushed
+      progress = let (size, peak) = same_size_and_peak in let now_bound = bound_now bound in record {
+        reads = λ p named. advance_trans _ _ _ _ _ (so_far p).reads (read_on.reads p);
+        untouched = λ p other. let none = not_in cells p other in
+            q.left p none ∙ (all_taken p).none (rw none (omega (arith, uses_before cells q.n p)))
+            ∙ (so_far p).none (rw none (omega arith));
+        never_failed = never_failed s.starts;
+        writable = s.starts.writable;
+        wrote = push_trans _ _ _ _ _ s.clean s.wrote wrote;
+        is_prefix = λ texts a. rw (rows_text-append job.terminator job.delimiters s.taken_rows more) at
+            (begins_by job (first_rows_trans s.first_rows g) (read_more q) texts (λ p named.
+            rw (append_assoc (so_far p).bytes (g.lines_taken p).bytes ((read_more q).extra p)) (a p named)));
+        bounded_lag = λ p named. let some = is_in_used cells p named in
+            bounded_lag_after (λ g'. paste_decided job cells (update_at p (g' tt) given)) (λ u. given p) _ _ _
+            (lags_by job s.first_rows read_on p some (cut p some)) s.wrote s.clean _ _ wrote;
+        peak = λ texts a. omega (arith, (bound_for bound texts a).peak);
+        slots = λ texts a. omega (arith, now_bound.adds.most);
+        least = omega (arith, now_bound.adds.least);
+        room = omega (arith, now_bound.adds.all now_bound.denied);
+      }
+
+      exit : (result : Result (Unit {0}) FlowFault)
+          → CallOutcome (inputs_at cells) (paste_engine job cells) begin end given pushed (paste_end result)
+          → DecidedIfReadFailed (inputs_at cells) (paste_engine job cells) begin end bytes pushed (paste_end result)
+          → Ends new is' after result
+      exit result ends decided =
+          since_set s.starts (call_ends _ _ _ _ _ progress (paste_end result) ends decided)
+
+    -- A write failed.
+    write_exit : {is' : Output} → PushEffect is is' (rows_text job more) → is'.write_failed ≡ true → {after : Slots}
+        → Bound after → ((p : ℕ) → 0 < uses_of cells p → Cut p)
+        → ((p : ℕ) → (reader_at new p).failed ≡ (reader_at q.last p).failed)
+        → Ends new is' after (Err Write)
+    write_exit wrote fault bound cut same = exit wrote (inl refl) bound cut (Err Write) (record {
+      write_failed = fault;
+      unfailed = λ p named. same p ∙ failed_last p;
+      not_denied = (bound_now bound).denied;
+    }) tt
+
+  -- A write of rows from the buffers failed, after the first columns of the next row were copied.
+  taken_write_failed : {mid new : List Reader} {copied : List ℕ} → RowsTaken shape now mid copied
+      → (n : ℕ) {taken : ℕ → Column}
+      → ((p : ℕ) → LinesTaken job.terminator (reader_at mid p) (reader_at new p) (uses_of (take n cells) p) (taken p))
+      → AreConsumed now new → {is' : Output} → PushEffect is is' copied → is'.write_failed ≡ true
+      → Ends new is' store (Err Write)
+  taken_write_failed rows n {taken} b consumed wrote fault =
+      let q = whole_columns n b in
+      write_exit rows.first_rows q (rw rows.is at wrote) fault
+      (λ top high. still_kept (λ p. rows.ls p ++ taken p) top (λ p some. omega (arith, high p some)))
+      (λ p some. earlier_before (so_far p).came ((read_on rows.first_rows q).reads p) (still_pulled consumed p)
+      (now_buffered p some) (omega (arith, taken_at_most (so_far p)))) (λ p. refl)
+
+  -- A write of the rows of one input failed.
+  pub paste_shared_write_failed : {new : List Reader} {is' : Output}
+      → RowsWritten shape now new is is' → is'.write_failed ≡ true
+      → Ends new is' store (Err Write)
+  paste_shared_write_failed p fault =
+      taken_write_failed p.rows 0 (λ q. nothing_taken refl) p.consumed p.wrote fault
+
+  -- A write of rows of several inputs failed.
+  pub paste_rows_write_failed : {copied : List ℕ} {begun : BegunText} {is' : Output}
+      → CopyRowsPost shape now copied begun → PushEffect is is' copied → is'.write_failed ≡ true
+      → Ends begun.readers is' store (Err Write)
+  paste_rows_write_failed {begun = begun} p wrote fault =
+      taken_write_failed p.rows begun.count p.filled.consumed.lines_taken p.consumed wrote fault
+
+  -- A row was filled, and not from the buffers alone.
+  module _ {new : List Reader} {after : Slots} {fields : List (List ℕ)} (slots : SlotsKept cells fields store after)
+    where
+      row_kept : {n : ℕ} {input_lines : ℕ → Column} → n ≤ length cells → CellsTaken shape n now new fields input_lines
+          → Kept input_lines after
+      row_kept {input_lines = input_lines} few t top high =
+          slots_kept_by_lines slots few t first top (still_kept input_lines top high)
+          (λ p some. omega (arith, high p some, max_length-append (s.ls p) (input_lines p)))
+
+      -- Some column has a line, and the row was pushed.
+      module _ (f : CellsFilled shape (length cells) now new fields true) {is' : Output}
+          (wrote : PushEffect is is' (cells_text shape 0 fields)) where
+        row_taken : AreFirstRows shape now new f.input_lines (fields ∷ [])
+        row_taken = filled_row_is_first f
+
+        row_wrote : PushEffect is is' (rows_text job (fields ∷ []))
+        row_wrote = rw (filled_row_text shape f) at wrote
+
+        pub invariant_more : is'.write_failed ≡ false → PasteInvariant job cells old set new was is' first after
+        invariant_more = invariant_after row_taken (row_kept (omega arith) f.consumed) row_wrote
+
+        pub paste_row_write_failed : is'.write_failed ≡ true
+            → Ends new is' after (Err Write)
+        paste_row_write_failed fault =
+            let q = whole_columns 0 (λ (p : ℕ). nothing_taken {end = job.terminator} {r = reader_at new p} refl) in
+            write_exit row_taken q row_wrote fault (λ top high. row_kept (omega arith) f.consumed top
+            (λ p some. omega (
+              arith,
+              high p some,
+              max_length-append (s.ls p) (f.input_lines p ++ []),
+              max_length-append (s.ls p) (f.input_lines p),
+              max_length-append (f.input_lines p) [],
+            )))
+            (λ p some. cut_line row_taken q p some ((all_taken row_taken q p).buffered (now_buffered p some)) refl
+            (omega arith)) (λ p. refl)
+
+      -- No column has a line.
+      module _ (f : CellsFilled shape (length cells) now new fields false) where
+        abbrev at_end : RowPart job cells now new
+        at_end = whole_columns (length cells) f.consumed.lines_taken
+
+        done_by : (p : ℕ) → 0 < uses_of cells p → IsDone (reader_at new p)
+        done_by p some =
+            let all = ap (λ l. uses_of l p) (take_all (length cells) cells (omega arith)) in
+            grind (arith, f.none refl p, (at_end.lines_taken p).enough)
+
+        pub paste_done : {is' : Output} {cleared : Slots} → ClearSlotsPost cells after cleared → PushEffect is is' []
+            → is'.write_failed ≡ false → Ends new is' cleared (Ok tt)
+        paste_done {cleared = cleared} e wrote clean =
+            let bound : Bound no_more at_end cleared =
+            λ top high. e.kept first top
+            (row_kept (omega arith) f.consumed top (λ p some. omega (arith, high p some))) in
+            let now_bound = bound_now no_more at_end bound in
+            exit no_more at_end wrote (inl refl) bound (λ p some. cut_line no_more at_end p some
+            ((all_taken no_more at_end p).buffered (now_buffered p some)) refl (omega (
+              arith,
+              uses_before cells
+                  (length cells) p,
+            ))) (Ok tt) (record {
+              out = λ texts a. out_is texts a;
+              disorder = λ texts a. refl;
+              ended = λ none p named. done_by p (is_in_used cells p named);
+              fault = λ p named.
+                  (all_taken no_more at_end p).fault ∙ now_readable.unfailed p (is_in_used cells p named);
+              short = λ p named. (all_taken no_more at_end p).short (now_short p (is_in_used cells p named));
+              unfailed = λ p named. failed_last no_more at_end p;
+              clean = clean;
+              not_denied = now_bound.denied;
+              empty = omega (
+                arith,
+                cells_total cells (λ p. 0) cleared.lines (λ c low. omega (arith, ap length (e.empty c low)))
+                    now_bound.others,
+                sum_of_zeros cells,
+              );
+            }) tt
+          where
+            nothing_by : (p : ℕ) → (read_on no_more at_end).extra p ≡ []
+            nothing_by p =
+                let t = all_taken no_more at_end p in
+                cc (
+                  no_lines job.terminator t.bytes
+                      (omega (arith, ap length (lines_are_given _ _ _ _ t.came), ap length (f.none refl p))),
+                  append-nil (at_end.lines_taken p).bytes,
+                )
+
+            out_is : ForTexts no_more at_end (λ texts. rows_text job s.taken_rows ++ [] ≡ paste job cells texts)
+            out_is texts a =
+                let r = read_on no_more at_end in
+                cc (
+                  rows_by job s.first_rows r texts a,
+                  grid_none cells (λ p. lines job.terminator (later job s.first_rows r texts a p)) (λ p some.
+                      ap (lines job.terminator)
+                      (later_none job s.first_rows r texts a p some (nothing_by p) (done_by p some))),
+                  append-nil s.taken_rows,
+                  append-nil (rows_text job s.taken_rows),
+                )
+
+  -- A row could not be filled: the reader of a column gave only a part of a line.
+  module _ {CellFailed : Reader → Reader → Slots → Slots → ℕ → Type 0} {new : List Reader} {after : Slots}
+      (b : RowFailed CellFailed shape now new store after) (piece : List ℕ)
+      (piece_reads : ReaderAdvance (reader_at b.begun.readers (get_or cells b.column 0))
+      (reader_at new (get_or cells b.column 0)) piece)
+      (free : IsLine (reader_at b.begun.readers (get_or cells b.column 0)).terminator piece) where
+    abbrev here : ℕ
+    here = get_or cells b.column 0
+
+    here_used : 0 < uses_of cells here
+    here_used = omega (arith, uses_before_lt cells b.column b.within)
+
+    -- Only the reader of that column gave a part of a line.
+    abbrev part_to : ℕ → List ℕ
+    part_to p = cond (p == here) piece []
+
+    reads_to : (p : ℕ) → ReaderAdvance (reader_at b.begun.readers p) (reader_at new p) (part_to p)
+    reads_to p = grind (arith, nat_tests, b.others, reads_nothing)
+
+    is_line_to : (p : ℕ) → IsLine job.terminator (part_to p)
+    is_line_to p = grind (arith, nat_tests, b.amid.filled.consumed, now_readable, here_used)
+
+    abbrev row_to : RowPart job cells now new
+    row_to = record {
+      n = b.column;
+      last = b.begun.readers;
+      taken = b.amid.filled.input_lines;
+      lines_taken = b.amid.filled.consumed.lines_taken;
+      part = part_to;
+      reads = reads_to;
+      is_line = is_line_to;
+      left = λ p none. b.others p (λ same. absurd (omega (arith, here_used, ap (uses_of cells) same)));
+    }
+
+    bound_to : Bound no_more row_to b.buffered
+    bound_to top high = row_kept b.amid.slots (omega (arith, b.within)) b.amid.filled.consumed top
+        (λ p some. omega (arith, high p some))
+
+    bound_with_piece : Bound no_more row_to (with_line b.buffered b.column piece)
+    bound_with_piece top high = slots_bound_line (bound_to top high) b.column piece b.within
+        (grind (arith, nat_tests, high here here_used))
+
+    failed_to : (reader_at new here).failed ≡ (reader_at b.begun.readers here).failed
+        → (p : ℕ) → (reader_at new p).failed ≡ (reader_at b.begun.readers p).failed
+    failed_to same p = grind (arith, b.others p, cases_eq p here)
+
+    -- That reader is the one that limits the rows.
+    abbrev cut_here : Cut no_more row_to here
+    cut_here = cut_now no_more row_to here (b.few (now_buffered here here_used)) (omega (
+      arith,
+      length-append (s.ls here) (b.amid.filled.input_lines here),
+      taken_at_most (so_far here),
+      taken_at_most (row_to.lines_taken here),
+      uses_before_lt cells b.column b.within,
+    ))
+
+    cut_to : (p : ℕ) → 0 < uses_of cells p → Cut no_more row_to p
+    cut_to p some = ⊎_elim
+        (λ same. rw same cut_here)
+        (λ differ. cut_line no_more row_to p some
+        (rw (b.others p differ) ((row_to.lines_taken p).buffered (now_buffered p some)))
+        (rw (ne_eqb p here differ) refl)
+        (omega (arith, uses_before cells b.column p)))
+        (cases_eq p here)
+
+    -- The buffered output could not be written.
+    paste_send_failed : {is' : Output} → PushEffect is is' [] → is'.write_failed ≡ true → after ≡ b.buffered
+        → (reader_at new here).failed ≡ (reader_at b.begun.readers here).failed
+        → Ends new is' after (Err Write)
+    paste_send_failed wrote fault stored same =
+        rw stored (write_exit no_more row_to wrote fault bound_to cut_to (failed_to same))
+
+    -- A growth of a slot failed. That reader has bytes left.
+    paste_memory_failed : {is' : Output} → PushEffect is is' [] → is'.write_failed ≡ false
+        → after ≡ with_denied (with_line b.buffered b.column piece)
+        → (reader_at new here).failed ≡ (reader_at b.begun.readers here).failed
+        → 0 < length (reader_at new here).buffered
+        → Ends new is' after (Err Memory)
+    paste_memory_failed wrote clean stored same left =
+        exit no_more row_to wrote (inr stored) bound_with_piece cut_to (Err Memory) (record {
+          denied = cc stored;
+          unfailed = λ p named. failed_to same p ∙ failed_last no_more row_to p;
+          clean = clean;
+          left = λ enough. inl (
+            here,
+            used_is_in cells here here_used,
+            λ done. absurd (omega (arith, ap length done.buffered)),
+          );
+        }) tt
+
+    -- The read failed.
+    paste_read_failed : {is' : Output} → PushEffect is is' [] → is'.write_failed ≡ false
+        → after ≡ with_line b.buffered b.column piece
+        → HasReadCause (reader_at b.begun.readers here) (reader_at new here)
+        → Ends new is' after (Err (Read here))
+    paste_read_failed wrote clean stored cause =
+        exit no_more row_to wrote (inl stored) bound_with_piece cut_to (Err (Read here)) (record {
+          named = used_is_in cells here here_used;
+          unfailed = never_failed s.starts here (used_is_in cells here here_used);
+          cause = ⊎_elim inl (λ (long, same). inr (long, same ∙ failed_last no_more row_to here)) cause;
+          others = λ q named differ. cc (b.others q differ, failed_last no_more row_to q);
+          clean = clean;
+          not_denied = cc ((bound_now no_more row_to bound_with_piece).denied);
+        }) (λ p named failed. ⊎_elim decided_here
+        (λ (long, same). cc (failed_to same p, failed_last no_more row_to p, never_failed s.starts p named)) cause)
+      where
+        -- Nothing is buffered, so all that was given decided the rows that were pushed.
+        decided_here : ((reader_at new here).failed ≡ true) × ((reader_at new here).buffered ≡ [])
+            × ((reader_at new here).eof ≡ false)
+            → IsPrefix (paste_decided job cells (given no_more row_to)) (rows_text job s.taken_rows ++ [])
+        decided_here (failed, empty, going) =
+            let r = read_on no_more row_to in
+            let bytes = (so_far here).bytes ++ r.extra here in
+            rw (append-nil (rows_text job s.taken_rows)) (begins_by_earlier job s.first_rows r here here_used cut_here
+            (cc (append-nil bytes)) going)
+
+  -- A row could not be filled, for each fault.
+  pub paste_fill_failed : (new : List Reader) {after : Slots} (into : List ℕ) {is' : Output} (e : FlowFault)
+      → RowFilled shape now store new after into (Err e) → PushEffect is is' []
+      → (fault : is'.write_failed ≡ is_write_fault {X = Unit {0}} (Err e))
+      → Ends new is' after (Err e)
+  paste_fill_failed new into (Read input) (f, named) wrote clean =
+      let k = f.failure in
+      rw named (paste_read_failed f k.piece k.faults.reads k.faults.whole wrote clean k.stored k.cause)
+  paste_fill_failed new into Write f wrote fault =
+      let (same, kept, going) = f.failure in
+      paste_send_failed f [] (rw same (reads_nothing _)) tt wrote fault kept (ap (λ r. r.failed) same)
+  paste_fill_failed new into Memory f wrote clean =
+      let k = f.failure in
+      paste_memory_failed f k.piece k.faults.reads k.faults.whole wrote clean k.stored k.failed k.left

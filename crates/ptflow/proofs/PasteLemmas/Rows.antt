@@ -1,0 +1,670 @@
+-- Lines that were taken from a reader, and rows whose lines were taken. They compose: if lines or rows are taken and
+-- then more, the concatenation is taken. A row is filled column by column: a field comes from the slot of its column,
+-- or from the buffer of its reader. The text of the first fields was copied, and the slots hold the others. Each step
+-- changes one reader, so the lines of the columns before it stay as they are. One filled row is a row that was taken,
+-- since each column takes one line. Its fields, each with the byte after it, are the joined fields and the terminator.
+-- The slots hold all bytes of the store, so the total is at most the sum of the columns' bounds.
+use Rattle.ptflow.proofs
+use proofs.Common.{Bool, Err, List, None, Ok, [], ap, arith, cond, drop, false, get_or, get_or-drop, get_or-take, inl}
+use proofs.Common.{inr, length, length-append, length-drop, map, refl, set, subst, suc, sym, take, take-append-drop}
+use proofs.Common.{true, zero, ℕ, ⊎_elim, ◌*◌, ◌++◌, ◌+◌, ◌<◌, ◌==◌, ◌||◌, ◌∙◌, ◌∷◌, ◌≡◌, ◌≢◌, ◌≤◌, ◌⊎◌, cases_eq}
+use proofs.Common.{eq-eqb, ne_eqb, nat_tests, common_steps, append-nil, drop-set-lt, drop_all, ext_get_or}
+use proofs.Common.{get_or-set_other, get_or-set_same, get_or_append_left, get_or_at, get_or_default, get_or_past}
+use proofs.Common.{get_or_push, length-set, length-take-le, take-append-le, take-take, take_all, get_or-le-sum_by}
+use proofs.Common.{sum_by-append, sum_by-cons, sum_by-set, sum_by, top, advance_trans, lines_of_unlines}
+use proofs.Common.{unlines-append, FillReadErr, FillPost, FillLine, AdvanceOk, IsDone, IsSound, Reader, ReaderAdvance}
+use proofs.Common.{budget, no_reader, reader_at, Slots, line, total_bytes, with_line, AddedSlots, AreLines, max_length}
+use proofs.Common.{unlines, columns, join_with_cycle, rows, uses_of, SetTerminatorsPost, FillCellPost}
+use proofs.Common.{SlotsBound, SlotsKept, RowAmid, RowFailed, RowFilled, RowShape, BegunText, CellsFilled, CellsTaken}
+use proofs.Common.{after_cell, cells_text, slots_text, AreReceivedLines, LinesTaken, BufferedRowsPre, AreFirstRows}
+use proofs.Common.{RowsTaken, CopyColumnsPost, CopyRowsPost, FlowFault, Memory, Read, Write, rules}
+use proofs.Passes.Exits.{lines_none, lines_are_given, lines_more, eof_gives_nothing, stays_at_eof}
+use Rattle.std.specs.Prelude.{slice_index_or}
+use proofs.PasteLemmas.Grid.{Column, for_each_cell_unique, uses_before, grid_step, grid_none, after_row, rows-append}
+use proofs.PasteLemmas.Grid.{rows_text-append, uses_here, uses_other, uses_before_lt}
+use Rattle.std.proofs.Math.Bool.{or-true, or-false}
+
+AreLines-append : (end : ℕ) (xs ys : List (List ℕ)) → AreLines end xs → AreLines end ys → AreLines end (xs ++ ys)
+AreLines-append end [] ys p q = q
+AreLines-append end (x ∷ xs) ys (line, more) q = (line, AreLines-append end xs ys more q)
+
+-- A reader at the end of its input gives no lines.
+none_received : {end : ℕ} {b c : Reader} {bytes : List ℕ} {ls : List (List ℕ)} → IsDone b → ReaderAdvance b c bytes
+    → AreReceivedLines end c bytes ls → ls ≡ []
+none_received {end} {b} {c} {bytes} {ls} done reads k =
+    let (none, empty, eof) = eof_gives_nothing _ _ _ done reads in
+    cc (lines_are_given _ _ _ _ k)
+
+-- Lines were received, and then more.
+pub lines_trans : {end : ℕ} {b c : Reader} {bs cs : List ℕ} {xs ys : List (List ℕ)} → AreReceivedLines end b bs xs
+    → ReaderAdvance b c cs → AreReceivedLines end c cs ys
+    → AreReceivedLines end c (bs ++ cs) (xs ++ ys)
+lines_trans = search (
+  rules,
+  unlines-append,
+  AreLines-append,
+  lines_of_unlines,
+  eof_gives_nothing,
+  none_received,
+  stays_at_eof,
+)
+
+-- At most the requested number of lines is taken.
+pub taken_at_most : {end : ℕ} {b c : Reader} {n : ℕ} {ys : List (List ℕ)} → LinesTaken end b c n ys → length ys ≤ n
+taken_at_most t = grind (arith, t.enough)
+
+-- Nothing is taken from a reader at the end of its input.
+pub none_at_eof : {end : ℕ} {b c : Reader} {n : ℕ} {ys : List (List ℕ)} → LinesTaken end b c n ys → IsDone b → ys ≡ []
+none_at_eof t done = none_received done t.reads t.came
+
+pub nothing_taken : {end : ℕ} {r : Reader} {n : ℕ} → n ≡ 0 → LinesTaken end r r n []
+nothing_taken = grind (arith, lines_none)
+
+abbrev pub taken_more : {end : ℕ} {a b c : Reader} {k m n : ℕ} {xs ys : List (List ℕ)} → k ≡ m + n
+    → LinesTaken end a b m xs → LinesTaken end b c n ys → LinesTaken end a c k (xs ++ ys)
+taken_more {end} {a} {b} {c} {k} {m} {n} {xs} {ys} all p q = record {
+  bytes = p.bytes ++ q.bytes;
+  reads = advance_trans _ _ _ _ _ p.reads q.reads;
+  failed = q.failed ∙ p.failed;
+  fault = q.fault ∙ p.fault;
+  short = λ h. q.short (p.short h);
+  buffered = λ h. q.buffered (p.buffered h);
+  none = λ h. q.none (omega arith) ∙ p.none (omega arith);
+  came = lines_trans p.came q.reads q.came;
+  enough = grind (arith, p.enough, q.enough, none_at_eof, stays_at_eof, length-append);
+}
+
+-- Lines were requested: so many were taken, or fewer at the end of the input.
+pub taken_by : {end n : ℕ} {b c : Reader} {bytes : List ℕ} {ls : List (List ℕ)} → AdvanceOk b c bytes → b.fault ≡ None
+    → IsSound c → AreReceivedLines end c bytes ls → (length ls ≡ n) ⊎ (IsDone c × (length ls ≤ n)) → (n ≡ 0 → c ≡ b)
+    → LinesTaken end b c n ls
+taken_by = grind arith
+
+-- A line was read into a slot.
+pub taken_line : {end : ℕ} {b c : Reader} {before after : Slots} {slot : ℕ} (e : FillLine b c before after slot)
+    → b.terminator ≡ end → b.fault ≡ None → IsSound c
+    → LinesTaken end b c 1 (e.line ∷ [])
+taken_line {end} {b} {c} {before} {after} {slot} e same clean sound = taken_by e.advance_ok clean sound
+    (lines_more end b [] [] (lines_none end b) c before after slot e same) (inl refl) (λ none. cc)
+
+-- No line was left.
+pub taken_eof : {end : ℕ} {b c : Reader} → AdvanceOk b c [] → IsDone c → b.fault ≡ None → IsSound c
+    → LinesTaken end b c 1 []
+taken_eof advance_ok done clean sound =
+    taken_by advance_ok clean sound (lines_none _ _) (inr (done, omega arith)) (λ none. cc)
+
+-- ---- the text of a row, column by column
+
+module _ (row : RowShape) where
+  pub cells_text-append : (c : ℕ) (xs ys : List (List ℕ))
+      → cells_text row c (xs ++ ys) ≡ cells_text row c xs ++ cells_text row (c + length xs) ys
+  cells_text-append c [] ys = let none : c ≡ c + 0 = omega arith in ap (λ (k : ℕ). cells_text row k ys) none
+  cells_text-append c (x ∷ xs) ys = grind (arith, common_steps, cells_text-append (c + 1) xs ys)
+
+  -- One more field.
+  pub cells_text-push : (c : ℕ) (xs : List (List ℕ)) (x : List ℕ) {k : ℕ} → c + length xs ≡ k
+      → cells_text row c (xs ++ x ∷ []) ≡ cells_text row c xs ++ (x ++ after_cell row k)
+  cells_text-push = search (rules, cells_text-append)
+
+  -- The columns from c to the last one.
+  pub row_text : (c : ℕ) (xs : List (List ℕ)) → c + length xs ≡ length row.cells → 0 < length xs
+      → cells_text row c xs ≡ join_with_cycle row.delims c xs ++ row.terminator ∷ []
+  row_text c [] all some = absurd (omega arith)
+  row_text c (x ∷ []) all some = search (rules, eq-eqb)
+  row_text c (x ∷ y ∷ more) all some = grind (
+    arith,
+    common_steps,
+    ne_eqb,
+    row_text (c + 1) (y ∷ more) (omega arith)
+        (omega arith),
+  )
+
+  -- The text of a filled row.
+  pub filled_row_text : {old new : List Reader} {fields : List (List ℕ)}
+      → CellsFilled row (length row.cells) old new fields true
+      → cells_text row 0 fields ≡ unlines row.terminator (map (join_with_cycle row.delims 0) (fields ∷ []))
+  filled_row_text = search (rules, row_text)
+
+-- ---- rows that were taken
+
+module _ {row : RowShape} where
+  -- They are the first rows, for each continuation of the inputs.
+  pub rows_on : {old new : List Reader} {ls : ℕ → Column} {taken_rows : List (List (List ℕ))}
+      → AreFirstRows row old new ls taken_rows → (more : ℕ → Column)
+      → ((input : ℕ) → 0 < uses_of row.cells input → IsDone (reader_at new input) → more input ≡ [])
+      → rows (columns row.cells (λ input. ls input ++ more input)) ≡ taken_rows ++ rows (columns row.cells more)
+  rows_on {ls = ls} {taken_rows} t more may = cc (
+    rows-append row.cells (length taken_rows) ls more
+        (λ input some. grind (arith, may input some, (t.lines_taken input).enough)),
+    t.are,
+  )
+
+  -- Rows are taken, and then more.
+  abbrev pub first_rows_trans : {a b c : List Reader} {ks ls : ℕ → Column} {xs ys : List (List (List ℕ))}
+      → AreFirstRows row a b ks xs → AreFirstRows row b c ls ys
+      → AreFirstRows row a c (λ input. ks input ++ ls input) (xs ++ ys)
+  first_rows_trans {a} {b} {c} {ks} {ls} {xs} {ys} p q = record {
+    lines_taken = λ input. taken_more
+        (ap (λ (n : ℕ). n * uses_of row.cells input) (length-append xs ys) ∙ omega arith)
+        (p.lines_taken input) (q.lines_taken input);
+    are = cc (rows_on p ls (λ input some done. none_at_eof (q.lines_taken input) done), q.are);
+    count = q.count ∙ p.count;
+  }
+
+  pub no_rows : {old : List Reader} → AreFirstRows row old old (λ p. []) []
+  no_rows = record {
+    lines_taken = λ p. nothing_taken (omega arith);
+    are = grid_none row.cells (λ p. []) (λ p some. refl);
+    count = refl;
+  }
+
+  pub rows_taken_none : {old : List Reader} → RowsTaken row old old []
+  rows_taken_none = record {
+    ls = λ p. [];
+    taken_rows = [];
+    first_rows = no_rows;
+    least = omega arith;
+    is = refl;
+  }
+
+  -- Rows are taken, and then more.
+  pub rows_taken_trans : {a b c : List Reader} {xs ys : List ℕ} → RowsTaken row a b xs → RowsTaken row b c ys
+      → RowsTaken row a c (xs ++ ys)
+  rows_taken_trans p q = record {
+    ls = λ input. p.ls input ++ q.ls input;
+    taken_rows = p.taken_rows ++ q.taken_rows;
+    first_rows = first_rows_trans p.first_rows q.first_rows;
+    least = omega arith;
+    is = (λ i. p.is i ++ q.is i) ∙ sym (rows_text-append row.terminator row.delims p.taken_rows q.taken_rows);
+  }
+
+module _ {row : RowShape} {old new : List Reader} {fields : List (List ℕ)}
+    (r : CellsFilled row (length row.cells) old new fields true) where
+  lines_taken_by_row : (p : ℕ)
+      → LinesTaken row.terminator (reader_at old p) (reader_at new p) (1 * uses_of row.cells p) (r.input_lines p)
+  lines_taken_by_row p =
+      let all : uses_of (take (length row.cells) row.cells) p ≡ 1 * uses_of row.cells p = omega (
+        arith,
+        ap (λ l. uses_of l p) (take_all (length row.cells) row.cells (omega arith)),
+      ) in
+      rw all at (r.consumed.lines_taken p)
+
+  -- A filled row in which some column has a line is the next row.
+  pub filled_row_is_first : AreFirstRows row old new r.input_lines (fields ∷ [])
+  filled_row_is_first =
+      let (c, low, first) = r.some refl in
+      let field = λ (c p : ℕ). slice_index_or (r.input_lines p) (uses_of (take c row.cells) p) [] in
+      let row_is =
+      for_each_cell_unique field row.cells fields [] r.consumed.width r.consumed.fields_taken in
+      record {
+        lines_taken = lines_taken_by_row;
+        are = cc (
+          grid_step row.cells r.input_lines c low (omega arith),
+          grid_none row.cells (after_row row.cells r.input_lines)
+              (λ p some. drop_all (uses_of row.cells p) (r.input_lines p)
+              (omega (arith, taken_at_most (lines_taken_by_row p)))),
+        );
+        count = r.consumed.count;
+      }
+
+  pub row_taken : RowsTaken row old new (cells_text row 0 fields)
+  row_taken = record {
+    ls = r.input_lines;
+    taken_rows = fields ∷ [];
+    first_rows = filled_row_is_first;
+    least = r.least;
+    is = filled_row_text row r;
+  }
+
+-- ---- the slots of a row
+
+pub cells_total : (cells : List ℕ) (top : ℕ → ℕ) (ls : List (List ℕ)) → ((c : ℕ) → c < length cells
+    → length (get_or ls c []) ≤ top (get_or cells c 0))
+    → total_bytes (drop (length cells) ls) ≡ 0 → total_bytes ls ≤ sum_by top cells
+cells_total [] top ls short others = omega arith
+cells_total (x ∷ cells) top [] short others = omega arith
+cells_total (x ∷ cells) top (l ∷ ls) short others = omega (
+  arith,
+  sum_by-cons length l ls,
+  sum_by-cons top x cells,
+  short 0 (omega arith),
+  cells_total cells top ls (λ c low. short (suc c) (omega arith)) others,
+)
+
+pub sum_of_zeros : (cells : List ℕ) → sum_by (λ (p : ℕ). 0) cells ≡ 0
+sum_of_zeros [] = refl
+sum_of_zeros (x ∷ cells) = omega (arith, sum_of_zeros cells)
+
+pub slots_bound_start : {cells : List ℕ} {top : ℕ → ℕ} {before store : Slots} → AddedSlots before store (length cells)
+    → store.denied ≡ false → total_bytes store.lines ≡ 0
+    → store.peak ≡ before.peak → SlotsBound cells top before store
+slots_bound_start {cells} {store = store} adds denied empty peak = record {
+  denied = denied;
+  adds = adds;
+  short = λ c low. omega (arith, get_or-le-sum_by length store.lines c [] (omega arith));
+  others = let n = length cells in omega (
+    arith,
+    ap total_bytes (take-append-drop n store.lines),
+    sum_by-append length (take n store.lines) (drop n store.lines),
+  );
+  peak = omega arith;
+}
+
+-- The slot of one column gets another line.
+pub slots_bound_line : {cells : List ℕ} {top : ℕ → ℕ} {before store : Slots} → SlotsBound cells top before store
+    → (column : ℕ) (bytes : List ℕ) → column < length cells
+    → length bytes ≤ top (get_or cells column 0) → SlotsBound cells top before (with_line store column bytes)
+slots_bound_line {cells} {top} {before} {store} k column bytes within fits = record {
+  denied = k.denied;
+  adds = record {
+    least = omega (arith, size);
+    most = omega (arith, size);
+    all = λ allowed. size ∙ k.adds.all k.denied;
+  };
+  short = short;
+  others = others;
+  peak = omega (arith, cells_total cells top lines short others);
+}
+  where
+    lines : List (List ℕ)
+    lines = set store.lines column bytes
+
+    size : length lines ≡ length store.lines
+    size = length-set store.lines column bytes
+
+    short : (c : ℕ) → c < length cells → length (get_or lines c []) ≤ top (get_or cells c 0)
+    short c low = grind (
+      arith,
+      k.short c low,
+      k.adds.all k.denied,
+      get_or-set_same store.lines column bytes [],
+      get_or-set_other store.lines column c bytes [],
+    )
+
+    others : total_bytes (drop (length cells) lines) ≡ 0
+    others = ap total_bytes (drop-set-lt (length cells) store.lines column bytes within) ∙ k.others
+
+-- ---- the slots of a row that is being filled
+
+line_le_max_length : (ls : List (List ℕ)) (j : ℕ) → length (get_or ls j []) ≤ max_length ls
+line_le_max_length [] j = omega arith
+line_le_max_length (line ∷ ls) zero = omega arith
+line_le_max_length (line ∷ ls) (suc j) = omega (arith, line_le_max_length ls j)
+
+pub slots_kept_start : {cells : List ℕ} {fields : List (List ℕ)} {store : Slots} → SlotsKept cells fields store store
+slots_kept_start = record { same = refl; kept = λ first top k high. k }
+
+module _ {cells : List ℕ} {fields : List (List ℕ)} {before store : Slots} (s : SlotsKept cells fields before store)
+  where
+    -- More fields that are in no slot.
+    pub slots_kept_more : (more : List (List ℕ)) → SlotsKept cells (fields ++ more) before store
+    slots_kept_more more = grind (arith, common_steps, length-append)
+
+    -- One more field, which is in the slot of its column.
+    pub slots_kept_line : {n : ℕ} (field : List ℕ) → length fields ≡ n → n < length cells
+        → SlotsKept cells (fields ++ field ∷ []) before (with_line store n field)
+    slots_kept_line {n} field width low = record {
+      same = length-set _ n field ∙ s.same;
+      kept = λ first top k high. slots_bound_line ((slots_kept_more (field ∷ [])).kept first top k high) n field low
+          (omega (
+            arith,
+            high n (omega (arith, length-append fields (field ∷ []))),
+            ap length (get_or_push fields field [] n (omega arith)),
+          ));
+    }
+
+-- The bound on the slots, by the lines that the readers gave.
+pub slots_kept_by_lines : {row : RowShape} {n : ℕ} {old new : List Reader} {fields : List (List ℕ)}
+    {input_lines : ℕ → List (List ℕ)} {before store : Slots} → SlotsKept row.cells fields before store
+    → n ≤ length row.cells → CellsTaken row n old new fields input_lines → (first : Slots) (top : ℕ → ℕ)
+    → SlotsBound row.cells top first before
+    → ((input : ℕ) → 0 < uses_of row.cells input → max_length (input_lines input) ≤ top input)
+    → SlotsBound row.cells top first store
+slots_kept_by_lines = grind (arith, line_le_max_length, uses_before_lt)
+
+-- ---- readers by their indices
+
+pub at_same : (readers : List Reader) (input : ℕ) (r : Reader) → input < length readers
+    → reader_at (set readers input r) input ≡ r
+at_same readers input r low = get_or-set_same readers input r no_reader low
+
+pub at_other : (readers : List Reader) (input other : ℕ) (r : Reader) → other ≢ input
+    → reader_at (set readers input r) other ≡ reader_at readers other
+at_other readers input other r differ = get_or-set_other readers input other r no_reader differ
+
+-- A fact of each reader, after one of them was set.
+pub each_reader : (P : ℕ → Reader → Type 0) (readers : List Reader) {input : ℕ} {r : Reader} → input < length readers
+    → P input r → ((q : ℕ) → q ≢ input → P q (reader_at readers q)) → (q : ℕ) → P q (reader_at (set readers input r) q)
+each_reader = grind (arith, at_same, at_other)
+
+-- The reader that an index expression read.
+pub at_index : (readers : List Reader) (input : ℕ) (r : Reader) → input < length readers
+    → get_or readers input r ≡ reader_at readers input
+at_index readers input r low = get_or_default readers input r no_reader low
+
+-- The next column of a row has a readable reader, which is `b`.
+pub record IsNextReader (row : RowShape) (now : List Reader) (n : ℕ) (b : Reader) : Type 0 where
+  pub low : n < length row.cells
+  pub within : get_or row.cells n 0 < length now
+  pub is_read : b ≡ reader_at now (get_or row.cells n 0)
+  pub clean : b.fault ≡ None
+  pub ends : b.terminator ≡ row.terminator
+
+pub next_reader : {row : RowShape} {now : List Reader} {n : ℕ} → BufferedRowsPre row now → n < length row.cells
+    → (unread : Reader) → IsNextReader row now n (get_or now (get_or row.cells n 0) unread)
+next_reader {row} {now} {n} ready low unread =
+    let input = get_or row.cells n 0 in
+    let within = ready.within n 0 low in
+    let is = at_index now input unread within in
+    let used : 0 < uses_of row.cells input = omega (arith, uses_before_lt row.cells n low) in
+    record {
+      low = low;
+      within = within;
+      is_read = is;
+      clean = rw is (ready.unfailed input used);
+      ends = rw is (ready.same_end input used);
+    }
+
+-- The terminator of one more reader is set.
+pub set_terminator_more : (end : ℕ) (cells : List ℕ) (i : ℕ) (old now : List Reader) (r : Reader) → i < length cells
+    → get_or cells i 0 < length now → SetTerminatorsPost end (take i cells) old now
+    → r ≡ record (reader_at now (get_or cells i 0)) { terminator = end } → IsSound r
+    → SetTerminatorsPost end (take (i + 1) cells) old (set now (get_or cells i 0) r)
+set_terminator_more = grind (arith, common_steps, each_reader, uses_here, uses_other)
+
+-- ---- the lines of a row
+
+-- The lines taken from each reader, with `ls` added for one reader.
+abbrev pub lines_at : ℕ → List (List ℕ) → (ℕ → List (List ℕ)) → ℕ → List (List ℕ)
+lines_at input ls input_lines q = cond (q == input) (input_lines q ++ ls) (input_lines q)
+
+module _ (input : ℕ) (ls : List (List ℕ)) (input_lines : ℕ → List (List ℕ)) (q : ℕ) where
+  lines_at_here : q ≡ input → lines_at input ls input_lines q ≡ input_lines q ++ ls
+  lines_at_here same = rw (eq-eqb q input same) refl
+
+  lines_at_other : q ≢ input → lines_at input ls input_lines q ≡ input_lines q
+  lines_at_other differ = rw (ne_eqb q input differ) refl
+
+  -- Adding no line changes nothing.
+  lines_at_none : ls ≡ [] → lines_at input ls input_lines q ≡ input_lines q
+  lines_at_none none = grind (arith, nat_tests, append-nil (input_lines q))
+
+-- The line of a column.
+abbrev cell_of : List ℕ → (ℕ → List (List ℕ)) → ℕ → List ℕ
+cell_of cells input_lines c = slice_index_or (input_lines (get_or cells c 0)) (uses_of (take c cells)
+    (get_or cells c 0)) []
+
+module _ {row : RowShape} {n : ℕ} {old now : List Reader} {fields : List (List ℕ)} {input_lines : ℕ → List (List ℕ)}
+    (t : CellsTaken row n old now fields input_lines) (low : n < length row.cells)
+    (within : get_or row.cells n 0 < length now) {r : Reader} {ls : List (List ℕ)} {field : List ℕ}
+    (lines_taken : LinesTaken row.terminator (reader_at now (get_or row.cells n 0)) r 1 ls)
+    (there : field ≡ slice_index_or (input_lines (get_or row.cells n 0) ++ ls)
+    (uses_of (take n row.cells) (get_or row.cells n 0)) []) where
+  abbrev cells : List ℕ
+  cells = row.cells
+
+  abbrev input : ℕ
+  input = get_or cells n 0
+
+  lines_taken_next : (q : ℕ) → LinesTaken row.terminator (reader_at old q) (reader_at (set now input r) q)
+      (uses_of (take (n + 1) cells) q) (lines_at input ls input_lines q)
+  lines_taken_next = each_reader (λ q x. LinesTaken row.terminator (reader_at old q) x
+      (uses_of (take (n + 1) cells) q) (lines_at input ls input_lines q)) now within
+      (rw (lines_at_here input ls input_lines input refl)
+      (taken_more (uses_here cells n input low refl) (t.lines_taken input) lines_taken))
+      (λ q differ. rw (lines_at_other input ls input_lines q differ, uses_other cells n q low (λ e. differ (sym e)))
+      (t.lines_taken q))
+
+  -- The line of a column before this one does not change.
+  earlier_cell : (c : ℕ) → c < n → cell_of cells (lines_at input ls input_lines) c ≡ cell_of cells input_lines c
+  earlier_cell c less = ⊎_elim
+      (λ all. ⊎_elim
+      (λ same.
+      let front : take (c + 1) (take n cells) ≡ take (c + 1) cells = take-take (c + 1) n cells (omega arith) in
+      let under : j < length (input_lines p) =
+      omega (
+        arith,
+        uses_here cells c p (omega arith) refl,
+        uses_before (take n cells) (c + 1) p,
+        ap (λ (l : List ℕ). uses_of l p) front,
+      ) in
+      cc (lines_at_here input ls input_lines p same, get_or_append_left (input_lines p) ls [] j under))
+      (λ differ. cc (lines_at_other input ls input_lines p differ))
+      (cases_eq p input))
+      (λ (done, few). ⊎_elim
+      (λ same. cc (lines_at_none input ls input_lines p (none_at_eof lines_taken (rw same at done))))
+      (λ differ. cc (lines_at_other input ls input_lines p differ))
+      (cases_eq p input))
+      (t.lines_taken p).enough
+    where
+      p : ℕ
+      p = get_or cells c 0
+
+      j : ℕ
+      j = uses_of (take c cells) p
+
+  cells_taken_more : CellsTaken row (n + 1) old (set now input r) (fields ++ field ∷ [])
+      (lines_at input ls input_lines)
+  cells_taken_more = record {
+    lines_taken = lines_taken_next;
+    width = omega (arith, length-append fields (field ∷ []));
+    fields_taken = λ c less. grind (
+      arith,
+      cases_eq c n,
+      get_or_push fields field [] n,
+      t.fields_taken c,
+      lines_at_here input ls input_lines input refl,
+      get_or_append_left fields (field ∷ []) [] c,
+      earlier_cell c,
+    );
+    count = length-set now input r ∙ t.count;
+  }
+
+pub fill_starts : {row : RowShape} {old : List Reader} → CellsFilled row 0 old old [] false
+fill_starts = record {
+  input_lines = λ input. [];
+  consumed = record {
+    lines_taken = λ input. nothing_taken refl;
+    width = refl;
+    fields_taken = λ c low. absurd
+        (omega arith);
+    count = refl;
+  };
+  some = λ any_line. cc;
+  none = λ h input. refl;
+  least = omega arith;
+  less = λ any_line. cc;
+}
+
+-- A column took its field from a reader: a line, or nothing at the end of the input.
+abbrev pub FieldTaken : ℕ → Reader → Reader → List ℕ → Bool → Type 0
+FieldTaken end b r field true = LinesTaken end b r 1 (field ∷ []) × (budget r < budget b)
+FieldTaken end b r field false = LinesTaken end b r 1 [] × (field ≡ []) × (budget r ≤ budget b)
+
+-- The field was read into a slot.
+field_in_slot : (end : ℕ) (b r : Reader) (before after : Slots) (slot : ℕ) (has : Bool) → b.fault ≡ None
+    → b.terminator ≡ end → IsSound r → FillPost b r before after slot (Ok has)
+    → (field : List ℕ) × (after ≡ with_line before slot field) × FieldTaken end b r field has
+field_in_slot end b r before after slot true clean same sound e =
+    (e.line, e.stored, (taken_line e same clean sound, e.less))
+field_in_slot end b r before after slot false clean same sound (advance_ok, done, kept) =
+    ([], kept, (taken_eof advance_ok done clean sound, refl, omega arith))
+
+module _ {row : RowShape} {n : ℕ} {old now : List Reader} {fields : List (List ℕ)} {any_line : Bool}
+    (f : CellsFilled row n old now fields any_line) {b : Reader} (x : IsNextReader row now n b) where
+  abbrev p : ℕ
+  p = get_or row.cells n 0
+
+  module _ (r : Reader) where
+    all_budgets : sum_by budget (set now p r) + budget b ≡ sum_by budget now + budget r
+    all_budgets = omega (arith, ap budget x.is_read, sum_by-set budget now p r no_reader x.within)
+
+    -- The column is filled.
+    pub fill_next : (field : List ℕ) (has : Bool) → FieldTaken row.terminator b r field has
+        → CellsFilled row (n + 1) old (set now p r) (fields ++ field ∷ []) (any_line || has)
+    fill_next field true (t, fewer) =
+        let lines_taken = rw x.is_read at t in
+        let all : length (f.input_lines p) ≡ uses_of (take n row.cells) p =
+        grind (arith, none_at_eof lines_taken, (f.consumed.lines_taken p).enough) in
+        let less : sum_by budget (set now p r) < sum_by budget old = omega (arith, all_budgets) in
+        rw or-true (record {
+          input_lines = lines_at p (field ∷ []) f.input_lines;
+          consumed = cells_taken_more f.consumed x.low x.within lines_taken
+              (sym (get_or_at (f.input_lines p) field [] [] (uses_of (take n row.cells) p) all));
+          some = λ h. (
+            n,
+            omega arith,
+            omega (
+              arith,
+              ap length (lines_at_here p (field ∷ []) f.input_lines p refl),
+              length-append (f.input_lines p) (field ∷ []),
+            ),
+          );
+          none = λ h. cc;
+          least = omega arith;
+          less = λ h. less;
+        })
+    fill_next field false (t, empty, fewer) = rw (or-false, empty) (record {
+      input_lines = lines_at p [] f.input_lines;
+      consumed = cells_taken_more f.consumed x.low x.within (rw x.is_read at t) (cc (
+        append-nil (f.input_lines p),
+        get_or_past (f.input_lines p) (uses_of (take n row.cells) p) [] (taken_at_most (f.consumed.lines_taken p)),
+      ));
+      some = λ h.
+          let (c, below, one) = f.some h in
+          (c, omega arith, cc (lines_at_none p [] f.input_lines (get_or row.cells c 0) refl));
+      none = λ h q. lines_at_none p [] f.input_lines q refl ∙ f.none h q;
+      least = omega (arith, all_budgets);
+      less = λ h. omega (arith, f.less h, all_budgets);
+    })
+
+-- The row after the field in the slot of column n, and the byte after it, were copied.
+abbrev pub with_slot : RowShape → ℕ → Slots → BegunText → BegunText
+with_slot row n store now = record now { count = n + 1; text = now.text ++ (line store n ++ after_cell row n) }
+
+module _ {row : RowShape} where
+  -- All fields were copied from the buffers, and then the row was moved.
+  pub amid_starts : {old : List Reader} {copied : List ℕ} {begun moved : BegunText} {store : Slots}
+      (p : CopyRowsPost row old copied begun) → moved ≡ begun → RowAmid row moved.count p.mid store moved store
+  amid_starts {begun = begun} {store = store} p same =
+      subst (λ m. RowAmid row m.count p.mid store m store) (sym same) (record {
+        fields = p.fields;
+        filled = p.filled;
+        within = omega arith;
+        is = cc (take_all begun.count p.fields (omega (arith, p.filled.consumed.width)));
+        held = λ c over under. absurd (omega arith);
+        slots = slots_kept_start;
+      })
+
+  module _ {n : ℕ} {from : List Reader} {first store : Slots} {now : BegunText} (a : RowAmid row n from first now store)
+      {b : Reader} (x : IsNextReader row now.readers n b) where
+    -- The field of the next column is in its slot.
+    pub amid_next : (r : Reader) (after : Slots) → n < length store.lines → IsSound r → (has : Bool)
+        → FillPost b r store after n (Ok has)
+        → RowAmid row (n + 1) from first
+        (record now { readers = set now.readers (get_or row.cells n 0) r; any_line = now.any_line || has }) after
+    amid_next r after room sound has e =
+        let (field, stored, taken) = field_in_slot row.terminator b r store after n has x.clean x.ends sound e in
+        let width = a.filled.consumed.width in
+        rw stored (record {
+          fields = a.fields ++ field ∷ [];
+          filled = fill_next a.filled x r field has taken;
+          within = omega arith;
+          is = cc (take-append-le now.count a.fields (field ∷ []) (omega arith));
+          held = λ c over under. grind (
+            arith,
+            a.held c,
+            cases_eq c n,
+            get_or-set_same store.lines n field [] room,
+            get_or-set_other store.lines n c field [],
+            get_or_push a.fields field [] n,
+            get_or_append_left a.fields (field ∷ []) [] c,
+          );
+          slots = slots_kept_line a.slots field width x.low;
+        })
+
+    -- The step for the next column failed.
+    abbrev fill_failed : {CellFailed : Reader → Reader → Slots → Slots → ℕ → Type 0} (after : Slots) (r : Reader)
+        → CellFailed b r store after n → (length b.buffered ≤ 8192 → length r.buffered ≤ 8192)
+        → RowFailed CellFailed row from (set now.readers (get_or row.cells n 0) r) first after
+    fill_failed after r failure few = record {
+      column = n;
+      within = x.low;
+      begun = now;
+      buffered = store;
+      amid = a;
+      failure = rw (at_same now.readers _ r x.within) (rw x.is_read at failure);
+      others = λ q differ. at_other now.readers _ q r differ;
+      few = λ buffered. rw (at_same now.readers _ r x.within)
+          (few (rw x.is_read ((a.filled.consumed.lines_taken _).buffered buffered)));
+    }
+
+    pub amid_failed : (r : Reader) (after : Slots) (into : List ℕ) (e : FlowFault)
+        → FillCellPost (get_or row.cells n 0) n b r store after (Err e)
+        → RowFilled row from first (set now.readers (get_or row.cells n 0) r) after into (Err e)
+    amid_failed r after into (Read input) (p, sound, named) =
+        (fill_failed {CellFailed = FillReadErr} after r p (λ few. sound.buffered), named)
+    amid_failed r after into Write (same, kept, going) = search rules
+    amid_failed r after into Memory (p, sound) = search rules
+
+  amid_copied : {n : ℕ} {from : List Reader} {first store : Slots} {now : BegunText}
+      → RowAmid row (n + 1) from first now store → now.count ≡ n
+      → RowAmid row (n + 1) from first (with_slot row n store now) store
+  amid_copied = grind (arith, common_steps, cells_text-push, length-take-le)
+
+  -- More fields were copied from the buffers.
+  amid_columns : {from : List Reader} {first store : Slots} {now next : BegunText}
+      → RowAmid row now.count from first now store → CopyColumnsPost row now next
+      → RowAmid row next.count from first next store
+  amid_columns {from} {now = now} {next = next} a p =
+      let all = a.fields ++ p.fields in
+      record {
+        fields = all;
+        filled = p.filled from a.fields a.filled;
+        within = omega arith;
+        is = (let here : now.count ≡ 0 + length a.fields =
+            omega arith in cc (
+              take_all now.count a.fields (omega arith),
+              cells_text-append row 0 a.fields p.fields,
+              take_all next.count all (omega (arith, length-append a.fields p.fields)),
+            ));
+        held = λ c over under. absurd (omega arith);
+        slots = slots_kept_more a.slots p.fields;
+      }
+
+  -- The field in a slot was copied, and then more fields from the buffers.
+  pub amid_resumed : {n : ℕ} {from : List Reader} {first store : Slots} {now middle next : BegunText}
+      → RowAmid row (n + 1) from first now store → now.count ≡ n → middle ≡ with_slot row n store now
+      → CopyColumnsPost row middle next → RowAmid row next.count from first next store
+  amid_resumed a here is p = amid_columns (amid_copied a here) (rw is at p)
+
+  -- The text that was copied, and that of the fields in the slots, are the row.
+  pub amid_text : {from : List Reader} {first store : Slots} {now : BegunText}
+      (a : RowAmid row (length row.cells) from first now store) → length row.cells ≤ length store.lines
+      → now.text ++ slots_text row now.count store ≡ cells_text row 0 a.fields
+  amid_text {store = store} {now} a room =
+      let n = length row.cells in
+      let k = now.count in
+      let front = take k a.fields in
+      let slots = take n store.lines in
+      let long = length-take-le k a.fields (omega arith) in
+      let size = length-take-le n _ room in
+      let same = ext_get_or [] (drop k slots) (drop k a.fields)
+      (omega (arith, length-drop k slots, length-drop k a.fields))
+      (λ i low. get_or-drop k slots i []
+      ∙ get_or-take n _ (k + i) [] (omega (arith, length-drop k slots))
+      ∙ a.held (k + i) (omega arith) (omega (arith, length-drop k slots))
+      ∙ sym (get_or-drop k a.fields i [])) in
+      let here : k ≡ 0 + length front = omega arith in
+      cc (cells_text-append row 0 front (drop k a.fields), take-append-drop k a.fields)
+
+-- ---- the readers, after a line was read
+
+after_fill : (b r : Reader) (before after : Slots) (slot : ℕ) (has : Bool) → FillPost b r before after slot (Ok has)
+    → (r.fault ≡ None) × (r.terminator ≡ b.terminator)
+after_fill = grind arith
+
+pub readable_after : {row : RowShape} {now : List Reader} {n : ℕ} {b : Reader} → IsNextReader row now n b → (r : Reader)
+    → BufferedRowsPre row now → (before after : Slots) (slot : ℕ) (has : Bool)
+    → FillPost b r before after slot (Ok has) → BufferedRowsPre row (set now (get_or row.cells n 0) r)
+readable_after = search (rules, after_fill, each_reader)

@@ -1,0 +1,45 @@
+-- The selected bytes of a line that begins in this block are copied piece by piece, and its terminator after them. Any
+-- other line is copied by `copy_selected`.
+use Rattle.ptflow.proofs
+use proofs.Common.{◌≡◌, ◌<◌, ◌+◌, ◌*◌, ◌++◌, ◌∙◌, false, take, drop, ap, arith, sym, append-nil, take_rest, false≢true}
+use proofs.Common.{selected_bytes, select_from, is_selected, lt-ltb}
+use proofs.CutLemmas.CutBytes.{line_ended}
+use proofs.tools.cut.bytes.Selection.copy_line
+use copy_line.Goals as goal
+use copy_line.Goals.{then-line-gt0, else-line-gt0+then-not-is_short, else-line-gt0+else-not-is_short, then-count-self}
+use copy_line.Goals.{else-count-self+then-is_short, else-count-self+else-is_short}
+
+pub returns-clause-copied : goal.returns-clause-copied
+returns-clause-copied c =
+    let line = c.args.line in
+    let count = c.args.count in
+    let list = c.args.self.now.selected.now in
+    let bytes = take count (drop line.start c.args.block.now) in
+    let was = take line.at c.args.into.now in
+    let selected = selected_bytes list c.args.block.now line count in
+    let one : 16 * 0 + count ≡ count = omega arith in
+    let begins : c.if-line-gt0.value ≡ false → select_from (is_selected list) 1 bytes ≡ selected = λ here.
+    let zero : line.line_offset ≡ 0 = elim c.if-line-gt0.branch [
+      | then-line-gt0 w ↦ absurd (false≢true (sym here ∙ w.value-is ∙ lt-ltb 0 _ w.if-line-gt0.true))
+      | else-line-gt0+then-not-is_short w ↦ omega arith
+      | else-line-gt0+else-not-is_short w ↦ omega arith
+    ] in
+    ap (λ n. select_from (is_selected list) (n + 1) bytes) (sym zero) in
+    let end = c.if-count-self.end in
+    let (near, copied) : (end < 8208) × (take end c.if-count-self.into ≡ was ++ selected)
+    = elim c.if-count-self.branch [
+      | then-count-self w ↦
+          (omega arith, (λ i. take (w.end-is i) (w.into-is i)) ∙ w.copy_selected-end.ensures.copied)
+      | else-count-self+then-is_short w ↦ (
+        omega arith,
+        (λ i. take (w.end-is i) (w.into-is i))
+            ∙ (rw (take_rest, one) at (w.copy16.ensures.copied was (sym (append-nil was))))
+            ∙ ap (◌++◌ was) (begins w.if-count-self.false),
+      )
+      | else-count-self+else-is_short w ↦ (
+        omega arith,
+        (λ i. take (w.end-is i) (w.into-is i))
+            ∙ (rw take_rest at w.copy_pieces.ensures.copied) ∙ ap (◌++◌ was) (begins w.if-count-self.false),
+      )
+    ] in
+    line_ended _ _ selected was _ (omega (arith, near)) copied

@@ -1,0 +1,35 @@
+-- Each iteration copies the slice of one interval; an interval that reaches the end of the piece is the last one.
+use Rattle.ptflow.proofs
+use proofs.Common.{arith, common_steps, ◌≤◌, drop, length, length-drop, take_rest, ℕ, ◌∙◌, ap, min}
+use proofs.CutLemmas.CutBytes.{copied_done, copied_ends, copied_more}
+use Rattle.ptflow.proofs.tools.cut.bytes.Selection.copy_selected.Goals as goal
+use Rattle.ptflow.proofs.tools.cut.bytes.Selection.copy_selected.Goals.{Start}
+
+fits : (c : Start) → c.args.count ≤ length (drop c.args.line.start c.args.block.now)
+fits c = omega (arith, length-drop c.args.line.start c.args.block.now)
+
+pub returns-then-last-interval-clause-copied : goal.returns-then-last-interval-clause-copied
+returns-then-last-interval-clause-copied c =
+    copied_ends _ (fits (goal.at.returns-then-last-interval-clause-copied c).Start) c.loop-interval.invariant
+    c.loop-interval-test.true _
+    (c.min-from.ensures ∙ ap (λ (f : ℕ). min f c.args.count) c.saturating_sub-from.ensures)
+    c.if-last-interval.true (rw take_rest at c.copy_short.ensures.copied)
+
+pub loop-interval-preserved : goal.loop-interval-preserved
+loop-interval-preserved c =
+    copied_more _ (fits (goal.at.loop-interval-preserved c).Start) c.loop-interval.invariant
+    c.loop-interval-test.true _ c.saturating_sub-from.ensures c.saturating_sub-to.ensures
+    c.if-last-interval.false (rw take_rest at c.copy_short-in-loop-interval.ensures.copied)
+
+pub returns-clause-copied : goal.returns-clause-copied
+returns-clause-copied c =
+    copied_done _ (fits (goal.at.returns-clause-copied c).Start) c.loop-interval.invariant c.loop-interval-test.false
+
+pub loop-interval-init : goal.loop-interval-init
+loop-interval-init c = grind arith
+
+pub overflow_add-at : goal.overflow_add-at
+overflow_add-at c = grind (arith, common_steps)
+
+pub overflow_add-result : goal.overflow_add-result
+overflow_add-result c = grind (arith, common_steps)

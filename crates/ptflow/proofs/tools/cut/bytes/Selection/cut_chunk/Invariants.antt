@@ -1,0 +1,17 @@
+-- The set bits are the terminators that are left. The output is that of the lines before the current one, which after
+-- the first iteration is in this chunk.
+use Rattle.ptflow.proofs
+use proofs.Common.{◌≡◌, ◌+◌, ◌<◌, ◌≤◌, map, take, count_by, mask_l, chunk, is_byte, CutPost}
+use proofs.Vectors.FindNth.{without}
+use proofs.tools.cut.bytes.Selection.cut_chunk.Given as goal
+
+abbrev pub invariant-loop-end : goal.invariant-loop-end
+invariant-loop-end l = record {
+  bits : l.mask ≡ mask_l (without l._end (map (is_byte l.self.terminator) (chunk l.from 64 l.block)));
+  within : l.line.start ≤ l.from + 64;
+  ends : count_by (is_byte l.self.terminator) (take l.line.start l.block)
+      ≡ count_by (is_byte l.self.terminator) (take l.from l.block) + l._end;
+  on : CutPost l.self.terminator l.self.selected.now l.block l.fn.line (take l.fn.line.at l.fn.into) l.line
+      (take l.line.at l.into);
+  passed : 0 < l._end → l.from < l.line.start;
+}

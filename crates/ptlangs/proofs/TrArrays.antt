@@ -1,0 +1,725 @@
+-- The byte with an index in a concatenation of ranges: an index past the first range is an index in the rest, less the
+-- length of the first.
+--
+-- The bytes of a string of `tr`, read one after another: the bytes so far and those that are left are together all
+-- bytes of the string. And the classes that start in two arrays, compared byte by byte as the arrays are paired.
+--
+-- The table of the bytes that an array contains, which grows byte by byte, and the table of images. The image of a byte
+-- is the byte of the second array, extended by its last byte, at the index that was pushed last for it.
+--
+-- The pairs of two arrays, byte by byte: what one more byte of the first array adds, and what is left of the second one
+-- at its end.
+use Rattle.ptlangs.proofs
+use proofs.Common.{Bool, Bytes, CharClass, Contents, Err, HasPaired, IsErrAnd, List, Member, None, Ok, Option, Result}
+use proofs.Common.{Segment, SetElement, SetFaultKind, SetRole, Some, [], all_paired, ap, append-nil, arith, array}
+use proofs.Common.{bytes_left, common_steps, complement_of, cond, contents_of, count_by, drop, drop_all, drop_more, eqb}
+use proofs.Common.{eqb-true, false, first_array, first_members, flat_map, image_by, is_fill, length, length-append, map}
+use proofs.Common.{map-append, marked_array, member_bytes, member_results, ne_eqb, not, plain_members, range_bytes}
+use proofs.Common.{refl, replicate, result_map_both, rules, segments_of, sequence, slice_get, string_segments, subst}
+use proofs.Common.{suc, sym, take, take_all, true, zero, ℕ, ◌++◌, ◌+◌, ◌-◌, ◌<◌, ◌||◌, ◌∙◌, ◌∷◌, ◌≡◌, ◌≢◌, ◌≤◌}
+use proofs.ListElements.{append_ok as onto, append_ok-nil, cons_ok-append_ok, reads_first}
+use Rattle.ptlangs.specs.TrClasses.{all_bytes, class_bytes, span}
+use Rattle.ptlangs.specs.TrParsing.{class_of, classes_match, marked_members, members_from}
+use Rattle.ptlangs.specs.TrPlan.{are_paired, class_offsets, has_byte, has_other_case_at, last_position, members}
+use Rattle.ptlangs.specs.TrPlan.{next_index_or, padded_to, segment}
+use Rattle.ptlangs.specs.declared.faults.SetFaultKind.TheVariants.{ClassPlace}
+use Rattle.ptlangs.specs.declared.tr.images.Images.{Images}
+use Rattle.ptlangs.specs.declared.tr.segments.Segment.TheVariants.{Class, Fill, Range, Repeat}
+use Rattle.std.proofs.Common.{inl, inr, min, ◌&&◌, ◌⊎◌}
+use Rattle.std.proofs.Math.ListN.{get_or, set}
+use Rattle.std.proofs.lemmas.Bool.{cases_lt, cases_eq, eq-eqb, or_right}
+use Rattle.std.proofs.lemmas.List.Elements.{filter-append, filter_more}
+use Rattle.std.proofs.lemmas.List.Folds.{list_any-append, list_any_at}
+use Rattle.std.proofs.lemmas.List.FromFn.{get_or-map-range_with_len, get_or-range_with_len, length-map-range_with_len}
+use Rattle.std.proofs.lemmas.List.FromFn.{length-range_with_len}
+use Rattle.std.proofs.lemmas.List.{drop-map, drop-replicate, get_or-replicate, get_or_default, length-map}
+use Rattle.std.proofs.lemmas.List.{length-replicate, length-set, map-id, same_lists, take-append-drop, take-map}
+use Rattle.std.proofs.lemmas.Map.Views.{any-filter_same}
+use Rattle.std.proofs.lemmas.Option.{slice_get-get_or, slice_get_past, slice_get_within}
+use Rattle.std.specs.List.{last_or}
+use Rattle.std.specs.Option.{option_and_then, option_to_list}
+use Rattle.std.specs.Prelude.{IfSome, filter, is_some, unwrap_or, ◌^◌}
+
+slice_get-left : {X : Type 0} (xs ys : List X) (i : ℕ) → i < length xs → slice_get (xs ++ ys) i ≡ slice_get xs i
+slice_get-left [] ys i h = absurd (omega arith)
+slice_get-left (x ∷ xs) ys zero h = refl
+slice_get-left (x ∷ xs) ys (suc i) h = slice_get-left xs ys i (omega arith)
+
+slice_get-right : {X : Type 0} (xs ys : List X) (i j : ℕ) → i ≡ length xs + j
+    → slice_get (xs ++ ys) i ≡ slice_get ys j
+slice_get-right [] ys i j e = grind arith
+slice_get-right (x ∷ xs) ys zero j e = absurd (omega arith)
+slice_get-right (x ∷ xs) ys (suc i) j e = slice_get-right xs ys i j (omega arith)
+
+slice_get-none : {X : Type 0} (xs : List X) (i : ℕ) → None ≡ slice_get xs i → length xs ≤ i
+slice_get-none [] i e = omega arith
+slice_get-none (x ∷ xs) zero e = absurd (cc)
+slice_get-none (x ∷ xs) (suc i) e = omega (arith, slice_get-none xs i e)
+
+pub span_there : (first last index : ℕ) → index < length (span first last)
+    → Some (first + index) ≡ slice_get (span first last) index
+span_there first last index h =
+    let within : index < last + 1 - first = omega (arith, length-range_with_len first (last + 1 - first)) in
+    sym (slice_get-get_or _ index 0 h
+    ∙ ap Some (get_or-range_with_len first _ index 0 within))
+
+pub span_past : (first last index : ℕ) → length (span first last) ≤ index → None ≡ slice_get (span first last) index
+span_past first last index h = sym (slice_get_past _ index h)
+
+pub length-span : (first last : ℕ) → length (span first last) ≡ last + 1 - first
+length-span first last = length-range_with_len first _
+
+pub ruleset span_steps = (span_there, span_past, length-span)
+
+-- ---- an index in concatenated ranges, searched range by range
+
+pub ranges_found : (rs : List (ℕ × ℕ)) (i left : ℕ) (d : ℕ × ℕ) (o : Option ℕ) → i < length rs
+    → left < length (range_bytes (get_or rs i d)) → o ≡ slice_get (range_bytes (get_or rs i d)) left
+    → o ≡ slice_get (flat_map range_bytes (drop i rs)) left
+ranges_found rs i left d o h under e = grind (arith, slice_get-left, drop_more)
+
+pub ranges_next : (rs : List (ℕ × ℕ)) (i left count : ℕ) (d : ℕ × ℕ) → i < length rs
+    → count ≡ length (range_bytes (get_or rs i d)) → count ≤ left
+    → slice_get (flat_map range_bytes (drop (i + 1) rs)) (left - count)
+    ≡ slice_get (flat_map range_bytes (drop i rs)) left
+ranges_next = grind (arith, slice_get-right, drop_more)
+
+class_bytes-some : (class : CharClass) → 0 < length (class_bytes class)
+class_bytes-some = grind arith
+
+pub class_bytes-short : (class : CharClass) → length (class_bytes class) ≤ 256
+class_bytes-short = grind arith
+
+-- an index within a list that is no longer than a number of 128 bits can be counted up
+pub room : (bytes : List ℕ) (i : ℕ) (found : Option ℕ) → found ≡ slice_get bytes i → length bytes < 2 ^ 128
+    → IfSome found (λ _. i + 1 < 2 ^ 128)
+room bytes i None e h = tt
+room bytes i (Some b) e h = omega (arith, slice_get_within bytes i b (sym e))
+
+-- ---- copies of one byte
+
+pub repeat_there : (n b i : ℕ) → i < n → Some b ≡ slice_get (replicate n b) i
+repeat_there n b i h =
+    sym (slice_get-get_or _ i 0 (omega (arith, length-replicate n b))
+    ∙ ap Some (get_or-replicate n i b 0 h))
+
+pub repeat_past : (n b i : ℕ) → n ≤ i → None ≡ slice_get (replicate n b) i
+repeat_past = grind (arith, common_steps, slice_get_past)
+
+pub ruleset member_steps = (length-replicate, length-span, class_bytes-short, repeat_there, repeat_past)
+
+-- these items were read without a fault, and `P` holds of them; `rest` is still to be read
+pub record ItemsRead {A : Type 0} (all rest : List (Result A SetFaultKind)) (P : List A → Type 0) : Type 0 where
+  pub done : List A
+  pub so_far : all ≡ map Ok done ++ rest
+  pub holds : P done
+
+sequence-done : {A : Type 0} (done : List A) (rest : List (Result A SetFaultKind))
+    → sequence (map Ok done ++ rest) ≡ onto done (sequence rest)
+sequence-done [] rest = sym (append_ok-nil _)
+sequence-done (x ∷ done) rest = grind (arith, cons_ok-append_ok, sequence-done done rest)
+
+module _ {A : Type 0} {all rest : List (Result A SetFaultKind)} {P : List A → Type 0} (r : ItemsRead all rest P) where
+  -- more items were read
+  pub items_more : {after : List (Result A SetFaultKind)} (Q : List A → Type 0) (more : List A)
+      → rest ≡ map Ok more ++ after → (P r.done → Q (r.done ++ more))
+      → ItemsRead all after Q
+  items_more = grind (arith, common_steps)
+
+  sequence-read : sequence all ≡ onto r.done (sequence rest)
+  sequence-read = grind (arith, sequence-done)
+
+  pub items_end : rest ≡ [] → sequence all ≡ Ok r.done
+  items_end e = cc (sequence-read, append-nil r.done)
+
+  pub items_fault : {k : SetFaultKind} → sequence rest ≡ Err k → sequence all ≡ Err k
+  items_fault e = cc (sequence-read)
+
+  -- the items before and after the current one, if none has a fault
+  pub items_at : {after : List (Result A SetFaultKind)} {x : A} {xs : List A}
+      → rest ≡ Ok x ∷ after → sequence all ≡ Ok xs
+      → (more : List A) × (xs ≡ r.done ++ x ∷ more)
+  items_at = grind (arith, sequence-read, onto)
+
+-- ---- the bytes of segments
+
+sequence-members : (n : ℕ) (rs : List (Result Segment SetFaultKind))
+    → sequence (member_results n rs) ≡ result_map_both (marked_array n) (λ (k : SetFaultKind). k) (sequence rs)
+sequence-members n [] = refl
+sequence-members n (Ok x ∷ rs) = grind (arith, sequence-done, onto, sequence-members n rs)
+sequence-members n (Err k ∷ rs) = refl
+
+-- if no segment has a fault, all bytes are read
+members-ok : (n : ℕ) (rs : List (Result Segment SetFaultKind)) (ps : List Segment) → sequence rs ≡ Ok ps
+    → member_results n rs ≡ map Ok (marked_array n ps)
+members-ok n [] [] e = refl
+members-ok n [] (p ∷ ps) e = absurd (cc)
+members-ok n (Err k ∷ rs) ps e = absurd (cc)
+members-ok n (Ok x ∷ rs) ps e =
+    let all = reads_first (Ok x) _ ps e in
+    let read = all.read in
+    let first : all.head ≡ x = cc in
+    rw (← all.is, first) (ap (λ ys. map Ok (marked_members n x) ++ ys) (members-ok n rs all.tail all.rest)
+    ∙ sym (map-append Ok _ _))
+
+pub member_bytes-plain : (bytes : List ℕ) → member_bytes (plain_members bytes) ≡ bytes
+member_bytes-plain [] = refl
+member_bytes-plain (b ∷ bytes) = ap (λ bs. b ∷ bs) (member_bytes-plain bytes)
+
+member_bytes-members : (class : Option CharClass) (bytes : List ℕ) → member_bytes (members_from class bytes) ≡ bytes
+member_bytes-members = grind (arith, member_bytes-plain)
+
+pub member_bytes-array : (n : ℕ) (ps : List Segment) → member_bytes (marked_array n ps) ≡ array n ps
+member_bytes-array n [] = refl
+member_bytes-array n (p ∷ ps) =
+    map-append _ _ _
+    ∙ (λ i. member_bytes-members (class_of p) (members n p) i ++ member_bytes-array n ps i)
+
+pub length-marked : (n : ℕ) (x : Segment) → length (marked_members n x) ≡ length (members n x)
+length-marked n x = grind (arith, length-map, member_bytes-members)
+
+pub drop-found : {X : Type 0} (xs : List X) (i : ℕ) (x : X) → Some x ≡ slice_get xs i → drop i xs ≡ x ∷ drop (i + 1) xs
+drop-found [] i x e = absurd (cc)
+drop-found (y ∷ xs) zero x e = cc
+drop-found (y ∷ xs) (suc i) x e = grind (arith, drop-found xs i x e)
+
+-- ---- the bytes after a segment that was passed
+
+-- no byte is left of a segment that ends before the index
+pub segment-passed : (n : ℕ) (x : Segment) (i : ℕ) (rs : List (Result Segment SetFaultKind))
+    → None ≡ slice_get (marked_members n x) i
+    → map {B = Result Member SetFaultKind} Ok (drop i (marked_members n x)) ++ member_results n rs ≡ member_results n rs
+segment-passed n x i rs e = rw (drop_all i _ (slice_get-none _ i e)) refl
+
+-- ---- the copies of a byte, passed at once
+
+-- if a segment has only copies of a byte, those from an index on are passed
+pub copies-passed : (count i b : ℕ) (ms : List Member) → (0 < count → ms ≡ plain_members (replicate count b))
+    → drop i ms ≡ plain_members (replicate (count - i) b) ++ drop (i + (count - i)) ms
+copies-passed zero i b ms h = grind arith
+copies-passed (suc n) i b ms h =
+    let copies = plain_members (replicate (suc n) b) in
+    let all : length copies ≤ i + (suc n - i) =
+    grind (arith, common_steps) in
+    rw (h (omega arith), drop_all _ copies all, append-nil _)
+    (search (rules, drop-map, drop-replicate))
+
+-- ---- the string of the segments
+
+-- a string that is not empty has the fault of its bytes
+pub string-fault : (role : SetRole) (text : List ℕ) (n : ℕ) (k : SetFaultKind) → false ≡ eqb (length text) 0
+    → sequence (member_results n (segments_of role text)) ≡ Err k → string_segments role text ≡ Err k
+string-fault = grind (arith, sequence-members)
+
+-- or the segments that give these bytes
+pub string-read : (role : SetRole) (text : List ℕ) (n : ℕ) (ms : List Member) → false ≡ eqb (length text) 0
+    → sequence (member_results n (segments_of role text)) ≡ Ok ms
+    → (ps : List Segment) × (string_segments role text ≡ Ok ps) × (marked_array n ps ≡ ms)
+string-read = grind (arith, sequence-members)
+
+-- a string without a fault gives its array
+pub string-ok : (role : SetRole) (text : List ℕ) (n : ℕ) (ps : List Segment) → string_segments role text ≡ Ok ps
+    → member_results n (segments_of role text) ≡ map Ok (marked_array n ps)
+string-ok = grind (arith, members-ok)
+
+-- ---- a fault that is passed on
+
+pub on_fault : {T E : Type 0} (P : Result T E → Type 0) (r : Result T E) (k : E) → IsErrAnd r (λ e. e ≡ k) → P (Err k)
+    → P r
+on_fault = grind arith
+
+-- ---- at most one segment is a fill
+
+no_second_fill : (role : SetRole) (p : SetElement) (b : ℕ) → segment role true p ≡ Ok (Fill b) → ⊥
+no_second_fill = grind arith
+
+-- one more segment adds the length of a fill only if no fill came before it
+pub fill_step : (n : ℕ) (role : SetRole) (p : SetElement) (d : Segment) (has_fill : Bool)
+    → segment role has_fill p ≡ Ok d
+    → length (members n d) + cond (has_fill || is_fill (Ok d)) 0 n ≤ length (members 0 d) + cond has_fill 0 n
+fill_step = grind (arith, no_second_fill, length-replicate)
+
+-- ---- the classes that start in two arrays
+
+-- the class that starts at an index
+abbrev class_here : List Member → ℕ → Option CharClass
+class_here [] i = None
+class_here (m ∷ ms) zero = m.class
+class_here (m ∷ ms) (suc i) = class_here ms i
+
+-- the classes that start in an array, each with its offset
+abbrev offset_of : ℕ → Option CharClass → List (ℕ × CharClass)
+offset_of at None = []
+offset_of at (Some class) = (at, class) ∷ []
+
+abbrev pub offsets : ℕ → List Member → List (ℕ × CharClass)
+offsets at [] = []
+offsets at (m ∷ ms) = offset_of at m.class ++ offsets (suc at) ms
+
+offsets-plain : (at : ℕ) (bytes : List ℕ) (ms : List Member)
+    → offsets at (plain_members bytes ++ ms) ≡ offsets (at + length bytes) ms
+offsets-plain at [] ms = grind arith
+offsets-plain at (b ∷ bytes) ms = offsets-plain _ bytes ms ∙ ap (λ k. offsets k ms) (omega arith)
+
+offsets-members : (at : ℕ) (bytes : List ℕ) (ms : List Member)
+    → offsets at (members_from None bytes ++ ms) ≡ offsets (at + length bytes) ms
+offsets-members = grind (arith, offsets-plain)
+
+offsets-class : (at : ℕ) (class : CharClass) (bytes : List ℕ) (ms : List Member) → 0 < length bytes
+    → offsets at (members_from (Some class) bytes ++ ms) ≡ (at, class) ∷ offsets (at + length bytes) ms
+offsets-class = grind (arith, offsets-plain)
+
+class_offsets-are : (n : ℕ) (ps : List Segment) (at : ℕ) → class_offsets n at ps ≡ offsets at (marked_array n ps)
+class_offsets-are n [] at = refl
+class_offsets-are n (Range a b ∷ ps) at = class_offsets-are n ps _
+    ∙ sym (offsets-members at (span a b) _)
+class_offsets-are n (Class class ∷ ps) at =
+    ap (λ os. (at, class) ∷ os) (class_offsets-are n ps _)
+    ∙ sym (offsets-class at class _ _ (class_bytes-some class))
+class_offsets-are n (Repeat b count ∷ ps) at = grind (
+  arith,
+  common_steps,
+  offsets-members,
+  class_offsets-are n ps (at
+      + count),
+)
+class_offsets-are n (Fill b ∷ ps) at = grind (arith, common_steps, offsets-members, class_offsets-are n ps (at + n))
+
+offset_first : (at k : ℕ) (o : Option CharClass) (later : List (ℕ × CharClass)) (class : CharClass)
+    → has_other_case_at (offset_of at o ++ later) k class
+    ≡ ((eqb at k && classes_match o (Some class)) || has_other_case_at later k class)
+offset_first = grind arith
+
+-- no class starts before an array
+none_before : (ms : List Member) (at k : ℕ) (class : CharClass) → k < at
+    → has_other_case_at (offsets at ms) k class ≡ false
+none_before [] at k class low = refl
+none_before (m ∷ ms) at k class low =
+    rw (offset_first at k m.class, ne_eqb at k (λ e. omega arith)) (none_before ms _ k class (omega arith))
+
+stands_here : (ms : List Member) (at i k : ℕ) (class : CharClass) → at + i ≡ k
+    → has_other_case_at (offsets at ms) k class ≡ classes_match (class_here ms i) (Some class)
+stands_here [] at i k class e = refl
+stands_here (m ∷ ms) at zero k class e =
+    rw (offset_first at k m.class, eq-eqb at k (omega arith), none_before ms (suc at) k class (omega arith))
+    (or_false _)
+  where
+    or_false : (t : Bool) → (t || false) ≡ t
+    or_false true = refl
+    or_false false = refl
+stands_here (m ∷ ms) at (suc i) k class e =
+    rw (offset_first at k m.class, ne_eqb at k (λ z. omega arith)) (stands_here ms _ i k class (omega arith))
+
+-- one byte of the second array against the first array from the same index on
+all_paired-more : (i : ℕ) (from : List Member) (t : Member) (to : List Member)
+    → all_paired (drop i from) (t ∷ to)
+    ≡ (classes_match (class_here from i) t.class && all_paired (drop (suc i) from) to)
+all_paired-more zero [] t to = refl
+all_paired-more zero (f ∷ from) t to = refl
+all_paired-more (suc i) [] t to = refl
+all_paired-more (suc i) (f ∷ from) t to = all_paired-more i from t to
+
+paired_first : (from : List Member) (i : ℕ) (o : Option CharClass) (later : List (ℕ × CharClass))
+    → are_paired (offsets 0 from) (offset_of i o ++ later)
+    ≡ (classes_match (class_here from i) o && are_paired (offsets 0 from) later)
+paired_first from i None later = cc
+paired_first from i (Some c) later = grind (arith, stands_here)
+
+paired_from : (from to : List Member) (i : ℕ) → are_paired (offsets 0 from) (offsets i to) ≡ all_paired (drop i from) to
+paired_from from [] i = refl
+paired_from from (t ∷ to) i = paired_first from i t.class _
+    ∙ rw (paired_from from to (suc i)) (sym (all_paired-more i from t to))
+
+-- the classes are paired as the definition states it
+pub paired-arrays : (n : ℕ) (firsts seconds : List Segment)
+    → are_paired (class_offsets 0 0 firsts) (class_offsets n 0 seconds)
+    ≡ all_paired (marked_array 0 firsts) (marked_array n seconds)
+paired-arrays = grind (arith, class_offsets-are, paired_from)
+
+pub paired-plain : (n : ℕ) (bytes : List ℕ) (seconds : List Segment)
+    → are_paired [] (class_offsets n 0 seconds) ≡ all_paired (plain_members bytes) (marked_array n seconds)
+paired-plain n bytes seconds =
+    let none = sym (search (rules, offsets))
+    ∙ offsets-plain 0 bytes [] in
+    (λ i. are_paired (sym none i) (class_offsets-are n seconds 0 i))
+    ∙ paired_from (plain_members bytes) _ 0
+
+-- the entries of a table of all bytes
+length-table : {X : Type 0} (f : ℕ → X) → length (map f all_bytes) ≡ 256
+unfolding all_bytes
+length-table f = length-map-range_with_len f 0 256
+
+pub get_or-table : {X : Type 0} (f : ℕ → X) (i : ℕ) (d : X) → i < 256 → get_or (map f all_bytes) i d ≡ f i
+unfolding all_bytes
+get_or-table f i d h = get_or-map-range_with_len f 0 256 i i d h (omega arith)
+
+-- a list of 256 entries that agrees with a function at each byte is the table of that function
+pub same_table : {X : Type 0} (xs : List X) (f : ℕ → X) (d : X) → length xs ≡ 256
+    → ((i : ℕ) → i < 256 → get_or xs i d ≡ f i) → xs ≡ map f all_bytes
+same_table xs f d n h = search (rules, same_lists, length-table, get_or_default, get_or-table)
+
+-- an empty array contains no byte
+pub none_contained : replicate 256 false ≡ map (λ b. has_byte b []) all_bytes
+none_contained = same_table _ _ false (length-replicate 256 false) (λ i h. get_or-replicate 256 i false false h)
+
+-- writing one entry of a table
+set-table : {X : Type 0} (f g : ℕ → X) (i : ℕ) (v : X) → i < 256 → g i ≡ v → ((k : ℕ) → k ≢ i → g k ≡ f k)
+    → set (map f all_bytes) i v ≡ map g all_bytes
+set-table {X} f g i v h e others =
+    same_table _ g v (length-set _ i v ∙ length-table f)
+    (λ k under. by_cases k under (cases_eq k i))
+  where
+    by_cases : (k : ℕ) → k < 256 → ((k ≡ i) ⊎ (k ≡ i → ⊥)) → get_or (set (map f all_bytes) i v) k v ≡ g k
+    by_cases k under (inl same) = search (rules, length-table)
+    by_cases k under (inr other) = search (rules, get_or-table)
+
+-- ---- appending a byte
+
+has_byte-same : (b : ℕ) (bytes more : List ℕ) → has_byte b (bytes ++ b ∷ more) ≡ true
+has_byte-same = grind (arith, list_any-append, eq-eqb, or_right)
+
+has_byte-copies : (b k n : ℕ) → k ≢ b → has_byte k (replicate n b) ≡ false
+has_byte-copies b k zero other = refl
+has_byte-copies b k (suc n) other = grind (arith, ne_eqb, has_byte-copies b k n other)
+
+has_byte-other : (b k : ℕ) (bytes : List ℕ) (n : ℕ) → k ≢ b → has_byte k (bytes ++ replicate n b) ≡ has_byte k bytes
+has_byte-other = grind (arith, list_any-append, has_byte-copies)
+
+pub contents-push : (old : Contents) (bytes : List ℕ) (b more : ℕ) → b < 256 → old ≡ contents_of bytes
+    → record { has = set old.has b true; length = old.length + (1 + more) }
+    ≡ contents_of (bytes ++ b ∷ replicate more b)
+contents-push old bytes b more h e =
+    let after = bytes ++ b ∷ replicate more b in
+    let table =
+    set-table _ _ b true h (has_byte-same b bytes _)
+    (λ k n. has_byte-other b k bytes (suc more) n) in
+    let counted : length bytes + (1 + more) ≡ length after =
+    omega (arith, length-append bytes (b ∷ replicate more b), length-replicate more b) in
+    rw (e, table, counted) refl
+
+pub contents-new : record { has = replicate 256 false; length = 0 } ≡ contents_of []
+contents-new = rw none_contained refl
+
+pub ruleset contents_steps = (contents-push)
+
+-- ---- the complement of an array
+
+length-all : length all_bytes ≡ 256
+unfolding all_bytes
+length-all = length-range_with_len 0 256
+
+get_or-all : (i d : ℕ) → i < 256 → get_or all_bytes i d ≡ i
+unfolding all_bytes
+get_or-all i d low = get_or-range_with_len 0 256 i d low ∙ omega arith
+
+-- the bytes below `n` that the array does not contain
+abbrev pub others_below : List ℕ → ℕ → List ℕ
+others_below bytes n = filter (λ b. not (has_byte b bytes)) (take n all_bytes)
+
+pub others_below-more : (bytes : List ℕ) (n : ℕ) (t : Bool) → n < 256 → has_byte n bytes ≡ t
+    → others_below bytes (n + 1) ≡ others_below bytes n ++ cond t [] (n ∷ [])
+others_below-more bytes n t low e = filter_more _ all_bytes n 0 (omega (arith, length-all))
+    ∙ rw (get_or-all n 0 low, e) (ap (λ xs. others_below bytes n ++ xs) (grind arith))
+
+pub others_below-all : (bytes : List ℕ) {n : ℕ} → n ≡ 256 → others_below bytes n ≡ complement_of bytes
+others_below-all bytes e = grind (arith, take_all, length-all)
+
+get_or-has : (contents : Contents) (bytes : List ℕ) (b : ℕ) (d : Bool) → b < 256 → contents ≡ contents_of bytes
+    → get_or contents.has b d ≡ has_byte b bytes
+get_or-has contents bytes b d h e = rw e (get_or-table _ b d h)
+
+-- a byte of the complement, between those below it and the others
+pub complement-around : (bytes : List ℕ) (b : ℕ) → b < 256 → has_byte b bytes ≡ false
+    → (rest : List ℕ) × (complement_of bytes ≡ others_below bytes b ++ b ∷ rest)
+complement-around bytes b low h = (
+  filter (λ x. not (has_byte x bytes)) (drop (b + 1) all_bytes),
+  ap (filter _) (sym (take-append-drop b all_bytes)) ∙ filter-append _ (take b all_bytes) _
+      ∙ rw (drop_more all_bytes b 0 (omega (arith, length-all)), get_or-all b 0 low, h) refl,
+)
+
+has_byte-filter : (p : ℕ → Bool) (b : ℕ) (xs : List ℕ) → has_byte b (filter p xs) ≡ (p b && has_byte b xs)
+has_byte-filter = grind (arith, any-filter_same, eqb-true)
+
+has_byte-all : (b : ℕ) → b < 256 → has_byte b all_bytes ≡ true
+has_byte-all b low = list_any_at _ all_bytes b 0 (omega (arith, length-all)) (eq-eqb _ b (get_or-all b 0 low))
+
+-- the complement contains the bytes that the array does not contain
+has_byte-complement : (bytes : List ℕ) (b : ℕ) → b < 256 → has_byte b (complement_of bytes) ≡ not (has_byte b bytes)
+has_byte-complement = grind (arith, has_byte-filter, has_byte-all)
+
+length-filter-map : (f : ℕ → Bool) (xs : List ℕ) → count_by not (map f xs) ≡ length (filter (λ b. not (f b)) xs)
+length-filter-map f [] = refl
+length-filter-map f (x ∷ xs) = grind (arith, common_steps, length-filter-map f xs)
+
+-- the complement of an array, from a table and a count of the bytes that the array does not contain
+pub complement-is : (old : Contents) (bytes : List ℕ) (has : List Bool) (count : ℕ) → old ≡ contents_of bytes
+    → length has ≡ 256 → ((k : ℕ) → k < 256 → get_or has k false ≡ not (get_or old.has k false))
+    → count ≡ count_by not old.has → record { has = has; length = count } ≡ contents_of (complement_of bytes)
+complement-is old bytes has count e long flips counted =
+    let table =
+    same_table has _ false long (λ k low.
+    flips k low ∙ ap not (get_or-has old bytes k false low e) ∙ sym (has_byte-complement bytes k low)) in
+    let all =
+    counted ∙ ap (λ (q : Contents). count_by not q.has) e ∙ length-filter-map _ all_bytes in
+    rw (table, all) refl
+
+-- a byte is not in the array if it is in the complement, and the other way about
+pub is_kept : (first : Contents) (bytes : List ℕ) (b i : ℕ) (t : Bool) → i ≡ b → b < 256 → get_or first.has i false ≡ t
+    → first ≡ contents_of (complement_of bytes) → has_byte b bytes ≡ not t
+is_kept first bytes b i t j low h e =
+    let is = has_byte-complement bytes b low in
+    let has = get_or-has first _ b false low e in
+    grind (arith, is, j)
+
+-- ---- the image of a byte
+
+next_index-lt : (o : Option ℕ) (t : Bool) (n : ℕ) → IfSome o (λ i. i < n) → IfSome (next_index_or o t) (λ i. i < suc n)
+next_index-lt = grind arith
+
+-- the last position is below the length
+last_position-lt : (c : ℕ) (bytes : List ℕ) → IfSome (last_position c bytes) (λ i. i < length bytes)
+last_position-lt c [] = tt
+last_position-lt c (b ∷ bytes) = next_index-lt _ _ _ (last_position-lt c bytes)
+
+slice_get-take : (n : ℕ) (xs : List ℕ) (i : ℕ) → i < n → slice_get (take n xs) i ≡ slice_get xs i
+slice_get-take zero xs i h = absurd (omega arith)
+slice_get-take (suc n) [] i h = refl
+slice_get-take (suc n) (x ∷ xs) zero h = refl
+slice_get-take (suc n) (x ∷ xs) (suc i) h = slice_get-take n xs i (omega arith)
+
+last_or-some : (o : Option ℕ) (b : ℕ) (bytes : List ℕ)
+    → last_or o (b ∷ bytes) ≡ Some (get_or (b ∷ bytes) (length bytes) 0)
+last_or-some o b [] = refl
+last_or-some o b (x ∷ bytes) = last_or-some (Some b) x bytes
+
+-- the byte with an index of the padded array: past the end it is the last byte
+padded_to-get : (n i : ℕ) (bytes : List ℕ) → i < n
+    → slice_get (padded_to n bytes) i ≡ slice_get bytes (min i (length bytes - 1))
+padded_to-get n i [] h = slice_get-take n [] i h
+padded_to-get n i (b ∷ bytes) h =
+    rw (last_or-some None b bytes) (slice_get-take n _ i h ∙ by_index (cases_lt i (length (b ∷ bytes))))
+  where
+    by_index : ((i < length (b ∷ bytes)) ⊎ (length (b ∷ bytes) ≤ i))
+        → slice_get ((b ∷ bytes) ++ (replicate n (get_or (b ∷ bytes) (length bytes) 0) ++ [])) i
+        ≡ slice_get (b ∷ bytes) (min i (length (b ∷ bytes) - 1))
+    by_index (inl within) = grind (arith, slice_get-left)
+    by_index (inr past) =
+        let index : length bytes ≡ min i _ = omega arith in
+        slice_get-right (b ∷ bytes) _ i _ (omega arith)
+        ∙ slice_get-left _ [] (i - length (b ∷ bytes)) (grind (arith, length-replicate))
+        ∙ sym (repeat_there n _ _ (omega arith))
+        ∙ sym (slice_get-get_or (b ∷ bytes) (length bytes) 0 (omega arith)) ∙ ap (slice_get (b ∷ bytes)) index
+
+last_position-same : (b : ℕ) (bytes : List ℕ) → last_position b (bytes ++ b ∷ []) ≡ Some (length bytes)
+last_position-same b [] = rw (eq-eqb b b refl) refl
+last_position-same b (x ∷ bytes) = grind (arith, last_position-same b bytes)
+
+last_position-other : (b k : ℕ) (bytes : List ℕ) → k ≢ b → last_position k (bytes ++ b ∷ []) ≡ last_position k bytes
+last_position-other b k [] n = grind (arith, ne_eqb)
+last_position-other b k (x ∷ bytes) n = cc (last_position-other b k bytes n)
+
+-- the last of the first `n + 1` bytes is the one with index `n`, or the last of all
+last_or-take : (o : Option ℕ) (b : ℕ) (bytes : List ℕ) (n : ℕ)
+    → last_or o (take (suc n) (b ∷ bytes)) ≡ slice_get (b ∷ bytes) (min n (length bytes))
+last_or-take o b bytes zero = grind arith
+last_or-take o b [] (suc n) = grind arith
+last_or-take o b (c ∷ bytes) (suc n) = grind (arith, last_or-take (Some b) c bytes n)
+
+-- the image that a byte gets when it is pushed
+image-same : (from to : List ℕ) (b : ℕ)
+    → image_by (from ++ b ∷ []) to b ≡ unwrap_or (last_or None (take (suc (length from)) to)) b
+image-same from to b =
+    let longer : length from < length (from ++ b ∷ []) = omega (arith, length-append from (b ∷ [])) in
+    rw (last_position-same b from, padded_to-get _ _ to longer) (by_list to)
+  where
+    by_list : (to : List ℕ)
+        → unwrap_or (slice_get to (min (length from) (length to - 1))) b
+        ≡ unwrap_or (last_or None (take (suc (length from)) to)) b
+    by_list [] = refl
+    by_list (t ∷ to) =
+        let most : length (t ∷ to) - 1 ≡ length to = omega arith in
+        rw (most, last_or-take None t to _) refl
+
+-- the images of the other bytes stay
+image-other : (from to : List ℕ) (b k : ℕ) → k ≢ b → image_by (from ++ b ∷ []) to k ≡ image_by from to k
+image-other from to b k n = rw (last_position-other b k from n) (by_last _ refl)
+  where
+    by_last : (o : Option ℕ) → last_position k from ≡ o
+        → unwrap_or (option_and_then (slice_get (padded_to (length (from ++ b ∷ [])) to)) o) k
+        ≡ unwrap_or (option_and_then (slice_get (padded_to (length from) to)) o) k
+    by_last None e = refl
+    by_last (Some i) e =
+        let below = subst (λ o. IfSome o (λ j. j < length from)) e (last_position-lt k from) in
+        grind (arith, length-append, padded_to-get)
+
+images-push : (from to : List ℕ) (b : ℕ) (last : Option ℕ) → b < 256
+    → last ≡ last_or None (take (suc (length from)) to)
+    → set (map (image_by from to) all_bytes) b (unwrap_or last b) ≡ map (image_by (from ++ b ∷ []) to) all_bytes
+images-push from to b last h e =
+    set-table _ _ b _ h
+    (search (rules, image-same)) (λ k n. image-other from to b k n)
+
+-- the results are the bytes of the second array from an index on
+abbrev AllOk : List Member → List (Result Member SetFaultKind)
+AllOk ms = map Ok ms
+
+pub sequence-ok : (ms : List Member) → sequence (AllOk ms) ≡ Ok ms
+sequence-ok [] = refl
+sequence-ok (m ∷ ms) = rw (sequence-ok ms) refl
+
+-- the second array has no fault
+pub never_fault : {X : Type 0} (ms : List Member) (rs : List (Result Member SetFaultKind)) {k : SetFaultKind}
+    → rs ≡ AllOk ms → sequence rs ≡ Err k → X
+never_fault = grind (arith, sequence-ok)
+
+-- one byte of the second array is taken
+pub record TakesNext (n : ℕ) (to : List Member) (t : Member) (after : List (Result Member SetFaultKind)) : Type 0 where
+  pub at : drop n to ≡ t ∷ drop (suc n) to
+  pub left : after ≡ AllOk (drop (suc n) to)
+  pub last : last_or None (member_bytes (take (suc n) to)) ≡ Some t.byte
+
+takes_next : (o : Option ℕ) (n : ℕ) (to : List Member) (t : Member) (after : List (Result Member SetFaultKind))
+    → AllOk (drop n to) ≡ Ok t ∷ after
+    → (drop n to ≡ t ∷ drop (suc n) to) × (after ≡ AllOk (drop (suc n) to))
+    × (last_or o (member_bytes (take (suc n) to)) ≡ Some t.byte)
+takes_next o zero [] t after e = absurd (cc)
+takes_next o zero (x ∷ to) t after e = grind arith
+takes_next o (suc n) [] t after e = absurd (cc)
+takes_next o (suc n) (x ∷ to) t after e = takes_next _ n to t after e
+
+next_taken : (n : ℕ) (to : List Member) (t : Member) (after : List (Result Member SetFaultKind))
+    → AllOk (drop n to) ≡ Ok t ∷ after → TakesNext n to t after
+next_taken n to t after e = let (at, left, last) = takes_next None n to t after e in
+    search rules
+
+-- no byte of the second array is left
+pub record HasEnded (n : ℕ) (to : List Member) : Type 0 where
+  pub now : drop n to ≡ []
+  pub next : drop (suc n) to ≡ []
+  pub taken : take (suc n) to ≡ take n to
+
+pub ended : (n : ℕ) (to : List Member) → AllOk (drop n to) ≡ [] → HasEnded n to
+ended zero [] e = grind arith
+ended zero (x ∷ to) e = absurd (cc)
+ended (suc n) [] e = grind arith
+ended (suc n) (x ∷ to) e = grind (arith, ended n to e)
+
+module _ (before to : List Member) (old : Images) (from : Member) (h : HasPaired before to old)
+    (fits : from.byte < 256) where
+  count : length (before ++ from ∷ []) ≡ suc (length before)
+  count = omega (arith, length-append before (from ∷ []))
+
+  bytes : member_bytes (before ++ from ∷ []) ≡ member_bytes before ++ from.byte ∷ []
+  bytes = map-append _ before _
+
+  -- the byte is paired, if the table and the last byte are what the pairs give
+  paired : (second : Bytes) (last : Option ℕ) → bytes_left second ≡ AllOk (drop (suc (length before)) to)
+      → last ≡ last_or None (member_bytes (take (suc (length before)) to))
+      → ((more : List Member) → all_paired (from ∷ more) (drop (length before) to)
+      ≡ all_paired more (drop (suc (length before)) to))
+      → HasPaired (before ++ from ∷ []) to
+      (record { table = set old.table from.byte (unwrap_or last from.byte); second = second; last = last })
+  paired = grind (arith, common_steps, count, bytes, images-push, take-map)
+
+  -- a byte of the second array is left
+  pub push-next : (second : Bytes) (t : Member) → bytes_left old.second ≡ Ok t ∷ bytes_left second
+      → classes_match from.class t.class ≡ true
+      → HasPaired (before ++ from ∷ []) to
+      (record {
+        table = set old.table from.byte (unwrap_or (Some t.byte) from.byte);
+        second = second;
+        last = Some t.byte;
+      })
+  push-next = grind (arith, next_taken, paired)
+
+  -- none is left: the last one stays
+  pub push-last : (second : Bytes) → bytes_left old.second ≡ [] → bytes_left second ≡ []
+      → HasPaired (before ++ from ∷ []) to
+      (record { table = set old.table from.byte (unwrap_or old.last from.byte); second = second; last = old.last })
+  push-last = grind (arith, ended, paired)
+
+  -- a class without its other case
+  pub push-unpaired : (after : List (Result Member SetFaultKind)) (t : Member) → bytes_left old.second ≡ Ok t ∷ after
+      → classes_match from.class t.class ≡ false → (more : List Member) → all_paired (before ++ from ∷ more) to ≡ false
+  push-unpaired = grind (arith, next_taken)
+
+-- the images and the table after a step, as the code writes them
+pub written : (before to : List Member) (m : Images) (i u byte : ℕ) (table : List ℕ) (second : Bytes) (last : Option ℕ)
+    → m ≡ record { table = table; second = second; last = last } → i ≡ byte → u ≡ unwrap_or m.last byte
+    → HasPaired before to (record { table = set table byte (unwrap_or last byte); second = second; last = last })
+    → HasPaired before to (record { table = set m.table i u; second = m.second; last = m.last })
+written before to m i u byte table second last e f g h = rw (g, f, e) h
+
+pub paired_same : {ms : List Member} (ns to : List Member) {s t : Images} → ms ≡ ns → s ≡ t → HasPaired ns to t
+    → HasPaired ms to s
+paired_same ns to e f h = rw (e, f) h
+
+-- ---- after the end of the first array
+
+-- these bytes of the second array are left, and no class started in those that were passed
+pub record IsPassing (from to : List Member) (images : Images) : Type 0 where
+  pub rest : List Member
+  pub left : bytes_left images.second ≡ AllOk rest
+  pub decides : all_paired from to ≡ all_paired [] rest
+  pub table : images.table ≡ map (image_by (member_bytes from) (member_bytes to)) all_bytes
+
+-- the next byte that is left
+split_ok : (rest : List Member) (t : Member) (after : List (Result Member SetFaultKind)) → AllOk rest ≡ Ok t ∷ after
+    → (more : List Member) × (rest ≡ t ∷ more) × (after ≡ AllOk more)
+split_ok [] t after e = absurd (cc)
+split_ok (x ∷ rest) t after e = grind arith
+
+unmatched : (class : Option CharClass) → classes_match None class ≡ not (is_some class)
+unmatched = grind arith
+
+-- no class starts in bytes that are passed as copies of one
+plain-passed : (bytes : List ℕ) (rest : List Member) (after : List (Result Member SetFaultKind))
+    → AllOk rest ≡ AllOk (plain_members bytes) ++ after
+    → (more : List Member) × (after ≡ AllOk more) × (all_paired [] rest ≡ all_paired [] more)
+plain-passed [] rest after e = (rest, sym e, refl)
+plain-passed (b ∷ bytes) rest after e =
+    let (next, is, left) = split_ok rest _ _ e in
+    let (more, end, decides) = plain-passed bytes next after (sym left) in
+    search rules
+
+module _ {from to : List Member} {old : Images} (p : IsPassing from to old) where
+  pub passing-next : (second : Bytes) (t : Member) → bytes_left old.second ≡ Ok t ∷ bytes_left second
+      → is_some t.class ≡ false → IsPassing from to (record { table = old.table; second = second; last = old.last })
+  passing-next = grind (arith, split_ok, unmatched)
+
+  pub passing-copies : (second : Bytes) (bytes : List ℕ)
+      → bytes_left old.second ≡ AllOk (plain_members bytes) ++ bytes_left second
+      → IsPassing from to (record { table = old.table; second = second; last = old.last })
+  passing-copies second bytes s = grind (arith, plain-passed, bytes)
+
+  pub passing-unpaired : (after : List (Result Member SetFaultKind)) (t : Member) → bytes_left old.second ≡ Ok t ∷ after
+      → is_some t.class ≡ true → all_paired from to ≡ false
+  passing-unpaired = grind (arith, split_ok, unmatched)
+
+  pub passing-end : bytes_left old.second ≡ [] → all_paired from to ≡ true
+  passing-end s = p.decides ∙ by_rest p.rest (sym p.left ∙ s)
+    where
+      by_rest : (rest : List Member) → AllOk rest ≡ [] → all_paired [] rest ≡ true
+      by_rest [] e = refl
+      by_rest (x ∷ rest) e = absurd (cc)
+
+-- ---- the images of two arrays, or the fault of a class
+
+abbrev pub answer_of : Bool → List ℕ → Result (List ℕ) SetFaultKind
+answer_of paired images = cond paired (Ok images) (Err ClassPlace)
+
+pub unpaired_answer : (paired : Bool) (images : List ℕ) (r : Result (List ℕ) SetFaultKind) (k : SetFaultKind)
+    → IsErrAnd r (λ e. e ≡ k) → k ≡ ClassPlace → paired ≡ false → r ≡ answer_of paired images
+unpaired_answer = grind arith
+
+pub answer_ok : (paired : Bool) {images table : List ℕ} → Ok table ≡ answer_of paired images
+    → (paired ≡ true) × (table ≡ images)
+answer_ok = grind arith
+
+pub answer_fault : (paired : Bool) (images : List ℕ) (k : SetFaultKind) → Err k ≡ answer_of paired images
+    → (paired ≡ false) × (k ≡ ClassPlace)
+answer_fault = grind arith
+
+pub first-bytes : (complement : Bool) (ps : List Segment)
+    → member_bytes (first_members complement ps) ≡ first_array complement ps
+first-bytes = grind (arith, member_bytes-plain, member_bytes-array)

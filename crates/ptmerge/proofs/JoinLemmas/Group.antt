@@ -1,0 +1,758 @@
+-- The group of one key: its lines are read, paired and then closed. Output during a group is a prefix of the output for
+-- all inputs, since lesser keys are complete and the pairs of the group are written in their final order. Once both
+-- inputs are past the key, the group is complete, and counts as processed.
+use Rattle.ptmerge.proofs
+use proofs.Common.{◌≡◌, ⊎_elim, inl, ℕ, ◌+◌, ◌-◌, ◌≤◌, ◌<◌, suc, true, false, length-drop, List, [], ◌∷◌, ◌++◌, length}
+use proofs.Common.{map, drop, get_or, set, max, refl, ap, ◌∙◌, arith, ◌*◌, Option, append_assoc, length-append}
+use proofs.Common.{length-set, drop_more, Slots, line, total_bytes, with_line, with_denied, unlines, max_length, Join}
+use proofs.Common.{ClearGroupPost, group, CopyToGroupPost, entry, join_fields, pair_entries, max_over_keys}
+use proofs.Common.{max_group_bytes, max_group_lines, Lines, lines_with_key, Reader, Side, First, Second, Sorted, Key}
+use proofs.Common.{HasSlots, with_side, MergeTool, ◌&&◌, Bool, Some, sym, subst, bytes_eq, bytes_decides, append-nil}
+use proofs.Common.{Output, PushEffect, push_trans, unlines-append, CursorStatus, Head, Ended, Disorder, entries_by_key}
+use proofs.Common.{entries_of_key, MergeState, NextOkPost, other, PrecedesInput, disorder, merged_entries}
+use proofs.Common.{sorted_prefixes, is_up_to, line_of_with_line}
+use proofs.JoinLemmas.Fields.{partial_starts}
+use proofs.MergeLemmas.{line_other, HasLines, StoreOfLines, has_lines_total, set_line, put_each, put_same, low_slot}
+use proofs.MergeLemmas.{put_both, put_other, side_case, EachKey, same_bytes, Bound, AtLeast, MayFollow, IsUnder}
+use proofs.MergeLemmas.{MergeInvariant, IsFuture, MayCome, all_keys, splits_step, all_wanted, written_is_wanted}
+use proofs.MergeLemmas.{LagInvariant, IsLater, EachKey-append, EachKey-weaker, at_most-same, front_first, front_is}
+use proofs.MergeLemmas.{others_of, lines_with_key-above, AtMost, least_or_above, self_at_most, equal_is, SideAfterNext}
+use proofs.MergeLemmas.{at_current_line, IsAtCurrentLine, MatchesStatus, side_invariant_kept, Fits}
+use proofs.MergeLemmas.{read_facts_after_line, input_split_of, both_begun, IsOpenMerge, ReadFactsOf, SidesInvariant}
+use proofs.MergeLemmas.{IsAbove, current_key_is_above, next_at, sides_next, StoreInvariant, EndsIfFails, advance_fails}
+use proofs.MergeLemmas.{Continues, HoldsLines}
+use Rattle.std.proofs.Math.ListN.{get_or-append}
+use Rattle.std.proofs.lemmas.Grind.{common_steps}
+use Rattle.std.proofs.Common.{rules}
+use Rattle.std.proofs.lemmas.List.{drop-set-add, drop-set-lt, set_at, take_at, take_more}
+use Rattle.std.proofs.lemmas.List.Sums.{sum_by-append, sum_by-cons, sum_by_push}
+use Rattle.ptlines.proofs.SlotTotals.{total_bytes_set}
+use Rattle.ptmerge.specs.JoinGroup.{EnsureSlotPost, CopyToGroupErrPost, is_head}
+
+-- The store of `join`: the slots 0 to 3 hold two lines of each input, and the slots from 4 on hold the group. Reading a
+-- line or copying one changes one slot, so the bytes stored are the sum of both parts. The group is a part of the lines
+-- of one key, so it is bounded by the largest group.
+
+-- the lines of the group, from a slot on
+pub group_from : (store : Slots) (end slot : ℕ) → end ≤ length store.lines → slot < end
+    → group store slot end ≡ line store slot ∷ group store (slot + 1) end
+group_from store end slot fits low =
+    let more : end - slot ≡ suc (end - (slot + 1)) = omega arith in
+    grind (arith, more, drop_more store.lines slot [])
+
+pub group_end : (store : Slots) (end slot : ℕ) → end ≤ slot → group store slot end ≡ []
+group_end store end slot past = let none : end - slot ≡ 0 = omega arith in rw none refl
+
+pub group_more : (store : Slots) (from end : ℕ) → from ≤ end → end < length store.lines
+    → group store from (end + 1) ≡ group store from end ++ line store end ∷ []
+group_more store from end least within =
+    let more = take_more (drop from store.lines) (end - from) [] in grind (arith, common_steps, more)
+
+-- the lines of one slot
+pub group_one : (store : Slots) (slot : ℕ) → slot < length store.lines
+    → group store slot (slot + 1) ≡ line store slot ∷ []
+group_one = grind (arith, group_more, group_end)
+
+-- ---- the output
+
+-- the output line of a pair of lines with a key
+abbrev pub pair_of : Join → List ℕ → List ℕ → List ℕ → List ℕ
+pair_of job k first second = entry job k (join_fields job.separator first) (join_fields job.separator second)
+
+pub pairs_text : (job : Join) (end : ℕ) (x k : List ℕ) (g : Lines) → job.pairs ≡ true
+    → unlines end (pair_entries job k (x ∷ []) g) ≡ unlines end (map (pair_of job k x) g)
+pairs_text job end x k g asked = search (rules, pair_of)
+
+-- ---- emptying the group
+
+pub clears_none : (s : Slots) → ClearGroupPost s s 4
+clears_none s = grind arith
+
+pub clears_more : (a s t : Slots) (slot : ℕ) → 4 ≤ slot → slot < length a.lines → ClearGroupPost a s slot
+    → t ≡ with_line s slot [] → ClearGroupPost a t (slot + 1)
+clears_more a s t slot from within c is =
+    let rest = drop 4 s.lines in
+    let back : 4 + (slot - 4) ≡ slot = omega arith in
+    let all = total_bytes_set s.lines slot [] (omega arith) in
+    let at : get_or rest (slot - 4) [] ≡ line a slot = grind (arith, common_steps, back) in
+    let d : drop 4 (set s.lines slot []) ≡ set rest (slot - 4) [] = cc (back, drop-set-add 4 s.lines (slot - 4) []) in
+    let here = total_bytes_set rest (slot - 4) [] (omega (arith, length-drop 4 s.lines)) in
+    let grows = ap total_bytes (group_more a 4 slot from within) ∙ sum_by_push length (group a 4 slot) (line a slot) in
+    rw is (record {
+      slots = length-set s.lines slot [] ∙ c.slots;
+      others = λ i far. grind (arith, line_other);
+      emptied = omega (arith, here, ap total_bytes d, ap length at, grows);
+      less = omega (arith, all);
+      peak = omega (arith, all);
+      denied = c.denied;
+    })
+
+-- ---- copying a line to the group
+
+-- after `ensure_slot`, only empty slots were added
+record EnsuredSlot (before made : Slots) (slot : ℕ) : Type 0 where
+  more : Lines
+  lines : made.lines ≡ before.lines ++ more
+  empty : total_bytes more ≡ 0
+  slots : (length before.lines ≤ length made.lines) × (length made.lines ≤ max (length before.lines) (slot + 1))
+  peak : made.peak ≡ before.peak
+  denied : made.denied ≡ before.denied
+
+ensured_slot : (before made : Slots) (slot : ℕ) → EnsureSlotPost before made slot → EnsuredSlot before made slot
+ensured_slot before made slot g =
+    ⊎_elim (λ e. let more : Lines = [] in grind (arith, common_steps, more))
+    (λ e. let more : Lines = [] ∷ [] in grind (arith, common_steps, more)) g.grown
+
+pub failed_copy : (before made : Slots) (to : ℕ) → EnsureSlotPost before made to
+    → CopyToGroupErrPost before (with_denied (with_line made to [])) to
+failed_copy = grind (arith, common_steps, ensured_slot, total_bytes_set)
+
+-- ---- the largest group
+
+-- a measure of lists of lines that is the sum of a weight of each line
+record IsLineMeasure (m : Lines → ℕ) : Type 0 where
+  weight : List ℕ → ℕ
+  none : m [] ≡ 0
+  more : (x : List ℕ) (xs : Lines) → m (x ∷ xs) ≡ weight x + m xs
+
+module _ (m : Lines → ℕ) (laws : IsLineMeasure m) (key : Key) where
+  -- lines of one key are at most all lines with this key
+  group_measure_max : (k : List ℕ) (p g c : Lines) → EachKey (λ x. x ≡ k) key g
+      → m g ≤ m (lines_with_key key (p ++ (g ++ c)) k)
+  group_measure_max k [] [] c e = omega arith
+  group_measure_max k [] (x ∷ g) c (here, more) = grind (arith, same_bytes, group_measure_max k [] g c more)
+  group_measure_max k (x ∷ p) g c e = grind (arith, group_measure_max k p g c e)
+
+  greatest_has : (ls p : Lines) (y : List ℕ) (w : Lines)
+      → m (lines_with_key key ls (key y)) ≤ max_over_keys m key ls (p ++ y ∷ w)
+  greatest_has ls [] y w = omega arith
+  greatest_has ls (x ∷ p) y w = omega (arith, greatest_has ls p y w)
+
+  -- lines of one key are at most the largest group
+  measure_in : (k : List ℕ) (p g w : Lines) → EachKey (λ x. x ≡ k) key g → 0 < length g
+      → m g ≤ max_over_keys m key ((p ++ g) ++ w) ((p ++ g) ++ w)
+  measure_in k p [] w own some = absurd (omega arith)
+  measure_in k p (x ∷ g) w (is, more) some = rw (append_assoc p (x ∷ g) w) (omega (
+    arith,
+    group_measure_max k p (x ∷ g) w (is, more),
+    rw is at (greatest_has (p ++ (x ∷ g ++ w)) p x (g ++ w)),
+  ))
+
+-- the most bytes and the most lines of a group, by the lines of the second input
+pub record GroupBounds : Type 0 where
+  pub bytes : Lines → ℕ
+  pub lines : Lines → ℕ
+
+-- those of the largest group of an input
+abbrev pub largest_group : Key → GroupBounds
+largest_group key = record { bytes = max_group_bytes key; lines = max_group_lines key }
+
+-- the lines of a group are within the bounds
+abbrev pub InGroup : GroupBounds → Lines → Lines → Type 0
+InGroup most g ls = (total_bytes g ≤ most.bytes ls) × (length g ≤ most.lines ls)
+
+pub group_in : (key : Key) (k : List ℕ) (p g w : Lines) → EachKey (λ x. x ≡ k) key g → 0 < length g
+    → InGroup (largest_group key) g ((p ++ g) ++ w)
+group_in key k p g w own some = (
+  measure_in total_bytes (record { weight = length; none = refl; more = λ x xs. sum_by-cons length x xs })
+      key k p g w own some,
+  measure_in length (record { weight = λ x. 1; none = refl; more = λ x xs. omega arith }) key k p g w own some,
+)
+
+-- ---- the content of the slots
+
+-- the first four slots are unchanged, and the others hold `now` bytes
+same_lines : (xs ys : Lines) (m : Side → ℕ) (more now : ℕ) → HasLines m more xs → 4 ≤ length ys
+    → ((i : ℕ) → i < 4 → get_or ys i [] ≡ get_or xs i []) → total_bytes (drop 4 ys) ≡ now → HasLines m now ys
+same_lines = grind arith
+
+-- The invariant of the store of `join`: two lines of each input, and then the lines of the group.
+pub record GroupStore (most : GroupBounds) (before store : Slots) (ls : Side → Lines) (g : Lines) : Type 0 where
+  pub tail : Lines
+  pub split : drop 4 store.lines ≡ g ++ tail
+  pub empty : total_bytes tail ≡ 0
+  pub lines : HasLines (λ side. max_length (ls side)) (total_bytes g) store.lines
+  -- for all lines that the second input may continue with
+  pub bounds : (all more : Lines) → all ≡ ls Second ++ more → InGroup most g all
+      × (store.peak ≤ max before.peak (2 * max_length (ls First) + 2 * max_length (ls Second) + most.bytes all))
+      × (length store.lines ≤ max (length before.lines) (4 + most.lines all))
+  pub least : length before.lines ≤ length store.lines
+  pub four : 4 ≤ length store.lines
+  pub denied : store.denied ≡ false
+
+pub group_store_starts : {most : GroupBounds} {before store : Slots} {ls : Side → Lines}
+    → StoreOfLines before store (λ side. max_length (ls side)) → GroupStore most before store ls []
+group_store_starts = grind arith
+
+-- each input uses its own two slots
+abbrev pub AllSlots : (Side → Sorted) → Type 0
+AllSlots cursor = (side : Side) → HasSlots side (cursor side)
+
+-- the list `now` continues the list `was`
+pub record Extends (was now : Lines) : Type 0 where
+  pub more : Lines
+  pub is : now ≡ was ++ more
+
+-- the next line of an input replaces its previous line
+pub group_store_line : {most : GroupBounds} {before store after : Slots} {ls now : Side → Lines} {g : Lines} (s : Side)
+    (cursor : Sorted) → HasSlots s cursor → (x : List ℕ) → GroupStore most before store ls g
+    → ((side : Side) → max_length (ls side) ≤ max_length (now side)) → length x ≤ max_length (now s)
+    → Extends (ls Second) (now Second) → after ≡ with_line store cursor.previous_slot x
+    → GroupStore most before after now g
+group_store_line {store = store} {after} {ls} {now} {g} s cursor slots x k up fit continues_key is =
+    let inside = set_line s cursor store.lines (λ side. max_length (ls side)) (λ side. max_length (now side))
+    (total_bytes g) x slots k.lines up fit in
+    let sum = has_lines_total (set store.lines _ x) (λ side. max_length (now side))
+    (total_bytes g) inside in
+    let size = length-set store.lines cursor.previous_slot x in
+    rw is (record {
+      tail = k.tail;
+      split = drop-set-lt 4 store.lines cursor.previous_slot x (low_slot s cursor slots).previous ∙ k.split;
+      empty = k.empty;
+      lines = inside;
+      bounds = λ all more e. omega (
+        arith,
+        k.bounds all (continues_key.more ++ more)
+            (cc (append_assoc (ls Second) continues_key.more more)),
+        up First,
+        up Second,
+        size,
+      );
+      least = omega (arith, size);
+      four = omega (arith, size);
+      denied = k.denied;
+    })
+
+-- the lines that an input continues with, after one input advanced
+pub put_more : (s : Side) (ls : Side → Lines) (now more : Lines) → now ≡ ls s ++ more
+    → Extends (ls Second) (with_side s now ls Second)
+put_more = search rules
+
+-- an input advances
+pub group_store_next : {most : GroupBounds} {tool : MergeTool} {before store after : Slots} {ls : Side → Lines}
+    {g : Lines} {old new : Reader} {next : Sorted} {last : Option (List ℕ)} (s : Side) (cursor : Sorted)
+    → HasSlots s cursor → GroupStore most before store ls g
+    → (n : SideAfterNext tool s old new next cursor.previous_slot store after (ls s) last)
+    → GroupStore most before after (with_side s n.now_ls ls) g
+group_store_next {ls = ls} s cursor slots k n = group_store_line s cursor slots n.bytes k
+    (put_each (λ side (l : Lines). max_length (ls side) ≤ max_length l) s n.now_ls ls n.longer (λ side. omega arith))
+    (rw (put_same s n.now_ls ls) n.fits) (put_more s ls n.now_ls n.more n.continues_key) n.stored
+
+module _ {most : GroupBounds} {before store : Slots} {ls : Side → Lines} {g : Lines}
+    (k : GroupStore most before store ls g) where
+  -- the result of copying a line to the end of the group
+  pub record CopiedLine (after : Slots) (y : List ℕ) : Type 0 where
+    pub store_holds : GroupStore most before after ls (g ++ y ∷ [])
+    pub same : (i : ℕ) → i < 4 → line after i ≡ line store i
+
+  module _ {made : Slots} {to : ℕ} (w : EnsuredSlot store made to) where
+    made_same : (i : ℕ) → i < 4 → line made i ≡ line store i
+    made_same i low = cc (get_or-append store.lines w.more [] i (omega (arith, low)))
+
+    module _ (y : List ℕ) (at : to ≡ 4 + length g) (within : to < length made.lines)
+        (largest : (l : Lines) → InGroup most (g ++ y ∷ []) (ls Second ++ l)) where
+      first_same : (i : ℕ) → i < 4 → get_or (set made.lines to y) i [] ≡ get_or store.lines i []
+      first_same i low = line_other made to i y (λ e. absurd (omega (arith, at))) ∙ made_same i low
+
+      by_tail : (t : Lines) → total_bytes t ≡ 0 → length g + 1 ≤ length (g ++ t)
+          → drop 4 (set made.lines to y) ≡ set (g ++ t) (length g) y
+          → GroupStore most before (with_line made to y) ls (g ++ y ∷ [])
+      by_tail [] none some is = absurd (omega (arith, some, length-append g []))
+      by_tail (z ∷ t) none some is = grind (arith, common_steps, set_at, same_lines, first_same, has_lines_total)
+
+      kept : CopiedLine (with_line made to y) y
+      kept = grind (arith, common_steps, by_tail, first_same)
+
+  pub group_store_copied : {after : Slots} {from to : ℕ} → to ≡ 4 + length g → from < 4
+      → CopyToGroupPost store after from to → {y : List ℕ} → line store from ≡ y
+      → ((l : Lines) → InGroup most (g ++ y ∷ []) (ls Second ++ l)) → CopiedLine after y
+  group_store_copied {after} {from} {to} at low e {y} is largest = let w = ensured_slot store e.made to e.grown in
+      rw (e.copied, made_same w from low, is) (kept w y at e.grown.within largest)
+
+  -- the lines of the group are in its slots
+  pub kept_line : (slot : ℕ) → 4 ≤ slot → slot < 4 + length g → line store slot ≡ get_or g (slot - 4) []
+  kept_line = grind (arith, common_steps)
+
+  pub group_is : {end : ℕ} → end ≡ 4 + length g → group store 4 end ≡ g
+  group_is at = rw k.split (take_at g k.tail _ (omega (arith, at)))
+
+  pub end_within : {end : ℕ} → end ≡ 4 + length g → end ≤ length store.lines
+  end_within at = grind (arith, length-append)
+
+  -- the group is emptied
+  pub group_store_cleared : {after : Slots} {end : ℕ} → end ≡ 4 + length g → ClearGroupPost store after end
+      → GroupStore most before after ls []
+  group_store_cleared {after} at c =
+      let none : total_bytes (drop 4 after.lines) ≡ 0 = omega
+      (arith, ap total_bytes (group_is at), ap total_bytes k.split, sum_by-append length g k.tail)
+      in
+      let four : 4 ≤ length after.lines = omega arith in
+      let lines = same_lines _ _ (λ side. max_length (ls side)) (total_bytes g) 0 k.lines four
+      (λ i low. c.others i (inl low)) none in
+      let total = has_lines_total _ (λ side. max_length (ls side)) (total_bytes g) k.lines in
+      record {
+        tail = drop 4 after.lines;
+        split = refl;
+        empty = none;
+        lines = lines;
+        bounds = λ all more e. omega (arith, k.bounds all more e, total);
+        least = omega arith;
+        four = four;
+        denied = c.denied ∙ k.denied;
+      }
+
+pub ruleset pair_steps = (partial_starts, pairs_text)
+
+-- ---- a fault within a group
+
+-- After a fault within a group, the output of all lesser keys is complete, and the output of the group's key is a
+-- prefix.
+
+-- a property of k holds for the keys of all lines of its group
+pub all_own_keys : (P : List ℕ → Type 0) (key : Key) (k : List ℕ) (g : Lines) → P k → EachKey (λ x. x ≡ k) key g
+    → EachKey P key g
+all_own_keys P key k g h = EachKey-weaker _ P (λ x same. subst P (sym same) h) _ g
+
+-- the lines `p` are processed, the lines `g` are the group of the key `k`, and `d` bounds the lines that may follow
+pub record OutputInGroup (tool : MergeTool) (was mid : Output) (p g : Side → Lines) (d : Side → Bound)
+    (k : List ℕ) : Type 0 where
+  pub merge_invariant : MergeInvariant tool (λ side. AtLeast k) p was mid
+  pub clean : mid.write_failed ≡ false
+  pub own : (side : Side) → EachKey (λ x. x ≡ k) (tool.key side) (g side)
+  pub later : (side : Side) → IsLater tool.cmp (tool.key side) (AtLeast k) (d side)
+
+-- the entries `extra` are a prefix of the group's output, for all lines that may follow
+pub record OutputStartsWith (tool : MergeTool) (g : Side → Lines) (d : Side → Bound) (k : List ℕ)
+    (extra : Lines) : Type 0 where
+  pub rest : (w : List ℕ → Bool) (r : Side → Lines) → MayCome tool d r → w k ≡ true → (rest : Lines)
+      × (entries_by_key tool w (λ side. g side ++ r side) ≡ extra ++ rest)
+
+-- the group has entries, for all lines that may follow
+abbrev pub HasEntries : MergeTool → (Side → Lines) → (Side → Bound) → List ℕ → Type 0
+HasEntries tool g d k = (w : List ℕ → Bool) (r : Side → Lines) → MayCome tool d r → w k ≡ true
+    → 0 < length (entries_by_key tool w (λ side. g side ++ r side))
+
+module _ {tool : MergeTool} {old : MergeState} (w : IsOpenMerge tool old) {mid : Output} {p g : Side → Lines}
+    {d : Side → Bound} {k : List ℕ} (m : OutputInGroup tool old.out mid p g d k) where
+  open tool use {cmp, terminator, key}
+  open w use {o}
+
+  abbrev front : Lines
+  front = entries_by_key tool all_keys p
+
+  rest_not_less : (side : Side) (r : Lines) → MayFollow cmp (key side) (d side) r
+      → EachKey (AtMost cmp k) (key side) (g side ++ r)
+  rest_not_less side r c = at_most-same tool o (key side) k (g side) r (m.own side) ((m.later side).may_follow r c)
+
+  -- two lists that continue the lines read so far: their sorted prefixes and their disorder
+  module _ (new : MergeState) {now : Side → Reader} {piece : Side → List ℕ} {ls : Side → Lines}
+      (gone : (side : Side)
+      → ReadFactsOf tool old now ls (λ side. p side ++ g side) d side (new.reader side) (piece side))
+      (all : Side → Lines) (more : (side : Side) → Continues (now side) (ls side) (all side)) where
+    seen : (side : Side) → IsFuture cmp (key side) (all side) (p side ++ g side) (d side)
+    seen = input_split_of w new gone all more
+
+    abbrev coming : Side → Lines
+    coming side = (seen side).rest
+
+    parts : (w : List ℕ → Bool) → entries_by_key tool w (sorted_prefixes tool all) ≡ entries_by_key tool w
+        p ++ entries_by_key tool w (λ side. g side ++ coming side)
+    parts w = (λ i. entries_by_key tool w (λ side. ((seen side).is ∙ append_assoc (p side) (g side) (coming side)) i))
+        ∙ m.merge_invariant.splits w (λ side. g side ++ coming side)
+        (λ side. rest_not_less side (coming side) (seen side).may_follow)
+
+    wanted : (x : List ℕ) → AtMost cmp x k → is_up_to cmp (disorder tool all) x ≡ true
+    wanted x h = written_is_wanted cmp o _ _ _ _ x (seen First).may_disorder (seen Second).may_disorder
+        ((m.later First).under x h) ((m.later Second).under x h)
+
+    abbrev is_wanted : List ℕ → Bool
+    is_wanted = is_up_to cmp (disorder tool all)
+
+    -- the entries of all lesser keys come first
+    front_is_first : entries_by_key tool is_wanted p ≡ front
+    front_is_first = all_wanted tool is_wanted p (λ side. EachKey-weaker _ _
+        wanted _ _ (m.merge_invariant.under First side))
+
+    pub group_comes_first : {extra : Lines} → OutputStartsWith tool g d k extra → (rest : Lines)
+        × (merged_entries tool all ≡ (front ++ extra) ++ rest)
+    group_comes_first {extra} starts =
+        let (rest, is) = starts.rest is_wanted coming (λ side. (seen side).may_follow)
+        (wanted k (self_at_most cmp o k)) in
+        (rest, cc (parts is_wanted, front_is_first, is, append_assoc front extra rest))
+
+    -- the entries of lesser keys are not all, if the group has entries
+    pub front_is_not_all : HasEntries tool g d k → ¬ (merged_entries tool all ≡ front ++ [])
+    front_is_not_all has same =
+        let some = has is_wanted coming (λ side. (seen side).may_follow) (wanted k (self_at_most cmp o k)) in
+        let own = entries_by_key tool is_wanted (λ side. g side ++ coming side) in
+        absurd (omega (
+          arith,
+          some,
+          ap length (sym (parts is_wanted ∙ (λ i. front_is_first i ++ own)) ∙ same ∙ append-nil front),
+          length-append front own,
+        ))
+
+  -- the keys of the processed lines and of the group
+  passed_keys : (of side : Side) → EachKey (λ x. AtMost cmp x k) (key side) (p side ++ g side)
+  passed_keys of side =
+      EachKey-append _ (key side) _ _ (m.merge_invariant.under of side)
+      (all_own_keys (λ x. AtMost cmp x k) (key side) k (g side) (self_at_most cmp o k) (m.own side))
+
+  passed_under : (of side : Side) → EachKey (IsUnder cmp (d of)) (key side) (p side ++ g side)
+  passed_under of side =
+      EachKey-weaker _ _ (m.later of).under _ _ (passed_keys of side)
+
+  pub group_written : {is : Output} (extra : Lines) → PushEffect mid is (unlines terminator extra)
+      → LagInvariant tool d (λ side. p side ++ g side) old.out is (front ++ extra)
+  group_written extra wrote = record {
+    mid = mid;
+    front = p;
+    tail = g;
+    bound = λ side. AtLeast k;
+    clean = m.clean;
+    wrote = m.merge_invariant.wrote;
+    bytes = unlines terminator extra;
+    more = wrote;
+    all = sym (unlines-append terminator front extra);
+    split = λ side. refl;
+    under = passed_under;
+    under_bound = passed_keys;
+    may_follow = rest_not_less;
+  }
+
+-- ---- tools that write pairs
+
+-- a tool whose output for a key of both inputs is a list of pairs, or nothing
+pub record IsPairTool (tool : MergeTool) (most : GroupBounds) (pairs : List ℕ → Lines → Lines → Lines) : Type 0 where
+  pub none : (k : List ℕ) (g : Lines) → pairs k [] g ≡ []
+  pub more : (k : List ℕ) (f g c : Lines) → pairs k (f ++ g) c ≡ pairs k f c ++ pairs k g c
+  pub whole : (k a b : List ℕ) (f g : Lines) → tool.entries k (a ∷ f) (b ∷ g) ≡ pairs k (a ∷ f) (b ∷ g)
+  pub written : tool.keeps_groups ≡ true → (k a b : List ℕ) (f g : Lines) → 0 < length (pairs k (a ∷ f) (b ∷ g))
+  pub unwritten : tool.keeps_groups ≡ false → (k : List ℕ) (f g : Lines) → pairs k f g ≡ []
+  pub size : (ls : Side → Lines) → tool.size ls ≡ (2 * max_length (ls First) + 2 * max_length (ls Second)) + most.bytes
+      (ls Second)
+  pub slots : (ls : Side → Lines) → tool.slots ls ≡ 4 + most.lines (ls Second)
+  pub largest : tool.keeps_groups ≡ true → (g ls : Lines) → InGroup (largest_group (tool.key Second)) g ls
+      → InGroup most g ls
+
+-- a call of such a tool, with its initial state
+pub record JoinCall : Type 0 where
+  pub tool : MergeTool
+  pub open tool use *
+  pub most : GroupBounds
+  pub pairs : List ℕ → Lines → Lines → Lines
+  pub laws : IsPairTool tool most pairs
+  pub old : MergeState
+  pub w : IsOpenMerge tool old
+  pub open w use {o}
+
+-- the current line of an input
+abbrev pub head_of : MergeState → (Side → Sorted) → Side → List ℕ
+head_of now cursor s = line now.store (cursor s).current_slot
+
+-- the state after an input advanced, with this output and store
+abbrev pub state_after_read : MergeState → Side → Reader → Output → Slots → MergeState
+state_after_read now s reader out store = record { reader = with_side s reader now.reader; out = out; store = store }
+
+-- ---- the bytes in the store
+
+pub extends : {now : Reader} {ls all : Lines} {piece : List ℕ} → HoldsLines now ls piece all → Extends ls all
+extends w = record { more = w.continues.more; is = w.continues.is }
+
+-- the measure of `join` for inputs that begin with these lines
+pub size_of : (call : JoinCall) {store : Slots} {ls : Side → Lines} {g : Lines}
+    (h : GroupStore call.most call.old.store store ls g) (all : Side → Lines)
+    → ((side : Side) → max_length (ls side) ≤ max_length (all side)) → Extends (ls Second) (all Second)
+    → (store.peak ≤ max call.old.store.peak (call.size all))
+    × (length store.lines ≤ max (length call.old.store.lines) (call.slots all))
+    × (max (length call.old.store.lines) 4 ≤ length store.lines) × (total_bytes store.lines ≤ call.size all)
+size_of = grind (arith, has_lines_total)
+
+module _ (call : JoinCall) {store : Slots} {ls : Side → Lines} {g : Lines}
+    (h : GroupStore call.most call.old.store store ls g) {now : Side → Reader} where
+  -- a piece of a further line stays within the measure
+  pub peak_line : (s : Side) (cursor : Sorted) → HasSlots s cursor → (piece : List ℕ)
+      → Fits call.tool call.old.store now ls (with_side s piece (λ t. [])) (with_line store cursor.previous_slot piece)
+  peak_line = grind (arith, common_steps, group_store_line, put_same, extends, size_of)
+
+pub store_between_groups : (call : JoinCall) {reader : Side → Reader} {cursor : Side → Sorted} {store : Slots}
+    {ls : Side → Lines} → GroupStore call.most call.old.store store ls [] → AllSlots cursor
+    → StoreInvariant call.tool call.old.store reader cursor store ls
+store_between_groups call {cursor = cursor} h slots = record {
+  lines = h.lines;
+  denied = h.denied;
+  fits = λ after small same all more. grind (arith, common_steps, size_of, extends);
+  line = λ s. peak_line call h s (cursor s) (slots s);
+}
+
+-- the invariant of both inputs depends only on the first four slots
+pub same_cursors : (tool : MergeTool) {old now : Side → Reader} {cursor : Side → Sorted} {before after : Slots}
+    {ls p : Side → Lines} {b : Side → Bound} → SidesInvariant tool old now cursor before ls p b
+    → 4 ≤ length after.lines → ((i : ℕ) → i < 4 → line after i ≡ line before i)
+    → SidesInvariant tool old now cursor after ls p b
+same_cursors = grind (arith, low_slot, side_invariant_kept)
+
+-- ---- the output of a group
+
+module _ (call : JoinCall) {mid : Output} {p g : Side → Lines} {d : Side → Bound} {k : List ℕ}
+    (m : OutputInGroup call.tool call.old.out mid p g d k) where
+  open call use {cmp, entries, key, laws, o, pairs, tool}
+
+  -- no key that follows is less
+  none_less : (r : Side → Lines) → MayCome tool d r → (side : Side) → EachKey (AtMost cmp k) (key side) (r side)
+  none_less r c side = (m.later side).may_follow (r side) (c side)
+
+  -- the pairs of a group come first, for all lines of its key that the first input still has
+  starts_pairs : (f c s : Lines) → 0 < length s → (rest : Lines) × (entries k (f ++ c) s ≡ pairs k f s ++ rest)
+  starts_pairs [] c s some = (entries k c s, rw (laws.none k s) refl)
+  starts_pairs (a ∷ f) c [] some = absurd (omega (arith, some))
+  starts_pairs (a ∷ f) c (b ∷ s) some = (pairs k c (b ∷ s), laws.whole k a b (f ++ c) s ∙ laws.more k (a ∷ f) c (b ∷ s))
+
+  pub starts_none : OutputStartsWith tool g d k []
+  starts_none = record { rest = λ w r c wanted. (entries_by_key tool w (λ side. g side ++ r side), refl) }
+
+  pub starts : 0 < length (g Second) → IsAbove cmp (key Second) k (d Second)
+      → OutputStartsWith tool g d k (pairs k (g First) (g Second))
+  starts some above = record {
+    rest = λ w r c wanted.
+        let none = lines_with_key-above tool o (key Second) k (r Second) (above (r Second) (c Second)) in
+        let (rest, is) = starts_pairs (g First) (lines_with_key (key First) (r First) k) (g Second) some in (
+          rest ++ entries_by_key tool w (others_of tool o k r),
+          front_is tool o w k g r m.own (none_less r c) (call.w.alone.none k)
+              ∙ rw (wanted, none, append-nil (g Second), is) (append_assoc (pairs k (g First) (g Second)) rest _),
+        );
+  }
+
+  some_entries : tool.keeps_groups ≡ true → (f s : Lines) → 0 < length f → 0 < length s → 0 < length (entries k f s)
+  some_entries keeps (a ∷ f) (b ∷ s) some1 some2 = rw (laws.whole k a b f s) (laws.written keeps k a b f s)
+  some_entries keeps f s some1 some2 = absurd (omega arith)
+
+  -- the entries of a group of lines of both inputs
+  pub has_entries : tool.keeps_groups ≡ true → ((side : Side) → 0 < length (g side)) → HasEntries tool g d k
+  has_entries keeps some w r c wanted =
+      let f = g First ++ lines_with_key (key First) (r First) k in
+      let s = g Second ++ lines_with_key (key Second) (r Second) k in
+      let own = some_entries keeps f s
+      (omega (arith, some First, length-append (g First) (lines_with_key (key First) (r First) k)))
+      (omega (arith, some Second, length-append (g Second) (lines_with_key (key Second) (r Second) k))) in
+      let rest = entries_by_key tool w (others_of tool o k r) in
+      rw (front_is tool o w k g r m.own (none_less r c) (call.w.alone.none k), wanted)
+      (omega (arith, own, length-append (entries k f s) rest))
+
+  own_entries : (f s : Lines) → 0 < length f → 0 < length s → entries k f s ≡ pairs k f s
+  own_entries (a ∷ f) (b ∷ s) some1 some2 = laws.whole k a b f s
+  own_entries f s some1 some2 = absurd (omega arith)
+
+  -- a group is complete if only greater keys follow
+  pub closes : {is : Output} → ((side : Side) → 0 < length (g side))
+      → ((side : Side) → IsAbove cmp (key side) k (d side))
+      → PushEffect mid is (unlines call.terminator (pairs k (g First) (g Second)))
+      → MergeInvariant tool d (λ side. p side ++ g side) call.old.out is
+  closes {is} some above wrote =
+      record {
+        splits = splits_step tool (λ side. AtLeast k) d p g m.merge_invariant.splits
+            (rest_not_less call.w m) splits_off;
+        under = passed_under call.w m;
+        wrote = rw (all, unlines-append call.terminator (entries_by_key tool all_keys p) (pairs k (g First) (g Second)))
+            (push_trans _ _ _ _ _ m.clean m.merge_invariant.wrote wrote);
+      }
+    where
+      -- the output of the group alone
+      alone_is : entries_by_key tool all_keys g ≡ entries k (g First) (g Second)
+      alone_is = simp append-nil at (front_is tool o all_keys k g (λ side. []) m.own (λ side. tt) (call.w.alone.none k))
+
+      splits_off : (w : List ℕ → Bool) (r : Side → Lines) → MayCome tool d r
+          → entries_by_key tool w (λ side. g side ++ r side) ≡ entries_by_key tool w g ++ entries_by_key tool w r
+      splits_off w r c =
+          let none = λ (side : Side). lines_with_key-above tool o (key side) k (r side)
+          (above side (r side) (c side)) in
+          let nothing : entries_of_key tool r k ≡ [] = (λ i. entries k (none First i) (none Second i))
+          ∙ call.w.alone.none k in
+          front_first tool o w k g r m.own (none_less r c) (call.w.alone.none k)
+          (simp (none First, none Second, nothing, append-nil))
+
+      all : entries_by_key tool all_keys (λ side. p side ++ g side) ≡ entries_by_key tool all_keys p
+          ++ pairs k (g First) (g Second)
+      all =
+          let split = m.merge_invariant.splits all_keys g
+          (λ side. all_own_keys (AtMost cmp k) (key side) k (g side) (self_at_most cmp o k) (m.own side)) in
+          cc (split, alone_is, own_entries (g First) (g Second) (some First) (some Second))
+
+-- ---- the lines of a group
+
+has_key : (s : CursorStatus) (a b : List ℕ) → (is_head s && bytes_eq a b) ≡ true → (s ≡ Head) × (b ≡ a)
+has_key s a b h = grind (arith, bytes_decides a b)
+
+-- the group with the current line of the input `s` added
+abbrev pub with_added_line : MergeState → (Side → Sorted) → Side → (Side → Lines) → Side → Lines
+with_added_line now cursor s g = with_side s (g s ++ head_of now cursor s ∷ []) g
+
+-- the invariant during a group `g` of the key `k`: its output so far is written, and its copied lines end before slot
+-- `end`
+pub record GroupState (call : JoinCall) (now : MergeState) (cursor : Side → Sorted) (end : ℕ) (k : List ℕ)
+    (g : Side → Lines) (kept : Lines) : Type 0 where
+  pub ls : Side → Lines
+  pub p : Side → Lines
+  pub d : Side → Bound
+  pub mid : Output
+  pub sides : SidesInvariant call.tool call.old.reader now.reader cursor now.store ls (λ side. p side ++ g side) d
+  pub within : OutputInGroup call.tool call.old.out mid p g d k
+  pub keeps : GroupStore call.most call.old.store now.store ls kept
+  pub wrote : PushEffect mid now.out (unlines call.terminator (call.pairs k (g First) (g Second)))
+  pub at : end ≡ 4 + length kept
+
+module _ {call : JoinCall} {now : MergeState} {cursor : Side → Sorted} {end : ℕ} {k : List ℕ} {g : Side → Lines}
+    {kept : Lines} (q : GroupState call now cursor end k g kept) where
+  open call use {cmp, key, o, old, tool}
+
+  -- an input is past a key if its current line does not have it
+  pub is_past : (s : Side) → ((cursor s).status ≡ Head → ¬ (key s (head_of now cursor s) ≡ k))
+      → IsAbove cmp (key s) k (q.d s)
+  is_past s other = (current_key_is_above _ o _ k _ _ _ _ _
+      _ _ (by (cursor s).status (q.sides s).status_is other) (q.sides s).status_is).0
+    where
+      under : IsUnder cmp (q.d s) k
+      under = (q.within.later s).under k (self_at_most cmp o k)
+
+      by : (t : CursorStatus) → MatchesStatus cmp (key s) t (cursor s) now.store (now.reader s) (q.ls s) (q.p s ++ g s)
+          (q.d s) → (t ≡ Head → ¬ (key s (head_of now cursor s) ≡ k))
+          → PrecedesInput cmp k t (key s (head_of now cursor s)) (key s (line now.store (cursor s).previous_slot))
+      by Head at_line other = grind (arith, other, least_or_above, under)
+      by Ended st other = tt
+      by (Disorder n) st other = rw st at under
+
+  pub end_in : (4 ≤ end) × (end ≤ length now.store.lines)
+  end_in = (omega (arith, q.at), end_within q.keeps q.at)
+
+  -- the facts of an input, if these lines of the group are processed
+  abbrev pub FactsWith : (Side → Lines) → Side → Type 0
+  FactsWith lines side = ReadFactsOf tool old now.reader q.ls (λ t. q.p t ++ lines t) q.d side (now.reader side) []
+
+  pub group_read_facts : (side : Side) → FactsWith g side
+  group_read_facts side = (q.sides side).facts
+
+  -- the group after other lines were stored for it
+  pub group_kept : {after : Slots} → ((i : ℕ) → i < 4 → line after i ≡ line now.store i)
+      → {lines : Lines} → GroupStore call.most old.store after q.ls lines → {to : ℕ} → to ≡ 4 + length lines
+      → GroupState call (record now { store = after }) cursor to k g lines
+  group_kept same holds at =
+      record {
+        ls = q.ls;
+        p = q.p;
+        d = q.d;
+        mid = q.mid;
+        sides = same_cursors call.tool q.sides holds.four same;
+        within = q.within;
+        keeps = holds;
+        wrote = q.wrote;
+        at = at;
+      }
+
+  -- the input `s` is at a further line of the group
+  pub record IsAtGroupLine (s : Side) : Type 0 where
+    pub head : (cursor s).status ≡ Head
+    pub is : key s (head_of now cursor s) ≡ k
+
+module _ {call : JoinCall} {now : MergeState} {cursor : Side → Sorted} {end : ℕ} {k : List ℕ} {g : Side → Lines}
+    {kept : Lines} {q : GroupState call now cursor end k g kept} {s : Side} (l : IsAtGroupLine q s) where
+  open call use {cmp, key, o, old, pairs, tool, w}
+
+  abbrev x : List ℕ
+  x = head_of now cursor s
+
+  -- the group with the current line
+  abbrev added : Side → Lines
+  added = with_added_line now cursor s g
+
+  at_head : IsAtCurrentLine cmp (key s) (cursor s).number x (q.ls s) (q.p s ++ g s) (q.d s)
+  at_head = at_current_line (q.sides s) l.head
+
+  -- all lines read, including the current one
+  pub with_head : q.ls s ≡ q.p s ++ (g s ++ head_of now cursor s ∷ [])
+  with_head = at_head.all ∙ append_assoc (q.p s) (g s) (x ∷ [])
+
+  pub own_more : (side : Side) → EachKey (λ z. z ≡ k) (key side) (added side)
+  own_more = put_each (λ side (l : Lines). EachKey (λ z. z ≡ k) (key side) l) s (g s ++ x ∷ []) g
+      (EachKey-append _ (key s) _ _ (q.within.own s) (l.is, tt)) q.within.own
+
+  pub within_more : OutputInGroup tool old.out q.mid q.p added q.d k
+  within_more = assumption (own_more, q.within)
+
+  pub all_processed : q.p s ++ added s ≡ q.ls s
+  all_processed = cc (with_head, put_same s (g s ++ x ∷ []) g)
+
+  -- the current line is processed
+  pub passing_now : (side : Side) → FactsWith q added side
+  passing_now = side_case _ s
+      (rw all_processed (read_facts_after_line (q.sides s) o l.head)) (simp put_other (group_read_facts q (other s)))
+
+  -- writing failed, or reading the next line, after a prefix of the group's output was written
+  pub group_breaks : {out : Output} {extra : Lines} → OutputStartsWith tool added q.d k extra
+      → PushEffect q.mid out (unlines call.terminator extra) → EndsIfFails tool old now s (cursor s) out
+  group_breaks {extra = extra} begins wrote = advance_fails w {now = now} {cursor = cursor s}
+      {p = λ t. q.p t ++ added t} (record {
+        facts = passing_now;
+        all = all_processed;
+        order = λ r piece free. both_begun (λ side. (q.sides side).begun);
+        denied = q.keeps.denied;
+        fits = peak_line call q.keeps s (cursor s) (q.sides s).slots;
+      }) (group_written w within_more extra wrote)
+      (λ new piece facts all more. group_comes_first w within_more new facts all more begins)
+
+  -- the input advances
+  module _ {reader : Reader} {next : Sorted} {after : Slots}
+      (comes : NextOkPost (key s) cmp (cursor s) next (now.reader s) reader now.store after) where
+    abbrev gone_to : SideAfterNext tool s (old.reader s) reader next (cursor s).previous_slot now.store after (q.ls s)
+        (Some (key s (head_of now cursor s)))
+    gone_to = next_at o q.sides s l.head comes
+
+    -- the previous line keeps its slot
+    pub last_stays : line after next.previous_slot ≡ head_of now cursor s
+    last_stays = grind (arith, gone_to.stored, low_slot s (cursor s) (q.sides s).slots, line_other)
+
+    says : next.same ≡ (is_head next.status && bytes_eq k (key s (line after next.current_slot)))
+    says = let h = at_head in let low = low_slot s (cursor s) (q.sides s).slots in
+        grind (arith, line_of_with_line, equal_is, l.is)
+
+    -- whether the next line has the key of the group, too
+    pub continues_key : next.same ≡ true → (next.status ≡ Head) × (key s (line after next.current_slot) ≡ k)
+    continues_key same = has_key next.status k (key s (line after next.current_slot)) (sym says ∙ same)
+
+    pub leaves_key : next.same ≡ false → next.status ≡ Head → ¬ (key s (line after next.current_slot) ≡ k)
+    leaves_key same head is = cc (says, same_bytes (refl {a = k}))
+
+    -- the previous line belongs to the group
+    pub record AdvancedGroup (new : Output) : Type 0 where
+      pub group : GroupState call (state_after_read now s reader new after) (with_side s next cursor) end k
+          added kept
+      pub bound : group.d (other s) ≡ q.d (other s)
+      pub more : Extends (q.ls Second) (group.ls Second)
+
+    pub advanced_group : {new : Output} → PushEffect q.mid new (unlines call.terminator
+        (pairs k (added First) (added Second))) → AdvancedGroup new
+    advanced_group wrote =
+        let n = gone_to in
+        record {
+          group = record {
+            ls = with_side s n.now_ls q.ls;
+            p = q.p;
+            d = with_side s n.bound q.d;
+            mid = q.mid;
+            sides = subst (λ (f : Side → Lines). SidesInvariant tool old.reader (with_side s reader now.reader)
+                (with_side s next cursor) after (with_side s n.now_ls q.ls) f (with_side s n.bound q.d))
+                (λ i side. put_both (λ side (l m : Lines). l ≡ q.p side ++ m) s (q.ls s) (λ side. q.p side ++ g side)
+                (g s ++ x ∷ []) g with_head refl side i) (sides_next o q.sides s l.head comes);
+            within = record {
+              merge_invariant = q.within.merge_invariant;
+              clean = q.within.clean;
+              own = own_more;
+              later = put_each (λ side. IsLater cmp (key side) (AtLeast k)) s n.bound q.d (rw l.is at n.later)
+                  q.within.later;
+            };
+            keeps = group_store_next s (cursor s) (q.sides s).slots q.keeps n;
+            wrote = wrote;
+            at = q.at;
+          };
+          bound = put_other s n.bound q.d;
+          more = put_more s q.ls n.now_ls n.more n.continues_key;
+        }

@@ -1,0 +1,720 @@
+-- The invariant of a merge. Lines are processed in the order of their keys: no line that may still follow has a lesser
+-- key than a processed line. So the output for the processed lines is a prefix of the output for all inputs that begin
+-- with the lines read so far.
+use Rattle.ptmerge.proofs
+use proofs.Common.{◌≡◌, ◌⊎◌, inr, ℕ, List, Bool, true, false, refl, ◌∙◌, ap, arith, bytes_eq, Ordering, Less, Equal}
+use proofs.Common.{Greater, is_eq, is_gt, is_le, bytes_decides, tied_itself, Cmp, byte_cmp, line_cmp, ◌<◌, length}
+use proofs.Common.{get_or, suc, zero, [], ◌∷◌, ◌++◌, cond, map, append_assoc, append-nil, filter, flat_map, Side, First}
+use proofs.Common.{Second, Lines, MergeTool, insert_key, distinct_keys, keys, lines_with_key, entries_of_key}
+use proofs.Common.{entries_by_key, Key, ◌+◌, Option, Some, None, nat_lt, unwrap_or, if◌then◌else◌, last_or}
+use proofs.Common.{sorted_prefix, first_disorder, FirstDisorder, ◌&&◌, not, sym, flat_map-append, earlier_disorder}
+use proofs.Common.{is_up_to, subst, is_lt, Output, PushEffect, unlines, push_trans, push_nothing, unlines-append}
+use proofs.Common.{disorder, is_below, is_decided, merged_entries, option_map, with_side, disordered_line}
+use Rattle.std.specs.Cmp.{IsTotalOrder}
+use Rattle.ptmerge.specs.OrderLaws.{reversed_same_bytes, byte_cmp_equal}
+use Rattle.std.proofs.Common.{rules}
+use Rattle.std.proofs.lemmas.Grind.{common_steps}
+use proofs.MergeLemmas.Exits.SlotLines.{put_each}
+use Rattle.ptmerge.specs.MergeSpec.{MergeDisorder, is_past}
+use Rattle.std.proofs.lemmas.Cmp.{back_total, nat_list_cmp_total, upto}
+
+-- Consequences of the laws of an order of keys. Distinct keys are sorted, so the entries of the least key come first,
+-- followed by the entries of the lines with other keys.
+
+pub record IsKeyOrder (cmp : Cmp) : Type 0 where
+  pub total : IsTotalOrder cmp
+  pub exact : (a b : List ℕ) → cmp a b ≡ Equal → a ≡ b
+
+-- a is at most k
+abbrev pub AtMost : Cmp → List ℕ → List ℕ → Type 0
+AtMost cmp a b = is_gt (cmp a b) ≡ false
+
+-- y is greater than k
+abbrev pub Above : Cmp → List ℕ → List ℕ → Type 0
+Above cmp k y = cmp y k ≡ Greater
+
+pub is_greater : (r : Ordering) → is_gt r ≡ true → r ≡ Greater
+is_greater r h = grind arith
+
+-- equal keys have the same bytes
+pub same_bytes : {a b : List ℕ} → a ≡ b → bytes_eq a b ≡ true
+same_bytes {a} {b} e = search rules
+
+pub not_same : (a b : List ℕ) → (a ≡ b → ⊥) → bytes_eq a b ≡ false
+not_same a b n = grind (arith, bytes_decides a b)
+
+module _ (cmp : Cmp) (o : IsKeyOrder cmp) where
+  pub self_at_most : (a : List ℕ) → AtMost cmp a a
+  self_at_most a = ap is_gt (tied_itself o.total a)
+
+  pub equal_is : (a b : List ℕ) → is_eq (cmp a b) ≡ bytes_eq a b
+  equal_is a b = grind (arith, not_same a b, tied_itself o.total a, o.exact a b, bytes_decides a b)
+
+  pub at_most_trans : (a b c : List ℕ) → AtMost cmp a b → AtMost cmp b c → AtMost cmp a c
+  at_most_trans a b c p q = upto o.total a b c p q
+
+  pub greater_flips : (a b : List ℕ) → cmp a b ≡ Greater → cmp b a ≡ Less
+  greater_flips a b g = search rules
+
+  pub less_flips : (a b : List ℕ) → cmp a b ≡ Less → cmp b a ≡ Greater
+  less_flips a b l = search rules
+
+  pub above_at_most : (k y : List ℕ) → cmp y k ≡ Greater → AtMost cmp k y
+  above_at_most k y g = ap is_gt (greater_flips y k g)
+
+  pub above_not_same : (k y : List ℕ) → cmp y k ≡ Greater → bytes_eq y k ≡ false
+  above_not_same k y g = grind (arith, not_same y k, tied_itself o.total y)
+
+  -- k equals y, or is less
+  pub least_or_above : (k y : List ℕ) → AtMost cmp k y
+      → ((bytes_eq y k ≡ true) × (y ≡ k)) ⊎ ((bytes_eq y k ≡ false) × (cmp y k ≡ Greater))
+  least_or_above k y h = search (rules, less_flips, above_not_same, same_bytes)
+
+  -- a ≤ b < c
+  pub above_trans : (a b c : List ℕ) → AtMost cmp a b → cmp c b ≡ Greater → cmp c a ≡ Greater
+  above_trans a b c p g = search (rules, least_or_above, greater_flips, less_flips)
+
+  -- a < b ≤ c
+  pub above_up : (a b c : List ℕ) → cmp b a ≡ Greater → AtMost cmp b c → cmp c a ≡ Greater
+  above_up a b c g p = search (rules, least_or_above, greater_flips, less_flips)
+
+  pub at_most_is_le : (a b : List ℕ) → AtMost cmp a b → is_le (cmp a b) ≡ true
+  at_most_is_le a b h = grind arith
+
+-- both orders of lines satisfy the laws
+pub line_order : (descending : Bool) → IsKeyOrder (line_cmp descending)
+line_order true = record { total = back_total nat_list_cmp_total; exact = reversed_same_bytes byte_cmp byte_cmp_equal }
+line_order false = record { total = nat_list_cmp_total; exact = byte_cmp_equal }
+
+-- ---- the least key
+
+-- a property of each key, or of the key of each line
+abbrev pub Each : (List ℕ → Type 0) → Lines → Type 0
+Each P [] = Unit {0}
+Each P (x ∷ xs) = P x × Each P xs
+
+abbrev pub EachKey : (List ℕ → Type 0) → Key → Lines → Type 0
+EachKey P key xs = Each P (map key xs)
+
+pub Each-weaker : (P Q : List ℕ → Type 0) → ((x : List ℕ) → P x → Q x) → (xs : Lines) → Each P xs → Each Q xs
+Each-weaker P Q f [] e = tt
+Each-weaker P Q f (x ∷ xs) (here, more) = (f x here, Each-weaker P Q f xs more)
+
+pub EachKey-at : (P : List ℕ → Type 0) (key : Key) (xs : Lines) (i : ℕ) → i < length xs → EachKey P key xs
+    → P (key (get_or xs i []))
+EachKey-at P key [] i low e = absurd (omega (arith, low))
+EachKey-at P key (x ∷ xs) zero low (here, _) = here
+EachKey-at P key (x ∷ xs) (suc i) low (_, more) = EachKey-at P key xs i (omega (arith, low)) more
+
+pub EachKey-weaker : (P Q : List ℕ → Type 0) → ((x : List ℕ) → P x → Q x) → (key : Key) (xs : Lines) → EachKey P key xs
+    → EachKey Q key xs
+EachKey-weaker P Q f key xs e = Each-weaker P Q f _ e
+
+pub Each-all : (P : List ℕ → Type 0) → ((x : List ℕ) → P x) → (xs : Lines) → Each P xs
+Each-all P f [] = tt
+Each-all P f (x ∷ xs) = (f x, Each-all P f xs)
+
+pub Each-append : (P : List ℕ → Type 0) (xs ys : Lines) → Each P xs → Each P ys → Each P (xs ++ ys)
+Each-append P [] ys e h = h
+Each-append P (x ∷ xs) ys (here, more) h = (here, Each-append P xs ys more h)
+
+pub Each-parts : (P : List ℕ → Type 0) (xs ys : Lines) → Each P (xs ++ ys) → Each P xs × Each P ys
+Each-parts P [] ys e = (tt, e)
+Each-parts P (x ∷ xs) ys (here, more) = search (rules, Each-parts P xs ys more)
+
+pub EachKey-append : (P : List ℕ → Type 0) (key : Key) (xs ys : Lines) → EachKey P key xs → EachKey P key ys
+    → EachKey P key (xs ++ ys)
+EachKey-append P key xs ys e h = grind (arith, common_steps)
+
+pub Each-insert : (cmp : Cmp) (P : List ℕ → Type 0) (k : List ℕ) (xs : Lines) → P k → Each P xs
+    → Each P (insert_key cmp k xs)
+Each-insert cmp P k [] h e = (h, tt)
+Each-insert cmp P k (x ∷ xs) h (here, more) = let ih = Each-insert cmp P k xs h more in grind arith
+
+pub Each-distinct : (cmp : Cmp) (P : List ℕ → Type 0) (xs : Lines) → Each P xs → Each P (distinct_keys cmp xs)
+Each-distinct cmp P [] e = tt
+Each-distinct cmp P (x ∷ xs) (here, more) =
+    Each-insert cmp P x (distinct_keys cmp xs) here (Each-distinct _ P xs more)
+
+-- the keys other than k
+abbrev others : List ℕ → Lines → Lines
+others k [] = []
+others k (y ∷ ys) = cond (bytes_eq y k) (others k ys) (y ∷ others k ys)
+
+-- the lines whose key is not k
+abbrev pub without : Key → List ℕ → Lines → Lines
+without key k [] = []
+without key k (x ∷ xs) = cond (bytes_eq (key x) k) (without key k xs) (x ∷ without key k xs)
+
+module _ (cmp : Cmp) (o : IsKeyOrder cmp) where
+  pub insert_least : (k : List ℕ) (ds : Lines) → Each (Above cmp k) ds → insert_key cmp k ds ≡ k ∷ ds
+  insert_least k [] a = refl
+  insert_least k (d ∷ ds) (here, _) = rw (greater_flips cmp o d k here) refl
+
+  others_above : (k : List ℕ) (ks : Lines) → Each (AtMost cmp k) ks → Each (Above cmp k) (others k ks)
+  others_above k [] e = tt
+  others_above k (y ∷ ks) (here, more) = grind (arith, least_or_above, others_above k ks more)
+
+  -- the least key, if it occurs, comes first
+  distinct_least : (k : List ℕ) (ks : Lines) → Each (AtMost cmp k) ks
+      → (distinct_keys cmp ks ≡ k ∷ distinct_keys cmp (others k ks))
+      ⊎ ((distinct_keys cmp ks ≡ distinct_keys cmp (others k ks)) × Each (λ y. bytes_eq y k ≡ false) ks)
+  distinct_least k [] e = inr (refl, tt)
+  distinct_least k (y ∷ ks) (here, more) =
+      grind (arith, least_or_above, insert_least, Each-distinct, others_above, distinct_least k ks more)
+
+others-keys : (key1 key2 : Key) (k : List ℕ) (xs ys : Lines)
+    → others k (map key1 xs ++ map key2 ys) ≡ map key1 (without key1 k xs) ++ map key2 (without key2 k ys)
+others-keys key1 key2 k [] [] = refl
+others-keys key1 key2 k [] (y ∷ ys) = let ih = others-keys key1 key2 k [] ys in grind arith
+others-keys key1 key2 k (x ∷ xs) ys = let ih = others-keys key1 key2 k xs ys in grind arith
+
+-- a test that no key passes keeps no line
+pub kept_none : (w : List ℕ → Bool) (key : Key) (ls : Lines) → EachKey (λ k. w k ≡ false) key ls
+    → filter (λ line. w (key line)) ls ≡ []
+kept_none w key [] e = refl
+kept_none w key (x ∷ ls) (here, more) = rw here (kept_none w key ls more)
+
+-- the lines with another key
+with_key_without : (key : Key) (k q : List ℕ) (xs : Lines) → bytes_eq q k ≡ false
+    → lines_with_key key (without key k xs) q ≡ lines_with_key key xs q
+with_key_without key k q [] n = refl
+with_key_without key k q (x ∷ xs) n = grind (arith, not_same, same_bytes, bytes_decides, with_key_without key k q xs n)
+
+module _ (tool : MergeTool) (o : IsKeyOrder tool.cmp) where
+  open tool use {cmp}
+
+  abbrev nothing_follows : (List ℕ → Bool) → (Side → Lines) → Lines → Lines
+  nothing_follows w ls ks = flat_map (entries_of_key tool ls) (filter w ks)
+
+  -- the lines with keys other than k
+  abbrev pub others_of : List ℕ → (Side → Lines) → Side → Lines
+  others_of k ls side = without (tool.key side) k (ls side)
+
+  over_others : (w : List ℕ → Bool) (k : List ℕ) (ls : Side → Lines) (ks : Lines) → Each (Above cmp k) ks
+      → nothing_follows w ls ks ≡ nothing_follows w (others_of k ls) ks
+  over_others w k ls [] e = refl
+  over_others w k ls (q ∷ ks) (here, more) = grind (arith, above_not_same, with_key_without, over_others w k ls ks more)
+
+  -- The entries of a key that is at most all others come first, followed by those of the lines with other keys.
+  pub least_first : (w : List ℕ → Bool) (k : List ℕ) (ls : Side → Lines)
+      → ((side : Side) → EachKey (AtMost cmp k) (tool.key side) (ls side)) → tool.entries k [] [] ≡ []
+      → entries_by_key tool w ls ≡ cond (w k) (entries_of_key tool ls k) [] ++ entries_by_key tool w (others_of k ls)
+  least_first w k ls e none =
+      let ks = keys tool ls in
+      let all : Each (AtMost cmp k) ks = Each-append _ _ _ (e First) (e Second) in
+      let above = Each-distinct cmp _ _ (others_above cmp o k ks all) in
+      let none_of = λ (side : Side). kept_none (λ y. bytes_eq y k) (tool.key side) (ls side) in
+      let parts = Each-parts (λ y. bytes_eq y k ≡ false) (map (tool.key First) (ls First))
+      (map (tool.key Second) (ls Second)) in
+      grind (
+        arith,
+        over_others w k ls _ above,
+        others-keys (tool.key First) (tool.key Second) k (ls First)
+            (ls Second),
+        none,
+        distinct_least cmp o k ks all,
+        parts,
+        none_of First,
+        none_of Second,
+      )
+
+  -- lines of one key, followed by lines with no lesser keys
+  pub lines_with_key-front : (key : Key) (k : List ℕ) (f r : Lines) → EachKey (λ x. x ≡ k) key f
+      → (lines_with_key key (f ++ r) k ≡ f ++ lines_with_key key r k) × (without key k (f ++ r) ≡ without key k r)
+  lines_with_key-front key k [] r e = (refl, refl)
+  lines_with_key-front key k (x ∷ f) r (here, more) = grind (arith, same_bytes, lines_with_key-front key k f r more)
+
+  pub at_most-same : (key : Key) (k : List ℕ) (f r : Lines) → EachKey (λ x. x ≡ k) key f → EachKey (AtMost cmp k) key r
+      → EachKey (AtMost cmp k) key (f ++ r)
+  at_most-same key k f r e h =
+      EachKey-append _ key f r (EachKey-weaker _ _ (λ x is. rw is (self_at_most cmp o k)) _ f e) h
+
+  -- Lines of the least key, followed by lines with no lesser keys.
+  module _ (w : List ℕ → Bool) (k : List ℕ) (f r : Side → Lines)
+      (s : (side : Side) → EachKey (λ x. x ≡ k) (tool.key side) (f side))
+      (a : (side : Side) → EachKey (AtMost cmp k) (tool.key side) (r side)) (none : tool.entries k [] [] ≡ []) where
+    pub front_is : entries_by_key tool w (λ side. f side ++ r side)
+        ≡ cond (w k) (tool.entries k (f First ++ lines_with_key (tool.key First) (r First) k)
+        (f Second ++ lines_with_key (tool.key Second) (r Second) k)) [] ++ entries_by_key tool w (others_of k r)
+    front_is =
+        let in_front = λ (side : Side). lines_with_key-front (tool.key side) k (f side) (r side) (s side) in
+        least_first w k (λ side. f side ++ r side)
+        (λ side. at_most-same (tool.key side) k (f side) (r side) (s side) (a side)) none
+        ∙ (λ i. cond (w k) (tool.entries k ((in_front First).0 i) ((in_front Second).0 i)) []
+        ++ entries_by_key tool w (λ side. (in_front side).1 i))
+
+  pub front_first : (w : List ℕ → Bool) (k : List ℕ) (f r : Side → Lines)
+      → ((side : Side) → EachKey (λ x. x ≡ k) (tool.key side) (f side))
+      → ((side : Side) → EachKey (AtMost cmp k) (tool.key side) (r side)) → tool.entries k [] [] ≡ []
+      → tool.entries k (f First ++ lines_with_key (tool.key First) (r First) k)
+      (f Second ++ lines_with_key (tool.key Second) (r Second) k) ≡ tool.entries k (f First) (f Second)
+      ++ entries_of_key tool r k
+      → entries_by_key tool w (λ side. f side ++ r side) ≡ entries_by_key tool w f ++ entries_by_key tool w r
+  front_first w k f r s a none law =
+      let first = simp append-nil at (front_is w k f (λ side. []) s (λ side. tt) none) in
+      grind (
+        arith,
+        first,
+        front_is w k f r s a none,
+        least_first w k r a none,
+        append_assoc
+            (tool.entries k (f First) (f Second)) (entries_of_key tool r k) (entries_by_key tool w (others_of k r)),
+      )
+
+  -- no line with a greater key has the key
+  pub lines_with_key-above : (key : Key) (k : List ℕ) (r : Lines) → EachKey (Above cmp k) key r
+      → lines_with_key key r k ≡ []
+  lines_with_key-above key k r a =
+      kept_none (λ y. bytes_eq y k) key r (EachKey-weaker _ _ (λ y g. above_not_same cmp o k y g) _ _ a)
+
+-- ---- lines in order
+
+abbrev pub is_disordered : Cmp → Option (List ℕ) → List ℕ → Bool
+is_disordered cmp None k = false
+is_disordered cmp (Some l) k = is_gt (cmp l k)
+
+-- the sorted prefix of the lines after a key, and the first disorder among them
+abbrev pub sorted_after : Cmp → Key → Option (List ℕ) → Lines → Lines
+sorted_after cmp key last [] = []
+sorted_after cmp key last (x ∷ w) = cond (is_disordered cmp last (key x)) [] (x ∷ sorted_after cmp key (Some (key x)) w)
+
+abbrev pub disorder_at : Option (List ℕ) → ℕ → FirstDisorder
+disorder_at last n = record { last_key = unwrap_or last []; line = n + 1 }
+
+abbrev pub disorder_after : Cmp → Key → Option (List ℕ) → ℕ → Lines → Option FirstDisorder
+disorder_after cmp key last n [] = None
+disorder_after cmp key last n (x ∷ w) =
+    cond (is_disordered cmp last (key x)) (Some (disorder_at last n)) (disorder_after cmp key (Some (key x)) (n + 1) w)
+
+pub sorted_prefix_is : (cmp : Cmp) (key : Key) (ls : Lines) → sorted_prefix cmp key ls ≡ sorted_after cmp key None ls
+sorted_prefix_is cmp key [] = refl
+sorted_prefix_is cmp key (x ∷ []) = refl
+sorted_prefix_is cmp key (x ∷ y ∷ more) = let ih = sorted_prefix_is cmp key (y ∷ more) in grind arith
+
+-- the first disorder, by the length of the sorted prefix
+abbrev by_length : Cmp → Key → Option (List ℕ) → ℕ → Lines → Lines → Option FirstDisorder
+by_length cmp key last n part ls = if nat_lt (length part) (length ls) then Some
+    (record { last_key = unwrap_or (last_or last (map key part)) []; line = (n + length part) + 1 }) else None
+
+by_length_is : (cmp : Cmp) (key : Key) (last : Option (List ℕ)) (n : ℕ) (ls : Lines)
+    → by_length cmp key last n (sorted_after cmp key last ls) ls ≡ disorder_after cmp key last n ls
+by_length_is cmp key last n [] = refl
+by_length_is cmp key last n (x ∷ w) = grind (arith, by_length_is cmp key (Some (key x)) (n + 1) w)
+
+pub first_disorder_is : (cmp : Cmp) (key : Key) (ls : Lines)
+    → first_disorder cmp key ls ≡ disorder_after cmp key None 0 ls
+first_disorder_is cmp key ls = grind (arith, sorted_prefix_is cmp key ls, by_length_is cmp key None 0 ls)
+
+-- no line is out of order, after this key
+abbrev pub IsSortedFrom : Cmp → Key → Option (List ℕ) → Lines → Type 0
+IsSortedFrom cmp key last [] = Unit {0}
+IsSortedFrom cmp key last (x ∷ xs) = (is_disordered cmp last (key x) ≡ false) × IsSortedFrom cmp key (Some (key x)) xs
+
+-- such lines are their own sorted prefix, without a disorder
+sorted_from_whole : (cmp : Cmp) (key : Key) (last : Option (List ℕ)) (n : ℕ) (ls : Lines) → IsSortedFrom cmp key last ls
+    → (sorted_after cmp key last ls ≡ ls) × (disorder_after cmp key last n ls ≡ None)
+sorted_from_whole cmp key last n [] r = (refl, refl)
+sorted_from_whole cmp key last n (x ∷ ls) (here, more) =
+    grind (arith, sorted_from_whole cmp key (Some (key x)) (n + 1) ls more)
+
+pub sorted_from_start : (cmp : Cmp) (key : Key) (ls : Lines) → IsSortedFrom cmp key None ls
+    → (sorted_prefix cmp key ls ≡ ls) × (first_disorder cmp key ls ≡ None)
+sorted_from_start cmp key ls r =
+    grind (arith, sorted_from_whole cmp key None 0 ls r, sorted_prefix_is, first_disorder_is)
+
+none_disordered : (cmp : Cmp) (key : Key) (last : Option (List ℕ)) (n : ℕ) (ls : Lines)
+    → disorder_after cmp key last n ls ≡ None → IsSortedFrom cmp key last ls
+none_disordered cmp key last n [] e = tt
+none_disordered cmp key last n (x ∷ ls) e = grind (arith, none_disordered cmp key (Some (key x)) (n + 1) ls)
+
+-- lines without a disorder are in order
+pub sorted_from_none : (cmp : Cmp) (key : Key) (ls : Lines) → first_disorder cmp key ls ≡ None
+    → IsSortedFrom cmp key None ls
+sorted_from_none cmp key ls e = none_disordered cmp key None 0 ls (sym (first_disorder_is cmp key ls) ∙ e)
+
+-- lines in order, up to a last key
+pub record IsSortedUpTo (cmp : Cmp) (key : Key) (q : Lines) (last : Option (List ℕ)) : Type 0 where
+  pub ordered : (w : Lines) → sorted_prefix cmp key (q ++ w) ≡ q ++ sorted_after cmp key last w
+  pub may_disorder : (w : Lines) → first_disorder cmp key (q ++ w) ≡ disorder_after cmp key last (length q) w
+
+pub sorted_up_to_none : {cmp : Cmp} {key : Key} → IsSortedUpTo cmp key [] None
+sorted_up_to_none = grind (arith, sorted_prefix_is, first_disorder_is)
+
+-- the disorder, if there is one, comes after a key that is at least k
+abbrev pub IsDisorderFrom : Cmp → List ℕ → Option FirstDisorder → Type 0
+IsDisorderFrom cmp k None = Unit {0}
+IsDisorderFrom cmp k (Some d) = AtMost cmp k d.last_key
+
+pub after_from : (cmp : Cmp) (o : IsKeyOrder cmp) (key : Key) (k : List ℕ) (n : ℕ) (w : Lines)
+    → EachKey (AtMost cmp k) key (sorted_after cmp key (Some k) w)
+    × IsDisorderFrom cmp k (disorder_after cmp key (Some k) n w)
+after_from cmp o key k n [] = (tt, tt)
+after_from cmp o key k n (x ∷ w) =
+    let ih = after_from cmp o key (key x) (n + 1) w in
+    let (more, _) = ih in
+    let weaker : is_gt _ ≡ false → EachKey (AtMost cmp k) key _ =
+    λ h. EachKey-weaker _ _ (λ y a. at_most_trans cmp o k (key x) y h a) _ _ more in
+    grind (arith, weaker, at_most_trans, self_at_most cmp o k)
+
+-- The lines that may follow in an input: any lines; lines with keys of at least k; none, since the input is out of
+-- order; none, since it has ended.
+pub data Bound : Type 0 where
+  NoBound : Bound
+  AtLeast : List ℕ → Bound
+  AfterDisorder : FirstDisorder → Bound
+  NothingMore : Bound
+
+-- the lines `r` may follow
+abbrev pub MayFollow : Cmp → Key → Bound → Lines → Type 0
+MayFollow cmp key NoBound r = Unit {0}
+MayFollow cmp key (AtLeast k) r = EachKey (AtMost cmp k) key r
+MayFollow cmp key (AfterDisorder d) r = r ≡ []
+MayFollow cmp key NothingMore r = r ≡ []
+
+-- the disorder may occur
+abbrev pub MayDisorder : Cmp → Bound → Option FirstDisorder → Type 0
+MayDisorder cmp NoBound f = Unit {0}
+MayDisorder cmp (AtLeast k) f = IsDisorderFrom cmp k f
+MayDisorder cmp (AfterDisorder d) f = f ≡ Some d
+MayDisorder cmp NothingMore f = f ≡ None
+
+-- the key of a processed line is at most all keys that may follow
+abbrev pub IsUnder : Cmp → Bound → List ℕ → Type 0
+IsUnder cmp NoBound k = ⊥
+IsUnder cmp (AtLeast l) k = AtMost cmp k l
+IsUnder cmp (AfterDisorder d) k = AtMost cmp k d.last_key
+IsUnder cmp NothingMore k = Unit {0}
+
+pub may_follow_none : (cmp : Cmp) (key : Key) (b : Bound) → MayFollow cmp key b []
+may_follow_none cmp key b = grind arith
+
+-- `d` is a later bound than `b`: no more lines may follow, and no fewer keys are at most theirs
+pub record IsLater (cmp : Cmp) (key : Key) (b d : Bound) : Type 0 where
+  pub may_follow : (r : Lines) → MayFollow cmp key d r → MayFollow cmp key b r
+  pub under : (k : List ℕ) → IsUnder cmp b k → IsUnder cmp d k
+
+pub same_bound : {cmp : Cmp} {key : Key} {b : Bound} → IsLater cmp key b b
+same_bound = record { may_follow = λ r c. c; under = λ k u. u }
+
+-- the sorted prefix of the lines `all` is `p`, followed by lines that the bound allows, and so is their disorder
+pub record IsFuture (cmp : Cmp) (key : Key) (all p : Lines) (b : Bound) : Type 0 where
+  pub rest : Lines
+  pub is : sorted_prefix cmp key all ≡ p ++ rest
+  pub may_follow : MayFollow cmp key b rest
+  pub may_disorder : MayDisorder cmp b (first_disorder cmp key all)
+
+-- The lines `ls` are read, and `p` of them are processed: so it is for every list that continues `ls`. Nothing follows
+-- after the end of the input.
+pub record IsProcessedPrefix (cmp : Cmp) (key : Key) (ls p : Lines) (b : Bound) : Type 0 where
+  pub future : (w : Lines) → (b ≡ NothingMore → w ≡ []) → IsFuture cmp key (ls ++ w) p b
+
+-- the current line is not yet processed
+pub processed_before_line : {cmp : Cmp} (o : IsKeyOrder cmp) {key : Key} {p : Lines} {x : List ℕ}
+    → IsSortedUpTo cmp key (p ++ x ∷ []) (Some (key x)) → IsProcessedPrefix cmp key (p ++ x ∷ []) p (AtLeast (key x))
+processed_before_line = grind (arith, common_steps, after_from, self_at_most)
+
+-- ---- the output
+
+abbrev pub all_keys : List ℕ → Bool
+all_keys k = true
+
+filter_all : (w : List ℕ → Bool) (ks : Lines) → Each (λ k. w k ≡ true) ks → filter w ks ≡ ks
+filter_all w [] e = refl
+filter_all w (k ∷ ks) (here, more) = cc (filter_all w ks more)
+
+filter_none : (w : List ℕ → Bool) (ks : Lines) → Each (λ k. w k ≡ false) ks → filter w ks ≡ []
+filter_none w [] e = refl
+filter_none w (k ∷ ks) (here, more) = rw here (filter_none w ks more)
+
+-- keys in order, without repetition
+abbrev pub Ascends : Cmp → Lines → Type 0
+Ascends cmp [] = Unit {0}
+Ascends cmp (k ∷ ks) = Each (Above cmp k) ks × Ascends cmp ks
+
+-- a test that holds for all keys below a key for which it holds
+abbrev pub IsDownwardClosed : Cmp → (List ℕ → Bool) → Type 0
+IsDownwardClosed cmp w = (a b : List ℕ) → cmp b a ≡ Greater → w b ≡ true → w a ≡ true
+
+module _ (cmp : Cmp) (o : IsKeyOrder cmp) where
+  ascends_insert : (k : List ℕ) (ks : Lines) → Ascends cmp ks → Ascends cmp (insert_key cmp k ks)
+  ascends_insert k [] a = (tt, tt)
+  ascends_insert k (x ∷ xs) (above, more) =
+      grind (arith, Each-weaker, above_trans, Each-insert, less_flips, ascends_insert k xs more)
+
+  pub ascends_distinct : (ks : Lines) → Ascends cmp (distinct_keys cmp ks)
+  ascends_distinct [] = tt
+  ascends_distinct (k ∷ ks) = ascends_insert k (distinct_keys cmp ks) (ascends_distinct ks)
+
+  -- the keys that pass the test come first
+  downward_first : (w p : List ℕ → Bool) → IsDownwardClosed cmp p → (ks : Lines) → Ascends cmp ks
+      → filter w ks ≡ filter (λ k. w k && p k) ks ++ filter (λ k. w k && not (p k)) ks
+  downward_first w p down [] a = refl
+  downward_first w p down (k ∷ ks) (above, more) =
+      search (rules, filter_none, Each-weaker, downward_first w p down ks more)
+
+  pub up_to_from : (k : List ℕ) (f1 f2 : Option FirstDisorder) → IsDisorderFrom cmp k f1 → IsDisorderFrom cmp k f2
+      → is_up_to cmp (earlier_disorder cmp f1 f2) k ≡ true
+  up_to_from = grind (arith, at_most_is_le)
+
+  pub written_is_wanted : (b1 b2 : Bound) (f1 f2 : Option FirstDisorder) (k : List ℕ) → MayDisorder cmp b1 f1
+      → MayDisorder cmp b2 f2 → IsUnder cmp b1 k → IsUnder cmp b2 k → is_up_to cmp (earlier_disorder cmp f1 f2) k ≡ true
+  written_is_wanted = grind (arith, at_most_is_le, at_most_trans)
+
+-- the output for these lines, of all keys
+abbrev pub output_of : MergeTool → (Side → Lines) → List ℕ
+output_of tool p = unlines tool.terminator (entries_by_key tool all_keys p)
+
+module _ (tool : MergeTool) where
+  open tool use {cmp, key}
+
+  pub all_wanted : (w : List ℕ → Bool) (p : Side → Lines) → ((side : Side)
+      → EachKey (λ k. w k ≡ true) (key side) (p side)) → entries_by_key tool w p ≡ entries_by_key tool all_keys p
+  all_wanted w p e = grind (arith, filter_all, Each-distinct, Each-append, Each-all)
+
+  pub none_wanted : (w : List ℕ → Bool) (r : Side → Lines) → ((side : Side)
+      → EachKey (λ k. w k ≡ false) (key side) (r side)) → entries_by_key tool w r ≡ []
+  none_wanted w r e = grind (arith, filter_none, Each-distinct, Each-append)
+
+  -- the entries of the keys that pass the test come first
+  pub downward_splits : IsKeyOrder cmp → (w p : List ℕ → Bool) → IsDownwardClosed cmp p → (ls : Side → Lines)
+      → entries_by_key tool w ls ≡ entries_by_key tool (λ k. w k && p k) ls
+      ++ entries_by_key tool (λ k. w k && not (p k)) ls
+  downward_splits o w p down ls =
+      let ks = distinct_keys cmp (keys tool ls) in
+      ap (flat_map (entries_of_key tool ls)) (downward_first cmp o w p down ks (ascends_distinct cmp o (keys tool ls)))
+      ∙ flat_map-append (entries_of_key tool ls) (filter (λ k. w k && p k) ks) (filter (λ k. w k && not (p k)) ks)
+
+  -- the lines that may follow in both inputs
+  abbrev pub MayCome : (Side → Bound) → (Side → Lines) → Type 0
+  MayCome b r = (side : Side) → MayFollow cmp (key side) (b side) (r side)
+
+  -- For all lines that may follow, and for every choice of keys, the entries of the processed lines come first.
+  abbrev pub Splits : (Side → Bound) → (Side → Lines) → Type 0
+  Splits b p = (w : List ℕ → Bool) (r : Side → Lines) → MayCome b r
+      → entries_by_key tool w (λ side. p side ++ r side) ≡ entries_by_key tool w p ++ entries_by_key tool w r
+
+  -- lines are processed whose entries precede those of all lines that may follow
+  pub splits_step : (b d : Side → Bound) (p f : Side → Lines) → Splits b p
+      → ((side : Side) (r : Lines) → MayFollow cmp (key side) (d side) r
+      → MayFollow cmp (key side) (b side) (f side ++ r)) → ((w : List ℕ → Bool) (r : Side → Lines) → MayCome d r
+      → entries_by_key tool w (λ side. f side ++ r side) ≡ entries_by_key tool w f ++ entries_by_key tool w r)
+      → Splits d (λ side. p side ++ f side)
+  splits_step b d p f s u front w r c =
+      let none = λ (side : Side). rw append-nil at (u side [] (may_follow_none cmp (key side) (d side))) in
+      (λ i. entries_by_key tool w (λ side. append_assoc (p side) (f side) (r side) i))
+      ∙ cc (
+        s w (λ side. f side ++ r side) (λ side. u side (r side) (c side)),
+        s w f none,
+        front w r c,
+        append_assoc (entries_by_key tool w p) (entries_by_key tool w f) (entries_by_key tool w r),
+      )
+
+-- ---- the bytes written
+
+-- the output is the output for the processed lines, which comes first for all lines that may follow
+pub record MergeInvariant (tool : MergeTool) (b : Side → Bound) (p : Side → Lines) (was is : Output) : Type 0 where
+  pub splits : Splits tool b p
+  pub under : (of side : Side) → EachKey (IsUnder tool.cmp (b of)) (tool.key side) (p side)
+  pub wrote : PushEffect was is (output_of tool p)
+
+-- before anything is read
+pub merge_invariant_starts : (tool : MergeTool) (was : Output)
+    → MergeInvariant tool (λ side. NoBound) (λ side. []) was was
+merge_invariant_starts tool was = search (rules, push_nothing)
+
+-- The entries `done` are written, and by the last time at which no write had failed, those of all processed lines `p`
+-- except perhaps the last ones, which precede all that may follow.
+pub record LagInvariant (tool : MergeTool) (b : Side → Bound) (p : Side → Lines) (was is : Output)
+    (done : Lines) : Type 0 where
+  pub mid : Output
+  pub front : Side → Lines
+  pub tail : Side → Lines
+  pub bound : Side → Bound
+  pub clean : mid.write_failed ≡ false
+  pub wrote : PushEffect was mid (output_of tool front)
+  pub bytes : List ℕ
+  pub more : PushEffect mid is bytes
+  pub all : output_of tool front ++ bytes ≡ unlines tool.terminator done
+  pub split : (side : Side) → p side ≡ front side ++ tail side
+  pub under : (of side : Side) → EachKey (IsUnder tool.cmp (b of)) (tool.key side) (p side)
+  pub under_bound : (of side : Side) → EachKey (IsUnder tool.cmp (bound of)) (tool.key side) (p side)
+  pub may_follow : (side : Side) (r : Lines) → MayFollow tool.cmp (tool.key side) (b side) r
+      → MayFollow tool.cmp (tool.key side) (bound side) (tail side ++ r)
+
+-- the entries of all processed lines are written
+abbrev pub AllWritten : MergeTool → (Side → Bound) → (Side → Lines) → Output → Output → Type 0
+AllWritten tool b p was is = LagInvariant tool b p was is (entries_by_key tool all_keys p)
+
+-- they were written by then, and nothing after it
+pub lag_invariant_starts : {tool : MergeTool} {b : Side → Bound} {p : Side → Lines} {was mid is : Output}
+    → MergeInvariant tool b p was mid → mid.write_failed ≡ false → PushEffect mid is [] → AllWritten tool b p was is
+lag_invariant_starts {tool} {b} {p} {mid = mid} m clean more = record {
+  mid = mid;
+  front = p;
+  tail = λ side. [];
+  bound = b;
+  clean = clean;
+  wrote = m.wrote;
+  bytes = [];
+  more = more;
+  all = append-nil _;
+  split = λ side. sym (append-nil (p side));
+  under = m.under;
+  under_bound = m.under;
+  may_follow = λ side r c. c;
+}
+
+-- the lines `f` of one key, processed by one input, precede all lines that may follow in it
+pub record IsLeastKeyRun (cmp : Cmp) (key : Key) (b : Bound) (k : List ℕ) (f : Lines) : Type 0 where
+  pub own : EachKey (λ y. y ≡ k) key f
+  pub may_follow : (r : Lines) → MayFollow cmp key b r → MayFollow cmp key b (f ++ r)
+  pub later : IsLater cmp key (AtLeast k) b
+
+-- the current line, or no line
+pub line_is_least_run : {cmp : Cmp} (o : IsKeyOrder cmp) {key : Key} {b : Bound} {k x : List ℕ} → b ≡ AtLeast (key x)
+    → key x ≡ k → IsLeastKeyRun cmp key b k (x ∷ [])
+line_is_least_run = grind (arith, self_at_most)
+
+-- such lines are processed
+pub write_least_run : {tool : MergeTool} (o : IsKeyOrder tool.cmp) (k : List ℕ) (q f : Side → Lines)
+    {b : Side → Bound} {p : Side → Lines} {was is new : Output}
+    → ((side : Side) → IsLeastKeyRun tool.cmp (tool.key side) (b side) k (f side))
+    → ((side : Side) → q side ≡ p side ++ f side) → tool.entries k [] [] ≡ []
+    → ((r : Side → Lines) → ((side : Side) → MayFollow tool.cmp (tool.key side) (b side) (r side))
+    → tool.entries k (f First ++ lines_with_key (tool.key First) (r First) k)
+    (f Second ++ lines_with_key (tool.key Second) (r Second) k) ≡ tool.entries k (f First) (f Second) ++ entries_of_key
+    tool r k)
+    → is.write_failed ≡ false → MergeInvariant tool b p was is
+    → PushEffect is new (output_of tool f) → MergeInvariant tool b q was new
+    × AllWritten tool b q was new
+write_least_run {tool} o k q f {b} {p} {was} {is} {new} front all none law clean m wrote =
+    let nothing =
+    λ (side : Side). rw append-nil at
+    ((front side).may_follow [] (may_follow_none tool.cmp (tool.key side) (b side))) in
+    let texts = ap (unlines tool.terminator) (m.splits all_keys f nothing)
+    ∙ unlines-append _ (entries_by_key tool all_keys p) (entries_by_key tool all_keys f) in
+    let under : (of side : Side) → EachKey (IsUnder tool.cmp (b of)) (tool.key side) (p side ++ f side) =
+    λ of side. EachKey-append _ (tool.key side) _ _ (m.under of side)
+    (EachKey-weaker _ _ (λ y e. rw e ((front of).later.under k (self_at_most _ o k))) _ _ (front side).own) in
+    subst (λ (l : Side → Lines). MergeInvariant tool b l was new × AllWritten tool b l was new)
+    (λ i side. sym (all side) i) (
+      record {
+        splits = splits_step tool b b p f m.splits (λ side. (front side).may_follow)
+            (λ w r c. front_first tool o w k f r (λ side. (front side).own)
+            (λ side. (front side).later.may_follow (r side) (c side)) none (law r c));
+        under = under;
+        wrote = rw texts (push_trans _ _ _ _ _ clean m.wrote wrote);
+      },
+      record {
+        mid = is;
+        front = p;
+        tail = f;
+        bound = b;
+        clean = clean;
+        wrote = m.wrote;
+        bytes = output_of tool f;
+        more = wrote;
+        all = sym texts;
+        split = λ side. refl;
+        under = under;
+        under_bound = under;
+        may_follow = λ side. (front side).may_follow;
+      },
+    )
+
+-- the bounds are later
+pub bounds_change : {tool : MergeTool} {b d : Side → Bound} {p : Side → Lines} {was is : Output}
+    → ((side : Side) → IsLater tool.cmp (tool.key side) (b side) (d side)) → MergeInvariant tool b p was is
+    → MergeInvariant tool d p was is
+bounds_change later m = record {
+  splits = λ w r c. m.splits w r (λ side. (later side).may_follow (r side) (c side));
+  under = λ of side. EachKey-weaker _ _ (later of).under _ _ (m.under of side);
+  wrote = m.wrote;
+}
+
+-- an input advanced
+pub bound_changes : {tool : MergeTool} {b : Side → Bound} {p : Side → Lines} {was is : Output} (s : Side) {d : Bound}
+    → MergeInvariant tool b p was is → IsLater tool.cmp (tool.key s) (b s) d
+    → MergeInvariant tool (with_side s d b) p was is
+bound_changes {tool} {b} s {d} m later = bounds_change
+    (put_each (λ side. IsLater tool.cmp (tool.key side) (b side)) s d b later (λ side. same_bound)) m
+
+-- the merge is at its end: the disorder is the one found, if any, and no line that may follow changes the output
+abbrev pub IsExactStop : MergeTool → (Side → Bound) → Option (Side × ℕ) → Type 0
+IsExactStop tool b found = (ls r : Side → Lines) → ((s : Side) → MayFollow tool.cmp (tool.key s) (b s) (r s))
+    → ((s : Side) → MayDisorder tool.cmp (b s) (first_disorder tool.cmp (tool.key s) (ls s)))
+    → (entries_by_key tool (is_up_to tool.cmp (disorder tool ls)) r ≡ [])
+    × (option_map disordered_line (disorder tool ls) ≡ found)
+
+-- ---- the decided output
+
+pub both_under : (key : Key) (P Q R : List ℕ → Type 0) → ((k : List ℕ) → P k → Q k → R k) → (xs : Lines)
+    → EachKey P key xs → EachKey Q key xs → EachKey R key xs
+both_under key P Q R f [] p q = tt
+both_under key P Q R f (x ∷ xs) (p, more1) (q, more2) = (f (key x) p q, both_under key P Q R f xs more1 more2)
+
+-- a property of each key holds for the last key
+pub last_has : (key : Key) (P : List ℕ → Type 0) (last : Option (List ℕ)) (xs : Lines) (x : List ℕ)
+    → last_or last (map key xs) ≡ Some x → ((y : List ℕ) → last ≡ Some y → P y) → EachKey P key xs → P x
+last_has key P last [] x e f h = f x e
+last_has key P last (y ∷ xs) x e f (here, more) =
+    last_has key P (Some (key y)) xs x e (λ z same. (let is : key y ≡ z = cc in subst P is here)) more
+
+module _ (cmp : Cmp) (o : IsKeyOrder cmp) where
+  pub not_below : (k x : List ℕ) → AtMost cmp x k → is_lt (cmp k x) ≡ false
+  not_below k x h = grind (arith, less_flips cmp o k x)
+
+  -- no line that may follow is below the key of a processed line
+  coming_under : (key : Key) (b : Bound) (x : List ℕ) (r : Lines) → IsUnder cmp b x → MayFollow cmp key b r
+      → EachKey (AtMost cmp x) key r
+  coming_under key NoBound x r u c = absurd u
+  coming_under key (AtLeast l) x r u c = EachKey-weaker _ _ (λ k h. at_most_trans cmp o x l k u h) _ _ c
+  coming_under key (AfterDisorder d) x r u c = rw c tt
+  coming_under key NothingMore x r u c = rw c tt
+
+  -- no line that may follow in one input is below the last processed key of the other
+  pub past_none : (key other_key : Key) (b : Bound) (p r : Lines) → EachKey (IsUnder cmp b) key p
+      → MayFollow cmp other_key b r → EachKey (λ k. is_below cmp k (last_or None (map key p)) ≡ false) other_key r
+  past_none key other_key b p r u c = by (last_or None (map key p)) refl
+    where
+      by : (l : Option (List ℕ)) → last_or None (map key p) ≡ l → EachKey (λ k. is_below cmp k l ≡ false) other_key r
+      by None e = Each-all _ (λ k. refl) _
+      by (Some x) e = EachKey-weaker _ _ (λ k h. not_below k x h) _ _
+          (coming_under other_key b x r (last_has key (IsUnder cmp b) None p x e (λ y bad. cc) u) c)
+
+  downward_up_to : (d : Option MergeDisorder) → IsDownwardClosed cmp (is_up_to cmp d)
+  downward_up_to = grind (arith, at_most_trans, greater_flips)
+
+  downward_past : (key : Key) (eof : Bool) (ls : Lines) → IsDownwardClosed cmp (is_past cmp key eof ls)
+  downward_past = grind (arith, greater_flips, less_flips, above_trans)
+
+all_three : (x y z u v w : Bool) → (x ≡ true → u ≡ true) → (y ≡ true → v ≡ true) → (z ≡ true → w ≡ true)
+    → (x && y && z) ≡ true → (u && v && w) ≡ true
+all_three = grind arith
+
+module _ (tool : MergeTool) (o : IsKeyOrder tool.cmp) (eof : Side → Bool) (ls : Side → Lines) where
+  open tool use {cmp}
+
+  pub downward_decided : IsDownwardClosed cmp (is_decided tool eof ls)
+  downward_decided a b g h = search (rules, all_three, downward_up_to, downward_past)
+
+  -- no key is decided unless it is past in this input
+  pub not_decided : (side : Side) (k : List ℕ) → is_past cmp (tool.key side) (eof side) (ls side) k ≡ false
+      → is_decided tool eof ls k ≡ false
+  not_decided First k e = grind arith
+  not_decided Second k e = grind arith
+
+-- the entries of the processed lines come first, for all lists that continue those read so far
+pub input_split : {tool : MergeTool} (o : IsKeyOrder tool.cmp) {b : Side → Bound} {p ls : Side → Lines}
+    {was is : Output} → MergeInvariant tool b p was is
+    → (s : (side : Side) → IsFuture tool.cmp (tool.key side) (ls side) (p side) (b side))
+    → merged_entries tool ls ≡ entries_by_key tool all_keys p
+    ++ entries_by_key tool (is_up_to tool.cmp (disorder tool ls)) (λ side. (s side).rest)
+input_split {tool} o {b} {p} {ls} m s =
+    let w = is_up_to tool.cmp (disorder tool ls) in
+    let first = all_wanted tool w p (λ side. both_under (tool.key side) _ _ _
+    (λ k u1 u2. written_is_wanted _ o _ _ _ _ k (s First).may_disorder (s Second).may_disorder u1 u2)
+    _ (m.under First side) (m.under Second side)) in
+    (λ i. entries_by_key tool w (λ side. (s side).is i))
+    ∙ cc (m.splits w (λ side. (s side).rest) (λ side. (s side).may_follow), first)

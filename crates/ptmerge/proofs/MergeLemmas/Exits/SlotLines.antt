@@ -1,0 +1,282 @@
+-- Lines in the slots of a store. A slot changes only if its own input reads, so two lines of each input, none longer
+-- than its longest line, bound the bytes stored.
+use Rattle.ptmerge.proofs
+use proofs.Common.{◌≡◌, ◌⊎◌, ℕ, ◌+◌, ◌<◌, ◌≤◌, true, false, List, [], ◌∷◌, ◌++◌, length, max, refl, ◌∙◌, arith}
+use proofs.Common.{append_assoc, length-append, append-nil, FillLine, Received, IsConsistent, known_lines, Reader}
+use proofs.Common.{ReaderAdvance, AdvanceOk, IsDone, Slots, unlines, lines, complete_lines, IsLine, AreLines}
+use proofs.Common.{max_length, received_with, advance_ok_trans, unlines_push, IsSound, HasNoLine, IsFirstLineAndBlock}
+use proofs.Common.{◌≢◌, zero, suc, ◌*◌, get_or, set, line, total_bytes, with_new_slot, with_line, Side, First, Second}
+use proofs.Common.{Sorted, HasSlots, EnsureFourSlotsPost, ClearFourSlotsPost, Bool, both, with_side, other, with_input}
+use proofs.Common.{both_sides, length-set}
+use Rattle.ptlines.proofs.MaxLength.{max_length-append, piece_le_max_length}
+use Rattle.std.proofs.Common.{rules}
+use Rattle.std.proofs.lemmas.Grind.{common_steps}
+use Rattle.ptlines.proofs.TextLaws.{AreLines_push, complete_lines_cons, complete_lines_none, lines_of_last}
+use Rattle.ptlines.proofs.TextLaws.{lines_of_unlines}
+
+-- The lines read from a source. The bytes received are the lines read so far, and all but the last have their
+-- terminator. So every input that begins with these bytes begins with these lines.
+
+-- complete lines, and then the complete lines of the rest
+ended_more : (end : ℕ) (ls : List (List ℕ)) (bytes : List ℕ) → AreLines end ls
+    → complete_lines end (unlines end ls ++ bytes) ≡ ls ++ complete_lines end bytes
+ended_more end [] bytes w = refl
+ended_more end (line ∷ ls) bytes (free, more) = grind (
+  arith,
+  common_steps,
+  complete_lines_cons,
+  free,
+  ended_more end
+      ls bytes more,
+)
+
+-- `ls` are the lines of the bytes `given`: all of them have their terminator, or the last one lacks it at the end of
+-- the source
+abbrev pub IsReadAs : ℕ → List ℕ → List (List ℕ) → Reader → Type 0
+IsReadAs end given ls now = ((given ≡ unlines end ls) × AreLines end ls) ⊎ ((lines end given ≡ ls) × IsDone now)
+
+-- the lines `ls` were read
+pub record LinesRead (end : ℕ) (old now : Reader) (ls : List (List ℕ)) : Type 0 where
+  pub given : List ℕ
+  pub so_far : IsReadAs end given ls now
+  pub advance_ok : AdvanceOk old now given
+  pub terminator : now.terminator ≡ end
+
+-- nothing was read, and the end of the source was reached
+pub record GivesNothing (new : Reader) (bytes : List ℕ) : Type 0 where
+  pub bytes_are : bytes ≡ []
+  pub buffered : new.buffered ≡ []
+  pub eof : new.eof ≡ true
+
+-- at the end of a source nothing more is read
+pub done_gives_nothing : {now new : Reader} {bytes : List ℕ} → IsDone now → ReaderAdvance now new bytes
+    → GivesNothing new bytes
+done_gives_nothing = grind (arith, common_steps)
+
+-- a line was read, or the end of the source
+abbrev pub HasBegun : Reader → List (List ℕ) → Type 0
+HasBegun now ls = IsDone now ⊎ (0 < length ls)
+
+-- a part of a line is at most one line
+pub one_line_at_most : (end : ℕ) (piece : List ℕ) → IsLine end piece → length (lines end piece) ≤ 1
+one_line_at_most end [] free = omega arith
+one_line_at_most end (b ∷ piece) free = grind (arith, common_steps, lines_of_last)
+
+pub lines_read_more : {end : ℕ} {old now new : Reader} {ls : List (List ℕ)} {before after : Slots} {slot : ℕ}
+    → LinesRead end old now ls → (e : FillLine now new before after slot) → LinesRead end old new (ls ++ e.line ∷ [])
+lines_read_more {end} {old} {now} {new} {ls} c e =
+    let free : IsLine end e.line = rw c.terminator at e.whole in
+    record {
+      given = c.given ++ (e.line ++ e.terminator);
+      so_far = search (
+        rules,
+        free,
+        done_gives_nothing,
+        unlines_push,
+        AreLines_push,
+        lines_of_unlines,
+        lines_of_last,
+        append-nil,
+        length-append,
+      );
+      advance_ok = advance_ok_trans old now new c.given _ c.advance_ok e.advance_ok;
+      terminator = e.advance_ok.reads.terminator ∙ c.terminator;
+    }
+
+pub lines_read_eof : {end : ℕ} {old now new : Reader} {ls : List (List ℕ)} → LinesRead end old now ls
+    → AdvanceOk now new [] → IsDone new → LinesRead end old new ls
+lines_read_eof = grind (arith, advance_ok_trans)
+
+-- the list `all` continues the lines `ls`
+pub record Continues (now : Reader) (ls all : List (List ℕ)) : Type 0 where
+  pub more : List (List ℕ)
+  pub is : all ≡ ls ++ more
+  pub done : IsDone now → more ≡ []
+
+-- such a list, in which neither the lines `ls` nor this piece of a further line are longer than the longest line
+pub record HoldsLines (now : Reader) (ls : List (List ℕ)) (piece : List ℕ) (all : List (List ℕ)) : Type 0 where
+  pub continues : Continues now ls all
+  pub longest : max (max_length ls) (length piece) ≤ max_length all
+
+module _ {end : ℕ} {old now new : Reader} {ls : List (List ℕ)} {piece : List ℕ} (c : LinesRead end old now ls)
+    (reads : ReaderAdvance now new piece) (line : IsLine now.terminator piece) where
+  abbrev came : Received
+  came = received_with (c.given ++ piece) new
+
+  free : IsLine end piece
+  free = rw c.terminator at line
+
+  -- the bytes after the lines
+  front_of : c.given ≡ unlines end ls → (rest : List ℕ)
+      → ((c.given ++ piece) ++ new.buffered) ++ rest ≡ unlines end ls ++ (piece ++ (new.buffered ++ rest))
+  front_of is rest = rw is (simp append_assoc)
+
+  -- the lines of an input that is consistent with the bytes received
+  pub lines_read_of_input : (input : List ℕ) → IsConsistent came input → HoldsLines now ls piece (lines end input)
+  lines_read_of_input = search (
+    rules,
+    front_of,
+    lines_of_unlines,
+    done_gives_nothing,
+    max_length-append,
+    piece_le_max_length,
+    free,
+  )
+
+  -- the lines that are known to be complete: `ls` and, if a read failed, no more
+  pub record KnownLines (ws : List (List ℕ)) : Type 0 where
+    pub known : Continues now ls ws
+    pub exact : new.buffered ≡ [] → new.eof ≡ false → ws ≡ ls
+
+  pub lines_read_known : KnownLines (known_lines end came)
+  lines_read_known = grind (
+    arith,
+    common_steps,
+    lines_read_of_input,
+    front_of,
+    ended_more,
+    complete_lines_none,
+    done_gives_nothing,
+    append-nil,
+  )
+
+  -- after the first line or the end was read, one of both was received
+  pub begun_gives_line : HasBegun now ls → ¬ HasNoLine end came
+  begun_gives_line begun none =
+      let known = lines_read_known.known in
+      grind (
+        arith,
+        common_steps,
+        complete_lines_none end _ none.unterminated,
+        done_gives_nothing,
+        length-append ls known.more,
+      )
+
+  -- at most one line was read, or a part of it
+  pub one_line_and_block : IsSound new → length ls + length (lines end piece) ≤ 1 → IsFirstLineAndBlock end came
+  one_line_and_block sound few = search (rules, lines_of_unlines, length-append, done_gives_nothing)
+
+-- ---- a function of the side
+
+-- two functions of the side, each changed at the same side
+pub put_both : {X Y : Type 0} (P : Side → X → Y → Type 0) (s : Side) (x : X) (f : Side → X) (y : Y) (g : Side → Y)
+    → P s x y → P (other s) (f (other s)) (g (other s))
+    → (side : Side) → P side (with_side s x f side) (with_side s y g side)
+put_both P s x f y g p q side = grind (arith, p, q)
+
+module _ {X : Type 0} (P : Side → X → Type 0) where
+  pub both_each : (x y : X) → P First x → P Second y → (side : Side) → P side (both x y side)
+  both_each x y p q = elim [ First ↦ p | Second ↦ q ]
+
+  -- one function of the side, changed at one side
+  pub put_each : (s : Side) (x : X) (f : Side → X) → P s x → ((side : Side) → P side (f side)) → (side : Side)
+      → P side (with_side s x f side)
+  put_each s x f p q = search (rules, put_both)
+
+pub put_same : {X : Type 0} (s : Side) (x : X) (f : Side → X) → with_side s x f s ≡ x
+put_same s x f = grind arith
+
+pub put_other : {X : Type 0} (s : Side) (x : X) (f : Side → X) → with_side s x f (other s) ≡ f (other s)
+put_other s x f = grind arith
+
+-- a side that is changed as an input
+pub with_side_is : {X : Type 0} (s : Side) (x : X) (f : Side → X) (side : Side)
+    → with_side s x f side ≡ with_input both_sides s x f side
+with_side_is s x f side = grind arith
+
+pub with_own : {X : Type 0} (s : Side) (f : Side → X) (side : Side) → with_input both_sides s (f s) f side ≡ f side
+with_own s f side = grind (arith, with_side_is, put_each)
+
+-- a property of one side and of the other
+pub side_case : (Q : Side → Type 0) (s : Side) → Q s → Q (other s) → (side : Side) → Q side
+side_case Q s p q = grind (arith, put_both)
+
+-- ---- the slots
+
+-- the slots of an input are two of the first four
+pub record AreLow (cursor : Sorted) : Type 0 where
+  pub current : cursor.current_slot < 4
+  pub previous : cursor.previous_slot < 4
+  pub apart : cursor.current_slot ≢ cursor.previous_slot
+
+pub low_slot : (s : Side) (cursor : Sorted) → HasSlots s cursor → AreLow cursor
+low_slot = grind arith
+
+-- the slots of the two inputs are distinct
+pub slots_apart : (s : Side) (a c : Sorted) → HasSlots s a → HasSlots (other s) c
+    → (a.previous_slot ≢ c.current_slot) × (a.previous_slot ≢ c.previous_slot)
+slots_apart s a c x y = grind arith
+
+pub line_other : (s : Slots) (a b : ℕ) (bytes : List ℕ) → a ≢ b → line (with_line s a bytes) b ≡ line s b
+line_other s a b bytes n = search rules
+
+added_same : (xs : List (List ℕ)) (i : ℕ) → get_or (xs ++ [] ∷ []) i [] ≡ get_or xs i []
+added_same [] i = grind arith
+added_same (x ∷ xs) zero = refl
+added_same (x ∷ xs) (suc i) = added_same xs i
+
+pub line_added : (s : Slots) (slot : ℕ) → line (with_new_slot s) slot ≡ line s slot
+line_added s slot = added_same s.lines slot
+
+-- Two lines of each input, of at most `m` bytes each, and `more` bytes in the other slots.
+abbrev pub HasLines : (Side → ℕ) → ℕ → List (List ℕ) → Type 0
+HasLines m more (a ∷ b ∷ c ∷ d ∷ rest) =
+    (length a ≤ m First) × (length b ≤ m First) × (length c ≤ m Second) × (length d ≤ m Second)
+    × (total_bytes rest ≡ more)
+HasLines m more few = ⊥
+
+four_total : (a b c d : List ℕ) (rest : List (List ℕ))
+    → total_bytes (a ∷ b ∷ c ∷ d ∷ rest) ≡ ((length a + length b) + length c) + length d + total_bytes rest
+four_total = grind (arith, common_steps)
+
+-- the number of slots, and the bytes in all of them
+pub record LinesTotal (xs : List (List ℕ)) (m : Side → ℕ) (more : ℕ) : Type 0 where
+  pub four : 4 ≤ length xs
+  pub most : total_bytes xs ≤ 2 * m First + 2 * m Second + more
+  pub is : total_bytes xs ≡ ((length (get_or xs 0 []) + length (get_or xs 1 [])) + length (get_or xs 2 [])) + length
+      (get_or xs 3 []) + more
+
+pub has_lines_total : (xs : List (List ℕ)) (m : Side → ℕ) (more : ℕ) → HasLines m more xs → LinesTotal xs m more
+has_lines_total = grind (arith, four_total)
+
+-- the next line of an input replaces its previous line
+pub set_line : (s : Side) (cursor : Sorted) (xs : List (List ℕ)) (m k : Side → ℕ) (more : ℕ) (x : List ℕ)
+    → HasSlots s cursor → HasLines m more xs → ((side : Side) → m side ≤ k side) → length x ≤ k s
+    → HasLines k more (set xs cursor.previous_slot x)
+set_line = search rules
+
+-- The invariant of the store of a merge: two lines of each input, of at most `m` bytes each.
+pub record StoreOfLines (before store : Slots) (m : Side → ℕ) : Type 0 where
+  pub lines : HasLines m 0 store.lines
+  pub peak : store.peak ≤ max before.peak (2 * m First + 2 * m Second)
+  pub slots : length store.lines ≡ max (length before.lines) 4
+  pub denied : store.denied ≡ false
+
+pub store_of_no_lines : {before store : Slots} → EnsureFourSlotsPost before store → before.denied ≡ false
+    → total_bytes before.lines ≡ 0 → StoreOfLines before store (λ side. 0)
+store_of_no_lines = grind (arith, four_total)
+
+pub store_with_line : {before store after : Slots} (s : Side) (cursor : Sorted) {m : Side → ℕ} (k : Side → ℕ)
+    (x : List ℕ)
+    → HasSlots s cursor → StoreOfLines before store m → ((side : Side) → m side ≤ k side) → length x ≤ k s
+    → after ≡ with_line store cursor.previous_slot x → StoreOfLines before after k
+store_with_line {store = store} s cursor {m} k x slots keeps up fit is =
+    let lines = set_line s cursor store.lines m k 0 x slots keeps.lines up fit in
+    let total = has_lines_total (set store.lines cursor.previous_slot x) k 0 lines in
+    rw is (record {
+      lines = lines;
+      peak = omega (arith, keeps.peak, total, up First, up Second);
+      slots = length-set store.lines cursor.previous_slot x ∙ keeps.slots;
+      denied = keeps.denied;
+    })
+
+-- the first four slots were emptied
+cleared : (lines : List (List ℕ)) (peak : ℕ) (denied : Bool) → 4 ≤ length lines
+    → let s : Slots = record { lines = lines; peak = peak; denied = denied } in
+    ClearFourSlotsPost s (with_line (with_line (with_line (with_line s 0 []) 1 []) 2 []) 3 [])
+cleared (a ∷ b ∷ c ∷ d ∷ rest) peak denied four = search (rules, four_total)
+cleared few peak denied four = absurd (omega arith)
+
+pub four_cleared : (s a b c d : Slots) → 4 ≤ length s.lines → a ≡ with_line s 0 [] → b ≡ with_line a 1 []
+    → c ≡ with_line b 2 [] → d ≡ with_line c 3 [] → ClearFourSlotsPost s d
+four_cleared s a b c d four is0 is1 is2 is3 = rw (is3, is2, is1, is0) (cleared s.lines s.peak s.denied four)
