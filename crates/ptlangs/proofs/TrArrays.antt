@@ -108,6 +108,8 @@ repeat_past = grind (arith, common_steps, slice_get_past)
 
 pub ruleset member_steps = (length-replicate, length-span, class_bytes-short, repeat_there, repeat_past)
 
+-- ---- items that were read
+
 -- these items were read without a fault, and `P` holds of them; `rest` is still to be read
 pub record ItemsRead {A : Type 0} (all rest : List (Result A SetFaultKind)) (P : List A → Type 0) : Type 0 where
   pub done : List A

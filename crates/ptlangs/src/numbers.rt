@@ -1,5 +1,5 @@
-//! Decimal numbers, and lists of elements between separators. The lists of `cut` and `join` and the numeric options of
-//! `ptopts` use these.
+//! Decimal numbers, and the bytes that separate the elements of a list. The lists of `cut` and `join` and the numeric
+//! options of `ptopts` use these.
 ghost use Rattle.std.specs.Prelude.{◌≡◌};
 ghost use Rattle.ptlangs.specs.Numbers.{is_number, number, is_list_separator};
 

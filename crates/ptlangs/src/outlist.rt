@@ -6,7 +6,7 @@ ghost use Rattle.ptlangs.specs.OutLists.{OutListMatchesGrammar, out_list_fault, 
 ghost use Rattle.ptlangs.specs.OutLists.{field_at};
 
 use crate::numbers::{decimal, is_decimal, is_list_separator};
-use std::alloc::{AllocFailed, Allocator, Global};
+use std::alloc::{AllocError, Allocator, Global};
 use std::marker::Model;
 
 /// One of the two files of `join`.
@@ -40,13 +40,13 @@ pub enum OutFault {
     Memory = 5,
 }
 
-impl<T: Drop> From<AllocFailed<T>> for OutFault {
+impl From<AllocError> for OutFault {
     ghost use Rattle.std.specs.Prelude.{◌≡◌};
     ghost use Rattle.ptlangs.specs.declared.outlist.OutFault.TheVariants.{Memory};
 
     ghost from_gives = { λ _ e. e ≡ Memory };
 
-    fn from(_error: AllocFailed<T>) -> OutFault {
+    fn from(_error: AllocError) -> OutFault {
         OutFault::Memory
     }
 }
@@ -83,7 +83,7 @@ impl<A: Allocator> OutList<A> {
         }
         let elements = text.split(is_list_separator);
         let fields = elements.filter_map(|element| read_element(element).ok());
-        let kept = fields.collect(alloc).map_err(|_| OutFault::Memory)?;
+        let kept = fields.collect(alloc)?;
         Ok(OutList { kept })
     }
 

@@ -21,6 +21,8 @@ use Rattle.ptflow.specs.declared.tools.cut.shuffle.PieceShuffle.{PieceShuffle}
 use proofs.Vectors.Compress.{selected_stored, shuffle_result}
 use lib.Seq.{take-nil}
 
+-- ---- what intervals select
+
 -- The items of a list that intervals select. Disjoint ascending intervals select one after another, and each selects a
 -- slice; so the selected items are these slices in order.
 
@@ -325,6 +327,8 @@ module _ (job : Cut) (by_bytes : job.fields ≡ false) where
         rest = select_from job.selected 1 p.piece;
         is = grind (arith, common_steps, rest_line, rest_of_all, unlines-append, made_is);
       }
+
+-- ---- shuffles
 
 -- The shuffles of `cut`. A row has the selected indices in order, so a shuffle moves the selected bytes of 16 bytes to
 -- the front; the counts are how many of them a piece of each length has. A line is cut piece by piece.

@@ -22,6 +22,8 @@ use Rattle.ptflow.specs.Private.Passes.BlockLoop.{IsBlockFilter}
 use Rattle.ptflow.specs.Private.Passes.StepOutput.{OutputPart}
 pub use Rattle.ptlines.proofs.MaxLength.{max_length-append, piece_le_max_length}
 
+-- ---- readers
+
 -- Facts about readers and outputs that each engine starts from. Each follows from the records of one call.
 
 -- after the end of the input, nothing is read
@@ -244,6 +246,8 @@ module _ {X : Type 0} {rest_from : X → List ℕ → List ℕ} {start now : X} 
     pub pass_unended : is'.write_failed ≡ true → PassPost tool old new was is' before store (Err Write)
     pass_unended fault = pass_write wrote all_of_it fault same not_denied
 
+-- ---- pushes
+
 -- Bytes that are pushed piece by piece: the pushed bytes are a prefix, and the rest is left. A failed push leaves a
 -- prefix too, so the result of several pushes is that of one.
 
@@ -294,6 +298,8 @@ on_err (Err e) p = p
 -- what `?` returns on an error
 pub returned_err : {T E A : Type 0} {Q : E → Type 0} (r : Result T E) → A × IsErrAnd r Q → (e : E) × (r ≡ Err e) × Q e
 returned_err r (_, is_err) = err_from_is_err_and r is_err
+
+-- ---- the loop over blocks
 
 -- A tool that works block by block. The output of each block is pushed before the next is read, so the input with no
 -- output yet is in the reader's buffer.
@@ -392,8 +398,12 @@ module _ {X : Type 0} {rest_from : X → List ℕ → List ℕ} {IsUnchanged : X
       block_read cause = pass_read ending cause ready.not_denied
           (search (rules, decided_so))
 
+-- ---- lines that were read
+
 -- The lines that were read from a reader. A line that was read is complete, so it is a line of the input for every
 -- continuation; the same holds for the complete lines of a block.
+
+-- ---- lines of a text
 
 -- Laws of the lines of a text: complete lines and the unfinished line after them, the maximum length, and the lines of
 -- a block one by one. All of them use the first terminator in some bytes, before which there is no other.

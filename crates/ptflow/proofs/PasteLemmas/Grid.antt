@@ -361,6 +361,8 @@ paste_of_parts job cells n a b cut =
     reach p (inl (whole, count)) = inl count
     reach p (inr (none, few)) = inr (ap (lines job.terminator) none, few)
 
+-- ---- inputs that columns name
+
 -- The inputs that columns name. Only what was received from them decides the output.
 
 module _ (cells : List ℕ) where

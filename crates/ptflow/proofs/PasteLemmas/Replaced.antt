@@ -273,6 +273,8 @@ module _ {cycle : Cycle} {first index at : ℕ} {from to to' : List ℕ} (long :
         replaced_more 1 (omega (arith, room)) (cc (mod-eq_of_lt less))
         (cc (take_more_set to at x (omega (arith, room))))
 
+-- ---- the rest of a series
+
 -- The output of `paste -s` from a position on: the bytes with their terminators replaced, as long as more bytes follow.
 -- So the terminator of a line that is the last byte so far is held back.
 

@@ -387,6 +387,8 @@ pub not_found : (end : ℕ) (block : List ℕ) (r : Option ℕ) → IsFirstByte 
 not_found end block None none said = complete_lines_none end block (line_if_not_found end block none)
 not_found end block (Some at) first said = cc
 
+-- ---- inputs in parts
+
 -- `uniq` for a text that is cut between two runs, or whose lines are distributed by their keys. Lines with different
 -- keys are in different runs, so no run is cut or merged.
 

@@ -47,15 +47,9 @@ pub fn cut<A: Allocator + Copy, B: Allocator + Copy, S: Source, R: Source, W: Si
     reader.set_ending(job.zero);
     let terminator = reader.terminator();
     if job.fields {
-        let mut room = [0; 8208];
-        return run_lines(
-            &FieldCut { job, terminator },
-            1,
-            &mut room,
-            reader,
-            store,
-            out,
-        );
+        let tool = FieldCut { job, terminator };
+        let mut room = [0; 8192 + 16];
+        return run_lines(&tool, 1, &mut room, reader, store, out);
     }
     run_blocks(&mut ByteCut::new(job, terminator), reader, out)
 }

@@ -35,6 +35,8 @@ use Rattle.ptmerge.specs.JoinFields.{IsFieldAt, IsFieldFound, IsFirstPieceEnd, I
 use Rattle.ptmerge.specs.JoinFields.{is_evenly_separated, has_single_spaces}
 use Rattle.ptmerge.specs.KeySpan.{IsKeySpan}
 
+-- ---- writes
+
 -- Several writes, one after another, to an output that may have failed: their bytes are concatenated, and after a
 -- failed write nothing more is written. The bytes written so far and the rest together are all bytes, so a call that
 -- fails leaves a prefix, and the last call completes them.
@@ -416,6 +418,8 @@ pub ruleset other_fields_steps = (around_is, between_is, push_is_write)
 pub ruleset listed_entry_steps = (first_fails, entry_listed)
 
 pub ruleset plain_entry_steps = (first_fails, entry_plain)
+
+-- ---- words by masks
 
 -- Words of a line by masks of its blanks. A mask is the number of a list of bits, so each fact is by induction on that
 -- list: two masks that overlap make one; no blank is misplaced if a mask is zero; and the first run of set bits is the

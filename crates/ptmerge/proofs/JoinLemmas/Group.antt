@@ -29,6 +29,8 @@ use Rattle.std.proofs.lemmas.List.Sums.{sum_by-append, sum_by-cons, sum_by_push}
 use Rattle.ptlines.proofs.SlotTotals.{total_bytes_set}
 use Rattle.ptmerge.specs.JoinGroup.{EnsureSlotPost, CopyToGroupErrPost, is_head}
 
+-- ---- the slots of a group
+
 -- The store of `join`: the slots 0 to 3 hold two lines of each input, and the slots from 4 on hold the group. Reading a
 -- line or copying one changes one slot, so the bytes stored are the sum of both parts. The group is a part of the lines
 -- of one key, so it is bounded by the largest group.

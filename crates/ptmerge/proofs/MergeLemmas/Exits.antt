@@ -31,6 +31,8 @@ use Rattle.ptlines.specs.Lag.{LaggedInput, ProcessLag}
 pub use Invariant.*
 pub use SlotLines.*
 
+-- ---- bounded lag
+
 -- Bounded lag. Leave out the buffered bytes, at most a block, and the terminator of a line that is not yet processed:
 -- the complete lines that remain are all processed. No key below the last of these can follow in either input, so with
 -- any content of the other input they decide only output that is written.
@@ -297,6 +299,8 @@ module _ (tool : MergeTool) (o : IsKeyOrder tool.cmp) (given : Side → Received
           (rw whole_now ordered.1) (rw (put_other, whole_now)
           (front_has _ (tool.key of) whole point.rest (rw point.split at up))),
     )
+
+-- ---- the cursor of one input
 
 -- the current line becomes a processed line
 pub record IsAtCurrentLine (cmp : Cmp) (key : Key) (number : ℕ) (x : List ℕ) (ls p : Lines) (b : Bound) : Type 0 where

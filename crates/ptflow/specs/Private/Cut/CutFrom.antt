@@ -1,4 +1,4 @@
--- The output of `cut` for the rest of a text, and for a piece of a line.
+-- The output of `cut` for the rest of a text, and for a line that begins in an earlier block.
 use Rattle.std.specs.Prelude.{◌≡◌, ◌<◌, ◌≤◌, ℕ, ◌+◌, ◌^◌, ◌==◌, List, [], ◌∷◌, ◌++◌, Bool, length, map, take, drop}
 use Rattle.std.specs.Prelude.{if◌then◌else◌}
 use Rattle.std.specs.List.{count_by}

@@ -1,3 +1,4 @@
+-- The fault that is found is that of the first element that has one.
 use Rattle.ptlangs.proofs
 use proofs.Common.{YieldsList-at, YieldsList-from_map, YieldsList-from_slice_split, arith, element_field, elements}
 use proofs.Common.{find_from_yields_List, is_err, is_list_separator, rules, tests}

@@ -1,3 +1,4 @@
+-- Without a fault, the values that are collected are those of the elements.
 use Rattle.ptlangs.proofs
 use proofs.Common.{YieldsList-at, YieldsList-from_filter_map, YieldsList-from_slice_split, arith, common_steps}
 use proofs.Common.{element_interval, elements, is_list_separator, items_from_collect, result_ok, rules, tests}

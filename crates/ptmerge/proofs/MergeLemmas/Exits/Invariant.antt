@@ -18,6 +18,8 @@ use proofs.MergeLemmas.Exits.SlotLines.{put_each}
 use Rattle.ptmerge.specs.MergeSpec.{MergeDisorder, is_past}
 use Rattle.std.proofs.lemmas.Cmp.{back_total, nat_list_cmp_total, upto}
 
+-- ---- keys in order
+
 -- Consequences of the laws of an order of keys. Distinct keys are sorted, so the entries of the least key come first,
 -- followed by the entries of the lines with other keys.
 

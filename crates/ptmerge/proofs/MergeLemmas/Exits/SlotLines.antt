@@ -14,6 +14,8 @@ use Rattle.std.proofs.lemmas.Grind.{common_steps}
 use Rattle.ptlines.proofs.TextLaws.{AreLines_push, complete_lines_cons, complete_lines_none, lines_of_last}
 use Rattle.ptlines.proofs.TextLaws.{lines_of_unlines}
 
+-- ---- lines that were read
+
 -- The lines read from a source. The bytes received are the lines read so far, and all but the last have their
 -- terminator. So every input that begins with these bytes begins with these lines.
 

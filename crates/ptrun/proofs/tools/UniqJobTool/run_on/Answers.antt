@@ -19,7 +19,8 @@ uniq-requires g c =
 pub returns : goal.returns
 returns g c =
     rw c.completion_at.ensures
-    (only_operand_post c.requires.ready c.requires.ready.accepts_operands 0 c.index-inputs-position.result c.uniq.ensures)
+    (only_operand_post c.requires.ready c.requires.ready.accepts_operands 0 c.index-inputs-position.result
+    c.uniq.ensures)
 
 pub bounds-operands-0 : goal.bounds-operands-0
 bounds-operands-0 g c = grind (arith, common_steps)
