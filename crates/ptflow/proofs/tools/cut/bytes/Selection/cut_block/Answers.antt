@@ -1,4 +1,4 @@
--- A chunk without a terminator is skipped, and the line continues.
+-- A chunk without a terminator is skipped, and the line continues, as the last line of another chunk does.
 use Rattle.ptflow.proofs
 use proofs.Common.{[], ap, arith, ◌∙◌, count_ones, chunk, ones-mask_l, is_byte}
 use proofs.Vectors.FindNth.{count_chunk}
