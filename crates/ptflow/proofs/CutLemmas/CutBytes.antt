@@ -7,10 +7,10 @@ use proofs.Common.{IsFirstByte, is_byte, unlines, lines, IsLine, complete_lines,
 use proofs.Common.{unlines-append, line_before_terminator, select_from, cut_line, cut, cut_decided, cut_lines_from}
 use proofs.Common.{cut_bytes_from, cut_list_from, IsPrefix, Cut, Interval, ExtendsCut, CutPost, selected_bytes}
 use proofs.Common.{is_selected, drop-drop, zero, suc, ◌<◌, true, cond, set, ⊎_elim, ◌&&◌, get_or, length-append, sym}
-use proofs.Common.{◌∙◌, w8, All, nat_le, false≢true, range_with_len, list_all, nat_tests, take-add, pick_l, Each1}
+use proofs.Common.{◌∙◌, w8, All, nat_le, false≢true, range_with_len, nat_tests, take-add, pick_l, Each1}
 use proofs.Common.{Each1-from_get_or, swz_l, pick_l-range_with_len, take-map, take-take, take-append-le, take_all}
 use proofs.Common.{length-take-le, append-nil, All-set, length-range_with_len, cases_eq, put_chunk, length-drop}
-use proofs.Common.{length-swz_l, take_more_set, ◌||◌, min, drop_all, drop_more, AreSeparated, cases_lt}
+use proofs.Common.{length-swz_l, slice_get, take_more_set, ◌||◌, min, drop_all, drop_more, AreSeparated, cases_lt}
 use Rattle.ptflow.specs.declared.tools.cut.bytes.Line.{Line}
 use proofs.Passes.Exits.{split_of, LineSplit, line_split}
 use Rattle.std.proofs.Common.{get_or-set_same, get_or-set_other, length-set}
@@ -481,18 +481,16 @@ module _ (selected : ℕ → Bool) where
     pub shuffle_lanes : Each1 (λ index. index < 16) piece.row
     shuffle_lanes = Each1-from_get_or (λ index. index < 16) _ 0 (λ i low. is.lanes i 0 low)
 
--- positions after a limit, if no interval includes them
-pub none_after : (rs : List Interval) {limit index : ℕ} → list_all (λ r. nat_le r.last limit) rs ≡ true → limit < index
-    → is_selected rs index ≡ false
-none_after [] all later = refl
-none_after (r ∷ rs) {limit} {index} all later = by_test (nat_le r.last limit) refl all
-    (λ more. none_after rs more later)
-  where
-    by_test : (t : Bool) → nat_le r.last limit ≡ t → (t && list_all (λ x. nat_le x.last limit) rs) ≡ true
-        → (list_all (λ x. nat_le x.last limit) rs ≡ true → is_selected rs index ≡ false)
-        → is_selected (r ∷ rs) index ≡ false
-    by_test true low more next = rw (above r _ (last_low r low later)) (next more)
-    by_test false low more next = absurd (false≢true more)
+-- positions after the last interval are not selected
+pub none_after : (all : List Interval) (low n : ℕ) {last : Interval} {index : ℕ} → AreSeparated low all
+    → length all ≤ n + 1 → slice_get all n ≡ Some last → last.last < index
+    → (is_selected all index ≡ false) × (low < index)
+none_after [] low n separated few is later = cc
+none_after (one ∷ []) low zero separated few is later = grind (arith, above)
+none_after (one ∷ two ∷ more) low zero separated few is later = absurd (omega arith)
+none_after (one ∷ more) low (suc n) {last} {index} separated few is later =
+    let (none, less) = none_after more (one.last + 1) n separated.2 (omega (arith, few)) is later in
+    (cc (none, above one index (omega (arith, less))), omega (arith, separated, less))
 
 -- ---- a line, piece by piece
 

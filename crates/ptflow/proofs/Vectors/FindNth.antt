@@ -167,10 +167,6 @@ module _ (p : ℕ → Bool) (bytes : List ℕ) where
     passes,
   )
 
-  pub some_counted : (xs : List ℕ) → 0 < mask_l (map p xs) → 0 < count_by p xs
-  some_counted [] lt = absurd (omega arith)
-  some_counted (x ∷ xs) lt = grind (arith, common_steps, some_counted xs, sum_by-cons)
-
 -- ---- by the first match
 
 module _ (d : ℕ) (line : List ℕ) where
