@@ -78,13 +78,16 @@ octal_value : (b : ℕ) → is_octal_digit b ≡ true → digit_value b < 8
 octal_value b h = grind (arith, rules)
 
 pub octal_digits : (bs : List ℕ) → All (λ d. digit_value d < 8) (take (length (octal_run bs)) bs)
-octal_digits bs k d h =
-    let n = prefix_len is_octal_digit (take 3 bs) in
-    let e = length-prefix_len is_octal_digit (take 3 bs) in
-    let within : k < n = omega (arith, length-take (length (octal_run bs)) bs) in
-    octal_value (get_or (take (length (octal_run bs)) bs) k d)
-    (rw take-octal_run (rw (get_or-take n _ k d within)
-    (grind (arith, prefix_len_passes))))
+octal_digits = grind (
+  arith,
+  common_steps,
+  length-prefix_len,
+  length-take,
+  octal_value,
+  take-octal_run,
+  get_or-take,
+  prefix_len_passes,
+)
 
 -- a backslash before an octal digit
 after_backslash-octal : (bs : List ℕ) (c : ℕ) → Some c ≡ slice_get bs 0 → is_octal_digit c ≡ true
@@ -541,8 +544,7 @@ set_elements-AreElements us (p ∷ ps) (rest, begins, more) = grind (
 pub AreElements-set_elements : (ps : List SetElement) (us : List SetChar) → set_elements us ≡ map Ok ps
     → AreElements us ps
 AreElements-set_elements [] [] e = refl
-AreElements-set_elements [] (u ∷ us) e =
-    by_first u us (λ p rest b is. let never = sym is ∙ e in cc) (λ k b is. let never = sym is ∙ e in cc)
+AreElements-set_elements [] (u ∷ us) e = search (rules, by_first)
 AreElements-set_elements (p ∷ ps) [] e = absurd (cc)
 AreElements-set_elements (p ∷ ps) (u ∷ us) e = by_first u us
     (λ q rest b is.

@@ -82,8 +82,8 @@ impl<A: Allocator> OutList<A> {
             return Err(fault);
         }
         let elements = text.split(is_list_separator);
-        let fields = elements.filter_map(|element| read_element(element).ok());
-        let kept = fields.collect(alloc)?;
+        let mut kept = Vec::with_capacity(alloc, text.split(is_list_separator).count())?;
+        kept.extend(elements.filter_map(|element| read_element(element).ok()))?;
         Ok(OutList { kept })
     }
 
