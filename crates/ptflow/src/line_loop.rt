@@ -119,11 +119,7 @@ pub(crate) fn run_lines<T: LineFilter, A: Allocator + Copy, S: Source, R: Source
             Err(LineFault::Read) => return Err(FlowFault::Read(0)),
             Err(LineFault::Memory) => return Err(FlowFault::Memory),
         }
-        reader.write_out_before_blocking(out)?;
-        let passed = match reader.block() {
-            Ok(block) => tool.process_lines(block, state, store, out)?,
-            Err(_) => return Err(FlowFault::Read(0)),
-        };
+        let passed = tool.process_lines(reader.buffered(), state, store, out)?;
         reader.consume(passed);
     }
 }

@@ -45,11 +45,6 @@ pub advance_past : {now shown new : Reader} {block : List ℕ} (count : ℕ) →
     → AdvanceOk now new (take count block)
 advance_past {shown} count advance_ok buffered fits consumed = grind (arith, common_steps, advance_ok_take)
 
--- a line was read, and after it some of the next block
-pub budget_of_line : (old : Reader) {now shown new : Reader} (count : ℕ) → budget now < budget old
-    → AdvanceOk now shown [] → new ≡ record shown { buffered = drop count shown.buffered } → budget new < budget old
-budget_of_line old {shown} count less advance_ok consumed = grind (arith, common_steps)
-
 abbrev state : Reader → Output → Slots → CallState (Unit {0})
 state reader out store = call_state (λ u. reader) out store
 

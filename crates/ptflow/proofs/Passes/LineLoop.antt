@@ -9,14 +9,14 @@ use proofs.Common.{length-set, drop-set-lt, sum_by-cons, sum_by-append, get_or-l
 use proofs.Common.{AddedSlots, IsSwapped, SlotsCleared, Bool, ◌^◌, true, ◌++◌, Ok, Err, append_assoc, length-append}
 use proofs.Common.{nil_from_length, get_or-set_same, lines, complete_lines, IsLine, max_length, max_line_length}
 use proofs.Common.{Received, known_lines, IsPrefix, IsConsistent, Output, PushEffect, Reader, ReaderAdvance, AdvanceOk}
-use proofs.Common.{IsDone, IsSound, HasReadCause, line, with_denied, FillPost, FillLine, advance_ok_trans, push_trans}
+use proofs.Common.{IsDone, IsSound, advance_ok_take, unlines, HasReadCause, line, with_denied, FillPost, FillLine, advance_ok_trans, push_trans}
 use proofs.Common.{ToolSpec, PassPre, PassPost, AreReceivedLines, LinesWritten, LinesFailed, IsLinesLength}
 use proofs.Common.{IsLineFilter, Read, Write, Memory, received_with, reads_nothing, rules}
 use proofs.Passes.Exits.{line_split, complete_prefix, max_length-append, lines_none, lines_few, lines_on, lines_more}
 use proofs.Passes.Exits.{lines_block, line_prefix, received_longest, piece_longest, whole_before, before_line}
 use proofs.Passes.Exits.{after_line, Progress, progress_none, progress_flushed, PassState, LaggedOutput, StoreBounds}
 use proofs.Passes.Exits.{PassEnding, nothing_more, pass_unslotted, pass_read, pass_memory, pass_write, pass_done}
-use proofs.Passes.Exits.{pass_unended, advance_past}
+use proofs.Passes.Exits.{pass_unended}
 use Rattle.ptflow.specs.Private.Passes.LineLoop.{RunLinesPre}
 use Rattle.std.proofs.lemmas.List.Edits.{swap_is}
 
@@ -178,9 +178,6 @@ filled_line same is fills = rw same at (rw is at fills)
 pub same_room : {width before after : ℕ} → after ≡ before → width ≤ before → width ≤ after
 same_room same room = omega arith
 
-pub short_block : {shown : Reader} {block : List ℕ} → shown.buffered ≡ block → IsSound shown → length block ≤ 8192
-short_block same sound = omega (arith, ap length same)
-
 pub some_line : 0 < 1
 some_line = omega arith
 
@@ -281,15 +278,14 @@ module _ {S X E : Type 0} {tool : ToolSpec} {state : S → Slots → X} {rest_fr
         keeps = grind (arith, common_steps, bounds_weaker, max_length-append);
       }
 
-      -- the lines of a block were read and consumed
-      pub run_block : {shown new : Reader} {block : List ℕ} {count : ℕ} → AdvanceOk reader shown []
-          → shown.buffered ≡ block → IsLinesLength tool.end block count
-          → new ≡ record shown { buffered = drop count shown.buffered } → {next : X} {is' : Output}
-          → On now next (complete_lines tool.end block) is is' → Run old new was is' before store next
-      run_block {new} {block} advance_ok buffered passed consumed processed =
+      -- the lines that end in the block were consumed
+      pub run_block : {new : Reader} {block : List ℕ} {count : ℕ} → block ≡ reader.buffered
+          → IsLinesLength tool.end block count → new ≡ record reader { buffered = drop count reader.buffered }
+          → {next : X} {is' : Output} → On now next (complete_lines tool.end block) is is'
+          → Run old new was is' before store next
+      run_block {new} {block} buffered (within, text) consumed processed =
           let ls = complete_lines end block in
-          let (within, _) = passed in
-          let front = subst (AdvanceOk reader new) (cc) (advance_past _ advance_ok buffered within consumed) in
+          let front : AdvanceOk reader new (unlines end ls) = grind (arith, common_steps, advance_ok_take) in
           run_more ls front (lines_block run.came ls front (line_split end block).whole)
           (grind (arith, bounds_weaker)) processed
 
@@ -345,7 +341,7 @@ module _ {S X E : Type 0} {tool : ToolSpec} {state : S → Slots → X} {rest_fr
           bounds_line _ (width - 1) bytes (bounds_weaker most run.keeps (omega arith)) (omega arith)
           (omega arith) told
 
-      pub same_bounds : SlotBounds width (max (max_length run.ls) 0) before store
+      same_bounds : SlotBounds width (max (max_length run.ls) 0) before store
       same_bounds = bounds_weaker (max (max_length run.ls) 0) run.keeps (omega arith)
 
       same_end : reader.terminator ≡ end
@@ -402,25 +398,22 @@ module _ {S X E : Type 0} {tool : ToolSpec} {state : S → Slots → X} {rest_fr
               rw told
               (pass_memory (piece_ending (grind arith)) same refl left)
 
-        -- a block was read
-        module _ {new : Reader} (reads : ReaderAdvance reader new []) (is_sound : IsSound new) where
-          block_ending : PassEnding tool midway new before store []
-          block_ending = piece_ending reads tt is_sound (stored reads tt is_sound same_bounds)
+        -- nothing more was read
+        ended_here : PassEnding tool midway reader before store []
+        ended_here = piece_ending (reads_nothing reader) tt sound (stored (reads_nothing reader) tt sound same_bounds)
 
-          -- a write failed at its lines
-          pub run_block_halts : {block : List ℕ} → new.buffered ≡ block → new.failed ≡ reader.failed
-              → {is' : Output} → Halt now (complete_lines tool.end block) is is'
-              → PassPost tool old new was is' before store (Err Write)
-          run_block_halts {block} buffered same halted =
-              halts block_ending same run.keeps.denied halted
-              (λ rest may. (lines end ((line_split end block).piece ++ rest), cc (complete_prefix end block rest)))
+        -- a write failed at the lines of the block
+        pub run_block_halts : {block : List ℕ} → block ≡ reader.buffered → {is' : Output}
+            → Halt now (complete_lines tool.end block) is is' → PassPost tool old reader was is' before store (Err Write)
+        run_block_halts {block} buffered halted =
+            halts ended_here refl run.keeps.denied halted
+            (λ rest may. (lines end ((line_split end block).piece ++ rest), cc (complete_prefix end block rest)))
 
         -- the buffered output could not be written
         pub run_flush_failed : {is' : Output} → PushEffect is is' [] → is'.write_failed ≡ true
             → PassPost tool old reader was is' before store (Err Write)
         unfolding midway
-        run_flush_failed wrote fault = pass_write (block_ending (reads_nothing reader) sound) wrote
-            (nothing_more (block_ending (reads_nothing reader) sound)) fault refl run.keeps.denied
+        run_flush_failed wrote fault = pass_write ended_here wrote (nothing_more ended_here) fault refl run.keeps.denied
 
     -- ---- the line in the last slot
 

@@ -1,15 +1,15 @@
--- The buffered output is written before each read, so each exit comes after that. After the line in the last slot it is
--- written again, and the lines of the block follow. Each exit is an outcome of a pass.
+-- The buffered output is written before each read, so each exit comes after that. The lines that end in the block
+-- follow the line in the last slot. Each exit is an outcome of a pass.
 use Rattle.ptflow.proofs
-use proofs.Passes.LineLoop.{LineLoopState, short_block, filled_line, run_starts, run_unslotted, run_sent, run_count}
+use proofs.Passes.LineLoop.{LineLoopState, filled_line, run_starts, run_unslotted, run_sent, run_count}
 use proofs.Passes.LineLoop.{run_room, run_flush_failed, run_line, run_line_halts, filled_count, same_room, some_line}
-use proofs.Passes.LineLoop.{run_read, keeps_last, same_bounds, run_memory, run_done, run_unended, run_block}
+use proofs.Passes.LineLoop.{run_read, keeps_last, run_memory, run_done, run_unended, run_block}
 use proofs.Passes.LineLoop.{run_block_halts, bounds_start, swapped_room}
-use proofs.Passes.Exits.{by_write, budget_of_line, returned_err}
+use proofs.Passes.Exits.{by_write, returned_err}
 use Rattle.ptflow.proofs.line_loop.run_lines.Given as given
 use Rattle.ptflow.proofs.line_loop.run_lines.Goals as goal
 use Rattle.ptflow.proofs.line_loop.run_lines.Goals.{In_ok-write_out_before_blocking, In_ok-process_line-in-Ok-true}
-use proofs.Common.{rules}
+use proofs.Common.{rules, arith, common_steps}
 
 -- the state after the buffered output was written, and after the line in the last slot
 written_out : (g : given.Over) (c : In_ok-write_out_before_blocking g) → let T = g.T.LineFilter in
@@ -103,20 +103,11 @@ returns-in-Err-Memory g c =
     run_memory c.requires.tool r c.requires.begins.ready c.fill.ensures.was_sound e.faults.reads e.faults.whole
     c.fill.ensures.is_sound e.stored e.failed e.left
 
-pub returns-in_err-write_out_before_blocking-2 : goal.returns-in_err-write_out_before_blocking-2
-returns-in_err-write_out_before_blocking-2 g c =
-    let v = line_taken g (goal.at.returns-in_err-write_out_before_blocking-2 g c).In_ok-process_line-in-Ok-true in
-    by_write c.from_residual-in_err-write_out_before_blocking-2.ensures
-    (run_flush_failed c.requires.tool v c.requires.begins.ready c.fill.ensures.is_sound
-    c.write_out_before_blocking-in-reading.ensures.pushed.wrote
-    c.in_err-write_out_before_blocking-2.ensures.pushed.fault)
-
 pub reading-smaller : goal.reading-smaller
 reading-smaller g c =
     let e = filled_line c.requires.slots c.in-Ok-true.field-0-test
     (c.in-Ok-true.ensures.fills c.reading.invariant.reached.advance_ok.fault) in
-    let (refilled, shown, _) = (rw c.in-Ok.is at c.block.follows.holds-at-none.shows) e.advance_ok.fault in
-    budget_of_line c.reading.reader c.in_ok-passed-in-Ok.passed e.less refilled c.consume.ensures.consumed
+    grind (arith, common_steps)
 
 pub process_lines-requires-clause-room : goal.process_lines-requires-clause-room
 process_lines-requires-clause-room g c = search (rules, swapped_room, same_room, run_room)
@@ -125,38 +116,22 @@ pub process_lines-requires-clause-buffered : goal.process_lines-requires-clause-
 process_lines-requires-clause-buffered g c =
     let took = c.in_ok-process_line-in-Ok-true.ensures in
     let v = line_taken g (goal.at.process_lines-requires-clause-buffered g c).In_ok-process_line-in-Ok-true in
-    let (_, shown, _) = (rw c.in-Ok.is at c.block.follows.holds-at-none.shows) v.reached.advance_ok.fault in
     record {
       few = run_count c.requires.tool v c.requires.begins.sound c.fill.ensures.is_sound;
       waits = took.continues.some some_line;
-      short = short_block shown c.block.follows.holds-at-none.is_sound;
+      short = grind (arith, common_steps);
     }
 
-pub returns-in_err-passed-in-Ok : goal.returns-in_err-passed-in-Ok
-returns-in_err-passed-in-Ok g c =
-    let v = line_taken g (goal.at.returns-in_err-passed-in-Ok g c).In_ok-process_line-in-Ok-true in
-    let u = run_sent c.requires.tool v c.write_out_before_blocking-in-reading.ensures.pushed.wrote
-    c.in_ok-write_out_before_blocking-2.ensures.pushed.clean in
-    let (refilled, shown, _) = (rw c.in-Ok.is at c.block.follows.holds-at-none.shows) u.reached.advance_ok.fault in
-    by_write c.from_residual-in_err-passed-in-Ok.ensures
-    (run_block_halts c.requires.tool u c.requires.begins.ready c.fill.ensures.is_sound refilled.reads
-    c.block.follows.holds-at-none.is_sound shown refilled.failed c.in_err-passed-in-Ok.ensures.halts)
-
-pub returns-in-Err : goal.returns-in-Err
-returns-in-Err g c =
-    let v = line_taken g (goal.at.returns-in-Err g c).In_ok-process_line-in-Ok-true in
-    let u = run_sent c.requires.tool v c.write_out_before_blocking-in-reading.ensures.pushed.wrote
-    c.in_ok-write_out_before_blocking-2.ensures.pushed.clean in
-    let (failed, cause, _) = (rw c.in-Err.is at c.block.follows.holds-at-none.shows) u.reached.advance_ok.fault in
-    run_read c.requires.tool u c.requires.begins.ready c.fill.ensures.is_sound failed.reads tt
-    c.block.follows.holds-at-none.is_sound (same_bounds c.requires.tool u) cause
+pub returns-in_err-passed : goal.returns-in_err-passed
+returns-in_err-passed g c =
+    let v = line_taken g (goal.at.returns-in_err-passed g c).In_ok-process_line-in-Ok-true in
+    by_write c.from_residual-in_err-passed.ensures
+    (run_block_halts c.requires.tool v c.requires.begins.ready c.fill.ensures.is_sound c.buffered.ensures.buffered
+    c.in_err-passed.ensures.halts)
 
 pub reading-preserved : goal.reading-preserved
 reading-preserved g c =
     let v = line_taken g (goal.at.reading-preserved g c).In_ok-process_line-in-Ok-true in
-    let u = run_sent c.requires.tool v c.write_out_before_blocking-in-reading.ensures.pushed.wrote
-    c.in_ok-write_out_before_blocking-2.ensures.pushed.clean in
-    let (refilled, shown, _) = (rw c.in-Ok.is at c.block.follows.holds-at-none.shows) u.reached.advance_ok.fault in
-    let rest = c.in_ok-passed-in-Ok.ensures in
-    run_block c.requires.tool u refilled shown rest.passed c.consume.ensures.consumed
+    let rest = c.in_ok-passed.ensures in
+    run_block c.requires.tool v c.buffered.ensures.buffered rest.passed c.consume.ensures.consumed
     {next = g.T.LineFilter.model c.process_lines.new.state c.process_line.new.store} rest.continues
