@@ -9,7 +9,7 @@ use proofs.Common.{IsSound, HasReadCause, Received, IsPrefix, IsConsistent, Outp
 use proofs.Common.{received_with, advance_trans, push_nothing, ToolSpec, PassPre, PassPost, only_input, pass_end, Read}
 use proofs.Common.{pass_engine, CallState, call_state, CallOutcome, AddedSlots, CallProgress, DecidedIfReadFailed, take}
 use proofs.Common.{call_ends, call_on_failed_output, call_set, call_without_slots, ProcessLag, bounded_lag_after, Write}
-use proofs.Common.{FlowFault, Memory, rules, drop, budget, advance_ok_take, Bool, refl, sym, subst, push_past_failure}
+use proofs.Common.{FlowFault, Memory, rules, drop, advance_ok_take, Bool, refl, sym, subst, push_past_failure}
 use proofs.Common.{OnErr, err_from_is_err_and, ◌+◌, ◌-◌, take_all, advance_ok_trans, inl, inr, zero, suc, ◌∷◌, unlines}
 use proofs.Common.{length-append, take-append-drop, false≢true, lines, IsLine, AreLines, max_length, max_line_length}
 use proofs.Common.{known_lines, LaggedInput, FillLine, lines_of_unlines, lines_of_last, lines_cons, lines-unlines, ◌==◌}

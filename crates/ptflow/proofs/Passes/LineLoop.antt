@@ -9,7 +9,8 @@ use proofs.Common.{length-set, drop-set-lt, sum_by-cons, sum_by-append, get_or-l
 use proofs.Common.{AddedSlots, IsSwapped, SlotsCleared, Bool, ◌^◌, true, ◌++◌, Ok, Err, append_assoc, length-append}
 use proofs.Common.{nil_from_length, get_or-set_same, lines, complete_lines, IsLine, max_length, max_line_length}
 use proofs.Common.{Received, known_lines, IsPrefix, IsConsistent, Output, PushEffect, Reader, ReaderAdvance, AdvanceOk}
-use proofs.Common.{IsDone, IsSound, advance_ok_take, unlines, HasReadCause, line, with_denied, FillPost, FillLine, advance_ok_trans, push_trans}
+use Rattle.ptlines.specs.ReadLine.{FillReadErr, FillMemoryErr}
+use proofs.Common.{IsDone, IsSound, advance_ok_take, unlines, line, FillPost, FillLine, advance_ok_trans, push_trans}
 use proofs.Common.{ToolSpec, PassPre, PassPost, AreReceivedLines, LinesWritten, LinesFailed, IsLinesLength}
 use proofs.Common.{IsLineFilter, Read, Write, Memory, received_with, reads_nothing, rules}
 use proofs.Passes.Exits.{line_split, complete_prefix, max_length-append, lines_none, lines_few, lines_on, lines_more}
@@ -334,7 +335,7 @@ module _ {S X E : Type 0} {tool : ToolSpec} {state : S → Slots → X} {rest_fr
           → StoreBounds tool before after given
       kept = grind arith
 
-      pub keeps_last : {after : Slots} (bytes : List ℕ) → after ≡ with_line store (width - 1) bytes
+      keeps_last : {after : Slots} (bytes : List ℕ) → after ≡ with_line store (width - 1) bytes
           → SlotBounds width (max (max_length run.ls) (length bytes)) before after
       keeps_last bytes told =
           let most = max (max_length run.ls) (length bytes) in
@@ -381,22 +382,25 @@ module _ {S X E : Type 0} {tool : ToolSpec} {state : S → Slots → X} {rest_fr
               → PassEnding tool midway new before after piece
           piece_ending bounded = ending reads bounded (works_piece reads (free _ whole) is_sound)
 
-          -- and then a read failed
-          pub run_read : {after : Slots} → SlotBounds width (max (max_length run.ls) (length piece)) before after
-              → HasReadCause reader new → PassPost tool old new was is before after (Err (Read 0))
-          unfolding midway
-          run_read bounds cause =
-              pass_read (piece_ending (stored bounds)) cause bounds.denied
-              (grind (arith, decided_so, whole_before, free _ whole))
+        -- and then a read failed
+        pub run_read : {new : Reader} {after : Slots} → IsSound new → FillReadErr reader new store after (width - 1)
+            → PassPost tool old new was is before after (Err (Read 0))
+        unfolding midway
+        run_read is_sound e =
+            let reads = e.faults.reads in
+            let whole = e.faults.whole in
+            let bounds = keeps_last e.piece e.stored in
+            pass_read (piece_ending reads whole is_sound (stored reads whole is_sound bounds)) e.cause bounds.denied
+            (grind (arith, decided_so, whole_before, free _ whole))
 
-          -- and then the store could not grow
-          pub run_memory : {after : Slots} → after ≡ with_denied (with_line store (width - 1) piece)
-              → new.failed ≡ reader.failed → 0 < length new.buffered
-              → PassPost tool old new was is before after (Err Memory)
-          run_memory told same left =
-              let bounded = stored (keeps_last piece refl) in
-              rw told
-              (pass_memory (piece_ending (grind arith)) same refl left)
+        -- and then the store could not grow
+        pub run_memory : {new : Reader} {after : Slots} → IsSound new → FillMemoryErr reader new store after (width - 1)
+            → PassPost tool old new was is before after (Err Memory)
+        run_memory is_sound e =
+            let reads = e.faults.reads in
+            let whole = e.faults.whole in
+            let bounded = stored reads whole is_sound (keeps_last e.piece refl) in
+            rw e.stored (pass_memory (piece_ending reads whole is_sound (grind arith)) e.failed refl e.left)
 
         -- nothing more was read
         ended_here : PassEnding tool midway reader before store []
@@ -472,14 +476,16 @@ module _ {S X E : Type 0} {tool : ToolSpec} {state : S → Slots → X} {rest_fr
 
       -- the end of the input was reached
       module _ (ready : PassPre old before) (sound : IsSound reader) {new : Reader} (is_sound : IsSound new)
-          (advance_ok : AdvanceOk reader new []) (done : IsDone new)
-          {after : Slots} (told : after ≡ with_line store (width - 1) [])
+          {after : Slots} (ended : AdvanceOk reader new [] × IsDone new × (after ≡ with_line store (width - 1) []))
           {is' : Output} (wrote : PushEffect is is' (written (rest_from (state now after) []))) where
+        abbrev advance_ok : AdvanceOk reader new []
+        advance_ok = ended.0
+
         last : PushEffect is is' (bytes_from run (state now store) [])
-        last = rw (same_state [] told) at wrote
+        last = rw (same_state [] ended.2) at wrote
 
         bounds : SlotBounds width (max (max_length run.ls) 0) before after
-        bounds = keeps_last run [] told
+        bounds = keeps_last run [] ended.2
 
         last_ending : {after' : Slots} → SlotBounds width (max (max_length run.ls) 0) before after'
             → PassEnding tool (midway run) new before after' []
@@ -488,9 +494,9 @@ module _ {S X E : Type 0} {tool : ToolSpec} {state : S → Slots → X} {rest_fr
         pub run_done : {after' : Slots} → SlotsCleared (width - 1) after after' → is'.write_failed ≡ false
             → PassPost tool old new was is' before after' (Ok tt)
         run_done empties clean =
-            let (cleared, total) = bounds_cleared bounds line_filter.some (filled [] told) empties in
-            pass_done (last_ending cleared) last done refl advance_ok.failed cleared.denied clean advance_ok.fault
+            let (cleared, total) = bounds_cleared bounds line_filter.some (filled [] ended.2) empties in
+            pass_done (last_ending cleared) last ended.1 refl advance_ok.failed cleared.denied clean advance_ok.fault
             (grind arith) total
 
         pub run_unended : is'.write_failed ≡ true → PassPost tool old new was is' before after (Err Write)
-        run_unended fault = pass_unended (last_ending bounds) last done refl advance_ok.failed bounds.denied fault
+        run_unended fault = pass_unended (last_ending bounds) last ended.1 refl advance_ok.failed bounds.denied fault
