@@ -364,9 +364,9 @@ swapped_first store slots is = grind (arith, common_steps)
 
 -- `uniq` is a line tool: the first of two slots may hold the first line of the current run, and the decided output
 -- leaves out that run.
-pub uniq_line_tool : (job : Uniq) (start : CurrentRun) → start.count ≡ 0
-    → IsLineFilter (uniq_tool job) current_run_of (runs_after job) (output_of job) count_of 2 start
-uniq_line_tool job start none = record {
+pub uniq_line_tool : {S : Type 0} (job : Uniq) (run : S → CurrentRun) (start : S) → (run start).count ≡ 0
+    → IsLineFilter (uniq_tool job) (λ now. current_run_of (run now)) (runs_after job) (output_of job) count_of 2 start
+uniq_line_tool job run start none = record {
   apart = entries-append job;
   stays = search rules;
   fresh = λ store. omega arith;
@@ -374,7 +374,7 @@ uniq_line_tool job start none = record {
   decided = λ store given passed now on.
       let ls = known_lines job.terminator given in
       let all = ap (runs job) (sym (append-nil ls))
-      ∙ ap (λ n. runs_after job (run_of (first_line start store) n) (ls ++ [])) (sym none) ∙ on [] in
+      ∙ ap (λ n. runs_after job (run_of (first_line (run start) store) n) (ls ++ [])) (sym none) ∙ on [] in
       rw all (init_current job passed now);
   size = λ bytes. refl;
   slots = refl;
