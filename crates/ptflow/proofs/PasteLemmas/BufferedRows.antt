@@ -6,29 +6,25 @@ use Rattle.ptflow.proofs
 use proofs.Common.{eq-eqb, ne_eqb, option_to_list, slice_index_or, Bool, List, None, Some, [], ap, append_assoc, arith}
 use proofs.Common.{drop, false, get_or, get_or-take, inl, length, length-append, length-drop, map, refl, set, suc, sym}
 use proofs.Common.{take, take-append-drop, true, zero, ℕ, ◌%◌, ◌*◌, ◌++◌, ◌+◌, ◌-◌, ◌<◌, ◌||◌, ◌∙◌, ◌∷◌, ◌≡◌, ◌≢◌, ◌≤◌}
-use proofs.Common.{mod-eq_of_lt, nat_tests, common_steps, append-nil, length-set, length-take-le}
-use proofs.Common.{nil_from_length, take-append-le, take-take, mod-mul-add, length-chunk}
-use proofs.Common.{take_more_put_chunk, count_by, chunk, put_chunk, IsFirstByte, is_byte, push_nothing, advance_ok_take}
-use proofs.Common.{line_before_terminator, take_with_terminator, lines_are, byte_eq, unlines-append, the_lines, Output}
-use proofs.Common.{PushEffect, IsDone, IsSound, Reader, reader_at, line, AreLines, EndsWithByte}
-use proofs.Common.{lines, unlines, columns, join_with_cycle, rows, uses_of, IsWholeRows, IsSharedCycle}
-use proofs.Common.{cycle_byte, with_replacements, RowShape, BegunText, after_cell, cells_text, LinesTaken, IsConsumed}
-use proofs.Common.{BufferedRowsPre, AreConsumed, RowsTaken, IsFieldCopied, CopyColumnsPost, CopyRowsPost, RowsWritten}
-use proofs.Common.{take-append-add, rules}
+use proofs.Common.{mod-eq_of_lt, nat_tests, common_steps, append-nil, length-set, length-take-le, nil_from_length}
+use proofs.Common.{take-append-le, take-take, mod-mul-add, length-chunk, take_more_put_chunk, count_by, chunk}
+use proofs.Common.{put_chunk, IsFirstByte, is_byte, push_nothing, advance_ok_take, line_before_terminator}
+use proofs.Common.{take_with_terminator, lines_are, byte_eq, unlines-append, the_lines, Output, PushEffect, IsDone}
+use proofs.Common.{IsSound, Reader, reader_at, line, AreLines, EndsWithByte, lines, unlines, columns, join_with_cycle}
+use proofs.Common.{rows, uses_of, IsWholeRows, IsSharedCycle, cycle_byte, with_replacements, RowShape, BegunText}
+use proofs.Common.{after_cell, cells_text, LinesTaken, IsConsumed, BufferedRowsPre, AreConsumed, RowsTaken}
+use proofs.Common.{IsFieldCopied, CopyColumnsPost, CopyRowsPost, RowsWritten, take-append-add, rules}
 use Rattle.memchr.specs.Find.{IsFirst, Passes}
 use Rattle.ptlines.proofs.CopyFacts.{copied_prefix}
 use borrow.Rule.Slice.PartMut.{mid_of, put_mid}
 use Rattle.ptflow.specs.Private.Paste.BufferedRows.{LineCopied}
-use proofs.PasteLemmas.Rows.{cells_text-push, rows_taken_trans, row_taken, taken_by, taken_eof}
-use proofs.PasteLemmas.Rows.{rows_taken_none, row_text, IsNextReader, next_reader, fill_starts, fill_next}
-use proofs.PasteLemmas.Rows.{FieldTaken}
+use proofs.PasteLemmas.Rows.{cells_text-push, rows_taken_trans, row_taken, taken_by, taken_eof, rows_taken_none}
+use proofs.PasteLemmas.Rows.{row_text, IsNextReader, next_reader, fill_starts, fill_next, FieldTaken, taken_from_one}
 use proofs.Vectors.FindNth.{none_counted}
 use proofs.PasteLemmas.Grid.{Column, for_each_cell_unique, top_of, grid_step, grid_none, after_row, columns_same}
 use proofs.PasteLemmas.Grid.{uses_more, last_use, update_here, lines_of_input}
 use proofs.PasteLemmas.Replaced.{counted, replaced-append, replaced_line}
 use Rattle.ptflow.specs.declared.simd.replace.Cycle.{Cycle}
-use proofs.PasteLemmas.Grid.{lines_of_input}
-use proofs.PasteLemmas.Rows.{taken_from_one}
 
 sound_after_consume : {b r : Reader} → IsSound b → IsConsumed b r → IsSound r
 sound_after_consume {b} s step = grind (arith, common_steps)

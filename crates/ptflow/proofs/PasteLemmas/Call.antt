@@ -5,29 +5,27 @@
 -- the next row, and perhaps a part of a line.
 use Rattle.ptflow.proofs
 use proofs.Common.{Bool, Err, List, Ok, Result, [], ap, append_assoc, arith, cond, drop, false, get_or, inl, inr}
-use proofs.Common.{length, length-append, max, refl, subst, sym, take, true, ℕ, ⊎_elim, ◌*◌, ◌++◌, ◌+◌, ◌<◌, ◌==◌}
-use proofs.Common.{◌^◌, ◌∙◌, ◌∷◌, ◌≡◌, ◌≤◌, ◌⊎◌, cases_eq, ne_eqb, nat_tests, common_steps, append-nil, drop_at}
-use proofs.Common.{take_all, top, Paste, received_with, advance_trans, push_nothing, push_trans}
-use proofs.Common.{bounded_lag_after, IsPrefix, Received, known_lines, Output, PushEffect, HasReadCause, IsDone, Reader}
-use proofs.Common.{ReaderAdvance, reader_at, Slots, total_bytes, with_denied, with_line, AddedSlots, IsLine, lines}
-use proofs.Common.{max_length, max_line_length, cut, CallPost, CallOutcome, CallState, call_state, CallEnd}
-use proofs.Common.{AreAllConsistent, inputs_at, is_in, CallProgress, DecidedIfReadFailed, reads_nothing, call_ends}
-use proofs.Common.{call_set, call_without_slots, PastePre, PastePost, IsReadable, paste_end, paste_engine, update_at}
-use proofs.Common.{columns, paste, paste_decided, rows, rows_text, uses_of, SetTerminatorsPost, SlotsBound}
-use proofs.Common.{RowFailed, RowFilled, ClearSlotsPost, is_write_fault, RowShape, BegunText}
-use proofs.Common.{job_shape, AreReceivedLines, LinesTaken, BufferedRowsPre, AreConsumed}
-use proofs.Common.{AreFirstRows, RowsTaken, CopyRowsPost, RowsWritten, FlowFault, Memory, Read, Write}
+use proofs.Common.{length, length-append, max, refl, sym, take, true, ℕ, ⊎_elim, ◌*◌, ◌++◌, ◌+◌, ◌<◌, ◌==◌, ◌^◌}
+use proofs.Common.{◌∙◌, ◌∷◌, ◌≡◌, ◌≤◌, ◌⊎◌, cases_eq, ne_eqb, nat_tests, common_steps, append-nil, drop_at, take_all}
+use proofs.Common.{top, Paste, received_with, advance_trans, push_nothing, push_trans, bounded_lag_after, IsPrefix}
+use proofs.Common.{Received, known_lines, Output, PushEffect, HasReadCause, IsDone, Reader, ReaderAdvance, reader_at}
+use proofs.Common.{Slots, total_bytes, with_denied, with_line, AddedSlots, IsLine, lines, max_length, max_line_length}
+use proofs.Common.{cut, CallPost, CallOutcome, CallState, call_state, CallEnd, AreAllConsistent, inputs_at, is_in}
+use proofs.Common.{CallProgress, DecidedIfReadFailed, reads_nothing, call_ends, call_set, call_without_slots, PastePre}
+use proofs.Common.{PastePost, IsReadable, paste_end, paste_engine, update_at, columns, paste, paste_decided, rows}
+use proofs.Common.{rows_text, uses_of, SetTerminatorsPost, SlotsBound, RowFailed, RowFilled, ClearSlotsPost}
+use proofs.Common.{is_write_fault, RowShape, BegunText, job_shape, AreReceivedLines, LinesTaken, BufferedRowsPre}
+use proofs.Common.{AreConsumed, AreFirstRows, RowsTaken, CopyRowsPost, RowsWritten, FlowFault, Memory, Read, Write}
+use proofs.Common.{RowAmid, slots_text}
 use proofs.PasteLemmas.Rows.{slots_bound_start, slots_kept_by_lines, slots_bound_line, cells_total, sum_of_zeros}
-use proofs.PasteLemmas.Rows.{no_rows, rows_on, first_rows_trans, filled_row_is_first, filled_row_text}
-use proofs.PasteLemmas.Rows.{lines_trans, taken_at_most, taken_more, nothing_taken}
-use proofs.PasteLemmas.Grid.{Column, columns_same, last_use, uses_before_lt, uses_before, rows_text-append}
-use proofs.PasteLemmas.Grid.{is_in_used, not_in, used_is_in, consistent_itself}
+use proofs.PasteLemmas.Rows.{no_rows, rows_on, first_rows_trans, filled_row_is_first, filled_row_text, lines_trans}
+use proofs.PasteLemmas.Rows.{taken_at_most, taken_more, nothing_taken, amid_text}
+use proofs.PasteLemmas.Grid.{Column, columns_same, last_use, uses_before_lt, uses_before, rows_text-append, is_in_used}
+use proofs.PasteLemmas.Grid.{not_in, used_is_in, consistent_itself}
 use proofs.PasteLemmas.Lag.{EarlierPart, LagsAt, ended_more, lags_here, decided_is_prefix, earlier_now, complete_few}
 use proofs.PasteLemmas.Lag.{earlier_before, earlier_lines, begins_earlier, no_lines}
 use proofs.PasteLemmas.BufferedRows.{still_pulled}
-use proofs.PasteLemmas.Rows.{amid_text}
-use proofs.Common.{RowAmid, slots_text}
-use proofs.Passes.Exits.{max_length-append, lines_on, lines_are_given, piece_longest, eof_gives_nothing, may_follow}
+use proofs.Passes.Exits.{max_length-append, lines_on, lines_are_given, piece_longest, may_follow}
 use Rattle.ptlines.specs.Received.{empty_input}
 use Rattle.ptlines.specs.Calls.{InputNames, EngineSpec}
 use Rattle.std.specs.Prelude.{IsErrAnd}
@@ -45,8 +43,7 @@ row_job row = record { serial = false; delimiters = row.delims; terminator = row
 pub of_rows : {row same : RowShape} {old new : CallState ℕ} {end : CallEnd ℕ} → row ≡ same
     → CallPost (inputs_at row.cells) (paste_engine (row_job row) row.cells) old new end
     → CallPost (inputs_at same.cells) (paste_engine (row_job same) same.cells) old new end
-of_rows {old = old} {new} {end} is post =
-    subst (λ r. CallPost (inputs_at r.cells) (paste_engine (row_job r) r.cells) old new end) is post
+of_rows {old = old} {new} {end} is post = grind (arith, common_steps)
 
 -- ---- the rows of all that was received, if some rows were taken
 
@@ -81,7 +78,7 @@ module _ (job : Paste) {cells : List ℕ} {set now : List Reader} {ls : ℕ → 
       (λ p. ls p ++ known_lines job.terminator (rest p)) (λ p some. ap (known_lines job.terminator) (is p some)
       ∙ whole_lines_after (g.lines_taken p).came (rest p).bytes (rest p).eof (may p some)))
       ∙ rows_on g (λ p. known_lines job.terminator (rest p))
-      (λ p some done. ap (known_lines job.terminator) (may p some done))
+      (grind (arith, common_steps))
 
   module _ {new : List Reader} (r : ReadMore now new) where
     abbrev pub given_by : ℕ → Received
@@ -104,9 +101,7 @@ module _ (job : Paste) {cells : List ℕ} {set now : List Reader} {ls : ℕ → 
       rows_by : rows (columns cells (λ p. lines job.terminator (texts p)))
           ≡ taken_rows ++ rows (columns cells (λ p. lines job.terminator (later p)))
       rows_by = rows_after (λ p. whole (texts p)) (λ p. whole (later p)) (λ p some. ap whole (later_is p some).0)
-          (λ p some done. ap whole ((later_is p some).1 ∙ may_follow _ _ _
-          ((reader_at new p).buffered ++ (a p (used_is_in cells p some)).rest) (r.reads p)
-          (λ done i. done.buffered i ++ (a p (used_is_in cells p some)).whole done.eof i) done))
+          (grind (arith, common_steps, later_is, may_follow, used_is_in))
 
       begins_by : IsPrefix (rows_text job taken_rows) (paste job cells texts)
       begins_by = grind (arith, common_steps, rows_by, rows_text-append)
@@ -116,13 +111,8 @@ module _ (job : Paste) {cells : List ℕ} {set now : List Reader} {ls : ℕ → 
 
     rows_whole : rows (columns cells (λ p. known_lines job.terminator (given_by p))) ≡ taken_rows ++ later_rows
     rows_whole = rows_after given_by (λ p. received_with (r.extra p) (reader_at new p))
-        (λ p some i. record {
-          bytes = append_assoc (g.lines_taken p).bytes (r.extra p) (reader_at new p).buffered i;
-          eof = (reader_at new p).eof;
-        })
-        (λ p some done.
-        let (none, empty, eof) = eof_gives_nothing _ _ _ done (r.reads p) in
-        λ i. record { bytes = none i ++ empty i; eof = eof i })
+        (grind (arith, common_steps))
+        (grind (arith, common_steps))
 
     abbrev pub EarlierBy : ℕ → Type 0
     EarlierBy p = EarlierPart job.terminator ((length taken_rows + 1) * uses_of cells p) (given_by p)
@@ -171,13 +161,12 @@ module _ {job : Paste} {cells : List ℕ} {old set : List Reader} {was : Output}
       → result ≡ Err Memory → PastePost job cells old set was was first store result
   paste_without_slots adds same denied missing is =
       rw (is, paste_end) (since_set (call_without_slots _ _ _ _ s.writable refl
-      (λ p named i.
-      record (reader_at set p) { terminator = set_readable.same_end p (is_in_used cells p named) i })
+      (grind (arith, common_steps, is_in_used))
       (λ p other. refl) (λ p named. (s.are_set p).sound (is_in_used cells p named)) never_failed denied same
       adds.least missing (λ texts. omega arith) (λ p named. let some = is_in_used cells p named in
       begins_earlier job cells (λ q. received_with [] (reader_at set q)) []
       (rows (columns cells (λ q. known_lines job.terminator (received_with [] (reader_at set q))))) refl p some
-      (earlier_now (reader_at set p) [] ((s.are_set p).sound some).buffered (omega arith)))))
+      (grind (arith, common_steps)))))
 
 -- ---- rows that were taken
 
@@ -271,7 +260,7 @@ module _ {job : Paste} {cells : List ℕ} {old set now : List Reader} {was is : 
       (((s.starts.are_set p).sound some).long ((set_readable s.starts).unfailed p some))
 
   now_buffered : (p : ℕ) → 0 < uses_of cells p → length (reader_at now p).buffered ≤ 8192
-  now_buffered p some = (so_far p).buffered ((s.starts.are_set p).sound some).buffered
+  now_buffered p some = grind (arith, common_steps)
 
   -- Each column has a slot.
   pub invariant_slots : length cells ≤ length store.lines
@@ -479,7 +468,7 @@ module _ {job : Paste} {cells : List ℕ} {old set now : List Reader} {was is : 
       → Kept a.filled.input_lines after
   row_kept a few top high =
       slots_kept_by_lines a.slots few a.filled.consumed first top (still_kept a.filled.input_lines top high)
-      (λ p some. omega (arith, high p some, max_length-append (s.ls p) (a.filled.input_lines p)))
+      (grind (arith, common_steps, max_length-append))
 
   -- A row was filled.
   module _ {begun : BegunText} {after : Slots} (a : RowAmid shape (length cells) now store begun after) where
@@ -504,13 +493,7 @@ module _ {job : Paste} {cells : List ℕ} {old set now : List Reader} {was is : 
           let ls = a.filled.input_lines in
           let q = whole_columns 0 (λ (p : ℕ). nothing_taken {end = job.terminator} {r = reader_at begun.readers p} refl)
           in
-          write_exit row_first q row_wrote fault (λ top high. row_kept a (omega arith) top (λ p some. omega (
-            arith,
-            high p some,
-            max_length-append (s.ls p) (ls p ++ []),
-            max_length-append (s.ls p) (ls p),
-            max_length-append (ls p) [],
-          )))
+          write_exit row_first q row_wrote fault (λ top high. row_kept a (omega arith) top (grind (arith, common_steps)))
           (λ p some. cut_line row_first q p some refl refl (omega arith)) (λ p. refl)
 
     -- No column has a line.
@@ -651,11 +634,7 @@ module _ {job : Paste} {cells : List ℕ} {old set now : List Reader} {was is : 
           denied = cc stored;
           unfailed = λ p named. failed_to same p ∙ failed_last no_more row_to p;
           clean = clean;
-          left = λ enough. inl (
-            here,
-            used_is_in cells here here_used,
-            λ done. absurd (omega (arith, ap length done.buffered)),
-          );
+          left = grind (arith, common_steps, used_is_in, here_used);
         }) tt
 
     -- The read failed.
@@ -667,7 +646,7 @@ module _ {job : Paste} {cells : List ℕ} {old set now : List Reader} {was is : 
         exit no_more row_to wrote (inl stored) bound_with_piece cut_to (Err (Read here)) (record {
           named = used_is_in cells here here_used;
           unfailed = never_failed s.starts here (used_is_in cells here here_used);
-          cause = ⊎_elim inl (λ (long, same). inr (long, same ∙ failed_last no_more row_to here)) cause;
+          cause = ⊎_elim inl (grind (arith, common_steps)) cause;
           others = λ q named differ. cc (b.others q differ, failed_last no_more row_to q);
           clean = clean;
           not_denied = cc ((bound_now no_more row_to bound_with_piece).denied);

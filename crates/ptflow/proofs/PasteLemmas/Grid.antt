@@ -3,19 +3,15 @@
 -- So, by induction over the number of rows, the rows of inputs that are split after the same row are those of the first
 -- parts and then those of the second ones.
 use Rattle.ptflow.proofs
-use proofs.Common.{Bool, List, Option, [], ap, arith, cond, drop, false, get_or, inl, inr, length, length-append}
-use proofs.Common.{length-drop, map, max, refl, suc, sym, take, true, zero, ℕ, ⊎_elim, ◌%◌, ◌*◌, ◌++◌, ◌+◌, ◌-◌, ◌<◌}
-use proofs.Common.{◌==◌, ◌∙◌, ◌∷◌, ◌≡◌, ◌≢◌, ◌≤◌, ◌⊎◌, add-mod_left, mod-eq_of_lt, cases_lt, eq-eqb, ne_eqb}
-use proofs.Common.{nat_tests, get_or_after_one, append-nil, ext_get_or, get_or-map, nil_from_length}
-use proofs.Common.{get_or-enumerate_from, length-enumerate_from, sum_by-cons}
-use proofs.Common.{sum_by-take-le, map-map, enumerate_from, range_with_len, fold, the_lines_of_parts}
-use proofs.Common.{lines, unlines, select_from, cut, IsRowSplit, PasteOfParts, update_at, columns, every_kth}
-use proofs.Common.{join_with_cycle, row_count, is_row_known, row_at, rows, uses_of, common_steps, subst, list_any_at}
-use proofs.Common.{Paste, IsConsistent, Received, is_in, paste_decided}
+use proofs.Common.{slice_index_or, Bool, List, Option, [], ap, arith, cond, drop, false, get_or, inl, inr, length}
+use proofs.Common.{length-append, length-drop, map, max, refl, suc, sym, take, true, zero, ℕ, ⊎_elim, ◌%◌, ◌*◌, ◌++◌}
+use proofs.Common.{◌+◌, ◌-◌, ◌<◌, ◌==◌, ◌∙◌, ◌∷◌, ◌≡◌, ◌≢◌, ◌≤◌, ◌⊎◌, add-mod_left, mod-eq_of_lt, cases_lt, eq-eqb}
+use proofs.Common.{ne_eqb, nat_tests, get_or_after_one, append-nil, ext_get_or, get_or-map, nil_from_length}
+use proofs.Common.{get_or-enumerate_from, length-enumerate_from, sum_by-cons, sum_by-take-le, map-map, enumerate_from}
+use proofs.Common.{range_with_len, fold, the_lines_of_parts, lines, unlines, select_from, cut, IsRowSplit, PasteOfParts}
+use proofs.Common.{update_at, columns, every_kth, join_with_cycle, row_count, is_row_known, row_at, rows, uses_of}
+use proofs.Common.{common_steps, subst, list_any_at, Paste, IsConsistent, Received, is_in, paste_decided, leb, cases_eq}
 use Rattle.std.proofs.lemmas.List.Sums.{sum_by_more}
-use Rattle.std.specs.Prelude.{slice_index_or}
-use proofs.Common.{leb}
-use proofs.Common.{cases_eq}
 
 abbrev pub Column : Type 0
 Column = List (List ℕ)
@@ -286,7 +282,11 @@ module _ (cells : List ℕ) where
         columns_same (after_row (λ q. ins q ++ more q)) (λ q. after_row ins q ++ more q) (rest_same n ins more all),
         rows-append n (after_row ins) more (rest_takes n ins more all),
       ))
-      (λ short. let over = none_follows n ins more all short in grind (arith, common_steps, columns_same, append-nil, grid_none))
+      (λ short. let over = none_follows n ins more all short in cc (
+        columns_same (λ p. ins p ++ more p) ins (λ p some. cc (over p some, append-nil (ins p))),
+        append-nil (rows (columns cells ins)),
+        grid_none more over,
+      ))
       (some_cell ins (length cells) (omega arith))
 
 -- ---- the text of rows

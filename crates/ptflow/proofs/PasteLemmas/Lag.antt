@@ -1,22 +1,19 @@
 -- Bounded lag of `paste`: all output that was determined two blocks of an input earlier is pushed. Without its last two
 -- blocks that input has fewer lines than one more row takes, so only rows that were already pushed are determined.
 use Rattle.ptflow.proofs
-use proofs.Common.{Bool, List, [], ap, append_assoc, arith, drop, false, get_or, length, length-append, length-drop, ℕ}
-use proofs.Common.{map, refl, suc, sym, take, take-append-drop, true, zero, ⊎_elim, ◌*◌, ◌++◌, ◌+◌, ◌-◌, ◌<◌}
-use proofs.Common.{◌∙◌, ◌∷◌, ◌≡◌, ◌≢◌, ◌≤◌, cases_Bool, cases_eq, cases_lt, common_steps, append-nil, filter}
-use proofs.Common.{drop_more, get_or-map, get_or_append_left}
-use proofs.Common.{get_or-range_with_len, length-map-range_with_len, length-range_with_len, Paste, line}
-use proofs.Common.{range_with_len, received_with, complete_lines_cons, complete_lines_of_unlines, Reader}
-use proofs.Common.{IsPrefix, Received, known_lines, ProcessLag, ReaderAdvance, AreLines, IsLine, complete_lines, lines}
-use proofs.Common.{unlines, reads_nothing, update_at, columns, every_kth, row_count, is_row_known, row_at}
-use proofs.Common.{paste_decided, rows, rows_text, uses_of, AreReceivedLines}
-use Rattle.std.specs.Prelude.{slice_index_or}
-use proofs.CutLemmas.CutBytes.{select_append}
-use proofs.PasteLemmas.Grid.{Column, column_of, uses_before_lt, column_at}
-use proofs.PasteLemmas.Grid.{length-columns, every_kth_short, is_row_unknown, update_here, last_use}
-use proofs.Passes.Exits.{complete_prefix, line_split, eof_gives_nothing}
+use proofs.Common.{slice_index_or, Bool, List, [], ap, append_assoc, arith, drop, false, get_or, length, length-append}
+use proofs.Common.{length-drop, ℕ, map, refl, suc, sym, take, take-append-drop, true, zero, ⊎_elim, ◌*◌, ◌++◌, ◌+◌, ◌-◌}
+use proofs.Common.{◌<◌, ◌∙◌, ◌∷◌, ◌≡◌, ◌≢◌, ◌≤◌, cases_Bool, cases_eq, cases_lt, common_steps, append-nil, filter}
+use proofs.Common.{get_or-map, get_or_append_left, get_or-range_with_len, length-map-range_with_len}
+use proofs.Common.{length-range_with_len, Paste, line, range_with_len, received_with, complete_lines_cons}
+use proofs.Common.{complete_lines_of_unlines, Reader, IsPrefix, Received, known_lines, ProcessLag, ReaderAdvance}
+use proofs.Common.{AreLines, IsLine, complete_lines, lines, unlines, reads_nothing, update_at, columns, every_kth}
+use proofs.Common.{row_count, is_row_known, row_at, paste_decided, rows, rows_text, uses_of, AreReceivedLines}
 use proofs.Common.{nil_from_length}
-use proofs.PasteLemmas.Grid.{row_is}
+use proofs.CutLemmas.CutBytes.{select_append}
+use proofs.PasteLemmas.Grid.{Column, column_of, uses_before_lt, column_at, length-columns, every_kth_short}
+use proofs.PasteLemmas.Grid.{is_row_unknown, update_here, last_use, row_is}
+use proofs.Passes.Exits.{complete_prefix, line_split, eof_gives_nothing}
 
 -- ---- one input without its last bytes
 
@@ -43,18 +40,16 @@ earlier_now reader given buffered few = record {
 -- The complete lines of what was received and a part of the next line.
 pub complete_few : {end : ℕ} {now new : Reader} {given piece : List ℕ} {ls : Column} → AreReceivedLines end now given ls
     → ReaderAdvance now new piece → IsLine end piece → length (complete_lines end (given ++ piece)) ≤ length ls
-complete_few {end} {given = given} {piece} {ls} k reads free = ⊎_elim
-    (λ (is, are). grind (arith, common_steps, complete_lines_of_unlines))
-    (λ (is, done).
-    let (none, empty, eof) = eof_gives_nothing _ _ _ done reads in
-    rw (none, append-nil given) (omega (
-      arith,
-      ap length is,
-      ap (λ b. length (lines end b)) (append-nil given),
-      ap length (complete_prefix end given []),
-      length-append (complete_lines end given) (lines end ((line_split end given).piece ++ [])),
-    )))
-    k.so_far
+complete_few {end} {given = given} {piece} {ls} k reads free = grind (
+  arith,
+  common_steps,
+  complete_lines_of_unlines,
+  eof_gives_nothing,
+  append-nil,
+  complete_prefix,
+  length-append,
+  line_split,
+)
 
 -- A text without lines is empty.
 pub no_lines : (end : ℕ) (bytes : List ℕ) → length (lines end bytes) ≤ 0 → bytes ≡ []
@@ -145,7 +140,7 @@ module _ (f : ℕ → Bool) (down : (r : ℕ) → f r ≡ false → f (r + 1) �
       let differ : a ≢ length taken = λ last. cc in
       let less : a < length taken = omega arith in
       let (rest, more) = known_first row taken none same (a + 1) h (omega arith) in
-      (rest, rw is (drop_more taken a [] less ∙ (λ i. sym (same a is less) i ∷ more i))))
+      (grind (arith, common_steps)))
       (λ is. (drop a taken, rw is (rw (none_known (a + 1) h (down a is)) refl)))
       (cases_Bool (f a))
 
@@ -206,8 +201,14 @@ module _ (job : Paste) (cells : List ℕ) (came : ℕ → Received) where
     next_unknown : is_row_known (grid earlier) ends (length taken_rows) ≡ false
     next_unknown =
         let (c, low, is, count) = last_use cells here named in
-        unknown (length taken_rows) c low is (every_kth_short (uses_before_lt cells c low) (length taken_rows)
-        (known_of earlier (get_or cells c 0)) (grind (arith, common_steps)))
+        unknown (length taken_rows) c low is (grind (
+          arith,
+          common_steps,
+          every_kth_short,
+          uses_before_lt,
+          taken_rows,
+          known_of,
+        ))
 
     -- The line of a column in a row of the whole grid.
     abbrev cell : ℕ → ℕ → ℕ → List ℕ

@@ -1,20 +1,21 @@
 -- Bytes of which each terminator is replaced, and how the code replaces them: 64 at a time, where the terminators are
 -- the bits of a mask, and then byte by byte.
 use Rattle.ptflow.proofs
-use proofs.Common.{◌≡◌, ◌≢◌, ℕ, zero, suc, ◌+◌, ◌-◌, ◌%◌, ◌^◌, ◌==◌, ◌<◌, ◌≤◌, Bool, cond, List, [], ◌∷◌, ◌++◌, length}
-use proofs.Common.{map, take, drop, get_or, slice_set, refl, sym, ◌∙◌, ap, arith, bit_and, count_by, count_ones, mask_l}
-use proofs.Common.{chunk, mod-add-mod, mod-eq_of_lt, take-add, take_at, take-append-drop, take-set-lt, eq-eqb}
-use proofs.Common.{set-append_right, drop_more, take_more_set, length-set, common_steps, sum_by-append}
-use proofs.Common.{is_byte, byte_eq, byte_ne, IsLine, IsNth, length-take-le, length-chunk, length-put_chunk}
-use proofs.Common.{take_more_put_chunk, put_chunk, ones-mask_l, with_replacements, cycle_byte, IsReplacedTo, true}
-use proofs.Common.{false, Option, append_assoc, onto_first, append-nil, append_cancel_right, lines}
-use proofs.Common.{complete_lines, IsPrefix, lines_of_unlines, Paste, delimiter, join_with_cycle, paste_serial_decided}
-use proofs.Common.{row_rest, option_to_list, None, Some, IsFirstByte, line_before_terminator, mod-lt}
+use proofs.Common.{slice_index_or, ◌≡◌, ◌≢◌, ℕ, zero, suc, ◌+◌, ◌-◌, ◌%◌, ◌^◌, ◌==◌, ◌<◌, ◌≤◌, Bool, cond, List, []}
+use proofs.Common.{◌∷◌, ◌++◌, length, map, take, drop, get_or, slice_set, refl, sym, ◌∙◌, ap, arith, bit_and, count_by}
+use proofs.Common.{count_ones, mask_l, chunk, mod-add-mod, mod-eq_of_lt, take-add, take_at, take-append-drop}
+use proofs.Common.{take-set-lt, eq-eqb, set-append_right, drop_more, take_more_set, length-set, common_steps}
+use proofs.Common.{sum_by-append, is_byte, byte_eq, byte_ne, IsLine, IsNth, length-take-le, length-chunk}
+use proofs.Common.{length-put_chunk, take_more_put_chunk, put_chunk, ones-mask_l, with_replacements, cycle_byte}
+use proofs.Common.{IsReplacedTo, true, false, Option, append_assoc, onto_first, append-nil, append_cancel_right, lines}
+use proofs.Common.{complete_lines, IsPrefix, Paste, delimiter, join_with_cycle, paste_serial_decided}
+use proofs.Common.{row_rest, option_to_list, None, Some, IsFirstByte, line_before_terminator, mod-lt, serial_rest}
+use proofs.Common.{take_with_terminator}
 use lib.Count.{count_trailing_zeros}
 use proofs.Vectors.FindNth.{after_set, cleared, without, none_counted}
 use Rattle.ptflow.specs.declared.simd.replace.Cycle.{Cycle}
-use Rattle.std.specs.Prelude.{slice_index_or}
-use proofs.Passes.Exits.{line_split, split_of}
+use proofs.Passes.Exits.{line_split, complete_prefix}
+use Rattle.ptflow.specs.declared.tools.paste.serial.ColumnPos.{ColumnPos}
 use Rattle.ptflow.specs.Private.Paste.SerialRest.{CopyCellsPost}
 use Rattle.ptflow.specs.declared.tools.paste.serial.SerialFormat.{SerialFormat}
 
@@ -28,7 +29,8 @@ module _ (end : ℕ) where
         ≡ with_replacements end text_of number xs
         ++ with_replacements end text_of (number + count_by (is_byte end) xs) ys
     replaced-append number [] ys = grind arith
-    replaced-append number (b ∷ xs) ys = grind (arith, common_steps, replaced-append (number + 1) xs ys, replaced-append number xs ys)
+    replaced-append number (b ∷ xs) ys =
+        grind (arith, common_steps, replaced-append (number + 1) xs ys, replaced-append number xs ys)
 
     -- A line contains no terminator, so its bytes stay.
     pub replaced_line : (number : ℕ) (line rest : List ℕ) → IsLine end line
@@ -228,7 +230,8 @@ module _ {cycle : Cycle} {first index at : ℕ} {from to to' : List ℕ} (long :
       let so_far = first + ends_in cycle front in
       let index_is =
       mod-eq_of_lt (omega arith) ∙ r.next in
-      let count : first + ends_in cycle (take (at + size) from) ≡ so_far + ends_in cycle here = grind (arith, common_steps) in
+      let count : first + ends_in cycle (take (at + size) from) ≡ so_far + ends_in cycle here =
+      grind (arith, common_steps) in
       record {
         within = room;
         same = long;
@@ -290,7 +293,14 @@ module _ (end : ℕ) (delims : List (Option ℕ)) where
       → row_rest end delims number (bytes ++ more) ≡ with_replacements end (delimiter delims) number bytes
       ++ row_rest end delims (number + count_by (is_byte end) bytes) more
   row_rest_on number [] more some = grind arith
-  row_rest_on number (b ∷ bytes) more some = grind (arith, common_steps, row_next, row_byte, row_rest_on (number + 1) bytes more some, row_rest_on number bytes more some)
+  row_rest_on number (b ∷ bytes) more some = grind (
+    arith,
+    common_steps,
+    row_next,
+    row_byte,
+    row_rest_on (number + 1) bytes more some,
+    row_rest_on number bytes more some,
+  )
 
   -- Only the index of the delimiter matters.
   row_rest_mod : (m n : ℕ) → m % length delims ≡ n % length delims → (bytes : List ℕ)
@@ -306,41 +316,64 @@ module _ (end : ℕ) (delims : List (Option ℕ)) where
           let next = sym (mod-add-mod m len 1) ∙ ap (λ k. (k + 1) % len) same ∙ mod-add-mod n len 1 in
           λ i. x ++ option_to_list (slice_index_or delims (same i) None) ++ joined_mod (m + 1) (n + 1) next (y ∷ ls) i
 
-  -- A line and its delimiter were copied.
-  pub next_piece : 0 < length delims → (index : ℕ) {next at : ℕ} (rest before : List ℕ) {line text all : List ℕ}
-      {count : ℕ} → IsFirstByte (is_byte end) rest (Some at) → next ≡ (index + 1) % length delims
-      → line ≡ before ++ take at rest → text ≡ line ++ delimiter delims index
-      → before ++ with_replacements end (delimiter delims) index rest ≡ all
-      → (index + count_by (is_byte end) rest) % length delims ≡ count
-      → (text ++ with_replacements end (delimiter delims) next (drop (at + 1) rest) ≡ all)
-      × ((next + count_by (is_byte end) (drop (at + 1) rest)) % length delims ≡ count)
-  next_piece some index {next} {at} rest before first next_is line_is text_is all_is count_is =
-      let len = length delims in
-      let all_of = with_replacements end (delimiter delims) in
-      let head = take at rest in
-      let more = drop (at + 1) rest in
-      let split = split_of end rest at first in
-      let free = line_before_terminator end rest at first in
-      let same : next % len ≡ (index + 1) % len = rw next_is (mod-eq_of_lt (mod-lt (index + 1) some)) in
-      let count : index + count_by (is_byte end) rest ≡ index + 1 + count_by (is_byte end) more = grind (arith, common_steps, is_byte, sum_by-append, counted, none_counted) in (
-        rw (
-          text_is,
-          line_is,
-          replaced_mod end (λ k. option_to_list (slice_index_or delims k None)) len next (index + 1)
-              same more,
-        ) (simp append_assoc)
-            ∙ ap (◌++◌ before) (sym (ap (all_of index) split
-            ∙ replaced_line end (delimiter delims) index head more free)) ∙ all_is,
-        sym (mod-add-mod next len _) ∙ ap (λ k. (k + count_by (is_byte end) more) % len) same
-            ∙ mod-add-mod (index + 1) len _ ∙ ap (λ k. k % len) (sym count) ∙ count_is,
-      )
-
   joined_begins : (number : ℕ) (xs ys : List (List ℕ)) → IsPrefix (join_with_cycle delims number xs)
       (join_with_cycle delims number (xs ++ ys))
   joined_begins number [] ys = record { rest = join_with_cycle delims number ys; is = refl }
   joined_begins number (x ∷ []) [] = record { rest = []; is = sym (append-nil x) }
   joined_begins number (x ∷ []) (y ∷ ys) = grind (arith, common_steps)
   joined_begins number (x ∷ z ∷ xs) ys = grind (arith, common_steps, joined_begins (number + 1) (z ∷ xs) ys)
+
+-- Two pieces were copied.
+pub copied_more : {format : SerialFormat} {index next last : ℕ} {xs ys before middle after : List ℕ}
+    → CopyCellsPost format index xs before next middle → CopyCellsPost format next ys middle last after
+    → CopyCellsPost format index (xs ++ ys) before last after
+copied_more {format} {index} {next} {xs = xs} {ys} {before} p q =
+    let end = format.terminator in
+    let delims = format.delims.now in
+    let len = length delims in
+    let number = index + count_by (is_byte end) xs in
+    let same : next % len ≡ number % len = rw p.later (mod-eq_of_lt (mod-lt number format.some)) in
+    let all : number + count_by (is_byte end) ys ≡ index + count_by (is_byte end) (xs ++ ys) =
+    omega (arith, sum_by-append (λ b. cond (is_byte end b) 1 0) xs ys) in
+    record {
+      is = cc (
+        p.is,
+        q.is,
+        replaced-append end (delimiter delims) index xs ys,
+        replaced_mod end (λ k. option_to_list (slice_index_or delims k None)) len next number same ys,
+        append_assoc before (with_replacements end (delimiter delims) index xs)
+            (with_replacements end (delimiter delims) number ys),
+      );
+      later = q.later ∙ ap (λ k. (k + count_by (is_byte end) ys) % len) p.later ∙ mod-add-mod number len _
+          ∙ ap (λ k. k % len) all;
+    }
+
+-- A line and its delimiter were copied.
+pub line_copied : {format : SerialFormat} (index : ℕ) {next at : ℕ} (rest before : List ℕ) {line text : List ℕ}
+    → IsFirstByte (is_byte format.terminator) rest (Some at) → next ≡ (index + 1) % length format.delims.now
+    → line ≡ before ++ take at rest → text ≡ line ++ delimiter format.delims.now index
+    → CopyCellsPost format index (take (at + 1) rest) before next text
+line_copied {format} index {next} {at} rest before first next_is line_is text_is =
+    let end = format.terminator in
+    let head = take at rest in
+    let bytes = delimiter format.delims.now index in
+    let free = line_before_terminator end rest at first in
+    let one : count_by (is_byte end) (head ++ end ∷ []) ≡ 1 = omega (
+      arith,
+      sum_by-append (λ b. cond (is_byte end b) 1 0) head (end ∷ []),
+      counted end end [] (byte_eq end),
+      none_counted end [] head free,
+    ) in
+    rw (take_with_terminator end rest at first) (record {
+      is = cc (
+        line_is,
+        text_is,
+        replaced_line end (delimiter format.delims.now) index head [] free,
+        append-nil bytes,
+        append_assoc before head bytes,
+      );
+      later = next_is ∙ ap (λ k. (index + k) % length format.delims.now) (sym one);
+    })
 
 -- A piece was copied, and at least one byte follows.
 pub copied_on : {format : SerialFormat} {index : ℕ} {bytes before : List ℕ} {next : ℕ} {after : List ℕ} (more : List ℕ)
@@ -361,25 +394,24 @@ copied_on {format} {index} {bytes} {before} {next} more some p =
     )
 
 -- The output for the received bytes begins with their complete lines.
-pub serial_is_decided : (job : Paste) (given pushed : List ℕ) (index : ℕ) (held : Bool)
-    → row_rest job.terminator job.delimiters 0 (given ++ [])
-    ≡ pushed ++ row_rest job.terminator job.delimiters index (cond held (job.terminator ∷ []) [])
+pub serial_is_decided : (job : Paste) (format now : SerialFormat) → format.terminator ≡ job.terminator
+    → format.delims.now ≡ job.delimiters → now ≡ format → (given pushed : List ℕ) (cell : ColumnPos)
+    → row_rest format.terminator format.delims.now 0 (given ++ []) ≡ pushed ++ serial_rest now cell []
     → IsPrefix (paste_serial_decided job (record { bytes = given; eof = false })) pushed
-serial_is_decided job given pushed index held on =
-    let end = job.terminator in
-    let join = join_with_cycle job.delimiters 0 in
-    let p = line_split end given in
+serial_is_decided job format now ends are same given pushed cell on =
+    let end = format.terminator in
+    let delims = format.delims.now in
     let ls = complete_lines end given in
-    let all : lines end given ≡ ls ++ lines end p.piece = ap (lines end) p.is
-    ∙ lines_of_unlines end ls p.piece p.whole in
-    let pushed_is : join (lines end given) ≡ pushed = append_cancel_right (join (lines end given)) pushed (end ∷ [])
-    (cc (append-nil given, row_end held)) in
-    let b = joined_begins end job.delimiters 0 ls (lines end p.piece) in record {
+    let text = join_with_cycle delims 0 (lines end (given ++ [])) in
+    let is : text ≡ pushed = append_cancel_right text pushed (end ∷ [])
+    (on ∙ (λ i. pushed ++ serial_rest (same i) cell []) ∙ ap (◌++◌ pushed) (row_end cell.complete)) in
+    let b = joined_begins end delims 0 ls (lines end ((line_split end given).piece ++ [])) in
+    rw (← ends, ← are) (record {
       rest = b.rest;
-      is = cc (append-nil (join ls));
-    }
+      is = cc (complete_prefix end given [], append-nil (join_with_cycle delims 0 ls));
+    })
   where
-    row_end : (t : Bool)
-        → row_rest job.terminator job.delimiters index (cond t (job.terminator ∷ []) []) ≡ job.terminator ∷ []
-    row_end true = rw (byte_eq job.terminator) refl
+    row_end : (t : Bool) → row_rest format.terminator format.delims.now cell.index
+        (cond t (format.terminator ∷ []) []) ≡ format.terminator ∷ []
+    row_end true = rw (byte_eq format.terminator) refl
     row_end false = refl

@@ -5,28 +5,23 @@
 -- since each column takes one line. Its fields, each with the byte after it, are the joined fields and the terminator.
 -- The slots hold all bytes of the store, so the total is at most the sum of the columns' bounds.
 use Rattle.ptflow.proofs
-use proofs.Common.{Bool, Err, List, None, Ok, [], ap, arith, cond, drop, false, get_or, get_or-drop, get_or-take, inl}
-use proofs.Common.{inr, length, length-append, length-drop, map, refl, set, subst, suc, sym, take, take-append-drop}
-use proofs.Common.{true, zero, ℕ, ◌*◌, ◌++◌, ◌+◌, ◌<◌, ◌==◌, ◌||◌, ◌∙◌, ◌∷◌, ◌≡◌, ◌≢◌, ◌≤◌, ◌⊎◌, cases_eq}
-use proofs.Common.{eq-eqb, ne_eqb, nat_tests, common_steps, append-nil, drop-set-lt, drop_all, ext_get_or}
-use proofs.Common.{get_or-set_other, get_or-set_same, get_or_append_left, get_or_at, get_or_default}
-use proofs.Common.{get_or_push, length-set, length-take-le, take-take, take_all}
-use proofs.Common.{sum_by-append, sum_by-cons, sum_by, top, advance_trans, lines_of_unlines}
-use proofs.Common.{unlines-append, FillReadErr, FillPost, FillLine, AdvanceOk, IsDone, IsSound, Reader, ReaderAdvance}
-use proofs.Common.{budget, no_reader, reader_at, Slots, line, total_bytes, with_line, AddedSlots, AreLines, max_length}
-use proofs.Common.{unlines, columns, join_with_cycle, rows, uses_of, SetTerminatorsPost, FillCellPost}
-use proofs.Common.{SlotsBound, SlotsKept, RowAmid, RowFailed, RowFilled, RowShape, BegunText, CellsFilled, CellsTaken}
-use proofs.Common.{after_cell, cells_text, slots_text, AreReceivedLines, LinesTaken, BufferedRowsPre, AreFirstRows}
-use proofs.Common.{RowsTaken, CopyColumnsPost, CopyRowsPost, FlowFault, Memory, Read, Write, rules}
+use proofs.Common.{slice_index_or, Bool, Err, List, None, Ok, [], ap, arith, cond, drop, false, get_or, get_or-drop}
+use proofs.Common.{get_or-take, inl, inr, length, length-append, length-drop, map, refl, set, subst, suc, sym, take}
+use proofs.Common.{take-append-drop, true, zero, ℕ, ◌*◌, ◌++◌, ◌+◌, ◌<◌, ◌==◌, ◌||◌, ◌∙◌, ◌∷◌, ◌≡◌, ◌≢◌, ◌≤◌, ◌⊎◌}
+use proofs.Common.{cases_eq, eq-eqb, ne_eqb, nat_tests, common_steps, append-nil, drop-set-lt, drop_all, ext_get_or}
+use proofs.Common.{get_or-set_other, get_or-set_same, get_or_append_left, get_or_at, get_or_default, get_or_push}
+use proofs.Common.{length-set, length-take-le, take-take, take_all, sum_by-append, sum_by-cons, sum_by, top}
+use proofs.Common.{advance_trans, lines_of_unlines, unlines-append, FillReadErr, FillPost, FillLine, AdvanceOk, IsDone}
+use proofs.Common.{IsSound, Reader, ReaderAdvance, budget, no_reader, reader_at, Slots, line, total_bytes, with_line}
+use proofs.Common.{AddedSlots, AreLines, max_length, unlines, columns, join_with_cycle, rows, uses_of}
+use proofs.Common.{SetTerminatorsPost, FillCellPost, SlotsBound, SlotsKept, RowAmid, RowFailed, RowFilled, RowShape}
+use proofs.Common.{BegunText, CellsFilled, CellsTaken, after_cell, cells_text, slots_text, AreReceivedLines, LinesTaken}
+use proofs.Common.{BufferedRowsPre, AreFirstRows, RowsTaken, CopyColumnsPost, CopyRowsPost, FlowFault, Memory, Read}
+use proofs.Common.{Write, rules}
 use proofs.Passes.Exits.{lines_none, lines_are_given, lines_more, eof_gives_nothing}
-use Rattle.std.specs.Prelude.{slice_index_or}
-use proofs.PasteLemmas.Grid.{Column, for_each_cell_unique, grid_step, grid_none, after_row, rows-append}
-use proofs.PasteLemmas.Grid.{uses_before_lt}
+use proofs.PasteLemmas.Grid.{Column, for_each_cell_unique, grid_step, grid_none, after_row, rows-append, uses_before_lt}
+use proofs.PasteLemmas.Grid.{lines_of_input, uses_more, update_here, update_there}
 use Rattle.std.proofs.Math.Bool.{or-true, or-false}
-use proofs.PasteLemmas.Grid.{lines_of_input}
-use proofs.PasteLemmas.Grid.{uses_more}
-use proofs.PasteLemmas.Grid.{update_here}
-use proofs.PasteLemmas.Grid.{update_there}
 
 AreLines-append : (end : ℕ) (xs ys : List (List ℕ)) → AreLines end xs → AreLines end ys → AreLines end (xs ++ ys)
 AreLines-append end [] ys p q = q
@@ -194,7 +189,8 @@ module _ {row : RowShape} {old new : List Reader} {fields : List (List ℕ)}
         count = r.consumed.count;
       }
 
-  pub filled_row_text : cells_text row 0 fields ≡ unlines row.terminator (map (join_with_cycle row.delims 0) (fields ∷ []))
+  pub filled_row_text : cells_text row 0 fields
+      ≡ unlines row.terminator (map (join_with_cycle row.delims 0) (fields ∷ []))
   filled_row_text = search (rules, row_text)
 
   pub row_taken : RowsTaken row old new (cells_text row 0 fields)
@@ -259,7 +255,12 @@ slots_bound_line {cells} {top} {before} {store} k column bytes within fits = rec
     size = length-set store.lines column bytes
 
     short : (c : ℕ) → c < length cells → length (get_or lines c []) ≤ top (get_or cells c 0)
-    short c low = grind (arith, k.short c low, get_or-set_same store.lines column bytes [], get_or-set_other store.lines column c bytes [])
+    short c low = grind (
+      arith,
+      k.short c low,
+      get_or-set_same store.lines column bytes [],
+      get_or-set_other store.lines column c bytes [],
+    )
 
     others : total_bytes (drop (length cells) lines) ≡ 0
     others = ap total_bytes (drop-set-lt (length cells) store.lines column bytes within) ∙ k.others

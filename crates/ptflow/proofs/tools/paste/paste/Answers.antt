@@ -1,20 +1,18 @@
 -- Each iteration takes the rows that are complete in the buffers, and finishes the next row; then the invariant holds
 -- again. If that row has no line, all readers are at the end of their inputs.
 use Rattle.ptflow.proofs
-use proofs.Common.{sym, ap, subst, arith, length, paste_job, job_shape}
-use proofs.Common.{RowShape, RowAmid, begun_in, shape_of, Write}
+use proofs.Common.{sym, ap, subst, arith, length, paste_job, job_shape, RowShape, RowAmid, begun_in, shape_of, Write}
 use proofs.Common.{length-take-le, call_on_failed_output, push_nothing}
 use Rattle.std.proofs.lemmas.Bool.{not-false, not-true}
 use proofs.PasteLemmas.Call.{by_fault, of_rows, row_job, paste_without_slots, paste_rows_write_failed, paste_done}
-use proofs.PasteLemmas.Call.{paste_shared_write_failed, paste_fill_failed, paste_row_write_failed}
-use proofs.PasteLemmas.Call.{HasStarted, invariant_starts, invariant_rows, invariant_written, invariant_sent}
-use proofs.PasteLemmas.Call.{row_slots, invariant_slots, invariant_more, now_readable}
+use proofs.PasteLemmas.Call.{paste_shared_write_failed, paste_fill_failed, paste_row_write_failed, HasStarted}
+use proofs.PasteLemmas.Call.{invariant_starts, invariant_rows, invariant_written, invariant_sent, row_slots}
+use proofs.PasteLemmas.Call.{invariant_slots, invariant_more, now_readable, RowsInvariant}
 use proofs.PasteLemmas.BufferedRows.{still_readable}
 use proofs.PasteLemmas.Rows.{amid_starts}
 use Rattle.ptflow.proofs.tools.paste.paste.Goals.{After-ensure_slots, After-fill_row, In_ok-filled}
 use Rattle.ptflow.proofs.tools.paste.paste.Given as given
 use Rattle.ptflow.proofs.tools.paste.paste.Goals as goal
-use proofs.PasteLemmas.Call.{RowsInvariant}
 
 pub returns-then-has_failed : goal.returns-then-has_failed
 returns-then-has_failed g c =

@@ -1,9 +1,8 @@
 -- The terminator that was held back comes first. Then a block is its bytes up to the last one, and the last one.
 use Rattle.ptflow.proofs
-use proofs.Common.{◌≡◌, ◌+◌, ◌-◌, ◌<◌, ◌++◌, ℕ, Bool, true, false, cond, List, [], ◌∷◌, length, take, get_or, refl}
-use proofs.Common.{sym, ◌∙◌, arith, append_assoc, take_more, take_all, take_more_set, from_bool, mod-lt, count_by}
-use proofs.Common.{is_byte, serial_rest, row_rest, Option, ◌==◌, not, set, eqb-true, take-set}
-use proofs.Common.{length-append}
+use proofs.Common.{◌≡◌, ◌+◌, ◌-◌, ◌<◌, ◌++◌, ℕ, Bool, true, false, cond, List, [], ◌∷◌, length, take, get_or, refl, ◌∙◌}
+use proofs.Common.{arith, append_assoc, take_more, take_all, take_more_set, from_bool, serial_rest, row_rest, Option}
+use proofs.Common.{◌==◌, not, set, eqb-true, take-set, length-append}
 use Rattle.std.proofs.lemmas.List.{length-take}
 use proofs.PasteLemmas.Replaced.{copied_on, row_byte}
 use Rattle.ptflow.proofs.tools.paste.serial.SerialFormat.copy_block.Goals.{After-copy_cells-end}
