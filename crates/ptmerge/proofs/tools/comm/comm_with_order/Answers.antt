@@ -21,7 +21,7 @@ steps-init g c =
       iteration = record {
         opened = w;
         whole_line_keys = c.requires.whole_line_keys;
-        loop_invariant = start_ok w (λ ls holds. holds) p.starts;
+        loop_invariant = start_ok w p.starts;
         between = between_starts (rw p.order at p.valid_cursors) p.own_reader c.requires.begins.writable;
       };
       order = refl;
