@@ -19,7 +19,7 @@ use proofs.MergeLemmas.{alone_breaks, IsAbove, reads_ahead, place_is, LoopInvari
 use proofs.MergeLemmas.{Extends, input_split_of, extends, extends_on, total_within, runs_on, n, ends_well, ends_fallen}
 use proofs.MergeLemmas.{valid_cursors_kept, wrote_and_sent, others_stay}
 use proofs.MergeLemmas.{IsLineByLine, at_current_line, IsOpenMerge as OpenMerge, ComeFirst, exit_is_merge_post}
-use proofs.MergeLemmas.{continues, none_missing, both_begun, all_keys, AtLeast, same_bound, bounds_change, IsKeyOrder}
+use proofs.MergeLemmas.{continues, both_begun, all_keys, AtLeast, same_bound, bounds_change, IsKeyOrder}
 use proofs.MergeLemmas.{same_bytes, EachKey-at, low_slot, Continues}
 use Rattle.ptmerge.specs.declared.tools.join.JoinPhase.{JoinPhase}
 use Rattle.ptmerge.specs.declared.faults.MergeFault.TheVariants as faults
@@ -314,7 +314,8 @@ module _ {job : Join} {cmp : Cmp} {key : Side → Key} {old : MergeState} {phase
         -- the pairs of the first input's current line and the group are not written yet
         pairs_are_missing : call.keeps_groups ≡ true → (all : Side → Lines)
             → ((side : Side) → Continues (with_side Second reader now.reader side) (on_second.group.ls side) (all side))
-            → ¬ (merged_entries call.tool all ≡ entries_by_key call.tool all_keys on_second.group.p ++ [])
+            → ¬ (unlines call.terminator (entries_by_key call.tool all_keys on_second.group.p ++ [])
+            ≡ unlines call.terminator (merged_entries call.tool all))
         pairs_are_missing keeps all w =
             let first : IsAtGroupLine on_second.group First =
             record { head = (a.heads First).head; is = key1_on made (λ i low. refl) } in
@@ -430,9 +431,8 @@ module _ {job : Join} {cmp : Cmp} {key : Side → Key} {old : MergeState} {phase
             clean = fine;
             left = λ four. inr (
               e.keeps,
-              λ texts agree same. pairs_are_missing e.came e.keeps (lines_of call.tool texts)
-                  (continues call.w new (group_read_facts q) texts agree)
-                  (none_missing call.w new (group_read_facts q) lag texts agree same),
+              λ texts agree. pairs_are_missing e.came e.keeps (lines_of call.tool texts)
+                  (continues call.w new (group_read_facts q) texts agree),
             );
           }))
 

@@ -331,17 +331,18 @@ module _ {tool : MergeTool} {old : MergeState} (w : IsOpenMerge tool old) {mid :
         (wanted k (self_at_most cmp o k)) in
         (rest, cc (parts is_wanted, front_is_first, is, append_assoc front extra rest))
 
-    -- the entries of lesser keys are not all, if the group has entries
-    pub front_is_not_all : HasEntries tool g d k → ¬ (merged_entries tool all ≡ front ++ [])
+    -- the text of the entries of lesser keys is not all, if the group has entries
+    pub front_is_not_all : HasEntries tool g d k
+        → ¬ (unlines terminator (front ++ []) ≡ unlines terminator (merged_entries tool all))
     front_is_not_all has same =
-        let some = has is_wanted coming (λ side. (seen side).may_follow) (wanted k (self_at_most cmp o k)) in
-        let own = entries_by_key tool is_wanted (λ side. g side ++ coming side) in
-        absurd (omega (
-          arith,
-          some,
-          ap length (sym (parts is_wanted ∙ (λ i. front_is_first i ++ own)) ∙ same ∙ append-nil front),
-          length-append front own,
-        ))
+        some_text front (entries_by_key tool is_wanted (λ side. g side ++ coming side))
+        (has is_wanted coming (λ side. (seen side).may_follow) (wanted k (self_at_most cmp o k)))
+        (rw (append-nil front, parts is_wanted, front_is_first) at same)
+      where
+        some_text : (xs ys : Lines) → 0 < length ys → ¬ (unlines terminator xs ≡ unlines terminator (xs ++ ys))
+        some_text xs [] none same = absurd (omega (arith, none))
+        some_text xs (y ∷ ys) some same =
+            absurd (omega (arith, simp (unlines-append, length-append) at (ap length same)))
 
   -- the keys of the processed lines and of the group
   passed_keys : (of side : Side) → EachKey (λ x. AtMost cmp x k) (key side) (p side ++ g side)

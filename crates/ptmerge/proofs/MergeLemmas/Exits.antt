@@ -526,12 +526,6 @@ pub both_begun : {end : ℕ} {old now new : Side → Reader} {ls : Side → Line
     → ((side : Side) → HasBegun (now side) (ls side)) → FirstReads end old now new ls piece
 both_begun begun = record { first = inl (begun First); second = inl (begun Second) }
 
--- lines without a text are none
-no_lines_left : (end : ℕ) (done rest : Lines) → unlines end done ≡ unlines end (done ++ rest) → rest ≡ []
-no_lines_left end done [] same = refl
-no_lines_left end done (x ∷ rest) same =
-    absurd (omega (arith, simp (unlines-append, length-append) at (ap length same)))
-
 -- the output for a key of one input alone is the output of each line
 pub record IsLineByLine (tool : MergeTool) : Type 0 where
   pub none : (k : List ℕ) → tool.entries k [] [] ≡ []
@@ -614,13 +608,6 @@ module _ {tool : MergeTool} {old : MergeState} (w : IsOpenMerge tool old) (new :
     come_first : (texts : Side → List ℕ) → AreAllConsistent both_sides given texts
         → (rest : Lines) × (merged_entries tool (lines_of tool texts) ≡ done ++ rest)
     come_first texts agree = lag.first _ (input_split_of (lines_of tool texts) (continues texts agree))
-
-    -- if no bytes are missing in the output, no entry is
-    pub none_missing : (texts : Side → List ℕ) → AreAllConsistent both_sides given texts
-        → unlines tool.terminator done ≡ merge_output tool texts → merged_entries tool (lines_of tool texts) ≡ done
-    none_missing texts agree same =
-        let (rest, is) = come_first texts agree in
-        cc (is, append-nil done, no_lines_left _ done rest (same ∙ ap (unlines tool.terminator) is))
 
     future : (side : Side) → LinesToCome tool side (known_lines tool.terminator (given side)) (p side) (tail side)
         (bound side)

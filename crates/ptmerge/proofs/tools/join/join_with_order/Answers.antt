@@ -144,10 +144,7 @@ steps-smaller-then-not-has_same_key g c =
     (read_group_pre c.steps.invariant.iteration c.in-ReadGroup.is).head ok.reads_line.came ok.continues
 
 pub steps-smaller-then-not-has_same_key-2 : goal.steps-smaller-then-not-has_same_key-2
-steps-smaller-then-not-has_same_key-2 g c =
-    let h = c.in_ok-write_pairs-in-WritePairs.ensures.advances in
-    measure_decreases c.steps.invariant.iteration sides.First phases.BetweenGroups
-    (write_pairs_pre c.steps.invariant.iteration c.in-WritePairs.is).status_is.head h.came h.continues
+steps-smaller-then-not-has_same_key-2 g c = search (rules, measure_decreases, write_pairs_pre)
 
 pub steps-smaller : goal.steps-smaller
 steps-smaller g c = search (rules, measure_decreases, write_pairs_pre)
