@@ -336,7 +336,7 @@ module _ {tool : MergeTool} {old : MergeState} {w : IsOpenMerge tool old} {reade
 
     pub runs_on : {out : Output} → MergeInvariant tool b (with_side s (ls s) p) old.out out
         → LoopInvariant w (state_by_side (with_side s new reader) out after) (with_side s next cursor)
-    runs_on m = record { ls = _; p = _; b = _; cursors = advance_ok; merge_invariant = goes_merging m }
+    runs_on = search (rules, advance_ok, goes_merging)
 
 -- ---- after one input advanced
 

@@ -2,7 +2,7 @@
 -- all inputs, since lesser keys are complete and the pairs of the group are written in their final order. Once both
 -- inputs are past the key, the group is complete, and counts as processed.
 use Rattle.ptmerge.proofs
-use proofs.Common.{◌≡◌, ⊎_elim, inl, ℕ, ◌+◌, ◌-◌, ◌≤◌, ◌<◌, suc, true, false, length-drop, List, [], ◌∷◌, ◌++◌, length}
+use proofs.Common.{◌≡◌, ⊎_elim, ℕ, ◌+◌, ◌-◌, ◌≤◌, ◌<◌, suc, true, false, length-drop, List, [], ◌∷◌, ◌++◌, length}
 use proofs.Common.{map, drop, get_or, set, max, refl, ap, ◌∙◌, arith, append_assoc, length-append}
 use proofs.Common.{length-set, drop_more, Slots, line, total_bytes, with_line, with_denied, unlines, max_length, Join}
 use proofs.Common.{ClearGroupPost, group, CopyToGroupPost, entry, join_fields, pair_entries, max_over_keys}
@@ -206,19 +206,16 @@ module _ {tool : MergeTool} {before store : Slots} {ls : Side → Lines} {g : Li
           }
 
       kept : CopiedLine (with_line made to y) y
-      kept =
-          let t = k.tail ++ w.more in
-          let after_four : drop 4 made.lines ≡ g ++ t = rw w.lines (cc (
-            drop-append-le 4 store.lines w.more k.four,
-            k.split,
-            append_assoc g k.tail w.more,
-          )) in
-          record {
-            store_holds = by_tail t (omega (arith, sum_by-append length k.tail w.more, k.empty, w.empty))
-                (omega (arith, within, at, ap length after_four, length-drop 4 made.lines))
-                (rw at (cc (drop-set-add 4 made.lines (length g) y, after_four)));
-            same = first_same;
-          }
+      kept = grind (
+        arith,
+        by_tail,
+        first_same,
+        drop-append-le 4 store.lines w.more k.four,
+        append_assoc g k.tail w.more,
+        drop-set-add 4 made.lines (length g) y,
+        sum_by-append length k.tail w.more,
+        length-drop 4 made.lines,
+      )
 
   pub group_store_copied : {after : Slots} {from to : ℕ} → to ≡ 4 + length g → from < 4
       → CopyToGroupPost store after from to → {y : List ℕ} → line store from ≡ y
@@ -239,23 +236,7 @@ module _ {tool : MergeTool} {before store : Slots} {ls : Side → Lines} {g : Li
   -- the group is emptied
   pub group_store_cleared : {after : Slots} {end : ℕ} → end ≡ 4 + length g → ClearGroupPost store after end
       → GroupStore tool before after ls []
-  group_store_cleared {after} at c =
-      let none : total_bytes (drop 4 after.lines) ≡ 0 = omega
-      (arith, ap total_bytes (group_is at), ap total_bytes k.split, sum_by-append length g k.tail)
-      in
-      let four : 4 ≤ length after.lines = omega arith in
-      let lines = same_lines _ _ (λ side. max_length (ls side)) (total_bytes g) 0 k.lines four
-      (λ i low. c.others i (inl low)) none in
-      record {
-        tail = drop 4 after.lines;
-        split = refl;
-        empty = none;
-        lines = lines;
-        room = λ all more. omega (arith, k.room all more);
-        fits = λ all more. omega (arith, k.fits all more, total_within tool g _ k.lines more (k.room all more));
-        four = four;
-        denied = c.denied ∙ k.denied;
-      }
+  group_store_cleared = grind (arith, common_steps, group_is, total_within, same_lines, sum_by-append)
 
 pub ruleset pair_steps = (partial_starts, pairs_text)
 

@@ -477,8 +477,7 @@ pub group_store_next : {tool : MergeTool} {before store after : Slots} {ls : Sid
     → GroupStore tool before store ls g
     → (n : SideAfterNext tool s old new next cursor.previous_slot store after (ls s) last)
     → GroupStore tool before after (with_side s n.now_ls ls) g
-group_store_next {ls = ls} s cursor slots k n = group_store_line s cursor slots n.bytes k
-    (side_extends s ls n.continues_key) (rw (put_same s n.now_ls ls) n.fits) n.stored
+group_store_next s cursor slots k n = search (rules, group_store_line, side_extends, put_same)
 
 -- ---- an exit
 
@@ -512,9 +511,7 @@ module _ {tool : MergeTool} {before store : Slots} {ls : Side → Lines} {g : Li
   -- and so does a store whose slots are emptied
   pub fits_emptied : (after : Slots) → after.peak ≤ max store.peak (total_bytes store.lines)
       → length after.lines ≡ length store.lines → Fits tool before now ls (λ side. []) after
-  fits_emptied after small same all holds =
-      let up = λ (side : Side). extends (holds side) in
-      omega (arith, k.fits all up, total_within tool g _ k.lines up (k.room all up))
+  fits_emptied = grind (arith, extends, total_within)
 
 -- The order of the first reads: the first input has begun, or the second is unread; and the second has begun, or at
 -- most one line of the first was read.

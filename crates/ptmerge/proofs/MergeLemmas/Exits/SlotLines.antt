@@ -262,16 +262,15 @@ pub extends_itself : (ls : Lines) → Extends ls ls
 extends_itself ls = record { more = []; is = sym (append-nil ls) }
 
 pub extends_on : {a b c : Lines} → Extends a b → Extends b c → Extends a c
-extends_on {a} p q = record { more = p.more ++ q.more; is = cc (p.is, q.is, append_assoc a p.more q.more) }
+extends_on = grind (arith, append_assoc)
 
 pub longer : {was now : Lines} → Extends was now → max_length was ≤ max_length now
-longer {was} e = rw e.is (omega (arith, max_length-append was e.more))
+longer = grind (arith, max_length-append)
 
 -- one input continues
 pub side_extends : (s : Side) (ls : Side → Lines) {now : Lines} → Extends (ls s) now
     → AllExtend ls (with_side s now ls)
-side_extends s ls {now} e =
-    put_each (λ side (l : Lines). Extends (ls side) l) s now ls e (λ side. extends_itself (ls side))
+side_extends = search (rules, put_each, extends_itself)
 
 -- the measure of a tool has room for two lines of each input and for the lines `g`
 abbrev pub HasRoom : MergeTool → Lines → (Side → Lines) → Type 0
@@ -306,9 +305,7 @@ store_starts = grind (arith, four_total)
 pub total_within : (tool : MergeTool) {ls all : Side → Lines} (g xs : Lines)
     → HasLines (λ side. max_length (ls side)) (total_bytes g) xs → AllExtend ls all → HasRoom tool g all
     → total_bytes xs ≤ tool.size all
-total_within tool {ls} g xs lines up room =
-    let total = has_lines_total xs (λ side. max_length (ls side)) (total_bytes g) lines in
-    omega (arith, total, room, longer (up First), longer (up Second))
+total_within = grind (arith, has_lines_total, longer)
 
 -- the next line of an input replaces its previous line
 pub group_store_line : {tool : MergeTool} {before store after : Slots} {ls now : Side → Lines} {g : Lines} (s : Side)
