@@ -6,10 +6,10 @@ use proofs.Common.{◌≡◌, ℕ, ◌<◌, List, [], ◌∷◌, ◌++◌, Ok, E
 use proofs.Common.{line, unlines, Side, First, Second, Sorted, Ended, Lines, MergeTool, entries_by_key, AdvanceOkPost}
 use proofs.Common.{AdvancePre, MergeState, MergePost, merge_state, Cmp, Key, both, with_side, HaveEqualKeys}
 use proofs.Common.{HasOnlyLeastKey, IsDisorderDecided, ClearFourSlotsPost, suc, append-nil, Bool, MergeRunPre}
-use proofs.MergeLemmas.{BetweenSteps, between_next, advance_pre, reads_less, EndsIfFails, CursorsInvariant}
+use proofs.MergeLemmas.{BetweenSteps, between_next, advance_pre, reads_less, EndsIfFails}
 use proofs.MergeLemmas.{LoopInvariant, advance_ok, goes_merging, passing_now, runs_on, read_facts_current}
 use proofs.MergeLemmas.{iteration_fails, alone, wrote_alone, alone_breaks, reads_ahead, place_is, wrote_and_sent}
-use proofs.MergeLemmas.{StoreHoldsTwoLines, holds_two, keeps_two, ends_well, ends_fallen, open_merge, IsKeyOrder}
+use proofs.MergeLemmas.{ends_well, ends_fallen, open_merge, IsKeyOrder}
 use proofs.MergeLemmas.{same_bytes, AllWritten, MergeInvariant, line_is_least_run, lag_invariant_starts}
 use proofs.MergeLemmas.{write_least_run, all_keys, at_current_line, state_by_side, IsOpenMerge, IsLineByLine}
 use Rattle.ptmerge.specs.declared.faults.MergeFault.TheVariants as faults
@@ -60,7 +60,7 @@ pub record IterationInvariant (job : Comm) (cmp : Cmp) (key : Side → Key) (old
     (one two : Sorted) : Type 0 where
   pub opened : IsOpenMerge (comm_with job cmp key) old
   pub whole_line_keys : (side : Side) (x : List ℕ) → key side x ≡ x
-  pub loop_invariant : LoopInvariant (comm_with job cmp key) (StoreHoldsTwoLines old.store) old now (both one two)
+  pub loop_invariant : LoopInvariant opened now (both one two)
   pub between : BetweenSteps key now one two
 
 -- the conditions at the start
@@ -77,15 +77,12 @@ module _ {job : Comm} {cmp : Cmp} {key : Side → Key} {old now : MergeState} {o
   open t use {
     opened as w,
     whole_line_keys,
-    loop_invariant.{ls, p, b, sides, merge_invariant, keeps},
+    loop_invariant.{ls, p, b, sides, merge_invariant, cursors as lines_before},
     between,
   }
 
   abbrev tool : MergeTool
   tool = comm_with job cmp key
-
-  lines_before : CursorsInvariant tool old now.reader (both one two) now.store ls p b
-  lines_before = record { w = w; sides = sides; holds = holds_two w.fits keeps (λ side. (sides side).slots) }
 
   abbrev head : Side → List ℕ
   head s = line now.store (both one two s).current_slot
@@ -110,7 +107,7 @@ module _ {job : Comm} {cmp : Cmp} {key : Side → Key} {old now : MergeState} {o
         opened = w;
         whole_line_keys = whole_line_keys;
         loop_invariant = rw (← place_is s one two one2 two2 h.continues.others)
-            (runs_on lines_before s step.status_is h.came (keeps_two lines_before s step.status_is h.came keeps)
+            (runs_on lines_before s step.status_is h.came
             (wrote_alone lines_before step between.clean merge_invariant wrote_line).0);
         between = between_next between s h.continues;
       }
@@ -153,7 +150,7 @@ module _ {job : Comm} {cmp : Cmp} {key : Side → Key} {old now : MergeState} {o
       wrote_pair = grind (arith, entries_of_pair)
 
       pub pair_fails : EndsIfFails tool old now First one mid
-      pair_fails = iteration_fails lines_before First step.first (wrote_both wrote_pair) refl
+      pair_fails = iteration_fails lines_before First step.first (wrote_both wrote_pair).1 refl
           (passing_now lines_before Second step.second)
 
       -- the first input advanced, and the output was written out
@@ -165,23 +162,21 @@ module _ {job : Comm} {cmp : Cmp} {key : Side → Key} {old now : MergeState} {o
         pub second_fails : EndsIfFails tool old (state_by_side (both reader (now.reader Second)) new after) Second two2
             new
         second_fails _ _ _ k =
-            let g = advance_ok lines_before First step.first h.came keeps in
-            let m = goes_merging lines_before First step.first h.came wrote_line_out in
+            let g = advance_ok lines_before First step.first h.came in
             let before = goes_merging lines_before First step.first h.came (wrote_both wrote_pair).0 in
-            iteration_fails g Second step.second (m, lag_invariant_starts before h.continues.clean written_out) refl
+            iteration_fails g Second step.second (lag_invariant_starts w.o before h.continues.clean written_out) refl
             (read_facts_current g First) _ _ _ (rw h.continues.others at k)
 
         pub pair_continues : {one3 two3 : Sorted} {reader2 : Reader} {last : Slots}
             → AdvanceOkPost key cmp Second one2 two2 one3 two3 (now.reader Second) reader2 after last new
             → IterationInvariant job cmp key old (state_by_side (both reader reader2) new last) one3 two3
         pair_continues k =
-            let g = advance_ok lines_before First step.first h.came keeps in
+            let g = advance_ok lines_before First step.first h.came in
             let came = rw h.continues.others at k.came in
-            let kept = keeps_two g Second step.second came (keeps_two lines_before First step.first h.came keeps) in
             record {
               opened = w;
               whole_line_keys = whole_line_keys;
-              loop_invariant = rw k.continues.others (runs_on g Second step.second came kept
+              loop_invariant = rw k.continues.others (runs_on g Second step.second came
                   (goes_merging lines_before First step.first h.came wrote_line_out));
               between = between_next (between_next between First h.continues) Second k.continues;
             }

@@ -6,7 +6,7 @@ use Rattle.ptmerge.proofs
 use proofs.Common.{◌≡◌, ⊎_elim, false, ℕ, List, ◌++◌, Result, Ok, Err, IsErrAnd, true, Output, PushPost, PushEffect}
 use proofs.Common.{push_trans, ◌∷◌, refl, append_assoc, arith, push_nothing, drop_more, length-drop, length-append, suc}
 use proofs.Common.{◌+◌, ◌-◌, ◌≤◌, Bool, [], Option, None, Some, length, drop, get_or, sym, ap, zero, ◌<◌, ◌==◌, cond}
-use proofs.Common.{position, IfSome, MatchOption, filter, is_some, slice_split, nat_tests, is_blank, Lines}
+use proofs.Common.{position, MatchOption, filter, is_some, slice_split, nat_tests, is_blank, Lines}
 use proofs.Common.{is_separator, entry_with_list, remaining_fields, map, remove, unwrap_or, append-nil, flat_map-append}
 use proofs.Common.{Join, output_separator, entry, join_fields, other_fields, is_single_spaced, with_prefix, ◌^◌, eqb}
 use proofs.Common.{◌≢◌, ◌*◌, not, ◌&&◌, ◌∙◌}
@@ -140,28 +140,24 @@ remaining_length (Some bytes) = suc (length bytes)
 
 -- ---- spans of fields
 
--- the rest of a line, if there is one, is a suffix of the line
-abbrev pub IsRemainderOf : Option (List ℕ) → Option (List ℕ) → Type 0
-IsRemainderOf line left = IfSome left (λ b. MatchOption line ⊥ (λ l. (front : List ℕ) × (l ≡ front ++ b)))
+-- all fields of the rest of a line are fields of the line
+abbrev pub AreFieldsOf : Option ℕ → Option (List ℕ) → Option (List ℕ) → Type 0
+AreFieldsOf separator line left = (field : List ℕ) (remainder : Option (List ℕ))
+    → IsFieldIn separator left field remainder → IsFieldIn separator line field remainder
 
--- a field of the rest of a line is a field of the line
-pub field_in : (separator : Option ℕ) (line left : Option (List ℕ)) (field : List ℕ) (remainder : Option (List ℕ))
-    → IsRemainderOf line left → IsFieldIn separator left field remainder → IsFieldIn separator line field remainder
-field_in separator line None field remainder e p = absurd p
-field_in separator None (Some b) field remainder e p = absurd e
-field_in separator (Some l) (Some b) field remainder (front, is) p =
-    record { front = front ++ p.front; tail = p.tail; is = rw (is, p.is) (simp append_assoc); ends = p.ends }
-
--- the rest after that field is a suffix of the line, too
-pub remaining_after : (separator : Option ℕ) (line left : Option (List ℕ)) (field : List ℕ)
-    (remainder : Option (List ℕ)) → IsRemainderOf line left → IsFieldIn separator left field remainder
-    → IsRemainderOf line remainder
-remaining_after separator line left field None e p = tt
-remaining_after separator line None field (Some b) e p = absurd p
-remaining_after separator None (Some l) field (Some b) e p = absurd e
-remaining_after separator (Some line) (Some l) field (Some b) (front, is) p =
+-- so it is for the rest after a field
+pub fields_after : (separator : Option ℕ) (line : Option (List ℕ)) (field : List ℕ) (remainder : Option (List ℕ))
+    → IsFieldIn separator line field remainder → AreFieldsOf separator line remainder
+fields_after separator None field remainder p f r q = absurd p
+fields_after separator (Some l) field None p f r q = absurd q
+fields_after separator (Some l) field (Some b) p f r q =
     let (end, ends, _) = p.ends in
-    (front ++ (p.front ++ (field ++ (end ∷ []))), rw (is, p.is, ends) (simp append_assoc))
+    record {
+      front = p.front ++ (field ++ end ∷ q.front);
+      tail = q.tail;
+      is = rw (p.is, ends, q.is) (simp append_assoc);
+      ends = q.ends;
+    }
 
 -- ---- the first field
 
@@ -411,7 +407,7 @@ around_is separator number line (Some span) f even =
 
 pub ruleset first_piece_steps = (split_whole, split_around, piece_at)
 
-pub ruleset remaining_steps = (none_past, drop_next, remaining_after)
+pub ruleset remaining_steps = (none_past, drop_next, fields_after)
 
 pub ruleset other_fields_steps = (around_is, between_is, push_is_write)
 
