@@ -67,8 +67,7 @@ pub record IterationInvariant (job : Comm) (cmp : Cmp) (key : Side → Key) (old
 pub opened : (job : Comm) {cmp : Cmp} {key : Side → Key} {first second : Reader} {out : Output} {store : Slots}
     → IsKeyOrder cmp → MergeRunPre job.terminator first second out store
     → IsOpenMerge (comm_with job cmp key) (merge_state first second out store)
-opened job {cmp} {key} o begins =
-    open_merge o (λ ls. (omega arith, omega arith)) (is_line_by_line job cmp key) begins
+opened job {cmp} {key} o begins = grind (arith, open_merge, is_line_by_line job cmp key)
 
 -- ---- a step
 

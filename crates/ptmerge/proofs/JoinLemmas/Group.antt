@@ -294,8 +294,7 @@ module _ {tool : MergeTool} {old : MergeState} (w : IsOpenMerge tool old) {mid :
         (λ side. rest_not_less side (coming side) (seen side).may_follow)
 
     wanted : (x : List ℕ) → AtMost cmp x k → is_up_to cmp (disorder tool all) x ≡ true
-    wanted x h = written_is_wanted cmp o _ _ _ _ x (seen First).may_disorder (seen Second).may_disorder
-        ((m.later First).under x h) ((m.later Second).under x h)
+    wanted x h = search (rules, written_is_wanted)
 
     abbrev is_wanted : List ℕ → Bool
     is_wanted = is_up_to cmp (disorder tool all)
@@ -535,18 +534,7 @@ module _ {call : JoinCall} {now : MergeState} {cursor : Side → Sorted} {end : 
   pub group_kept : {after : Slots} → ((i : ℕ) → i < 4 → line after i ≡ line now.store i)
       → {lines : Lines} → GroupStore tool old.store after q.ls lines → {to : ℕ} → to ≡ 4 + length lines
       → GroupState call (record now { store = after }) cursor to k g lines
-  group_kept same holds at =
-      record {
-        ls = q.ls;
-        p = q.p;
-        d = q.d;
-        mid = q.mid;
-        sides = same_cursors call.tool q.sides holds.four same;
-        within = q.within;
-        keeps = holds;
-        wrote = q.wrote;
-        at = at;
-      }
+  group_kept same holds at = search (rules, same_cursors)
 
   -- the input `s` is at a further line of the group
   pub record IsAtGroupLine (s : Side) : Type 0 where
