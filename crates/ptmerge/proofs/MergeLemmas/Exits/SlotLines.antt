@@ -255,6 +255,7 @@ pub record Extends (was now : Lines) : Type 0 where
   pub more : Lines
   pub is : now ≡ was ++ more
 
+-- so do the lists of both inputs
 abbrev pub AllExtend : (Side → Lines) → (Side → Lines) → Type 0
 AllExtend was now = (side : Side) → Extends (was side) (now side)
 
