@@ -641,8 +641,7 @@ pub write_least_run : {tool : MergeTool} (o : IsKeyOrder tool.cmp) (k : List ℕ
     {b : Side → Bound} {p : Side → Lines} {was is new : Output}
     → ((side : Side) → IsLeastKeyRun tool.cmp (tool.key side) (b side) k (f side))
     → ((side : Side) → q side ≡ p side ++ f side) → tool.entries k [] [] ≡ []
-    → ((r : Side → Lines) → ((side : Side) → MayFollow tool.cmp (tool.key side) (b side) (r side))
-    → tool.entries k (f First ++ lines_with_key (tool.key First) (r First) k)
+    → ((r : Side → Lines) → MayCome tool b r → tool.entries k (f First ++ lines_with_key (tool.key First) (r First) k)
     (f Second ++ lines_with_key (tool.key Second) (r Second) k) ≡ tool.entries k (f First) (f Second) ++ entries_of_key
     tool r k)
     → is.write_failed ≡ false → MergeInvariant tool b p was is
@@ -704,7 +703,7 @@ bound_changes {tool} {b} s {d} m later = bounds_change
 
 -- the merge is at its end: the disorder is the one found, if any, and no line that may follow changes the output
 abbrev pub IsExactStop : MergeTool → (Side → Bound) → Option (Side × ℕ) → Type 0
-IsExactStop tool b found = (ls r : Side → Lines) → ((s : Side) → MayFollow tool.cmp (tool.key s) (b s) (r s))
+IsExactStop tool b found = (ls r : Side → Lines) → MayCome tool b r
     → ((s : Side) → MayDisorder tool.cmp (b s) (first_disorder tool.cmp (tool.key s) (ls s)))
     → (entries_by_key tool (is_up_to tool.cmp (disorder tool ls)) r ≡ [])
     × (option_map disordered_line (disorder tool ls) ≡ found)
