@@ -31,7 +31,7 @@ use Group.*
 -- ---- the output, by lines and by pairs
 
 cond_of_empty : (t : Bool) → cond {A = Lines} t [] [] ≡ []
-cond_of_empty t = grind arith
+cond_of_empty = grind arith
 
 module _ (job : Join) (cmp : Cmp) (key : Side → Key) where
   first_alone : (k : List ℕ) (g : Lines) → join_entries job k g [] ≡ unpaired_entries1 job k g
@@ -107,7 +107,7 @@ rank phases.BetweenGroups = 1
 rank p = 0
 
 rank_few : (p : JoinPhase) → rank p ≤ 1
-rank_few p = grind arith
+rank_few = grind arith
 
 -- ---- an iteration
 
@@ -446,7 +446,7 @@ module _ {job : Join} {cmp : Cmp} {key : Side → Key} {old : MergeState} {phase
     write_pairs_pre = record { status_is = advance_pre t.between First state.head.head; joins = joins }
 
     is_kept : state.kept ≡ state.g Second → (end == 4) ≡ false
-    is_kept same = search (rules, state)
+    is_kept = search (rules, state)
 
     is_alone : state.kept ≡ [] → (end == 4) ≡ true
     is_alone none = let four : end ≡ 4 = omega (arith, state.q.at, ap length none) in grind (arith, nat_tests)

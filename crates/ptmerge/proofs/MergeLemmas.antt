@@ -342,7 +342,7 @@ module _ {tool : MergeTool} {old : MergeState} {w : IsOpenMerge tool old} {reade
 
 -- the fault of a call is returned
 pub err_is : {r : Result (Unit {0}) MergeFault} {fault : MergeFault} → IsErrAnd r (λ y. y ≡ fault) → r ≡ Err fault
-err_is {r} returned = search rules
+err_is = search rules
 
 -- the remaining work
 abbrev pub reads_ahead : (Side → Reader) → Sorted → Sorted → ℕ
@@ -368,7 +368,7 @@ between_starts valid_cursors (reader1, reader2) clean =
 
 module _ {key : Side → Key} {now : MergeState} {one two : Sorted} (t : BetweenSteps key now one two) where
   pub advance_pre : (s : Side) → (both one two s).status ≡ Head → AdvancePre key s one two (now.reader s) now.store
-  advance_pre s head = search rules
+  advance_pre = search rules
 
   -- the input `s` advanced
   module _ (s : Side) {one2 two2 : Sorted} {reader : Reader} {after : Slots} {new : Output}

@@ -126,12 +126,12 @@ module _ (tool : MergeTool) (o : IsKeyOrder tool.cmp) where
 
   none_disordered : (ls : Side → Lines) → disorder tool ls ≡ None → (side : Side)
       → first_disorder cmp (key side) (ls side) ≡ None
-  none_disordered ls e side = grind arith
+  none_disordered = grind arith
 
   -- the output for sorted lists is that of all their keys
   pub merged_in_order : (ls : Side → Lines) → disorder tool ls ≡ None
       → merged_entries tool ls ≡ entries_by_key tool all_keys ls
-  merged_in_order ls e = grind (arith, sorted_from_start, sorted_from_none, none_disordered)
+  merged_in_order = grind (arith, sorted_from_start, sorted_from_none, none_disordered)
 
   -- sorted lists whose keys pass a test, and lists whose keys, which are at least those, do not
   module _ (p : List ℕ → Bool) (down : IsDownwardClosed cmp p) (a b : Side → Lines) (in_order : disorder tool a ≡ None)
@@ -151,7 +151,7 @@ module _ (tool : MergeTool) (o : IsKeyOrder tool.cmp) where
     -- the same keys are wanted
     same_wanted : (k : List ℕ)
         → is_up_to cmp (disorder tool (λ side. a side ++ b side)) k ≡ is_up_to cmp (disorder tool b) k
-    same_wanted k = grind (arith, both_go_on First, both_go_on Second)
+    same_wanted = grind (arith, both_go_on First, both_go_on Second)
 
     -- The entries of the appended lists are those of the first lists, followed by those of the second.
     entries_together : merged_entries tool (λ side. a side ++ b side) ≡ merged_entries tool a ++ merged_entries tool b
@@ -184,10 +184,10 @@ of_parts tool o first second cut =
     ∙ unlines-append _ (merged_entries tool a) (merged_entries tool b)
 
 pub comm_of_parts : CommOfParts
-comm_of_parts job = search (rules, of_parts, line_order)
+comm_of_parts = search (rules, of_parts, line_order)
 
 pub join_of_parts : JoinOfParts
-join_of_parts job = search (rules, of_parts, line_order)
+join_of_parts = search (rules, of_parts, line_order)
 
 -- ---- permutations
 
@@ -269,7 +269,7 @@ split_by_key tool o inputs part_of parts in_order below = simp (whole, of_part)
         ∙ lines_of_each tool.terminator (entries_of_key tool ls) (filter all_keys ds) []
 
 pub comm_of_keys : CommByKey
-comm_of_keys job = search (rules, split_by_key, line_order)
+comm_of_keys = search (rules, split_by_key, line_order)
 
 pub join_of_keys : JoinByKey
-join_of_keys job = search (rules, split_by_key, line_order)
+join_of_keys = search (rules, split_by_key, line_order)

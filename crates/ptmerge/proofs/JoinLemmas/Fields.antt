@@ -55,7 +55,7 @@ then_pushes clean p q = search (rules, wrote_then)
 -- a push is a write of its bytes
 pub push_is_write : {E : Type 0} {a b : Output} {xs : List ℕ} {r : Result (Unit {0}) E} → PushPost a b xs r
     → WriteBytesPost a b xs r
-push_is_write p = search rules
+push_is_write = search rules
 
 -- the fault of a push is the fault of the call
 pub push_fails : {E : Type 0} {a b : Output} {xs : List ℕ} {r : Result (Unit {0}) E} (P : E → Type 0) → IsErrAnd r P
@@ -71,7 +71,7 @@ pub record PartialWrite (was is : Output) (all left : List ℕ) : Type 0 where
   pub clean : was.write_failed ≡ false → is.write_failed ≡ false
 
 pub partial_starts : {was : Output} {all left : List ℕ} → all ≡ left → PartialWrite was was all left
-partial_starts {was} is = search (rules, push_nothing)
+partial_starts = search (rules, push_nothing)
 
 -- the first call succeeded
 pub partial_first : {was is : Output} {all bytes left : List ℕ} → all ≡ bytes ++ left → PushEffect was is bytes
@@ -83,7 +83,7 @@ module _ {E : Type 0} {r : Result (Unit {0}) E} (P : E → Type 0) (err_is : IsE
     {was new : Output} {all bytes : List ℕ} (left : List ℕ) where
   pub first_fails : all ≡ bytes ++ left → PushEffect was new bytes → new.write_failed ≡ true
       → WriteBytesPost was new all r
-  first_fails split wrote fault = grind (arith, push_is_write, push_fails, push_past_failure)
+  first_fails = grind (arith, push_is_write, push_fails, push_past_failure)
 
   pub partial_fails : {is : Output} {now : List ℕ} → now ≡ bytes ++ left → PartialWrite was is all now
       → PushEffect is new bytes → new.write_failed ≡ true → WriteBytesPost was new all r
@@ -213,7 +213,7 @@ join_is_prefixed byte f (g ∷ fs) = cc (join_is_prefixed byte g fs)
 
 pub others_more : (count i : ℕ) {fs more : Lines} {f : List ℕ} → i < count → fs ≡ f ∷ more
     → remove fs (count - i) ≡ f ∷ remove more (count - (i + 1))
-others_more count i low is = search rules
+others_more = search rules
 
 pub others_rest : (n : ℕ) {fs more : Lines} {f : List ℕ} → n ≡ 0 → fs ≡ f ∷ more → remove fs n ≡ more
 others_rest n last is = rw (is, last) refl
@@ -226,7 +226,7 @@ pub entry_plain : (job : Join) (k : List ℕ) (one two : Option (List ℕ)) → 
 entry_plain = grind (arith, join_is_prefixed, flat_map-append)
 
 pub between_is : (separator : Option ℕ) → output_separator separator ≡ unwrap_or separator 32
-between_is separator = grind arith
+between_is = grind arith
 
 -- the first item of a list, and then each other item after a separator
 pub first_then_rest : (f : OutField → List ℕ) (items : List OutField) (d : OutField) → 1 ≤ length items
@@ -427,7 +427,7 @@ abbrev bit : Bool → ℕ
 bit b = cond b 1 0
 
 halves : (b : Bool) (x : ℕ) → ((bit b + 2 * x) / 2 ≡ x) × ((bit b + 2 * x) % 2 ≡ bit b)
-halves b x = grind arith
+halves = grind arith
 
 or_bits : (b c : Bool) (x y : ℕ) → bit_or (bit b + 2 * x) (bit c + 2 * y) ≡ bit (b || c) + 2 * bit_or x y
 or_bits b c x y = grind (arith, halves b x, halves c y, or_step (bit b + 2 * x) (bit c + 2 * y))
@@ -497,7 +497,7 @@ single_spaces_is any before bytes low few is =
     rw (or_even any before low, and_low any (any * 2 + before) small, sum, is) (no_misplaced (before == 1) bytes)
   where
     of_bit : (before : ℕ) → before ≤ 1 → bit (before == 1) ≡ before
-    of_bit before low = grind (arith, nat_tests)
+    of_bit = grind (arith, nat_tests)
 
     or_even : (any before : ℕ) → before ≤ 1 → bit_or (any * 2 % 2 ^ 64) before ≡ (any * 2 + before) % 2 ^ 64
     or_even any before low =
@@ -509,7 +509,7 @@ single_spaces_is any before bytes low few is =
     and_low x y low = grind (arith, and_le_l x y, and_mod x y 64)
 
 power_fits : (v : List ℕ) → length v < 64 → 1 * 2 ^ length v % 2 ^ 64 ≡ 1 * 2 ^ length v
-power_fits v short = search (rules, mod-eq_of_lt, pow-lt)
+power_fits = search (rules, mod-eq_of_lt, pow-lt)
 
 -- a line that ends after these bytes, as if a space followed it
 pub with_end : (bytes : List ℕ) (any tabs : ℕ) → length bytes < 64 → any ≡ mask_l (map is_blank bytes)
@@ -567,10 +567,10 @@ chunk_spaced blank bytes at room =
     rw (← spaced_append, ← drop-drop 64 at bytes, take-append-drop 64 (drop at bytes)) refl
 
 pub bit_is : (b : Bool) → (bit b == 1) ≡ b
-bit_is b = grind arith
+bit_is = grind arith
 
 pub bit_low : (b : Bool) → bit b ≤ 1
-bit_low b = grind arith
+bit_low = grind arith
 
 -- ---- the words of a line
 
@@ -738,7 +738,7 @@ pub record WordsLeft (line : List ℕ) (passed words : ℕ) : Type 0 where
 
 pub words_start : (line : List ℕ) (any : ℕ) → length line < 64 → any ≡ mask_l (map is_blank line)
     → WordsLeft line 0 (1 * 2 ^ length line % 2 ^ 64 - 1 - any)
-words_start line any short is = grind (arith, power_fits, word_mask)
+words_start = grind (arith, power_fits, word_mask)
 
 pub any_fits : (line : List ℕ) (any : ℕ) → length line < 64 → any ≡ mask_l (map is_blank line)
     → any ≤ 1 * 2 ^ length line % 2 ^ 64 - 1
@@ -756,7 +756,7 @@ module _ {line : List ℕ} {passed words : ℕ} (short : length line < 64) (left
 
   -- no words are left
   pub none_left : (number : ℕ) → words ≡ 0 → passed ≤ number - 1 → drop (number - 1) (join_fields None line) ≡ []
-  none_left number none le = grind (arith, none_past, no_words)
+  none_left = grind (arith, none_past, no_words)
 
   module _ (some : words ≢ 0) where
     some_bits : 0 < mask_l bits

@@ -64,12 +64,12 @@ pair_of job k first second = entry job k (join_fields job.separator first) (join
 
 pub pairs_text : (job : Join) (end : ℕ) (x k : List ℕ) (g : Lines) → job.pairs ≡ true
     → unlines end (pair_entries job k (x ∷ []) g) ≡ unlines end (map (pair_of job k x) g)
-pairs_text job end x k g asked = search (rules, pair_of)
+pairs_text = search (rules, pair_of)
 
 -- ---- emptying the group
 
 pub clears_none : (s : Slots) → ClearGroupPost s s 4
-clears_none s = grind arith
+clears_none = grind arith
 
 pub clears_more : (a s t : Slots) (slot : ℕ) → 4 ≤ slot → slot < length a.lines → ClearGroupPost a s slot
     → t ≡ with_line s slot [] → ClearGroupPost a t (slot + 1)
@@ -231,7 +231,7 @@ module _ {tool : MergeTool} {before store : Slots} {ls : Side → Lines} {g : Li
   group_is at = rw k.split (take_at g k.tail _ (omega (arith, at)))
 
   pub end_within : {end : ℕ} → end ≡ 4 + length g → end ≤ length store.lines
-  end_within at = grind (arith, length-append)
+  end_within = grind (arith, length-append)
 
   -- the group is emptied
   pub group_store_cleared : {after : Slots} {end : ℕ} → end ≡ 4 + length g → ClearGroupPost store after end
@@ -294,8 +294,7 @@ module _ {tool : MergeTool} {old : MergeState} (w : IsOpenMerge tool old) {mid :
         (λ side. rest_not_less side (coming side) (seen side).may_follow)
 
     wanted : (x : List ℕ) → AtMost cmp x k → is_up_to cmp (disorder tool all) x ≡ true
-    wanted x h = written_is_wanted cmp o _ _ _ _ x (seen First).may_disorder (seen Second).may_disorder
-        ((m.later First).under x h) ((m.later Second).under x h)
+    wanted = search (rules, written_is_wanted)
 
     abbrev is_wanted : List ℕ → Bool
     is_wanted = is_up_to cmp (disorder tool all)
@@ -535,18 +534,7 @@ module _ {call : JoinCall} {now : MergeState} {cursor : Side → Sorted} {end : 
   pub group_kept : {after : Slots} → ((i : ℕ) → i < 4 → line after i ≡ line now.store i)
       → {lines : Lines} → GroupStore tool old.store after q.ls lines → {to : ℕ} → to ≡ 4 + length lines
       → GroupState call (record now { store = after }) cursor to k g lines
-  group_kept same holds at =
-      record {
-        ls = q.ls;
-        p = q.p;
-        d = q.d;
-        mid = q.mid;
-        sides = same_cursors call.tool q.sides holds.four same;
-        within = q.within;
-        keeps = holds;
-        wrote = q.wrote;
-        at = at;
-      }
+  group_kept same holds at = search (rules, same_cursors)
 
   -- the input `s` is at a further line of the group
   pub record IsAtGroupLine (s : Side) : Type 0 where

@@ -37,11 +37,11 @@ abbrev pub Above : Cmp → List ℕ → List ℕ → Type 0
 Above cmp k y = cmp y k ≡ Greater
 
 pub is_greater : (r : Ordering) → is_gt r ≡ true → r ≡ Greater
-is_greater r h = grind arith
+is_greater = grind arith
 
 -- equal keys have the same bytes
 pub same_bytes : {a b : List ℕ} → a ≡ b → bytes_eq a b ≡ true
-same_bytes {a} {b} e = search rules
+same_bytes = search rules
 
 pub not_same : (a b : List ℕ) → (a ≡ b → ⊥) → bytes_eq a b ≡ false
 not_same a b n = grind (arith, bytes_decides a b)
@@ -57,10 +57,10 @@ module _ (cmp : Cmp) (o : IsKeyOrder cmp) where
   at_most_trans a b c p q = upto o.total a b c p q
 
   pub greater_flips : (a b : List ℕ) → cmp a b ≡ Greater → cmp b a ≡ Less
-  greater_flips a b g = search rules
+  greater_flips = search rules
 
   pub less_flips : (a b : List ℕ) → cmp a b ≡ Less → cmp b a ≡ Greater
-  less_flips a b l = search rules
+  less_flips = search rules
 
   pub above_at_most : (k y : List ℕ) → cmp y k ≡ Greater → AtMost cmp k y
   above_at_most k y g = ap is_gt (greater_flips y k g)
@@ -71,18 +71,18 @@ module _ (cmp : Cmp) (o : IsKeyOrder cmp) where
   -- k equals y, or is less
   pub least_or_above : (k y : List ℕ) → AtMost cmp k y
       → ((bytes_eq y k ≡ true) × (y ≡ k)) ⊎ ((bytes_eq y k ≡ false) × (cmp y k ≡ Greater))
-  least_or_above k y h = search (rules, less_flips, above_not_same, same_bytes)
+  least_or_above = search (rules, less_flips, above_not_same, same_bytes)
 
   -- a ≤ b < c
   pub above_trans : (a b c : List ℕ) → AtMost cmp a b → cmp c b ≡ Greater → cmp c a ≡ Greater
-  above_trans a b c p g = search (rules, least_or_above, greater_flips, less_flips)
+  above_trans = search (rules, least_or_above, greater_flips, less_flips)
 
   -- a < b ≤ c
   pub above_up : (a b c : List ℕ) → cmp b a ≡ Greater → AtMost cmp b c → cmp c a ≡ Greater
-  above_up a b c g p = search (rules, least_or_above, greater_flips, less_flips)
+  above_up = search (rules, least_or_above, greater_flips, less_flips)
 
   pub at_most_is_le : (a b : List ℕ) → AtMost cmp a b → is_le (cmp a b) ≡ true
-  at_most_is_le a b h = grind arith
+  at_most_is_le = grind arith
 
 -- both orders of lines satisfy the laws
 pub line_order : (descending : Bool) → IsKeyOrder (line_cmp descending)
@@ -127,7 +127,7 @@ Each-parts P (x ∷ xs) ys (here, more) = search (rules, Each-parts P xs ys more
 
 pub EachKey-append : (P : List ℕ → Type 0) (key : Key) (xs ys : Lines) → EachKey P key xs → EachKey P key ys
     → EachKey P key (xs ++ ys)
-EachKey-append P key xs ys e h = grind (arith, common_steps)
+EachKey-append = grind (arith, common_steps)
 
 pub Each-insert : (cmp : Cmp) (P : List ℕ → Type 0) (k : List ℕ) (xs : Lines) → P k → Each P xs
     → Each P (insert_key cmp k xs)
@@ -283,7 +283,7 @@ IsUnder cmp (AfterDisorder d) k = AtMost cmp k d.last_key
 IsUnder cmp NothingMore k = Unit {0}
 
 pub may_follow_none : (cmp : Cmp) (key : Key) (b : Bound) → MayFollow cmp key b []
-may_follow_none cmp key b = grind arith
+may_follow_none = grind arith
 
 -- `d` is a later bound than `b`: no more lines may follow, and no fewer keys are at most theirs
 pub record IsLater (cmp : Cmp) (key : Key) (b d : Bound) : Type 0 where
@@ -457,11 +457,11 @@ module _ (tool : MergeTool) where
 
   pub all_wanted : (w : List ℕ → Bool) (p : Side → Lines) → ((side : Side)
       → EachKey (λ k. w k ≡ true) (key side) (p side)) → entries_by_key tool w p ≡ entries_by_key tool all_keys p
-  all_wanted w p e = grind (arith, filter_all, Each-distinct, Each-append, Each-all)
+  all_wanted = grind (arith, filter_all, Each-distinct, Each-append, Each-all)
 
   pub none_wanted : (w : List ℕ → Bool) (r : Side → Lines) → ((side : Side)
       → EachKey (λ k. w k ≡ false) (key side) (r side)) → entries_by_key tool w r ≡ []
-  none_wanted w r e = grind (arith, filter_none, Each-distinct, Each-append)
+  none_wanted = grind (arith, filter_none, Each-distinct, Each-append)
 
   -- the entries of the keys that pass the test come first
   pub downward_splits : IsKeyOrder cmp → (w p : List ℕ → Bool) → IsDownwardClosed cmp p → (ls : Side → Lines)
@@ -553,7 +553,7 @@ pub record MergeInvariant (tool : MergeTool) (b : Side → Bound) (p : Side → 
 -- before anything is read
 pub merge_invariant_starts : (tool : MergeTool) (was : Output)
     → MergeInvariant tool (λ side. NoBound) (λ side. []) was was
-merge_invariant_starts tool was = search (rules, push_nothing)
+merge_invariant_starts = search (rules, push_nothing)
 
 pub both_under : (key : Key) (P Q R : List ℕ → Type 0) → ((k : List ℕ) → P k → Q k → R k) → (xs : Lines)
     → EachKey P key xs → EachKey Q key xs → EachKey R key xs
@@ -641,8 +641,7 @@ pub write_least_run : {tool : MergeTool} (o : IsKeyOrder tool.cmp) (k : List ℕ
     {b : Side → Bound} {p : Side → Lines} {was is new : Output}
     → ((side : Side) → IsLeastKeyRun tool.cmp (tool.key side) (b side) k (f side))
     → ((side : Side) → q side ≡ p side ++ f side) → tool.entries k [] [] ≡ []
-    → ((r : Side → Lines) → ((side : Side) → MayFollow tool.cmp (tool.key side) (b side) (r side))
-    → tool.entries k (f First ++ lines_with_key (tool.key First) (r First) k)
+    → ((r : Side → Lines) → MayCome tool b r → tool.entries k (f First ++ lines_with_key (tool.key First) (r First) k)
     (f Second ++ lines_with_key (tool.key Second) (r Second) k) ≡ tool.entries k (f First) (f Second) ++ entries_of_key
     tool r k)
     → is.write_failed ≡ false → MergeInvariant tool b p was is
@@ -704,7 +703,7 @@ bound_changes {tool} {b} s {d} m later = bounds_change
 
 -- the merge is at its end: the disorder is the one found, if any, and no line that may follow changes the output
 abbrev pub IsExactStop : MergeTool → (Side → Bound) → Option (Side × ℕ) → Type 0
-IsExactStop tool b found = (ls r : Side → Lines) → ((s : Side) → MayFollow tool.cmp (tool.key s) (b s) (r s))
+IsExactStop tool b found = (ls r : Side → Lines) → MayCome tool b r
     → ((s : Side) → MayDisorder tool.cmp (b s) (first_disorder tool.cmp (tool.key s) (ls s)))
     → (entries_by_key tool (is_up_to tool.cmp (disorder tool ls)) r ≡ [])
     × (option_map disordered_line (disorder tool ls) ≡ found)
@@ -754,7 +753,7 @@ module _ (tool : MergeTool) (o : IsKeyOrder tool.cmp) (eof : Side → Bool) (ls 
   open tool use {cmp}
 
   pub downward_decided : IsDownwardClosed cmp (is_decided tool eof ls)
-  downward_decided a b g h = search (rules, all_three, downward_up_to, downward_past)
+  downward_decided = search (rules, all_three, downward_up_to, downward_past)
 
   -- no key is decided unless it is past in this input
   pub not_decided : (side : Side) (k : List ℕ) → is_past cmp (tool.key side) (eof side) (ls side) k ≡ false

@@ -157,7 +157,7 @@ module _ {end : ℕ} {old now new : Reader} {ls : List (List ℕ)} {piece : List
 
   -- at most one line was read, or a part of it
   pub one_line_and_block : IsSound new → length ls + length (lines end piece) ≤ 1 → IsFirstLineAndBlock end came
-  one_line_and_block sound few = search (rules, lines_of_unlines, length-append, done_gives_nothing)
+  one_line_and_block = search (rules, lines_of_unlines, length-append, done_gives_nothing)
 
 -- ---- a function of the side
 
@@ -174,25 +174,25 @@ module _ {X : Type 0} (P : Side → X → Type 0) where
   -- one function of the side, changed at one side
   pub put_each : (s : Side) (x : X) (f : Side → X) → P s x → ((side : Side) → P side (f side)) → (side : Side)
       → P side (with_side s x f side)
-  put_each s x f p q = search (rules, put_both)
+  put_each = search (rules, put_both)
 
 pub put_same : {X : Type 0} (s : Side) (x : X) (f : Side → X) → with_side s x f s ≡ x
-put_same s x f = grind arith
+put_same = grind arith
 
 pub put_other : {X : Type 0} (s : Side) (x : X) (f : Side → X) → with_side s x f (other s) ≡ f (other s)
-put_other s x f = grind arith
+put_other = grind arith
 
 -- a side that is changed as an input
 pub with_side_is : {X : Type 0} (s : Side) (x : X) (f : Side → X) (side : Side)
     → with_side s x f side ≡ with_input both_sides s x f side
-with_side_is s x f side = grind arith
+with_side_is = grind arith
 
 pub with_own : {X : Type 0} (s : Side) (f : Side → X) (side : Side) → with_input both_sides s (f s) f side ≡ f side
-with_own s f side = grind (arith, with_side_is, put_each)
+with_own = grind (arith, with_side_is, put_each)
 
 -- a property of one side and of the other
 pub side_case : (Q : Side → Type 0) (s : Side) → Q s → Q (other s) → (side : Side) → Q side
-side_case Q s p q = grind (arith, put_both)
+side_case = grind (arith, put_both)
 
 -- ---- the slots
 
@@ -208,10 +208,10 @@ low_slot = grind arith
 -- the slots of the two inputs are distinct
 pub slots_apart : (s : Side) (a c : Sorted) → HasSlots s a → HasSlots (other s) c
     → (a.previous_slot ≢ c.current_slot) × (a.previous_slot ≢ c.previous_slot)
-slots_apart s a c x y = grind arith
+slots_apart = grind arith
 
 pub line_other : (s : Slots) (a b : ℕ) (bytes : List ℕ) → a ≢ b → line (with_line s a bytes) b ≡ line s b
-line_other s a b bytes n = search rules
+line_other = search rules
 
 added_same : (xs : List (List ℕ)) (i : ℕ) → get_or (xs ++ [] ∷ []) i [] ≡ get_or xs i []
 added_same [] i = grind arith
@@ -255,6 +255,7 @@ pub record Extends (was now : Lines) : Type 0 where
   pub more : Lines
   pub is : now ≡ was ++ more
 
+-- so do the lists of both inputs
 abbrev pub AllExtend : (Side → Lines) → (Side → Lines) → Type 0
 AllExtend was now = (side : Side) → Extends (was side) (now side)
 
