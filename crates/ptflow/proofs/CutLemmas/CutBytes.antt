@@ -7,7 +7,7 @@ use proofs.Common.{IsFirstByte, is_byte, unlines, lines, IsLine, complete_lines,
 use proofs.Common.{unlines-append, line_before_terminator, select_from, cut_line, cut, cut_decided, cut_lines_from}
 use proofs.Common.{cut_bytes_from, cut_list_from, IsPrefix, Cut, Interval, ExtendsCut, CutPost, selected_bytes}
 use proofs.Common.{is_selected, drop-drop, zero, suc, ◌<◌, true, cond, set, ◌&&◌, get_or, length-append, sym}
-use proofs.Common.{◌∙◌, w8, All, nat_le, range_with_len, list_all, nat_tests, take-add, pick_l, Each1}
+use proofs.Common.{◌∙◌, w8, All, nat_le, range_with_len, list_all, nat_tests, take-add, Each1}
 use proofs.Common.{Each1-from_get_or, swz_l, pick_l-range_with_len, take-map, take-take, take-append-le, take_all}
 use proofs.Common.{length-take-le, append-nil, All-set, length-range_with_len, cases_eq, put_chunk, length-drop}
 use proofs.Common.{length-swz_l, take_more_set, min, drop_all, drop_more, AreSeparated, and_right}
@@ -80,15 +80,14 @@ select_slice r n [] (suc i) j is js = sym (take-nil (j - suc i))
 select_slice r n (x ∷ xs) i zero is js = grind (arith, select_past)
 select_slice r n (x ∷ xs) zero (suc j) is js =
     grind (arith, common_steps, select_slice r (n + 1) xs zero j (omega arith) (omega arith), inside)
-select_slice r n (x ∷ xs) (suc i) (suc j) is js =
-    grind (arith, select_slice r (n + 1) xs i j (omega arith) (omega arith), below)
+select_slice r n (x ∷ xs) (suc i) (suc j) is js = grind (arith, select_slice r (n + 1) xs i j, below)
 
 -- the rest of the first bytes from an index on
 pub rest_of : (from to : ℕ) (bytes : List ℕ) → drop from (take to bytes) ≡ take (to - from) (drop from bytes)
 rest_of zero to bytes = let whole : to - 0 ≡ to = omega arith in cc
 rest_of (suc n) zero bytes = let none : 0 - suc n ≡ 0 = omega arith in cc
 rest_of (suc n) (suc to) [] = sym (take-nil (suc to - suc n))
-rest_of (suc n) (suc to) (b ∷ bytes) = let less : suc to - suc n ≡ to - n = omega arith in cc (rest_of n to bytes)
+rest_of (suc n) (suc to) (b ∷ bytes) = grind (arith, common_steps, rest_of n to bytes)
 
 -- a slice of the bytes that is in the piece at their start
 slice_is : (r : Interval) (before count : ℕ) (bytes : List ℕ) → count ≤ length bytes → r.last < before + count
@@ -106,12 +105,7 @@ drop_min (suc i) (x ∷ xs) = let least : min (suc i) (suc (length xs))
 rest_is : (r : Interval) (before count : ℕ) (bytes : List ℕ) → count ≤ length bytes → before + count ≤ r.last
     → let from = min (r.first - (before + 1)) count in
     take (count - from) (drop from bytes) ≡ select_from (is_within r) (before + 1) (take count bytes)
-rest_is r before count bytes within reaches =
-    let i = r.first - (before + 1) in
-    let long : length (take count bytes) ≡ count = length-take-le count bytes within in
-    let piece : select_from (is_within r) (before + 1) (take count bytes) ≡ drop i (take count bytes) =
-    grind (arith, common_steps, select_slice, long) in
-    cc (piece, drop_min i (take count bytes), rest_of (min i count) count bytes)
+rest_is r before count bytes within reaches = grind (arith, common_steps, select_slice, drop_min, rest_of)
 
 -- The invariant of `copy_selected`: the selected bytes of the intervals so far were copied, and the others select the
 -- rest of the piece. The copied bytes are no longer than the part of the piece that the intervals so far cover.
@@ -334,9 +328,7 @@ module _ (selected : ℕ → Bool) where
   -- the selected indices of a line begin with those of a shorter one
   picked_parts : (n m : ℕ) → selected_indices selected (n + m) ≡ selected_indices selected n
       ++ select_from selected (1 + n) (range_with_len n m)
-  picked_parts n m =
-      let here : 0 + n ≡ n = omega arith in
-      cc (range_parts 0 n m, select_append 1 (range_with_len 0 n) (range_with_len n m), length-range_with_len 0 n)
+  picked_parts n m = grind (arith, common_steps, range_parts, select_append, length-range_with_len)
 
   few_indices : (n : ℕ) → length (selected_indices selected n) ≤ n
   few_indices n = omega (arith, few_selected 1 (range_with_len 0 n), length-range_with_len 0 n)
@@ -354,7 +346,7 @@ module _ (selected : ℕ → Bool) where
 
   one_index : (index : ℕ) → selected_indices selected (index + 1) ≡ selected_indices selected index
       ++ cond (selected (index + 1)) (index ∷ []) []
-  one_index index = let next : 1 + index ≡ index + 1 = omega arith in cc (picked_parts index 1, next)
+  one_index index = grind (arith, common_steps, picked_parts)
 
   pub shuffle_next : {index count : ℕ} {row counts after : List ℕ} {one : ℕ} → index < 16
       → PickBegun index count row counts → one ≡ bool_byte (selected (index + 1))
@@ -393,15 +385,16 @@ module _ (selected : ℕ → Bool) where
     pub pick_line : {count : ℕ} (v : List ℕ) → count ≤ 16 → length v ≡ 16
         → take (get_or piece.counts count 0) (swz_l w8 16 v 0 piece.row) ≡ select_from selected 1 (take count v)
     pick_line {count} v short long =
-        let indices = selected_indices selected count in
-        let n = length indices in
-        ap (λ k. take k (swz_l w8 16 v 0 piece.row)) (is.counts count short)
-        ∙ ap (take n)
-        (shuffle_result v 0 piece.row (omega arith)
-        (Each1-from_get_or (λ index. index < 16) piece.row 0 (λ i low. is.lanes i 0 low)))
-        ∙ take-map (λ k. get_or v k 0) n piece.row ∙ ap (pick_l 0 v) (prefix_indices short)
-        ∙ map_select (λ k. get_or v k 0) 1 (range_with_len 0 count)
-        ∙ ap (select_from selected 1) (pick_l-range_with_len 0 v 0 count (omega (arith, short, long)))
+        let lanes = Each1-from_get_or (λ index. index < 16) piece.row 0 (λ i low. is.lanes i 0 low) in
+        grind (
+          arith,
+          common_steps,
+          shuffle_result,
+          take-map,
+          prefix_indices,
+          map_select,
+          pick_l-range_with_len,
+        )
 
     pub shuffle_few : (count : ℕ) → count ≤ 16 → get_or piece.counts count 0 ≤ count
     shuffle_few count short = omega (arith, is.counts count short, few_indices count)
@@ -421,9 +414,7 @@ none_after (r ∷ rs) {limit} {index} all later = grind (arith, common_steps, an
 select_later : (selected : ℕ → Bool) (start n : ℕ) (xs : List ℕ)
     → select_from (selected_after selected start) n xs ≡ select_from selected (start + n) xs
 select_later selected start n [] = refl
-select_later selected start n (x ∷ xs) =
-    let next : start + (n + 1) ≡ start + n + 1 = omega arith in
-    cc (select_later selected start (n + 1) xs, next)
+select_later selected start n (x ∷ xs) = grind (arith, common_steps, select_later selected start (n + 1) xs)
 
 -- the selected bytes of the next piece are stored after those of the bytes before
 pub piece_copied : (selected : ℕ → Bool) (start m at : ℕ) (bytes was into : List ℕ) {piece : PieceShuffle} {size : ℕ}

@@ -98,7 +98,7 @@ module _ (cursor : FieldCursor) (none : cursor.passed ≡ 0) where
   -- all selected fields of a line are left, by the list of a job
   pub selected_remaining : (job : Cut) {d : ℕ} (line : List ℕ) → d ≡ job.delimiter
       → is_selected cursor.left.now ≡ job.selected → cut_fields job line ≡ output_from_cursor d line cursor
-  selected_remaining job {d} line same selected = rw (none, selected, same) (join_prefixed job.delimiter _)
+  selected_remaining job {d} line same selected = grind (arith, common_steps, join_prefixed)
 
 module _ (d : ℕ) (line : List ℕ) (cursor : FieldCursor) where
   abbrev all : List Interval
@@ -279,7 +279,7 @@ output_is_near start end was now out part rest copied room place =
 
 pub none_of : (d : ℕ) (line : List ℕ) → IsLine d line → list_any (λ b. b == d) line ≡ false
 none_of d [] free = refl
-none_of d (b ∷ line) free = rw (byte_ne d b free.0) (none_of d line free.1)
+none_of d (b ∷ line) free = grind (arith, none_of d line, byte_ne)
 
 -- the delimiter is in a line, by a search
 pub found : (d : ℕ) (line : List ℕ) (r : Option ℕ) → IsFirstByte (is_byte d) line r
@@ -290,10 +290,10 @@ found d line (Some at) first = grind (arith, common_steps, list_any_at)
 -- the output for a line that is cut by fields
 module _ (job : Cut) (by_fields : job.fields ≡ true) (line : List ℕ) where
   pub of_fields : list_any (is_field_delimiter job) line ≡ true → cut_line job line ≡ cut_fields job line ∷ []
-  of_fields some = rw (by_fields, some) refl
+  of_fields some = grind arith
 
   pub of_line : list_any (is_field_delimiter job) line ≡ false → job.only ≡ false → cut_line job line ≡ line ∷ []
-  of_line none keeps = rw (by_fields, none, keeps) refl
+  of_line none keeps = grind arith
 
   pub of_none : list_any (is_field_delimiter job) line ≡ false → job.only ≡ true → cut_line job line ≡ []
   of_none none only = rw (by_fields, none, only) refl

@@ -29,7 +29,7 @@ pub use Rattle.std.proofs.lemmas.List.{map-id}
 sel_map : (p : ℕ → Bool) (f g : ℕ → ℕ) (v : List ℕ)
     → sel_l (map p v) (map f v) (map g v) ≡ map (λ b. cond (p b) (f b) (g b)) v
 sel_map p f g [] = refl
-sel_map p f g (x ∷ xs) = ap (◌∷◌ (cond (p x) (f x) (g x))) (sel_map p f g xs)
+sel_map p f g (x ∷ xs) = grind (arith, sel_map p f g xs)
 
 pub sel_maps : (p : ℕ → Bool) (f g : ℕ → ℕ) (v : List ℕ) {ms : List Bool} {xs ys : List ℕ} → ms ≡ map p v → xs ≡ map f v
     → ys ≡ map g v → sel_l ms xs ys ≡ map (λ b. cond (p b) (f b) (g b)) v
@@ -65,8 +65,7 @@ bytes_same f g same (b ∷ v) (first, others) = λ i. same b first.fits i ∷ by
 pub filter_same : (p q : ℕ → Bool) → ((b : ℕ) → b < 256 → p b ≡ q b) → (v : List ℕ) → Each1 (Fits w8) v
     → filter p v ≡ filter q v
 filter_same p q same [] fit = refl
-filter_same p q same (b ∷ v) (first, others) =
-    λ i. cond (same b first.fits i) (b ∷ filter_same p q same v others i) (filter_same p q same v others i)
+filter_same p q same (b ∷ v) (first, others) = grind (arith, common_steps, filter_same p q same v others, first, same)
 
 pub bytes_fit : (v : List ℕ) → ((k : ℕ) → Fits w8 (get_or v k 0)) → Each1 (Fits w8) v
 bytes_fit v fit = Each1-from_get_or (Fits w8) v 0 (λ k _. fit k)
