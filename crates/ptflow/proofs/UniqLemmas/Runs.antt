@@ -41,8 +41,8 @@ module _ (job : Uniq) where
   first_more {line} {n} l {ls} false e f = record {
     count = n;
     more = runs_from job (run_of l 1) ls;
-    is = ap (chosen l ls line n) e;
-    led = λ x same. cc;
+    is = grind arith;
+    led = grind arith;
   }
 
   first : (line : List ℕ) (n : ℕ) (ls : List (List ℕ)) → First line n ls
@@ -384,7 +384,7 @@ uniq_line_tool job run start none = record {
 -- a block has no complete line
 pub not_found : (end : ℕ) (block : List ℕ) (r : Option ℕ) → IsFirstByte (is_byte end) block r → is_some r ≡ false
     → complete_lines end block ≡ []
-not_found end block None none said = complete_lines_none end block (line_if_not_found end block none)
+not_found end block None none said = grind (arith, common_steps, complete_lines_none, line_if_not_found)
 not_found end block (Some at) first said = cc
 
 -- ---- inputs in parts
