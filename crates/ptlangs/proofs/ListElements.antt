@@ -370,17 +370,13 @@ pub record Merges (sorted kept : List Interval) (current : Interval) (rest : Lis
 AreSeparated-longer : (low : ℕ) (kept : List Interval) (r s : Interval) → s.first ≡ r.first → r.last ≤ s.last
     → AreSeparated low (kept ++ r ∷ []) → AreSeparated low (kept ++ s ∷ [])
 AreSeparated-longer low [] r s e h separated = grind arith
-AreSeparated-longer low (k ∷ kept) r s e h separated =
-    let (above, ascending, others) = separated in
-    (above, ascending, AreSeparated-longer (k.last + 1) kept r s e h others)
+AreSeparated-longer low (k ∷ kept) r s e h separated = grind (arith, AreSeparated-longer (k.last + 1) kept)
 
 -- an interval after a gap may be appended
 AreSeparated-more : (low : ℕ) (kept : List Interval) (r s : Interval) → r.last + 1 < s.first → s.first ≤ s.last
     → AreSeparated low (kept ++ r ∷ []) → AreSeparated low ((kept ++ r ∷ []) ++ s ∷ [])
 AreSeparated-more low [] r s gap proper separated = grind arith
-AreSeparated-more low (k ∷ kept) r s gap proper separated =
-    let (above, ascending, others) = separated in
-    (above, ascending, AreSeparated-more (k.last + 1) kept r s gap proper others)
+AreSeparated-more low (k ∷ kept) r s gap proper separated = grind (arith, AreSeparated-more (k.last + 1) kept)
 
 abbrev holds : ℕ → Interval → Bool
 holds n r = leb r.first n && leb n r.last
