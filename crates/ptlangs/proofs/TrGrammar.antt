@@ -265,9 +265,7 @@ run_rest = grind (arith, common_steps, prefix_len-from_run, plain_run-chars, len
 -- each byte of a run passes the test
 list_all-plain_run : (test : ℕ → Bool) (us : List SetChar) → list_all test (plain_run test us) ≡ true
 list_all-plain_run test [] = refl
-list_all-plain_run test (Plain b ∷ us) = grind (arith, and_from, list_all-plain_run test us)
-list_all-plain_run test (Escaped b ∷ us) = refl
-list_all-plain_run test (Invalid k ∷ us) = refl
+list_all-plain_run test (u ∷ us) = grind (arith, and_from, list_all-plain_run test us)
 
 pub AllPass-run : (test : ℕ → Bool) (bs : List ℕ) (us : List SetChar) → bs ≡ plain_run test us → AllPass test bs
 AllPass-run test bs us e = AllPass-from_list_all test bs (rw e (list_all-plain_run test us))
@@ -279,9 +277,7 @@ after_plain_is = grind arith
 
 run_split : (test : ℕ → Bool) (us : List SetChar) → us ≡ map Plain (plain_run test us) ++ after_run test us
 run_split test [] = refl
-run_split test (Plain b ∷ us) = grind (arith, run_split test us)
-run_split test (Escaped b ∷ us) = refl
-run_split test (Invalid k ∷ us) = refl
+run_split test (u ∷ us) = grind (arith, run_split test us)
 
 -- A property of the characters with no rest, and of plain byte `c` with any rest, holds of the characters with
 -- `after_plain c` of them.
@@ -313,10 +309,7 @@ repeat_found u v us m =
     (λ rest. ARepeat u v run rest m (list_all-plain_run is_ascii_digit more))))
 
 repeat_starts : (us : List SetChar) → StartsFound (Plain 91 ∷ us) (repeat_at us)
-repeat_starts [] = tt
-repeat_starts (Plain b ∷ us) = repeat_found _ b us (ByItself b)
-repeat_starts (Escaped b ∷ us) = repeat_found _ b us (ByEscape b)
-repeat_starts (Invalid k ∷ us) = tt
+repeat_starts = grind (arith, repeat_found, ByItself, ByEscape)
 
 name_found : (name : List ℕ) (us : List SetChar) → list_all is_ascii_lowercase name ≡ true
     → StartsFound (Plain 91 ∷ Plain 58 ∷ map Plain name ++ us) (class_with_name name us)
@@ -330,9 +323,7 @@ class_starts us = grind (arith, after_plain_cases, run_split, name_found, list_a
 
 equivalence_found : (u : SetChar) (v : ℕ) (us : List SetChar) → DenotesByte u v
     → StartsFound (Plain 91 ∷ Plain 61 ∷ u ∷ us) (with_rest (Equivalence v) (after_two 61 93 us))
-equivalence_found u v us m =
-    after_two_cases (λ xs o. StartsFound (Plain 91 ∷ Plain 61 ∷ u ∷ xs) (with_rest (Equivalence v) o)) 61 93 us
-    _ (λ rest. AnEquivalence u v rest m)
+equivalence_found = grind (arith, AnEquivalence)
 
 equivalence_starts : (us : List SetChar) → StartsFound (Plain 91 ∷ us) (equivalence_at us)
 equivalence_starts us = grind (arith, after_plain_cases, by_unit)
@@ -397,9 +388,7 @@ range_starts = grind (arith, ADescendingRange, ARange, ltb-true, ltb-false)
 
 range_end_starts : (u v : SetChar) (a : ℕ) (more : List SetChar) → ¬ HasBracketed (u ∷ Plain 45 ∷ v ∷ more)
     → DenotesByte u a → StartsAs (u ∷ Plain 45 ∷ v ∷ more) (range_to a (byte_of v) more)
-range_end_starts u (Plain b) a more n m = range_starts u _ a b more n m (ByItself b)
-range_end_starts u (Escaped b) a more n m = range_starts u _ a b more n m (ByEscape b)
-range_end_starts u (Invalid k) a more n m = AnInvalidEnd u a k more n m
+range_end_starts = grind (arith, range_starts, ByItself, ByEscape, AnInvalidEnd)
 
 byte_starts : (u : SetChar) (a : ℕ) (us : List SetChar) → ¬ HasBracketed (u ∷ us) → DenotesByte u a
     → StartsAs (u ∷ us) (single_or_range a us (after_plain 45 us))
@@ -407,9 +396,7 @@ byte_starts = grind (arith, Alone, after_plain_is, range_end_starts)
 
 char_starts : (u : SetChar) (us : List SetChar) → ¬ HasBracketed (u ∷ us)
     → StartsAs (u ∷ us) (char_or_range (byte_of u) us)
-char_starts (Plain b) us n = byte_starts _ b us n (ByItself b)
-char_starts (Escaped b) us n = byte_starts _ b us n (ByEscape b)
-char_starts (Invalid k) us n = AnInvalidChar k us
+char_starts = grind (arith, byte_starts, ByItself, ByEscape, AnInvalidChar)
 
 starts_as : (u : SetChar) (us : List SetChar) {r : Result (SetElement × List SetChar) SetFaultKind}
     → first_set_element (u ∷ us) ≡ r → StartsAs (u ∷ us) r
@@ -519,7 +506,8 @@ set_elements-AreElements us (p ∷ ps) (rest, begins, more) = grind (
 pub AreElements-set_elements : (ps : List SetElement) (us : List SetChar) → set_elements us ≡ map Ok ps
     → AreElements us ps
 AreElements-set_elements [] [] e = refl
-AreElements-set_elements [] (u ∷ us) e = search (rules, by_first)
+AreElements-set_elements [] (u ∷ us) e =
+    by_first u us (λ p rest b is. let never = sym is ∙ e in cc) (λ k b is. let never = sym is ∙ e in cc)
 AreElements-set_elements (p ∷ ps) [] e = absurd (cc)
 AreElements-set_elements (p ∷ ps) (u ∷ us) e = by_first u us
     (λ q rest b is.

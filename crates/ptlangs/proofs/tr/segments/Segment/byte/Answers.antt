@@ -1,5 +1,5 @@
 use Rattle.ptlangs.proofs
-use proofs.Common.{rules, arith}
+use proofs.Common.{arith}
 use proofs.TrArrays.{class_bytes-short, length-span, room}
 use Rattle.ptlangs.proofs.tr.segments.Segment.byte.Goals as goal
 
@@ -8,4 +8,4 @@ returns-in-Range-clause-room c = room _ c.args.index _ c.span_get.ensures
     (omega (arith, length-span c.in-Range.first c.in-Range.last))
 
 pub returns-in-Class-clause-room : goal.returns-in-Class-clause-room
-returns-in-Class-clause-room c = search (rules, room, class_bytes-short)
+returns-in-Class-clause-room c = room _ c.args.index _ c.get.ensures (omega (arith, class_bytes-short c.in-Class.class))
