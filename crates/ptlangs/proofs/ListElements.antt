@@ -232,9 +232,6 @@ parts_around_dash bs i h = ap interval_of_parts (split_around is_dash bs i h)
 -- ---- from the intervals in the order of the list to the merged intervals
 
 -- an interval that passes the check is valid
-abbrev Proper : Interval → Interval → Result Interval ListFault → Type 0
-Proper s r checked_interval = checked_interval ≡ Ok r → (Some s ≡ Some r) × IsValidInterval r
-
 checked_proper : (interval_of_parts : Option Interval) (r : Interval) → checked_interval interval_of_parts ≡ Ok r
     → (interval_of_parts ≡ Some r) × IsValidInterval r
 checked_proper = grind arith
