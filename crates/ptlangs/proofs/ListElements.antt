@@ -232,9 +232,6 @@ parts_around_dash bs i h = ap interval_of_parts (split_around is_dash bs i h)
 -- ---- from the intervals in the order of the list to the merged intervals
 
 -- an interval that passes the check is valid
-abbrev Proper : Interval → Interval → Result Interval ListFault → Type 0
-Proper s r checked_interval = checked_interval ≡ Ok r → (Some s ≡ Some r) × IsValidInterval r
-
 checked_proper : (interval_of_parts : Option Interval) (r : Interval) → checked_interval interval_of_parts ≡ Ok r
     → (interval_of_parts ≡ Some r) × IsValidInterval r
 checked_proper = grind arith
@@ -370,17 +367,13 @@ pub record Merges (sorted kept : List Interval) (current : Interval) (rest : Lis
 AreSeparated-longer : (low : ℕ) (kept : List Interval) (r s : Interval) → s.first ≡ r.first → r.last ≤ s.last
     → AreSeparated low (kept ++ r ∷ []) → AreSeparated low (kept ++ s ∷ [])
 AreSeparated-longer low [] r s e h separated = grind arith
-AreSeparated-longer low (k ∷ kept) r s e h separated =
-    let (above, ascending, others) = separated in
-    (above, ascending, AreSeparated-longer (k.last + 1) kept r s e h others)
+AreSeparated-longer low (k ∷ kept) r s e h separated = grind (arith, AreSeparated-longer (k.last + 1) kept)
 
 -- an interval after a gap may be appended
 AreSeparated-more : (low : ℕ) (kept : List Interval) (r s : Interval) → r.last + 1 < s.first → s.first ≤ s.last
     → AreSeparated low (kept ++ r ∷ []) → AreSeparated low ((kept ++ r ∷ []) ++ s ∷ [])
 AreSeparated-more low [] r s gap proper separated = grind arith
-AreSeparated-more low (k ∷ kept) r s gap proper separated =
-    let (above, ascending, others) = separated in
-    (above, ascending, AreSeparated-more (k.last + 1) kept r s gap proper others)
+AreSeparated-more low (k ∷ kept) r s gap proper separated = grind (arith, AreSeparated-more (k.last + 1) kept)
 
 abbrev holds : ℕ → Interval → Bool
 holds n r = leb r.first n && leb n r.last

@@ -24,10 +24,10 @@ use Rattle.ptlangs.specs.TrPlan.{are_paired, class_offsets, has_byte, has_other_
 use Rattle.ptlangs.specs.TrPlan.{next_index_or, padded_to, segment}
 use Rattle.ptlangs.specs.declared.faults.SetFaultKind.TheVariants.{ClassPlace}
 use Rattle.ptlangs.specs.declared.tr.images.Images.{Images}
-use Rattle.ptlangs.specs.declared.tr.segments.Segment.TheVariants.{Class, Fill, Range, Repeat}
+use Rattle.ptlangs.specs.declared.tr.segments.Segment.TheVariants.{Fill}
 use Rattle.std.proofs.Common.{inl, inr, min, ◌&&◌, ◌⊎◌}
 use Rattle.std.proofs.Math.ListN.{get_or, set}
-use Rattle.std.proofs.lemmas.Bool.{cases_lt, cases_eq, eq-eqb, or_right}
+use Rattle.std.proofs.lemmas.Bool.{cases_lt, eq-eqb, or_right}
 use Rattle.std.proofs.lemmas.List.Elements.{filter-append, filter_more}
 use Rattle.std.proofs.lemmas.List.Folds.{list_any-append, list_any_at}
 use Rattle.std.proofs.lemmas.List.FromFn.{get_or-map-range_with_len, get_or-range_with_len, length-map-range_with_len}
@@ -142,15 +142,9 @@ sequence-members n (Err k ∷ rs) = refl
 -- if no segment has a fault, all bytes are read
 members-ok : (n : ℕ) (rs : List (Result Segment SetFaultKind)) (ps : List Segment) → sequence rs ≡ Ok ps
     → member_results n rs ≡ map Ok (marked_array n ps)
-members-ok n [] [] e = refl
-members-ok n [] (p ∷ ps) e = absurd (cc)
-members-ok n (Err k ∷ rs) ps e = absurd (cc)
-members-ok n (Ok x ∷ rs) ps e =
-    let all = reads_first (Ok x) _ ps e in
-    let read = all.read in
-    let first : all.head ≡ x = cc in
-    rw (← all.is, first) (ap (λ ys. map Ok (marked_members n x) ++ ys) (members-ok n rs all.tail all.rest)
-    ∙ sym (map-append Ok _ _))
+members-ok n [] ps e = grind arith
+members-ok n (Err k ∷ rs) ps e = grind arith
+members-ok n (Ok x ∷ rs) ps e = grind (arith, reads_first, map-append, members-ok n rs)
 
 pub member_bytes-plain : (bytes : List ℕ) → member_bytes (plain_members bytes) ≡ bytes
 member_bytes-plain [] = refl
@@ -253,19 +247,8 @@ offsets-class = grind (arith, offsets-plain)
 
 class_offsets-are : (n : ℕ) (ps : List Segment) (at : ℕ) → class_offsets n at ps ≡ offsets at (marked_array n ps)
 class_offsets-are n [] at = refl
-class_offsets-are n (Range a b ∷ ps) at = class_offsets-are n ps _
-    ∙ sym (offsets-members at (span a b) _)
-class_offsets-are n (Class class ∷ ps) at =
-    ap (λ os. (at, class) ∷ os) (class_offsets-are n ps _)
-    ∙ sym (offsets-class at class _ _ (class_bytes-some class))
-class_offsets-are n (Repeat b count ∷ ps) at = grind (
-  arith,
-  common_steps,
-  offsets-members,
-  class_offsets-are n ps (at
-      + count),
-)
-class_offsets-are n (Fill b ∷ ps) at = grind (arith, common_steps, offsets-members, class_offsets-are n ps (at + n))
+class_offsets-are n (x ∷ ps) at =
+    grind (arith, common_steps, offsets-members, offsets-class, class_bytes-some, class_offsets-are n ps)
 
 offset_first : (at k : ℕ) (o : Option CharClass) (later : List (ℕ × CharClass)) (class : CharClass)
     → has_other_case_at (offset_of at o ++ later) k class
@@ -277,15 +260,14 @@ none_before : (ms : List Member) (at k : ℕ) (class : CharClass) → k < at
     → has_other_case_at (offsets at ms) k class ≡ false
 none_before [] at k class low = refl
 none_before (m ∷ ms) at k class low =
-    rw (offset_first at k m.class, ne_eqb at k (λ e. omega arith)) (none_before ms _ k class (omega arith))
+    grind (arith, offset_first, ne_eqb, none_before ms (suc at) k class (omega arith))
 
 stands_here : (ms : List Member) (at i k : ℕ) (class : CharClass) → at + i ≡ k
     → has_other_case_at (offsets at ms) k class ≡ classes_match (class_here ms i) (Some class)
 stands_here [] at i k class e = refl
-stands_here (m ∷ ms) at zero k class e =
-    grind (arith, offset_first, eq-eqb, none_before)
+stands_here (m ∷ ms) at zero k class e = grind (arith, offset_first, eq-eqb, none_before)
 stands_here (m ∷ ms) at (suc i) k class e =
-    rw (offset_first at k m.class, ne_eqb at k (λ z. omega arith)) (stands_here ms _ i k class (omega arith))
+    grind (arith, offset_first, ne_eqb, stands_here ms (suc at) i k class (omega arith))
 
 -- one byte of the second array against the first array from the same index on
 all_paired-more : (i : ℕ) (from : List Member) (t : Member) (to : List Member)
@@ -341,13 +323,9 @@ none_contained = same_table _ _ false (length-replicate 256 false) (λ i h. get_
 -- writing one entry of a table
 set-table : {X : Type 0} (f g : ℕ → X) (i : ℕ) (v : X) → i < 256 → g i ≡ v → ((k : ℕ) → k ≢ i → g k ≡ f k)
     → set (map f all_bytes) i v ≡ map g all_bytes
-set-table {X} f g i v h e others =
+set-table f g i v h e others =
     same_table _ g v (length-set _ i v ∙ length-table f)
-    (λ k under. by_cases k under (cases_eq k i))
-  where
-    by_cases : (k : ℕ) → k < 256 → ((k ≡ i) ⊎ (k ≡ i → ⊥)) → get_or (set (map f all_bytes) i v) k v ≡ g k
-    by_cases k under (inl same) = search (rules, length-table)
-    by_cases k under (inr other) = search (rules, get_or-table)
+    (λ k under. grind (arith, common_steps, length-table, get_or-table, others))
 
 -- ---- appending a byte
 
