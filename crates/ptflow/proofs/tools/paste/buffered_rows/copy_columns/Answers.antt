@@ -1,7 +1,7 @@
 -- Each step copies the field of one more column and the byte after it. It ends at a field that cannot be copied, and
 -- then nothing was consumed.
 use Rattle.ptflow.proofs
-use proofs.Common.{◌≡◌, take, take_more_set, set, get_or, arith, set-get_or, mod-add-mod, rules}
+use proofs.Common.{◌≡◌, take, take_more_set, length, set, get_or, arith, set-get_or, mod-add-mod, rules}
 use borrow.Author.Rules.{scaled_Fits}
 use proofs.PasteLemmas.BufferedRows.{columns_start, columns_more, after_last, after_other}
 use Rattle.ptflow.proofs.tools.paste.buffered_rows.copy_columns.Goals as goal
@@ -26,7 +26,7 @@ cells-preserved g c =
       within = omega arith;
       grows = omega (arith, c.in-Some.ensures.size_bound);
       size_bound = omega (arith, c.in-Some.ensures.size_bound);
-      at = search (rules, mod-add-mod);
+      at = cc (mod-add-mod c.cells.begun.0 (length c.args.row.delims.now) 1);
       buffer_size = c.copy_option.array_long;
     }
 
