@@ -5,12 +5,12 @@
 -- the next row, and perhaps a part of a line.
 use Rattle.ptflow.proofs
 use proofs.Common.{Bool, Err, List, Ok, Result, [], ap, append_assoc, arith, cond, drop, false, get_or, inl, inr}
-use proofs.Common.{length, length-append, max, refl, sym, take, true, ℕ, ⊎_elim, ◌*◌, ◌++◌, ◌+◌, ◌<◌, ◌==◌, ◌^◌}
-use proofs.Common.{◌∙◌, ◌∷◌, ◌≡◌, ◌≤◌, ◌⊎◌, cases_eq, ne_eqb, nat_tests, common_steps, append-nil, drop_at, take_all}
-use proofs.Common.{top, Paste, received_with, advance_trans, push_nothing, push_trans, bounded_lag_after, IsPrefix}
-use proofs.Common.{Received, known_lines, Output, PushEffect, HasReadCause, IsDone, Reader, ReaderAdvance, reader_at}
-use proofs.Common.{Slots, total_bytes, with_denied, with_line, AddedSlots, IsLine, lines, max_length, max_line_length}
-use proofs.Common.{cut, CallPost, CallOutcome, CallState, call_state, CallEnd, AreAllConsistent, inputs_at, is_in}
+use proofs.Common.{length, length-append, max, refl, sym, take, true, ℕ, ⊎_elim, ◌*◌, ◌++◌, ◌+◌, ◌<◌, ◌==◌, ◌^◌, ◌∙◌}
+use proofs.Common.{◌∷◌, ◌≡◌, ◌≤◌, ◌⊎◌, cases_eq, ne_eqb, nat_tests, common_steps, append-nil, drop_at, take_all, top}
+use proofs.Common.{Paste, received_with, advance_trans, push_nothing, push_trans, bounded_lag_after, IsPrefix, Received}
+use proofs.Common.{known_lines, Output, PushEffect, HasReadCause, IsDone, Reader, ReaderAdvance, reader_at, Slots}
+use proofs.Common.{total_bytes, with_denied, with_line, AddedSlots, IsLine, lines, max_length, max_line_length, cut}
+use proofs.Common.{CallPost, CallOutcome, CallState, call_state, CallEnd, AreAllConsistent, inputs_at, is_in}
 use proofs.Common.{CallProgress, DecidedIfReadFailed, reads_nothing, call_ends, call_set, call_without_slots, PastePre}
 use proofs.Common.{PastePost, IsReadable, paste_end, paste_engine, update_at, columns, paste, paste_decided, rows}
 use proofs.Common.{rows_text, uses_of, SetTerminatorsPost, SlotsBound, RowFailed, RowFilled, ClearSlotsPost}
@@ -493,7 +493,8 @@ module _ {job : Paste} {cells : List ℕ} {old set now : List Reader} {was is : 
           let ls = a.filled.input_lines in
           let q = whole_columns 0 (λ (p : ℕ). nothing_taken {end = job.terminator} {r = reader_at begun.readers p} refl)
           in
-          write_exit row_first q row_wrote fault (λ top high. row_kept a (omega arith) top (grind (arith, common_steps)))
+          write_exit row_first q row_wrote fault
+          (λ top high. row_kept a (omega arith) top (grind (arith, common_steps)))
           (λ p some. cut_line row_first q p some refl refl (omega arith)) (λ p. refl)
 
     -- No column has a line.

@@ -10,7 +10,7 @@ use proofs.Common.{ne_eqb, nat_tests, get_or_after_one, append-nil, ext_get_or, 
 use proofs.Common.{get_or-enumerate_from, length-enumerate_from, sum_by-cons, sum_by-take-le, map-map, enumerate_from}
 use proofs.Common.{range_with_len, fold, the_lines_of_parts, lines, unlines, select_from, cut, IsRowSplit, PasteOfParts}
 use proofs.Common.{update_at, columns, every_kth, join_with_cycle, row_count, is_row_known, row_at, rows, uses_of}
-use proofs.Common.{common_steps, subst, list_any_at, Paste, IsConsistent, Received, is_in, paste_decided, leb, cases_eq}
+use proofs.Common.{common_steps, subst, Paste, IsConsistent, Received, is_in, paste_decided, leb}
 use Rattle.std.proofs.lemmas.List.Sums.{sum_by_more}
 
 abbrev pub Column : Type 0
@@ -41,8 +41,7 @@ module _ {k j : ℕ} (low : j < k) where
       let more = chosen (n + 1) b xs (omega arith) in
       ⊎_elim
       (λ less. grind arith)
-      (λ most. ⊎_elim (λ here. let none : j - n ≡ 0 = omega arith in grind arith)
-      (λ past. grind arith) (cases_eq n j))
+      (grind (arith, common_steps))
       (cases_lt n j)
 
   -- A column is its first line, if there is one, and the rest.
@@ -137,8 +136,7 @@ pub for_each_cell_unique : {Y : Type 0} (f : ℕ → ℕ → Y) (cells : List �
     → ys ≡ for_each_cell f cells
 for_each_cell_unique f cells ys d long same =
     ext_get_or d ys (for_each_cell f cells) (cc (length-for_each_cell f cells))
-    (λ c low. let within : c < length cells = omega arith in same c within
-    ∙ sym (get_or-for_each_cell f cells c d within))
+    (grind (arith, common_steps, get_or-for_each_cell))
 
 pub for_each_cell_same : {Y : Type 0} (f g : ℕ → ℕ → Y) (cells : List ℕ) → ((c : ℕ) → c < length cells
     → f c (get_or cells c 0) ≡ g c (get_or cells c 0)) → for_each_cell f cells ≡ for_each_cell g cells
@@ -157,7 +155,7 @@ last_use (x ∷ cells) p some =
     (λ more.
     let (c, low, is, count) = last_use cells p more in
     (suc c, omega arith, is, grind (arith, common_steps)))
-    (λ none. (0, omega arith, grind (arith, nat_tests), grind (arith, nat_tests)))
+    (grind (arith, common_steps))
     (cases_lt 0 (uses_of cells p))
 
 module _ (cells : List ℕ) where
@@ -189,8 +187,7 @@ module _ (cells : List ℕ) where
   -- Inputs that no column uses do not matter.
   pub columns_same : (f g : ℕ → Column) → ((p : ℕ) → 0 < uses_of cells p → f p ≡ g p)
       → columns cells f ≡ columns cells g
-  columns_same f g same = for_each_cell_same (column_of f) (column_of g) cells (λ c low.
-      ap (every_kth _ (uses_of (take c cells) _)) (same _ (omega (arith, uses_before_lt c low))))
+  columns_same f g same = for_each_cell_same (column_of f) (column_of g) cells (grind (arith, common_steps))
 
   pub length-columns : (ins : ℕ → Column) → length (columns cells ins) ≡ length cells
   length-columns ins = length-for_each_cell (column_of ins) cells
@@ -225,10 +222,7 @@ module _ (cells : List ℕ) where
 
   pub grid_none : (ins : ℕ → Column) → ((p : ℕ) → 0 < uses_of cells p → ins p ≡ []) → rows (columns cells ins) ≡ []
   grid_none ins none = ap (λ n. map (row_at (columns cells ins)) (range_with_len 0 n)) (row_count_none
-      (columns cells ins) (λ c low.
-      let within : c < length cells = omega (arith, length-columns ins) in
-      let q = get_or cells c 0 in
-      grind (arith, common_steps, column_at, none)))
+      (columns cells ins) (grind (arith, common_steps, length-columns, column_at)))
 
   -- ---- rows after rows
 
@@ -239,8 +233,7 @@ module _ (cells : List ℕ) where
   some_cell f zero high = inr (λ c low. absurd (omega arith))
   some_cell f (suc n) high = ⊎_elim
       (λ here. inl (n, omega arith, here))
-      (λ past. ⊎_elim inl (λ before. inr (λ c low. ⊎_elim (λ less. before c less) (λ same. let is : c
-      ≡ n = omega arith in rw is past) (cases_lt c n))) (some_cell f n (omega arith)))
+      (λ past. ⊎_elim inl (grind (arith, common_steps)) (some_cell f n (omega arith)))
       (cases_lt (uses_of (take n cells) (get_or cells n 0)) (length (f (get_or cells n 0))))
 
   -- n rows take all lines of an input; more lines follow only if it has all the lines that n rows take.
@@ -352,7 +345,7 @@ paste_of_parts job cells n a b cut =
 
 module _ (cells : List ℕ) where
   pub cell_in : (c : ℕ) → c < length cells → is_in cells (get_or cells c 0) ≡ true
-  cell_in c low = list_any_at (λ q. q == get_or cells c 0) cells c 0 low (eq-eqb (get_or cells c 0) _ refl)
+  cell_in c low = grind (arith, common_steps)
 
   pub used_is_in : (p : ℕ) → 0 < uses_of cells p → is_in cells p ≡ true
   used_is_in p some = let (c, low, is, count) = last_use cells p some in
@@ -375,7 +368,7 @@ map_same f g (c ∷ cells) same = λ i.
 
 -- The received bytes may be the whole input.
 pub consistent_itself : (given : Received) → IsConsistent given given.bytes
-consistent_itself given = record { rest = []; is = sym (append-nil _); whole = λ eof. refl }
+consistent_itself given = grind (arith, common_steps)
 
 module _ (job : Paste) (cells : List ℕ) where
   pub decided_same : (f g : ℕ → Received) → ((p : ℕ) → is_in cells p ≡ true → f p ≡ g p)

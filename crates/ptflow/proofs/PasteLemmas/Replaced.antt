@@ -8,8 +8,8 @@ use proofs.Common.{take-set-lt, eq-eqb, set-append_right, drop_more, take_more_s
 use proofs.Common.{sum_by-append, is_byte, byte_eq, byte_ne, IsLine, IsNth, length-take-le, length-chunk}
 use proofs.Common.{length-put_chunk, take_more_put_chunk, put_chunk, ones-mask_l, with_replacements, cycle_byte}
 use proofs.Common.{IsReplacedTo, true, false, Option, append_assoc, onto_first, append-nil, append_cancel_right, lines}
-use proofs.Common.{complete_lines, IsPrefix, Paste, delimiter, join_with_cycle, paste_serial_decided}
-use proofs.Common.{row_rest, option_to_list, None, Some, IsFirstByte, line_before_terminator, mod-lt, serial_rest}
+use proofs.Common.{complete_lines, IsPrefix, Paste, delimiter, join_with_cycle, paste_serial_decided, row_rest}
+use proofs.Common.{option_to_list, None, Some, IsFirstByte, line_before_terminator, mod-lt, serial_rest}
 use proofs.Common.{take_with_terminator}
 use lib.Count.{count_trailing_zeros}
 use proofs.Vectors.FindNth.{after_set, cleared, without, none_counted}
@@ -305,7 +305,7 @@ module _ (end : ℕ) (delims : List (Option ℕ)) where
   -- Only the index of the delimiter matters.
   row_rest_mod : (m n : ℕ) → m % length delims ≡ n % length delims → (bytes : List ℕ)
       → row_rest end delims m bytes ≡ row_rest end delims n bytes
-  row_rest_mod m n same bytes = ap (λ (l : List ℕ). l ++ end ∷ []) (joined_mod m n same (lines end bytes))
+  row_rest_mod m n same bytes = grind (arith, common_steps, joined_mod)
     where
       joined_mod : (m n : ℕ) → m % length delims ≡ n % length delims → (ls : List (List ℕ))
           → join_with_cycle delims m ls ≡ join_with_cycle delims n ls
@@ -334,7 +334,7 @@ copied_more {format} {index} {next} {xs = xs} {ys} {before} p q =
     let number = index + count_by (is_byte end) xs in
     let same : next % len ≡ number % len = rw p.later (mod-eq_of_lt (mod-lt number format.some)) in
     let all : number + count_by (is_byte end) ys ≡ index + count_by (is_byte end) (xs ++ ys) =
-    omega (arith, sum_by-append (λ b. cond (is_byte end b) 1 0) xs ys) in
+    grind (arith, common_steps) in
     record {
       is = cc (
         p.is,
@@ -344,8 +344,7 @@ copied_more {format} {index} {next} {xs = xs} {ys} {before} p q =
         append_assoc before (with_replacements end (delimiter delims) index xs)
             (with_replacements end (delimiter delims) number ys),
       );
-      later = q.later ∙ ap (λ k. (k + count_by (is_byte end) ys) % len) p.later ∙ mod-add-mod number len _
-          ∙ ap (λ k. k % len) all;
+      later = grind (arith, common_steps, mod-add-mod);
     }
 
 -- A line and its delimiter were copied.
@@ -356,42 +355,18 @@ pub line_copied : {format : SerialFormat} (index : ℕ) {next at : ℕ} (rest be
 line_copied {format} index {next} {at} rest before first next_is line_is text_is =
     let end = format.terminator in
     let head = take at rest in
-    let bytes = delimiter format.delims.now index in
     let free = line_before_terminator end rest at first in
-    let one : count_by (is_byte end) (head ++ end ∷ []) ≡ 1 = omega (
-      arith,
-      sum_by-append (λ b. cond (is_byte end b) 1 0) head (end ∷ []),
-      counted end end [] (byte_eq end),
-      none_counted end [] head free,
-    ) in
-    rw (take_with_terminator end rest at first) (record {
-      is = cc (
-        line_is,
-        text_is,
-        replaced_line end (delimiter format.delims.now) index head [] free,
-        append-nil bytes,
-        append_assoc before head bytes,
-      );
-      later = next_is ∙ ap (λ k. (index + k) % length format.delims.now) (sym one);
-    })
+    let one : count_by (is_byte end) (head ++ end ∷ []) ≡ 1 =
+    grind (arith, common_steps, sum_by-append, counted, none_counted) in
+    rw (take_with_terminator end rest at first) (grind (arith, common_steps, replaced_line, append-nil, append_assoc))
 
 -- A piece was copied, and at least one byte follows.
 pub copied_on : {format : SerialFormat} {index : ℕ} {bytes before : List ℕ} {next : ℕ} {after : List ℕ} (more : List ℕ)
     → 0 < length more → CopyCellsPost format index bytes before next after
     → before ++ row_rest format.terminator format.delims.now index (bytes ++ more)
     ≡ after ++ row_rest format.terminator format.delims.now next more
-copied_on {format} {index} {bytes} {before} {next} more some p =
-    let end = format.terminator in
-    let delims = format.delims.now in
-    let number = index + count_by (is_byte end) bytes in
-    let same : number % length delims ≡ next % length delims =
-    sym p.later ∙ sym (mod-eq_of_lt (rw p.later (mod-lt number format.some))) in
-    cc (
-      row_rest_on end delims index bytes more some,
-      row_rest_mod end delims number next same more,
-      append_assoc before (with_replacements end (delimiter delims) index bytes) (row_rest end delims next more),
-      p.is,
-    )
+copied_on more some p =
+    grind (arith, common_steps, mod-eq_of_lt, mod-lt, row_rest_on, row_rest_mod, append_assoc)
 
 -- The output for the received bytes begins with their complete lines.
 pub serial_is_decided : (job : Paste) (format now : SerialFormat) → format.terminator ≡ job.terminator
@@ -404,12 +379,9 @@ serial_is_decided job format now ends are same given pushed cell on =
     let ls = complete_lines end given in
     let text = join_with_cycle delims 0 (lines end (given ++ [])) in
     let is : text ≡ pushed = append_cancel_right text pushed (end ∷ [])
-    (on ∙ (λ i. pushed ++ serial_rest (same i) cell []) ∙ ap (◌++◌ pushed) (row_end cell.complete)) in
+    (grind (arith, common_steps)) in
     let b = joined_begins end delims 0 ls (lines end ((line_split end given).piece ++ [])) in
-    rw (← ends, ← are) (record {
-      rest = b.rest;
-      is = cc (complete_prefix end given [], append-nil (join_with_cycle delims 0 ls));
-    })
+    rw (← ends, ← are) (grind (arith, common_steps, complete_prefix, append-nil))
   where
     row_end : (t : Bool) → row_rest format.terminator format.delims.now cell.index
         (cond t (format.terminator ∷ []) []) ≡ format.terminator ∷ []

@@ -5,22 +5,21 @@
 -- since each column takes one line. Its fields, each with the byte after it, are the joined fields and the terminator.
 -- The slots hold all bytes of the store, so the total is at most the sum of the columns' bounds.
 use Rattle.ptflow.proofs
-use proofs.Common.{slice_index_or, Bool, Err, List, None, Ok, [], ap, arith, cond, drop, false, get_or, get_or-drop}
-use proofs.Common.{get_or-take, inl, inr, length, length-append, length-drop, map, refl, set, subst, suc, sym, take}
-use proofs.Common.{take-append-drop, true, zero, ℕ, ◌*◌, ◌++◌, ◌+◌, ◌<◌, ◌==◌, ◌||◌, ◌∙◌, ◌∷◌, ◌≡◌, ◌≢◌, ◌≤◌, ◌⊎◌}
-use proofs.Common.{cases_eq, eq-eqb, ne_eqb, nat_tests, common_steps, append-nil, drop-set-lt, drop_all, ext_get_or}
-use proofs.Common.{get_or-set_other, get_or-set_same, get_or_append_left, get_or_at, get_or_default, get_or_push}
-use proofs.Common.{length-set, length-take-le, take-take, take_all, sum_by-append, sum_by-cons, sum_by, top}
-use proofs.Common.{advance_trans, lines_of_unlines, unlines-append, FillReadErr, FillPost, FillLine, AdvanceOk, IsDone}
-use proofs.Common.{IsSound, Reader, ReaderAdvance, budget, no_reader, reader_at, Slots, line, total_bytes, with_line}
-use proofs.Common.{AddedSlots, AreLines, max_length, unlines, columns, join_with_cycle, rows, uses_of}
-use proofs.Common.{SetTerminatorsPost, FillCellPost, SlotsBound, SlotsKept, RowAmid, RowFailed, RowFilled, RowShape}
-use proofs.Common.{BegunText, CellsFilled, CellsTaken, after_cell, cells_text, slots_text, AreReceivedLines, LinesTaken}
-use proofs.Common.{BufferedRowsPre, AreFirstRows, RowsTaken, CopyColumnsPost, CopyRowsPost, FlowFault, Memory, Read}
-use proofs.Common.{Write, rules}
+use proofs.Common.{slice_index_or, Bool, Err, List, None, Ok, [], ap, arith, cond, drop, false, get_or, get_or-take}
+use proofs.Common.{inl, length, length-append, map, refl, set, suc, take, take-append-drop, true, zero, ℕ, ◌*◌, ◌++◌}
+use proofs.Common.{◌+◌, ◌<◌, ◌==◌, ◌||◌, ◌∙◌, ◌∷◌, ◌≡◌, ◌≢◌, ◌≤◌, ◌⊎◌, cases_eq, eq-eqb, ne_eqb, nat_tests}
+use proofs.Common.{common_steps, append-nil, drop-set-lt, ext_get_or, get_or-set_other, get_or-set_same}
+use proofs.Common.{get_or_append_left, get_or_default, get_or_push, length-set, length-take-le, take-take, take_all}
+use proofs.Common.{sum_by-append, sum_by-cons, sum_by, top, advance_trans, lines_of_unlines, unlines-append}
+use proofs.Common.{FillReadErr, FillPost, FillLine, AdvanceOk, IsDone, IsSound, Reader, ReaderAdvance, budget}
+use proofs.Common.{no_reader, reader_at, Slots, line, total_bytes, with_line, AddedSlots, AreLines, max_length, unlines}
+use proofs.Common.{columns, join_with_cycle, rows, uses_of, SetTerminatorsPost, FillCellPost, SlotsBound, SlotsKept}
+use proofs.Common.{RowAmid, RowFailed, RowFilled, RowShape, BegunText, CellsFilled, CellsTaken, after_cell, cells_text}
+use proofs.Common.{slots_text, AreReceivedLines, LinesTaken, BufferedRowsPre, AreFirstRows, RowsTaken, CopyColumnsPost}
+use proofs.Common.{CopyRowsPost, FlowFault, Memory, Read, Write, rules}
 use proofs.Passes.Exits.{lines_none, lines_are_given, lines_more, eof_gives_nothing}
 use proofs.PasteLemmas.Grid.{Column, for_each_cell_unique, grid_step, grid_none, after_row, rows-append, uses_before_lt}
-use proofs.PasteLemmas.Grid.{lines_of_input, uses_more, update_here, update_there}
+use proofs.PasteLemmas.Grid.{lines_of_input, uses_more, update_here}
 use Rattle.std.proofs.Math.Bool.{or-true, or-false}
 
 AreLines-append : (end : ℕ) (xs ys : List (List ℕ)) → AreLines end xs → AreLines end ys → AreLines end (xs ++ ys)
@@ -81,15 +80,14 @@ taken_line {end} {b} {c} {before} {after} {slot} e same clean sound = taken_by e
 -- No line was left.
 pub taken_eof : {end : ℕ} {b c : Reader} → AdvanceOk b c [] → IsDone c → b.fault ≡ None → IsSound c
     → LinesTaken end b c 1 []
-taken_eof advance_ok done clean sound =
-    taken_by advance_ok clean sound (lines_none _ _) (inr (done, omega arith)) (λ none. cc)
+taken_eof advance_ok done clean sound = search rules
 
 -- ---- the text of a row, column by column
 
 module _ (row : RowShape) where
   pub cells_text-append : (c : ℕ) (xs ys : List (List ℕ))
       → cells_text row c (xs ++ ys) ≡ cells_text row c xs ++ cells_text row (c + length xs) ys
-  cells_text-append c [] ys = let none : c ≡ c + 0 = omega arith in ap (λ (k : ℕ). cells_text row k ys) none
+  cells_text-append c [] ys = search rules
   cells_text-append c (x ∷ xs) ys = grind (arith, common_steps, cells_text-append (c + 1) xs ys)
 
   -- One more field.
@@ -167,9 +165,7 @@ module _ {row : RowShape} {old new : List Reader} {fields : List (List ℕ)}
     {any_line : Bool} (r : CellsFilled row (length row.cells) old new fields any_line) (some : any_line ≡ true) where
   lines_taken_by_row : (p : ℕ)
       → LinesTaken row.terminator (reader_at old p) (reader_at new p) (1 * uses_of row.cells p) (r.input_lines p)
-  lines_taken_by_row p =
-      let all : uses_of (take (length row.cells) row.cells) p ≡ 1 * uses_of row.cells p = grind (arith, common_steps) in
-      rw all at (r.consumed.lines_taken p)
+  lines_taken_by_row p = grind (arith, common_steps)
 
   -- A filled row in which some column has a line is the next row.
   pub filled_row_is_first : AreFirstRows row old new r.input_lines (fields ∷ [])
@@ -183,8 +179,7 @@ module _ {row : RowShape} {old new : List Reader} {fields : List (List ℕ)}
         are = cc (
           grid_step row.cells r.input_lines c low (omega arith),
           grid_none row.cells (after_row row.cells r.input_lines)
-              (λ p some. drop_all (uses_of row.cells p) (r.input_lines p)
-              (omega (arith, taken_at_most (lines_taken_by_row p)))),
+              (grind (arith, common_steps)),
         );
         count = r.consumed.count;
       }
@@ -273,7 +268,7 @@ line_le_max_length (line ∷ ls) zero = omega arith
 line_le_max_length (line ∷ ls) (suc j) = omega (arith, line_le_max_length ls j)
 
 pub slots_kept_start : {cells : List ℕ} {fields : List (List ℕ)} {store : Slots} → SlotsKept cells fields store store
-slots_kept_start = record { same = refl; kept = λ first top k high. k }
+slots_kept_start = search rules
 
 module _ {cells : List ℕ} {fields : List (List ℕ)} {before store : Slots} (s : SlotsKept cells fields before store)
   where
@@ -307,7 +302,7 @@ at_same readers input r low = get_or-set_same readers input r no_reader low
 
 pub at_other : (readers : List Reader) (input other : ℕ) (r : Reader) → other ≢ input
     → reader_at (set readers input r) other ≡ reader_at readers other
-at_other readers input other r differ = get_or-set_other readers input other r no_reader differ
+at_other readers input other r differ = search rules
 
 -- A fact of each reader, after one of them was set.
 pub each_reader : (P : ℕ → Reader → Type 0) (readers : List Reader) {input : ℕ} {r : Reader} → input < length readers
@@ -356,10 +351,7 @@ pub taken_from_one : {end : ℕ} (now : List Reader) {input : ℕ} {r : Reader} 
     → input < length now → LinesTaken end (reader_at now input) r (most input) ls
     → ((q : ℕ) → q ≢ input → most q ≡ 0) → (q : ℕ)
     → LinesTaken end (reader_at now q) (reader_at (set now input r) q) (most q) (lines_of_input input ls q)
-taken_from_one {end} now {input} {ls = ls} most within t none =
-    each_reader (λ q x. LinesTaken end (reader_at now q) x (most q) (lines_of_input input ls q)) now within
-    (rw (update_here input ls (λ q. []) input refl) t)
-    (λ q differ. rw (update_there input ls (λ q. []) q differ) (nothing_taken (none q differ)))
+taken_from_one {end} now {input} {ls = ls} most within t none = search rules
 
 module _ {row : RowShape} {n : ℕ} {old now : List Reader} {fields : List (List ℕ)} {input_lines : ℕ → List (List ℕ)}
     (t : CellsTaken row n old now fields input_lines) (low : n < length row.cells)
@@ -379,7 +371,7 @@ module _ {row : RowShape} {n : ℕ} {old now : List Reader} {fields : List (List
   taken_next : (q : ℕ) → LinesTaken row.terminator (reader_at now q) (reader_at (set now input r) q)
       (cond (input == q) 1 0) (more_lines q)
   taken_next = taken_from_one now (λ q. cond (input == q) 1 0) within (rw (eq-eqb input input refl) lines_taken)
-      (λ q differ. rw (ne_eqb input q (λ same. differ (sym same))) refl)
+      (grind (arith, common_steps))
 
   -- The line of a column before this one does not change.
   earlier_cell : (c : ℕ) → c < n → let p = get_or cells c 0 in let j = uses_of (take c cells) p in
@@ -421,8 +413,7 @@ field_in_slot : (end : ℕ) (b r : Reader) (before after : Slots) (slot : ℕ) (
     → (field : List ℕ) × (after ≡ with_line before slot field) × FieldTaken end b r field has
 field_in_slot end b r before after slot true clean same sound e =
     (e.line, e.stored, (taken_line e same clean sound, e.less))
-field_in_slot end b r before after slot false clean same sound (advance_ok, done, kept) =
-    ([], kept, (taken_eof advance_ok done clean sound, refl, omega arith))
+field_in_slot end b r before after slot false clean same sound (advance_ok, done, kept) = search rules
 
 module _ {row : RowShape} {n : ℕ} {old now : List Reader} {fields : List (List ℕ)} {any_line : Bool}
     (f : CellsFilled row n old now fields any_line) {b : Reader} (x : IsNextReader row now n b) where
@@ -445,7 +436,7 @@ module _ {row : RowShape} {n : ℕ} {old now : List Reader} {fields : List (List
         rw or-true (record {
           input_lines = λ q. f.input_lines q ++ lines_of_input p (field ∷ []) q;
           consumed = cells_taken_more f.consumed x.low x.within lines_taken
-              (sym (get_or_at (f.input_lines p) field [] [] (uses_of (take n row.cells) p) all));
+              (grind (arith, common_steps));
           some = λ h. (
             n,
             omega arith,
@@ -475,15 +466,7 @@ module _ {row : RowShape} where
   -- All fields were copied from the buffers, and then the row was moved.
   pub amid_starts : {old : List Reader} {copied : List ℕ} {begun moved : BegunText} {store : Slots}
       (p : CopyRowsPost row old copied begun) → moved ≡ begun → RowAmid row moved.count p.mid store moved store
-  amid_starts {begun = begun} {store = store} p same =
-      subst (λ m. RowAmid row m.count p.mid store m store) (sym same) (record {
-        fields = p.fields;
-        filled = p.filled;
-        within = omega arith;
-        is = search (rules, take_all);
-        held = λ c over under. absurd (omega arith);
-        slots = slots_kept_start;
-      })
+  amid_starts {begun = begun} {store = store} p same = grind (arith, common_steps)
 
   module _ {n : ℕ} {from : List Reader} {first store : Slots} {now : BegunText} (a : RowAmid row n from first now store)
       {b : Reader} (x : IsNextReader row now.readers n b) where
@@ -566,10 +549,7 @@ module _ {row : RowShape} where
       let size = length-take-le n _ room in
       let same = ext_get_or [] (drop k slots) (drop k a.fields)
       (grind (arith, common_steps))
-      (λ i low. get_or-drop k slots i []
-      ∙ get_or-take n _ (k + i) [] (omega (arith, length-drop k slots))
-      ∙ a.held (k + i) (omega arith) (omega (arith, length-drop k slots))
-      ∙ sym (get_or-drop k a.fields i [])) in
+      (grind (arith, common_steps)) in
       let here : k ≡ 0 + length front = omega arith in
       cc (cells_text-append row 0 front (drop k a.fields), take-append-drop k a.fields)
 
