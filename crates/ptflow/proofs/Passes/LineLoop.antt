@@ -403,7 +403,8 @@ module _ {S X E : Type 0} {tool : ToolSpec} {state : S → Slots → X} {rest_fr
 
         -- a write failed at the lines of the block
         pub run_block_halts : {block : List ℕ} → block ≡ reader.buffered → {is' : Output}
-            → Halt now (complete_lines tool.end block) is is' → PassPost tool old reader was is' before store (Err Write)
+            → Halt now (complete_lines tool.end block) is is'
+            → PassPost tool old reader was is' before store (Err Write)
         run_block_halts {block} buffered halted =
             halts ended_here refl run.keeps.denied halted
             (λ rest may. (lines end ((line_split end block).piece ++ rest), cc (complete_prefix end block rest)))
