@@ -352,7 +352,17 @@ module _ (selected : ℕ → Bool) where
       → PickBegun index count row counts → one ≡ bool_byte (selected (index + 1))
       → after ≡ set counts (index + 1) (count + one) → PickBegun (index + 1) (count + one) (set row count index) after
   shuffle_next {index} {count} {row} {counts} {after} {one} low begun told after_is =
-      grind (arith, common_steps, All-set, length-set, stored_more, one_index, get_or-set_same, get_or-set_other, cases_eq)
+      grind (
+        arith,
+        common_steps,
+        All-set,
+        length-set,
+        stored_more,
+        one_index,
+        get_or-set_same,
+        get_or-set_other,
+        cases_eq,
+      )
 
   -- no byte of a line after its first `start` bytes is selected
   pub none_later : {X : Type 0} {max_len start count : ℕ} (xs : List X)

@@ -56,13 +56,8 @@ bounded_total width most ls short others = omega (arith, total_split width ls, p
 
 pub bounds_start : {width : ℕ} {before store : Slots} → AddedSlots before store width → store.denied ≡ false
     → total_bytes store.lines ≡ 0 → store.peak ≡ before.peak → SlotBounds width 0 before store
-bounds_start {width} {store} adds denied empty peak = record {
-  denied = denied;
-  size = adds.all denied;
-  short = grind (arith, common_steps, get_or-le-sum_by);
-  others = omega (arith, total_split width store.lines);
-  peak = omega (arith, peak);
-}
+bounds_start {width} {store} adds denied empty peak =
+    grind (arith, common_steps, get_or-le-sum_by, total_split width store.lines)
 
 pub bounds_weaker : {width most : ℕ} (more : ℕ) {before store : Slots} → SlotBounds width most before store
     → most ≤ more → SlotBounds width more before store
@@ -98,7 +93,7 @@ bounds_line {width} {most} {store} new slot bytes bounds within fits is = record
 -- the first and the last slot may have been swapped
 pub swapped_room : {width : ℕ} {before after : Slots} → IsSwapped width before after → 0 < width
     → width ≤ length before.lines → width ≤ length after.lines
-swapped_room = grind (arith, common_steps, swap_is, length-set)
+swapped_room = grind (arith, swap_is, length-set)
 
 pub bounds_swapped : {width most : ℕ} {before store : Slots} (new : Slots) → 0 < width
     → SlotBounds width most before store → IsSwapped width store new → SlotBounds width most before new
@@ -408,7 +403,8 @@ module _ {S X E : Type 0} {tool : ToolSpec} {state : S → Slots → X} {rest_fr
 
         -- a write failed at the lines of the block
         pub run_block_halts : {block : List ℕ} → block ≡ reader.buffered → {is' : Output}
-            → Halt now (complete_lines tool.end block) is is' → PassPost tool old reader was is' before store (Err Write)
+            → Halt now (complete_lines tool.end block) is is'
+            → PassPost tool old reader was is' before store (Err Write)
         run_block_halts {block} buffered halted =
             halts ended_here refl run.keeps.denied halted
             (λ rest may. (lines end ((line_split end block).piece ++ rest), cc (complete_prefix end block rest)))

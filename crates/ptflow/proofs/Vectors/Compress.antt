@@ -68,7 +68,7 @@ lowest m = grind (arith, nat_tests)
 
 mask_of_flags : (n m : ℕ) → m < 2 ^ n → mask_l (flags_of n m) ≡ m
 mask_of_flags zero m low = omega arith
-mask_of_flags (suc n) m low = omega (arith, lowest m, mask_of_flags n (m / 2) (omega (arith, pow-succ' 2 n)))
+mask_of_flags (suc n) m low = grind (arith, common_steps, lowest, mask_of_flags n (m / 2), pow-succ')
 
 -- ---- lanes by their indices
 
@@ -110,11 +110,13 @@ row_selects {flags} {row} v room is =
 pub selected_stored : (at n : ℕ) (into lanes : List ℕ) → length lanes ≡ 16 → n ≤ 16 → at + 16 ≤ length into
     → take (at + n) (put_chunk at into lanes) ≡ take at into ++ take n lanes
 selected_stored at n into lanes long few room =
-    let stored = put_chunk at into lanes in
     let front : length (take at into) ≡ at = length-take-le at into (omega arith) in
-    sym (grind (arith, common_steps))
-    ∙ ap (take (at + n)) (take_more_put_chunk at into lanes (at + 16) (omega (arith, long)) room)
-    ∙ ap (λ k. take k (take at into ++ lanes)) (omega arith) ∙ take-append-add (take at into) lanes n
+    grind (
+      arith,
+      common_steps,
+      take_more_put_chunk at into lanes (at + 16),
+      take-append-add (take at into) lanes n,
+    )
 
 -- ---- the row of a mask, index by index
 
@@ -300,9 +302,8 @@ module _ (test : ℕ → Bool) where
 
       module _ (at : ℕ) (room : at + 64 ≤ length bytes) where
         four : kept_at at 64 ≡ ((kept_at at 16 ++ kept_at (at + 16) 16) ++ kept_at (at + 32) 16) ++ kept_at (at + 48) 16
-        four = kept_two at 48 16 (omega arith)
-            ∙ ap (λ l. l ++ kept_at (at + 48) 16) (kept_two at 32 16 (omega arith)
-            ∙ ap (λ l. l ++ kept_at (at + 32) 16) (kept_two at 16 16 (omega arith)))
+        four =
+            cc (kept_two at 48 16 (omega arith), kept_two at 32 16 (omega arith), kept_two at 16 16 (omega arith))
 
         -- the bytes kept of four vectors, appended one after another
         pub kept_in_four : (t : List ℕ) {a b c d : List ℕ} → a ≡ t ++ kept_at at 16

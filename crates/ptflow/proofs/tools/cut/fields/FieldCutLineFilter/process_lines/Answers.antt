@@ -39,7 +39,8 @@ returns-in_err-push-clause-halts g c =
     })
 
 -- no complete line is left
-none_left : (g : given.Over) (c : In_default g) → IsLine (cut_job c.args.self.now.by.job.now).terminator c.lines.rest.now
+none_left : (g : given.Over) (c : In_default g)
+    → IsLine (cut_job c.args.self.now.by.job.now).terminator c.lines.rest.now
 none_left g c = line_if_not_found _ _
     (rw (c.new.ensures.byte, c.new.ensures.bytes, c.args.self.now.by.ends) at c.in_default.ensures)
 
