@@ -10,7 +10,7 @@ use proofs.Common.{is_selected, drop-drop, zero, suc, ◌<◌, true, cond, set, 
 use proofs.Common.{◌∙◌, w8, All, nat_le, range_with_len, nat_tests, take-add, Each1}
 use proofs.Common.{Each1-from_get_or, swz_l, pick_l-range_with_len, take-map, take-take, take-append-le, take_all}
 use proofs.Common.{length-take-le, append-nil, All-set, length-range_with_len, cases_eq, put_chunk, length-drop}
-use proofs.Common.{length-swz_l, slice_get, take_more_set, min, drop_all, drop_more, AreSeparated, and_right}
+use proofs.Common.{length-swz_l, slice_get, take_more_set, min, drop_all, drop_more, AreSeparated}
 use Rattle.ptflow.specs.declared.tools.cut.bytes.Line.{Line}
 use proofs.Passes.Exits.{split_of, LineSplit, line_split}
 use Rattle.std.proofs.Common.{get_or-set_same, get_or-set_other, length-set}

@@ -39,8 +39,8 @@ fn skip_fields(delimiters: &ByteMatches, from: usize, to: usize, count: u64) -> 
     }
 }
 
-// What is left of the output for a line: the fields that these intervals select. The field after the first `passed` ones
-// starts at index `at` of the line; if there is no such field, `at` is after its end.
+// What is left of the output for a line: the fields that these intervals select. The field after the first `passed`
+// ones starts at index `at` of the line; if there is no such field, `at` is after its end.
 #[derive(Clone, Copy)]
 struct FieldCursor<'a> {
     left: &'a [Interval],
