@@ -16,9 +16,9 @@ use crate::slots::ensure_slots;
 use ptlines::{LineFault, LineReader, Out, Sink, Source, Store, WriteFault};
 use std::alloc::Allocator;
 
-/// A tool that works line by line, together with the state that it carries from line to line, apart from the lines in
-/// the slots. The next line of a reader is read into the tool's last slot, as it may span several blocks. The lines
-/// after it that end in the same block are processed in place.
+/// A tool that works line by line, together with the state that it carries from line to line. (Lines that it carries are
+/// in the slots of the store.) The next line of a reader is read into the tool's last slot, as it may span several
+/// blocks. The lines after it that end in the same block are processed in place.
 pub(crate) trait LineFilter {
     /// The number of slots that the tool uses.
     ghost SLOTS: { ℕ };

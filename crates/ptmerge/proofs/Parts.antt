@@ -1,8 +1,8 @@
 -- Output of inputs in parts. Inputs that are split at the same key: the keys of the first parts are below those of
 -- the second, so the distinct keys of the whole are those of the first parts followed by those of the second, and so
 -- are the entries; a disorder can only be in the second parts. Inputs that are distributed over parts by a function
--- of the key: a filter by keys commutes with computing the distinct keys, so each part has the entries of its keys,
--- and the entries of all parts are a permutation of all entries.
+-- of the key: a filter by keys commutes with computing the distinct keys (`MergeLemmas.Exits.Invariant`), so each part
+-- has the entries of its keys, and the entries of all parts are a permutation of all entries.
 use Rattle.ptmerge.proofs
 use proofs.Common.{arith, ◌≡◌, ℕ, ◌+◌, List, [], ◌∷◌, ◌++◌, Bool, true, false, Option, Some, None, refl, ap, sym}
 use proofs.Common.{◌∙◌, filter, Less, Side, First, Second, Lines, MergeTool, FirstDisorder, entries_by_key, disorder}

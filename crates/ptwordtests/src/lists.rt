@@ -302,7 +302,7 @@ fn last_delim(alloc: &FailingAlloc<Global>) -> Result<Option<u8>, DelimFault> {
     Ok(Delims::read(alloc, b"abcdefghi")?.at(8))
 }
 
-// The three lists allocate four, two and three times.
+// The three lists allocate three times, once and three times.
 #[test]
 fn each_growth_refused_in_turn(rt: HostRuntime) {
     for passed in 0..8u64 {

@@ -55,7 +55,8 @@ fn last_selected<A: Allocator>(list: &Ranges<A>) -> u64
 }
 
 impl LineShuffles {
-    // The shuffles for a list, up to its last position or for the first 128 bytes of a line.
+    // The shuffles for a list. `count` of them reach its last position or, if that is later, byte 128 of a line. If there
+    // are at most two ranges, they reach byte 64, since in a longer line copying the ranges is faster.
     pub(crate) fn of<A: Allocator>(list: &Ranges<A>) -> LineShuffles
         ensures { AreLineShuffles (is_selected list.now) result }
     {
@@ -64,10 +65,15 @@ impl LineShuffles {
             pieces[index] = PieceShuffle::of(list, 16 * index);
         }
         let last = last_selected(list);
+        let limit = if list.intervals().len() > 2 { 128 } else { 64 };
         LineShuffles {
             pieces,
-            count: last.min(128).div_ceil(16) as usize,
-            max_len: if last <= 128 { usize::MAX } else { 128 },
+            count: last.min(limit).div_ceil(16) as usize,
+            max_len: if last <= limit {
+                usize::MAX
+            } else {
+                limit as usize
+            },
         }
     }
 }
