@@ -32,8 +32,8 @@ use Rattle.ptmerge.specs.JoinGroup.{EnsureSlotPost, CopyToGroupErrPost, is_head}
 
 -- ---- the slots of a group
 
--- In the store of `join` the slots 0 to 3 hold two lines of each input, and the slots from 4 on hold the group. The group
--- is a part of the lines of one key, so it is bounded by the largest group.
+-- In the store of `join` the slots 0 to 3 hold two lines of each input, and the slots from 4 on hold the group. It is a
+-- part of the lines of one key, so it is bounded by the largest group.
 
 -- the lines of the group, from a slot on
 pub group_from : (store : Slots) (end slot : ℕ) → end ≤ length store.lines → slot < end
