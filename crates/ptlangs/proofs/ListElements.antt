@@ -46,23 +46,12 @@ some_since : {X : Type 0} (b : Bool) {x : X} (y : X) → cond b (Some x) None �
 some_since = grind arith
 
 pub split_whole : {X : Type 0} (p : X → Bool) (xs : List X) → position p xs ≡ None → slice_split p xs ≡ xs ∷ []
-split_whole p xs h =
-    let none = ltb-false _ _
-    (none_since _ _ h) in
-    slice_split_none p xs (λ k d below. fails_before_first p xs k d (omega arith))
+split_whole = grind (arith, common_steps, ltb-false, none_since, slice_split_none, fails_before_first)
 
 -- the last argument is the value of `&xs[i + 1..]`
 pub split_around : {X : Type 0} (p : X → Bool) (xs : List X) (i : ℕ) → position p xs ≡ Some i
     → slice_split p xs ≡ take i xs ∷ slice_split p (take (length xs - (i + 1)) (drop (i + 1) xs))
-split_around p [] i h = cc
-split_around p (x ∷ xs) i h =
-    let (below, at) = some_since _
-    i h in
-    let first = slice_split_first p (x ∷ xs) x (ltb-true _ _ below) in
-    let rest =
-    take_all (length (x ∷ xs) - (i + 1)) (drop (i + 1) (x ∷ xs))
-    (omega (arith, length-drop (i + 1) (x ∷ xs))) in
-    search rules
+split_around = grind (arith, common_steps, some_since, slice_split_first, ltb-true, take_all, length-drop)
 
 -- ---- reading the elements from left to right
 
@@ -209,10 +198,7 @@ digit_no_dash : (b : ℕ) → is_ascii_digit b ≡ true → is_dash b ≡ false
 digit_no_dash b h = grind arith
 
 bound_is_one_part : (m : List ℕ) → is_bound m ≡ true → slice_split is_dash m ≡ m ∷ []
-bound_is_one_part [] h = refl
-bound_is_one_part (b ∷ bs) h =
-    slice_split_none is_dash _ (λ k d below. digit_no_dash _
-    (AllPass-from_list_all is_ascii_digit (b ∷ bs) h k d below))
+bound_is_one_part = grind (arith, common_steps, slice_split_none, digit_no_dash, AllPass-from_list_all)
 
 bounds_rejected : (n m : List ℕ) → is_bound m ≡ false → interval_of_bounds n m ≡ None
 bounds_rejected = grind arith
@@ -246,9 +232,6 @@ parts_around_dash bs i h = ap interval_of_parts (split_around is_dash bs i h)
 -- ---- from the intervals in the order of the list to the merged intervals
 
 -- an interval that passes the check is valid
-abbrev Proper : Interval → Interval → Result Interval ListFault → Type 0
-Proper s r checked_interval = checked_interval ≡ Ok r → (Some s ≡ Some r) × IsValidInterval r
-
 checked_proper : (interval_of_parts : Option Interval) (r : Interval) → checked_interval interval_of_parts ≡ Ok r
     → (interval_of_parts ≡ Some r) × IsValidInterval r
 checked_proper = grind arith
@@ -304,10 +287,7 @@ checked_ok = grind arith
 -- an element with a dash after its lower bound
 bounds_at_dash : (n m : List ℕ) → is_number n ≡ true → element_interval (n ++ 45 ∷ m)
     ≡ checked_interval (interval_of_bounds n m)
-bounds_at_dash [] m h = cc
-bounds_at_dash (b ∷ n) m h = ap checked_interval
-    (ap interval_of_parts (slice_split_at is_dash (b ∷ n) 45 m (digits_fail is_dash digit_no_dash (b ∷ n) h) refl)
-    ∙ parts_after_dash (b ∷ n) m)
+bounds_at_dash = grind (arith, common_steps, slice_split_at, digits_fail, digit_no_dash, parts_after_dash)
 
 accepts_interval : (bs : List ℕ) (r : Interval) → SpellsInterval bs r → IsValidInterval r → element_interval bs ≡ Ok r
 accepts_interval bs r (One n h) valid = grind (arith, common_steps, bound_is_one_part, checked_ok)
@@ -321,8 +301,7 @@ unbroken_interval : (bs : List ℕ) (r : Interval) → SpellsInterval bs r → U
 unbroken_interval bs r (One n h) = unbroken_number n h
 unbroken_interval bs r (FromTo n m h k) = grind (arith, unbroken_append, unbroken_number, unbroken_cons)
 unbroken_interval bs r (UpTo m h) = unbroken_cons 45 m refl (unbroken_number m h)
-unbroken_interval bs r (From n h) =
-    unbroken_append n _ (unbroken_number n h) (unbroken_cons 45 [] refl unbroken_nil)
+unbroken_interval bs r (From n h) = grind (arith, unbroken_append, unbroken_number, unbroken_cons, unbroken_nil)
 
 -- ---- from `cut_list` to the grammar
 
@@ -388,17 +367,13 @@ pub record Merges (sorted kept : List Interval) (current : Interval) (rest : Lis
 AreSeparated-longer : (low : ℕ) (kept : List Interval) (r s : Interval) → s.first ≡ r.first → r.last ≤ s.last
     → AreSeparated low (kept ++ r ∷ []) → AreSeparated low (kept ++ s ∷ [])
 AreSeparated-longer low [] r s e h separated = grind arith
-AreSeparated-longer low (k ∷ kept) r s e h separated =
-    let (above, ascending, others) = separated in
-    (above, ascending, AreSeparated-longer (k.last + 1) kept r s e h others)
+AreSeparated-longer low (k ∷ kept) r s e h separated = grind (arith, AreSeparated-longer (k.last + 1) kept)
 
 -- an interval after a gap may be appended
 AreSeparated-more : (low : ℕ) (kept : List Interval) (r s : Interval) → r.last + 1 < s.first → s.first ≤ s.last
     → AreSeparated low (kept ++ r ∷ []) → AreSeparated low ((kept ++ r ∷ []) ++ s ∷ [])
 AreSeparated-more low [] r s gap proper separated = grind arith
-AreSeparated-more low (k ∷ kept) r s gap proper separated =
-    let (above, ascending, others) = separated in
-    (above, ascending, AreSeparated-more (k.last + 1) kept r s gap proper others)
+AreSeparated-more low (k ∷ kept) r s gap proper separated = grind (arith, AreSeparated-more (k.last + 1) kept)
 
 abbrev holds : ℕ → Interval → Bool
 holds n r = leb r.first n && leb n r.last

@@ -24,10 +24,10 @@ use Rattle.ptlangs.specs.TrPlan.{are_paired, class_offsets, has_byte, has_other_
 use Rattle.ptlangs.specs.TrPlan.{next_index_or, padded_to, segment}
 use Rattle.ptlangs.specs.declared.faults.SetFaultKind.TheVariants.{ClassPlace}
 use Rattle.ptlangs.specs.declared.tr.images.Images.{Images}
-use Rattle.ptlangs.specs.declared.tr.segments.Segment.TheVariants.{Class, Fill, Range, Repeat}
+use Rattle.ptlangs.specs.declared.tr.segments.Segment.TheVariants.{Fill}
 use Rattle.std.proofs.Common.{inl, inr, min, ◌&&◌, ◌⊎◌}
 use Rattle.std.proofs.Math.ListN.{get_or, set}
-use Rattle.std.proofs.lemmas.Bool.{cases_lt, cases_eq, eq-eqb, or_right}
+use Rattle.std.proofs.lemmas.Bool.{cases_lt, eq-eqb, or_right}
 use Rattle.std.proofs.lemmas.List.Elements.{filter-append, filter_more}
 use Rattle.std.proofs.lemmas.List.Folds.{list_any-append, list_any_at}
 use Rattle.std.proofs.lemmas.List.FromFn.{get_or-map-range_with_len, get_or-range_with_len, length-map-range_with_len}
@@ -35,33 +35,23 @@ use Rattle.std.proofs.lemmas.List.FromFn.{length-range_with_len}
 use Rattle.std.proofs.lemmas.List.{drop-map, drop-replicate, get_or-replicate, get_or_default, length-map}
 use Rattle.std.proofs.lemmas.List.{length-replicate, length-set, map-id, same_lists, take-append-drop, take-map}
 use Rattle.std.proofs.lemmas.Map.Views.{any-filter_same}
-use Rattle.std.proofs.lemmas.Option.{slice_get-get_or, slice_get_past, slice_get_within}
+use Rattle.std.proofs.lemmas.Option.{slice_get-get_or, slice_get_cases, slice_get_past, slice_get_within}
+use Rattle.std.proofs.lemmas.List.{get_or-take}
+use Rattle.std.proofs.lemmas.List.Sums.{length-filter}
 use Rattle.std.specs.List.{last_or}
-use Rattle.std.specs.Option.{option_and_then, option_to_list}
+use Rattle.std.specs.Option.{option_and_then}
 use Rattle.std.specs.Prelude.{IfSome, filter, is_some, unwrap_or, ◌^◌}
 
 slice_get-left : {X : Type 0} (xs ys : List X) (i : ℕ) → i < length xs → slice_get (xs ++ ys) i ≡ slice_get xs i
-slice_get-left [] ys i h = absurd (omega arith)
-slice_get-left (x ∷ xs) ys zero h = refl
-slice_get-left (x ∷ xs) ys (suc i) h = slice_get-left xs ys i (omega arith)
+slice_get-left = grind (arith, common_steps, slice_get_cases)
 
 slice_get-right : {X : Type 0} (xs ys : List X) (i j : ℕ) → i ≡ length xs + j
     → slice_get (xs ++ ys) i ≡ slice_get ys j
-slice_get-right [] ys i j e = grind arith
-slice_get-right (x ∷ xs) ys zero j e = absurd (omega arith)
-slice_get-right (x ∷ xs) ys (suc i) j e = slice_get-right xs ys i j (omega arith)
-
-slice_get-none : {X : Type 0} (xs : List X) (i : ℕ) → None ≡ slice_get xs i → length xs ≤ i
-slice_get-none [] i e = omega arith
-slice_get-none (x ∷ xs) zero e = absurd (cc)
-slice_get-none (x ∷ xs) (suc i) e = omega (arith, slice_get-none xs i e)
+slice_get-right = grind (arith, common_steps, slice_get_cases)
 
 pub span_there : (first last index : ℕ) → index < length (span first last)
     → Some (first + index) ≡ slice_get (span first last) index
-span_there first last index h =
-    let within : index < last + 1 - first = omega (arith, length-range_with_len first (last + 1 - first)) in
-    sym (slice_get-get_or _ index 0 h
-    ∙ ap Some (get_or-range_with_len first _ index 0 within))
+span_there = grind (arith, common_steps, slice_get_cases, length-range_with_len, get_or-range_with_len)
 
 pub span_past : (first last index : ℕ) → length (span first last) ≤ index → None ≡ slice_get (span first last) index
 span_past first last index h = sym (slice_get_past _ index h)
@@ -99,9 +89,7 @@ room bytes i (Some b) e h = omega (arith, slice_get_within bytes i b (sym e))
 -- ---- copies of one byte
 
 pub repeat_there : (n b i : ℕ) → i < n → Some b ≡ slice_get (replicate n b) i
-repeat_there n b i h =
-    sym (slice_get-get_or _ i 0 (omega (arith, length-replicate n b))
-    ∙ ap Some (get_or-replicate n i b 0 h))
+repeat_there = grind (arith, common_steps, slice_get_cases)
 
 pub repeat_past : (n b i : ℕ) → n ≤ i → None ≡ slice_get (replicate n b) i
 repeat_past = grind (arith, common_steps, slice_get_past)
@@ -154,15 +142,9 @@ sequence-members n (Err k ∷ rs) = refl
 -- if no segment has a fault, all bytes are read
 members-ok : (n : ℕ) (rs : List (Result Segment SetFaultKind)) (ps : List Segment) → sequence rs ≡ Ok ps
     → member_results n rs ≡ map Ok (marked_array n ps)
-members-ok n [] [] e = refl
-members-ok n [] (p ∷ ps) e = absurd (cc)
-members-ok n (Err k ∷ rs) ps e = absurd (cc)
-members-ok n (Ok x ∷ rs) ps e =
-    let all = reads_first (Ok x) _ ps e in
-    let read = all.read in
-    let first : all.head ≡ x = cc in
-    rw (← all.is, first) (ap (λ ys. map Ok (marked_members n x) ++ ys) (members-ok n rs all.tail all.rest)
-    ∙ sym (map-append Ok _ _))
+members-ok n [] ps e = grind arith
+members-ok n (Err k ∷ rs) ps e = grind arith
+members-ok n (Ok x ∷ rs) ps e = grind (arith, reads_first, map-append, members-ok n rs)
 
 pub member_bytes-plain : (bytes : List ℕ) → member_bytes (plain_members bytes) ≡ bytes
 member_bytes-plain [] = refl
@@ -181,9 +163,7 @@ pub length-marked : (n : ℕ) (x : Segment) → length (marked_members n x) ≡ 
 length-marked n x = grind (arith, length-map, member_bytes-members)
 
 pub drop-found : {X : Type 0} (xs : List X) (i : ℕ) (x : X) → Some x ≡ slice_get xs i → drop i xs ≡ x ∷ drop (i + 1) xs
-drop-found [] i x e = absurd (cc)
-drop-found (y ∷ xs) zero x e = cc
-drop-found (y ∷ xs) (suc i) x e = grind (arith, drop-found xs i x e)
+drop-found = grind (arith, slice_get_cases, drop_more)
 
 -- ---- the bytes after a segment that was passed
 
@@ -191,20 +171,14 @@ drop-found (y ∷ xs) (suc i) x e = grind (arith, drop-found xs i x e)
 pub segment-passed : (n : ℕ) (x : Segment) (i : ℕ) (rs : List (Result Segment SetFaultKind))
     → None ≡ slice_get (marked_members n x) i
     → map {B = Result Member SetFaultKind} Ok (drop i (marked_members n x)) ++ member_results n rs ≡ member_results n rs
-segment-passed n x i rs e = rw (drop_all i _ (slice_get-none _ i e)) refl
+segment-passed = grind (arith, slice_get_cases, drop_all)
 
 -- ---- the copies of a byte, passed at once
 
 -- if a segment has only copies of a byte, those from an index on are passed
 pub copies-passed : (count i b : ℕ) (ms : List Member) → (0 < count → ms ≡ plain_members (replicate count b))
     → drop i ms ≡ plain_members (replicate (count - i) b) ++ drop (i + (count - i)) ms
-copies-passed zero i b ms h = grind arith
-copies-passed (suc n) i b ms h =
-    let copies = plain_members (replicate (suc n) b) in
-    let all : length copies ≤ i + (suc n - i) =
-    grind (arith, common_steps) in
-    rw (h (omega arith), drop_all _ copies all, append-nil _)
-    (search (rules, drop-map, drop-replicate))
+copies-passed = grind (arith, common_steps, drop_all, append-nil, drop-map, drop-replicate)
 
 -- ---- the string of the segments
 
@@ -273,19 +247,8 @@ offsets-class = grind (arith, offsets-plain)
 
 class_offsets-are : (n : ℕ) (ps : List Segment) (at : ℕ) → class_offsets n at ps ≡ offsets at (marked_array n ps)
 class_offsets-are n [] at = refl
-class_offsets-are n (Range a b ∷ ps) at = class_offsets-are n ps _
-    ∙ sym (offsets-members at (span a b) _)
-class_offsets-are n (Class class ∷ ps) at =
-    ap (λ os. (at, class) ∷ os) (class_offsets-are n ps _)
-    ∙ sym (offsets-class at class _ _ (class_bytes-some class))
-class_offsets-are n (Repeat b count ∷ ps) at = grind (
-  arith,
-  common_steps,
-  offsets-members,
-  class_offsets-are n ps (at
-      + count),
-)
-class_offsets-are n (Fill b ∷ ps) at = grind (arith, common_steps, offsets-members, class_offsets-are n ps (at + n))
+class_offsets-are n (x ∷ ps) at =
+    grind (arith, common_steps, offsets-members, offsets-class, class_bytes-some, class_offsets-are n ps)
 
 offset_first : (at k : ℕ) (o : Option CharClass) (later : List (ℕ × CharClass)) (class : CharClass)
     → has_other_case_at (offset_of at o ++ later) k class
@@ -297,20 +260,14 @@ none_before : (ms : List Member) (at k : ℕ) (class : CharClass) → k < at
     → has_other_case_at (offsets at ms) k class ≡ false
 none_before [] at k class low = refl
 none_before (m ∷ ms) at k class low =
-    rw (offset_first at k m.class, ne_eqb at k (λ e. omega arith)) (none_before ms _ k class (omega arith))
+    grind (arith, offset_first, ne_eqb, none_before ms (suc at) k class (omega arith))
 
 stands_here : (ms : List Member) (at i k : ℕ) (class : CharClass) → at + i ≡ k
     → has_other_case_at (offsets at ms) k class ≡ classes_match (class_here ms i) (Some class)
 stands_here [] at i k class e = refl
-stands_here (m ∷ ms) at zero k class e =
-    rw (offset_first at k m.class, eq-eqb at k (omega arith), none_before ms (suc at) k class (omega arith))
-    (or_false _)
-  where
-    or_false : (t : Bool) → (t || false) ≡ t
-    or_false true = refl
-    or_false false = refl
+stands_here (m ∷ ms) at zero k class e = grind (arith, offset_first, eq-eqb, none_before)
 stands_here (m ∷ ms) at (suc i) k class e =
-    rw (offset_first at k m.class, ne_eqb at k (λ z. omega arith)) (stands_here ms _ i k class (omega arith))
+    grind (arith, offset_first, ne_eqb, stands_here ms (suc at) i k class (omega arith))
 
 -- one byte of the second array against the first array from the same index on
 all_paired-more : (i : ℕ) (from : List Member) (t : Member) (to : List Member)
@@ -329,8 +286,7 @@ paired_first from i (Some c) later = grind (arith, stands_here)
 
 paired_from : (from to : List Member) (i : ℕ) → are_paired (offsets 0 from) (offsets i to) ≡ all_paired (drop i from) to
 paired_from from [] i = refl
-paired_from from (t ∷ to) i = paired_first from i t.class _
-    ∙ rw (paired_from from to (suc i)) (sym (all_paired-more i from t to))
+paired_from from (t ∷ to) i = grind (arith, paired_first, paired_from from to (suc i), all_paired-more)
 
 -- the classes are paired as the definition states it
 pub paired-arrays : (n : ℕ) (firsts seconds : List Segment)
@@ -367,13 +323,9 @@ none_contained = same_table _ _ false (length-replicate 256 false) (λ i h. get_
 -- writing one entry of a table
 set-table : {X : Type 0} (f g : ℕ → X) (i : ℕ) (v : X) → i < 256 → g i ≡ v → ((k : ℕ) → k ≢ i → g k ≡ f k)
     → set (map f all_bytes) i v ≡ map g all_bytes
-set-table {X} f g i v h e others =
+set-table f g i v h e others =
     same_table _ g v (length-set _ i v ∙ length-table f)
-    (λ k under. by_cases k under (cases_eq k i))
-  where
-    by_cases : (k : ℕ) → k < 256 → ((k ≡ i) ⊎ (k ≡ i → ⊥)) → get_or (set (map f all_bytes) i v) k v ≡ g k
-    by_cases k under (inl same) = search (rules, length-table)
-    by_cases k under (inr other) = search (rules, get_or-table)
+    (λ k under. grind (arith, common_steps, length-table, get_or-table, others))
 
 -- ---- appending a byte
 
@@ -450,8 +402,7 @@ has_byte-complement : (bytes : List ℕ) (b : ℕ) → b < 256 → has_byte b (c
 has_byte-complement = grind (arith, has_byte-filter, has_byte-all)
 
 length-filter-map : (f : ℕ → Bool) (xs : List ℕ) → count_by not (map f xs) ≡ length (filter (λ b. not (f b)) xs)
-length-filter-map f [] = refl
-length-filter-map f (x ∷ xs) = grind (arith, common_steps, length-filter-map f xs)
+length-filter-map = grind (arith, common_steps, length-filter)
 
 -- the complement of an array, from a table and a count of the bytes that the array does not contain
 pub complement-is : (old : Contents) (bytes : List ℕ) (has : List Bool) (count : ℕ) → old ≡ contents_of bytes
@@ -484,10 +435,7 @@ last_position-lt c [] = tt
 last_position-lt c (b ∷ bytes) = next_index-lt _ _ _ (last_position-lt c bytes)
 
 slice_get-take : (n : ℕ) (xs : List ℕ) (i : ℕ) → i < n → slice_get (take n xs) i ≡ slice_get xs i
-slice_get-take zero xs i h = absurd (omega arith)
-slice_get-take (suc n) [] i h = refl
-slice_get-take (suc n) (x ∷ xs) zero h = refl
-slice_get-take (suc n) (x ∷ xs) (suc i) h = slice_get-take n xs i (omega arith)
+slice_get-take = grind (arith, common_steps, slice_get_cases)
 
 last_or-some : (o : Option ℕ) (b : ℕ) (bytes : List ℕ)
     → last_or o (b ∷ bytes) ≡ Some (get_or (b ∷ bytes) (length bytes) 0)
@@ -575,36 +523,25 @@ pub never_fault : {X : Type 0} (ms : List Member) (rs : List (Result Member SetF
 never_fault = grind (arith, sequence-ok)
 
 -- one byte of the second array is taken
-pub record TakesNext (n : ℕ) (to : List Member) (t : Member) (after : List (Result Member SetFaultKind)) : Type 0 where
+pub record TakesNext (o : Option ℕ) (n : ℕ) (to : List Member) (t : Member)
+    (after : List (Result Member SetFaultKind)) : Type 0 where
   pub at : drop n to ≡ t ∷ drop (suc n) to
   pub left : after ≡ AllOk (drop (suc n) to)
-  pub last : last_or None (member_bytes (take (suc n) to)) ≡ Some t.byte
+  pub last : last_or o (member_bytes (take (suc n) to)) ≡ Some t.byte
 
 takes_next : (o : Option ℕ) (n : ℕ) (to : List Member) (t : Member) (after : List (Result Member SetFaultKind))
-    → AllOk (drop n to) ≡ Ok t ∷ after
-    → (drop n to ≡ t ∷ drop (suc n) to) × (after ≡ AllOk (drop (suc n) to))
-    × (last_or o (member_bytes (take (suc n) to)) ≡ Some t.byte)
+    → AllOk (drop n to) ≡ Ok t ∷ after → TakesNext o n to t after
 takes_next o zero [] t after e = absurd (cc)
 takes_next o zero (x ∷ to) t after e = grind arith
 takes_next o (suc n) [] t after e = absurd (cc)
-takes_next o (suc n) (x ∷ to) t after e = takes_next _ n to t after e
-
-next_taken : (n : ℕ) (to : List Member) (t : Member) (after : List (Result Member SetFaultKind))
-    → AllOk (drop n to) ≡ Ok t ∷ after → TakesNext n to t after
-next_taken n to t after e = let (at, left, last) = takes_next None n to t after e in
-    search rules
+takes_next o (suc n) (x ∷ to) t after e = let next = takes_next (Some x.byte) n to t after e in search rules
 
 -- no byte of the second array is left
-pub record HasEnded (n : ℕ) (to : List Member) : Type 0 where
-  pub now : drop n to ≡ []
-  pub next : drop (suc n) to ≡ []
-  pub taken : take (suc n) to ≡ take n to
-
-pub ended : (n : ℕ) (to : List Member) → AllOk (drop n to) ≡ [] → HasEnded n to
-ended zero [] e = grind arith
+ended : (n : ℕ) (to : List Member) → AllOk (drop n to) ≡ [] → length to ≤ n
+ended zero [] e = omega arith
 ended zero (x ∷ to) e = absurd (cc)
-ended (suc n) [] e = grind arith
-ended (suc n) (x ∷ to) e = grind (arith, ended n to e)
+ended (suc n) [] e = omega arith
+ended (suc n) (x ∷ to) e = omega (arith, ended n to e)
 
 module _ (before to : List Member) (old : Images) (from : Member) (h : HasPaired before to old)
     (fits : from.byte < 256) where
@@ -632,18 +569,18 @@ module _ (before to : List Member) (old : Images) (from : Member) (h : HasPaired
         second = second;
         last = Some t.byte;
       })
-  push-next = grind (arith, next_taken, paired)
+  push-next = grind (arith, takes_next, paired)
 
   -- none is left: the last one stays
   pub push-last : (second : Bytes) → bytes_left old.second ≡ [] → bytes_left second ≡ []
       → HasPaired (before ++ from ∷ []) to
       (record { table = set old.table from.byte (unwrap_or old.last from.byte); second = second; last = old.last })
-  push-last = grind (arith, ended, paired)
+  push-last = grind (arith, ended, paired, drop_all, take_all)
 
   -- a class without its other case
   pub push-unpaired : (after : List (Result Member SetFaultKind)) (t : Member) → bytes_left old.second ≡ Ok t ∷ after
       → classes_match from.class t.class ≡ false → (more : List Member) → all_paired (before ++ from ∷ more) to ≡ false
-  push-unpaired = grind (arith, next_taken)
+  push-unpaired = grind (arith, takes_next None)
 
 -- the images and the table after a step, as the code writes them
 pub written : (before to : List Member) (m : Images) (i u byte : ℕ) (table : List ℕ) (second : Bytes) (last : Option ℕ)

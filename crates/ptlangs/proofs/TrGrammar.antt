@@ -28,7 +28,7 @@ use Rattle.ptlangs.specs.TrPlan.{FirstFault, FirstFaultIsReported, LaterFault, N
 use Rattle.ptlangs.specs.declared.faults.SetFaultKind.TheVariants.{Octal}
 use Rattle.ptlangs.specs.declared.tr.elements.SetElement.TheVariants.{Class, Equivalence, Repeat, Single}
 use Rattle.std.proofs.Common.{All, inl, inr, nat_le, nat_lt}
-use Rattle.std.proofs.lemmas.Bool.{and_from, and_parts, cases_Bool, cases_eq, eq-eqb, le-leb, le-ltb, lt-leb, ltb-false}
+use Rattle.std.proofs.lemmas.Bool.{and_from, and_parts, cases_Bool, eq-eqb, le-leb, le-ltb, lt-leb, ltb-false}
 use Rattle.std.proofs.lemmas.Int.Digits.{digits_value_more}
 use Rattle.std.proofs.lemmas.List.Folds.{length-prefix_len}
 use Rattle.std.proofs.lemmas.List.Sums.{AllPass-from_list_all, prefix_len-le-length, prefix_len_passes, take_while-cons}
@@ -78,13 +78,16 @@ octal_value : (b : ℕ) → is_octal_digit b ≡ true → digit_value b < 8
 octal_value b h = grind (arith, rules)
 
 pub octal_digits : (bs : List ℕ) → All (λ d. digit_value d < 8) (take (length (octal_run bs)) bs)
-octal_digits bs k d h =
-    let n = prefix_len is_octal_digit (take 3 bs) in
-    let e = length-prefix_len is_octal_digit (take 3 bs) in
-    let within : k < n = omega (arith, length-take (length (octal_run bs)) bs) in
-    octal_value (get_or (take (length (octal_run bs)) bs) k d)
-    (rw take-octal_run (rw (get_or-take n _ k d within)
-    (grind (arith, prefix_len_passes))))
+octal_digits = grind (
+  arith,
+  common_steps,
+  length-prefix_len,
+  length-take,
+  octal_value,
+  take-octal_run,
+  get_or-take,
+  prefix_len_passes,
+)
 
 -- a backslash before an octal digit
 after_backslash-octal : (bs : List ℕ) (c : ℕ) → Some c ≡ slice_get bs 0 → is_octal_digit c ≡ true
@@ -148,18 +151,9 @@ chars_are bs us (AChar ds rest u more s others) = cc (char_is ds u rest s, chars
 
 run_spelled : (a : ℕ) (more : List ℕ) → is_octal_digit a ≡ true
     → IsOctalRun (octal_run (a ∷ more)) (drop (length (octal_run (a ∷ more))) (a ∷ more))
-run_spelled a [] ha = rw ha (OneDigit a [] ha refl)
-run_spelled a (b ∷ []) ha = elim (cases_Bool (is_octal_digit b)) [
-  | inl hb ↦ rw (ha, hb) (TwoDigits a b [] ha hb refl)
-  | inr hb ↦ rw (ha, hb) (OneDigit a (b ∷ []) ha hb)
-]
-run_spelled a (b ∷ c ∷ more) ha = elim (cases_Bool (is_octal_digit b)) [
-  | inl hb ↦ elim (cases_Bool (is_octal_digit c)) [
-    | inl hc ↦ rw (ha, hb, hc) (ThreeDigits a b c more ha hb hc)
-    | inr hc ↦ rw (ha, hb, hc) (TwoDigits a b (c ∷ more) ha hb hc)
-  ]
-  | inr hb ↦ rw (ha, hb) (OneDigit a (b ∷ c ∷ more) ha hb)
-]
+run_spelled a [] ha = grind (arith, OneDigit)
+run_spelled a (b ∷ []) ha = grind (arith, TwoDigits, OneDigit)
+run_spelled a (b ∷ c ∷ more) ha = grind (arith, TwoDigits, OneDigit, ThreeDigits)
 
 octal_spelled : (bs : List ℕ) → IsOctalRun (octal_run bs) (drop (length (octal_run bs)) bs)
     → SpellsChar (92 ∷ bs) (octal (digits_value 8 (octal_run bs))) (drop (length (octal_run bs)) bs)
@@ -181,10 +175,7 @@ escape_spelled (b ∷ more) = elim (cases_Bool (is_octal_digit b)) [
 ]
 
 first_spelled : (b : ℕ) (bs : List ℕ) → SpellsChar (b ∷ bs) (char_at b bs).0 (drop (char_at b bs).1 bs)
-first_spelled b bs = elim (cases_eq b 92) [
-  | inl e ↦ rw e (escape_spelled bs)
-  | inr n ↦ rw (ne_eqb b 92 n) (APlainByte b bs n)
-]
+first_spelled = grind (arith, escape_spelled, ne_eqb, APlainByte)
 
 spelled : (bs : List ℕ) (skip : ℕ) → SpellsChars (drop skip bs) (chars_after bs skip)
 spelled [] zero = NoChar
@@ -274,9 +265,7 @@ run_rest = grind (arith, common_steps, prefix_len-from_run, plain_run-chars, len
 -- each byte of a run passes the test
 list_all-plain_run : (test : ℕ → Bool) (us : List SetChar) → list_all test (plain_run test us) ≡ true
 list_all-plain_run test [] = refl
-list_all-plain_run test (Plain b ∷ us) = grind (arith, and_from, list_all-plain_run test us)
-list_all-plain_run test (Escaped b ∷ us) = refl
-list_all-plain_run test (Invalid k ∷ us) = refl
+list_all-plain_run test (u ∷ us) = grind (arith, and_from, list_all-plain_run test us)
 
 pub AllPass-run : (test : ℕ → Bool) (bs : List ℕ) (us : List SetChar) → bs ≡ plain_run test us → AllPass test bs
 AllPass-run test bs us e = AllPass-from_list_all test bs (rw e (list_all-plain_run test us))
@@ -288,9 +277,7 @@ after_plain_is = grind arith
 
 run_split : (test : ℕ → Bool) (us : List SetChar) → us ≡ map Plain (plain_run test us) ++ after_run test us
 run_split test [] = refl
-run_split test (Plain b ∷ us) = grind (arith, run_split test us)
-run_split test (Escaped b ∷ us) = refl
-run_split test (Invalid k ∷ us) = refl
+run_split test (u ∷ us) = grind (arith, run_split test us)
 
 -- A property of the characters with no rest, and of plain byte `c` with any rest, holds of the characters with
 -- `after_plain c` of them.
@@ -322,10 +309,7 @@ repeat_found u v us m =
     (λ rest. ARepeat u v run rest m (list_all-plain_run is_ascii_digit more))))
 
 repeat_starts : (us : List SetChar) → StartsFound (Plain 91 ∷ us) (repeat_at us)
-repeat_starts [] = tt
-repeat_starts (Plain b ∷ us) = repeat_found _ b us (ByItself b)
-repeat_starts (Escaped b ∷ us) = repeat_found _ b us (ByEscape b)
-repeat_starts (Invalid k ∷ us) = tt
+repeat_starts = grind (arith, repeat_found, ByItself, ByEscape)
 
 name_found : (name : List ℕ) (us : List SetChar) → list_all is_ascii_lowercase name ≡ true
     → StartsFound (Plain 91 ∷ Plain 58 ∷ map Plain name ++ us) (class_with_name name us)
@@ -339,9 +323,7 @@ class_starts us = grind (arith, after_plain_cases, run_split, name_found, list_a
 
 equivalence_found : (u : SetChar) (v : ℕ) (us : List SetChar) → DenotesByte u v
     → StartsFound (Plain 91 ∷ Plain 61 ∷ u ∷ us) (with_rest (Equivalence v) (after_two 61 93 us))
-equivalence_found u v us m =
-    after_two_cases (λ xs o. StartsFound (Plain 91 ∷ Plain 61 ∷ u ∷ xs) (with_rest (Equivalence v) o)) 61 93 us
-    _ (λ rest. AnEquivalence u v rest m)
+equivalence_found = grind (arith, AnEquivalence)
 
 equivalence_starts : (us : List SetChar) → StartsFound (Plain 91 ∷ us) (equivalence_at us)
 equivalence_starts us = grind (arith, after_plain_cases, by_unit)
@@ -367,9 +349,7 @@ byte_of-DenotesByte = grind arith
 plain_run-map : (test : ℕ → Bool) (bs : List ℕ) (c : ℕ) (rest : List SetChar) → list_all test bs ≡ true
     → test c ≡ false → plain_run test (map Plain bs ++ Plain c ∷ rest) ≡ bs
 plain_run-map test [] c rest t n = rw n refl
-plain_run-map test (b ∷ bs) c rest t n =
-    let (first, others) = and_parts (test b) _ t in
-    rw (first, plain_run-map test bs c rest others n) refl
+plain_run-map test (b ∷ bs) c rest t n = grind (arith, and_parts, plain_run-map test bs c rest)
 
 after_run-map : (test : ℕ → Bool) (bs : List ℕ) (c : ℕ) (rest : List SetChar) → list_all test bs ≡ true
     → test c ≡ false → after_run test (map Plain bs ++ Plain c ∷ rest) ≡ Plain c ∷ rest
@@ -404,34 +384,19 @@ StartsAs us (Err k) = StartsInvalid us k
 
 range_starts : (u v : SetChar) (a b : ℕ) (more : List SetChar) → ¬ HasBracketed (u ∷ Plain 45 ∷ v ∷ more)
     → DenotesByte u a → DenotesByte v b → StartsAs (u ∷ Plain 45 ∷ v ∷ more) (range_to a (Ok b) more)
-range_starts u v a b more n m w = cond_both _ _ _ (StartsAs _)
-    (λ t. ADescendingRange u v a b more n m w (ltb-true b a t)) (λ t. ARange u v a b more n m w (ltb-false b a t))
+range_starts = grind (arith, ADescendingRange, ARange, ltb-true, ltb-false)
 
 range_end_starts : (u v : SetChar) (a : ℕ) (more : List SetChar) → ¬ HasBracketed (u ∷ Plain 45 ∷ v ∷ more)
     → DenotesByte u a → StartsAs (u ∷ Plain 45 ∷ v ∷ more) (range_to a (byte_of v) more)
-range_end_starts u (Plain b) a more n m = range_starts u _ a b more n m (ByItself b)
-range_end_starts u (Escaped b) a more n m = range_starts u _ a b more n m (ByEscape b)
-range_end_starts u (Invalid k) a more n m = AnInvalidEnd u a k more n m
+range_end_starts = grind (arith, range_starts, ByItself, ByEscape, AnInvalidEnd)
 
 byte_starts : (u : SetChar) (a : ℕ) (us : List SetChar) → ¬ HasBracketed (u ∷ us) → DenotesByte u a
     → StartsAs (u ∷ us) (single_or_range a us (after_plain 45 us))
-byte_starts u a us n m = by_dash _ refl
-  where
-    by_dash : (o : Option (List SetChar)) → after_plain 45 us ≡ o → StartsAs (u ∷ us) (single_or_range a us o)
-    by_dash None d =
-        Alone u a us n
-        (λ (v, more, is). let unlike = sym d ∙ ap (after_plain 45) is in cc)
-        m
-    by_dash (Some []) d =
-        Alone u a us n
-        (λ (v, more, is). let unlike = sym d ∙ ap (after_plain 45) is in cc) m
-    by_dash (Some (v ∷ more)) d = grind (arith, after_plain_is, range_end_starts)
+byte_starts = grind (arith, Alone, after_plain_is, range_end_starts)
 
 char_starts : (u : SetChar) (us : List SetChar) → ¬ HasBracketed (u ∷ us)
     → StartsAs (u ∷ us) (char_or_range (byte_of u) us)
-char_starts (Plain b) us n = byte_starts _ b us n (ByItself b)
-char_starts (Escaped b) us n = byte_starts _ b us n (ByEscape b)
-char_starts (Invalid k) us n = AnInvalidChar k us
+char_starts = grind (arith, byte_starts, ByItself, ByEscape, AnInvalidChar)
 
 starts_as : (u : SetChar) (us : List SetChar) {r : Result (SetElement × List SetChar) SetFaultKind}
     → first_set_element (u ∷ us) ≡ r → StartsAs (u ∷ us) r

@@ -81,9 +81,10 @@ impl<A: Allocator> OutList<A> {
         if let Some(fault) = first_fault(text) {
             return Err(fault);
         }
+        // Memory for all elements is requested once.
         let elements = text.split(is_list_separator);
-        let fields = elements.filter_map(|element| read_element(element).ok());
-        let kept = fields.collect(alloc)?;
+        let mut kept = Vec::with_capacity(alloc, text.split(is_list_separator).count())?;
+        kept.extend(elements.filter_map(|element| read_element(element).ok()))?;
         Ok(OutList { kept })
     }
 

@@ -1,5 +1,5 @@
 //! The list of `cut` (options `-b`, `-c` and `-f`), as `ptopts` reads it and `ptflow` uses it.
-ghost use Rattle.std.specs.Prelude.{◌≡◌, ◌≤◌, ◌<◌, None, IfErr, IfOk, IsTrue, MatchResult, Ok};
+ghost use Rattle.std.specs.Prelude.{◌≡◌, ◌≤◌, ◌<◌, None, IfOk, IsTrue, MatchResult, Ok};
 ghost use Rattle.std.specs.Result.{result_err};
 ghost use Rattle.ptlangs.specs.Results.{ValidatedParsePost};
 ghost use Rattle.ptlangs.specs.CutLists.{CutListMatchesGrammar, cut_list_fault, is_bound, value_or, interval_of_bounds};
@@ -8,7 +8,7 @@ ghost use Rattle.ptlangs.specs.CutLists.{AreSeparated, AreSortedFrom};
 ghost use Rattle.ptlangs.specs.Numbers.{max_u64};
 
 use crate::numbers::{decimal, is_decimal, is_list_separator};
-use std::alloc::{AllocFailed, Allocator, Global};
+use std::alloc::{AllocError, Allocator, Global};
 use std::marker::Model;
 
 /// The numbers from `first` to `last`, both included.
@@ -35,13 +35,13 @@ pub enum ListFault {
     Memory = 6,
 }
 
-impl<T: Drop> From<AllocFailed<T>> for ListFault {
+impl From<AllocError> for ListFault {
     ghost use Rattle.std.specs.Prelude.{◌≡◌};
     ghost use Rattle.ptlangs.specs.declared.ranges.ListFault.TheVariants.{Memory};
 
     ghost from_gives = { λ _ e. e ≡ Memory };
 
-    fn from(_error: AllocFailed<T>) -> ListFault {
+    fn from(_error: AllocError) -> ListFault {
         ListFault::Memory
     }
 }
@@ -118,14 +118,15 @@ fn first_fault(text: &[u8]) -> Option<ListFault>
     intervals.find(Result::is_err).and_then(Result::err)
 }
 
-/// The intervals of the elements, in order, if no element has a fault.
-fn read_elements<A: Allocator>(alloc: A, text: &[u8]) -> Result<Vec<Interval, A>, ListFault>
+/// The intervals of the elements, in order, if no element has a fault. Memory is requested once.
+fn read_elements<A: Allocator>(alloc: A, text: &[u8]) -> Result<Vec<Interval, A>, AllocError>
     requires { result_err (cut_list text.now) ≡ None }
-    ensures { MatchResult result (λ v. cut_list text.now ≡ Ok v.items) (λ e. e ≡ ListFault.Memory) }
+    ensures { IfOk result (λ v. cut_list text.now ≡ Ok v.items) }
 {
     let elements = text.split(is_list_separator);
-    let intervals = elements.filter_map(|element| read_element(element).ok());
-    intervals.collect(alloc).map_err(|_| ListFault::Memory)
+    let mut listed = Vec::with_capacity(alloc, text.split(is_list_separator).count())?;
+    listed.extend(elements.filter_map(|element| read_element(element).ok()))?;
+    Ok(listed)
 }
 
 /// The interval of one element.
@@ -180,9 +181,8 @@ fn read_bound(text: &[u8], default: u64) -> Result<u64, ListFault>
 }
 
 /// Merges intervals that overlap or are adjacent. The intervals are given in the order of their first numbers.
-fn merge<A: Allocator>(alloc: A, sorted: &[Interval]) -> Result<Vec<Interval, A>, ListFault>
+fn merge<A: Allocator>(alloc: A, sorted: &[Interval]) -> Result<Vec<Interval, A>, AllocError>
     requires { AreSortedFrom 1 sorted.now }
-    ensures fault { IfErr result (λ e. e ≡ ListFault.Memory) }
     ensures separated { IfOk result (λ v. AreSeparated 0 v.items) }
     ensures same { IfOk result (λ v. is_selected v.items ≡ is_selected sorted.now) }
 {

@@ -9,8 +9,8 @@ use std::process::Abort;
 use std::test::Fail;
 
 // The lengths of the slices pushed, which name the case; how many bytes the sink has before `finish`; and the number of
-// its calls in all, including one flush. A block of 8,192 bytes is written when it would overflow, and a slice larger
-// than a block is written directly.
+// its calls in all, including one flush. A block of 8,192 bytes is written when it would overflow, and then a slice of
+// a whole block is written directly; a larger one always is.
 const PUSHES: &[(&[usize], usize, u64)] = &[
     (&[], 0, 1),
     (&[0], 0, 1),
@@ -23,7 +23,7 @@ const PUSHES: &[(&[usize], usize, u64)] = &[
     (&[8191, 1], 0, 2),
     (&[8192, 1], 8192, 3),
     (&[8191, 2], 8191, 3),
-    (&[1, 8192], 1, 3),
+    (&[1, 8192], 8193, 3),
     (&[4000, 4192, 1], 8192, 3),
     (&[5, 20000, 0, 5], 20005, 4),
     (&[5, 20000, 5], 20005, 4),

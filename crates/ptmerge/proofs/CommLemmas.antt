@@ -6,10 +6,10 @@ use proofs.Common.{◌≡◌, ℕ, ◌<◌, List, [], ◌∷◌, ◌++◌, Ok, E
 use proofs.Common.{line, unlines, Side, First, Second, Sorted, Ended, Lines, MergeTool, entries_by_key, AdvanceOkPost}
 use proofs.Common.{AdvancePre, MergeState, MergePost, merge_state, Cmp, Key, both, with_side, HaveEqualKeys}
 use proofs.Common.{HasOnlyLeastKey, IsDisorderDecided, ClearFourSlotsPost, suc, append-nil, Bool, MergeRunPre}
-use proofs.MergeLemmas.{BetweenSteps, between_next, advance_pre, reads_less, EndsIfFails, CursorsInvariant}
+use proofs.MergeLemmas.{BetweenSteps, between_next, advance_pre, reads_less, EndsIfFails}
 use proofs.MergeLemmas.{LoopInvariant, advance_ok, goes_merging, passing_now, runs_on, read_facts_current}
 use proofs.MergeLemmas.{iteration_fails, alone, wrote_alone, alone_breaks, reads_ahead, place_is, wrote_and_sent}
-use proofs.MergeLemmas.{StoreHoldsTwoLines, holds_two, keeps_two, ends_well, ends_fallen, open_merge, IsKeyOrder}
+use proofs.MergeLemmas.{ends_well, ends_fallen, open_merge, IsKeyOrder}
 use proofs.MergeLemmas.{same_bytes, AllWritten, MergeInvariant, line_is_least_run, lag_invariant_starts}
 use proofs.MergeLemmas.{write_least_run, all_keys, at_current_line, state_by_side, IsOpenMerge, IsLineByLine}
 use Rattle.ptmerge.specs.declared.faults.MergeFault.TheVariants as faults
@@ -19,11 +19,11 @@ use Rattle.ptmerge.specs.Comm.{comm_with, entries, column_entries, tab_if_shown}
 -- ---- each line adds one entry
 
 no_entries : (hidden : Bool) (tabs line : List ℕ) → column_entries hidden tabs 0 line ≡ []
-no_entries hidden tabs line = grind arith
+no_entries = grind arith
 
 one_more_entry : (hidden : Bool) (tabs line : List ℕ) (n : ℕ)
     → column_entries hidden tabs (suc n) line ≡ column_entries hidden tabs 1 line ++ column_entries hidden tabs n line
-one_more_entry hidden tabs line n = grind arith
+one_more_entry = grind arith
 
 -- whether the column of a line of one input alone is hidden
 abbrev hidden_of : Comm → Side → Bool
@@ -36,7 +36,7 @@ tabs_of job Second = tab_if_shown job.hide1 ++ []
 
 module _ (job : Comm) (x : List ℕ) where
   entries_both : (n k : ℕ) → entries job x (suc n) (suc k) ≡ entries job x 1 1 ++ entries job x n k
-  entries_both n k = grind (arith, no_entries, one_more_entry)
+  entries_both = grind (arith, no_entries, one_more_entry)
 
 module _ (job : Comm) (cmp : Cmp) (key : Side → Key) where
   is_line_by_line : IsLineByLine (comm_with job cmp key)
@@ -45,13 +45,13 @@ module _ (job : Comm) (cmp : Cmp) (key : Side → Key) where
   -- the entries of one line of one input alone, if the key is the line
   entries_alone : (s : Side) (x : List ℕ) → key s x ≡ x → entries_by_key (comm_with job cmp key) all_keys
       (alone s x) ≡ column_entries (hidden_of job s) (tabs_of job s) 1 x
-  entries_alone s x w = grind (arith, same_bytes, no_entries, append-nil)
+  entries_alone = grind (arith, same_bytes, no_entries, append-nil)
 
   -- the entries of one line of both inputs
   entries_of_pair : IsKeyOrder cmp → (x y : List ℕ) → key First x ≡ x → key Second y ≡ key First x
       → entries_by_key (comm_with job cmp key) all_keys (both (x ∷ []) (y ∷ [])) ≡ column_entries job.hide3
       (tab_if_shown job.hide1 ++ tab_if_shown job.hide2) 1 x
-  entries_of_pair o x y whole_line_keys same = grind (arith, same_bytes, no_entries, append-nil)
+  entries_of_pair = grind (arith, same_bytes, no_entries, append-nil)
 
 -- ---- the loop invariant
 
@@ -60,15 +60,14 @@ pub record IterationInvariant (job : Comm) (cmp : Cmp) (key : Side → Key) (old
     (one two : Sorted) : Type 0 where
   pub opened : IsOpenMerge (comm_with job cmp key) old
   pub whole_line_keys : (side : Side) (x : List ℕ) → key side x ≡ x
-  pub loop_invariant : LoopInvariant (comm_with job cmp key) (StoreHoldsTwoLines old.store) old now (both one two)
+  pub loop_invariant : LoopInvariant opened now (both one two)
   pub between : BetweenSteps key now one two
 
 -- the conditions at the start
 pub opened : (job : Comm) {cmp : Cmp} {key : Side → Key} {first second : Reader} {out : Output} {store : Slots}
     → IsKeyOrder cmp → MergeRunPre job.terminator first second out store
     → IsOpenMerge (comm_with job cmp key) (merge_state first second out store)
-opened job {cmp} {key} o begins =
-    open_merge o (λ ls. (omega arith, omega arith)) (is_line_by_line job cmp key) begins
+opened job {cmp} {key} o begins = grind (arith, open_merge, is_line_by_line job cmp key)
 
 -- ---- a step
 
@@ -77,15 +76,12 @@ module _ {job : Comm} {cmp : Cmp} {key : Side → Key} {old now : MergeState} {o
   open t use {
     opened as w,
     whole_line_keys,
-    loop_invariant.{ls, p, b, sides, merge_invariant, keeps},
+    loop_invariant.{ls, p, b, sides, merge_invariant, cursors as lines_before},
     between,
   }
 
   abbrev tool : MergeTool
   tool = comm_with job cmp key
-
-  lines_before : CursorsInvariant tool old now.reader (both one two) now.store ls p b
-  lines_before = record { w = w; sides = sides; holds = holds_two w.fits keeps (λ side. (sides side).slots) }
 
   abbrev head : Side → List ℕ
   head s = line now.store (both one two s).current_slot
@@ -110,7 +106,7 @@ module _ {job : Comm} {cmp : Cmp} {key : Side → Key} {old now : MergeState} {o
         opened = w;
         whole_line_keys = whole_line_keys;
         loop_invariant = rw (← place_is s one two one2 two2 h.continues.others)
-            (runs_on lines_before s step.status_is h.came (keeps_two lines_before s step.status_is h.came keeps)
+            (runs_on lines_before s step.status_is h.came
             (wrote_alone lines_before step between.clean merge_invariant wrote_line).0);
         between = between_next between s h.continues;
       }
@@ -128,7 +124,7 @@ module _ {job : Comm} {cmp : Cmp} {key : Side → Key} {old now : MergeState} {o
       pub pair_decreases : {one3 two3 : Sorted} {reader2 : Reader} {last : Slots} {new : Output}
           → AdvanceOkPost key cmp Second one2 two2 one3 two3 (now.reader Second) reader2 after last new
           → reads_ahead (both reader reader2) one3 two3 < reads_ahead now.reader one two
-      pair_decreases k = grind (arith, reads_less, between_next, second_advance_pre)
+      pair_decreases = grind (arith, reads_less, between_next, second_advance_pre)
 
     abbrev both_written : Side → Lines
     both_written = both (ls First) (ls Second)
@@ -153,7 +149,7 @@ module _ {job : Comm} {cmp : Cmp} {key : Side → Key} {old now : MergeState} {o
       wrote_pair = grind (arith, entries_of_pair)
 
       pub pair_fails : EndsIfFails tool old now First one mid
-      pair_fails = iteration_fails lines_before First step.first (wrote_both wrote_pair) refl
+      pair_fails = iteration_fails lines_before First step.first (wrote_both wrote_pair).1 refl
           (passing_now lines_before Second step.second)
 
       -- the first input advanced, and the output was written out
@@ -165,23 +161,21 @@ module _ {job : Comm} {cmp : Cmp} {key : Side → Key} {old now : MergeState} {o
         pub second_fails : EndsIfFails tool old (state_by_side (both reader (now.reader Second)) new after) Second two2
             new
         second_fails _ _ _ k =
-            let g = advance_ok lines_before First step.first h.came keeps in
-            let m = goes_merging lines_before First step.first h.came wrote_line_out in
+            let g = advance_ok lines_before First step.first h.came in
             let before = goes_merging lines_before First step.first h.came (wrote_both wrote_pair).0 in
-            iteration_fails g Second step.second (m, lag_invariant_starts before h.continues.clean written_out) refl
+            iteration_fails g Second step.second (lag_invariant_starts w.o before h.continues.clean written_out) refl
             (read_facts_current g First) _ _ _ (rw h.continues.others at k)
 
         pub pair_continues : {one3 two3 : Sorted} {reader2 : Reader} {last : Slots}
             → AdvanceOkPost key cmp Second one2 two2 one3 two3 (now.reader Second) reader2 after last new
             → IterationInvariant job cmp key old (state_by_side (both reader reader2) new last) one3 two3
         pair_continues k =
-            let g = advance_ok lines_before First step.first h.came keeps in
+            let g = advance_ok lines_before First step.first h.came in
             let came = rw h.continues.others at k.came in
-            let kept = keeps_two g Second step.second came (keeps_two lines_before First step.first h.came keeps) in
             record {
               opened = w;
               whole_line_keys = whole_line_keys;
-              loop_invariant = rw k.continues.others (runs_on g Second step.second came kept
+              loop_invariant = rw k.continues.others (runs_on g Second step.second came
                   (goes_merging lines_before First step.first h.came wrote_line_out));
               between = between_next (between_next between First h.continues) Second k.continues;
             }
@@ -195,4 +189,4 @@ module _ {job : Comm} {cmp : Cmp} {key : Side → Key} {old now : MergeState} {o
 
     pub disordered : {s : Side} {n : ℕ} → IsDisorderDecided cmp key (both one two) now.store s n
         → MergePost tool old (state_by_side now.reader now.out after) (Err (faults.Disorder s n))
-    disordered step = search (rules, ends_fallen, lines_before)
+    disordered = search (rules, ends_fallen, lines_before)

@@ -16,9 +16,10 @@ use Rattle.ptmerge.specs.JoinGroup.{IsInItsSlot, IsCopiedToGroup, ReadGroupLineO
 use Rattle.ptmerge.specs.JoinGroup.{JoinStepPre, JoinLinePre, group_end_slot, group_first_slot}
 use proofs.MergeLemmas.{BetweenSteps, between_next, advance_pre, reads_less, open_merge, alone, wrote_alone}
 use proofs.MergeLemmas.{alone_breaks, IsAbove, reads_ahead, place_is, LoopInvariant, CursorsInvariant, EndsIfFails}
-use proofs.MergeLemmas.{runs_on, n, ends_well, ends_fallen, valid_cursors_kept, wrote_and_sent, others_stay}
+use proofs.MergeLemmas.{Extends, input_split_of, extends, extends_on, total_within, runs_on, n, ends_well, ends_fallen}
+use proofs.MergeLemmas.{valid_cursors_kept, wrote_and_sent, others_stay}
 use proofs.MergeLemmas.{IsLineByLine, at_current_line, IsOpenMerge as OpenMerge, ComeFirst, exit_is_merge_post}
-use proofs.MergeLemmas.{continues, none_missing, both_begun, all_keys, AtLeast, same_bound, bounds_change, IsKeyOrder}
+use proofs.MergeLemmas.{continues, both_begun, all_keys, AtLeast, same_bound, bounds_change, IsKeyOrder}
 use proofs.MergeLemmas.{same_bytes, EachKey-at, low_slot, Continues}
 use Rattle.ptmerge.specs.declared.tools.join.JoinPhase.{JoinPhase}
 use Rattle.ptmerge.specs.declared.faults.MergeFault.TheVariants as faults
@@ -30,7 +31,7 @@ use Group.*
 -- ---- the output, by lines and by pairs
 
 cond_of_empty : (t : Bool) → cond {A = Lines} t [] [] ≡ []
-cond_of_empty t = grind arith
+cond_of_empty = grind arith
 
 module _ (job : Join) (cmp : Cmp) (key : Side → Key) where
   first_alone : (k : List ℕ) (g : Lines) → join_entries job k g [] ≡ unpaired_entries1 job k g
@@ -44,14 +45,7 @@ module _ (job : Join) (cmp : Cmp) (key : Side → Key) where
     second = λ k x g. grind arith;
   }
 
-  -- the bounds of a group, if pairs are written; otherwise none is kept
-  abbrev pub most_in_group : GroupBounds
-  most_in_group = record {
-    bytes = λ ls. if job.pairs then max_group_bytes (key Second) ls else 0;
-    lines = λ ls. if job.pairs then max_group_lines (key Second) ls else 0;
-  }
-
-  pub join_pairs : IsPairTool (join_with job cmp key) most_in_group (pair_entries job)
+  pub join_pairs : IsPairTool (join_with job cmp key) (pair_entries job)
   join_pairs = record {
     none = λ k g. cond_of_empty job.pairs;
     more = λ k f g c.
@@ -60,9 +54,7 @@ module _ (job : Join) (cmp : Cmp) (key : Side → Key) where
     whole = λ k a b f g. refl;
     written = λ keeps k a b f g. rw keeps (omega arith);
     unwritten = λ none k f g. rw none;
-    size = λ ls. refl;
-    slots = λ ls. refl;
-    largest = λ keeps g ls within. rw keeps within;
+    largest = λ keeps g ls within. rw keeps (omega (arith, within));
   }
 
   -- the entries of one unpaired line of one input
@@ -72,14 +64,6 @@ module _ (job : Join) (cmp : Cmp) (key : Side → Key) where
   entries_alone Second x is = grind (arith, same_bytes (refl {a = key Second x}), append-nil)
 
 -- ---- the phases
-
--- between groups the store holds two lines of each input
-abbrev pub IsOutsideGroup : JoinCall → Slots → (Side → Lines) → Type 0
-IsOutsideGroup call store ls = GroupStore call.most call.old.store store ls []
-
--- between two groups
-abbrev pub BetweenGroups : JoinCall → MergeState → (Side → Sorted) → Type 0
-BetweenGroups call now cursor = LoopInvariant call.tool (IsOutsideGroup call) call.old now cursor
 
 -- both inputs are at a line with the key `k`, and the second input's lines with it are being read
 pub record ReadGroup (call : JoinCall) (now : MergeState) (cursor : Side → Sorted) (end : ℕ) : Type 0 where
@@ -114,7 +98,7 @@ pub record WritePairs (call : JoinCall) (now : MergeState) (cursor : Side → So
 
 -- the invariant in each phase
 abbrev pub PhaseInvariant : JoinCall → JoinPhase → MergeState → (Side → Sorted) → ℕ → Type 0
-PhaseInvariant call phases.BetweenGroups now cursor end = BetweenGroups call now cursor × (end ≡ 4)
+PhaseInvariant call phases.BetweenGroups now cursor end = LoopInvariant call.w now cursor × (end ≡ 4)
 PhaseInvariant call phases.ReadGroup now cursor end = ReadGroup call now cursor end
 PhaseInvariant call phases.WritePairs now cursor end = WritePairs call now cursor end
 
@@ -123,7 +107,7 @@ rank phases.BetweenGroups = 1
 rank p = 0
 
 rank_few : (p : JoinPhase) → rank p ≤ 1
-rank_few p = grind arith
+rank_few = grind arith
 
 -- ---- an iteration
 
@@ -142,7 +126,6 @@ abbrev pub join_call_of : {job : Join} {cmp : Cmp} {key : Side → Key} {old : M
     → JoinCall
 join_call_of {job} {cmp} {key} {old} a = record {
   tool = join_with job cmp key;
-  most = most_in_group job cmp key;
   pairs = pair_entries job;
   laws = join_pairs job cmp key;
   old = old;
@@ -192,18 +175,13 @@ module _ {job : Join} {cmp : Cmp} {key : Side → Key} {old : MergeState} {phase
   -- ---- between groups
 
   module _ (is : phase ≡ phases.BetweenGroups) where
-    between : BetweenGroups call now (both one two) × (end ≡ 4)
+    between : LoopInvariant t.opened.w now (both one two) × (end ≡ 4)
     between = rw is at t.phased
 
-    r : BetweenGroups call now (both one two)
+    r : LoopInvariant t.opened.w now (both one two)
     r = between.0
 
-    lines_before : CursorsInvariant (join_with job cmp key) old now.reader (both one two) now.store r.ls r.p r.b
-    lines_before = record {
-      w = t.opened.w;
-      sides = r.sides;
-      holds = store_between_groups call r.keeps (λ side. (r.sides side).slots);
-    }
+    open r use {cursors as lines_before}
 
     -- a step for an unpaired line
     module _ {s : Side} (step : HasOnlyLeastKey cmp key (both one two) now.store s) {new : Output}
@@ -217,11 +195,9 @@ module _ {job : Join} {cmp : Cmp} {key : Side → Key} {old : MergeState} {phase
           → AdvanceOkPost key cmp s one two one2 two2 (now.reader s) reader now.store after new
           → IterationInvariant job cmp key old phase (state_after_read now s reader new after) one2 two2 end
       alone_continues h =
-          let keeps = group_store_next s (both one two s) (r.sides s).slots r.keeps
-          (n lines_before s step.status_is h.came) in
           let (m, _) = wrote_alone lines_before step t.clean r.merge_invariant wrote_unpaired in
           iteration_continues {next = phase} s h.continues
-          (rw is (runs_on lines_before s step.status_is h.came keeps m, between.1))
+          (rw is (runs_on lines_before s step.status_is h.came m, between.1))
 
       pub alone_fails : EndsIfFails (join_with job cmp key) old now s (both one two s) new
       alone_fails = alone_breaks lines_before step t.clean r.merge_invariant wrote_unpaired
@@ -257,7 +233,7 @@ module _ {job : Join} {cmp : Cmp} {key : Side → Key} {old : MergeState} {phase
                 own = elim [ First ↦ tt | Second ↦ tt ];
                 later = λ side. rw (bounds side) same_bound;
               };
-              keeps = r.keeps;
+              keeps = lines_before.keeps;
               wrote = rw ((join_pairs job cmp key).none k []) (push_nothing now.out);
               at = between.1;
             };
@@ -317,10 +293,11 @@ module _ {job : Join} {cmp : Cmp} {key : Side → Key} {old : MergeState} {phase
         on_second : AdvancedGroup (a.heads Second) comes out
         on_second = advanced_group (a.heads Second) comes (rw (call.laws.none a.k grown) wrote_none)
 
-        inside : (l : Lines) → InGroup (largest_group (key Second)) grown (on_second.group.ls Second ++ l)
-        inside l =
-            rw (on_second.more.is, append_assoc (a.q.ls Second) on_second.more.more l, with_head (a.heads Second))
-            (group_in (key Second) a.k (a.q.p Second) grown (on_second.more.more ++ l)
+        inside : {l : Lines} → Extends (on_second.group.ls Second) l → InLargest (key Second) grown l
+        inside {l} more =
+            let on = extends_on (on_second.more Second) more in
+            let is : l ≡ (a.q.p Second ++ grown) ++ on.more = cc (on.is, with_head (a.heads Second)) in
+            rw is (group_in (key Second) a.k (a.q.p Second) grown on.more
             (own_more (a.heads Second) Second) (omega (arith, length_push a.g y)))
 
         -- the current lines keep their slots in a store with the same first slots
@@ -337,12 +314,13 @@ module _ {job : Join} {cmp : Cmp} {key : Side → Key} {old : MergeState} {phase
         -- the pairs of the first input's current line and the group are not written yet
         pairs_are_missing : call.keeps_groups ≡ true → (all : Side → Lines)
             → ((side : Side) → Continues (with_side Second reader now.reader side) (on_second.group.ls side) (all side))
-            → ¬ (merged_entries call.tool all ≡ entries_by_key call.tool all_keys on_second.group.p ++ [])
+            → ¬ (unlines call.terminator (entries_by_key call.tool all_keys on_second.group.p ++ [])
+            ≡ unlines call.terminator (merged_entries call.tool all))
         pairs_are_missing keeps all w =
             let first : IsAtGroupLine on_second.group First =
             record { head = (a.heads First).head; is = key1_on made (λ i low. refl) } in
-            front_is_not_all call.w (within_more first) (state_after_read now Second reader out made)
-            (passing_now first) all w (has_entries call (within_more first) keeps
+            front_is_not_all call.w (within_more first) all (input_split_of call.w (state_after_read now Second reader
+            out made) (passing_now first) all w) (has_entries call (within_more first) keeps
             (elim [ First ↦ omega arith | Second ↦ omega (arith, length_push a.g y) ]))
 
         -- the previous line stands for the group, if none is copied
@@ -375,7 +353,7 @@ module _ {job : Join} {cmp : Cmp} {key : Side → Key} {old : MergeState} {phase
             let new : CopiedLine on_second.group.keeps after y = group_store_copied _ on_second.group.at
             (low_slot Second two2 (on_second.group.sides Second).slots).previous e.copied
             (last_stays (a.heads Second) comes)
-            (λ l. rw (all_copied e.keeps) (call.laws.largest e.keeps _ _ (inside l))) in
+            (λ all more. rw (all_copied e.keeps) (call.laws.largest e.keeps _ all (inside (more Second)))) in
             rw e.end_is (record {
               kept = a.kept ++ y ∷ [];
               q = group_kept on_second.group new.same new.store_holds (omega (arith, a.q.at, length_push a.kept y));
@@ -433,20 +411,17 @@ module _ {job : Join} {cmp : Cmp} {key : Side → Key} {old : MergeState} {phase
       read_group_fails {reader = reader} {after} (inr (fine, inl e)) =
           let q = (on_second e.came).group in
           let new = state_after_read now Second reader out after in
-          let lag = group_written call.w q.within [] (rw (call.laws.none a.k grown) at q.wrote) in
-          let first : ComeFirst call.tool (with_side Second reader now.reader) q.ls
-          (entries_by_key call.tool all_keys q.p ++ []) =
-          λ all more. group_comes_first call.w q.within new (group_read_facts q) all more
-          (starts_none call q.within) in
-          rw e.memory (exit_is_merge_post call.w _ (group_read_facts q) lag first (λ all more.
-          let size = size_of call q.keeps all (λ side. omega (arith, (more side).longest)) (extends (more Second)) in
-          let (_, many) = call.laws.largest e.keeps _ _ (inside e.came (more Second).continues.more) in
+          let lag = group_written call.w q.within (starts_none call q.within)
+          (rw (call.laws.none a.k grown) at q.wrote) in
+          rw e.memory (exit_is_merge_post call.w _ (group_read_facts q) lag (λ all more.
+          let up = λ (side : Side). extends (more side) in
+          let room = call.laws.largest e.keeps _ all (inside e.came (up Second)) in
           omega (
             arith,
             ap length (all_copied e.keeps),
-            size,
-            ap call.most.lines (more Second).continues.is,
-            call.laws.slots all,
+            q.keeps.fits all up,
+            total_within call.tool a.kept _ q.keeps.lines up (q.keeps.room all up),
+            room,
             length_push a.g y,
           ))
           (both_begun (λ side. (q.sides side).begun))
@@ -456,9 +431,8 @@ module _ {job : Join} {cmp : Cmp} {key : Side → Key} {old : MergeState} {phase
             clean = fine;
             left = λ four. inr (
               e.keeps,
-              λ texts agree same. pairs_are_missing e.came e.keeps (lines_of call.tool texts)
-                  (continues call.w new (group_read_facts q) texts agree)
-                  (none_missing call.w new (group_read_facts q) lag first texts agree same),
+              λ texts agree. pairs_are_missing e.came e.keeps (lines_of call.tool texts)
+                  (continues call.w new (group_read_facts q) texts agree),
             );
           }))
 
@@ -472,7 +446,7 @@ module _ {job : Join} {cmp : Cmp} {key : Side → Key} {old : MergeState} {phase
     write_pairs_pre = record { status_is = advance_pre t.between First state.head.head; joins = joins }
 
     is_kept : state.kept ≡ state.g Second → (end == 4) ≡ false
-    is_kept same = search (rules, state)
+    is_kept = search (rules, state)
 
     is_alone : state.kept ≡ [] → (end == 4) ≡ true
     is_alone none = let four : end ≡ 4 = omega (arith, state.q.at, ap length none) in grind (arith, nat_tests)
@@ -566,14 +540,16 @@ module _ {job : Join} {cmp : Cmp} {key : Side → Key} {old : MergeState} {phase
                 ls = q.ls;
                 p = λ side. q.p side ++ with_added_line now (both one two) First state.g side;
                 b = q.d;
-                sides = same_cursors call.tool q.sides (omega (arith, clear.slots, q.keeps.four))
-                    (λ i low. clear.others i (inl low));
+                cursors = record {
+                  sides = same_cursors call.tool q.sides (omega (arith, clear.slots, q.keeps.four))
+                      (λ i low. clear.others i (inl low));
+                  keeps = group_store_cleared q.keeps q.at clear;
+                };
                 merge_invariant = closes call q.within (elim [
                   | First ↦ omega (arith, length_push (state.g First) (line now.store one.current_slot))
                   | Second ↦ state.some
                 ])
                     (elim [ First ↦ is_past q First (leaves_key state.head h.came same) | Second ↦ above_on ]) q.wrote;
-                keeps = group_store_cleared q.keeps q.at clear;
               },
               refl,
             )

@@ -125,6 +125,16 @@ failed_advance : (s : Side) (cursor : Sorted) (was is : Reader) (before after : 
     → FailedAdvance cursor was is before after
 failed_advance = search rules
 
+-- how the call ends
+advance_ends : {tool : MergeTool} {old : MergeState} (w : IsOpenMerge tool old) (now : MergeState) (s : Side)
+    (cursor : Sorted) (new : Reader) (after : Slots) (out : Output) (came : Side → Received) (pushed : List ℕ)
+    (fault : MergeFault) → ((side : Side) → (now.reader side).failed ≡ (old.reader side).failed)
+    → now.store.denied ≡ false → AdvanceErrPost s cursor (now.reader s) new now.store after out fault
+    → CallOutcome both_sides (merge_engine tool) old (state_by_side (with_side s new now.reader) out after) came pushed
+    (merge_end (Err fault))
+advance_ends w now s cursor new after out came pushed fault none_failed denied =
+    grind (arith, w.unfailed, put_same, none_failed, side_case, put_other, buffered_not_done)
+
 -- the input `s` is to advance, and all its lines are processed
 pub record IsAdvancing (tool : MergeTool) (old now : MergeState) (s : Side) (cursor : Sorted) (ls p : Side → Lines)
     (b : Side → Bound) : Type 0 where
@@ -132,9 +142,9 @@ pub record IsAdvancing (tool : MergeTool) (old now : MergeState) (s : Side) (cur
   pub all : p s ≡ ls s
   pub order : (r : Reader) (piece : List ℕ) → IsLine (now.reader s).terminator piece
       → FirstReads tool.terminator old.reader now.reader (with_side s r now.reader) ls (with_side s piece (λ side. []))
-  pub denied : now.store.denied ≡ false
-  pub fits : (piece : List ℕ) → Fits tool old.store now.reader ls (with_side s piece (λ side. []))
-      (with_line now.store cursor.previous_slot piece)
+  pub kept : Lines
+  pub keeps : GroupStore tool old.store now.store ls kept
+  pub slots : HasSlots s cursor
 
 module _ {tool : MergeTool} {old : MergeState} (w : IsOpenMerge tool old) {now : MergeState} {s : Side}
     {cursor : Sorted} {ls p : Side → Lines} {b : Side → Bound} (a : IsAdvancing tool old now s cursor ls p b) where
@@ -143,90 +153,48 @@ module _ {tool : MergeTool} {old : MergeState} (w : IsOpenMerge tool old) {now :
   none_failed_yet : (side : Side) → (now.reader side).failed ≡ (old.reader side).failed
   none_failed_yet side = (a.facts side).lines_read.advance_ok.failed
 
-  -- how the call ends
-  advance_ends : (new : Reader) (after : Slots) (out : Output) (given : Side → Received) (pushed : List ℕ)
-      (fault : MergeFault) → AdvanceErrPost s cursor (now.reader s) new now.store after out fault
-      → CallOutcome both_sides (merge_engine tool) old (state_by_side (with_side s new now.reader) out after) given
-      pushed (merge_end (Err fault))
-  advance_ends = grind (arith, put_same, none_failed_yet, side_case, put_other, buffered_not_done)
-
   -- the merge ends with this fault
   pub advance_fails : {out : Output} {done : Lines} → LagInvariant tool b p old.out out done
-      → ((new : MergeState) (piece : Side → List ℕ)
-      → ((side : Side) → ReadFactsOf tool old now.reader ls p b side (new.reader side) (piece side))
-      → ComeFirst tool now.reader ls done) → EndsIfFails tool old now s cursor out
-  advance_fails {out} {done} lag first new after fault e =
+      → EndsIfFails tool old now s cursor out
+  advance_fails {out} lag new after fault e =
       let f = failed_advance s cursor (now.reader s) new _ after out fault (a.facts s).sound e in
       let facts = put_both (ReadFactsOf tool old now.reader ls p b) s new _ f.piece (λ side. [])
       (grind (arith, a.facts s, f)) (a.facts (other s)) in
       let is = state_by_side (with_side s new now.reader) out after in
-      exit_is_merge_post w is facts lag (first is (with_side s f.piece (λ side. [])) facts)
-      (λ all holds. omega (arith, a.fits f.piece all holds)) (a.order new f.piece f.line)
+      exit_is_merge_post w is facts lag
+      (λ all holds. omega (arith, peak_line a.keeps s cursor a.slots f.piece all holds)) (a.order new f.piece f.line)
       (put_each (λ side (r : Reader). r.failed ≡ true → IsFailedRead r (ls side) (p side)) s new _
       (grind (arith, f, none_failed_yet s, w.unfailed s)) (λ side fail. cc (none_failed_yet side, w.unfailed side)))
-      (Err fault) (advance_ends new after out _ _ fault e)
+      (Err fault) (advance_ends w now s cursor new after out _ _ fault none_failed_yet a.keeps.denied e)
 
 -- ---- between two steps
 
--- the loop invariant of a tool, with `Keep` as the invariant of its store
-pub record LoopInvariant (tool : MergeTool) (Keep : Slots → (Side → Lines) → Type 0) (old now : MergeState)
+-- the conditions at the start
+pub open_merge : {tool : MergeTool} {first second : Reader} {out : Output} {store : Slots} → IsKeyOrder tool.cmp
+    → ((ls : Side → Lines) → HasRoom tool [] ls) → IsLineByLine tool
+    → MergeRunPre tool.terminator first second out store → IsOpenMerge tool (merge_state first second out store)
+open_merge = grind (arith, both_each)
+
+-- the cursors between two steps, for any output
+pub record CursorsInvariant {tool : MergeTool} {old : MergeState} (w : IsOpenMerge tool old) (reader : Side → Reader)
+    (cursor : Side → Sorted) (store : Slots) (ls p : Side → Lines) (b : Side → Bound) : Type 0 where
+  pub sides : SidesInvariant tool old.reader reader cursor store ls p b
+  pub keeps : GroupStore tool old.store store ls []
+
+-- the loop invariant of a tool
+pub record LoopInvariant {tool : MergeTool} {old : MergeState} (w : IsOpenMerge tool old) (now : MergeState)
     (cursor : Side → Sorted) : Type 0 where
   pub ls : Side → Lines
   pub p : Side → Lines
   pub b : Side → Bound
-  pub sides : SidesInvariant tool old.reader now.reader cursor now.store ls p b
+  pub cursors : CursorsInvariant w now.reader cursor now.store ls p b
+  pub open cursors use {sides}
   pub merge_invariant : MergeInvariant tool b p old.out now.out
-  pub keeps : Keep now.store ls
 
--- ---- a tool that stores two lines of each input
-
--- the conditions at the start
-pub open_merge : {tool : MergeTool} {first second : Reader} {out : Output} {store : Slots} → IsKeyOrder tool.cmp
-    → HoldsTwoLines tool → IsLineByLine tool → MergeRunPre tool.terminator first second out store
-    → IsOpenMerge tool (merge_state first second out store)
-open_merge = grind (arith, both_each)
-
--- The store between two steps: it holds two lines of each input, and is within the measure for all lists that continue
--- these lines, also when it is emptied and when it holds a piece of a further line.
-pub record StoreInvariant (tool : MergeTool) (before : Slots) (reader : Side → Reader) (cursor : Side → Sorted)
-    (store : Slots) (ls : Side → Lines) : Type 0 where
-  pub lines : HasLines (λ side. max_length (ls side)) 0 store.lines
-  pub denied : store.denied ≡ false
-  pub fits : (after : Slots) → after.peak ≤ max store.peak (total_bytes store.lines)
-      → length after.lines ≡ length store.lines → Fits tool before reader ls (λ side. []) after
-  pub line : (s : Side) (piece : List ℕ)
-      → Fits tool before reader ls (with_side s piece (λ side. [])) (with_line store (cursor s).previous_slot piece)
-
--- the store holds two lines of each input and nothing else
-abbrev pub StoreHoldsTwoLines : Slots → Slots → (Side → Lines) → Type 0
-StoreHoldsTwoLines before store ls = StoreOfLines before store (λ side. max_length (ls side))
-
-pub holds_two : {tool : MergeTool} (fits : HoldsTwoLines tool) {before store : Slots} {reader : Side → Reader}
-    {cursor : Side → Sorted} {ls : Side → Lines} → StoreHoldsTwoLines before store ls
-    → ((side : Side) → HasSlots side (cursor side)) → StoreInvariant tool before reader cursor store ls
-holds_two fits {cursor = cursor} {ls = ls} keeps slots = record {
-  lines = keeps.lines;
-  denied = keeps.denied;
-  fits = λ after small same all holds. (let total = has_lines_total _ (λ side. max_length (ls side)) 0 keeps.lines in
-      omega (arith, keeps.peak, keeps.slots, total, fits all, (holds First).longest, (holds Second).longest));
-  line = λ s piece all holds.
-      let longest = rw (put_same s piece (λ side. [])) at (holds s).longest in
-      let next = store_with_line s (cursor s) (λ side. max_length (all side)) piece (slots s) keeps
-      (λ side. omega (arith, (holds side).longest)) (omega (arith, longest)) refl in
-      omega (arith, next.peak, next.slots, fits all);
-}
-
--- the cursors between two steps, for any output
-pub record CursorsInvariant (tool : MergeTool) (old : MergeState) (reader : Side → Reader) (cursor : Side → Sorted)
-    (store : Slots) (ls p : Side → Lines) (b : Side → Bound) : Type 0 where
-  pub w : IsOpenMerge tool old
-  pub sides : SidesInvariant tool old.reader reader cursor store ls p b
-  pub holds : StoreInvariant tool old.store reader cursor store ls
-
-module _ {tool : MergeTool} {old : MergeState} {reader : Side → Reader} {cursor : Side → Sorted} {store : Slots}
-    {ls p : Side → Lines} {b : Side → Bound} (a : CursorsInvariant tool old reader cursor store ls p b) where
+module _ {tool : MergeTool} {old : MergeState} {w : IsOpenMerge tool old} {reader : Side → Reader}
+    {cursor : Side → Sorted} {store : Slots} {ls p : Side → Lines} {b : Side → Bound}
+    (a : CursorsInvariant w reader cursor store ls p b) where
   open tool use {cmp, key}
-  open a use {w}
 
   pub none_failed : (side : Side) → (reader side).failed ≡ (old.reader side).failed
   none_failed side = (a.sides side).lines_read.advance_ok.failed
@@ -247,16 +215,17 @@ module _ {tool : MergeTool} {old : MergeState} {reader : Side → Reader} {curso
 
   -- the iteration failed, after the lines `q` were processed
   pub iteration_fails : (s : Side) → (cursor s).status ≡ Head → {q : Side → Lines} {out : Output}
-      → MergeInvariant tool b q old.out out × AllWritten tool b q old.out out → q s ≡ ls s
+      → AllWritten tool b q old.out out → q s ≡ ls s
       → ReadFactsBy (other s) (q (other s)) → EndsIfFails tool old (state_by_side reader out store) s (cursor s) out
-  iteration_fails s head {q} {out} (m, lag) same rest =
+  iteration_fails s head {q} {out} lag same rest =
       advance_fails w {now = state_by_side reader out store} {cursor = cursor s} {p = q} (record {
         facts = side_case _ s (rw same (passing_now s head)) rest;
         all = same;
         order = λ r piece free. both_begun begun;
-        denied = a.holds.denied;
-        fits = a.holds.line s;
-      }) lag (λ new piece g. processed_come_first w new g m)
+        kept = [];
+        keeps = a.keeps;
+        slots = (a.sides s).slots;
+      }) lag
 
   -- the current line of the input `s`, whose key precedes everything in the other input, is written
   module _ {s : Side} (step : HasOnlyLeastKey cmp key cursor store s) {is new : Output}
@@ -283,7 +252,7 @@ module _ {tool : MergeTool} {old : MergeState} {reader : Side → Reader} {curso
         (rw (a.sides s).lines_read.terminator at wrote)
 
     pub alone_breaks : EndsIfFails tool old (state_by_side reader new store) s (cursor s) new
-    alone_breaks = iteration_fails s step.status_is wrote_alone (put_same s (ls s) p)
+    alone_breaks = iteration_fails s step.status_is wrote_alone.1 (put_same s (ls s) p)
         (rw (put_other s (ls s) p) (read_facts_current (other s)))
 
   -- an input is out of order, and no key that may follow is up to its last key
@@ -321,16 +290,16 @@ module _ {tool : MergeTool} {old : MergeState} {reader : Side → Reader} {curso
           short = λ side read. (a.sides side).lines_read.advance_ok.short ((w.sound side).long (w.readable side));
           unfailed = λ side read. none_failed side;
           clean = clean;
-          not_denied = clear.denied ∙ a.holds.denied;
-          empty = omega (arith, (has_lines_total store.lines (λ side. max_length (ls side)) 0 a.holds.lines).is);
+          not_denied = clear.denied ∙ a.keeps.denied;
+          empty = omega (arith, (has_lines_total store.lines (λ side. max_length (ls side)) 0 a.keeps.lines).is);
         }
 
     concludes : (result : Result (Unit {0}) MergeFault) → CallOutcome both_sides (merge_engine tool) old last
         (given w last read_facts_current) (output_of tool p) (merge_end result)
         → MergePost tool old last result
     concludes result ends = exit_is_merge_post w _ read_facts_current
-        (lag_invariant_starts m clean (push_nothing out)) (processed_come_first w last read_facts_current m)
-        (a.holds.fits after clear.peak clear.slots) (both_begun begun)
+        (lag_invariant_starts w.o m clean (push_nothing out)) (fits_emptied a.keeps after clear.peak clear.slots)
+        (both_begun begun)
         (λ side fail. cc (none_failed side, w.unfailed side)) result ends
 
     pub ends_well : ((side : Side) → (cursor side).status ≡ Ended) → MergePost tool old last (Ok tt)
@@ -353,31 +322,27 @@ module _ {tool : MergeTool} {old : MergeState} {reader : Side → Reader} {curso
         (Some (key s (line store (cursor s).current_slot)))
     n = next_at w.o a.sides s head comes
 
-    pub keeps_two : StoreHoldsTwoLines old.store store ls → StoreHoldsTwoLines old.store after (with_side s n.now_ls ls)
-    keeps_two keeps = store_with_line s (cursor s) _ n.bytes (a.sides s).slots keeps
-        (side_case _ s (simp put_same n.longer) (simp put_other (omega arith))) (simp put_same n.fits) n.stored
-
-    pub advance_ok : StoreHoldsTwoLines old.store store ls
-        → CursorsInvariant tool old (with_side s new reader) (with_side s next cursor) after (with_side s n.now_ls ls)
-        (with_side s (ls s) p) (with_side s n.bound b)
-    advance_ok keeps = let sides = sides_next w.o a.sides s head comes in
-        record { w = w; sides = sides; holds = holds_two w.fits (keeps_two keeps) (λ side. (sides side).slots) }
+    pub advance_ok : CursorsInvariant w (with_side s new reader) (with_side s next cursor) after
+        (with_side s n.now_ls ls) (with_side s (ls s) p) (with_side s n.bound b)
+    advance_ok = record {
+      sides = sides_next w.o a.sides s head comes;
+      keeps = group_store_next s (cursor s) (a.sides s).slots a.keeps n;
+    }
 
     -- the output comes first, as before
     pub goes_merging : {q : Side → Lines} {out : Output} → MergeInvariant tool b q old.out out
         → MergeInvariant tool (with_side s n.bound b) q old.out out
     goes_merging m = bound_changes s m (rw (at_current_line (a.sides s) head).bound n.later)
 
-    pub runs_on : {Keep : Slots → (Side → Lines) → Type 0} {out : Output} → Keep after (with_side s n.now_ls ls)
-        → MergeInvariant tool b (with_side s (ls s) p) old.out out
-        → LoopInvariant tool Keep old (state_by_side (with_side s new reader) out after) (with_side s next cursor)
-    runs_on keeps m = let sides = sides_next w.o a.sides s head comes in search (rules, n, goes_merging)
+    pub runs_on : {out : Output} → MergeInvariant tool b (with_side s (ls s) p) old.out out
+        → LoopInvariant w (state_by_side (with_side s new reader) out after) (with_side s next cursor)
+    runs_on = search (rules, advance_ok, goes_merging)
 
 -- ---- after one input advanced
 
 -- the fault of a call is returned
 pub err_is : {r : Result (Unit {0}) MergeFault} {fault : MergeFault} → IsErrAnd r (λ y. y ≡ fault) → r ≡ Err fault
-err_is {r} returned = search rules
+err_is = search rules
 
 -- the remaining work
 abbrev pub reads_ahead : (Side → Reader) → Sorted → Sorted → ℕ
@@ -403,7 +368,7 @@ between_starts valid_cursors (reader1, reader2) clean =
 
 module _ {key : Side → Key} {now : MergeState} {one two : Sorted} (t : BetweenSteps key now one two) where
   pub advance_pre : (s : Side) → (both one two s).status ≡ Head → AdvancePre key s one two (now.reader s) now.store
-  advance_pre s head = search rules
+  advance_pre = search rules
 
   -- the input `s` advanced
   module _ (s : Side) {one2 two2 : Sorted} {reader : Reader} {after : Slots} {new : Output}
@@ -474,19 +439,17 @@ module _ {tool : MergeTool} {old : MergeState} (w : IsOpenMerge tool old) where
     began : SideAfterNext tool First (old.reader First) (new.reader First) first (base_slot First) s.made s.mid [] None
     began = first_line First (omega arith) s.came
 
-    half_store : StoreOfLines old.store s.mid (λ side. max_length (both began.now_ls [] side))
-    half_store = store_with_line First (initial_cursor First) _ began.bytes (fresh_slots First)
-        (store_of_no_lines s.four w.allowed w.empty) (elim [ First ↦ omega arith | Second ↦ omega arith ]) began.fits
-        began.stored
+    half_store : GroupStore tool old.store s.mid (both began.now_ls []) []
+    half_store = group_store_next First (initial_cursor First) (fresh_slots First)
+        (store_starts w.fits s.four w.allowed w.empty) began
 
     half_invariant : MergeInvariant tool (both began.bound NoBound) no_lines old.out old.out
     half_invariant = search (rules, bound_changes, began, merge_invariant_starts)
 
-  pub start_ok : {Keep : Slots → (Side → Lines) → Type 0} {first second : Reader} {store : Slots} {one two : Sorted}
-      → ((ls : Side → Lines) → StoreHoldsTwoLines old.store store ls → Keep store ls)
+  pub start_ok : {first second : Reader} {store : Slots} {one two : Sorted}
       → StartOkPost key cmp (both one two) unstarted (merge_inputs first second store)
-      → LoopInvariant tool Keep old (merge_state first second old.out store) (both one two)
-  start_ok {one = one} keeps s =
+      → LoopInvariant w (merge_state first second old.out store) (both one two)
+  start_ok {one = one} s =
       let f = began s in
       let k = first_line Second f.side_invariant.four s.later in
       let apart = slots_apart Second (initial_cursor Second) one (fresh_slots Second) f.side_invariant.slots in
@@ -494,10 +457,11 @@ module _ {tool : MergeTool} {old : MergeState} (w : IsOpenMerge tool old) where
         ls = both f.now_ls k.now_ls;
         p = no_lines;
         b = both f.bound k.bound;
-        sides = elim [ First ↦ grind (arith, side_invariant_kept, line_other, apart) | Second ↦ k.side_invariant ];
+        cursors = record {
+          sides = elim [ First ↦ grind (arith, side_invariant_kept, line_other, apart) | Second ↦ k.side_invariant ];
+          keeps = group_store_next Second (initial_cursor Second) (fresh_slots Second) (half_store s) k;
+        };
         merge_invariant = bound_changes Second (half_invariant s) k.later;
-        keeps = keeps _ (store_with_line Second (initial_cursor Second) _ k.bytes (fresh_slots Second) (half_store s)
-            (elim [ First ↦ omega arith | Second ↦ omega arith ]) k.fits k.stored);
       }
 
   -- nothing was read of an input
@@ -509,18 +473,17 @@ module _ {tool : MergeTool} {old : MergeState} (w : IsOpenMerge tool old) where
       → ((side : Side) → ReadFactsOf tool old now.reader ls no_lines b side (now.reader side) []) → ls s ≡ []
       → ((r : Reader) (piece : List ℕ) → IsLine (now.reader s).terminator piece
       → FirstReads terminator old.reader now.reader (with_side s r now.reader) ls (with_side s piece (λ side. [])))
-      → StoreHoldsTwoLines old.store now.store ls → MergeInvariant tool b no_lines old.out old.out
+      → GroupStore tool old.store now.store ls [] → MergeInvariant tool b no_lines old.out old.out
       → EndsIfFails tool old now s (initial_cursor s) old.out
   first_read_fails s now {ls} facts none order kept m =
-      let holds : StoreInvariant tool old.store now.reader initial_cursor now.store ls =
-      holds_two w.fits kept fresh_slots in
       advance_fails w {now = now} {cursor = initial_cursor s} (record {
         facts = facts;
         all = sym none;
         order = order;
-        denied = kept.denied;
-        fits = holds.line s;
-      }) (lag_invariant_starts m w.writable (push_nothing old.out)) (λ new piece g. processed_come_first w new g m)
+        kept = [];
+        keeps = kept;
+        slots = fresh_slots s;
+      }) (lag_invariant_starts w.o m w.writable (push_nothing old.out))
 
   -- the merge could not start
   abbrev StartErr : Reader → Reader → Slots → MergeFault → Type 0
@@ -534,7 +497,7 @@ module _ {tool : MergeTool} {old : MergeState} (w : IsOpenMerge tool old) where
     start_fault (inr (inl f)) =
         rw f.unread (first_read_fails First (state_by_side old.reader old.out f.made) unread refl
         (λ r piece free. grind (arith, one_line_at_most, free, w.terminator First))
-        (store_of_no_lines f.four w.allowed w.empty) (merge_invariant_starts tool old.out) _ _ _
+        (store_starts w.fits f.four w.allowed w.empty) (merge_invariant_starts tool old.out) _ _ _
         (inr (w.writable, f.fails)))
     start_fault (inr (inr f)) =
         let s = f.begins in

@@ -1,21 +1,21 @@
 -- Output of inputs in parts. Inputs that are split at the same key: the keys of the first parts are below those of
 -- the second, so the distinct keys of the whole are those of the first parts followed by those of the second, and so
 -- are the entries; a disorder can only be in the second parts. Inputs that are distributed over parts by a function
--- of the key: a filter by keys commutes with computing the distinct keys, so each part has the entries of its keys,
--- and the entries of all parts are a permutation of all entries.
+-- of the key: a filter by keys commutes with computing the distinct keys (`MergeLemmas.Exits.Invariant`), so each part
+-- has the entries of its keys, and the entries of all parts are a permutation of all entries.
 use Rattle.ptmerge.proofs
-use proofs.Common.{arith, ◌≡◌, ℕ, ◌+◌, List, [], ◌∷◌, ◌++◌, Bool, true, false, cond, Option, Some, None, refl, ap, sym}
+use proofs.Common.{arith, ◌≡◌, ℕ, ◌+◌, List, [], ◌∷◌, ◌++◌, Bool, true, false, Option, Some, None, refl, ap, sym}
 use proofs.Common.{◌∙◌, filter, Less, Side, First, Second, Lines, MergeTool, FirstDisorder, entries_by_key, disorder}
 use proofs.Common.{first_disorder, keys, merged_entries, sorted_prefixes, sorted_prefix, is_up_to, lines_of, Cmp, Key}
-use proofs.Common.{unlines, unlines-append, ◌&&◌, not, map, tied_itself, flat_map, is_gt, is_lt, Equal, insert_key}
-use proofs.Common.{distinct_keys, lines_with_key, entries_of_key, filter-append, IsLine, zero, suc, ◌<◌, ◌==◌, nat_lt}
+use proofs.Common.{unlines, unlines-append, ◌&&◌, not, map, tied_itself, flat_map, is_lt}
+use proofs.Common.{distinct_keys, entries_of_key, IsLine, zero, suc, ◌<◌, ◌==◌, nat_lt}
 use proofs.Common.{append_assoc, nat_tests, range_with_len, lines}
 use proofs.MergeLemmas.Exits.Invariant.{IsDisorderFrom, after_from, disorder_after, first_disorder_is, IsSortedFrom}
 use proofs.MergeLemmas.Exits.Invariant.{sorted_from_start, sorted_from_none, is_disordered, sorted_after}
-use proofs.MergeLemmas.Exits.Invariant.{sorted_prefix_is, Ascends, IsDownwardClosed, all_keys, all_wanted}
-use proofs.MergeLemmas.Exits.Invariant.{ascends_distinct, downward_splits, up_to_from, Each, Each-weaker, EachKey}
-use proofs.MergeLemmas.Exits.Invariant.{Each-all, EachKey-weaker, insert_least, Each-parts, IsKeyOrder, AtMost}
-use proofs.MergeLemmas.Exits.Invariant.{above_trans, at_most_trans, greater_flips, line_order}
+use proofs.MergeLemmas.Exits.Invariant.{sorted_prefix_is, IsDownwardClosed, all_keys, all_wanted}
+use proofs.MergeLemmas.Exits.Invariant.{by_keys_kept, downward_splits, up_to_from, Each, Each-weaker, EachKey}
+use proofs.MergeLemmas.Exits.Invariant.{Each-all, EachKey-weaker, Each-parts, IsKeyOrder, AtMost}
+use proofs.MergeLemmas.Exits.Invariant.{at_most_trans, greater_flips, line_order}
 use Rattle.std.proofs.lemmas.List.Elements.{All-filter, All-from_recursion, recursion_from_All}
 use Rattle.std.proofs.lemmas.List.Sorted.{IsPermutation-refl, IsPermutation-trans, IsPermutation-append_left}
 use Rattle.std.proofs.lemmas.List.Sorted.{IsPermutation-append_right, IsPermutation-append_comm}
@@ -26,75 +26,13 @@ use Rattle.ptlines.proofs.PartLaws.{the_lines_of_parts}
 use Rattle.ptmerge.specs.Parts.{CommByKey, IsSplittableByKey, IsConcatOfParts, JoinByKey, CommOfParts, JoinOfParts}
 use Rattle.ptmerge.specs.Parts.{text_of_part, output_lines}
 
--- ---- lines with some of the keys
-
-module _ (p : List ℕ → Bool) where
-  each_kept : (P : List ℕ → Type 0) (ks : Lines) → Each P ks → Each P (filter p ks)
-  each_kept P [] e = tt
-  each_kept P (k ∷ ks) (here, more) = grind (arith, each_kept P ks more)
-
-  module _ (cmp : Cmp) (o : IsKeyOrder cmp) where
-    insert_kept : (k : List ℕ) (xs : Lines) → Ascends cmp xs
-        → filter p (insert_key cmp k xs) ≡ cond (p k) (insert_key cmp k (filter p xs)) (filter p xs)
-    insert_kept k [] a = refl
-    insert_kept k (x ∷ xs) (above, more) =
-        let least : cmp k x ≡ Less → insert_key cmp k (filter p xs) ≡ k ∷ filter p xs =
-        λ e. insert_least cmp o k (filter p xs)
-        (each_kept _ xs (Each-weaker _ _ (λ y g. above_trans cmp o k x y (ap is_gt e) g) xs above)) in
-        let same : cmp k x ≡ Equal → p k ≡ p x = λ e. ap p (o.exact k x e) in
-        grind (arith, insert_kept k xs more, least, same)
-
-    -- filtering and computing the distinct keys commute
-    distinct_kept : (ks : Lines) → filter p (distinct_keys cmp ks) ≡ distinct_keys cmp (filter p ks)
-    distinct_kept [] = refl
-    distinct_kept (k ∷ ks) =
-        grind (arith, distinct_kept ks, insert_kept k (distinct_keys cmp ks) (ascends_distinct cmp o ks))
-
-  -- the lines whose keys pass the test
-  abbrev kept : Key → Lines → Lines
-  kept key ls = filter (λ line. p (key line)) ls
-
-  keys_kept : (key : Key) (ls : Lines) → map key (kept key ls) ≡ filter p (map key ls)
-  keys_kept key [] = refl
-  keys_kept key (x ∷ ls) = grind (arith, keys_kept key ls)
-
-  -- two lists, appended, of which the first passes the test and the second does not
-  kept_parts : (key : Key) (xs ys : Lines) → EachKey (λ k. p k ≡ true) key xs → EachKey (λ k. p k ≡ false) key ys
-      → (kept key (xs ++ ys) ≡ xs) × (filter (λ line. not (p (key line))) (xs ++ ys) ≡ ys)
-  kept_parts key [] [] e f = (refl, refl)
-  kept_parts key [] (y ∷ ys) e (here, more) = search (rules, kept_parts key [] ys tt more)
-  kept_parts key (x ∷ xs) ys (here, more) f = search (rules, kept_parts key xs ys more f)
-
-  -- all lines of a key pass the test if the key does
-  with_key_kept : (key : Key) (k : List ℕ) (ls : Lines) → p k ≡ true
-      → lines_with_key key (kept key ls) k ≡ lines_with_key key ls k
-  with_key_kept key k [] h = refl
-  with_key_kept key k (x ∷ ls) h = search (rules, with_key_kept key k ls h)
-
-  module _ (tool : MergeTool) (o : IsKeyOrder tool.cmp) (ls : Side → Lines) where
-    open tool use {cmp, entries, key}
-
-    abbrev part : Side → Lines
-    part side = kept (key side) (ls side)
-
-    keys_of_part : keys tool part ≡ filter p (keys tool ls)
-    keys_of_part = simp (keys_kept, filter-append)
-
-    -- the entries of the lines that pass the test are those of the keys that pass it
-    pub by_keys_kept : (w : List ℕ → Bool) → entries_by_key tool w (λ side. filter (λ line. p (key side line))
-        (ls side)) ≡ entries_by_key tool (λ k. w k && p k) ls
-    by_keys_kept w = (λ i. flat_map (entries_of_key tool part)
-        (filter w ((ap (distinct_keys cmp) keys_of_part ∙ sym (distinct_kept cmp o (keys tool ls))) i)))
-        ∙ each_of (distinct_keys cmp (keys tool ls))
-      where
-        each_of : (ds : Lines) → flat_map (entries_of_key tool part) (filter w (filter p ds))
-            ≡ flat_map (entries_of_key tool ls) (filter (λ k. w k && p k) ds)
-        each_of [] = refl
-        each_of (d ∷ ds) =
-            let same : p d ≡ true → entries_of_key tool part d ≡ entries_of_key tool ls d =
-            λ h i. entries d (with_key_kept (key First) d (ls First) h i)
-            (with_key_kept (key Second) d (ls Second) h i) in
-            grind (arith, each_of ds, same)
+-- two lists, appended, of which the first passes the test and the second does not
+kept_parts : (p : List ℕ → Bool) (key : Key) (xs ys : Lines) → EachKey (λ k. p k ≡ true) key xs
+    → EachKey (λ k. p k ≡ false) key ys
+    → (filter (λ line. p (key line)) (xs ++ ys) ≡ xs) × (filter (λ line. not (p (key line))) (xs ++ ys) ≡ ys)
+kept_parts p key [] [] e f = (refl, refl)
+kept_parts p key [] (y ∷ ys) e (here, more) = search (rules, kept_parts p key [] ys tt more)
+kept_parts p key (x ∷ xs) ys (here, more) f = search (rules, kept_parts p key xs ys more f)
 
 -- ---- keys below others
 
@@ -188,12 +126,12 @@ module _ (tool : MergeTool) (o : IsKeyOrder tool.cmp) where
 
   none_disordered : (ls : Side → Lines) → disorder tool ls ≡ None → (side : Side)
       → first_disorder cmp (key side) (ls side) ≡ None
-  none_disordered ls e side = grind arith
+  none_disordered = grind arith
 
   -- the output for sorted lists is that of all their keys
   pub merged_in_order : (ls : Side → Lines) → disorder tool ls ≡ None
       → merged_entries tool ls ≡ entries_by_key tool all_keys ls
-  merged_in_order ls e = grind (arith, sorted_from_start, sorted_from_none, none_disordered)
+  merged_in_order = grind (arith, sorted_from_start, sorted_from_none, none_disordered)
 
   -- sorted lists whose keys pass a test, and lists whose keys, which are at least those, do not
   module _ (p : List ℕ → Bool) (down : IsDownwardClosed cmp p) (a b : Side → Lines) (in_order : disorder tool a ≡ None)
@@ -213,7 +151,7 @@ module _ (tool : MergeTool) (o : IsKeyOrder tool.cmp) where
     -- the same keys are wanted
     same_wanted : (k : List ℕ)
         → is_up_to cmp (disorder tool (λ side. a side ++ b side)) k ≡ is_up_to cmp (disorder tool b) k
-    same_wanted k = grind (arith, both_go_on First, both_go_on Second)
+    same_wanted = grind (arith, both_go_on First, both_go_on Second)
 
     -- The entries of the appended lists are those of the first lists, followed by those of the second.
     entries_together : merged_entries tool (λ side. a side ++ b side) ≡ merged_entries tool a ++ merged_entries tool b
@@ -246,10 +184,10 @@ of_parts tool o first second cut =
     ∙ unlines-append _ (merged_entries tool a) (merged_entries tool b)
 
 pub comm_of_parts : CommOfParts
-comm_of_parts job = search (rules, of_parts, line_order)
+comm_of_parts = search (rules, of_parts, line_order)
 
 pub join_of_parts : JoinOfParts
-join_of_parts job = search (rules, of_parts, line_order)
+join_of_parts = search (rules, of_parts, line_order)
 
 -- ---- permutations
 
@@ -331,7 +269,7 @@ split_by_key tool o inputs part_of parts in_order below = simp (whole, of_part)
         ∙ lines_of_each tool.terminator (entries_of_key tool ls) (filter all_keys ds) []
 
 pub comm_of_keys : CommByKey
-comm_of_keys job = search (rules, split_by_key, line_order)
+comm_of_keys = search (rules, split_by_key, line_order)
 
 pub join_of_keys : JoinByKey
-join_of_keys job = search (rules, split_by_key, line_order)
+join_of_keys = search (rules, split_by_key, line_order)

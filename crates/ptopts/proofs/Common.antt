@@ -12,7 +12,8 @@ pub use Rattle.ptopts.specs.Commands.{selected_set, values_fault}
 pub use Rattle.ptopts.specs.Faults.{Fault, Operands, StandardTwice, constraint_fault, constraints_fault}
 pub use Rattle.ptopts.specs.Faults.{each_value_fault, first_some, is_file_number, is_repeated, is_standard, is_within}
 pub use Rattle.ptopts.specs.Faults.{operands_fault, parse_fault, token_fault}
-pub use Rattle.ptopts.specs.ParseSteps.{AreInputs, ArgsPost, GroupPost, option_view, options_of_tokens, options_view}
+pub use Rattle.ptopts.specs.ParseSteps.{AreInputs, ArgsPost, GroupPost, operands_of, option_view, options_of}
+pub use Rattle.ptopts.specs.ParseSteps.{options_of_tokens, options_view}
 pub use Rattle.ptopts.specs.Syntax.{syntax}
 pub use Rattle.ptopts.specs.Theorems.{AreAllowed, CommandsMatchGrammar, FaultlessIsSpelled, GrammarIsUnambiguous}
 pub use Rattle.ptopts.specs.Theorems.{ParseMatchesGrammar, Spelled, SpellsCommand}

@@ -5,12 +5,13 @@ use Rattle.std.specs.Borrow.{Bor}
 use Rattle.ptopts.specs.declared.tool.Tool.{Tool}
 use Rattle.ptopts.specs.declared.fault.UseFault.{UseFault}
 use Rattle.ptopts.specs.declared.inputs.Inputs.{Inputs}
+use Rattle.ptopts.specs.declared.parsing.ParsedArgs.{ParsedArgs}
 use Rattle.ptopts.specs.declared.parsing.ParsedOption as given
 use Rattle.ptopts.specs.Args.{ParsedOption, Token, option_of_token, tokens_of, value_token, takes_next, parsed_args}
 use Rattle.ptopts.specs.Args.{options}
 use Rattle.ptopts.specs.Faults.{Fault, parse_fault}
 use Rattle.ptopts.specs.Commands.{Job, command_over}
-use Rattle.ptopts.specs.View.{fault_view, with_inputs}
+use Rattle.ptopts.specs.View.{fault_view, with_inputs, words_view}
 
 -- the function succeeds if there is no fault, and otherwise returns the fault
 abbrev pub CheckPost : {A : Type 0} → Result A UseFault → Option Fault → Type 0
@@ -34,6 +35,14 @@ option_view o = record { letter = o.letter; value = option_map (λ v. v.now) o.v
 -- the view of options of the code
 abbrev pub options_view : List given.ParsedOption → List ParsedOption
 options_view os = map option_view os
+
+-- the view of the options of a parsed command line
+abbrev pub options_of : {A : Type 0} → ParsedArgs A → List ParsedOption
+options_of args = options_view args.options.items
+
+-- the view of its operands
+abbrev pub operands_of : {A : Type 0} → ParsedArgs A → List (List ℕ)
+operands_of args = words_view args.operands.now
 
 -- the view of the next word, if there is one
 abbrev pub next_view : Option (Bor (List ℕ)) → Option (List ℕ)

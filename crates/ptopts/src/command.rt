@@ -4,7 +4,7 @@ ghost use Rattle.std.specs.Prelude.{◌≡◌, IfOk, None, option_map};
 ghost use Rattle.ptopts.specs.Faults.{constraints_fault, operands_fault};
 ghost use Rattle.ptopts.specs.Commands.{checked_command, command_of_args, input_operands, output};
 ghost use Rattle.ptopts.specs.View.{words_view, command_view, CommandPost, HasToolName};
-ghost use Rattle.ptopts.specs.ParseSteps.{CheckThenMemoryPost, AreInputs, options_view};
+ghost use Rattle.ptopts.specs.ParseSteps.{CheckThenMemoryPost, AreInputs, options_of, operands_of};
 
 mod comm;
 mod cut;
@@ -13,17 +13,10 @@ mod paste;
 mod tr;
 mod uniq;
 
-use crate::command::comm::comm_command;
-use crate::command::cut::cut_command;
-use crate::command::join::join_command;
-use crate::command::paste::paste_command;
-use crate::command::tr::tr_command;
-use crate::command::uniq::uniq_command;
-use crate::constraints::check_constraints;
 use crate::fault::UseFault;
 use crate::inputs::Inputs;
-use crate::operand_checks::{check_operands, is_standard};
-use crate::parsing::{ParsedArgs, ParsedOption, read_words};
+use crate::operand_checks::is_standard;
+use crate::parsing::{ParsedArgs, read_words};
 use crate::tool::Tool;
 use ptlangs::CharPlan;
 use ptlangs::jobs::{CommJob, CutJob, JoinJob, PasteJob, UniqJob};
@@ -64,9 +57,9 @@ impl<'a, A: Allocator + Copy> Command<'a, A> {
         let Some(tool) = Tool::from_name(name) else {
             return Err(UseFault::Tool);
         };
-        let ParsedArgs { options, operands } = read_words(alloc, tool, rest)?;
-        check_constraints(tool, &options)?;
-        read_command(alloc, tool, &options, operands)
+        let args = read_words(alloc, tool, rest)?;
+        args.check_constraints(tool)?;
+        args.read_command(alloc, tool)
     }
 }
 
@@ -103,58 +96,46 @@ impl<'a, A: Allocator> Command<'a, A> {
     }
 }
 
-/// Makes the command of a tool. Its values are checked first, then its operands, then the strings of `tr`.
-fn read_command<'a, A: Allocator + Copy>(
-    alloc: A,
-    tool: Tool,
-    options: &[ParsedOption<'a>],
-    operands: &[&'a str],
-) -> Result<Command<'a, A>, UseFault<'a>>
-    requires { constraints_fault tool (options_view options.now) ≡ None }
-    ensures { CommandPost result (checked_command tool (options_view options.now) (words_view operands.now)) }
-{
-    match tool {
-        Tool::Cut => cut_command(alloc, options, operands),
-        Tool::Paste => paste_command(alloc, options, operands),
-        Tool::Uniq => uniq_command(alloc, options, operands),
-        Tool::Comm => comm_command(alloc, options, operands),
-        Tool::Join => join_command(alloc, options, operands),
-        Tool::Tr => tr_command(alloc, options, operands),
-    }
-}
-
-/// Checks the operands, and makes the inputs of the tool.
-pub(crate) fn read_inputs<'a, A: Allocator + Copy>(
-    alloc: A,
-    tool: Tool,
-    options: &[ParsedOption<'a>],
-    operands: &[&'a str],
-) -> Result<Inputs<'a, A>, UseFault<'a>>
-    ensures fault { CheckThenMemoryPost result
-        (operands_fault tool (options_view options.now) (words_view operands.now)) }
-    ensures inputs { IfOk result
-        (AreInputs (input_operands tool (words_view operands.now)) (output tool (words_view operands.now))) }
-{
-    check_operands(tool, options, operands)?;
-    Ok(build_inputs(alloc, tool, operands)?)
-}
-
-/// Makes the inputs of a tool and the output of `uniq`. Without an operand the input is standard input (POSIX.1-2017,
-/// XCU, `cut` and `uniq`). An output `-` is standard output.
-fn build_inputs<'a, A: Allocator + Copy>(
-    alloc: A,
-    tool: Tool,
-    operands: &[&'a str],
-) -> Result<Inputs<'a, A>, AllocError>
-    ensures { IfOk result
-        (AreInputs (input_operands tool (words_view operands.now)) (output tool (words_view operands.now))) }
-{
-    match (tool, operands) {
-        (Tool::Tr, _) | (Tool::Cut | Tool::Uniq, []) => Inputs::standard(alloc),
-        (Tool::Uniq, [input, output, ..]) if !is_standard(output) => {
-            Inputs::of(alloc, &[*input], Some(*output))
+impl<'a, A: Allocator + Copy> ParsedArgs<'a, A> {
+    /// Makes the command of a tool. Its values are checked first, then its operands, then the strings of `tr`.
+    fn read_command(&self, alloc: A, tool: Tool) -> Result<Command<'a, A>, UseFault<'a>>
+        requires { constraints_fault tool (options_of self.now) ≡ None }
+        ensures { CommandPost result (checked_command tool (options_of self.now) (operands_of self.now)) }
+    {
+        match tool {
+            Tool::Cut => self.cut_command(alloc),
+            Tool::Paste => self.paste_command(alloc),
+            Tool::Uniq => self.uniq_command(alloc),
+            Tool::Comm => self.comm_command(alloc),
+            Tool::Join => self.join_command(alloc),
+            Tool::Tr => self.tr_command(alloc),
         }
-        (Tool::Uniq, [input, ..]) => Inputs::of(alloc, &[*input], None),
-        _ => Inputs::of(alloc, operands, None),
+    }
+
+    /// Checks the operands, and makes the inputs of the tool.
+    pub(crate) fn read_inputs(&self, alloc: A, tool: Tool) -> Result<Inputs<'a, A>, UseFault<'a>>
+        ensures fault { CheckThenMemoryPost result
+            (operands_fault tool (options_of self.now) (operands_of self.now)) }
+        ensures inputs { IfOk result
+            (AreInputs (input_operands tool (operands_of self.now)) (output tool (operands_of self.now))) }
+    {
+        self.check_operands(tool)?;
+        Ok(self.build_inputs(alloc, tool)?)
+    }
+
+    /// Makes the inputs of a tool and the output of `uniq`. Without an operand the input is standard input
+    /// (POSIX.1-2017, XCU, `cut` and `uniq`). An output `-` is standard output.
+    fn build_inputs(&self, alloc: A, tool: Tool) -> Result<Inputs<'a, A>, AllocError>
+        ensures { IfOk result
+            (AreInputs (input_operands tool (operands_of self.now)) (output tool (operands_of self.now))) }
+    {
+        match (tool, self.operands) {
+            (Tool::Tr, _) | (Tool::Cut | Tool::Uniq, []) => Inputs::standard(alloc),
+            (Tool::Uniq, [input, output, ..]) if !is_standard(output) => {
+                Inputs::of(alloc, &[*input], Some(*output))
+            }
+            (Tool::Uniq, [input, ..]) => Inputs::of(alloc, &[*input], None),
+            _ => Inputs::of(alloc, self.operands, None),
+        }
     }
 }

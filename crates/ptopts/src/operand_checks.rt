@@ -7,52 +7,51 @@ ghost use Rattle.std.specs.List.{list_all};
 ghost use Rattle.ptopts.specs.Faults as faults;
 ghost use Rattle.ptopts.specs.Faults.{operands_fault};
 ghost use Rattle.ptopts.specs.View.{words_view};
-ghost use Rattle.ptopts.specs.ParseSteps.{CheckPost, options_view};
+ghost use Rattle.ptopts.specs.ParseSteps.{CheckPost, options_of, operands_of};
 
 use crate::fault::UseFault;
-use crate::parsing::{ParsedOption, has_letter};
+use crate::parsing::ParsedArgs;
 use crate::tool::Tool;
+use std::alloc::Allocator;
 
-/// Checks the operands of the tool.
-///
-/// # Errors
-///
-/// `Operands` if their number is wrong, `StandardTwice` if both are standard input.
-pub(crate) fn check_operands<'a>(
-    tool: Tool,
-    options: &[ParsedOption<'a>],
-    operands: &[&'a str],
-) -> Result<(), UseFault<'a>>
-    ensures { CheckPost result (operands_fault tool (options_view options.now) (words_view operands.now)) }
-{
-    if !has_valid_count(tool, options, operands.len()) {
-        return Err(UseFault::Operands);
+impl<'a, A: Allocator> ParsedArgs<'a, A> {
+    /// Checks the operands of the tool.
+    ///
+    /// # Errors
+    ///
+    /// `Operands` if their number is wrong, `StandardTwice` if both are standard input.
+    pub(crate) fn check_operands(&self, tool: Tool) -> Result<(), UseFault<'a>>
+        ensures { CheckPost result (operands_fault tool (options_of self.now) (operands_of self.now)) }
+    {
+        if !self.has_valid_count(tool, self.operands.len()) {
+            return Err(UseFault::Operands);
+        }
+        if tool.syntax().stdin_once && all_standard(self.operands) {
+            return Err(UseFault::StandardTwice);
+        }
+        Ok(())
     }
-    if tool.syntax().stdin_once && all_standard(operands) {
-        return Err(UseFault::StandardTwice);
-    }
-    Ok(())
-}
 
-/// Whether the tool accepts this number of operands.
-fn has_valid_count(tool: Tool, options: &[ParsedOption], count: usize) -> bool
-    ensures { result ≡ faults.has_valid_count tool (options_view options.now) count }
-{
-    let syntax = tool.syntax();
-    syntax.min_operands <= count && count <= syntax.max_operands && fits_form(tool, options, count)
-}
-
-/// Whether `tr` accepts this number of strings with these options; true for the other tools.
-fn fits_form(tool: Tool, options: &[ParsedOption], count: usize) -> bool
-    ensures { result ≡ faults.fits_form tool (options_view options.now) count }
-{
-    if tool != Tool::Tr {
-        return true;
+    /// Whether the tool accepts this number of operands.
+    fn has_valid_count(&self, tool: Tool, count: usize) -> bool
+        ensures { result ≡ faults.has_valid_count tool (options_of self.now) count }
+    {
+        let syntax = tool.syntax();
+        syntax.min_operands <= count && count <= syntax.max_operands && self.fits_form(tool, count)
     }
-    match (has_letter(options, b'd'), has_letter(options, b's')) {
-        (true, false) => count == 1,
-        (false, true) => true,
-        _ => count == 2,
+
+    /// Whether `tr` accepts this number of strings with these options; true for the other tools.
+    fn fits_form(&self, tool: Tool, count: usize) -> bool
+        ensures { result ≡ faults.fits_form tool (options_of self.now) count }
+    {
+        if tool != Tool::Tr {
+            return true;
+        }
+        match (self.has(b'd'), self.has(b's')) {
+            (true, false) => count == 1,
+            (false, true) => true,
+            _ => count == 2,
+        }
     }
 }
 

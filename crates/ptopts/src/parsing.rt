@@ -6,7 +6,7 @@ ghost use Rattle.ptopts.specs.Args.{is_option_arg, has_option, is_flag, Valid};
 ghost use Rattle.ptopts.specs.Faults.{is_repeated, token_fault};
 ghost use Rattle.ptopts.specs.View.{words_view};
 ghost use Rattle.ptopts.specs.ParseSteps.{CheckPost, option_view, options_view, next_view, token_at, words_after_value};
-ghost use Rattle.ptopts.specs.ParseSteps.{GroupPost, GroupFaultPost, ArgsPost, ArgsFaultPost};
+ghost use Rattle.ptopts.specs.ParseSteps.{GroupPost, GroupFaultPost, ArgsPost, ArgsFaultPost, options_of, operands_of};
 
 use crate::fault::UseFault;
 use crate::tool::Tool;
@@ -20,7 +20,7 @@ pub(crate) struct ParsedOption<'a> {
 }
 
 /// Whether the option is present.
-pub(crate) fn has_letter(options: &[ParsedOption], letter: u8) -> bool
+fn has_letter(options: &[ParsedOption], letter: u8) -> bool
     ensures { result ≡ has_option letter (options_view options.now) }
 {
     options.iter().any(|option| option.letter == letter)
@@ -122,6 +122,15 @@ pub(crate) struct ParsedArgs<'a, A: Allocator = Global> {
     pub operands: &'a [&'a str],
 }
 
+impl<'a, A: Allocator> ParsedArgs<'a, A> {
+    /// Whether the option is present.
+    pub(crate) fn has(&self, letter: u8) -> bool
+        ensures { result ≡ has_option letter (options_of self.now) }
+    {
+        has_letter(&self.options, letter)
+    }
+}
+
 /// Parses the words after the name of the tool.
 pub(crate) fn read_words<'a, A: Allocator + Copy>(
     alloc: A,
@@ -129,7 +138,7 @@ pub(crate) fn read_words<'a, A: Allocator + Copy>(
     words: &'a [&'a str],
 ) -> Result<ParsedArgs<'a, A>, UseFault<'a>>
     ensures ok { IfOk result
-        (λ r. ArgsPost tool (words_view words.now) (options_view r.options.items) (words_view r.operands.now)) }
+        (λ r. ArgsPost tool (words_view words.now) (options_of r) (operands_of r)) }
     ensures err { IfErr result (ArgsFaultPost tool (words_view words.now)) }
 {
     let mut options = Vec::new(alloc);

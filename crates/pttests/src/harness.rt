@@ -419,16 +419,14 @@ pub type GrowthFailures = (
     bool,
 );
 
-// Lets the allocation after the first `passing` fail, and the next one too, since a list of elements asks again for less.
-// Returns whether there was one.
+// Lets the allocation after the first `passing` fail, and returns whether there was one.
 fn growth_fails(
     rt: &impl Abort,
     test_alloc: Global,
     (case, out, messages, refusal, streams): &GrowthFailures,
     passing: u64,
 ) -> Result<bool, Fail> {
-    let next = FailingAlloc::after(test_alloc, passing);
-    let alloc = FailingAlloc::after(&next, passing);
+    let alloc = FailingAlloc::after(test_alloc, passing);
     let report = run_over(rt, &alloc, test_alloc, case)?;
     let refused = alloc.refused();
     if refused {

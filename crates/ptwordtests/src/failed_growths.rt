@@ -9,7 +9,7 @@ use std::process::Abort;
 // Whether parsing failed for lack of memory, the only fault that is allowed. Otherwise the files are compared.
 fn is_denied(
     rt: &impl Abort,
-    read: &Result<Command<'_, &FailingAlloc<&FailingAlloc<Global>>>, UseFault<'_>>,
+    read: &Result<Command<'_, &FailingAlloc<Global>>, UseFault<'_>>,
     names: &[&str],
 ) -> bool {
     match read {
@@ -19,16 +19,14 @@ fn is_denied(
     read.is_err()
 }
 
-// Like `is_denied`, for an allocator that fails twice after `passed` allocations: a list of elements asks again for less
-// if it was denied what it expects to need.
+// Like `is_denied`, for an allocator that fails after `passed` allocations.
 fn is_denied_after(
     rt: &impl Abort,
     (alloc, passed): (Global, u64),
     words: &[&str],
     names: &[&str],
 ) -> bool {
-    let next = FailingAlloc::after(alloc, passed);
-    let alloc = FailingAlloc::after(&next, passed);
+    let alloc = FailingAlloc::after(alloc, passed);
     is_denied(rt, &Command::read(&alloc, words), names)
 }
 

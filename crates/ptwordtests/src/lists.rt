@@ -289,48 +289,42 @@ fn refuses_by_the_first_faulty_element(rt: HostRuntime) {
     assert!(rt; Delims::tab(&alloc).is_err());
 }
 
-// An allocator that fails twice: a list of elements asks again for less if it was denied what it expects to need.
-type FailingTwice<'a> = FailingAlloc<&'a FailingAlloc<Global>>;
-
 // The last element of a list whose allocation may fail.
-fn last_range(alloc: &FailingTwice) -> Result<bool, ListFault> {
+fn last_range(alloc: &FailingAlloc<Global>) -> Result<bool, ListFault> {
     Ok(Ranges::read(alloc, b"1,3,5,7,9,11")?.contains(11))
 }
 
-fn last_field(alloc: &FailingTwice) -> Result<Option<(u8, u64)>, OutFault> {
+fn last_field(alloc: &FailingAlloc<Global>) -> Result<Option<(u8, u64)>, OutFault> {
     Ok(OutList::read(alloc, b"0,1.1,1.2,1.3,2.1,2.2")?.at(5))
 }
 
-fn last_delim(alloc: &FailingTwice) -> Result<Option<u8>, DelimFault> {
+fn last_delim(alloc: &FailingAlloc<Global>) -> Result<Option<u8>, DelimFault> {
     Ok(Delims::read(alloc, b"abcdefghi")?.at(8))
 }
 
-// The three lists allocate four, two and three times.
+// The three lists allocate three times, once and three times.
 #[test]
 fn each_growth_refused_in_turn(rt: HostRuntime) {
     for passed in 0..8u64 {
-        let next = FailingAlloc::after(rt.alloc(), passed);
-        let read = last_range(&FailingAlloc::after(&next, passed));
+        let read = last_range(&FailingAlloc::after(rt.alloc(), passed));
         assert_same_for(
             &rt,
             &passed,
             &read,
-            &if passed < 4 {
+            &if passed < 3 {
                 Err(ListFault::Memory)
             } else {
                 Ok(true)
             },
         );
-        let next = FailingAlloc::after(rt.alloc(), passed);
-        let read = last_field(&FailingAlloc::after(&next, passed));
-        let wanted = if passed < 2 {
+        let read = last_field(&FailingAlloc::after(rt.alloc(), passed));
+        let wanted = if passed < 1 {
             Err(OutFault::Memory)
         } else {
             Ok(Some((2, 2)))
         };
         assert_same_for(&rt, &passed, &read, &wanted);
-        let next = FailingAlloc::after(rt.alloc(), passed);
-        let read = last_delim(&FailingAlloc::after(&next, passed));
+        let read = last_delim(&FailingAlloc::after(rt.alloc(), passed));
         let wanted = if passed < 3 {
             Err(DelimFault::Memory)
         } else {

@@ -6,11 +6,11 @@ use proofs.Common.{ap, arith, append_assoc, common_steps, onto_first, flat_map, 
 use proofs.Common.{IsFirstByte, is_byte, unlines, lines, IsLine, complete_lines, lines_cons, byte_ne, lines_of_unlines}
 use proofs.Common.{unlines-append, line_before_terminator, select_from, cut_line, cut, cut_decided, cut_lines_from}
 use proofs.Common.{cut_bytes_from, cut_list_from, IsPrefix, Cut, Interval, ExtendsCut, CutPost, selected_bytes}
-use proofs.Common.{is_selected, drop-drop, zero, suc, ◌<◌, true, cond, set, ⊎_elim, ◌&&◌, get_or, length-append, sym}
-use proofs.Common.{◌∙◌, w8, All, nat_le, false≢true, range_with_len, list_all, nat_tests, take-add, pick_l, Each1}
+use proofs.Common.{is_selected, drop-drop, zero, suc, ◌<◌, true, cond, set, ◌&&◌, get_or, length-append, sym}
+use proofs.Common.{◌∙◌, w8, All, nat_le, range_with_len, nat_tests, take-add, Each1}
 use proofs.Common.{Each1-from_get_or, swz_l, pick_l-range_with_len, take-map, take-take, take-append-le, take_all}
 use proofs.Common.{length-take-le, append-nil, All-set, length-range_with_len, cases_eq, put_chunk, length-drop}
-use proofs.Common.{length-swz_l, take_more_set, ◌||◌, min, drop_all, drop_more, AreSeparated, cases_lt}
+use proofs.Common.{length-swz_l, slice_get, take_more_set, min, drop_all, drop_more, AreSeparated}
 use Rattle.ptflow.specs.declared.tools.cut.bytes.Line.{Line}
 use proofs.Passes.Exits.{split_of, LineSplit, line_split}
 use Rattle.std.proofs.Common.{get_or-set_same, get_or-set_other, length-set}
@@ -57,32 +57,12 @@ select_none test n (x ∷ xs) out = grind (arith, select_none test (n + 1) xs (g
 pub select_past : {X : Type 0} (r : Interval) (n : ℕ) (xs : List X) → r.last < n → select_from (is_within r) n xs ≡ []
 select_past r n xs past = select_none (is_within r) n xs (λ k low high. above r k (omega arith))
 
--- one item more: if the first test selects it, the other does not, and if the other does, the first selects nothing
--- later
-select_step : {X : Type 0} (x : X) {all : List X} (first others : List X) (a b : Bool) → (a ≡ true → b ≡ false)
-    → (b ≡ true → first ≡ []) → all ≡ first ++ others
-    → cond (a || b) (x ∷ all) all ≡ cond a (x ∷ first) first ++ cond b (x ∷ others) others
-select_step x first others true true apart none more = absurd (false≢true (sym (apart refl)))
-select_step x first others true false apart none more = ap (◌∷◌ x) more
-select_step x first others false true apart none more = grind (arith, common_steps)
-select_step x first others false false apart none more = more
-
 -- the items of the first interval, and then those of the others
 pub select_first : {X : Type 0} (r : Interval) (rs : List Interval) (n : ℕ) (xs : List X) → AreSeparated (r.last + 1) rs
     → select_from (is_selected (r ∷ rs)) n xs ≡ select_from (is_within r) n xs ++ select_from (is_selected rs) n xs
 select_first r rs n [] apart = refl
-select_first r rs n (x ∷ xs) apart = select_step x (select_from (is_within r) (n + 1) xs)
-    (select_from (is_selected rs) (n + 1) xs) (is_within r n) (is_selected rs n) here there
-    (select_first r rs (n + 1) xs apart)
-  where
-    here : is_within r n ≡ true → is_selected rs n ≡ false
-    here inside = not_selected rs (r.last + 1) n apart (omega (arith, last_of r n inside))
-
-    there : is_selected rs n ≡ true → select_from (is_within r) (n + 1) xs ≡ []
-    there other = ⊎_elim
-        (λ high. select_past r (n + 1) xs (omega (arith, high)))
-        (λ low. absurd (false≢true (cc (not_selected rs (r.last + 1) n apart (omega (arith, low))))))
-        (cases_lt r.last n)
+select_first r rs n (x ∷ xs) apart =
+    grind (arith, common_steps, select_first r rs (n + 1) xs apart, not_selected, select_past, last_of)
 
 -- the first items are not selected
 pub select_skip : {X : Type 0} (test : ℕ → Bool) (n count : ℕ) (xs : List X)
@@ -100,15 +80,14 @@ select_slice r n [] (suc i) j is js = sym (take-nil (j - suc i))
 select_slice r n (x ∷ xs) i zero is js = grind (arith, select_past)
 select_slice r n (x ∷ xs) zero (suc j) is js =
     grind (arith, common_steps, select_slice r (n + 1) xs zero j (omega arith) (omega arith), inside)
-select_slice r n (x ∷ xs) (suc i) (suc j) is js =
-    grind (arith, select_slice r (n + 1) xs i j (omega arith) (omega arith), below)
+select_slice r n (x ∷ xs) (suc i) (suc j) is js = grind (arith, select_slice r (n + 1) xs i j, below)
 
 -- the rest of the first bytes from an index on
 pub rest_of : (from to : ℕ) (bytes : List ℕ) → drop from (take to bytes) ≡ take (to - from) (drop from bytes)
 rest_of zero to bytes = let whole : to - 0 ≡ to = omega arith in cc
 rest_of (suc n) zero bytes = let none : 0 - suc n ≡ 0 = omega arith in cc
 rest_of (suc n) (suc to) [] = sym (take-nil (suc to - suc n))
-rest_of (suc n) (suc to) (b ∷ bytes) = let less : suc to - suc n ≡ to - n = omega arith in cc (rest_of n to bytes)
+rest_of (suc n) (suc to) (b ∷ bytes) = grind (arith, common_steps, rest_of n to bytes)
 
 -- a slice of the bytes that is in the piece at their start
 slice_is : (r : Interval) (before count : ℕ) (bytes : List ℕ) → count ≤ length bytes → r.last < before + count
@@ -126,12 +105,7 @@ drop_min (suc i) (x ∷ xs) = let least : min (suc i) (suc (length xs))
 rest_is : (r : Interval) (before count : ℕ) (bytes : List ℕ) → count ≤ length bytes → before + count ≤ r.last
     → let from = min (r.first - (before + 1)) count in
     take (count - from) (drop from bytes) ≡ select_from (is_within r) (before + 1) (take count bytes)
-rest_is r before count bytes within reaches =
-    let i = r.first - (before + 1) in
-    let long : length (take count bytes) ≡ count = length-take-le count bytes within in
-    let piece : select_from (is_within r) (before + 1) (take count bytes) ≡ drop i (take count bytes) =
-    grind (arith, common_steps, select_slice, long) in
-    cc (piece, drop_min i (take count bytes), rest_of (min i count) count bytes)
+rest_is r before count bytes within reaches = grind (arith, common_steps, select_slice, drop_min, rest_of)
 
 -- The invariant of `copy_selected`: the selected bytes of the intervals so far were copied, and the others select the
 -- rest of the piece. The copied bytes are no longer than the part of the piece that the intervals so far cover.
@@ -278,20 +252,9 @@ pub line_cut : {end : ℕ} {list : List Interval} {block : List ℕ} {was now ne
     → CutPost end list block was old now new → IsFirstByte (is_byte end) (drop now.start block) (Some count)
     → is ≡ new ++ (selected_bytes list block now count ++ end ∷ []) → next.start ≡ now.start + count + 1
     → next.line_offset ≡ 0 → next.at ≤ now.at + count + 1 → CutPost end list block was old next is
-line_cut {end} {list} {block} {was} {now} {next} {old} {new} count post first is start none near = record {
-  cut = cut_next end list _ now.line_offset next.line_offset _ (drop now.start block) (drop next.start block) _ new
-      (selected_bytes list block now count ++ end ∷ []) post.cut is
-      (λ more. cc (
-        line_on end (drop now.start block) count first (is_selected list) now.line_offset more,
-        drop-drop (count + 1) now.start block,
-        left,
-      ));
-  bound = omega arith;
-  near = omega arith;
-}
-  where
-    left : now.start + (count + 1) ≡ next.start
-    left = omega (arith, start)
+line_cut {end} {list} {block} {was} {now} {next} {old} {new} count post first is start none near =
+    let left : now.start + (count + 1) ≡ next.start = omega (arith, start) in
+    grind (arith, common_steps, cut_next, line_on, drop-drop)
 
 module _ (job : Cut) (by_bytes : job.fields ≡ false) where
   abbrev end : ℕ
@@ -365,9 +328,7 @@ module _ (selected : ℕ → Bool) where
   -- the selected indices of a line begin with those of a shorter one
   picked_parts : (n m : ℕ) → selected_indices selected (n + m) ≡ selected_indices selected n
       ++ select_from selected (1 + n) (range_with_len n m)
-  picked_parts n m =
-      let here : 0 + n ≡ n = omega arith in
-      cc (range_parts 0 n m, select_append 1 (range_with_len 0 n) (range_with_len n m), length-range_with_len 0 n)
+  picked_parts n m = grind (arith, common_steps, range_parts, select_append, length-range_with_len)
 
   few_indices : (n : ℕ) → length (selected_indices selected n) ≤ n
   few_indices n = omega (arith, few_selected 1 (range_with_len 0 n), length-range_with_len 0 n)
@@ -385,43 +346,22 @@ module _ (selected : ℕ → Bool) where
 
   one_index : (index : ℕ) → selected_indices selected (index + 1) ≡ selected_indices selected index
       ++ cond (selected (index + 1)) (index ∷ []) []
-  one_index index = let next : 1 + index ≡ index + 1 = omega arith in cc (picked_parts index 1, next)
+  one_index index = grind (arith, common_steps, picked_parts)
 
   pub shuffle_next : {index count : ℕ} {row counts after : List ℕ} {one : ℕ} → index < 16
       → PickBegun index count row counts → one ≡ bool_byte (selected (index + 1))
       → after ≡ set counts (index + 1) (count + one) → PickBegun (index + 1) (count + one) (set row count index) after
-  shuffle_next {index} {count} {row} {counts} {after} {one} low begun told after_is = record {
-    is = whole;
-    few = omega (arith, told, (bit (selected (index + 1))).2);
-    lanes = All-set (λ p. p < 16) row count index (omega arith) begun.lanes;
-    long = cc (length-set row count index);
-    all_counts = cc (length-set counts (index + 1) (count + one));
-    indices = cc (
-      (bit (selected (index + 1))).0,
-      stored_more (selected (index + 1)) row count index (omega arith),
-      one_index index,
-    );
-    counted = λ k upto. ⊎_elim
-        (λ same. cc (get_or-set_same counts (index + 1) (count + one) 0 (omega arith), whole))
-        (λ other. cc (
-          get_or-set_other counts (index + 1) k (count + one) 0 (λ e. other (omega arith)),
-          begun.counted k (omega (arith, other)),
-        )) (cases_eq k (index + 1));
-  }
-    where
-      bit : (t : Bool) → (bool_byte t ≡ cond t 1 0) × (length (cond t (index ∷ []) []) ≡ bool_byte t) ×
-          (bool_byte t ≤ 1)
-      bit true = (refl, refl, omega arith)
-      bit false = (refl, refl, omega arith)
-
-      whole : count + one ≡ length (selected_indices selected (index + 1))
-      whole = omega (
+  shuffle_next {index} {count} {row} {counts} {after} {one} low begun told after_is =
+      grind (
         arith,
-        told,
-        ap length (one_index index),
-        length-append (selected_indices selected index)
-            (cond (selected (index + 1)) (index ∷ []) []),
-        (bit (selected (index + 1))).1,
+        common_steps,
+        All-set,
+        length-set,
+        stored_more,
+        one_index,
+        get_or-set_same,
+        get_or-set_other,
+        cases_eq,
       )
 
   -- no byte of a line after its first `start` bytes is selected
@@ -430,19 +370,9 @@ module _ (selected : ℕ → Bool) where
       → count ≤ length xs → select_from selected 1 (take start xs) ≡ select_from selected 1 (take count xs)
   none_later {start} {count} xs past later upto within =
       let whole : start + (count - start) ≡ count = omega arith in
-      let others = take (count - start) (drop start xs) in
-      let front : length (take start xs) ≡ start = length-take-le start xs (omega arith) in
-      let long : length others ≤ count - start = length-take-le' (count - start) (drop start xs) in
-      let none : select_from selected (1 + length (take start xs)) others ≡ [] =
-      select_none selected (1 + length (take start xs)) others
-      (λ k low upper. past k (omega (arith, front)) (omega (arith, long, whole, front))) in
-      cc (
-        append-nil (select_from selected 1 (take start xs)),
-        select_append 1 (take start xs) others,
-        take-add start
-            (count - start) xs,
-        whole,
-      )
+      let none : select_from selected (1 + length (take start xs)) (take (count - start) (drop start xs)) ≡ [] =
+      grind (arith, common_steps, select_none, length-take-le', length-take-le) in
+      grind (arith, common_steps, append-nil, select_append, take-add)
 
   -- ---- the bytes of a line that the row moves to the front
 
@@ -465,15 +395,16 @@ module _ (selected : ℕ → Bool) where
     pub pick_line : {count : ℕ} (v : List ℕ) → count ≤ 16 → length v ≡ 16
         → take (get_or piece.counts count 0) (swz_l w8 16 v 0 piece.row) ≡ select_from selected 1 (take count v)
     pick_line {count} v short long =
-        let indices = selected_indices selected count in
-        let n = length indices in
-        ap (λ k. take k (swz_l w8 16 v 0 piece.row)) (is.counts count short)
-        ∙ ap (take n)
-        (shuffle_result v 0 piece.row (omega arith)
-        (Each1-from_get_or (λ index. index < 16) piece.row 0 (λ i low. is.lanes i 0 low)))
-        ∙ take-map (λ k. get_or v k 0) n piece.row ∙ ap (pick_l 0 v) (prefix_indices short)
-        ∙ map_select (λ k. get_or v k 0) 1 (range_with_len 0 count)
-        ∙ ap (select_from selected 1) (pick_l-range_with_len 0 v 0 count (omega (arith, short, long)))
+        let lanes = Each1-from_get_or (λ index. index < 16) piece.row 0 (λ i low. is.lanes i 0 low) in
+        grind (
+          arith,
+          common_steps,
+          shuffle_result,
+          take-map,
+          prefix_indices,
+          map_select,
+          pick_l-range_with_len,
+        )
 
     pub shuffle_few : (count : ℕ) → count ≤ 16 → get_or piece.counts count 0 ≤ count
     shuffle_few count short = omega (arith, is.counts count short, few_indices count)
@@ -481,18 +412,16 @@ module _ (selected : ℕ → Bool) where
     pub shuffle_lanes : Each1 (λ index. index < 16) piece.row
     shuffle_lanes = Each1-from_get_or (λ index. index < 16) _ 0 (λ i low. is.lanes i 0 low)
 
--- positions after a limit, if no interval includes them
-pub none_after : (rs : List Interval) {limit index : ℕ} → list_all (λ r. nat_le r.last limit) rs ≡ true → limit < index
-    → is_selected rs index ≡ false
-none_after [] all later = refl
-none_after (r ∷ rs) {limit} {index} all later = by_test (nat_le r.last limit) refl all
-    (λ more. none_after rs more later)
-  where
-    by_test : (t : Bool) → nat_le r.last limit ≡ t → (t && list_all (λ x. nat_le x.last limit) rs) ≡ true
-        → (list_all (λ x. nat_le x.last limit) rs ≡ true → is_selected rs index ≡ false)
-        → is_selected (r ∷ rs) index ≡ false
-    by_test true low more next = rw (above r _ (last_low r low later)) (next more)
-    by_test false low more next = absurd (false≢true more)
+-- positions after the last interval are not selected
+pub none_after : (all : List Interval) (low n : ℕ) {last : Interval} {index : ℕ} → AreSeparated low all
+    → length all ≤ n + 1 → slice_get all n ≡ Some last → last.last < index
+    → (is_selected all index ≡ false) × (low < index)
+none_after [] low n separated few is later = cc
+none_after (one ∷ []) low zero separated few is later = grind (arith, above)
+none_after (one ∷ two ∷ more) low zero separated few is later = absurd (omega arith)
+none_after (one ∷ more) low (suc n) {last} {index} separated few is later =
+    let (none, less) = none_after more (one.last + 1) n separated.2 (omega (arith, few)) is later in
+    (cc (none, above one index (omega (arith, less))), omega (arith, separated, less))
 
 -- ---- a line, piece by piece
 
@@ -500,9 +429,7 @@ none_after (r ∷ rs) {limit} {index} all later = by_test (nat_le r.last limit) 
 select_later : (selected : ℕ → Bool) (start n : ℕ) (xs : List ℕ)
     → select_from (selected_after selected start) n xs ≡ select_from selected (start + n) xs
 select_later selected start n [] = refl
-select_later selected start n (x ∷ xs) =
-    let next : start + (n + 1) ≡ start + n + 1 = omega arith in
-    cc (select_later selected start (n + 1) xs, next)
+select_later selected start n (x ∷ xs) = grind (arith, common_steps, select_later selected start (n + 1) xs)
 
 -- the selected bytes of the next piece are stored after those of the bytes before
 pub piece_copied : (selected : ℕ → Bool) (start m at : ℕ) (bytes was into : List ℕ) {piece : PieceShuffle} {size : ℕ}

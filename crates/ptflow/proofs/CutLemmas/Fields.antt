@@ -4,8 +4,8 @@
 -- delimiter are unchanged, or nothing with `-s`. No state is carried from line to line, so the output for two lists of
 -- lines is the output for each, one after the other.
 use Rattle.ptflow.proofs
-use proofs.Common.{common_steps, ◌≡◌, ℕ, zero, suc, ◌+◌, ◌<◌, ◌==◌, ◌-◌, ◌≤◌, Bool, true, false, cond, List, [], ◌∷◌}
-use proofs.Common.{◌++◌, length, take, drop, refl, sym, ◌∙◌, ap, arith, onto_first, join_with_byte, append-nil}
+use proofs.Common.{common_steps, ◌≡◌, ℕ, zero, suc, ◌+◌, ◌<◌, ◌==◌, ◌-◌, ◌≤◌, Bool, true, false, List, [], ◌∷◌}
+use proofs.Common.{◌++◌, length, take, drop, refl, sym, ◌∙◌, ap, arith, join_with_byte, append-nil}
 use proofs.Common.{take-take, take-add, take_all, drop_all, drop-drop, length-drop, length-take-le, take-append-drop}
 use proofs.Common.{flat_map-append, length-slice_split, count_by, is_byte, byte_eq, eqb-true, fields, prefixed_fields}
 use proofs.Common.{IsFieldOffset, IsNth, get_or, length-append, drop_more, drop-append-le, nil_from_length, Cut}
@@ -23,15 +23,7 @@ module _ (d : ℕ) where
   -- the fields before a delimiter, and those after it
   pub fields-append : (xs ys : List ℕ) → fields d (xs ++ d ∷ ys) ≡ fields d xs ++ fields d ys
   fields-append [] ys = rw (byte_eq d) refl
-  fields-append (x ∷ xs) ys = by_test (x == d) (fields d xs) (omega (arith, length-slice_split (λ b. b == d) xs))
-      (fields-append xs ys)
-    where
-      by_test : (t : Bool) (fs : List (List ℕ)) → 0 < length fs → fields d (xs ++ d ∷ ys) ≡ fs ++ fields d ys
-          → cond t ([] ∷ fields d (xs ++ d ∷ ys)) (onto_first x (fields d (xs ++ d ∷ ys)))
-          ≡ cond t ([] ∷ fs) (onto_first x fs) ++ fields d ys
-      by_test true fs some more = ap (◌∷◌ []) more
-      by_test false [] some more = absurd (omega arith)
-      by_test false (f ∷ fs) some more = ap (onto_first x) more
+  fields-append (x ∷ xs) ys = grind (arith, common_steps, fields-append xs ys, length-slice_split)
 
   pub prefixed_fields-append : (fs gs : List (List ℕ)) → prefixed_fields d (fs ++ gs) ≡ prefixed_fields d fs
       ++ prefixed_fields d gs
@@ -106,7 +98,7 @@ module _ (cursor : FieldCursor) (none : cursor.passed ≡ 0) where
   -- all selected fields of a line are left, by the list of a job
   pub selected_remaining : (job : Cut) {d : ℕ} (line : List ℕ) → d ≡ job.delimiter
       → is_selected cursor.left.now ≡ job.selected → cut_fields job line ≡ output_from_cursor d line cursor
-  selected_remaining job {d} line same selected = rw (none, selected, same) (join_prefixed job.delimiter _)
+  selected_remaining job {d} line same selected = grind (arith, common_steps, join_prefixed)
 
 module _ (d : ℕ) (line : List ℕ) (cursor : FieldCursor) where
   abbrev all : List Interval
@@ -247,26 +239,14 @@ module _ (d : ℕ) (line : List ℕ) (cursor : FieldCursor) where
 
           pub next_slice : (next : FieldCursor) → next.left.now ≡ rs → next.passed ≡ r.last → next.at ≡ at
               → IsNextSlice d line cursor (from - min cursor.passed 1) (at - 1) next
-          next_slice next left_is passed_is at_is = record {
-            output = rw (left_is, passed_is, one) output;
-            order = omega (arith, some);
-            within = omega (arith, ends.fits, some);
-            moved = record { offset = rw (passed_is, at_is) ends; apart = rw (left_is, passed_is, one) apart.2 };
-            later = omega (arith, ap length left_is, ap length these);
-          }
+          next_slice next left_is passed_is at_is = grind (arith, common_steps, output, one, ends, some, these, apart)
 
 -- ---- the output of a line is not longer than the line
 
 few_prefixed : (d : ℕ) (test : ℕ → Bool) (n : ℕ) (fs : List (List ℕ))
     → length (prefixed_fields d (select_from test n fs)) ≤ length (prefixed_fields d fs)
 few_prefixed d test n [] = omega arith
-few_prefixed d test n (f ∷ fs) = by_test (select_from test (n + 1) fs) (test n) (few_prefixed d test (n + 1) fs)
-  where
-    by_test : (rest : List (List ℕ)) (t : Bool) → length (prefixed_fields d rest) ≤ length (prefixed_fields d fs)
-        → length (prefixed_fields d (cond t (f ∷ rest) rest)) ≤ length (prefixed_fields d (f ∷ fs))
-    by_test rest true few =
-        omega (arith, few, length-append f (prefixed_fields d rest), length-append f (prefixed_fields d fs))
-    by_test rest false few = omega (arith, few, length-append f (prefixed_fields d fs))
+few_prefixed d test n (f ∷ fs) = grind (arith, common_steps, few_prefixed d test (n + 1) fs, length-append)
 
 pub output_is_short : (job : Cut) (line : List ℕ) → length (cut_fields job line) ≤ length line
 output_is_short job line =
@@ -299,21 +279,21 @@ output_is_near start end was now out part rest copied room place =
 
 pub none_of : (d : ℕ) (line : List ℕ) → IsLine d line → list_any (λ b. b == d) line ≡ false
 none_of d [] free = refl
-none_of d (b ∷ line) free = rw (byte_ne d b free.0) (none_of d line free.1)
+none_of d (b ∷ line) free = grind (arith, none_of d line, byte_ne)
 
 -- the delimiter is in a line, by a search
 pub found : (d : ℕ) (line : List ℕ) (r : Option ℕ) → IsFirstByte (is_byte d) line r
     → list_any (λ b. b == d) line ≡ is_some r
 found d line None first = none_of d line (line_if_not_found d line first)
-found d line (Some at) first = list_any_at (λ b. b == d) line at 0 first.0.high first.1
+found d line (Some at) first = grind (arith, common_steps, list_any_at)
 
 -- the output for a line that is cut by fields
 module _ (job : Cut) (by_fields : job.fields ≡ true) (line : List ℕ) where
   pub of_fields : list_any (is_field_delimiter job) line ≡ true → cut_line job line ≡ cut_fields job line ∷ []
-  of_fields some = rw (by_fields, some) refl
+  of_fields some = grind arith
 
   pub of_line : list_any (is_field_delimiter job) line ≡ false → job.only ≡ false → cut_line job line ≡ line ∷ []
-  of_line none keeps = rw (by_fields, none, keeps) refl
+  of_line none keeps = grind arith
 
   pub of_none : list_any (is_field_delimiter job) line ≡ false → job.only ≡ true → cut_line job line ≡ []
   of_none none only = rw (by_fields, none, only) refl

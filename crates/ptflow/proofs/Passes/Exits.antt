@@ -9,7 +9,7 @@ use proofs.Common.{IsSound, HasReadCause, Received, IsPrefix, IsConsistent, Outp
 use proofs.Common.{received_with, advance_trans, push_nothing, ToolSpec, PassPre, PassPost, only_input, pass_end, Read}
 use proofs.Common.{pass_engine, CallState, call_state, CallOutcome, AddedSlots, CallProgress, DecidedIfReadFailed, take}
 use proofs.Common.{call_ends, call_on_failed_output, call_set, call_without_slots, ProcessLag, bounded_lag_after, Write}
-use proofs.Common.{FlowFault, Memory, rules, drop, budget, advance_ok_take, Bool, refl, sym, subst, push_past_failure}
+use proofs.Common.{FlowFault, Memory, rules, drop, advance_ok_take, Bool, refl, sym, subst, push_past_failure}
 use proofs.Common.{OnErr, err_from_is_err_and, ◌+◌, ◌-◌, take_all, advance_ok_trans, inl, inr, zero, suc, ◌∷◌, unlines}
 use proofs.Common.{length-append, take-append-drop, false≢true, lines, IsLine, AreLines, max_length, max_line_length}
 use proofs.Common.{known_lines, LaggedInput, FillLine, lines_of_unlines, lines_of_last, lines_cons, lines-unlines, ◌==◌}
@@ -44,11 +44,6 @@ pub advance_past : {now shown new : Reader} {block : List ℕ} (count : ℕ) →
     → shown.buffered ≡ block → count ≤ length block → new ≡ record shown { buffered = drop count shown.buffered }
     → AdvanceOk now new (take count block)
 advance_past {shown} count advance_ok buffered fits consumed = grind (arith, common_steps, advance_ok_take)
-
--- a line was read, and after it some of the next block
-pub budget_of_line : (old : Reader) {now shown new : Reader} (count : ℕ) → budget now < budget old
-    → AdvanceOk now shown [] → new ≡ record shown { buffered = drop count shown.buffered } → budget new < budget old
-budget_of_line old {shown} count less advance_ok consumed = grind (arith, common_steps)
 
 abbrev state : Reader → Output → Slots → CallState (Unit {0})
 state reader out store = call_state (λ u. reader) out store

@@ -9,14 +9,15 @@ use proofs.Common.{length-set, drop-set-lt, sum_by-cons, sum_by-append, get_or-l
 use proofs.Common.{AddedSlots, IsSwapped, SlotsCleared, Bool, ◌^◌, true, ◌++◌, Ok, Err, append_assoc, length-append}
 use proofs.Common.{nil_from_length, get_or-set_same, lines, complete_lines, IsLine, max_length, max_line_length}
 use proofs.Common.{Received, known_lines, IsPrefix, IsConsistent, Output, PushEffect, Reader, ReaderAdvance, AdvanceOk}
-use proofs.Common.{IsDone, IsSound, HasReadCause, line, with_denied, FillPost, FillLine, advance_ok_trans, push_trans}
+use Rattle.ptlines.specs.ReadLine.{FillReadErr, FillMemoryErr}
+use proofs.Common.{IsDone, IsSound, advance_ok_take, unlines, line, FillPost, FillLine, advance_ok_trans, push_trans}
 use proofs.Common.{ToolSpec, PassPre, PassPost, AreReceivedLines, LinesWritten, LinesFailed, IsLinesLength}
 use proofs.Common.{IsLineFilter, Read, Write, Memory, received_with, reads_nothing, rules}
 use proofs.Passes.Exits.{line_split, complete_prefix, max_length-append, lines_none, lines_few, lines_on, lines_more}
 use proofs.Passes.Exits.{lines_block, line_prefix, received_longest, piece_longest, whole_before, before_line}
 use proofs.Passes.Exits.{after_line, Progress, progress_none, progress_flushed, PassState, LaggedOutput, StoreBounds}
 use proofs.Passes.Exits.{PassEnding, nothing_more, pass_unslotted, pass_read, pass_memory, pass_write, pass_done}
-use proofs.Passes.Exits.{pass_unended, advance_past}
+use proofs.Passes.Exits.{pass_unended}
 use Rattle.ptflow.specs.Private.Passes.LineLoop.{RunLinesPre}
 use Rattle.std.proofs.lemmas.List.Edits.{swap_is}
 
@@ -55,13 +56,8 @@ bounded_total width most ls short others = omega (arith, total_split width ls, p
 
 pub bounds_start : {width : ℕ} {before store : Slots} → AddedSlots before store width → store.denied ≡ false
     → total_bytes store.lines ≡ 0 → store.peak ≡ before.peak → SlotBounds width 0 before store
-bounds_start {width} {store} adds denied empty peak = record {
-  denied = denied;
-  size = adds.all denied;
-  short = grind (arith, common_steps, get_or-le-sum_by);
-  others = omega (arith, total_split width store.lines);
-  peak = omega (arith, peak);
-}
+bounds_start {width} {store} adds denied empty peak =
+    grind (arith, common_steps, get_or-le-sum_by, total_split width store.lines)
 
 pub bounds_weaker : {width most : ℕ} (more : ℕ) {before store : Slots} → SlotBounds width most before store
     → most ≤ more → SlotBounds width more before store
@@ -97,7 +93,7 @@ bounds_line {width} {most} {store} new slot bytes bounds within fits is = record
 -- the first and the last slot may have been swapped
 pub swapped_room : {width : ℕ} {before after : Slots} → IsSwapped width before after → 0 < width
     → width ≤ length before.lines → width ≤ length after.lines
-swapped_room = grind (arith, common_steps, swap_is, length-set)
+swapped_room = grind (arith, swap_is, length-set)
 
 pub bounds_swapped : {width most : ℕ} {before store : Slots} (new : Slots) → 0 < width
     → SlotBounds width most before store → IsSwapped width store new → SlotBounds width most before new
@@ -177,9 +173,6 @@ filled_line same is fills = rw same at (rw is at fills)
 -- the number of slots is unchanged
 pub same_room : {width before after : ℕ} → after ≡ before → width ≤ before → width ≤ after
 same_room same room = omega arith
-
-pub short_block : {shown : Reader} {block : List ℕ} → shown.buffered ≡ block → IsSound shown → length block ≤ 8192
-short_block same sound = omega (arith, ap length same)
 
 pub some_line : 0 < 1
 some_line = omega arith
@@ -281,15 +274,14 @@ module _ {S X E : Type 0} {tool : ToolSpec} {state : S → Slots → X} {rest_fr
         keeps = grind (arith, common_steps, bounds_weaker, max_length-append);
       }
 
-      -- the lines of a block were read and consumed
-      pub run_block : {shown new : Reader} {block : List ℕ} {count : ℕ} → AdvanceOk reader shown []
-          → shown.buffered ≡ block → IsLinesLength tool.end block count
-          → new ≡ record shown { buffered = drop count shown.buffered } → {next : X} {is' : Output}
-          → On now next (complete_lines tool.end block) is is' → Run old new was is' before store next
-      run_block {new} {block} advance_ok buffered passed consumed processed =
+      -- the lines that end in the block were consumed
+      pub run_block : {new : Reader} {block : List ℕ} {count : ℕ} → block ≡ reader.buffered
+          → IsLinesLength tool.end block count → new ≡ record reader { buffered = drop count reader.buffered }
+          → {next : X} {is' : Output} → On now next (complete_lines tool.end block) is is'
+          → Run old new was is' before store next
+      run_block {new} {block} buffered (within, text) consumed processed =
           let ls = complete_lines end block in
-          let (within, _) = passed in
-          let front = subst (AdvanceOk reader new) (cc) (advance_past _ advance_ok buffered within consumed) in
+          let front : AdvanceOk reader new (unlines end ls) = grind (arith, common_steps, advance_ok_take) in
           run_more ls front (lines_block run.came ls front (line_split end block).whole)
           (grind (arith, bounds_weaker)) processed
 
@@ -338,14 +330,14 @@ module _ {S X E : Type 0} {tool : ToolSpec} {state : S → Slots → X} {rest_fr
           → StoreBounds tool before after given
       kept = grind arith
 
-      pub keeps_last : {after : Slots} (bytes : List ℕ) → after ≡ with_line store (width - 1) bytes
+      keeps_last : {after : Slots} (bytes : List ℕ) → after ≡ with_line store (width - 1) bytes
           → SlotBounds width (max (max_length run.ls) (length bytes)) before after
       keeps_last bytes told =
           let most = max (max_length run.ls) (length bytes) in
           bounds_line _ (width - 1) bytes (bounds_weaker most run.keeps (omega arith)) (omega arith)
           (omega arith) told
 
-      pub same_bounds : SlotBounds width (max (max_length run.ls) 0) before store
+      same_bounds : SlotBounds width (max (max_length run.ls) 0) before store
       same_bounds = bounds_weaker (max (max_length run.ls) 0) run.keeps (omega arith)
 
       same_end : reader.terminator ≡ end
@@ -385,42 +377,43 @@ module _ {S X E : Type 0} {tool : ToolSpec} {state : S → Slots → X} {rest_fr
               → PassEnding tool midway new before after piece
           piece_ending bounded = ending reads bounded (works_piece reads (free _ whole) is_sound)
 
-          -- and then a read failed
-          pub run_read : {after : Slots} → SlotBounds width (max (max_length run.ls) (length piece)) before after
-              → HasReadCause reader new → PassPost tool old new was is before after (Err (Read 0))
-          unfolding midway
-          run_read bounds cause =
-              pass_read (piece_ending (stored bounds)) cause bounds.denied
-              (grind (arith, decided_so, whole_before, free _ whole))
+        -- and then a read failed
+        pub run_read : {new : Reader} {after : Slots} → IsSound new → FillReadErr reader new store after (width - 1)
+            → PassPost tool old new was is before after (Err (Read 0))
+        unfolding midway
+        run_read is_sound e =
+            let reads = e.faults.reads in
+            let whole = e.faults.whole in
+            let bounds = keeps_last e.piece e.stored in
+            pass_read (piece_ending reads whole is_sound (stored reads whole is_sound bounds)) e.cause bounds.denied
+            (grind (arith, decided_so, whole_before, free _ whole))
 
-          -- and then the store could not grow
-          pub run_memory : {after : Slots} → after ≡ with_denied (with_line store (width - 1) piece)
-              → new.failed ≡ reader.failed → 0 < length new.buffered
-              → PassPost tool old new was is before after (Err Memory)
-          run_memory told same left =
-              let bounded = stored (keeps_last piece refl) in
-              rw told
-              (pass_memory (piece_ending (grind arith)) same refl left)
+        -- and then the store could not grow
+        pub run_memory : {new : Reader} {after : Slots} → IsSound new → FillMemoryErr reader new store after (width - 1)
+            → PassPost tool old new was is before after (Err Memory)
+        run_memory is_sound e =
+            let reads = e.faults.reads in
+            let whole = e.faults.whole in
+            let bounded = stored reads whole is_sound (keeps_last e.piece refl) in
+            rw e.stored (pass_memory (piece_ending reads whole is_sound (grind arith)) e.failed refl e.left)
 
-        -- a block was read
-        module _ {new : Reader} (reads : ReaderAdvance reader new []) (is_sound : IsSound new) where
-          block_ending : PassEnding tool midway new before store []
-          block_ending = piece_ending reads tt is_sound (stored reads tt is_sound same_bounds)
+        -- nothing more was read
+        ended_here : PassEnding tool midway reader before store []
+        ended_here = piece_ending (reads_nothing reader) tt sound (stored (reads_nothing reader) tt sound same_bounds)
 
-          -- a write failed at its lines
-          pub run_block_halts : {block : List ℕ} → new.buffered ≡ block → new.failed ≡ reader.failed
-              → {is' : Output} → Halt now (complete_lines tool.end block) is is'
-              → PassPost tool old new was is' before store (Err Write)
-          run_block_halts {block} buffered same halted =
-              halts block_ending same run.keeps.denied halted
-              (λ rest may. (lines end ((line_split end block).piece ++ rest), cc (complete_prefix end block rest)))
+        -- a write failed at the lines of the block
+        pub run_block_halts : {block : List ℕ} → block ≡ reader.buffered → {is' : Output}
+            → Halt now (complete_lines tool.end block) is is'
+            → PassPost tool old reader was is' before store (Err Write)
+        run_block_halts {block} buffered halted =
+            halts ended_here refl run.keeps.denied halted
+            (λ rest may. (lines end ((line_split end block).piece ++ rest), cc (complete_prefix end block rest)))
 
         -- the buffered output could not be written
         pub run_flush_failed : {is' : Output} → PushEffect is is' [] → is'.write_failed ≡ true
             → PassPost tool old reader was is' before store (Err Write)
         unfolding midway
-        run_flush_failed wrote fault = pass_write (block_ending (reads_nothing reader) sound) wrote
-            (nothing_more (block_ending (reads_nothing reader) sound)) fault refl run.keeps.denied
+        run_flush_failed wrote fault = pass_write ended_here wrote (nothing_more ended_here) fault refl run.keeps.denied
 
     -- ---- the line in the last slot
 
@@ -479,14 +472,16 @@ module _ {S X E : Type 0} {tool : ToolSpec} {state : S → Slots → X} {rest_fr
 
       -- the end of the input was reached
       module _ (ready : PassPre old before) (sound : IsSound reader) {new : Reader} (is_sound : IsSound new)
-          (advance_ok : AdvanceOk reader new []) (done : IsDone new)
-          {after : Slots} (told : after ≡ with_line store (width - 1) [])
+          {after : Slots} (ended : AdvanceOk reader new [] × IsDone new × (after ≡ with_line store (width - 1) []))
           {is' : Output} (wrote : PushEffect is is' (written (rest_from (state now after) []))) where
+        abbrev advance_ok : AdvanceOk reader new []
+        advance_ok = ended.0
+
         last : PushEffect is is' (bytes_from run (state now store) [])
-        last = rw (same_state [] told) at wrote
+        last = rw (same_state [] ended.2) at wrote
 
         bounds : SlotBounds width (max (max_length run.ls) 0) before after
-        bounds = keeps_last run [] told
+        bounds = keeps_last run [] ended.2
 
         last_ending : {after' : Slots} → SlotBounds width (max (max_length run.ls) 0) before after'
             → PassEnding tool (midway run) new before after' []
@@ -495,9 +490,9 @@ module _ {S X E : Type 0} {tool : ToolSpec} {state : S → Slots → X} {rest_fr
         pub run_done : {after' : Slots} → SlotsCleared (width - 1) after after' → is'.write_failed ≡ false
             → PassPost tool old new was is' before after' (Ok tt)
         run_done empties clean =
-            let (cleared, total) = bounds_cleared bounds line_filter.some (filled [] told) empties in
-            pass_done (last_ending cleared) last done refl advance_ok.failed cleared.denied clean advance_ok.fault
+            let (cleared, total) = bounds_cleared bounds line_filter.some (filled [] ended.2) empties in
+            pass_done (last_ending cleared) last ended.1 refl advance_ok.failed cleared.denied clean advance_ok.fault
             (grind arith) total
 
         pub run_unended : is'.write_failed ≡ true → PassPost tool old new was is' before after (Err Write)
-        run_unended fault = pass_unended (last_ending bounds) last done refl advance_ok.failed bounds.denied fault
+        run_unended fault = pass_unended (last_ending bounds) last ended.1 refl advance_ok.failed bounds.denied fault

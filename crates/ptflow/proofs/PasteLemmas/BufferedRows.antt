@@ -6,25 +6,23 @@ use Rattle.ptflow.proofs
 use proofs.Common.{eq-eqb, ne_eqb, option_to_list, slice_index_or, Bool, List, None, Some, [], ap, append_assoc, arith}
 use proofs.Common.{drop, false, get_or, get_or-take, inl, length, length-append, length-drop, map, refl, set, suc, sym}
 use proofs.Common.{take, take-append-drop, true, zero, ℕ, ◌%◌, ◌*◌, ◌++◌, ◌+◌, ◌-◌, ◌<◌, ◌||◌, ◌∙◌, ◌∷◌, ◌≡◌, ◌≢◌, ◌≤◌}
-use proofs.Common.{mod-eq_of_lt, cases_eq, nat_tests, common_steps, append-nil, drop_at, length-set, length-take-le}
-use proofs.Common.{nil_from_length, take-append-le, take-take, sum_by-set, mod-mul-add, length-chunk, length-put_chunk}
-use proofs.Common.{take_more_put_chunk, count_by, chunk, put_chunk, IsFirstByte, is_byte, push_nothing, advance_ok_take}
-use proofs.Common.{line_before_terminator, take_with_terminator, lines_are, byte_eq, unlines-append, the_lines, Output}
-use proofs.Common.{PushEffect, IsDone, IsSound, Reader, budget, no_reader, reader_at, line, AreLines, EndsWithByte}
-use proofs.Common.{lines, unlines, update_at, columns, join_with_cycle, rows, uses_of, IsWholeRows, IsSharedCycle}
-use proofs.Common.{cycle_byte, with_replacements, RowShape, BegunText, after_cell, cells_text, LinesTaken, IsConsumed}
-use proofs.Common.{BufferedRowsPre, AreConsumed, RowsTaken, IsFieldCopied, CopyColumnsPost, CopyRowsPost, RowsWritten}
-use proofs.Common.{take-append-add, rules}
+use proofs.Common.{mod-eq_of_lt, nat_tests, common_steps, append-nil, length-set, length-take-le, nil_from_length}
+use proofs.Common.{take-append-le, take-take, mod-mul-add, length-chunk, take_more_put_chunk, count_by, chunk}
+use proofs.Common.{put_chunk, IsFirstByte, is_byte, push_nothing, advance_ok_take, line_before_terminator}
+use proofs.Common.{take_with_terminator, lines_are, byte_eq, unlines-append, the_lines, Output, PushEffect, IsDone}
+use proofs.Common.{IsSound, Reader, reader_at, line, AreLines, EndsWithByte, lines, unlines, columns, join_with_cycle}
+use proofs.Common.{rows, uses_of, IsWholeRows, IsSharedCycle, cycle_byte, with_replacements, RowShape, BegunText}
+use proofs.Common.{after_cell, cells_text, LinesTaken, IsConsumed, BufferedRowsPre, AreConsumed, RowsTaken}
+use proofs.Common.{IsFieldCopied, CopyColumnsPost, CopyRowsPost, RowsWritten, take-append-add, rules}
 use Rattle.memchr.specs.Find.{IsFirst, Passes}
 use Rattle.ptlines.proofs.CopyFacts.{copied_prefix}
 use borrow.Rule.Slice.PartMut.{mid_of, put_mid}
 use Rattle.ptflow.specs.Private.Paste.BufferedRows.{LineCopied}
-use proofs.PasteLemmas.Rows.{cells_text-push, rows_taken_trans, row_taken, taken_by, taken_eof, nothing_taken}
-use proofs.PasteLemmas.Rows.{rows_taken_none, row_text, IsNextReader, next_reader, each_reader, fill_starts, fill_next}
-use proofs.PasteLemmas.Rows.{FieldTaken}
+use proofs.PasteLemmas.Rows.{cells_text-push, rows_taken_trans, row_taken, taken_by, taken_eof, rows_taken_none}
+use proofs.PasteLemmas.Rows.{row_text, IsNextReader, next_reader, fill_starts, fill_next, FieldTaken, taken_from_one}
 use proofs.Vectors.FindNth.{none_counted}
 use proofs.PasteLemmas.Grid.{Column, for_each_cell_unique, top_of, grid_step, grid_none, after_row, columns_same}
-use proofs.PasteLemmas.Grid.{uses_here, last_use, update_here, update_there}
+use proofs.PasteLemmas.Grid.{uses_more, last_use, update_here, lines_of_input}
 use proofs.PasteLemmas.Replaced.{counted, replaced-append, replaced_line}
 use Rattle.ptflow.specs.declared.simd.replace.Cycle.{Cycle}
 
@@ -40,13 +38,7 @@ taken_buffered : {end : ℕ} {b r : Reader} (at : ℕ) → b.fault ≡ None → 
 taken_buffered {end} {b} {r} at clean sound first step =
     let (found, here) = first in
     taken_by (advance_ok_take b r (at + 1) clean (omega arith) step) clean sound (record {
-      so_far = inl (
-        cc (take_with_terminator end b.buffered at first, append-nil (take at b.buffered ++ end ∷ [])),
-        (
-          line_before_terminator end b.buffered at first,
-          tt,
-        ),
-      );
+      so_far = search (rules, take_with_terminator, append-nil, line_before_terminator);
     }) (inl refl) (λ none. cc)
 
 -- The field was copied from a buffer.
@@ -60,7 +52,7 @@ field_in_buffer end {b} {r} before after true clean sound p =
       p.is,
       (
         taken_buffered p.at clean (sound_after_consume sound consumed) p.found p.consumed,
-        omega (arith, length-drop (p.at + 1) b.buffered, ap budget p.consumed),
+        grind (arith, common_steps),
       ),
       consumed,
     )
@@ -81,7 +73,7 @@ both_consumed {a} p q = grind (arith, common_steps)
 
 pub consumed_more : {old now : List Reader} {input : ℕ} {b r : Reader} → AreConsumed old now → input < length now
     → b ≡ reader_at now input → IsConsumed b r → AreConsumed old (set now input r)
-consumed_more = search (rules, each_reader, both_consumed)
+consumed_more = search (rules, both_consumed)
 
 pub consumed_trans : {a b c : List Reader} → AreConsumed a b → AreConsumed b c → AreConsumed a c
 consumed_trans p q = grind (arith, both_consumed)
@@ -91,8 +83,8 @@ pub still_readable : {row : RowShape} {old new : List Reader} → AreConsumed ol
     → BufferedRowsPre row new
 still_readable c ready = record {
   within = λ k d low. omega arith;
-  unfailed = λ p some. cc ((c.buffered p).is, ready.unfailed p some);
-  same_end = λ p some. cc ((c.buffered p).is, ready.same_end p some);
+  unfailed = search rules;
+  same_end = search rules;
 }
 
 pub still_pulled : {old new : List Reader} → AreConsumed old new → (p : ℕ)
@@ -115,13 +107,7 @@ vector_stored : (at k n : ℕ) (was lanes : List ℕ) → length lanes ≡ n →
 vector_stored at k n was lanes long room all =
     let mid = mid_of at k was in
     let size = length-take-le k (drop at was) (omega (arith, length-drop at was)) in
-    cc (
-      length-take-le at was (omega arith),
-      take-append-add (take at was) (put_chunk 0 mid lanes ++ drop k (drop at was)) n,
-      take-append-le n (put_chunk 0 mid lanes) (drop k (drop at was))
-          (omega (arith, length-put_chunk 0 mid lanes)),
-      take_more_put_chunk 0 mid lanes n (omega arith) (omega arith),
-    )
+    grind (arith, common_steps, length-take-le, take-append-add, take-append-le, take_more_put_chunk)
 
 -- A vector was stored at `at`, and the line that it begins with was consumed.
 pub vector_line : (at k n : ℕ) (was : List ℕ) {end count : ℕ} {old new : Reader} {bytes : List ℕ}
@@ -132,10 +118,7 @@ pub vector_line : (at k n : ℕ) (was : List ℕ) {end count : ℕ} {old new : R
     (take (at + count) (put_mid at k was (put_chunk 0 (mid_of at k was) (chunk 0 n bytes))))
 vector_line at k n was {count = count} {bytes = bytes} same long room all first consumed = record {
   at = count;
-  found = rw (sym same) (
-    record { low = omega arith; high = omega arith; before = first.0.before },
-    first.1,
-  );
+  found = search rules;
   consumed = consumed;
   is = rw (sym same) (copied_prefix at count n was _ bytes (omega arith) (omega arith)
       (vector_stored at k n was (chunk 0 n bytes) (length-chunk 0 n bytes (omega arith)) room all));
@@ -153,7 +136,7 @@ after_other row c index other at = rw (ne_eqb (c + 1) (length row.cells) other, 
 
 module _ {row : RowShape} where
   pub columns_start : {begun : BegunText} → CopyColumnsPost row begun begun
-  columns_start {begun} = search (rules, consumed_none)
+  columns_start {begun} = search rules
 
   module _ {begun now : BegunText} (s : CopyColumnsPost row begun now) (ready : BufferedRowsPre row begun.readers)
       (low : now.count < length row.cells) (unread r : Reader)
@@ -186,12 +169,8 @@ module _ {row : RowShape} where
           is =
               let text = cells_text row begun.count s.fields in
               let end = after_cell row now.count in
-              cc (
-                cells_text-push row begun.count s.fields field s.width,
-                append_assoc (begun.text ++ text) field end,
-                append_assoc begun.text text (field ++ end),
-              );
-          consumed = consumed_more s.consumed x.within x.is_read consumed;
+              grind (arith, common_steps, cells_text-push, append_assoc);
+          consumed = grind (arith, common_steps);
           width = omega (arith, length-append s.fields (field ∷ []));
           filled = λ from front given.
               rw (append_assoc front s.fields (field ∷ [])) at
@@ -211,7 +190,7 @@ module _ {row : RowShape} where
     rows = rw (prefix_is_kept at to next into (cells_text row 0 p.fields) further fits p.is) rows;
     fields = p.fields;
     filled = p.filled now [] fill_starts;
-    is = cc (drop_at (take at into) (cells_text row 0 p.fields) at (length-take-le at into fits));
+    is = grind (arith, common_steps);
     consumed = consumed_trans consumed p.consumed;
   }
 
@@ -221,7 +200,7 @@ module _ {row : RowShape} where
       → (p : CopyColumnsPost row (record { readers = now; count = 0; any_line = false; text = copied }) next)
       → next.count ≡ length row.cells → next.any_line ≡ true → RowsTaken row old next.readers next.text
   rows_more rows ready p all some = rw p.is (rows_taken_trans rows
-      (row_taken (rw (all, some) at (p.filled _ [] fill_starts))))
+      (row_taken (rw all at (p.filled _ [] fill_starts)) some))
 
 -- ---- complete rows are known by the number of terminators
 
@@ -254,7 +233,7 @@ whole_rows_counted end n count bytes last counted =
       ls = lines end bytes;
       is = sym is;
       are_lines = lines_are end bytes;
-      long = cc (ends_of_lines end (lines end bytes) (lines_are end bytes), counted);
+      long = search (rules, ends_of_lines, lines_are);
     }
 
 -- ---- the text of rows
@@ -282,24 +261,17 @@ module _ {row : RowShape} {cycle : Cycle} (t : IsSharedCycle row cycle) where
       let byte = ap (λ m. get_or cycle.unrolled m 0 ∷ []) index ∙ t.bytes c low in
       let number : k * n + c + 1 ≡ k * n + (c + 1) = omega arith in
       let more = ap (λ m. all_replaced m rest) number ∙ row_replaced k (c + 1) ls are_lines (omega arith) in
-      cc (
-        append_assoc line (row.terminator ∷ []) rest,
-        replaced_line row.terminator (cycle_byte cycle) (k * n + c) line rest free,
-        append_assoc line (after_cell row c) (cells_text row (c + 1) ls),
-      )
+      grind (arith, common_steps, append_assoc, replaced_line)
 
 -- ---- the grid of one input
-
--- `ls` for this input, and no lines for all others.
-abbrev pub lines_of_input : ℕ → Column → ℕ → Column
-lines_of_input input ls = update_at input ls (λ q. [])
 
 module _ (cells : List ℕ) (input : ℕ) (same : (c : ℕ) → c < length cells → get_or cells c 0 ≡ input) where
   uses_before_column : (c : ℕ) → c ≤ length cells → uses_of (take c cells) input ≡ c
   uses_before_column zero low = refl
   uses_before_column (suc c) low =
       let next : suc c ≡ c + 1 = omega arith in
-      cc (uses_here cells c input (omega arith) (same c (omega arith)), uses_before_column c (omega arith))
+      let here = same c (omega arith) in
+      grind (arith, nat_tests, uses_more cells c input (omega arith), uses_before_column c (omega arith))
 
   uses_all : uses_of cells input ≡ length cells
   uses_all = grind (arith, common_steps, uses_before_column)
@@ -316,12 +288,12 @@ module _ (cells : List ℕ) (input : ℕ) (same : (c : ℕ) → c < length cells
       let ins = lines_of_input input ls in
       let here = update_here input ls (λ q. []) in
       cc (
-        grid_step cells ins 0 some (omega (arith, ap length (here (get_or cells 0 0) (same 0 some)))),
+        grid_step cells ins 0 some (grind (arith, common_steps)),
         for_each_cell_unique (top_of cells ins) cells (take n ls) [] (length-take-le n ls long)
             (λ c low. rw (same c low) (rw (here input refl, uses_before_column c (omega arith))
             (get_or-take n ls c [] low))),
         columns_same cells (after_row cells ins) (lines_of_input input (drop n ls))
-            (λ q used. grind (arith, nat_tests, cases_eq q input, uses_all, uses_none q)),
+            (λ q used. grind (arith, nat_tests, uses_all, uses_none q)),
       )
 
 module _ {row : RowShape} {cycle : Cycle} (t : IsSharedCycle row cycle) where
@@ -333,7 +305,7 @@ module _ {row : RowShape} {cycle : Cycle} (t : IsSharedCycle row cycle) where
       → (length (rows_of ls) ≡ more) × (with_replacements row.terminator (cycle_byte cycle) (k * length row.cells)
       (unlines row.terminator ls) ≡ unlines row.terminator (map (join_with_cycle row.delims 0) (rows_of ls)))
   rows_replaced k zero [] are_lines long =
-      let none = grid_none row.cells (lines_of_input (get_or row.cells 0 0) []) (λ q used. grind (arith, nat_tests)) in
+      let none = grid_none row.cells (lines_of_input (get_or row.cells 0 0) []) (λ q used. grind arith) in
       (cc, cc)
   rows_replaced k zero (line ∷ ls) are_lines long = absurd (omega arith)
   rows_replaced k (suc more) ls are_lines long =
@@ -354,7 +326,7 @@ module _ {row : RowShape} {cycle : Cycle} (t : IsSharedCycle row cycle) where
           unlines-append end first rest,
           replaced-append end (cycle_byte cycle) (k * n) (unlines end first) (unlines end rest),
           row_replaced t k 0 first whole_first (omega arith),
-          row_text row 0 first (omega arith) (omega (arith, t.some)),
+          row_text row 0 first (omega arith) (omega arith),
         ),
       )
 
@@ -390,26 +362,17 @@ module _ {row : RowShape} {cycle : Cycle} (t : IsSharedCycle row cycle) {old : L
     taken_rows = rows_of t rs.ls;
     ls = lines_of_input shared rs.ls;
     first_rows = record {
-      lines_taken = each_reader (λ q x. LinesTaken end (reader_at old q) x
-          (length (rows_of t rs.ls) * uses_of row.cells q) (lines_of_input shared rs.ls q)) old x.within
+      lines_taken = taken_from_one old (λ q. length (rows_of t rs.ls) * uses_of row.cells q) x.within
           (rw (
-            update_here shared rs.ls (λ q. []) shared refl,
             (rows_replaced t 0 rs.count rs.ls rs.are_lines rs.long).0,
             uses_all row.cells shared same,
             ← x.is_read,
           ) lines_taken_here)
-          (λ q differ. rw (update_there shared rs.ls (λ q. []) q differ, uses_none row.cells shared same q differ)
-          (nothing_taken (omega arith)));
+          (λ q differ. rw (uses_none row.cells shared same q differ) (omega arith));
       are = refl;
       count = length-set old shared r;
     };
-    least = omega (
-      arith,
-      length-drop count b.buffered,
-      ap budget x.is_read,
-      ap budget step,
-      sum_by-set budget old shared r no_reader x.within,
-    );
+    least = grind (arith, common_steps);
     is =
         let start : 0 ≡ 0 * length row.cells = omega arith in
         (λ i. with_replacements end (cycle_byte cycle) (start i) (rs.is i))
@@ -423,10 +386,10 @@ module _ {row : RowShape} {cycle : Cycle} (t : IsSharedCycle row cycle) {old : L
   copied_rows {written} copied wrote = record {
     written = written;
     rows = rw (copied, t.terminator) rows_of_input;
-    consumed = consumed_more consumed_none x.within x.is_read (record { size = count; is = step });
+    consumed = search rules;
     wrote = wrote;
   }
 
 -- Nothing is in the buffer, or the columns share no reader.
 pub no_rows_written : {row : RowShape} {old : List Reader} {out : Output} → RowsWritten row old old out out
-no_rows_written = search (rules, rows_taken_none, consumed_none, push_nothing)
+no_rows_written = search (rules, rows_taken_none, push_nothing)

@@ -5,35 +5,30 @@
 -- the next row, and perhaps a part of a line.
 use Rattle.ptflow.proofs
 use proofs.Common.{Bool, Err, List, Ok, Result, [], ap, append_assoc, arith, cond, drop, false, get_or, inl, inr}
-use proofs.Common.{length, length-append, max, refl, subst, sym, take, true, ℕ, ⊎_elim, ◌*◌, ◌++◌, ◌+◌, ◌<◌, ◌==◌}
-use proofs.Common.{◌^◌, ◌∙◌, ◌∷◌, ◌≡◌, ◌≤◌, ◌⊎◌, cases_eq, ne_eqb, nat_tests, common_steps, append-nil, drop_at}
-use proofs.Common.{take_all, All, top, Paste, received_with, advance_trans, push_nothing, push_trans}
-use proofs.Common.{bounded_lag_after, IsPrefix, Received, known_lines, Output, PushEffect, HasReadCause, IsDone, Reader}
-use proofs.Common.{ReaderAdvance, reader_at, Slots, total_bytes, with_denied, with_line, AddedSlots, IsLine, lines}
-use proofs.Common.{max_length, max_line_length, cut, CallPost, CallOutcome, CallState, call_state, CallEnd}
-use proofs.Common.{AreAllConsistent, inputs_at, is_in, CallProgress, DecidedIfReadFailed, reads_nothing, call_ends}
-use proofs.Common.{call_set, call_without_slots, PastePre, PastePost, IsReadable, paste_end, paste_engine, update_at}
-use proofs.Common.{columns, paste, paste_decided, rows, rows_text, uses_of, SetTerminatorsPost, SlotsBound}
-use proofs.Common.{SlotsKept, RowFailed, RowFilled, ClearSlotsPost, is_write_fault, RowShape, BegunText, CellsFilled}
-use proofs.Common.{CellsTaken, cells_text, job_shape, AreReceivedLines, LinesTaken, BufferedRowsPre, AreConsumed}
-use proofs.Common.{AreFirstRows, RowsTaken, CopyRowsPost, RowsWritten, FlowFault, Memory, Read, Write}
+use proofs.Common.{length, length-append, max, refl, sym, take, true, ℕ, ⊎_elim, ◌*◌, ◌++◌, ◌+◌, ◌<◌, ◌==◌, ◌^◌, ◌∙◌}
+use proofs.Common.{◌∷◌, ◌≡◌, ◌≤◌, ◌⊎◌, cases_eq, ne_eqb, nat_tests, common_steps, append-nil, drop_at, take_all, top}
+use proofs.Common.{Paste, received_with, advance_trans, push_nothing, push_trans, bounded_lag_after, IsPrefix, Received}
+use proofs.Common.{known_lines, Output, PushEffect, HasReadCause, IsDone, Reader, ReaderAdvance, reader_at, Slots}
+use proofs.Common.{total_bytes, with_denied, with_line, AddedSlots, IsLine, lines, max_length, max_line_length, cut}
+use proofs.Common.{CallPost, CallOutcome, CallState, call_state, CallEnd, AreAllConsistent, inputs_at, is_in}
+use proofs.Common.{CallProgress, DecidedIfReadFailed, reads_nothing, call_ends, call_set, call_without_slots, PastePre}
+use proofs.Common.{PastePost, IsReadable, paste_end, paste_engine, update_at, columns, paste, paste_decided, rows}
+use proofs.Common.{rows_text, uses_of, SetTerminatorsPost, SlotsBound, RowFailed, RowFilled, ClearSlotsPost}
+use proofs.Common.{is_write_fault, RowShape, BegunText, job_shape, AreReceivedLines, LinesTaken, BufferedRowsPre}
+use proofs.Common.{AreConsumed, AreFirstRows, RowsTaken, CopyRowsPost, RowsWritten, FlowFault, Memory, Read, Write}
+use proofs.Common.{RowAmid, slots_text}
 use proofs.PasteLemmas.Rows.{slots_bound_start, slots_kept_by_lines, slots_bound_line, cells_total, sum_of_zeros}
-use proofs.PasteLemmas.Rows.{no_rows, rows_on, first_rows_trans, filled_row_is_first, filled_row_text}
-use proofs.PasteLemmas.Rows.{lines_trans, taken_at_most, taken_more, nothing_taken}
-use proofs.PasteLemmas.Grid.{Column, columns_same, last_use, uses_before_lt, uses_before, grid_none, rows_text-append}
-use proofs.PasteLemmas.Grid.{is_in_used, not_in, used_is_in, consistent_itself}
+use proofs.PasteLemmas.Rows.{no_rows, rows_on, first_rows_trans, filled_row_is_first, filled_row_text, lines_trans}
+use proofs.PasteLemmas.Rows.{taken_at_most, taken_more, nothing_taken, amid_text}
+use proofs.PasteLemmas.Grid.{Column, columns_same, last_use, uses_before_lt, uses_before, rows_text-append, is_in_used}
+use proofs.PasteLemmas.Grid.{not_in, used_is_in, consistent_itself}
 use proofs.PasteLemmas.Lag.{EarlierPart, LagsAt, ended_more, lags_here, decided_is_prefix, earlier_now, complete_few}
 use proofs.PasteLemmas.Lag.{earlier_before, earlier_lines, begins_earlier, no_lines}
 use proofs.PasteLemmas.BufferedRows.{still_pulled}
-use proofs.Passes.Exits.{max_length-append, lines_on, lines_are_given, piece_longest, eof_gives_nothing, may_follow}
+use proofs.Passes.Exits.{max_length-append, lines_on, lines_are_given, piece_longest, may_follow}
 use Rattle.ptlines.specs.Received.{empty_input}
 use Rattle.ptlines.specs.Calls.{InputNames, EngineSpec}
 use Rattle.std.specs.Prelude.{IsErrAnd}
-
-all_used : (P : ℕ → Type 0) (cells : List ℕ) → All P cells → (p : ℕ) → 0 < uses_of cells p → P p
-all_used P cells all p some =
-    let (c, low, is, count) = last_use cells p some in
-    subst P is (all c 0 low)
 
 -- `?` returns a fault.
 pub by_fault : {A : Type 0} {names : InputNames ℕ} {engine : EngineSpec ℕ} {old new : CallState ℕ}
@@ -48,8 +43,7 @@ row_job row = record { serial = false; delimiters = row.delims; terminator = row
 pub of_rows : {row same : RowShape} {old new : CallState ℕ} {end : CallEnd ℕ} → row ≡ same
     → CallPost (inputs_at row.cells) (paste_engine (row_job row) row.cells) old new end
     → CallPost (inputs_at same.cells) (paste_engine (row_job same) same.cells) old new end
-of_rows {old = old} {new} {end} is post =
-    subst (λ r. CallPost (inputs_at r.cells) (paste_engine (row_job r) r.cells) old new end) is post
+of_rows {old = old} {new} {end} is post = grind (arith, common_steps)
 
 -- ---- the rows of all that was received, if some rows were taken
 
@@ -84,7 +78,7 @@ module _ (job : Paste) {cells : List ℕ} {set now : List Reader} {ls : ℕ → 
       (λ p. ls p ++ known_lines job.terminator (rest p)) (λ p some. ap (known_lines job.terminator) (is p some)
       ∙ whole_lines_after (g.lines_taken p).came (rest p).bytes (rest p).eof (may p some)))
       ∙ rows_on g (λ p. known_lines job.terminator (rest p))
-      (λ p some done. ap (known_lines job.terminator) (may p some done))
+      (grind (arith, common_steps))
 
   module _ {new : List Reader} (r : ReadMore now new) where
     abbrev pub given_by : ℕ → Received
@@ -104,17 +98,10 @@ module _ (job : Paste) {cells : List ℕ} {set now : List Reader} {ls : ℕ → 
           let later = ap (drop (length given)) is ∙ drop_at given more _ refl in
           (is ∙ ap (◌++◌ given) (sym later), later)
 
-      -- At the end of an input nothing follows.
-      later_none : (p : ℕ) → 0 < uses_of cells p → r.extra p ≡ [] → IsDone (reader_at new p) → later p ≡ []
-      later_none p some none done = let (_, is) = later_is p some in
-          is ∙ (λ i. none i ++ (done.buffered i ++ (a p (used_is_in cells p some)).whole done.eof i))
-
       rows_by : rows (columns cells (λ p. lines job.terminator (texts p)))
           ≡ taken_rows ++ rows (columns cells (λ p. lines job.terminator (later p)))
       rows_by = rows_after (λ p. whole (texts p)) (λ p. whole (later p)) (λ p some. ap whole (later_is p some).0)
-          (λ p some done. ap whole ((later_is p some).1 ∙ may_follow _ _ _
-          ((reader_at new p).buffered ++ (a p (used_is_in cells p some)).rest) (r.reads p)
-          (λ done i. done.buffered i ++ (a p (used_is_in cells p some)).whole done.eof i) done))
+          (grind (arith, common_steps, later_is, may_follow, used_is_in))
 
       begins_by : IsPrefix (rows_text job taken_rows) (paste job cells texts)
       begins_by = grind (arith, common_steps, rows_by, rows_text-append)
@@ -124,13 +111,8 @@ module _ (job : Paste) {cells : List ℕ} {set now : List Reader} {ls : ℕ → 
 
     rows_whole : rows (columns cells (λ p. known_lines job.terminator (given_by p))) ≡ taken_rows ++ later_rows
     rows_whole = rows_after given_by (λ p. received_with (r.extra p) (reader_at new p))
-        (λ p some i. record {
-          bytes = append_assoc (g.lines_taken p).bytes (r.extra p) (reader_at new p).buffered i;
-          eof = (reader_at new p).eof;
-        })
-        (λ p some done.
-        let (none, empty, eof) = eof_gives_nothing _ _ _ done (r.reads p) in
-        λ i. record { bytes = none i ++ empty i; eof = eof i })
+        (grind (arith, common_steps))
+        (grind (arith, common_steps))
 
     abbrev pub EarlierBy : ℕ → Type 0
     EarlierBy p = EarlierPart job.terminator ((length taken_rows + 1) * uses_of cells p) (given_by p)
@@ -157,7 +139,7 @@ pub record HasStarted (job : Paste) (cells : List ℕ) (old set : List Reader) (
 module _ {job : Paste} {cells : List ℕ} {old set : List Reader} {was : Output} {first : Slots}
     (s : HasStarted job cells old set was first) where
   readable : (p : ℕ) → 0 < uses_of cells p → IsReadable (reader_at old p)
-  readable = all_used (λ q. IsReadable (reader_at old q)) cells s.ready.readable
+  readable p some = let (c, low, is, count) = last_use cells p some in rw is at (s.ready.readable c 0 low)
 
   set_readable : BufferedRowsPre (job_shape job cells) set
   set_readable = grind (arith, readable)
@@ -179,13 +161,12 @@ module _ {job : Paste} {cells : List ℕ} {old set : List Reader} {was : Output}
       → result ≡ Err Memory → PastePost job cells old set was was first store result
   paste_without_slots adds same denied missing is =
       rw (is, paste_end) (since_set (call_without_slots _ _ _ _ s.writable refl
-      (λ p named i.
-      record (reader_at set p) { terminator = set_readable.same_end p (is_in_used cells p named) i })
+      (grind (arith, common_steps, is_in_used))
       (λ p other. refl) (λ p named. (s.are_set p).sound (is_in_used cells p named)) never_failed denied same
       adds.least missing (λ texts. omega arith) (λ p named. let some = is_in_used cells p named in
       begins_earlier job cells (λ q. received_with [] (reader_at set q)) []
       (rows (columns cells (λ q. known_lines job.terminator (received_with [] (reader_at set q))))) refl p some
-      (earlier_now (reader_at set p) [] ((s.are_set p).sound some).buffered (omega arith)))))
+      (grind (arith, common_steps)))))
 
 -- ---- rows that were taken
 
@@ -200,6 +181,10 @@ pub record PasteInvariant (job : Paste) (cells : List ℕ) (old set now : List R
   pub clean : is.write_failed ≡ false
   pub kept : (top : ℕ → ℕ) → ((p : ℕ) → 0 < uses_of cells p → max_length (ls p) ≤ top p)
       → SlotsBound cells top first store
+
+-- The same, by the shape of the rows.
+abbrev pub RowsInvariant : RowShape → List Reader → List Reader → List Reader → Output → Output → Slots → Slots → Type 0
+RowsInvariant row = PasteInvariant (row_job row) row.cells
 
 pub invariant_starts : {job : Paste} {cells : List ℕ} {old set : List Reader} {was : Output} {first store : Slots}
     → HasStarted job cells old set was first
@@ -275,7 +260,7 @@ module _ {job : Paste} {cells : List ℕ} {old set now : List Reader} {was is : 
       (((s.starts.are_set p).sound some).long ((set_readable s.starts).unfailed p some))
 
   now_buffered : (p : ℕ) → 0 < uses_of cells p → length (reader_at now p).buffered ≤ 8192
-  now_buffered p some = (so_far p).buffered ((s.starts.are_set p).sound some).buffered
+  now_buffered p some = grind (arith, common_steps)
 
   -- Each column has a slot.
   pub invariant_slots : length cells ≤ length store.lines
@@ -360,26 +345,21 @@ module _ {job : Paste} {cells : List ℕ} {old set now : List Reader} {was is : 
     abbrev Cut : ℕ → Type 0
     Cut = EarlierBy job s.first_rows read_on
 
-    -- An input without its buffer, if it gave fewer lines than one more row takes.
-    abbrev cut_now : (p : ℕ) → length (reader_at new p).buffered ≤ 8192
-        → length (all_lines p) < (length s.taken_rows + 1) * uses_of cells p → Cut p
-    cut_now p buffered few = earlier_now (reader_at new p) _ buffered
-        (rw (given_is p) (omega (arith, few, complete_few (lines_to p) (q.reads p) (q.is_line p))))
-
     -- An input without its last line, if it gave no more lines than one more row takes.
-    cut_line : (p : ℕ) → 0 < uses_of cells p → length (reader_at new p).buffered ≤ 8192 → q.part p ≡ []
+    cut_line : (p : ℕ) → 0 < uses_of cells p → reader_at new p ≡ reader_at q.last p → q.part p ≡ []
         → length more * uses_of cells p + uses_of (take q.n cells) p ≤ uses_of cells p → Cut p
-    cut_line p some buffered none few = earlier_lines (reader_at new p) _ buffered (omega arith) (rw (
-      given_is p,
-      none,
-      append-nil (line_bytes p),
-      lines_are_given _ _ _ _ (lines_to p),
-    ) (omega (
-      arith,
-      length-append (s.ls p) (ls p ++ q.taken p),
-      taken_at_most (so_far p),
-      taken_at_most (all_taken p),
-    )))
+    cut_line p some same none few = earlier_lines (reader_at new p) _
+        (rw same ((all_taken p).buffered (now_buffered p some))) (omega arith) (rw (
+          given_is p,
+          none,
+          append-nil (line_bytes p),
+          lines_are_given _ _ _ _ (lines_to p),
+        ) (omega (
+          arith,
+          length-append (s.ls p) (ls p ++ q.taken p),
+          taken_at_most (so_far p),
+          taken_at_most (all_taken p),
+        )))
 
     -- A fact of all texts that are consistent with what was received.
     abbrev ForTexts : ((ℕ → List ℕ) → Type 0) → Type 0
@@ -416,29 +396,27 @@ module _ {job : Paste} {cells : List ℕ} {old set now : List Reader} {was is : 
       abbrev pushed : List ℕ
       pushed = rows_text job s.taken_rows ++ rows_text job more
 
-      same_size_and_peak : (length after.lines ≡ length stored.lines) × (after.peak ≡ stored.peak)
-      same_size_and_peak = grind (arith, same)
-
       progress : CallProgress (inputs_at cells) (paste_engine job cells) begin end bytes pushed
-      progress = let (size, peak) = same_size_and_peak in let now_bound = bound_now bound in record {
-        reads = λ p named. advance_trans _ _ _ _ _ (so_far p).reads (read_on.reads p);
-        untouched = λ p other. let none = not_in cells p other in
-            q.left p none ∙ (all_taken p).none (rw none (omega (arith, uses_before cells q.n p)))
-            ∙ (so_far p).none (rw none (omega arith));
-        never_failed = never_failed s.starts;
-        writable = s.starts.writable;
-        wrote = push_trans _ _ _ _ _ s.clean s.wrote wrote;
-        is_prefix = λ texts a. rw (rows_text-append job.terminator job.delimiters s.taken_rows more) at
-            (begins_by job (first_rows_trans s.first_rows g) (read_more q) texts (λ p named.
-            rw (append_assoc (so_far p).bytes (g.lines_taken p).bytes ((read_more q).extra p)) (a p named)));
-        bounded_lag = λ p named. let some = is_in_used cells p named in
-            bounded_lag_after (λ g'. paste_decided job cells (update_at p (g' tt) given)) (λ u. given p) _ _ _
-            (lags_by job s.first_rows read_on p some (cut p some)) s.wrote s.clean _ _ wrote;
-        peak = λ texts a. omega (arith, (bound_for bound texts a).peak);
-        slots = λ texts a. omega (arith, now_bound.adds.most);
-        least = omega (arith, now_bound.adds.least);
-        room = omega (arith, now_bound.adds.all now_bound.denied);
-      }
+      progress = let (size, peak) : (length after.lines ≡ length stored.lines) × (after.peak ≡ stored.peak) =
+          grind (arith, same) in let now_bound = bound_now bound in record {
+            reads = λ p named. advance_trans _ _ _ _ _ (so_far p).reads (read_on.reads p);
+            untouched = λ p other. let none = not_in cells p other in
+                q.left p none ∙ (all_taken p).none (rw none (omega (arith, uses_before cells q.n p)))
+                ∙ (so_far p).none (rw none (omega arith));
+            never_failed = never_failed s.starts;
+            writable = s.starts.writable;
+            wrote = push_trans _ _ _ _ _ s.clean s.wrote wrote;
+            is_prefix = λ texts a. rw (rows_text-append job.terminator job.delimiters s.taken_rows more) at
+                (begins_by job (first_rows_trans s.first_rows g) (read_more q) texts (λ p named.
+                rw (append_assoc (so_far p).bytes (g.lines_taken p).bytes ((read_more q).extra p)) (a p named)));
+            bounded_lag = λ p named. let some = is_in_used cells p named in
+                bounded_lag_after (λ g'. paste_decided job cells (update_at p (g' tt) given)) (λ u. given p) _ _ _
+                (lags_by job s.first_rows read_on p some (cut p some)) s.wrote s.clean _ _ wrote;
+            peak = λ texts a. omega (arith, (bound_for bound texts a).peak);
+            slots = λ texts a. omega (arith, now_bound.adds.most);
+            least = omega (arith, now_bound.adds.least);
+            room = omega (arith, now_bound.adds.all now_bound.denied);
+          }
 
       exit : (result : Result (Unit {0}) FlowFault)
           → CallOutcome (inputs_at cells) (paste_engine job cells) begin end given pushed (paste_end result)
@@ -485,102 +463,95 @@ module _ {job : Paste} {cells : List ℕ} {old set now : List Reader} {was is : 
   paste_rows_write_failed {begun = begun} p wrote fault =
       taken_write_failed p.rows begun.count p.filled.consumed.lines_taken p.consumed wrote fault
 
-  -- A row was filled, and not from the buffers alone.
-  module _ {new : List Reader} {after : Slots} {fields : List (List ℕ)} (slots : SlotsKept cells fields store after)
-    where
-      row_kept : {n : ℕ} {input_lines : ℕ → Column} → n ≤ length cells → CellsTaken shape n now new fields input_lines
-          → Kept input_lines after
-      row_kept {input_lines = input_lines} few t top high =
-          slots_kept_by_lines slots few t first top (still_kept input_lines top high)
-          (λ p some. omega (arith, high p some, max_length-append (s.ls p) (input_lines p)))
+  -- The first n columns of a row were filled, and not from the buffers alone.
+  row_kept : {n : ℕ} {begun : BegunText} {after : Slots} (a : RowAmid shape n now store begun after) → n ≤ length cells
+      → Kept a.filled.input_lines after
+  row_kept a few top high =
+      slots_kept_by_lines a.slots few a.filled.consumed first top (still_kept a.filled.input_lines top high)
+      (grind (arith, common_steps, max_length-append))
 
-      -- Some column has a line, and the row was pushed.
-      module _ (f : CellsFilled shape (length cells) now new fields true) {is' : Output}
-          (wrote : PushEffect is is' (cells_text shape 0 fields)) where
-        row_taken : AreFirstRows shape now new f.input_lines (fields ∷ [])
-        row_taken = filled_row_is_first f
+  -- A row was filled.
+  module _ {begun : BegunText} {after : Slots} (a : RowAmid shape (length cells) now store begun after) where
+    pub row_slots : length cells ≤ length after.lines
+    row_slots = omega (arith, a.slots.same, invariant_slots)
 
-        row_wrote : PushEffect is is' (rows_text job (fields ∷ []))
-        row_wrote = rw (filled_row_text shape f) at wrote
+    -- Some column has a line, and the row was pushed.
+    module _ (some : begun.any_line ≡ true) {is' : Output}
+        (wrote : PushEffect is is' (begun.text ++ slots_text shape begun.count after)) where
+      row_first : AreFirstRows shape now begun.readers a.filled.input_lines (a.fields ∷ [])
+      row_first = filled_row_is_first a.filled some
 
-        pub invariant_more : is'.write_failed ≡ false → PasteInvariant job cells old set new was is' first after
-        invariant_more = invariant_after row_taken (row_kept (omega arith) f.consumed) row_wrote
+      row_wrote : PushEffect is is' (rows_text job (a.fields ∷ []))
+      row_wrote = rw (amid_text a row_slots, filled_row_text a.filled some) at wrote
 
-        pub paste_row_write_failed : is'.write_failed ≡ true
-            → Ends new is' after (Err Write)
-        paste_row_write_failed fault =
-            let q = whole_columns 0 (λ (p : ℕ). nothing_taken {end = job.terminator} {r = reader_at new p} refl) in
-            write_exit row_taken q row_wrote fault (λ top high. row_kept (omega arith) f.consumed top
-            (λ p some. omega (
+      pub invariant_more : is'.write_failed ≡ false
+          → PasteInvariant job cells old set begun.readers was is' first after
+      invariant_more = invariant_after row_first (row_kept a (omega arith)) row_wrote
+
+      pub paste_row_write_failed : is'.write_failed ≡ true → Ends begun.readers is' after (Err Write)
+      paste_row_write_failed fault =
+          let ls = a.filled.input_lines in
+          let q = whole_columns 0 (λ (p : ℕ). nothing_taken {end = job.terminator} {r = reader_at begun.readers p} refl)
+          in
+          write_exit row_first q row_wrote fault
+          (λ top high. row_kept a (omega arith) top (grind (arith, common_steps)))
+          (λ p some. cut_line row_first q p some refl refl (omega arith)) (λ p. refl)
+
+    -- No column has a line.
+    module _ (none : begun.any_line ≡ false) where
+      abbrev at_end : RowPart job cells now begun.readers
+      at_end = whole_columns (length cells) a.filled.consumed.lines_taken
+
+      done_by : (p : ℕ) → 0 < uses_of cells p → IsDone (reader_at begun.readers p)
+      done_by p some =
+          let all = ap (λ l. uses_of l p) (take_all (length cells) cells (omega arith)) in
+          grind (arith, a.filled.none none p, (at_end.lines_taken p).enough)
+
+      nothing_by : (p : ℕ) → (read_on no_more at_end).extra p ≡ []
+      nothing_by p =
+          let t = all_taken no_more at_end p in
+          cc (
+            no_lines job.terminator t.bytes
+                (omega (arith, ap length (lines_are_given _ _ _ _ t.came), ap length (a.filled.none none p))),
+            append-nil (at_end.lines_taken p).bytes,
+          )
+
+      out_is : ForTexts no_more at_end (λ texts. rows_text job s.taken_rows ++ [] ≡ paste job cells texts)
+      out_is texts input =
+          cc (
+            append-nil (rows_text job s.taken_rows),
+            s.first_rows.are,
+            columns_same cells (λ p. lines job.terminator (texts p)) s.ls (λ p some.
+                let k = input p (used_is_in cells p some) in
+                let done = done_by p some in
+                ap (lines job.terminator) (k.is ∙ (λ i. (((so_far p).bytes ++ nothing_by p i) ++ done.buffered i)
+                ++ k.whole done.eof i) ∙ simp append-nil) ∙ lines_are_given _ _ _ _ (so_far p).came),
+          )
+
+      pub paste_done : {is' : Output} {cleared : Slots} → ClearSlotsPost cells after cleared → PushEffect is is' []
+          → is'.write_failed ≡ false → Ends begun.readers is' cleared (Ok tt)
+      paste_done {cleared = cleared} e wrote clean =
+          let bound : Bound no_more at_end cleared =
+          λ top high. e.kept first top (row_kept a (omega arith) top (λ p some. omega (arith, high p some))) in
+          let now_bound = bound_now no_more at_end bound in
+          exit no_more at_end wrote (inl refl) bound (λ p some. cut_line no_more at_end p some refl refl
+          (omega (arith, uses_before cells (length cells) p))) (Ok tt) (record {
+            out = out_is;
+            disorder = λ texts input. refl;
+            ended = λ none p named. done_by p (is_in_used cells p named);
+            fault = λ p named.
+                (all_taken no_more at_end p).fault ∙ now_readable.unfailed p (is_in_used cells p named);
+            short = λ p named. (all_taken no_more at_end p).short (now_short p (is_in_used cells p named));
+            unfailed = λ p named. failed_last no_more at_end p;
+            clean = clean;
+            not_denied = now_bound.denied;
+            empty = omega (
               arith,
-              high p some,
-              max_length-append (s.ls p) (f.input_lines p ++ []),
-              max_length-append (s.ls p) (f.input_lines p),
-              max_length-append (f.input_lines p) [],
-            )))
-            (λ p some. cut_line row_taken q p some ((all_taken row_taken q p).buffered (now_buffered p some)) refl
-            (omega arith)) (λ p. refl)
-
-      -- No column has a line.
-      module _ (f : CellsFilled shape (length cells) now new fields false) where
-        abbrev at_end : RowPart job cells now new
-        at_end = whole_columns (length cells) f.consumed.lines_taken
-
-        done_by : (p : ℕ) → 0 < uses_of cells p → IsDone (reader_at new p)
-        done_by p some =
-            let all = ap (λ l. uses_of l p) (take_all (length cells) cells (omega arith)) in
-            grind (arith, f.none refl p, (at_end.lines_taken p).enough)
-
-        pub paste_done : {is' : Output} {cleared : Slots} → ClearSlotsPost cells after cleared → PushEffect is is' []
-            → is'.write_failed ≡ false → Ends new is' cleared (Ok tt)
-        paste_done {cleared = cleared} e wrote clean =
-            let bound : Bound no_more at_end cleared =
-            λ top high. e.kept first top
-            (row_kept (omega arith) f.consumed top (λ p some. omega (arith, high p some))) in
-            let now_bound = bound_now no_more at_end bound in
-            exit no_more at_end wrote (inl refl) bound (λ p some. cut_line no_more at_end p some
-            ((all_taken no_more at_end p).buffered (now_buffered p some)) refl (omega (
-              arith,
-              uses_before cells
-                  (length cells) p,
-            ))) (Ok tt) (record {
-              out = λ texts a. out_is texts a;
-              disorder = λ texts a. refl;
-              ended = λ none p named. done_by p (is_in_used cells p named);
-              fault = λ p named.
-                  (all_taken no_more at_end p).fault ∙ now_readable.unfailed p (is_in_used cells p named);
-              short = λ p named. (all_taken no_more at_end p).short (now_short p (is_in_used cells p named));
-              unfailed = λ p named. failed_last no_more at_end p;
-              clean = clean;
-              not_denied = now_bound.denied;
-              empty = omega (
-                arith,
-                cells_total cells (λ p. 0) cleared.lines (λ c low. omega (arith, ap length (e.empty c low)))
-                    now_bound.others,
-                sum_of_zeros cells,
-              );
-            }) tt
-          where
-            nothing_by : (p : ℕ) → (read_on no_more at_end).extra p ≡ []
-            nothing_by p =
-                let t = all_taken no_more at_end p in
-                cc (
-                  no_lines job.terminator t.bytes
-                      (omega (arith, ap length (lines_are_given _ _ _ _ t.came), ap length (f.none refl p))),
-                  append-nil (at_end.lines_taken p).bytes,
-                )
-
-            out_is : ForTexts no_more at_end (λ texts. rows_text job s.taken_rows ++ [] ≡ paste job cells texts)
-            out_is texts a =
-                let r = read_on no_more at_end in
-                cc (
-                  rows_by job s.first_rows r texts a,
-                  grid_none cells (λ p. lines job.terminator (later job s.first_rows r texts a p)) (λ p some.
-                      ap (lines job.terminator)
-                      (later_none job s.first_rows r texts a p some (nothing_by p) (done_by p some))),
-                  append-nil s.taken_rows,
-                  append-nil (rows_text job s.taken_rows),
-                )
+              cells_total cells (λ p. 0) cleared.lines (λ c low. omega (arith, ap length (e.empty c low)))
+                  now_bound.others,
+              sum_of_zeros cells,
+            );
+          }) tt
 
   -- A row could not be filled: the reader of a column gave only a part of a line.
   module _ {CellFailed : Reader → Reader → Slots → Slots → ℕ → Type 0} {new : List Reader} {after : Slots}
@@ -617,8 +588,7 @@ module _ {job : Paste} {cells : List ℕ} {old set now : List Reader} {was is : 
     }
 
     bound_to : Bound no_more row_to b.buffered
-    bound_to top high = row_kept b.amid.slots (omega (arith, b.within)) b.amid.filled.consumed top
-        (λ p some. omega (arith, high p some))
+    bound_to top high = row_kept b.amid (omega (arith, b.within)) top (λ p some. omega (arith, high p some))
 
     bound_with_piece : Bound no_more row_to (with_line b.buffered b.column piece)
     bound_with_piece top high = slots_bound_line (bound_to top high) b.column piece b.within
@@ -630,20 +600,20 @@ module _ {job : Paste} {cells : List ℕ} {old set now : List Reader} {was is : 
 
     -- That reader is the one that limits the rows.
     abbrev cut_here : Cut no_more row_to here
-    cut_here = cut_now no_more row_to here (b.few (now_buffered here here_used)) (omega (
-      arith,
-      length-append (s.ls here) (b.amid.filled.input_lines here),
-      taken_at_most (so_far here),
-      taken_at_most (row_to.lines_taken here),
-      uses_before_lt cells b.column b.within,
-    ))
+    cut_here = earlier_now (reader_at new here) _ (b.few (now_buffered here here_used))
+        (rw (given_is no_more row_to here) (omega (
+          arith,
+          complete_few (lines_to no_more row_to here) (reads_to here) (is_line_to here),
+          length-append (s.ls here) (b.amid.filled.input_lines here),
+          taken_at_most (so_far here),
+          taken_at_most (row_to.lines_taken here),
+          uses_before_lt cells b.column b.within,
+        )))
 
     cut_to : (p : ℕ) → 0 < uses_of cells p → Cut no_more row_to p
     cut_to p some = ⊎_elim
         (λ same. rw same cut_here)
-        (λ differ. cut_line no_more row_to p some
-        (rw (b.others p differ) ((row_to.lines_taken p).buffered (now_buffered p some)))
-        (rw (ne_eqb p here differ) refl)
+        (λ differ. cut_line no_more row_to p some (b.others p differ) (rw (ne_eqb p here differ) refl)
         (omega (arith, uses_before cells b.column p)))
         (cases_eq p here)
 
@@ -665,11 +635,7 @@ module _ {job : Paste} {cells : List ℕ} {old set now : List Reader} {was is : 
           denied = cc stored;
           unfailed = λ p named. failed_to same p ∙ failed_last no_more row_to p;
           clean = clean;
-          left = λ enough. inl (
-            here,
-            used_is_in cells here here_used,
-            λ done. absurd (omega (arith, ap length done.buffered)),
-          );
+          left = grind (arith, common_steps, used_is_in, here_used);
         }) tt
 
     -- The read failed.
@@ -681,7 +647,7 @@ module _ {job : Paste} {cells : List ℕ} {old set now : List Reader} {was is : 
         exit no_more row_to wrote (inl stored) bound_with_piece cut_to (Err (Read here)) (record {
           named = used_is_in cells here here_used;
           unfailed = never_failed s.starts here (used_is_in cells here here_used);
-          cause = ⊎_elim inl (λ (long, same). inr (long, same ∙ failed_last no_more row_to here)) cause;
+          cause = ⊎_elim inl (grind (arith, common_steps)) cause;
           others = λ q named differ. cc (b.others q differ, failed_last no_more row_to q);
           clean = clean;
           not_denied = cc ((bound_now no_more row_to bound_with_piece).denied);

@@ -3,16 +3,15 @@
 -- So, by induction over the number of rows, the rows of inputs that are split after the same row are those of the first
 -- parts and then those of the second ones.
 use Rattle.ptflow.proofs
-use proofs.Common.{Bool, List, Option, [], ap, arith, cond, drop, false, get_or, inl, inr, length, length-append}
-use proofs.Common.{length-drop, map, max, refl, suc, sym, take, true, zero, ℕ, ⊎_elim, ◌%◌, ◌*◌, ◌++◌, ◌+◌, ◌-◌, ◌<◌}
-use proofs.Common.{◌==◌, ◌∙◌, ◌∷◌, ◌≡◌, ◌≢◌, ◌≤◌, ◌⊎◌, add-mod_left, mod-eq_of_lt, cases_lt, eq-eqb, le-ltb, ne_eqb}
-use proofs.Common.{nat_tests, get_or_after_one, append-nil, ext_get_or, get_or-map, get_or_past, nil_from_length}
-use proofs.Common.{get_or-enumerate_from, length-enumerate_from, count_by_more_no, count_by_more_yes, sum_by-cons}
-use proofs.Common.{sum_by-take-le, map-map, enumerate_from, range_with_len, fold, the_lines_of_parts, unlines-append}
-use proofs.Common.{lines, unlines, select_from, cut, IsRowSplit, PasteOfParts, update_at, columns, every_kth}
-use proofs.Common.{join_with_cycle, row_count, is_row_known, row_at, rows, uses_of, common_steps, subst, list_any_at}
-use proofs.Common.{Paste, IsConsistent, Received, is_in, paste_decided}
-use Rattle.std.specs.Prelude.{slice_index_or}
+use proofs.Common.{slice_index_or, Bool, List, Option, [], ap, arith, cond, drop, false, get_or, inl, inr, length}
+use proofs.Common.{length-append, length-drop, map, max, refl, suc, sym, take, true, zero, ℕ, ⊎_elim, ◌%◌, ◌*◌, ◌++◌}
+use proofs.Common.{◌+◌, ◌-◌, ◌<◌, ◌==◌, ◌∙◌, ◌∷◌, ◌≡◌, ◌≢◌, ◌≤◌, ◌⊎◌, add-mod_left, mod-eq_of_lt, cases_lt, eq-eqb}
+use proofs.Common.{ne_eqb, nat_tests, get_or_after_one, append-nil, ext_get_or, get_or-map, nil_from_length}
+use proofs.Common.{get_or-enumerate_from, length-enumerate_from, sum_by-cons, sum_by-take-le, map-map, enumerate_from}
+use proofs.Common.{range_with_len, fold, the_lines_of_parts, lines, unlines, select_from, cut, IsRowSplit, PasteOfParts}
+use proofs.Common.{update_at, columns, every_kth, join_with_cycle, row_count, is_row_known, row_at, rows, uses_of}
+use proofs.Common.{common_steps, subst, Paste, IsConsistent, Received, is_in, paste_decided, leb}
+use Rattle.std.proofs.lemmas.List.Sums.{sum_by_more}
 
 abbrev pub Column : Type 0
 Column = List (List ℕ)
@@ -31,50 +30,36 @@ module _ {k j : ℕ} (low : j < k) where
       let next : k + n + 1 ≡ k + (n + 1) = omega arith in
       cc (add-mod_left k n, chosen_apart (n + 1) xs)
 
-  is_kth_here : (n : ℕ) → n ≡ j → is_kth k j n ≡ true
-  is_kth_here n same = let less = mod-eq_of_lt (omega arith) ∙ same in eq-eqb (n % k) j less
+  -- Of the first k lines, from the n-th one on, the j-th is chosen.
+  chosen : (n b : ℕ) (xs : Column) → n + b ≡ k → select_from (is_kth k j) n xs
+      ≡ cond (leb n j) (take 1 (drop (j - n) xs)) [] ++ every_kth k j (drop b xs)
+  chosen n zero xs all = let same : n ≡ k + 0 = omega arith in grind (arith, chosen_apart 0 xs)
+  chosen n (suc b) [] all = grind (arith, common_steps)
+  chosen n (suc b) (x ∷ xs) all =
+      let same : n % k ≡ n = mod-eq_of_lt (omega arith) in
+      let next : n < j → j - n ≡ suc (j - (n + 1)) = λ less. omega arith in
+      let more = chosen (n + 1) b xs (omega arith) in
+      ⊎_elim
+      (λ less. grind arith)
+      (grind (arith, common_steps))
+      (cases_lt n j)
 
-  is_kth_not : (n : ℕ) → n < k → n ≢ j → is_kth k j n ≡ false
-  is_kth_not n less other = let same = mod-eq_of_lt less in rw same (grind (arith, nat_tests))
+  -- A column is its first line, if there is one, and the rest.
+  column_is : (ls : Column) → every_kth k j ls ≡ take 1 (drop j ls) ++ every_kth k j (drop k ls)
+  column_is ls = grind (arith, chosen 0 k ls (omega arith))
 
-  -- After the j-th of the first k.
-  chosen_after : (n b : ℕ) (xs : Column) → n + b ≡ k → j < n → select_from (is_kth k j) n xs ≡ every_kth k j (drop b xs)
-  chosen_after n zero xs all past = let same : n ≡ k + 0 = omega arith in cc (chosen_apart 0 xs)
-  chosen_after n (suc b) [] all past = refl
-  chosen_after n (suc b) (x ∷ xs) all past = grind (
-    arith,
-    is_kth_not,
-    chosen_after (n + 1) b xs (omega arith) (omega
-        arith),
-  )
-
-  -- Up to the j-th of the first k, with the line there if there is one.
-  chosen_before : (n a b : ℕ) (xs : Column) → n + a ≡ j → n + b ≡ k
-      → ((select_from (is_kth k j) n xs ≡ slice_index_or xs a [] ∷ every_kth k j (drop b xs)) × (a < length xs)) ⊎
-      ((select_from (is_kth k j) n xs ≡ []) × (length xs ≤ a) × (drop b xs ≡ []))
-  chosen_before n a zero xs here all = absurd (omega arith)
-  chosen_before n a (suc b) [] here all = inr (refl, omega arith, refl)
-  chosen_before n zero (suc b) (x ∷ xs) here all = grind (arith, is_kth_here, chosen_after)
-  chosen_before n (suc a) (suc b) (x ∷ xs) here all = grind (
-    arith,
-    is_kth_not,
-    chosen_before (n + 1) a b xs (omega
-        arith) (omega arith),
-  )
-
-  -- The first line of a column, and then the rest of it.
   every_kth_first : (ls : Column) → slice_index_or (every_kth k j ls) 0 [] ≡ slice_index_or ls j []
-  every_kth_first ls = grind (arith, chosen_before 0 j k ls (omega arith) (omega arith), get_or_past ls j [])
+  every_kth_first ls = grind (arith, common_steps, column_is ls)
 
   pub every_kth_rest : (ls : Column) → drop 1 (every_kth k j ls) ≡ every_kth k j (drop k ls)
-  every_kth_rest ls = grind (arith, chosen_before 0 j k ls (omega arith) (omega arith))
+  every_kth_rest ls = grind (arith, common_steps, column_is ls, length-drop j ls)
 
   every_kth_some : (ls : Column) → j < length ls → 0 < length (every_kth k j ls)
-  every_kth_some ls some = grind (arith, chosen_before 0 j k ls (omega arith) (omega arith))
+  every_kth_some ls some = grind (arith, common_steps, column_is ls)
 
   -- A bound on the length of a column.
   pub every_kth_short : (r : ℕ) (ls : Column) → length ls ≤ j + r * k → length (every_kth k j ls) ≤ r
-  every_kth_short zero ls few = grind (arith, chosen_before 0 j k ls (omega arith) (omega arith))
+  every_kth_short zero ls few = grind (arith, common_steps, column_is ls)
   every_kth_short (suc r) ls few =
       omega (
         arith,
@@ -88,7 +73,7 @@ module _ {k j : ℕ} (low : j < k) where
 row_count_from : (a : ℕ) (cols : List Column) → fold max (a - 1) (map length (map (drop 1) cols)) ≡ fold max a
     (map length cols) - 1
 row_count_from a [] = refl
-row_count_from a (c ∷ cols) = grind (arith, length-drop 1 c, row_count_from (max a (length c)) cols)
+row_count_from a (c ∷ cols) = grind (arith, row_count_from (max a (length c)) cols)
 
 row_later : (cols : List Column) (r : ℕ) → row_at (map (drop 1) cols) r ≡ row_at cols (r + 1)
 row_later [] r = refl
@@ -151,8 +136,7 @@ pub for_each_cell_unique : {Y : Type 0} (f : ℕ → ℕ → Y) (cells : List �
     → ys ≡ for_each_cell f cells
 for_each_cell_unique f cells ys d long same =
     ext_get_or d ys (for_each_cell f cells) (cc (length-for_each_cell f cells))
-    (λ c low. let within : c < length cells = omega arith in same c within
-    ∙ sym (get_or-for_each_cell f cells c d within))
+    (grind (arith, common_steps, get_or-for_each_cell))
 
 pub for_each_cell_same : {Y : Type 0} (f g : ℕ → ℕ → Y) (cells : List ℕ) → ((c : ℕ) → c < length cells
     → f c (get_or cells c 0) ≡ g c (get_or cells c 0)) → for_each_cell f cells ≡ for_each_cell g cells
@@ -161,39 +145,31 @@ for_each_cell_same f g cells same = for_each_cell_unique g cells (for_each_cell 
 
 -- ---- how many columns use an input
 
-module _ (x : ℕ) (cells : List ℕ) (p : ℕ) where
-  uses_first : uses_of (x ∷ cells) p ≡ cond (x == p) 1 0 + uses_of cells p
-  uses_first = sum_by-cons (λ y. cond (y == p) 1 0) x cells
-
-  only_first : 0 < uses_of (x ∷ cells) p → uses_of cells p ≤ 0 → (x ≡ p) × (uses_of (x ∷ cells) p ≡ 1)
-  only_first some none = (grind (arith, nat_tests, uses_first), grind (arith, nat_tests, uses_first))
-
 -- The last column that uses an input.
 pub last_use : (cells : List ℕ) (p : ℕ) → 0 < uses_of cells p → (c : ℕ) × (c < length cells) × (get_or cells c 0 ≡ p)
     × (uses_of cells p ≡ uses_of (take c cells) p + 1)
 last_use [] p some = absurd (omega arith)
-last_use (x ∷ cells) p some = ⊎_elim
+last_use (x ∷ cells) p some =
+    let first = sum_by-cons (λ y. cond (y == p) 1 0) x cells in
+    ⊎_elim
     (λ more.
     let (c, low, is, count) = last_use cells p more in
-    (suc c, omega arith, is, omega (arith, uses_first x cells p, uses_first x (take c cells) p)))
-    (λ none. let (same, one) = only_first x cells p some none in (0, omega arith, same, one))
+    (suc c, omega arith, is, grind (arith, common_steps)))
+    (grind (arith, common_steps))
     (cases_lt 0 (uses_of cells p))
 
 module _ (cells : List ℕ) where
-  pub uses_here : (c p : ℕ) → c < length cells → get_or cells c 0 ≡ p
-      → uses_of (take (c + 1) cells) p ≡ uses_of (take c cells) p + 1
-  uses_here c p low same = count_by_more_yes (λ x. x == p) cells c 0 low (eq-eqb (get_or cells c 0) p same)
-
-  pub uses_other : (c p : ℕ) → c < length cells → get_or cells c 0 ≢ p
-      → uses_of (take (c + 1) cells) p ≡ uses_of (take c cells) p
-  uses_other c p low other = count_by_more_no (λ x. x == p) cells c 0 low (grind (arith, nat_tests))
+  pub uses_more : (c p : ℕ) → c < length cells
+      → uses_of (take (c + 1) cells) p ≡ uses_of (take c cells) p + cond (get_or cells c 0 == p) 1 0
+  uses_more c p low = sum_by_more (λ x. cond (x == p) 1 0) cells c 0 low
 
   pub uses_before : (c p : ℕ) → uses_of (take c cells) p ≤ uses_of cells p
   uses_before c p = sum_by-take-le (λ x. cond (x == p) 1 0) cells c
 
   pub uses_before_lt : (c : ℕ) → c < length cells → uses_of (take c cells) (get_or cells c 0) < uses_of cells
       (get_or cells c 0)
-  uses_before_lt c low = omega (arith, uses_here c (get_or cells c 0) low refl, uses_before (c + 1) (get_or cells c 0))
+  uses_before_lt c low =
+      grind (arith, nat_tests, uses_more c (get_or cells c 0) low, uses_before (c + 1) (get_or cells c 0))
 
   -- ---- one row of a grid
 
@@ -211,11 +187,18 @@ module _ (cells : List ℕ) where
   -- Inputs that no column uses do not matter.
   pub columns_same : (f g : ℕ → Column) → ((p : ℕ) → 0 < uses_of cells p → f p ≡ g p)
       → columns cells f ≡ columns cells g
-  columns_same f g same = for_each_cell_same (column_of f) (column_of g) cells (λ c low.
-      ap (every_kth _ (uses_of (take c cells) _)) (same _ (omega (arith, uses_before_lt c low))))
+  columns_same f g same = for_each_cell_same (column_of f) (column_of g) cells (grind (arith, common_steps))
 
   pub length-columns : (ins : ℕ → Column) → length (columns cells ins) ≡ length cells
   length-columns ins = length-for_each_cell (column_of ins) cells
+
+  -- A row, by what each column has in it.
+  pub row_is : (ins : ℕ → Column) (r : ℕ) (f : ℕ → ℕ → List ℕ) → ((c : ℕ) → c < length cells
+      → slice_index_or (column_of ins c (get_or cells c 0)) r [] ≡ f c (get_or cells c 0))
+      → row_at (columns cells ins) r ≡ for_each_cell f cells
+  row_is ins r f same =
+      map-map (λ col. slice_index_or col r []) (λ cell. column_of ins cell.0 cell.1) (enumerate_from 0 cells)
+      ∙ for_each_cell_same (λ c p. slice_index_or (column_of ins c p) r []) f cells same
 
   -- The lines after the first row.
   abbrev pub after_row : (ℕ → Column) → ℕ → Column
@@ -232,19 +215,14 @@ module _ (cells : List ℕ) where
         ap length (column_at ins c low),
         every_kth_some (uses_before_lt c low) (ins (get_or cells c 0)) some,
       ))
-      ∙ (λ i. (map-map (λ col. slice_index_or col 0 []) (λ cell. column_of ins cell.0 cell.1) (enumerate_from 0 cells)
-      ∙ for_each_cell_same (λ c p. slice_index_or (column_of ins c p) 0 []) (top_of ins) cells
-      (λ d within. every_kth_first (uses_before_lt d within) (ins (get_or cells d 0)))) i
+      ∙ (λ i. row_is ins 0 (top_of ins) (λ d within. every_kth_first (uses_before_lt d within) (ins _)) i
       ∷ rows ((map-map (drop 1) (λ cell. column_of ins cell.0 cell.1) (enumerate_from 0 cells)
       ∙ for_each_cell_same (λ c p. drop 1 (column_of ins c p)) (column_of (after_row ins)) cells
-      (λ d within. every_kth_rest (uses_before_lt d within) (ins (get_or cells d 0)))) i))
+      (λ d within. every_kth_rest (uses_before_lt d within) (ins _))) i))
 
   pub grid_none : (ins : ℕ → Column) → ((p : ℕ) → 0 < uses_of cells p → ins p ≡ []) → rows (columns cells ins) ≡ []
   grid_none ins none = ap (λ n. map (row_at (columns cells ins)) (range_with_len 0 n)) (row_count_none
-      (columns cells ins) (λ c low.
-      let within : c < length cells = omega (arith, length-columns ins) in
-      let q = get_or cells c 0 in
-      cc (column_at ins c within, none q (omega (arith, uses_before_lt c within)))))
+      (columns cells ins) (grind (arith, common_steps, length-columns, column_at)))
 
   -- ---- rows after rows
 
@@ -255,8 +233,7 @@ module _ (cells : List ℕ) where
   some_cell f zero high = inr (λ c low. absurd (omega arith))
   some_cell f (suc n) high = ⊎_elim
       (λ here. inl (n, omega arith, here))
-      (λ past. ⊎_elim inl (λ before. inr (λ c low. ⊎_elim (λ less. before c less) (λ same. let is : c
-      ≡ n = omega arith in rw is past) (cases_lt c n))) (some_cell f n (omega arith)))
+      (λ past. ⊎_elim inl (grind (arith, common_steps)) (some_cell f n (omega arith)))
       (cases_lt (uses_of (take n cells) (get_or cells n 0)) (length (f (get_or cells n 0))))
 
   -- n rows take all lines of an input; more lines follow only if it has all the lines that n rows take.
@@ -268,7 +245,7 @@ module _ (cells : List ℕ) where
     -- The first row is that of `ins`.
     top_same : (c : ℕ) → c < length cells
         → top_of (λ p. ins p ++ more p) c (get_or cells c 0) ≡ top_of ins c (get_or cells c 0)
-    top_same c low = grind (arith, common_steps, all (get_or cells c 0), uses_before_lt c low)
+    top_same c low = grind (arith, common_steps, uses_before_lt c low)
 
     rest_same : (p : ℕ) → 0 < uses_of cells p → drop (uses_of cells p) (ins p ++ more p) ≡ after_row ins p ++ more p
     rest_same p some = grind (arith, common_steps, all p)
@@ -282,17 +259,14 @@ module _ (cells : List ℕ) where
     none_follows short p some =
         let (c, low, is, count) = last_use cells p some in
         let few = rw is at (short c low) in
-        grind (arith, all p)
+        grind arith
 
   pub rows-append : (n : ℕ) (ins more : ℕ → Column) → TakesAll n ins more
       → rows (columns cells (λ p. ins p ++ more p)) ≡ rows (columns cells ins) ++ rows (columns cells more)
   rows-append zero ins more all =
       let none : (p : ℕ) → 0 < uses_of cells p → ins p ≡ [] = λ p some.
-      nil_from_length (ins p) (grind (arith, all p some)) in
-      cc (
-        columns_same (λ p. ins p ++ more p) more (λ p some. ap (λ l. l ++ more p) (none p some)),
-        grid_none ins none,
-      )
+      nil_from_length (ins p) (grind arith) in
+      grind (arith, common_steps, columns_same, grid_none)
   rows-append (suc n) ins more all = ⊎_elim
       (λ (c, low, some). let p = get_or cells c 0 in cc (
         grid_step (λ q. ins q ++ more q) c low (omega (arith, length-append (ins p) (more p))),
@@ -313,7 +287,7 @@ module _ (cells : List ℕ) where
 pub rows_text-append : (end : ℕ) (delims : List (Option ℕ)) (xs ys : List Column)
     → unlines end (map (join_with_cycle delims 0) (xs ++ ys)) ≡ unlines end (map (join_with_cycle delims 0) xs)
     ++ unlines end (map (join_with_cycle delims 0) ys)
-rows_text-append = grind (arith, common_steps, unlines-append)
+rows_text-append = grind (arith, common_steps)
 
 -- ---- the rows that are determined
 
@@ -322,7 +296,7 @@ pub is_row_unknown : (cols : List Column) (eof : List Bool) (r c : ℕ) → c < 
     → length (get_or cols c []) ≤ r → is_row_known cols eof r ≡ false
 is_row_unknown [] eof r c low within going few = absurd (omega arith)
 is_row_unknown (col ∷ cols) [] r c low within going few = absurd (omega arith)
-is_row_unknown (col ∷ cols) (e ∷ eof) r zero low within going few = grind (arith, le-ltb)
+is_row_unknown (col ∷ cols) (e ∷ eof) r zero low within going few = grind arith
 is_row_unknown (col ∷ cols) (e ∷ eof) r (suc c) low within going few = grind (
   arith,
   is_row_unknown cols eof r c
@@ -336,6 +310,10 @@ update_here input x f q same = ap (λ t. cond t x (f q)) (eq-eqb q input same)
 
 pub update_there : {X : Type 0} (input : ℕ) (x : X) (f : ℕ → X) (q : ℕ) → q ≢ input → update_at input x f q ≡ f q
 update_there input x f q differ = ap (λ t. cond t x (f q)) (ne_eqb q input differ)
+
+-- `ls` for this input, and no lines for all others.
+abbrev pub lines_of_input : ℕ → Column → ℕ → Column
+lines_of_input input ls = update_at input ls (λ q. [])
 
 -- ---- inputs that are split after the same row
 
@@ -367,7 +345,7 @@ paste_of_parts job cells n a b cut =
 
 module _ (cells : List ℕ) where
   pub cell_in : (c : ℕ) → c < length cells → is_in cells (get_or cells c 0) ≡ true
-  cell_in c low = list_any_at (λ q. q == get_or cells c 0) cells c 0 low (eq-eqb (get_or cells c 0) _ refl)
+  cell_in c low = grind (arith, common_steps)
 
   pub used_is_in : (p : ℕ) → 0 < uses_of cells p → is_in cells p ≡ true
   used_is_in p some = let (c, low, is, count) = last_use cells p some in
@@ -386,11 +364,11 @@ map_same : {X : Type 0} (f g : ℕ → X) (cells : List ℕ) → ((p : ℕ) → 
     → map f cells ≡ map g cells
 map_same f g [] same = refl
 map_same f g (c ∷ cells) same = λ i.
-    same c (grind (arith, nat_tests)) i ∷ map_same f g cells (λ p named. same p (grind (arith, nat_tests))) i
+    same c (grind arith) i ∷ map_same f g cells (λ p named. same p (grind arith)) i
 
 -- The received bytes may be the whole input.
 pub consistent_itself : (given : Received) → IsConsistent given given.bytes
-consistent_itself given = record { rest = []; is = sym (append-nil _); whole = λ eof. refl }
+consistent_itself given = grind (arith, common_steps)
 
 module _ (job : Paste) (cells : List ℕ) where
   pub decided_same : (f g : ℕ → Received) → ((p : ℕ) → is_in cells p ≡ true → f p ≡ g p)

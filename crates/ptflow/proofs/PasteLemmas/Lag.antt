@@ -1,21 +1,19 @@
 -- Bounded lag of `paste`: all output that was determined two blocks of an input earlier is pushed. Without its last two
 -- blocks that input has fewer lines than one more row takes, so only rows that were already pushed are determined.
 use Rattle.ptflow.proofs
-use proofs.Common.{Bool, List, [], ap, append_assoc, arith, drop, false, get_or, length, length-append, length-drop, ℕ}
-use proofs.Common.{map, refl, subst, suc, sym, take, take-append-drop, true, zero, ⊎_elim, ◌*◌, ◌++◌, ◌+◌, ◌-◌, ◌<◌}
-use proofs.Common.{◌∙◌, ◌∷◌, ◌≡◌, ◌≢◌, ◌≤◌, cases_Bool, cases_eq, cases_lt, nat_tests, common_steps, append-nil, filter}
-use proofs.Common.{drop_more, get_or-map, get_or_append_left, length-map, length-take-le, take_all, take_more, map-map}
-use proofs.Common.{get_or-range_with_len, length-map-range_with_len, length-range_with_len, enumerate_from, Paste, line}
-use proofs.Common.{range_with_len, received_with, complete_lines_cons, complete_lines_of_unlines, unlines_push, Reader}
-use proofs.Common.{IsPrefix, Received, known_lines, ProcessLag, ReaderAdvance, AreLines, IsLine, complete_lines, lines}
-use proofs.Common.{unlines, reads_nothing, update_at, columns, every_kth, row_count, is_row_known, known_rows, row_at}
-use proofs.Common.{paste_decided, rows, rows_text, uses_of, AreReceivedLines}
-use Rattle.std.specs.Prelude.{slice_index_or}
+use proofs.Common.{slice_index_or, Bool, List, [], ap, append_assoc, arith, drop, false, get_or, length, length-append}
+use proofs.Common.{length-drop, ℕ, map, refl, suc, sym, take, take-append-drop, true, zero, ⊎_elim, ◌*◌, ◌++◌, ◌+◌, ◌-◌}
+use proofs.Common.{◌<◌, ◌∙◌, ◌∷◌, ◌≡◌, ◌≢◌, ◌≤◌, cases_Bool, cases_eq, cases_lt, common_steps, append-nil, filter}
+use proofs.Common.{get_or-map, get_or_append_left, get_or-range_with_len, length-map-range_with_len}
+use proofs.Common.{length-range_with_len, Paste, line, range_with_len, received_with, complete_lines_cons}
+use proofs.Common.{complete_lines_of_unlines, Reader, IsPrefix, Received, known_lines, ProcessLag, ReaderAdvance}
+use proofs.Common.{AreLines, IsLine, complete_lines, lines, unlines, reads_nothing, update_at, columns, every_kth}
+use proofs.Common.{row_count, is_row_known, row_at, paste_decided, rows, rows_text, uses_of, AreReceivedLines}
+use proofs.Common.{nil_from_length}
 use proofs.CutLemmas.CutBytes.{select_append}
-use proofs.PasteLemmas.Grid.{Column, for_each_cell, for_each_cell_same, column_of, uses_before_lt, column_at}
-use proofs.PasteLemmas.Grid.{length-columns, every_kth_short, is_row_unknown, update_here, update_there, last_use}
-use proofs.PasteLemmas.Grid.{rows_text-append}
-use proofs.Passes.Exits.{complete_prefix, line_split, line_take, eof_gives_nothing}
+use proofs.PasteLemmas.Grid.{Column, column_of, uses_before_lt, column_at, length-columns, every_kth_short}
+use proofs.PasteLemmas.Grid.{is_row_unknown, update_here, last_use, row_is}
+use proofs.Passes.Exits.{complete_prefix, line_split, eof_gives_nothing}
 
 -- ---- one input without its last bytes
 
@@ -42,70 +40,51 @@ earlier_now reader given buffered few = record {
 -- The complete lines of what was received and a part of the next line.
 pub complete_few : {end : ℕ} {now new : Reader} {given piece : List ℕ} {ls : Column} → AreReceivedLines end now given ls
     → ReaderAdvance now new piece → IsLine end piece → length (complete_lines end (given ++ piece)) ≤ length ls
-complete_few {end} {given = given} {piece} {ls} k reads free = ⊎_elim
-    (λ (is, are). omega (
-      arith,
-      ap (λ b. length (complete_lines end (b ++ piece))) is,
-      ap length (complete_lines_of_unlines end ls piece are free),
-    ))
-    (λ (is, done).
-    let (none, empty, eof) = eof_gives_nothing _ _ _ done reads in
-    rw (none, append-nil given) (omega (
-      arith,
-      ap length is,
-      ap (λ b. length (lines end b)) (append-nil given),
-      ap length (complete_prefix end given []),
-      length-append (complete_lines end given) (lines end ((line_split end given).piece ++ [])),
-    )))
-    k.so_far
-
-are_split : (end : ℕ) (xs : Column) (l : List ℕ) → AreLines end (xs ++ l ∷ []) → AreLines end xs × IsLine end l
-are_split end [] l (last, none) = (tt, last)
-are_split end (x ∷ xs) l (first, are) = let (more, last) = are_split end xs l are in ((first, more), last)
+complete_few {end} {given = given} {piece} {ls} k reads free = grind (
+  arith,
+  common_steps,
+  complete_lines_of_unlines,
+  eof_gives_nothing,
+  append-nil,
+  complete_prefix,
+  length-append,
+  line_split,
+)
 
 -- A text without lines is empty.
 pub no_lines : (end : ℕ) (bytes : List ℕ) → length (lines end bytes) ≤ 0 → bytes ≡ []
 no_lines end [] none = refl
 no_lines end (b ∷ bytes) none = grind arith
 
--- Without the last line that was given, or if there are fewer lines without the buffer.
+-- Without a block that was given, or all of it. The last of the given lines ends there, or is incomplete.
 pub earlier_lines : {end most : ℕ} (reader : Reader) (given : List ℕ) → length reader.buffered ≤ 8192 → 0 < most
     → length (lines end given) ≤ most → EarlierPart end most (received_with given reader)
-earlier_lines {end} {most} reader given buffered some few = ⊎_elim
-    (earlier_now reader given buffered)
-    (λ all.
-    let split = line_split end given in
-    let ls = complete_lines end given in
-    let n = length ls - 1 in
-    let l = get_or ls n [] in
-    let m = length l - 8191 in
-    let xs = take n ls in
-    let count : length (lines end given) ≡ length ls + length (lines end split.piece) = omega (
-      arith,
-      ap (λ b. length (lines end b)) (append-nil given),
-      ap (λ b. length (lines end b)) (append-nil split.piece),
-      ap length (complete_prefix end given []),
-      length-append ls (lines end (split.piece ++ [])),
-    ) in
-    let none = no_lines end split.piece (omega (arith, few, all)) in
-    let parts : ls ≡ xs ++ l ∷ [] = sym (take_all (n + 1) ls (omega arith)) ∙ take_more ls n [] (omega arith) in
-    let (are, line) = are_split end xs l (subst (AreLines end) parts split.whole) in
-    let is : given ≡ unlines end xs ++ (l ++ end ∷ []) =
-    split.is ∙ ap (◌++◌ (unlines end ls)) none ∙ append-nil (unlines end ls) ∙ ap (unlines end) parts
-    ∙ unlines_push end xs l in
+earlier_lines {end} reader given buffered some few =
+    let k = length given - 8192 in
+    let front = take k given in
+    let last = drop k given in
+    let rest = (line_split end front).piece ++ last in
     record {
-      front = unlines end xs ++ take m l;
-      last = drop m l ++ (end ∷ reader.buffered);
-      split = ap (λ b. b ++ reader.buffered) (is ∙ ap (λ b. unlines end xs ++ (b ++ end ∷ []))
-          (sym (take-append-drop m l))) ∙ simp append_assoc;
-      short = omega (arith, length-append (drop m l) (end ∷ reader.buffered), length-drop m l);
-      few = omega (
-        arith,
-        ap length (complete_lines_of_unlines end xs (take m l) are (line_take end m l line)),
-        length-take-le n ls (omega arith),
-      );
-    })
-    (cases_lt (length (complete_lines end given)) most)
+      front = front;
+      last = last ++ reader.buffered;
+      split = cc (take-append-drop k given, append_assoc front last reader.buffered);
+      short = grind (arith, common_steps);
+      few = ⊎_elim
+          (λ more. omega (
+            arith,
+            ap (λ b. length (lines end b)) (take-append-drop k given),
+            ap length (complete_prefix end front last),
+            length-append (complete_lines end front) (lines end rest),
+          ))
+          (λ none. let empty = no_lines end rest none in
+          rw (nil_from_length given (omega (
+            arith,
+            ap length empty,
+            length-append (line_split end front).piece last,
+            length-drop k given,
+          ))) some)
+          (cases_lt 0 (length (lines end rest)));
+    }
 
 -- ---- complete lines of a prefix
 
@@ -121,16 +100,15 @@ ended_more end (line ∷ ls) bytes (whole, more) = grind (
 )
 
 -- The complete lines of a prefix come first.
-whole_lines_prefix : (end : ℕ) (eof : Bool) (front last : List ℕ)
-    → (more : Column) × (known_lines end (record { bytes = front ++ last; eof = eof }) ≡ complete_lines end front
-    ++ more)
-whole_lines_prefix end true front last =
-    (lines end ((line_split end front).piece ++ last), complete_prefix end front last)
-whole_lines_prefix end false front last =
+whole_lines_prefix : (end : ℕ) (eof : Bool) (bytes front last : List ℕ) → bytes ≡ front ++ last
+    → (more : Column) × (known_lines end (record { bytes = bytes; eof = eof }) ≡ complete_lines end front ++ more)
+whole_lines_prefix end true bytes front last is =
+    (lines end ((line_split end front).piece ++ last), ap (lines end) is ∙ complete_prefix end front last)
+whole_lines_prefix end false bytes front last is =
     let split = line_split end front in
     let ls = complete_lines end front in (
       complete_lines end (split.piece ++ last),
-      cc (append_assoc (unlines end ls) split.piece last, ended_more end ls (split.piece ++ last) split.whole),
+      grind (arith, common_steps, append_assoc, ended_more),
     )
 
 -- Without the last bytes that were given, if these came from the buffer.
@@ -159,10 +137,10 @@ module _ (f : ℕ → Bool) (down : (r : ℕ) → f r ≡ false → f (r + 1) �
   known_first row taken none same a zero low = (drop a taken, refl)
   known_first row taken none same a (suc h) low = ⊎_elim
       (λ is.
-      let differ : a ≢ length taken = λ last. cc (ap f last) in
+      let differ : a ≢ length taken = λ last. cc in
       let less : a < length taken = omega arith in
       let (rest, more) = known_first row taken none same (a + 1) h (omega arith) in
-      (rest, rw is (drop_more taken a [] less ∙ (λ i. sym (same a is less) i ∷ more i))))
+      (grind (arith, common_steps)))
       (λ is. (drop a taken, rw is (rw (none_known (a + 1) h (down a is)) refl)))
       (cases_Bool (f a))
 
@@ -170,7 +148,7 @@ known_down : (cols : List Column) (eof : List Bool) (r : ℕ) → is_row_known c
     → is_row_known cols eof (r + 1) ≡ false
 known_down [] eof r none = cc
 known_down (col ∷ cols) [] r none = cc
-known_down (col ∷ cols) (e ∷ eof) r none = let later = known_down cols eof r in grind (arith, nat_tests)
+known_down (col ∷ cols) (e ∷ eof) r none = let later = known_down cols eof r in grind arith
 
 -- A column keeps its lines if more follow.
 every_kth_more : (k j r : ℕ) (xs more : Column) → r < length (every_kth k j xs)
@@ -192,7 +170,7 @@ module _ (job : Paste) (cells : List ℕ) (came : ℕ → Received) where
   grid given = columns cells (known_of given)
 
   update_same : (here : ℕ) (x : Received) → x ≡ came here → update_at here x came ≡ came
-  update_same = grind (arith, update_here, update_there)
+  update_same = grind (arith, update_here)
 
   -- The rows that were taken, if the input `here` without its last bytes has fewer lines than one more row takes. That
   -- input is then not known to end, so each row that is determined has all its lines of that input, and is a row of the
@@ -215,59 +193,41 @@ module _ (job : Paste) (cells : List ℕ) (came : ℕ → Received) where
         → is_row_known (grid earlier) ends r ≡ false
     unknown r c low is few =
         is_row_unknown (grid earlier) ends r c (omega (arith, length-columns cells (known_of earlier)))
-        (omega (arith, length-map cells (λ q. (earlier q).eof)))
-        (cc (get_or-map (λ p. (earlier p).eof) cells c 0 true low, update_here here front came (get_or cells c 0) is))
-        (omega (arith, ap length (column_at cells (known_of earlier) c low)))
+        (grind (arith, common_steps))
+        (grind (arith, common_steps))
+        (grind (arith, common_steps, column_at))
 
     -- The last column of the input has no line in the next row.
     next_unknown : is_row_known (grid earlier) ends (length taken_rows) ≡ false
     next_unknown =
         let (c, low, is, count) = last_use cells here named in
-        unknown (length taken_rows) c low is (every_kth_short (uses_before_lt cells c low) (length taken_rows)
-        (known_of earlier (get_or cells c 0)) (omega (
+        unknown (length taken_rows) c low is (grind (
           arith,
-          ap (λ g. length (known_lines job.terminator g))
-              (update_here here front came (get_or cells c 0) is),
-          ap (uses_of (take c cells)) is,
-          ap (λ (q : ℕ). length taken_rows * uses_of cells q) is,
-        )))
+          common_steps,
+          every_kth_short,
+          uses_before_lt,
+          taken_rows,
+          known_of,
+        ))
+
+    -- The line of a column in a row of the whole grid.
+    abbrev cell : ℕ → ℕ → ℕ → List ℕ
+    cell r c p = slice_index_or (column_of cells (known_of came) c p) r []
 
     cell_same : (r : ℕ) → is_row_known (grid earlier) ends r ≡ true → (c : ℕ) → c < length cells
-        → slice_index_or (column_of cells (known_of earlier) c (get_or cells c 0)) r [] ≡ slice_index_or
-        (column_of cells (known_of came) c (get_or cells c 0)) r []
+        → slice_index_or (column_of cells (known_of earlier) c (get_or cells c 0)) r [] ≡ cell r c (get_or cells c 0)
     cell_same r known c low = ⊎_elim
         (λ is.
-        let (more, is_known) = whole_lines_prefix job.terminator (came here).eof cut.front cut.last in
-        let is_front = update_here here front came p is in
-        let there : r < length (every_kth k j (known_of earlier p)) =
-        grind (arith, unknown r c low is) in
-        let whole : known_lines job.terminator (came here) ≡ complete_lines job.terminator cut.front ++ more =
-        (λ i. known_lines job.terminator (record { bytes = cut.split i; eof = (came here).eof })) ∙ is_known in
-        cc (every_kth_more k j r (complete_lines job.terminator cut.front) more
-        (omega (arith, ap (λ (g : Received). length (every_kth k j (known_lines job.terminator g))) is_front))))
-        (λ other. cc (update_there here front came p other))
-        (cases_eq p here)
-      where
-        p : ℕ
-        p = get_or cells c 0
-
-        k : ℕ
-        k = uses_of cells p
-
-        j : ℕ
-        j = uses_of (take c cells) p
+        let (more, is_known) = whole_lines_prefix job.terminator (came here).eof (came here).bytes cut.front cut.last
+        cut.split in
+        let is_front = update_here here front came (get_or cells c 0) is in
+        grind (arith, unknown r c low is, every_kth_more))
+        (λ other. grind (arith, common_steps))
+        (cases_eq (get_or cells c 0) here)
 
     row_same : (r : ℕ) → is_row_known (grid earlier) ends r ≡ true → row_at (grid earlier) r ≡ row_at (grid came) r
-    row_same r known =
-        row_each (known_of earlier)
-        ∙ for_each_cell_same (λ c p. slice_index_or (column_of cells (known_of earlier) c p) r [])
-        (λ c p. slice_index_or (column_of cells (known_of came) c p) r []) cells (cell_same r known)
-        ∙ sym (row_each (known_of came))
-      where
-        row_each : (ins : ℕ → Column) → row_at (columns cells ins) r ≡ for_each_cell (λ c p. slice_index_or
-            (column_of cells ins c p) r []) cells
-        row_each ins = map-map (λ (col : Column). slice_index_or col r [])
-            (λ (c, p). column_of cells ins c p) (enumerate_from 0 cells)
+    row_same r known = row_is cells (known_of earlier) r (cell r) (cell_same r known)
+        ∙ sym (row_is cells (known_of came) r (cell r) (λ c low. refl))
 
     taken_at : (r : ℕ) → r < length taken_rows → row_at (grid came) r ≡ get_or taken_rows r []
     taken_at r less =
@@ -292,8 +252,7 @@ module _ (job : Paste) (cells : List ℕ) (came : ℕ → Received) where
         (row_count (grid earlier)) (omega arith) in
         record {
           rest = rows_text job rest;
-          is = ap (rows_text job) is
-              ∙ rows_text-append job.terminator job.delimiters (known_rows (grid earlier) ends) rest;
+          is = grind (arith, common_steps);
         }
 
     pub lags_here : LagsAt job cells came (rows_text job taken_rows) here
@@ -311,4 +270,4 @@ module _ (job : Paste) (cells : List ℕ) (came : ℕ → Received) where
     -- The input has not given more than that.
     pub decided_is_prefix : cut.front ≡ (came here).bytes → (came here).eof ≡ false
         → IsPrefix (paste_decided job cells came) (rows_text job taken_rows)
-    decided_is_prefix same going = grind (arith, update_same, begins_earlier)
+    decided_is_prefix same going = grind (arith, begins_earlier)

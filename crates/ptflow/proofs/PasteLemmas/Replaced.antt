@@ -1,20 +1,23 @@
 -- Bytes of which each terminator is replaced, and how the code replaces them: 64 at a time, where the terminators are
 -- the bits of a mask, and then byte by byte.
 use Rattle.ptflow.proofs
-use proofs.Common.{◌≡◌, ◌≢◌, ℕ, zero, suc, ◌+◌, ◌-◌, ◌%◌, ◌^◌, ◌==◌, ◌<◌, ◌≤◌, Bool, cond, List, [], ◌∷◌, ◌++◌, length}
-use proofs.Common.{map, take, drop, get_or, slice_set, refl, sym, ◌∙◌, ap, arith, bit_and, count_by, count_ones, mask_l}
-use proofs.Common.{chunk, mod-add-mod, mod-eq_of_lt, take-add, take_at, take-append-drop, take-set-lt, eq-eqb}
-use proofs.Common.{set-append_right, drop_more, take_more_set, take-set, length-set, common_steps, sum_by-append}
-use proofs.Common.{is_byte, byte_eq, byte_ne, IsLine, IsNth, length-take-le, length-chunk, length-put_chunk}
-use proofs.Common.{take_more_put_chunk, put_chunk, ones-mask_l, with_replacements, cycle_byte, IsReplacedTo, true}
-use proofs.Common.{false, Option, length-append, append_assoc, onto_first, append-nil, append_cancel_right, lines}
-use proofs.Common.{complete_lines, IsPrefix, lines_of_unlines, Paste, delimiter, join_with_cycle, paste_serial_decided}
-use proofs.Common.{row_rest, option_to_list, None, Some, IsFirstByte, line_before_terminator, mod-lt}
+use proofs.Common.{slice_index_or, ◌≡◌, ◌≢◌, ℕ, zero, suc, ◌+◌, ◌-◌, ◌%◌, ◌^◌, ◌==◌, ◌<◌, ◌≤◌, Bool, cond, List, []}
+use proofs.Common.{◌∷◌, ◌++◌, length, map, take, drop, get_or, slice_set, refl, sym, ◌∙◌, ap, arith, bit_and, count_by}
+use proofs.Common.{count_ones, mask_l, chunk, mod-add-mod, mod-eq_of_lt, take-add, take_at, take-append-drop}
+use proofs.Common.{take-set-lt, eq-eqb, set-append_right, drop_more, take_more_set, length-set, common_steps}
+use proofs.Common.{sum_by-append, is_byte, byte_eq, byte_ne, IsLine, IsNth, length-take-le, length-chunk}
+use proofs.Common.{length-put_chunk, take_more_put_chunk, put_chunk, ones-mask_l, with_replacements, cycle_byte}
+use proofs.Common.{IsReplacedTo, true, false, Option, append_assoc, onto_first, append-nil, append_cancel_right, lines}
+use proofs.Common.{complete_lines, IsPrefix, Paste, delimiter, join_with_cycle, paste_serial_decided, row_rest}
+use proofs.Common.{option_to_list, None, Some, IsFirstByte, line_before_terminator, mod-lt, serial_rest}
+use proofs.Common.{take_with_terminator}
 use lib.Count.{count_trailing_zeros}
 use proofs.Vectors.FindNth.{after_set, cleared, without, none_counted}
 use Rattle.ptflow.specs.declared.simd.replace.Cycle.{Cycle}
-use Rattle.std.specs.Prelude.{slice_index_or}
-use proofs.Passes.Exits.{line_split, split_of}
+use proofs.Passes.Exits.{line_split, complete_prefix}
+use Rattle.ptflow.specs.declared.tools.paste.serial.ColumnPos.{ColumnPos}
+use Rattle.ptflow.specs.Private.Paste.SerialRest.{CopyCellsPost}
+use Rattle.ptflow.specs.declared.tools.paste.serial.SerialFormat.{SerialFormat}
 
 module _ (end : ℕ) where
   pub counted : (b : ℕ) (bytes : List ℕ) {t : Bool} → (b == end) ≡ t
@@ -26,13 +29,8 @@ module _ (end : ℕ) where
         ≡ with_replacements end text_of number xs
         ++ with_replacements end text_of (number + count_by (is_byte end) xs) ys
     replaced-append number [] ys = grind arith
-    replaced-append number (b ∷ xs) ys = grind (
-      arith,
-      common_steps,
-      counted,
-      replaced-append (number + 1) xs ys,
-      replaced-append number xs ys,
-    )
+    replaced-append number (b ∷ xs) ys =
+        grind (arith, common_steps, replaced-append (number + 1) xs ys, replaced-append number xs ys)
 
     -- A line contains no terminator, so its bytes stay.
     pub replaced_line : (number : ℕ) (line rest : List ℕ) → IsLine end line
@@ -188,10 +186,7 @@ module _ {end : ℕ} {byte : ℕ → ℕ} where
       set_in_chunk v =
           let there : at + bit - at ≡ bit = omega arith in
           let front = length-take-le at was (omega arith) in
-          cc (
-            take-set-lt (at + 64) to (at + bit) v (omega (arith, low)),
-            set-append_right (take at was) (first_replaced end byte n first ends) at (at + bit) v front (omega arith),
-          )
+          grind (arith, common_steps, take-set-lt, set-append_right)
 
       pub replace_next : {rest put : ℕ} {to' : List ℕ} → marked < 2 ^ 64 → put ≡ byte (first + n)
           → rest ≡ bit_and marked ((marked + (2 ^ 64 - 1)) % 2 ^ 64) → to' ≡ slice_set to (at + bit) put
@@ -235,11 +230,8 @@ module _ {cycle : Cycle} {first index at : ℕ} {from to to' : List ℕ} (long :
       let so_far = first + ends_in cycle front in
       let index_is =
       mod-eq_of_lt (omega arith) ∙ r.next in
-      let count : first + ends_in cycle (take (at + size) from) ≡ so_far + ends_in cycle here = omega (
-        arith,
-        ap (ends_in cycle) split,
-        sum_by-append (λ b. cond (is_byte cycle.terminator b) 1 0) front here,
-      ) in
+      let count : first + ends_in cycle (take (at + size) from) ≡ so_far + ends_in cycle here =
+      grind (arith, common_steps) in
       record {
         within = room;
         same = long;
@@ -259,8 +251,8 @@ module _ {cycle : Cycle} {first index at : ℕ} {from to to' : List ℕ} (long :
         let x = get_or from at 0 in
         let test = eq-eqb x _ is_end in
         let one = one_byte at from room in
-        replaced_more 1 (omega (arith, room)) (cc)
-        (cc (take_more_set (slice_set to at x) at v (omega (arith, room, length-set to at x)), take-set to at x))
+        replaced_more 1 (omega arith) (cc)
+        (grind (arith, common_steps))
 
     pub replaced_other : get_or from at 0 ≢ cycle.terminator → to' ≡ slice_set to at (get_or from at 0)
         → index < cycle.len → IsReplacedTo cycle first index (at + 1) from to'
@@ -269,9 +261,9 @@ module _ {cycle : Cycle} {first index at : ℕ} {from to to' : List ℕ} (long :
         let test = byte_ne _ x other in
         let one = one_byte at from room in
         let number : index + ends_in cycle (take 1 (drop at from)) ≡ index =
-        omega (arith, ap (ends_in cycle) one, counted cycle.terminator x [] test) in
-        replaced_more 1 (omega (arith, room)) (cc (mod-eq_of_lt less))
-        (cc (take_more_set to at x (omega (arith, room))))
+        grind (arith, common_steps) in
+        replaced_more 1 (omega arith) (cc (mod-eq_of_lt less))
+        (cc (take_more_set to at x (omega arith)))
 
 -- ---- the rest of a series
 
@@ -305,7 +297,6 @@ module _ (end : ℕ) (delims : List (Option ℕ)) where
     arith,
     common_steps,
     row_next,
-    length-append,
     row_byte,
     row_rest_on (number + 1) bytes more some,
     row_rest_on number bytes more some,
@@ -314,7 +305,7 @@ module _ (end : ℕ) (delims : List (Option ℕ)) where
   -- Only the index of the delimiter matters.
   row_rest_mod : (m n : ℕ) → m % length delims ≡ n % length delims → (bytes : List ℕ)
       → row_rest end delims m bytes ≡ row_rest end delims n bytes
-  row_rest_mod m n same bytes = ap (λ (l : List ℕ). l ++ end ∷ []) (joined_mod m n same (lines end bytes))
+  row_rest_mod m n same bytes = grind (arith, common_steps, joined_mod)
     where
       joined_mod : (m n : ℕ) → m % length delims ≡ n % length delims → (ls : List (List ℕ))
           → join_with_cycle delims m ls ≡ join_with_cycle delims n ls
@@ -325,57 +316,6 @@ module _ (end : ℕ) (delims : List (Option ℕ)) where
           let next = sym (mod-add-mod m len 1) ∙ ap (λ k. (k + 1) % len) same ∙ mod-add-mod n len 1 in
           λ i. x ++ option_to_list (slice_index_or delims (same i) None) ++ joined_mod (m + 1) (n + 1) next (y ∷ ls) i
 
-  -- Two pieces were copied, and at least one byte follows.
-  pub copied_on : (index : ℕ) (held bytes more : List ℕ) {first second : ℕ} {before after : List ℕ} → 0 < length more
-      → before ≡ with_replacements end (delimiter delims) index held
-      → first ≡ (index + count_by (is_byte end) held) % length delims
-      → after ≡ before ++ with_replacements end (delimiter delims) first bytes
-      → second ≡ (first + count_by (is_byte end) bytes) % length delims → second < length delims → first < length delims
-      → row_rest end delims index (held ++ (bytes ++ more)) ≡ after ++ row_rest end delims second more
-  copied_on index held bytes more {first} {second} {before} some one at two after low less =
-      cc (
-        row_rest_on index held (bytes ++ more) (omega (arith, length-append bytes more)),
-        row_rest_mod _ first (sym at ∙ sym (mod-eq_of_lt less)) (bytes ++ more),
-        row_rest_on first bytes more some,
-        row_rest_mod _ second (sym after ∙ sym (mod-eq_of_lt low)) more,
-        append_assoc before (with_replacements end (delimiter delims) first bytes) (row_rest end delims second more),
-      )
-
-  -- A line and its delimiter were copied.
-  pub next_piece : 0 < length delims → (index : ℕ) {next at : ℕ} (rest before : List ℕ) {line text all : List ℕ}
-      {count : ℕ} → IsFirstByte (is_byte end) rest (Some at) → next ≡ (index + 1) % length delims
-      → line ≡ before ++ take at rest → text ≡ line ++ delimiter delims index
-      → before ++ with_replacements end (delimiter delims) index rest ≡ all
-      → (index + count_by (is_byte end) rest) % length delims ≡ count
-      → (text ++ with_replacements end (delimiter delims) next (drop (at + 1) rest) ≡ all)
-      × ((next + count_by (is_byte end) (drop (at + 1) rest)) % length delims ≡ count)
-  next_piece some index {next} {at} rest before first next_is line_is text_is all_is count_is =
-      let len = length delims in
-      let all_of = with_replacements end (delimiter delims) in
-      let head = take at rest in
-      let more = drop (at + 1) rest in
-      let split = split_of end rest at first in
-      let free = line_before_terminator end rest at first in
-      let same : next % len ≡ (index + 1) % len = rw next_is (mod-eq_of_lt (mod-lt (index + 1) some)) in
-      let count : index + count_by (is_byte end) rest ≡ index + 1 + count_by (is_byte end) more = omega (
-        arith,
-        ap (count_by (is_byte end)) split,
-        sum_by-append (λ b. cond (is_byte end b) 1 0) head (end ∷ more),
-        counted end end more (byte_eq end),
-        none_counted end [] head free,
-      ) in (
-        rw (
-          text_is,
-          line_is,
-          replaced_mod end (λ k. option_to_list (slice_index_or delims k None)) len next (index + 1)
-              same more,
-        ) (simp append_assoc)
-            ∙ ap (◌++◌ before) (sym (ap (all_of index) split
-            ∙ replaced_line end (delimiter delims) index head more free)) ∙ all_is,
-        sym (mod-add-mod next len _) ∙ ap (λ k. (k + count_by (is_byte end) more) % len) same
-            ∙ mod-add-mod (index + 1) len _ ∙ ap (λ k. k % len) (sym count) ∙ count_is,
-      )
-
   joined_begins : (number : ℕ) (xs ys : List (List ℕ)) → IsPrefix (join_with_cycle delims number xs)
       (join_with_cycle delims number (xs ++ ys))
   joined_begins number [] ys = record { rest = join_with_cycle delims number ys; is = refl }
@@ -383,26 +323,67 @@ module _ (end : ℕ) (delims : List (Option ℕ)) where
   joined_begins number (x ∷ []) (y ∷ ys) = grind (arith, common_steps)
   joined_begins number (x ∷ z ∷ xs) ys = grind (arith, common_steps, joined_begins (number + 1) (z ∷ xs) ys)
 
--- The output for the received bytes begins with their complete lines.
-pub serial_is_decided : (job : Paste) (given pushed : List ℕ) (index : ℕ) (held : Bool)
-    → row_rest job.terminator job.delimiters 0 (given ++ [])
-    ≡ pushed ++ row_rest job.terminator job.delimiters index (cond held (job.terminator ∷ []) [])
-    → IsPrefix (paste_serial_decided job (record { bytes = given; eof = false })) pushed
-serial_is_decided job given pushed index held on =
-    let end = job.terminator in
-    let join = join_with_cycle job.delimiters 0 in
-    let p = line_split end given in
-    let ls = complete_lines end given in
-    let all : lines end given ≡ ls ++ lines end p.piece = ap (lines end) p.is
-    ∙ lines_of_unlines end ls p.piece p.whole in
-    let pushed_is : join (lines end given) ≡ pushed = append_cancel_right (join (lines end given)) pushed (end ∷ [])
-    (cc (append-nil given, row_end held)) in
-    let b = joined_begins end job.delimiters 0 ls (lines end p.piece) in record {
-      rest = b.rest;
-      is = cc (append-nil (join ls));
+-- Two pieces were copied.
+pub copied_more : {format : SerialFormat} {index next last : ℕ} {xs ys before middle after : List ℕ}
+    → CopyCellsPost format index xs before next middle → CopyCellsPost format next ys middle last after
+    → CopyCellsPost format index (xs ++ ys) before last after
+copied_more {format} {index} {next} {xs = xs} {ys} {before} p q =
+    let end = format.terminator in
+    let delims = format.delims.now in
+    let len = length delims in
+    let number = index + count_by (is_byte end) xs in
+    let same : next % len ≡ number % len = rw p.later (mod-eq_of_lt (mod-lt number format.some)) in
+    let all : number + count_by (is_byte end) ys ≡ index + count_by (is_byte end) (xs ++ ys) =
+    grind (arith, common_steps) in
+    record {
+      is = cc (
+        p.is,
+        q.is,
+        replaced-append end (delimiter delims) index xs ys,
+        replaced_mod end (λ k. option_to_list (slice_index_or delims k None)) len next number same ys,
+        append_assoc before (with_replacements end (delimiter delims) index xs)
+            (with_replacements end (delimiter delims) number ys),
+      );
+      later = grind (arith, common_steps, mod-add-mod);
     }
+
+-- A line and its delimiter were copied.
+pub line_copied : {format : SerialFormat} (index : ℕ) {next at : ℕ} (rest before : List ℕ) {line text : List ℕ}
+    → IsFirstByte (is_byte format.terminator) rest (Some at) → next ≡ (index + 1) % length format.delims.now
+    → line ≡ before ++ take at rest → text ≡ line ++ delimiter format.delims.now index
+    → CopyCellsPost format index (take (at + 1) rest) before next text
+line_copied {format} index {next} {at} rest before first next_is line_is text_is =
+    let end = format.terminator in
+    let head = take at rest in
+    let free = line_before_terminator end rest at first in
+    let one : count_by (is_byte end) (head ++ end ∷ []) ≡ 1 =
+    grind (arith, common_steps, sum_by-append, counted, none_counted) in
+    rw (take_with_terminator end rest at first) (grind (arith, common_steps, replaced_line, append-nil, append_assoc))
+
+-- A piece was copied, and at least one byte follows.
+pub copied_on : {format : SerialFormat} {index : ℕ} {bytes before : List ℕ} {next : ℕ} {after : List ℕ} (more : List ℕ)
+    → 0 < length more → CopyCellsPost format index bytes before next after
+    → before ++ row_rest format.terminator format.delims.now index (bytes ++ more)
+    ≡ after ++ row_rest format.terminator format.delims.now next more
+copied_on more some p =
+    grind (arith, common_steps, mod-eq_of_lt, mod-lt, row_rest_on, row_rest_mod, append_assoc)
+
+-- The output for the received bytes begins with their complete lines.
+pub serial_is_decided : (job : Paste) (format now : SerialFormat) → format.terminator ≡ job.terminator
+    → format.delims.now ≡ job.delimiters → now ≡ format → (given pushed : List ℕ) (cell : ColumnPos)
+    → row_rest format.terminator format.delims.now 0 (given ++ []) ≡ pushed ++ serial_rest now cell []
+    → IsPrefix (paste_serial_decided job (record { bytes = given; eof = false })) pushed
+serial_is_decided job format now ends are same given pushed cell on =
+    let end = format.terminator in
+    let delims = format.delims.now in
+    let ls = complete_lines end given in
+    let text = join_with_cycle delims 0 (lines end (given ++ [])) in
+    let is : text ≡ pushed = append_cancel_right text pushed (end ∷ [])
+    (grind (arith, common_steps)) in
+    let b = joined_begins end delims 0 ls (lines end ((line_split end given).piece ++ [])) in
+    rw (← ends, ← are) (grind (arith, common_steps, complete_prefix, append-nil))
   where
-    row_end : (t : Bool)
-        → row_rest job.terminator job.delimiters index (cond t (job.terminator ∷ []) []) ≡ job.terminator ∷ []
-    row_end true = rw (byte_eq job.terminator) refl
+    row_end : (t : Bool) → row_rest format.terminator format.delims.now cell.index
+        (cond t (format.terminator ∷ []) []) ≡ format.terminator ∷ []
+    row_end true = rw (byte_eq format.terminator) refl
     row_end false = refl

@@ -5,23 +5,21 @@
 -- since each column takes one line. Its fields, each with the byte after it, are the joined fields and the terminator.
 -- The slots hold all bytes of the store, so the total is at most the sum of the columns' bounds.
 use Rattle.ptflow.proofs
-use proofs.Common.{Bool, Err, List, None, Ok, [], ap, arith, cond, drop, false, get_or, get_or-drop, get_or-take, inl}
-use proofs.Common.{inr, length, length-append, length-drop, map, refl, set, subst, suc, sym, take, take-append-drop}
-use proofs.Common.{true, zero, ℕ, ⊎_elim, ◌*◌, ◌++◌, ◌+◌, ◌<◌, ◌==◌, ◌||◌, ◌∙◌, ◌∷◌, ◌≡◌, ◌≢◌, ◌≤◌, ◌⊎◌, cases_eq}
-use proofs.Common.{eq-eqb, ne_eqb, nat_tests, common_steps, append-nil, drop-set-lt, drop_all, ext_get_or}
-use proofs.Common.{get_or-set_other, get_or-set_same, get_or_append_left, get_or_at, get_or_default, get_or_past}
-use proofs.Common.{get_or_push, length-set, length-take-le, take-append-le, take-take, take_all, get_or-le-sum_by}
-use proofs.Common.{sum_by-append, sum_by-cons, sum_by-set, sum_by, top, advance_trans, lines_of_unlines}
-use proofs.Common.{unlines-append, FillReadErr, FillPost, FillLine, AdvanceOk, IsDone, IsSound, Reader, ReaderAdvance}
-use proofs.Common.{budget, no_reader, reader_at, Slots, line, total_bytes, with_line, AddedSlots, AreLines, max_length}
-use proofs.Common.{unlines, columns, join_with_cycle, rows, uses_of, SetTerminatorsPost, FillCellPost}
-use proofs.Common.{SlotsBound, SlotsKept, RowAmid, RowFailed, RowFilled, RowShape, BegunText, CellsFilled, CellsTaken}
-use proofs.Common.{after_cell, cells_text, slots_text, AreReceivedLines, LinesTaken, BufferedRowsPre, AreFirstRows}
-use proofs.Common.{RowsTaken, CopyColumnsPost, CopyRowsPost, FlowFault, Memory, Read, Write, rules}
-use proofs.Passes.Exits.{lines_none, lines_are_given, lines_more, eof_gives_nothing, stays_at_eof}
-use Rattle.std.specs.Prelude.{slice_index_or}
-use proofs.PasteLemmas.Grid.{Column, for_each_cell_unique, uses_before, grid_step, grid_none, after_row, rows-append}
-use proofs.PasteLemmas.Grid.{rows_text-append, uses_here, uses_other, uses_before_lt}
+use proofs.Common.{slice_index_or, Bool, Err, List, None, Ok, [], ap, arith, cond, drop, false, get_or, get_or-take}
+use proofs.Common.{inl, length, length-append, map, refl, set, suc, take, take-append-drop, true, zero, ℕ, ◌*◌, ◌++◌}
+use proofs.Common.{◌+◌, ◌<◌, ◌==◌, ◌||◌, ◌∙◌, ◌∷◌, ◌≡◌, ◌≢◌, ◌≤◌, ◌⊎◌, cases_eq, eq-eqb, ne_eqb, nat_tests}
+use proofs.Common.{common_steps, append-nil, drop-set-lt, ext_get_or, get_or-set_other, get_or-set_same}
+use proofs.Common.{get_or_append_left, get_or_default, get_or_push, length-set, length-take-le, take-take, take_all}
+use proofs.Common.{sum_by-append, sum_by-cons, sum_by, top, advance_trans, lines_of_unlines, unlines-append}
+use proofs.Common.{FillReadErr, FillPost, FillLine, AdvanceOk, IsDone, IsSound, Reader, ReaderAdvance, budget}
+use proofs.Common.{no_reader, reader_at, Slots, line, total_bytes, with_line, AddedSlots, AreLines, max_length, unlines}
+use proofs.Common.{columns, join_with_cycle, rows, uses_of, SetTerminatorsPost, FillCellPost, SlotsBound, SlotsKept}
+use proofs.Common.{RowAmid, RowFailed, RowFilled, RowShape, BegunText, CellsFilled, CellsTaken, after_cell, cells_text}
+use proofs.Common.{slots_text, AreReceivedLines, LinesTaken, BufferedRowsPre, AreFirstRows, RowsTaken, CopyColumnsPost}
+use proofs.Common.{CopyRowsPost, FlowFault, Memory, Read, Write, rules}
+use proofs.Passes.Exits.{lines_none, lines_are_given, lines_more, eof_gives_nothing}
+use proofs.PasteLemmas.Grid.{Column, for_each_cell_unique, grid_step, grid_none, after_row, rows-append, uses_before_lt}
+use proofs.PasteLemmas.Grid.{lines_of_input, uses_more, update_here}
 use Rattle.std.proofs.Math.Bool.{or-true, or-false}
 
 AreLines-append : (end : ℕ) (xs ys : List (List ℕ)) → AreLines end xs → AreLines end ys → AreLines end (xs ++ ys)
@@ -39,26 +37,18 @@ none_received {end} {b} {c} {bytes} {ls} done reads k =
 pub lines_trans : {end : ℕ} {b c : Reader} {bs cs : List ℕ} {xs ys : List (List ℕ)} → AreReceivedLines end b bs xs
     → ReaderAdvance b c cs → AreReceivedLines end c cs ys
     → AreReceivedLines end c (bs ++ cs) (xs ++ ys)
-lines_trans = search (
-  rules,
-  unlines-append,
-  AreLines-append,
-  lines_of_unlines,
-  eof_gives_nothing,
-  none_received,
-  stays_at_eof,
-)
+lines_trans = search (rules, unlines-append, AreLines-append, lines_of_unlines, eof_gives_nothing, none_received)
 
 -- At most the requested number of lines is taken.
 pub taken_at_most : {end : ℕ} {b c : Reader} {n : ℕ} {ys : List (List ℕ)} → LinesTaken end b c n ys → length ys ≤ n
-taken_at_most t = grind (arith, t.enough)
+taken_at_most t = grind arith
 
 -- Nothing is taken from a reader at the end of its input.
 pub none_at_eof : {end : ℕ} {b c : Reader} {n : ℕ} {ys : List (List ℕ)} → LinesTaken end b c n ys → IsDone b → ys ≡ []
 none_at_eof t done = none_received done t.reads t.came
 
 pub nothing_taken : {end : ℕ} {r : Reader} {n : ℕ} → n ≡ 0 → LinesTaken end r r n []
-nothing_taken = grind (arith, lines_none)
+nothing_taken = grind arith
 
 abbrev pub taken_more : {end : ℕ} {a b c : Reader} {k m n : ℕ} {xs ys : List (List ℕ)} → k ≡ m + n
     → LinesTaken end a b m xs → LinesTaken end b c n ys → LinesTaken end a c k (xs ++ ys)
@@ -69,9 +59,9 @@ taken_more {end} {a} {b} {c} {k} {m} {n} {xs} {ys} all p q = record {
   fault = q.fault ∙ p.fault;
   short = λ h. q.short (p.short h);
   buffered = λ h. q.buffered (p.buffered h);
-  none = λ h. q.none (omega arith) ∙ p.none (omega arith);
+  none = search rules;
   came = lines_trans p.came q.reads q.came;
-  enough = grind (arith, p.enough, q.enough, none_at_eof, stays_at_eof, length-append);
+  enough = grind (arith, common_steps);
 }
 
 -- Lines were requested: so many were taken, or fewer at the end of the input.
@@ -90,15 +80,14 @@ taken_line {end} {b} {c} {before} {after} {slot} e same clean sound = taken_by e
 -- No line was left.
 pub taken_eof : {end : ℕ} {b c : Reader} → AdvanceOk b c [] → IsDone c → b.fault ≡ None → IsSound c
     → LinesTaken end b c 1 []
-taken_eof advance_ok done clean sound =
-    taken_by advance_ok clean sound (lines_none _ _) (inr (done, omega arith)) (λ none. cc)
+taken_eof advance_ok done clean sound = search rules
 
 -- ---- the text of a row, column by column
 
 module _ (row : RowShape) where
   pub cells_text-append : (c : ℕ) (xs ys : List (List ℕ))
       → cells_text row c (xs ++ ys) ≡ cells_text row c xs ++ cells_text row (c + length xs) ys
-  cells_text-append c [] ys = let none : c ≡ c + 0 = omega arith in ap (λ (k : ℕ). cells_text row k ys) none
+  cells_text-append c [] ys = search rules
   cells_text-append c (x ∷ xs) ys = grind (arith, common_steps, cells_text-append (c + 1) xs ys)
 
   -- One more field.
@@ -110,7 +99,7 @@ module _ (row : RowShape) where
   pub row_text : (c : ℕ) (xs : List (List ℕ)) → c + length xs ≡ length row.cells → 0 < length xs
       → cells_text row c xs ≡ join_with_cycle row.delims c xs ++ row.terminator ∷ []
   row_text c [] all some = absurd (omega arith)
-  row_text c (x ∷ []) all some = search (rules, eq-eqb)
+  row_text c (x ∷ []) all some = search rules
   row_text c (x ∷ y ∷ more) all some = grind (
     arith,
     common_steps,
@@ -118,12 +107,6 @@ module _ (row : RowShape) where
     row_text (c + 1) (y ∷ more) (omega arith)
         (omega arith),
   )
-
-  -- The text of a filled row.
-  pub filled_row_text : {old new : List Reader} {fields : List (List ℕ)}
-      → CellsFilled row (length row.cells) old new fields true
-      → cells_text row 0 fields ≡ unlines row.terminator (map (join_with_cycle row.delims 0) (fields ∷ []))
-  filled_row_text = search (rules, row_text)
 
 -- ---- rows that were taken
 
@@ -135,7 +118,7 @@ module _ {row : RowShape} where
       → rows (columns row.cells (λ input. ls input ++ more input)) ≡ taken_rows ++ rows (columns row.cells more)
   rows_on {ls = ls} {taken_rows} t more may = cc (
     rows-append row.cells (length taken_rows) ls more
-        (λ input some. grind (arith, may input some, (t.lines_taken input).enough)),
+        (λ input some. grind (arith, may input some)),
     t.are,
   )
 
@@ -175,24 +158,19 @@ module _ {row : RowShape} where
     taken_rows = p.taken_rows ++ q.taken_rows;
     first_rows = first_rows_trans p.first_rows q.first_rows;
     least = omega arith;
-    is = (λ i. p.is i ++ q.is i) ∙ sym (rows_text-append row.terminator row.delims p.taken_rows q.taken_rows);
+    is = grind (arith, common_steps);
   }
 
 module _ {row : RowShape} {old new : List Reader} {fields : List (List ℕ)}
-    (r : CellsFilled row (length row.cells) old new fields true) where
+    {any_line : Bool} (r : CellsFilled row (length row.cells) old new fields any_line) (some : any_line ≡ true) where
   lines_taken_by_row : (p : ℕ)
       → LinesTaken row.terminator (reader_at old p) (reader_at new p) (1 * uses_of row.cells p) (r.input_lines p)
-  lines_taken_by_row p =
-      let all : uses_of (take (length row.cells) row.cells) p ≡ 1 * uses_of row.cells p = omega (
-        arith,
-        ap (λ l. uses_of l p) (take_all (length row.cells) row.cells (omega arith)),
-      ) in
-      rw all at (r.consumed.lines_taken p)
+  lines_taken_by_row p = grind (arith, common_steps)
 
   -- A filled row in which some column has a line is the next row.
   pub filled_row_is_first : AreFirstRows row old new r.input_lines (fields ∷ [])
   filled_row_is_first =
-      let (c, low, first) = r.some refl in
+      let (c, low, first) = r.some some in
       let field = λ (c p : ℕ). slice_index_or (r.input_lines p) (uses_of (take c row.cells) p) [] in
       let row_is =
       for_each_cell_unique field row.cells fields [] r.consumed.width r.consumed.fields_taken in
@@ -201,11 +179,14 @@ module _ {row : RowShape} {old new : List Reader} {fields : List (List ℕ)}
         are = cc (
           grid_step row.cells r.input_lines c low (omega arith),
           grid_none row.cells (after_row row.cells r.input_lines)
-              (λ p some. drop_all (uses_of row.cells p) (r.input_lines p)
-              (omega (arith, taken_at_most (lines_taken_by_row p)))),
+              (grind (arith, common_steps)),
         );
         count = r.consumed.count;
       }
+
+  pub filled_row_text : cells_text row 0 fields
+      ≡ unlines row.terminator (map (join_with_cycle row.delims 0) (fields ∷ []))
+  filled_row_text = search (rules, row_text)
 
   pub row_taken : RowsTaken row old new (cells_text row 0 fields)
   row_taken = record {
@@ -213,7 +194,7 @@ module _ {row : RowShape} {old new : List Reader} {fields : List (List ℕ)}
     taken_rows = fields ∷ [];
     first_rows = filled_row_is_first;
     least = r.least;
-    is = filled_row_text row r;
+    is = filled_row_text;
   }
 
 -- ---- the slots of a row
@@ -241,7 +222,7 @@ pub slots_bound_start : {cells : List ℕ} {top : ℕ → ℕ} {before store : S
 slots_bound_start {cells} {store = store} adds denied empty peak = record {
   denied = denied;
   adds = adds;
-  short = λ c low. omega (arith, get_or-le-sum_by length store.lines c [] (omega arith));
+  short = grind (arith, common_steps);
   others = let n = length cells in omega (
     arith,
     ap total_bytes (take-append-drop n store.lines),
@@ -256,11 +237,7 @@ pub slots_bound_line : {cells : List ℕ} {top : ℕ → ℕ} {before store : Sl
     → length bytes ≤ top (get_or cells column 0) → SlotsBound cells top before (with_line store column bytes)
 slots_bound_line {cells} {top} {before} {store} k column bytes within fits = record {
   denied = k.denied;
-  adds = record {
-    least = omega (arith, size);
-    most = omega (arith, size);
-    all = λ allowed. size ∙ k.adds.all k.denied;
-  };
+  adds = search rules;
   short = short;
   others = others;
   peak = omega (arith, cells_total cells top lines short others);
@@ -276,7 +253,6 @@ slots_bound_line {cells} {top} {before} {store} k column bytes within fits = rec
     short c low = grind (
       arith,
       k.short c low,
-      k.adds.all k.denied,
       get_or-set_same store.lines column bytes [],
       get_or-set_other store.lines column c bytes [],
     )
@@ -292,13 +268,13 @@ line_le_max_length (line ∷ ls) zero = omega arith
 line_le_max_length (line ∷ ls) (suc j) = omega (arith, line_le_max_length ls j)
 
 pub slots_kept_start : {cells : List ℕ} {fields : List (List ℕ)} {store : Slots} → SlotsKept cells fields store store
-slots_kept_start = record { same = refl; kept = λ first top k high. k }
+slots_kept_start = search rules
 
 module _ {cells : List ℕ} {fields : List (List ℕ)} {before store : Slots} (s : SlotsKept cells fields before store)
   where
     -- More fields that are in no slot.
     pub slots_kept_more : (more : List (List ℕ)) → SlotsKept cells (fields ++ more) before store
-    slots_kept_more more = grind (arith, common_steps, length-append)
+    slots_kept_more more = grind (arith, common_steps)
 
     -- One more field, which is in the slot of its column.
     pub slots_kept_line : {n : ℕ} (field : List ℕ) → length fields ≡ n → n < length cells
@@ -306,11 +282,7 @@ module _ {cells : List ℕ} {fields : List (List ℕ)} {before store : Slots} (s
     slots_kept_line {n} field width low = record {
       same = length-set _ n field ∙ s.same;
       kept = λ first top k high. slots_bound_line ((slots_kept_more (field ∷ [])).kept first top k high) n field low
-          (omega (
-            arith,
-            high n (omega (arith, length-append fields (field ∷ []))),
-            ap length (get_or_push fields field [] n (omega arith)),
-          ));
+          (grind (arith, common_steps));
     }
 
 -- The bound on the slots, by the lines that the readers gave.
@@ -330,7 +302,7 @@ at_same readers input r low = get_or-set_same readers input r no_reader low
 
 pub at_other : (readers : List Reader) (input other : ℕ) (r : Reader) → other ≢ input
     → reader_at (set readers input r) other ≡ reader_at readers other
-at_other readers input other r differ = get_or-set_other readers input other r no_reader differ
+at_other readers input other r differ = search rules
 
 -- A fact of each reader, after one of them was set.
 pub each_reader : (P : ℕ → Reader → Type 0) (readers : List Reader) {input : ℕ} {r : Reader} → input < length readers
@@ -370,29 +342,16 @@ pub set_terminator_more : (end : ℕ) (cells : List ℕ) (i : ℕ) (old now : Li
     → get_or cells i 0 < length now → SetTerminatorsPost end (take i cells) old now
     → r ≡ record (reader_at now (get_or cells i 0)) { terminator = end } → IsSound r
     → SetTerminatorsPost end (take (i + 1) cells) old (set now (get_or cells i 0) r)
-set_terminator_more = grind (arith, common_steps, each_reader, uses_here, uses_other)
+set_terminator_more = grind (arith, common_steps, nat_tests, uses_more)
 
 -- ---- the lines of a row
 
--- The lines taken from each reader, with `ls` added for one reader.
-abbrev pub lines_at : ℕ → List (List ℕ) → (ℕ → List (List ℕ)) → ℕ → List (List ℕ)
-lines_at input ls input_lines q = cond (q == input) (input_lines q ++ ls) (input_lines q)
-
-module _ (input : ℕ) (ls : List (List ℕ)) (input_lines : ℕ → List (List ℕ)) (q : ℕ) where
-  lines_at_here : q ≡ input → lines_at input ls input_lines q ≡ input_lines q ++ ls
-  lines_at_here same = rw (eq-eqb q input same) refl
-
-  lines_at_other : q ≢ input → lines_at input ls input_lines q ≡ input_lines q
-  lines_at_other differ = rw (ne_eqb q input differ) refl
-
-  -- Adding no line changes nothing.
-  lines_at_none : ls ≡ [] → lines_at input ls input_lines q ≡ input_lines q
-  lines_at_none none = grind (arith, nat_tests, append-nil (input_lines q))
-
--- The line of a column.
-abbrev cell_of : List ℕ → (ℕ → List (List ℕ)) → ℕ → List ℕ
-cell_of cells input_lines c = slice_index_or (input_lines (get_or cells c 0)) (uses_of (take c cells)
-    (get_or cells c 0)) []
+-- Lines were taken from one reader, and none from the others.
+pub taken_from_one : {end : ℕ} (now : List Reader) {input : ℕ} {r : Reader} {ls : List (List ℕ)} (most : ℕ → ℕ)
+    → input < length now → LinesTaken end (reader_at now input) r (most input) ls
+    → ((q : ℕ) → q ≢ input → most q ≡ 0) → (q : ℕ)
+    → LinesTaken end (reader_at now q) (reader_at (set now input r) q) (most q) (lines_of_input input ls q)
+taken_from_one {end} now {input} {ls = ls} most within t none = search rules
 
 module _ {row : RowShape} {n : ℕ} {old now : List Reader} {fields : List (List ℕ)} {input_lines : ℕ → List (List ℕ)}
     (t : CellsTaken row n old now fields input_lines) (low : n < length row.cells)
@@ -406,70 +365,37 @@ module _ {row : RowShape} {n : ℕ} {old now : List Reader} {fields : List (List
   abbrev input : ℕ
   input = get_or cells n 0
 
-  lines_taken_next : (q : ℕ) → LinesTaken row.terminator (reader_at old q) (reader_at (set now input r) q)
-      (uses_of (take (n + 1) cells) q) (lines_at input ls input_lines q)
-  lines_taken_next = each_reader (λ q x. LinesTaken row.terminator (reader_at old q) x
-      (uses_of (take (n + 1) cells) q) (lines_at input ls input_lines q)) now within
-      (rw (lines_at_here input ls input_lines input refl)
-      (taken_more (uses_here cells n input low refl) (t.lines_taken input) lines_taken))
-      (λ q differ. rw (lines_at_other input ls input_lines q differ, uses_other cells n q low (λ e. differ (sym e)))
-      (t.lines_taken q))
+  abbrev more_lines : ℕ → List (List ℕ)
+  more_lines = lines_of_input input ls
+
+  taken_next : (q : ℕ) → LinesTaken row.terminator (reader_at now q) (reader_at (set now input r) q)
+      (cond (input == q) 1 0) (more_lines q)
+  taken_next = taken_from_one now (λ q. cond (input == q) 1 0) within (rw (eq-eqb input input refl) lines_taken)
+      (grind (arith, common_steps))
 
   -- The line of a column before this one does not change.
-  earlier_cell : (c : ℕ) → c < n → cell_of cells (lines_at input ls input_lines) c ≡ cell_of cells input_lines c
-  earlier_cell c less = ⊎_elim
-      (λ all. ⊎_elim
-      (λ same.
-      let front : take (c + 1) (take n cells) ≡ take (c + 1) cells = take-take (c + 1) n cells (omega arith) in
-      let under : j < length (input_lines p) =
-      omega (
-        arith,
-        uses_here cells c p (omega arith) refl,
-        uses_before (take n cells) (c + 1) p,
-        ap (λ (l : List ℕ). uses_of l p) front,
-      ) in
-      cc (lines_at_here input ls input_lines p same, get_or_append_left (input_lines p) ls [] j under))
-      (λ differ. cc (lines_at_other input ls input_lines p differ))
-      (cases_eq p input))
-      (λ (done, few). ⊎_elim
-      (λ same. cc (lines_at_none input ls input_lines p (none_at_eof lines_taken (rw same at done))))
-      (λ differ. cc (lines_at_other input ls input_lines p differ))
-      (cases_eq p input))
-      (t.lines_taken p).enough
-    where
-      p : ℕ
-      p = get_or cells c 0
-
-      j : ℕ
-      j = uses_of (take c cells) p
+  earlier_cell : (c : ℕ) → c < n → let p = get_or cells c 0 in let j = uses_of (take c cells) p in
+      slice_index_or (input_lines p ++ more_lines p) j [] ≡ slice_index_or (input_lines p) j []
+  earlier_cell c less =
+      let p = get_or cells c 0 in
+      let below = rw (take-take c n cells (omega arith), get_or-take n cells c 0 less) at
+      (uses_before_lt (take n cells) c (omega (arith, length-take-le n cells (omega arith)))) in
+      let none = none_at_eof (taken_next p) in
+      grind (arith, append-nil (input_lines p), get_or_append_left)
 
   cells_taken_more : CellsTaken row (n + 1) old (set now input r) (fields ++ field ∷ [])
-      (lines_at input ls input_lines)
+      (λ q. input_lines q ++ more_lines q)
   cells_taken_more = record {
-    lines_taken = lines_taken_next;
+    lines_taken = λ q. taken_more (uses_more cells n q low) (t.lines_taken q) (taken_next q);
     width = omega (arith, length-append fields (field ∷ []));
-    fields_taken = λ c less. grind (
-      arith,
-      cases_eq c n,
-      get_or_push fields field [] n,
-      t.fields_taken c,
-      lines_at_here input ls input_lines input refl,
-      get_or_append_left fields (field ∷ []) [] c,
-      earlier_cell c,
-    );
+    fields_taken = search (rules, cases_eq, get_or_push, update_here, get_or_append_left, earlier_cell);
     count = length-set now input r ∙ t.count;
   }
 
 pub fill_starts : {row : RowShape} {old : List Reader} → CellsFilled row 0 old old [] false
 fill_starts = record {
   input_lines = λ input. [];
-  consumed = record {
-    lines_taken = λ input. nothing_taken refl;
-    width = refl;
-    fields_taken = λ c low. absurd
-        (omega arith);
-    count = refl;
-  };
+  consumed = search rules;
   some = λ any_line. cc;
   none = λ h input. refl;
   least = omega arith;
@@ -487,8 +413,7 @@ field_in_slot : (end : ℕ) (b r : Reader) (before after : Slots) (slot : ℕ) (
     → (field : List ℕ) × (after ≡ with_line before slot field) × FieldTaken end b r field has
 field_in_slot end b r before after slot true clean same sound e =
     (e.line, e.stored, (taken_line e same clean sound, e.less))
-field_in_slot end b r before after slot false clean same sound (advance_ok, done, kept) =
-    ([], kept, (taken_eof advance_ok done clean sound, refl, omega arith))
+field_in_slot end b r before after slot false clean same sound (advance_ok, done, kept) = search rules
 
 module _ {row : RowShape} {n : ℕ} {old now : List Reader} {fields : List (List ℕ)} {any_line : Bool}
     (f : CellsFilled row n old now fields any_line) {b : Reader} (x : IsNextReader row now n b) where
@@ -497,7 +422,7 @@ module _ {row : RowShape} {n : ℕ} {old now : List Reader} {fields : List (List
 
   module _ (r : Reader) where
     all_budgets : sum_by budget (set now p r) + budget b ≡ sum_by budget now + budget r
-    all_budgets = omega (arith, ap budget x.is_read, sum_by-set budget now p r no_reader x.within)
+    all_budgets = grind (arith, common_steps)
 
     -- The column is filled.
     pub fill_next : (field : List ℕ) (has : Bool) → FieldTaken row.terminator b r field has
@@ -505,38 +430,33 @@ module _ {row : RowShape} {n : ℕ} {old now : List Reader} {fields : List (List
     fill_next field true (t, fewer) =
         let lines_taken = rw x.is_read at t in
         let all : length (f.input_lines p) ≡ uses_of (take n row.cells) p =
-        grind (arith, none_at_eof lines_taken, (f.consumed.lines_taken p).enough) in
+        grind (arith, none_at_eof lines_taken) in
+        let here = update_here p (field ∷ []) (λ q. []) p refl in
         let less : sum_by budget (set now p r) < sum_by budget old = omega (arith, all_budgets) in
         rw or-true (record {
-          input_lines = lines_at p (field ∷ []) f.input_lines;
+          input_lines = λ q. f.input_lines q ++ lines_of_input p (field ∷ []) q;
           consumed = cells_taken_more f.consumed x.low x.within lines_taken
-              (sym (get_or_at (f.input_lines p) field [] [] (uses_of (take n row.cells) p) all));
+              (grind (arith, common_steps));
           some = λ h. (
             n,
             omega arith,
-            omega (
-              arith,
-              ap length (lines_at_here p (field ∷ []) f.input_lines p refl),
-              length-append (f.input_lines p) (field ∷ []),
-            ),
+            grind (arith, common_steps),
           );
           none = λ h. cc;
           least = omega arith;
           less = λ h. less;
         })
-    fill_next field false (t, empty, fewer) = rw (or-false, empty) (record {
-      input_lines = lines_at p [] f.input_lines;
-      consumed = cells_taken_more f.consumed x.low x.within (rw x.is_read at t) (cc (
-        append-nil (f.input_lines p),
-        get_or_past (f.input_lines p) (uses_of (take n row.cells) p) [] (taken_at_most (f.consumed.lines_taken p)),
-      ));
-      some = λ h.
-          let (c, below, one) = f.some h in
-          (c, omega arith, cc (lines_at_none p [] f.input_lines (get_or row.cells c 0) refl));
-      none = λ h q. lines_at_none p [] f.input_lines q refl ∙ f.none h q;
-      least = omega (arith, all_budgets);
-      less = λ h. omega (arith, f.less h, all_budgets);
-    })
+    fill_next field false (t, empty, fewer) =
+        let same : (q : ℕ) → f.input_lines q ++ lines_of_input p [] q ≡ f.input_lines q = λ q.
+        grind (arith, append-nil (f.input_lines q)) in
+        rw or-false (record {
+          input_lines = λ q. f.input_lines q ++ lines_of_input p [] q;
+          consumed = cells_taken_more f.consumed x.low x.within (rw x.is_read at t) (grind (arith, common_steps));
+          some = search rules;
+          none = λ h q. same q ∙ f.none h q;
+          least = omega (arith, all_budgets);
+          less = λ h. omega (arith, all_budgets);
+        })
 
 -- The row after the field in the slot of column n, and the byte after it, were copied.
 abbrev pub with_slot : RowShape → ℕ → Slots → BegunText → BegunText
@@ -546,15 +466,7 @@ module _ {row : RowShape} where
   -- All fields were copied from the buffers, and then the row was moved.
   pub amid_starts : {old : List Reader} {copied : List ℕ} {begun moved : BegunText} {store : Slots}
       (p : CopyRowsPost row old copied begun) → moved ≡ begun → RowAmid row moved.count p.mid store moved store
-  amid_starts {begun = begun} {store = store} p same =
-      subst (λ m. RowAmid row m.count p.mid store m store) (sym same) (record {
-        fields = p.fields;
-        filled = p.filled;
-        within = omega arith;
-        is = cc (take_all begun.count p.fields (omega (arith, p.filled.consumed.width)));
-        held = λ c over under. absurd (omega arith);
-        slots = slots_kept_start;
-      })
+  amid_starts {begun = begun} {store = store} p same = grind (arith, common_steps)
 
   module _ {n : ℕ} {from : List Reader} {first store : Slots} {now : BegunText} (a : RowAmid row n from first now store)
       {b : Reader} (x : IsNextReader row now.readers n b) where
@@ -570,16 +482,8 @@ module _ {row : RowShape} where
           fields = a.fields ++ field ∷ [];
           filled = fill_next a.filled x r field has taken;
           within = omega arith;
-          is = cc (take-append-le now.count a.fields (field ∷ []) (omega arith));
-          held = λ c over under. grind (
-            arith,
-            a.held c,
-            cases_eq c n,
-            get_or-set_same store.lines n field [] room,
-            get_or-set_other store.lines n c field [],
-            get_or_push a.fields field [] n,
-            get_or_append_left a.fields (field ∷ []) [] c,
-          );
+          is = grind (arith, common_steps);
+          held = grind (arith, common_steps);
           slots = slots_kept_line a.slots field width x.low;
         })
 
@@ -593,10 +497,9 @@ module _ {row : RowShape} where
       begun = now;
       buffered = store;
       amid = a;
-      failure = rw (at_same now.readers _ r x.within) (rw x.is_read at failure);
-      others = λ q differ. at_other now.readers _ q r differ;
-      few = λ buffered. rw (at_same now.readers _ r x.within)
-          (few (rw x.is_read ((a.filled.consumed.lines_taken _).buffered buffered)));
+      failure = search rules;
+      others = search rules;
+      few = search rules;
     }
 
     pub amid_failed : (r : Reader) (after : Slots) (into : List ℕ) (e : FlowFault)
@@ -610,7 +513,7 @@ module _ {row : RowShape} where
   amid_copied : {n : ℕ} {from : List Reader} {first store : Slots} {now : BegunText}
       → RowAmid row (n + 1) from first now store → now.count ≡ n
       → RowAmid row (n + 1) from first (with_slot row n store now) store
-  amid_copied = grind (arith, common_steps, cells_text-push, length-take-le)
+  amid_copied = grind (arith, common_steps, cells_text-push)
 
   -- More fields were copied from the buffers.
   amid_columns : {from : List Reader} {first store : Slots} {now next : BegunText}
@@ -622,12 +525,7 @@ module _ {row : RowShape} where
         fields = all;
         filled = p.filled from a.fields a.filled;
         within = omega arith;
-        is = (let here : now.count ≡ 0 + length a.fields =
-            omega arith in cc (
-              take_all now.count a.fields (omega arith),
-              cells_text-append row 0 a.fields p.fields,
-              take_all next.count all (omega (arith, length-append a.fields p.fields)),
-            ));
+        is = search (rules, take_all, cells_text-append, length-append);
         held = λ c over under. absurd (omega arith);
         slots = slots_kept_more a.slots p.fields;
       }
@@ -650,11 +548,8 @@ module _ {row : RowShape} where
       let long = length-take-le k a.fields (omega arith) in
       let size = length-take-le n _ room in
       let same = ext_get_or [] (drop k slots) (drop k a.fields)
-      (omega (arith, length-drop k slots, length-drop k a.fields))
-      (λ i low. get_or-drop k slots i []
-      ∙ get_or-take n _ (k + i) [] (omega (arith, length-drop k slots))
-      ∙ a.held (k + i) (omega arith) (omega (arith, length-drop k slots))
-      ∙ sym (get_or-drop k a.fields i [])) in
+      (grind (arith, common_steps))
+      (grind (arith, common_steps)) in
       let here : k ≡ 0 + length front = omega arith in
       cc (cells_text-append row 0 front (drop k a.fields), take-append-drop k a.fields)
 
@@ -667,4 +562,4 @@ after_fill = grind arith
 pub readable_after : {row : RowShape} {now : List Reader} {n : ℕ} {b : Reader} → IsNextReader row now n b → (r : Reader)
     → BufferedRowsPre row now → (before after : Slots) (slot : ℕ) (has : Bool)
     → FillPost b r before after slot (Ok has) → BufferedRowsPre row (set now (get_or row.cells n 0) r)
-readable_after = search (rules, after_fill, each_reader)
+readable_after = search (rules, after_fill)

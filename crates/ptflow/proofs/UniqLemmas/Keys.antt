@@ -90,8 +90,7 @@ after_none (b ∷ bytes) none = other_here b bytes (none 0 (omega arith))
 
 pub after_first : (line : List ℕ) (r : Option ℕ) → IsFirstByte (is_byte2 32 9) line r
     → after_nonblanks line ≡ drop (unwrap_or r (length line)) line
-after_first line None none =
-    after_none line (λ k lt. none k (omega arith) lt) ∙ sym (drop_all (length line) line (omega arith))
+after_first line None none = grind (arith, common_steps, after_none, drop_all)
 after_first line (Some at) first = grind (arith, after_at)
 
 -- the bytes before an index at which there are no blanks are skipped

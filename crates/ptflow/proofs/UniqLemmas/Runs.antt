@@ -41,8 +41,8 @@ module _ (job : Uniq) where
   first_more {line} {n} l {ls} false e f = record {
     count = n;
     more = runs_from job (run_of l 1) ls;
-    is = ap (chosen l ls line n) e;
-    led = λ x same. cc;
+    is = grind arith;
+    led = grind arith;
   }
 
   first : (line : List ℕ) (n : ℕ) (ls : List (List ℕ)) → First line n ls
@@ -364,9 +364,9 @@ swapped_first store slots is = grind (arith, common_steps)
 
 -- `uniq` is a line tool: the first of two slots may hold the first line of the current run, and the decided output
 -- leaves out that run.
-pub uniq_line_tool : (job : Uniq) (start : CurrentRun) → start.count ≡ 0
-    → IsLineFilter (uniq_tool job) current_run_of (runs_after job) (output_of job) count_of 2 start
-uniq_line_tool job start none = record {
+pub uniq_line_tool : {S : Type 0} (job : Uniq) (run : S → CurrentRun) (start : S) → (run start).count ≡ 0
+    → IsLineFilter (uniq_tool job) (λ now. current_run_of (run now)) (runs_after job) (output_of job) count_of 2 start
+uniq_line_tool job run start none = record {
   apart = entries-append job;
   stays = search rules;
   fresh = λ store. omega arith;
@@ -374,7 +374,7 @@ uniq_line_tool job start none = record {
   decided = λ store given passed now on.
       let ls = known_lines job.terminator given in
       let all = ap (runs job) (sym (append-nil ls))
-      ∙ ap (λ n. runs_after job (run_of (first_line start store) n) (ls ++ [])) (sym none) ∙ on [] in
+      ∙ ap (λ n. runs_after job (run_of (first_line (run start) store) n) (ls ++ [])) (sym none) ∙ on [] in
       rw all (init_current job passed now);
   size = λ bytes. refl;
   slots = refl;
@@ -384,7 +384,7 @@ uniq_line_tool job start none = record {
 -- a block has no complete line
 pub not_found : (end : ℕ) (block : List ℕ) (r : Option ℕ) → IsFirstByte (is_byte end) block r → is_some r ≡ false
     → complete_lines end block ≡ []
-not_found end block None none said = complete_lines_none end block (line_if_not_found end block none)
+not_found end block None none said = grind (arith, common_steps, complete_lines_none, line_if_not_found)
 not_found end block (Some at) first said = cc
 
 -- ---- inputs in parts

@@ -11,7 +11,7 @@ use proofs.Common.{pick_l-range_with_len, take-map, take-append-le, drop-append-
 use proofs.Common.{length-range_with_len, get_or-range_with_len, and_numeral, nat_tests, pow-succ', select_by, not, eqb}
 use proofs.Common.{true_indices, IsCompressRow, IsCompressTable, filter, append-nil, take-append-drop, take-add, zip2}
 use proofs.Common.{drop-drop, drop_all, length-chunk, mask_l-mod, length-zip2, bit_and, top, cast_unsigned, mask_of}
-use proofs.Common.{is_not_repeat, keep_flags, kept_bytes, FilterPre, negsuc, pos, bit_or, ◌-◌}
+use proofs.Common.{is_not_repeat, keep_flags, kept_bytes, FilterPre, bit_or, ◌-◌}
 use proofs.Vectors.Lanes.{lanes_of, tops_of_lanes}
 use Rattle.std.specs.Prelude.{slice_index_or, count_ones}
 use Rattle.ptlines.proofs.MatchMasks.{mask_append}
@@ -68,7 +68,7 @@ lowest m = grind (arith, nat_tests)
 
 mask_of_flags : (n m : ℕ) → m < 2 ^ n → mask_l (flags_of n m) ≡ m
 mask_of_flags zero m low = omega arith
-mask_of_flags (suc n) m low = omega (arith, lowest m, mask_of_flags n (m / 2) (omega (arith, pow-succ' 2 n)))
+mask_of_flags (suc n) m low = grind (arith, common_steps, lowest, mask_of_flags n (m / 2), pow-succ')
 
 -- ---- lanes by their indices
 
@@ -79,11 +79,7 @@ low_index low = grind (arith, nat_tests)
 pub shuffle_result : (v : List ℕ) (i : ℕ) (row : List ℕ) → i + length row ≤ 16 → Each1 (λ place. place < 16) row
     → swz_l w8 16 v i row ≡ pick_l 0 v row
 shuffle_result v i [] room lanes = refl
-shuffle_result v i (j ∷ js) room (low, lanes) = λ t. here t ∷ shuffle_result v (suc i) js (omega arith) lanes t
-  where
-    here : cond (nat_le 128 j) 0 (get_or v (16 * (i / 16) + j) 0) ≡ get_or v j 0
-    here = ap (λ high. cond high 0 (get_or v (16 * (i / 16) + j) 0)) (low_index low)
-        ∙ ap (λ k. get_or v k 0) (omega arith)
+shuffle_result v i (j ∷ js) room (low, lanes) = grind (arith, common_steps, low_index, shuffle_result v (suc i) js)
 
 pub row_lanes : {flags : List Bool} {indices : List ℕ} → IsCompressRow flags indices
     → Each1 (λ place. place < 16) indices
@@ -114,11 +110,13 @@ row_selects {flags} {row} v room is =
 pub selected_stored : (at n : ℕ) (into lanes : List ℕ) → length lanes ≡ 16 → n ≤ 16 → at + 16 ≤ length into
     → take (at + n) (put_chunk at into lanes) ≡ take at into ++ take n lanes
 selected_stored at n into lanes long few room =
-    let stored = put_chunk at into lanes in
     let front : length (take at into) ≡ at = length-take-le at into (omega arith) in
-    sym (grind (arith, common_steps))
-    ∙ ap (take (at + n)) (take_more_put_chunk at into lanes (at + 16) (omega (arith, long)) room)
-    ∙ ap (λ k. take k (take at into ++ lanes)) (omega arith) ∙ take-append-add (take at into) lanes n
+    grind (
+      arith,
+      common_steps,
+      take_more_put_chunk at into lanes (at + 16),
+      take-append-add (take at into) lanes n,
+    )
 
 -- ---- the row of a mask, index by index
 
@@ -304,9 +302,8 @@ module _ (test : ℕ → Bool) where
 
       module _ (at : ℕ) (room : at + 64 ≤ length bytes) where
         four : kept_at at 64 ≡ ((kept_at at 16 ++ kept_at (at + 16) 16) ++ kept_at (at + 32) 16) ++ kept_at (at + 48) 16
-        four = kept_two at 48 16 (omega arith)
-            ∙ ap (λ l. l ++ kept_at (at + 48) 16) (kept_two at 32 16 (omega arith)
-            ∙ ap (λ l. l ++ kept_at (at + 32) 16) (kept_two at 16 16 (omega arith)))
+        four =
+            cc (kept_two at 48 16 (omega arith), kept_two at 32 16 (omega arith), kept_two at 16 16 (omega arith))
 
         -- the bytes kept of four vectors, appended one after another
         pub kept_in_four : (t : List ℕ) {a b c d : List ℕ} → a ≡ t ++ kept_at at 16
@@ -364,10 +361,7 @@ removed_lanes : (test : ℕ → Bool) (before bytes : List ℕ)
     ≡ lanes_of (zip2 (λ a b. eqb a b && test b) before bytes)
 removed_lanes test [] bytes = refl
 removed_lanes test (a ∷ before) [] = refl
-removed_lanes test (a ∷ before) (b ∷ bytes) = λ i. lane (eqb a b) (test b) i ∷ removed_lanes test before bytes i
-  where
-    lane : (e t : Bool) → bit_and (cond e 255 0) (cast_unsigned w8 (cond t (negsuc 0) (pos 0))) ≡ cond (e && t) 255 0
-    lane e t = grind arith
+removed_lanes test (a ∷ before) (b ∷ bytes) = grind (arith, common_steps, removed_lanes test before bytes)
 
 -- the mask of the flags that are not set, and those that are, are all
 not_mask : (flags : List Bool) → mask_l (map not flags) + mask_l flags + 1 ≡ 2 ^ length flags
@@ -379,7 +373,7 @@ not_removed : (test : ℕ → Bool) (before bytes : List ℕ)
     → map not (zip2 (λ a b. eqb a b && test b) before bytes) ≡ keep_flags test before bytes
 not_removed test [] bytes = refl
 not_removed test (a ∷ before) [] = refl
-not_removed test (a ∷ before) (b ∷ bytes) = ap (◌∷◌ (is_not_repeat test (a, b))) (not_removed test before bytes)
+not_removed test (a ∷ before) (b ∷ bytes) = grind (arith, common_steps, not_removed test before bytes)
 
 module _ (test : ℕ → Bool) (before bytes : List ℕ) (paired : length bytes ≤ length before) (at : ℕ)
     (room : at + 16 ≤ length bytes) {lanes : List ℤ} (is : lanes ≡ mask_of test (chunk at 16 bytes))

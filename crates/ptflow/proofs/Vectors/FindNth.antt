@@ -93,10 +93,7 @@ module _ {X : Type 0} (p : X → Bool) (d : X) where
 -- the lowest set bit, after n bits were cleared
 pub after_set : (p : ℕ → Bool) (xs : List ℕ) (n : ℕ) {rest : ℕ} → length xs ≤ 64 → n < count_by p xs
     → rest ≡ mask_l (without n (map p xs)) → IsNth p 0 n xs (count_trailing_zeros 64 rest)
-after_set p xs n few lt is =
-    let bits = map p xs in
-    let here = behind p 0 xs n lt in
-    grind (arith, common_steps, length-without, lowest_set)
+after_set p xs n few lt is = let here = behind p 0 xs n lt in grind (arith, common_steps, length-without, lowest_set)
 
 -- the lowest n bits are shifted out
 shifted : (n : ℕ) (bits : List Bool) → mask_l bits / 2 ^ n ≡ mask_l (drop n bits)
@@ -138,7 +135,7 @@ module _ (p : ℕ → Bool) (bytes : List ℕ) (size : ℕ) (within : size ≤ l
 module _ (p : ℕ → Bool) (bytes : List ℕ) where
   pub count_up_to : (i j : ℕ) → i ≤ j → count_by p (take i bytes) ≤ count_by p (take j bytes)
   count_up_to i j le =
-      omega (arith, sum_by-take-le (λ b. cond (p b) 1 0) (take j bytes) i, ap (count_by p) (take-take i j bytes le))
+      grind (arith, sum_by-take-le (λ b. cond (p b) 1 0) (take j bytes) i, take-take)
 
   pub count_chunk : (at : ℕ)
       → count_by p (take (at + 64) bytes) ≡ count_by p (take at bytes) + count_by p (chunk at 64 bytes)
@@ -166,10 +163,6 @@ module _ (p : ℕ → Bool) (bytes : List ℕ) where
     },
     passes,
   )
-
-  pub some_counted : (xs : List ℕ) → 0 < mask_l (map p xs) → 0 < count_by p xs
-  some_counted [] lt = absurd (omega arith)
-  some_counted (x ∷ xs) lt = grind (arith, common_steps, some_counted xs, sum_by-cons)
 
 -- ---- by the first match
 

@@ -29,7 +29,7 @@ pub use Rattle.std.proofs.lemmas.List.{map-id}
 sel_map : (p : ℕ → Bool) (f g : ℕ → ℕ) (v : List ℕ)
     → sel_l (map p v) (map f v) (map g v) ≡ map (λ b. cond (p b) (f b) (g b)) v
 sel_map p f g [] = refl
-sel_map p f g (x ∷ xs) = ap (◌∷◌ (cond (p x) (f x) (g x))) (sel_map p f g xs)
+sel_map p f g (x ∷ xs) = grind (arith, sel_map p f g xs)
 
 pub sel_maps : (p : ℕ → Bool) (f g : ℕ → ℕ) (v : List ℕ) {ms : List Bool} {xs ys : List ℕ} → ms ≡ map p v → xs ≡ map f v
     → ys ≡ map g v → sel_l ms xs ys ≡ map (λ b. cond (p b) (f b) (g b)) v
@@ -65,8 +65,7 @@ bytes_same f g same (b ∷ v) (first, others) = λ i. same b first.fits i ∷ by
 pub filter_same : (p q : ℕ → Bool) → ((b : ℕ) → b < 256 → p b ≡ q b) → (v : List ℕ) → Each1 (Fits w8) v
     → filter p v ≡ filter q v
 filter_same p q same [] fit = refl
-filter_same p q same (b ∷ v) (first, others) =
-    λ i. cond (same b first.fits i) (b ∷ filter_same p q same v others i) (filter_same p q same v others i)
+filter_same p q same (b ∷ v) (first, others) = grind (arith, common_steps, filter_same p q same v others, first, same)
 
 pub bytes_fit : (v : List ℕ) → ((k : ℕ) → Fits w8 (get_or v k 0)) → Each1 (Fits w8) v
 bytes_fit v fit = Each1-from_get_or (Fits w8) v 0 (λ k _. fit k)
@@ -119,17 +118,8 @@ pub one_range_more : (ranges : List ShiftRange) (i : ℕ) (default : ShiftRange)
     → images ≡ map (shift_by_ranges (take i ranges)) v → deltas ≡ map (range_delta (get_or ranges i default)) v
     → zip2 (λ a b. (a + b) % 256) images deltas ≡ map (shift_by_ranges (take (i + 1) ranges)) v
 one_range_more ranges i default v room before is =
-    added_lanes (shift_by_ranges (take i ranges)) (range_delta last) v before is ∙ (λ k. map (λ b. more b k) v)
-  where
-    last : ShiftRange
-    last = get_or ranges i default
-
-    more : (b : ℕ)
-        → (shift_by_ranges (take i ranges) b + range_delta last b) % 256 ≡ shift_by_ranges (take (i + 1) ranges) b
-    more b =
-        let sums : range_sum (take (i + 1) ranges) b ≡ range_sum (take i ranges) b + range_delta last b =
-        cc (take_more ranges i default room, range_added (take i ranges) last b) in
-        omega arith
+    added_lanes (shift_by_ranges (take i ranges)) (range_delta (get_or ranges i default)) v before is
+    ∙ grind (arith, common_steps, take_more, range_added)
 
 -- ---- masks of lanes
 
@@ -139,17 +129,11 @@ lanes_of flags = map (λ t. cond t 255 0) flags
 
 pub lanes_of_mask : (test : ℕ → Bool) (v : List ℕ) → map (cast_unsigned w8) (mask_of test v) ≡ lanes_of (map test v)
 lanes_of_mask test [] = refl
-lanes_of_mask test (b ∷ v) = λ i. lane (test b) i ∷ lanes_of_mask test v i
-  where
-    lane : (t : Bool) → cast_unsigned w8 (cond t (negsuc 0) (pos 0)) ≡ cond t 255 0
-    lane t = grind arith
+lanes_of_mask test (b ∷ v) = grind (arith, common_steps, lanes_of_mask test v)
 
 pub tops_of_lanes : (fs : List Bool) → map (top 7) (lanes_of fs) ≡ fs
 tops_of_lanes [] = refl
-tops_of_lanes (f ∷ fs) = λ i. lane f i ∷ tops_of_lanes fs i
-  where
-    lane : (f : Bool) → top 7 (cond f 255 0) ≡ f
-    lane f = grind arith
+tops_of_lanes (f ∷ fs) = grind (arith, common_steps, tops_of_lanes fs)
 
 -- ---- bytes that are stored if they pass a test
 
@@ -181,7 +165,7 @@ module _ (half : ℕ → ℕ) (small : (b : ℕ) → b < 256 → half b < 16) wh
       → swz_l w8 16 table i (map half v) ≡ map (λ b. get_or table (half b) 0) v
   looked_up_from table [] i few fit = refl
   looked_up_from table (b ∷ v) i few (first, others) =
-      λ k. lane table i (omega arith) (small b first.fits) k ∷ looked_up_from table v (suc i) (omega arith) others k
+      grind (arith, common_steps, lane, small, looked_up_from table v (suc i))
 
   pub looked_up : (table : List ℕ) {js : List ℕ} (v : List ℕ) → js ≡ map half v → length v ≡ 16 → Each1 (Fits w8) v
       → swz_l w8 16 table 0 js ≡ map (λ b. get_or table (half b) 0) v
@@ -362,21 +346,7 @@ module _ (rows : List ℕ) (found : List (List ℕ)) (count : ℕ) where
     pub halved_lane : (lane : ℕ) → lane < 16 → get_or rows lane 0 < count
         → get_or (halved (get_or rows lane 0 / 2)) lane 0 ≡ lane_of found rows lane
     halved_lane lane low within =
-        let row = get_or rows lane 0 in
-        let i = row / 2 in
-        let inside : 2 * i < count = omega arith in
-        get_or-sel_l _ (get_or found (odd i) []) (get_or found (2 * i) []) lane 0 (omega (arith, bits_long))
-        (omega (arith, second_long i inside)) (omega (arith, first_long i inside))
-        ∙ ap (λ bit. cond bit (get_or (get_or found (odd i) []) lane 0) (get_or (get_or found (2 * i) []) lane 0))
-        (get_or-map (λ row. not (eqb (bit_and row 1) 0)) rows lane 0 false (omega arith))
-        ∙ by_bit (bit_and row 1) (and_mask row 1)
-      where
-        by_bit : (bit : ℕ) → bit ≡ get_or rows lane 0 % 2
-            → cond (not (eqb bit 0)) (get_or (get_or found (odd (get_or rows lane 0 / 2)) []) lane 0)
-            (get_or (get_or found (2 * (get_or rows lane 0 / 2)) []) lane 0) ≡ lane_of found rows lane
-        by_bit zero is = ap (λ k. get_or (get_or found k []) lane 0) (omega arith)
-        by_bit (suc zero) is = ap (λ k. get_or (get_or found k []) lane 0) (omega arith)
-        by_bit (suc (suc bit)) is = absurd (omega arith)
+        grind (arith, common_steps, get_or-sel_l, get_or-map, and_mask, bits_long, first_long, second_long)
 
 pub shifted_lane : (rows : List ℕ) (lane : ℕ) → length rows ≡ 16 → lane < 16
     → get_or (zip2 (λ a b. a / 2 ^ b) rows (replicate 16 1)) lane 0 ≡ get_or rows lane 0 / 2

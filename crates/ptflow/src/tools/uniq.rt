@@ -23,13 +23,6 @@ use ptlangs::jobs::UniqJob;
 use ptlines::{LineReader, Out, Sink, Source, Store, WriteFault, find_byte};
 use std::alloc::Allocator;
 
-// Checks whether `line` belongs to the current run, which has `count` lines and begins with `first`.
-fn is_same_run(job: &UniqJob, count: u64, first: &[u8], line: &[u8]) -> bool
-    ensures { result ≡ (nat_lt 0 count && is_same (uniq_job job.now) first.now line.now) }
-{
-    count > 0 && key(job, first) == key(job, line)
-}
-
 // The current run: how many lines it has, and its first line if that was copied from a block. Otherwise the first slot
 // holds the line.
 #[derive(Drop)]
@@ -37,17 +30,6 @@ pub(crate) struct CurrentRun {
     pub count: u64,
     pub is_copied: bool,
     pub bytes: ArrayVec<u8, 8192>,
-}
-
-// The first line of the current run.
-fn first_line<'a, A: Allocator + Copy>(run: &'a CurrentRun, store: &'a Store<A>) -> &'a [u8]
-    requires { 0 < length store.now.lines }
-    ensures { result.now ≡ first_line run.now store.now }
-{
-    if run.is_copied {
-        return run.bytes.as_slice();
-    }
-    store.line(0)
 }
 
 // Makes the last run of the lines of a block the current one, and copies its first line if that is in the block.
@@ -66,79 +48,99 @@ fn set_current_run(run: &mut CurrentRun, last: LastRun, block: &[u8])
     }
 }
 
-// The job, and the terminator.
+// The job, the terminator, and the current run.
 #[derive(Drop)]
 pub(crate) struct LineUniq<'a> {
     pub job: &'a UniqJob,
     pub terminator: u8,
+    pub run: CurrentRun,
     ghost ends: { terminator ≡ (uniq_job job.now).terminator },
 }
 
+impl LineUniq<'_> {
+    // Checks whether `line` belongs to the current run, which begins with `first`.
+    fn is_same_run(&self, first: &[u8], line: &[u8]) -> bool
+        ensures { result ≡ (nat_lt 0 self.now.run.count && is_same (uniq_job self.now.job.now) first.now line.now) }
+    {
+        self.run.count > 0 && key(self.job, first) == key(self.job, line)
+    }
+
+    // The first line of the current run.
+    fn first_line<'a, A: Allocator + Copy>(&'a self, store: &'a Store<A>) -> &'a [u8]
+        requires { 0 < length store.now.lines }
+        ensures { result.now ≡ first_line self.now.run store.now }
+    {
+        if self.run.is_copied {
+            return self.run.bytes.as_slice();
+        }
+        store.line(0)
+    }
+}
+
 impl<'a> LineFilter for LineUniq<'a> {
-    ghost use Rattle.ptlangs.specs.Jobs.{uniq_job};
+    ghost use Rattle.ptlangs.specs.Jobs.{Uniq, uniq_job};
     ghost use Rattle.ptflow.specs.Uniqs.{Run, output_of, uniq_tool};
     ghost use Rattle.ptflow.specs.Private.Uniq.FirstLine.{current_run_of};
     ghost use Rattle.ptflow.specs.Private.Uniq.RunsFrom.{count_of, runs_after};
 
-    type State = CurrentRun;
-
     ghost SLOTS = { 2 };
 
-    ghost tool = { λ t. uniq_tool (uniq_job t.job.now) };
+    ghost Job = { Uniq };
+
+    ghost job = { λ t. uniq_job t.job.now };
+
+    ghost tool = { uniq_tool };
 
     ghost Model = { Run };
 
-    ghost model = { current_run_of };
+    ghost model = { λ t. current_run_of t.run };
 
     ghost Item = { Run };
 
-    ghost rest = { λ t. runs_after (uniq_job t.job.now) };
+    ghost rest = { runs_after };
 
-    ghost written = { λ t. output_of (uniq_job t.job.now) };
+    ghost written = { output_of };
 
     ghost counted = { count_of };
 
     // Adds the line to the current run, or starts the next run with it.
     fn process_line<A: Allocator + Copy, W: Sink>(
-        &self,
-        run: &mut CurrentRun,
+        &mut self,
         store: &mut Store<A>,
         out: &mut Out<W>,
     ) -> Result<(), WriteFault> {
-        if is_same_run(self.job, run.count, first_line(run, store), store.line(1)) {
-            run.count += 1;
+        if self.is_same_run(self.first_line(store), store.line(1)) {
+            self.run.count += 1;
             return Ok(());
         }
-        write_run(self, run.count, first_line(run, store), out)?;
+        write_run(self, self.run.count, self.first_line(store), out)?;
         store.swap(0, 1);
-        run.count = 1;
-        run.is_copied = false;
+        self.run.count = 1;
+        self.run.is_copied = false;
         Ok(())
     }
 
     // Only the first line of the last run is copied. No output of a run is pushed before the next key is known.
     fn process_lines<A: Allocator + Copy, W: Sink>(
-        &self,
+        &mut self,
         block: &[u8],
-        run: &mut CurrentRun,
         store: &Store<A>,
         out: &mut Out<W>,
     ) -> Result<usize, WriteFault> {
         if find_byte(self.terminator, block).is_none() {
             return Ok(0);
         }
-        let last = write_runs(self, run.count, first_line(run, store), block, out)?;
-        set_current_run(run, last, block);
+        let last = write_runs(self, self.first_line(store), block, out)?;
+        set_current_run(&mut self.run, last, block);
         Ok(last.len)
     }
 
     fn finish<A: Allocator + Copy, W: Sink>(
         &self,
-        run: &CurrentRun,
         store: &mut Store<A>,
         out: &mut Out<W>,
     ) -> Result<(), WriteFault> {
-        write_run(self, run.count, first_line(run, store), out)?;
+        write_run(self, self.run.count, self.first_line(store), out)?;
         store.clear(0);
         Ok(())
     }
@@ -169,12 +171,14 @@ pub fn uniq<A: Allocator + Copy, S: Source, R: Source, W: Sink>(
         return Err(FlowFault::Write);
     }
     reader.set_ending(job.zero);
-    let mut run = CurrentRun {
-        count: 0,
-        is_copied: false,
-        bytes: ArrayVec::new(),
+    let mut tool = LineUniq {
+        job,
+        terminator: reader.terminator(),
+        run: CurrentRun {
+            count: 0,
+            is_copied: false,
+            bytes: ArrayVec::new(),
+        },
     };
-    let terminator = reader.terminator();
-    let tool = LineUniq { job, terminator };
-    run_lines(&tool, 2, &mut run, reader, store, out)
+    run_lines(&mut tool, 2, reader, store, out)
 }

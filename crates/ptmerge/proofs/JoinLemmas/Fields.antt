@@ -6,7 +6,7 @@ use Rattle.ptmerge.proofs
 use proofs.Common.{◌≡◌, ⊎_elim, false, ℕ, List, ◌++◌, Result, Ok, Err, IsErrAnd, true, Output, PushPost, PushEffect}
 use proofs.Common.{push_trans, ◌∷◌, refl, append_assoc, arith, push_nothing, drop_more, length-drop, length-append, suc}
 use proofs.Common.{◌+◌, ◌-◌, ◌≤◌, Bool, [], Option, None, Some, length, drop, get_or, sym, ap, zero, ◌<◌, ◌==◌, cond}
-use proofs.Common.{position, IfSome, MatchOption, filter, is_some, slice_split, nat_tests, is_blank, Lines}
+use proofs.Common.{position, MatchOption, filter, is_some, slice_split, nat_tests, is_blank, Lines}
 use proofs.Common.{is_separator, entry_with_list, remaining_fields, map, remove, unwrap_or, append-nil, flat_map-append}
 use proofs.Common.{Join, output_separator, entry, join_fields, other_fields, is_single_spaced, with_prefix, ◌^◌, eqb}
 use proofs.Common.{◌≢◌, ◌*◌, not, ◌&&◌, ◌∙◌}
@@ -55,7 +55,7 @@ then_pushes clean p q = search (rules, wrote_then)
 -- a push is a write of its bytes
 pub push_is_write : {E : Type 0} {a b : Output} {xs : List ℕ} {r : Result (Unit {0}) E} → PushPost a b xs r
     → WriteBytesPost a b xs r
-push_is_write p = search rules
+push_is_write = search rules
 
 -- the fault of a push is the fault of the call
 pub push_fails : {E : Type 0} {a b : Output} {xs : List ℕ} {r : Result (Unit {0}) E} (P : E → Type 0) → IsErrAnd r P
@@ -71,7 +71,7 @@ pub record PartialWrite (was is : Output) (all left : List ℕ) : Type 0 where
   pub clean : was.write_failed ≡ false → is.write_failed ≡ false
 
 pub partial_starts : {was : Output} {all left : List ℕ} → all ≡ left → PartialWrite was was all left
-partial_starts {was} is = search (rules, push_nothing)
+partial_starts = search (rules, push_nothing)
 
 -- the first call succeeded
 pub partial_first : {was is : Output} {all bytes left : List ℕ} → all ≡ bytes ++ left → PushEffect was is bytes
@@ -83,7 +83,7 @@ module _ {E : Type 0} {r : Result (Unit {0}) E} (P : E → Type 0) (err_is : IsE
     {was new : Output} {all bytes : List ℕ} (left : List ℕ) where
   pub first_fails : all ≡ bytes ++ left → PushEffect was new bytes → new.write_failed ≡ true
       → WriteBytesPost was new all r
-  first_fails split wrote fault = grind (arith, push_is_write, push_fails, push_past_failure)
+  first_fails = grind (arith, push_is_write, push_fails, push_past_failure)
 
   pub partial_fails : {is : Output} {now : List ℕ} → now ≡ bytes ++ left → PartialWrite was is all now
       → PushEffect is new bytes → new.write_failed ≡ true → WriteBytesPost was new all r
@@ -140,28 +140,24 @@ remaining_length (Some bytes) = suc (length bytes)
 
 -- ---- spans of fields
 
--- the rest of a line, if there is one, is a suffix of the line
-abbrev pub IsRemainderOf : Option (List ℕ) → Option (List ℕ) → Type 0
-IsRemainderOf line left = IfSome left (λ b. MatchOption line ⊥ (λ l. (front : List ℕ) × (l ≡ front ++ b)))
+-- all fields of the rest of a line are fields of the line
+abbrev pub AreFieldsOf : Option ℕ → Option (List ℕ) → Option (List ℕ) → Type 0
+AreFieldsOf separator line left = (field : List ℕ) (remainder : Option (List ℕ))
+    → IsFieldIn separator left field remainder → IsFieldIn separator line field remainder
 
--- a field of the rest of a line is a field of the line
-pub field_in : (separator : Option ℕ) (line left : Option (List ℕ)) (field : List ℕ) (remainder : Option (List ℕ))
-    → IsRemainderOf line left → IsFieldIn separator left field remainder → IsFieldIn separator line field remainder
-field_in separator line None field remainder e p = absurd p
-field_in separator None (Some b) field remainder e p = absurd e
-field_in separator (Some l) (Some b) field remainder (front, is) p =
-    record { front = front ++ p.front; tail = p.tail; is = rw (is, p.is) (simp append_assoc); ends = p.ends }
-
--- the rest after that field is a suffix of the line, too
-pub remaining_after : (separator : Option ℕ) (line left : Option (List ℕ)) (field : List ℕ)
-    (remainder : Option (List ℕ)) → IsRemainderOf line left → IsFieldIn separator left field remainder
-    → IsRemainderOf line remainder
-remaining_after separator line left field None e p = tt
-remaining_after separator line None field (Some b) e p = absurd p
-remaining_after separator None (Some l) field (Some b) e p = absurd e
-remaining_after separator (Some line) (Some l) field (Some b) (front, is) p =
+-- so it is for the rest after a field
+pub fields_after : (separator : Option ℕ) (line : Option (List ℕ)) (field : List ℕ) (remainder : Option (List ℕ))
+    → IsFieldIn separator line field remainder → AreFieldsOf separator line remainder
+fields_after separator None field remainder p f r q = absurd p
+fields_after separator (Some l) field None p f r q = absurd q
+fields_after separator (Some l) field (Some b) p f r q =
     let (end, ends, _) = p.ends in
-    (front ++ (p.front ++ (field ++ (end ∷ []))), rw (is, p.is, ends) (simp append_assoc))
+    record {
+      front = p.front ++ (field ++ end ∷ q.front);
+      tail = q.tail;
+      is = rw (p.is, ends, q.is) (simp append_assoc);
+      ends = q.ends;
+    }
 
 -- ---- the first field
 
@@ -217,7 +213,7 @@ join_is_prefixed byte f (g ∷ fs) = cc (join_is_prefixed byte g fs)
 
 pub others_more : (count i : ℕ) {fs more : Lines} {f : List ℕ} → i < count → fs ≡ f ∷ more
     → remove fs (count - i) ≡ f ∷ remove more (count - (i + 1))
-others_more count i low is = search rules
+others_more = search rules
 
 pub others_rest : (n : ℕ) {fs more : Lines} {f : List ℕ} → n ≡ 0 → fs ≡ f ∷ more → remove fs n ≡ more
 others_rest n last is = rw (is, last) refl
@@ -230,7 +226,7 @@ pub entry_plain : (job : Join) (k : List ℕ) (one two : Option (List ℕ)) → 
 entry_plain = grind (arith, join_is_prefixed, flat_map-append)
 
 pub between_is : (separator : Option ℕ) → output_separator separator ≡ unwrap_or separator 32
-between_is separator = grind arith
+between_is = grind arith
 
 -- the first item of a list, and then each other item after a separator
 pub first_then_rest : (f : OutField → List ℕ) (items : List OutField) (d : OutField) → 1 ≤ length items
@@ -411,7 +407,7 @@ around_is separator number line (Some span) f even =
 
 pub ruleset first_piece_steps = (split_whole, split_around, piece_at)
 
-pub ruleset remaining_steps = (none_past, drop_next, remaining_after)
+pub ruleset remaining_steps = (none_past, drop_next, fields_after)
 
 pub ruleset other_fields_steps = (around_is, between_is, push_is_write)
 
@@ -431,7 +427,7 @@ abbrev bit : Bool → ℕ
 bit b = cond b 1 0
 
 halves : (b : Bool) (x : ℕ) → ((bit b + 2 * x) / 2 ≡ x) × ((bit b + 2 * x) % 2 ≡ bit b)
-halves b x = grind arith
+halves = grind arith
 
 or_bits : (b c : Bool) (x y : ℕ) → bit_or (bit b + 2 * x) (bit c + 2 * y) ≡ bit (b || c) + 2 * bit_or x y
 or_bits b c x y = grind (arith, halves b x, halves c y, or_step (bit b + 2 * x) (bit c + 2 * y))
@@ -501,7 +497,7 @@ single_spaces_is any before bytes low few is =
     rw (or_even any before low, and_low any (any * 2 + before) small, sum, is) (no_misplaced (before == 1) bytes)
   where
     of_bit : (before : ℕ) → before ≤ 1 → bit (before == 1) ≡ before
-    of_bit before low = grind (arith, nat_tests)
+    of_bit = grind (arith, nat_tests)
 
     or_even : (any before : ℕ) → before ≤ 1 → bit_or (any * 2 % 2 ^ 64) before ≡ (any * 2 + before) % 2 ^ 64
     or_even any before low =
@@ -513,7 +509,7 @@ single_spaces_is any before bytes low few is =
     and_low x y low = grind (arith, and_le_l x y, and_mod x y 64)
 
 power_fits : (v : List ℕ) → length v < 64 → 1 * 2 ^ length v % 2 ^ 64 ≡ 1 * 2 ^ length v
-power_fits v short = search (rules, mod-eq_of_lt, pow-lt)
+power_fits = search (rules, mod-eq_of_lt, pow-lt)
 
 -- a line that ends after these bytes, as if a space followed it
 pub with_end : (bytes : List ℕ) (any tabs : ℕ) → length bytes < 64 → any ≡ mask_l (map is_blank bytes)
@@ -571,10 +567,10 @@ chunk_spaced blank bytes at room =
     rw (← spaced_append, ← drop-drop 64 at bytes, take-append-drop 64 (drop at bytes)) refl
 
 pub bit_is : (b : Bool) → (bit b == 1) ≡ b
-bit_is b = grind arith
+bit_is = grind arith
 
 pub bit_low : (b : Bool) → bit b ≤ 1
-bit_low b = grind arith
+bit_low = grind arith
 
 -- ---- the words of a line
 
@@ -742,7 +738,7 @@ pub record WordsLeft (line : List ℕ) (passed words : ℕ) : Type 0 where
 
 pub words_start : (line : List ℕ) (any : ℕ) → length line < 64 → any ≡ mask_l (map is_blank line)
     → WordsLeft line 0 (1 * 2 ^ length line % 2 ^ 64 - 1 - any)
-words_start line any short is = grind (arith, power_fits, word_mask)
+words_start = grind (arith, power_fits, word_mask)
 
 pub any_fits : (line : List ℕ) (any : ℕ) → length line < 64 → any ≡ mask_l (map is_blank line)
     → any ≤ 1 * 2 ^ length line % 2 ^ 64 - 1
@@ -760,7 +756,7 @@ module _ {line : List ℕ} {passed words : ℕ} (short : length line < 64) (left
 
   -- no words are left
   pub none_left : (number : ℕ) → words ≡ 0 → passed ≤ number - 1 → drop (number - 1) (join_fields None line) ≡ []
-  none_left number none le = grind (arith, none_past, no_words)
+  none_left = grind (arith, none_past, no_words)
 
   module _ (some : words ≢ 0) where
     some_bits : 0 < mask_l bits

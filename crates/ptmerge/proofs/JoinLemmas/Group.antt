@@ -2,38 +2,38 @@
 -- all inputs, since lesser keys are complete and the pairs of the group are written in their final order. Once both
 -- inputs are past the key, the group is complete, and counts as processed.
 use Rattle.ptmerge.proofs
-use proofs.Common.{◌≡◌, ⊎_elim, inl, ℕ, ◌+◌, ◌-◌, ◌≤◌, ◌<◌, suc, true, false, length-drop, List, [], ◌∷◌, ◌++◌, length}
-use proofs.Common.{map, drop, get_or, set, max, refl, ap, ◌∙◌, arith, ◌*◌, Option, append_assoc, length-append}
+use proofs.Common.{◌≡◌, ⊎_elim, ℕ, ◌+◌, ◌-◌, ◌≤◌, ◌<◌, suc, true, false, length-drop, List, [], ◌∷◌, ◌++◌, length}
+use proofs.Common.{map, drop, get_or, set, max, refl, ap, ◌∙◌, arith, append_assoc, length-append}
 use proofs.Common.{length-set, drop_more, Slots, line, total_bytes, with_line, with_denied, unlines, max_length, Join}
 use proofs.Common.{ClearGroupPost, group, CopyToGroupPost, entry, join_fields, pair_entries, max_over_keys}
 use proofs.Common.{max_group_bytes, max_group_lines, Lines, lines_with_key, Reader, Side, First, Second, Sorted, Key}
-use proofs.Common.{HasSlots, with_side, MergeTool, ◌&&◌, Bool, Some, sym, subst, bytes_eq, bytes_decides, append-nil}
+use proofs.Common.{with_side, MergeTool, ◌&&◌, Bool, Some, sym, subst, bytes_eq, bytes_decides, append-nil}
 use proofs.Common.{Output, PushEffect, push_trans, unlines-append, CursorStatus, Head, Ended, Disorder, entries_by_key}
 use proofs.Common.{entries_of_key, MergeState, NextOkPost, other, PrecedesInput, disorder, merged_entries}
 use proofs.Common.{sorted_prefixes, is_up_to, line_of_with_line}
 use proofs.JoinLemmas.Fields.{partial_starts}
-use proofs.MergeLemmas.{line_other, HasLines, StoreOfLines, has_lines_total, set_line, put_each, put_same, low_slot}
+use proofs.MergeLemmas.{line_other, HasLines, GroupStore, AllExtend, HasRoom, total_within, side_extends}
+use proofs.MergeLemmas.{group_store_next, put_each, put_same, low_slot}
 use proofs.MergeLemmas.{put_both, put_other, side_case, EachKey, same_bytes, Bound, AtLeast, MayFollow, IsUnder}
 use proofs.MergeLemmas.{MergeInvariant, IsFuture, MayCome, all_keys, splits_step, all_wanted, written_is_wanted}
 use proofs.MergeLemmas.{LagInvariant, IsLater, EachKey-append, EachKey-weaker, at_most-same, front_first, front_is}
-use proofs.MergeLemmas.{others_of, lines_with_key-above, AtMost, least_or_above, self_at_most, equal_is, SideAfterNext}
-use proofs.MergeLemmas.{at_current_line, IsAtCurrentLine, MatchesStatus, side_invariant_kept, Fits}
-use proofs.MergeLemmas.{read_facts_after_line, input_split_of, both_begun, IsOpenMerge, ReadFactsOf, SidesInvariant}
-use proofs.MergeLemmas.{IsAbove, current_key_is_above, next_at, sides_next, StoreInvariant, EndsIfFails, advance_fails}
-use proofs.MergeLemmas.{Continues, HoldsLines}
+use proofs.MergeLemmas.{later_entries, lines_with_key-above, AtMost, least_or_above, self_at_most, equal_is}
+use proofs.MergeLemmas.{SideAfterNext}
+use proofs.MergeLemmas.{at_current_line, IsAtCurrentLine, MatchesStatus, side_invariant_kept}
+use proofs.MergeLemmas.{read_facts_after_line, both_begun, IsOpenMerge, ReadFactsOf, SidesInvariant}
+use proofs.MergeLemmas.{IsAbove, current_key_is_above, next_at, sides_next, EndsIfFails, advance_fails}
 use Rattle.std.proofs.Math.ListN.{get_or-append}
 use Rattle.std.proofs.lemmas.Grind.{common_steps}
 use Rattle.std.proofs.Common.{rules}
-use Rattle.std.proofs.lemmas.List.{drop-set-add, drop-set-lt, set_at, take_at, take_more}
+use Rattle.std.proofs.lemmas.List.{drop-append-le, drop-set-add, set_at, take_at, take_more}
 use Rattle.std.proofs.lemmas.List.Sums.{sum_by-append, sum_by-cons, sum_by_push}
 use Rattle.ptlines.proofs.SlotTotals.{total_bytes_set}
 use Rattle.ptmerge.specs.JoinGroup.{EnsureSlotPost, CopyToGroupErrPost, is_head}
 
 -- ---- the slots of a group
 
--- The store of `join`: the slots 0 to 3 hold two lines of each input, and the slots from 4 on hold the group. Reading a
--- line or copying one changes one slot, so the bytes stored are the sum of both parts. The group is a part of the lines
--- of one key, so it is bounded by the largest group.
+-- In the store of `join` the slots 0 to 3 hold two lines of each input, and the slots from 4 on hold the group. It is a
+-- part of the lines of one key, so it is bounded by the largest group.
 
 -- the lines of the group, from a slot on
 pub group_from : (store : Slots) (end slot : ℕ) → end ≤ length store.lines → slot < end
@@ -63,12 +63,12 @@ pair_of job k first second = entry job k (join_fields job.separator first) (join
 
 pub pairs_text : (job : Join) (end : ℕ) (x k : List ℕ) (g : Lines) → job.pairs ≡ true
     → unlines end (pair_entries job k (x ∷ []) g) ≡ unlines end (map (pair_of job k x) g)
-pairs_text job end x k g asked = search (rules, pair_of)
+pairs_text = search (rules, pair_of)
 
 -- ---- emptying the group
 
 pub clears_none : (s : Slots) → ClearGroupPost s s 4
-clears_none s = grind arith
+clears_none = grind arith
 
 pub clears_more : (a s t : Slots) (slot : ℕ) → 4 ≤ slot → slot < length a.lines → ClearGroupPost a s slot
     → t ≡ with_line s slot [] → ClearGroupPost a t (slot + 1)
@@ -140,21 +140,12 @@ module _ (m : Lines → ℕ) (laws : IsLineMeasure m) (key : Key) where
     rw is at (greatest_has (p ++ (x ∷ g ++ w)) p x (g ++ w)),
   ))
 
--- the most bytes and the most lines of a group, by the lines of the second input
-pub record GroupBounds : Type 0 where
-  pub bytes : Lines → ℕ
-  pub lines : Lines → ℕ
-
--- those of the largest group of an input
-abbrev pub largest_group : Key → GroupBounds
-largest_group key = record { bytes = max_group_bytes key; lines = max_group_lines key }
-
--- the lines of a group are within the bounds
-abbrev pub InGroup : GroupBounds → Lines → Lines → Type 0
-InGroup most g ls = (total_bytes g ≤ most.bytes ls) × (length g ≤ most.lines ls)
+-- the lines of a group are at most the largest group of an input
+abbrev pub InLargest : Key → Lines → Lines → Type 0
+InLargest key g ls = (total_bytes g ≤ max_group_bytes key ls) × (length g ≤ max_group_lines key ls)
 
 pub group_in : (key : Key) (k : List ℕ) (p g w : Lines) → EachKey (λ x. x ≡ k) key g → 0 < length g
-    → InGroup (largest_group key) g ((p ++ g) ++ w)
+    → InLargest key g ((p ++ g) ++ w)
 group_in key k p g w own some = (
   measure_in total_bytes (record { weight = length; none = refl; more = λ x xs. sum_by-cons length x xs })
       key k p g w own some,
@@ -168,83 +159,11 @@ same_lines : (xs ys : Lines) (m : Side → ℕ) (more now : ℕ) → HasLines m 
     → ((i : ℕ) → i < 4 → get_or ys i [] ≡ get_or xs i []) → total_bytes (drop 4 ys) ≡ now → HasLines m now ys
 same_lines = grind arith
 
--- The invariant of the store of `join`: two lines of each input, and then the lines of the group.
-pub record GroupStore (most : GroupBounds) (before store : Slots) (ls : Side → Lines) (g : Lines) : Type 0 where
-  pub tail : Lines
-  pub split : drop 4 store.lines ≡ g ++ tail
-  pub empty : total_bytes tail ≡ 0
-  pub lines : HasLines (λ side. max_length (ls side)) (total_bytes g) store.lines
-  -- for all lines that the second input may continue with
-  pub bounds : (all more : Lines) → all ≡ ls Second ++ more → InGroup most g all
-      × (store.peak ≤ max before.peak (2 * max_length (ls First) + 2 * max_length (ls Second) + most.bytes all))
-      × (length store.lines ≤ max (length before.lines) (4 + most.lines all))
-  pub least : length before.lines ≤ length store.lines
-  pub four : 4 ≤ length store.lines
-  pub denied : store.denied ≡ false
-
-pub group_store_starts : {most : GroupBounds} {before store : Slots} {ls : Side → Lines}
-    → StoreOfLines before store (λ side. max_length (ls side)) → GroupStore most before store ls []
-group_store_starts = grind arith
-
--- each input uses its own two slots
-abbrev pub AllSlots : (Side → Sorted) → Type 0
-AllSlots cursor = (side : Side) → HasSlots side (cursor side)
-
--- the list `now` continues the list `was`
-pub record Extends (was now : Lines) : Type 0 where
-  pub more : Lines
-  pub is : now ≡ was ++ more
-
--- the next line of an input replaces its previous line
-pub group_store_line : {most : GroupBounds} {before store after : Slots} {ls now : Side → Lines} {g : Lines} (s : Side)
-    (cursor : Sorted) → HasSlots s cursor → (x : List ℕ) → GroupStore most before store ls g
-    → ((side : Side) → max_length (ls side) ≤ max_length (now side)) → length x ≤ max_length (now s)
-    → Extends (ls Second) (now Second) → after ≡ with_line store cursor.previous_slot x
-    → GroupStore most before after now g
-group_store_line {store = store} {after} {ls} {now} {g} s cursor slots x k up fit continues_key is =
-    let inside = set_line s cursor store.lines (λ side. max_length (ls side)) (λ side. max_length (now side))
-    (total_bytes g) x slots k.lines up fit in
-    let sum = has_lines_total (set store.lines _ x) (λ side. max_length (now side))
-    (total_bytes g) inside in
-    let size = length-set store.lines cursor.previous_slot x in
-    rw is (record {
-      tail = k.tail;
-      split = drop-set-lt 4 store.lines cursor.previous_slot x (low_slot s cursor slots).previous ∙ k.split;
-      empty = k.empty;
-      lines = inside;
-      bounds = λ all more e. omega (
-        arith,
-        k.bounds all (continues_key.more ++ more)
-            (cc (append_assoc (ls Second) continues_key.more more)),
-        up First,
-        up Second,
-        size,
-      );
-      least = omega (arith, size);
-      four = omega (arith, size);
-      denied = k.denied;
-    })
-
--- the lines that an input continues with, after one input advanced
-pub put_more : (s : Side) (ls : Side → Lines) (now more : Lines) → now ≡ ls s ++ more
-    → Extends (ls Second) (with_side s now ls Second)
-put_more = search rules
-
--- an input advances
-pub group_store_next : {most : GroupBounds} {tool : MergeTool} {before store after : Slots} {ls : Side → Lines}
-    {g : Lines} {old new : Reader} {next : Sorted} {last : Option (List ℕ)} (s : Side) (cursor : Sorted)
-    → HasSlots s cursor → GroupStore most before store ls g
-    → (n : SideAfterNext tool s old new next cursor.previous_slot store after (ls s) last)
-    → GroupStore most before after (with_side s n.now_ls ls) g
-group_store_next {ls = ls} s cursor slots k n = group_store_line s cursor slots n.bytes k
-    (put_each (λ side (l : Lines). max_length (ls side) ≤ max_length l) s n.now_ls ls n.longer (λ side. omega arith))
-    (rw (put_same s n.now_ls ls) n.fits) (put_more s ls n.now_ls n.more n.continues_key) n.stored
-
-module _ {most : GroupBounds} {before store : Slots} {ls : Side → Lines} {g : Lines}
-    (k : GroupStore most before store ls g) where
+module _ {tool : MergeTool} {before store : Slots} {ls : Side → Lines} {g : Lines}
+    (k : GroupStore tool before store ls g) where
   -- the result of copying a line to the end of the group
   pub record CopiedLine (after : Slots) (y : List ℕ) : Type 0 where
-    pub store_holds : GroupStore most before after ls (g ++ y ∷ [])
+    pub store_holds : GroupStore tool before after ls (g ++ y ∷ [])
     pub same : (i : ℕ) → i < 4 → line after i ≡ line store i
 
   module _ {made : Slots} {to : ℕ} (w : EnsuredSlot store made to) where
@@ -252,22 +171,54 @@ module _ {most : GroupBounds} {before store : Slots} {ls : Side → Lines} {g : 
     made_same i low = cc (get_or-append store.lines w.more [] i (omega (arith, low)))
 
     module _ (y : List ℕ) (at : to ≡ 4 + length g) (within : to < length made.lines)
-        (largest : (l : Lines) → InGroup most (g ++ y ∷ []) (ls Second ++ l)) where
+        (largest : (all : Side → Lines) → AllExtend ls all → HasRoom tool (g ++ y ∷ []) all) where
       first_same : (i : ℕ) → i < 4 → get_or (set made.lines to y) i [] ≡ get_or store.lines i []
       first_same i low = line_other made to i y (λ e. absurd (omega (arith, at))) ∙ made_same i low
 
       by_tail : (t : Lines) → total_bytes t ≡ 0 → length g + 1 ≤ length (g ++ t)
           → drop 4 (set made.lines to y) ≡ set (g ++ t) (length g) y
-          → GroupStore most before (with_line made to y) ls (g ++ y ∷ [])
+          → GroupStore tool before (with_line made to y) ls (g ++ y ∷ [])
       by_tail [] none some is = absurd (omega (arith, some, length-append g []))
-      by_tail (z ∷ t) none some is = grind (arith, common_steps, set_at, same_lines, first_same, has_lines_total)
+      by_tail (z ∷ t) none some is =
+          let four : 4 ≤ length (set made.lines to y) = omega (arith, k.four, w.slots, length-set made.lines to y) in
+          let split : drop 4 (set made.lines to y) ≡ (g ++ y ∷ []) ++ t = grind (arith, common_steps, set_at, is) in
+          let lines = same_lines store.lines (set made.lines to y) (λ side. max_length (ls side)) (total_bytes g)
+          (total_bytes (g ++ y ∷ [])) k.lines four first_same (grind (arith, common_steps, split, none)) in
+          record {
+            tail = t;
+            split = split;
+            empty = omega (arith, none, sum_by-cons length z t);
+            lines = lines;
+            room = largest;
+            fits = λ all more. omega (
+              arith,
+              k.fits all more,
+              total_within tool (g ++ y ∷ []) (set made.lines to y) lines more (largest all more),
+              largest all more,
+              w.slots,
+              w.peak,
+              length-set made.lines to y,
+              length-append g (y ∷ []),
+            );
+            four = four;
+            denied = w.denied ∙ k.denied;
+          }
 
       kept : CopiedLine (with_line made to y) y
-      kept = grind (arith, common_steps, by_tail, first_same)
+      kept = grind (
+        arith,
+        by_tail,
+        first_same,
+        drop-append-le 4 store.lines w.more k.four,
+        append_assoc g k.tail w.more,
+        drop-set-add 4 made.lines (length g) y,
+        sum_by-append length k.tail w.more,
+        length-drop 4 made.lines,
+      )
 
   pub group_store_copied : {after : Slots} {from to : ℕ} → to ≡ 4 + length g → from < 4
       → CopyToGroupPost store after from to → {y : List ℕ} → line store from ≡ y
-      → ((l : Lines) → InGroup most (g ++ y ∷ []) (ls Second ++ l)) → CopiedLine after y
+      → ((all : Side → Lines) → AllExtend ls all → HasRoom tool (g ++ y ∷ []) all) → CopiedLine after y
   group_store_copied {after} {from} {to} at low e {y} is largest = let w = ensured_slot store e.made to e.grown in
       rw (e.copied, made_same w from low, is) (kept w y at e.grown.within largest)
 
@@ -279,29 +230,12 @@ module _ {most : GroupBounds} {before store : Slots} {ls : Side → Lines} {g : 
   group_is at = rw k.split (take_at g k.tail _ (omega (arith, at)))
 
   pub end_within : {end : ℕ} → end ≡ 4 + length g → end ≤ length store.lines
-  end_within at = grind (arith, length-append)
+  end_within = grind (arith, length-append)
 
   -- the group is emptied
   pub group_store_cleared : {after : Slots} {end : ℕ} → end ≡ 4 + length g → ClearGroupPost store after end
-      → GroupStore most before after ls []
-  group_store_cleared {after} at c =
-      let none : total_bytes (drop 4 after.lines) ≡ 0 = omega
-      (arith, ap total_bytes (group_is at), ap total_bytes k.split, sum_by-append length g k.tail)
-      in
-      let four : 4 ≤ length after.lines = omega arith in
-      let lines = same_lines _ _ (λ side. max_length (ls side)) (total_bytes g) 0 k.lines four
-      (λ i low. c.others i (inl low)) none in
-      let total = has_lines_total _ (λ side. max_length (ls side)) (total_bytes g) k.lines in
-      record {
-        tail = drop 4 after.lines;
-        split = refl;
-        empty = none;
-        lines = lines;
-        bounds = λ all more e. omega (arith, k.bounds all more e, total);
-        least = omega arith;
-        four = four;
-        denied = c.denied ∙ k.denied;
-      }
+      → GroupStore tool before after ls []
+  group_store_cleared = grind (arith, common_steps, group_is, total_within, same_lines, sum_by-append)
 
 pub ruleset pair_steps = (partial_starts, pairs_text)
 
@@ -347,13 +281,8 @@ module _ {tool : MergeTool} {old : MergeState} (w : IsOpenMerge tool old) {mid :
   rest_not_less side r c = at_most-same tool o (key side) k (g side) r (m.own side) ((m.later side).may_follow r c)
 
   -- two lists that continue the lines read so far: their sorted prefixes and their disorder
-  module _ (new : MergeState) {now : Side → Reader} {piece : Side → List ℕ} {ls : Side → Lines}
-      (gone : (side : Side)
-      → ReadFactsOf tool old now ls (λ side. p side ++ g side) d side (new.reader side) (piece side))
-      (all : Side → Lines) (more : (side : Side) → Continues (now side) (ls side) (all side)) where
-    seen : (side : Side) → IsFuture cmp (key side) (all side) (p side ++ g side) (d side)
-    seen = input_split_of w new gone all more
-
+  module _ (all : Side → Lines)
+      (seen : (side : Side) → IsFuture cmp (key side) (all side) (p side ++ g side) (d side)) where
     abbrev coming : Side → Lines
     coming side = (seen side).rest
 
@@ -364,8 +293,7 @@ module _ {tool : MergeTool} {old : MergeState} (w : IsOpenMerge tool old) {mid :
         (λ side. rest_not_less side (coming side) (seen side).may_follow)
 
     wanted : (x : List ℕ) → AtMost cmp x k → is_up_to cmp (disorder tool all) x ≡ true
-    wanted x h = written_is_wanted cmp o _ _ _ _ x (seen First).may_disorder (seen Second).may_disorder
-        ((m.later First).under x h) ((m.later Second).under x h)
+    wanted = search (rules, written_is_wanted)
 
     abbrev is_wanted : List ℕ → Bool
     is_wanted = is_up_to cmp (disorder tool all)
@@ -382,17 +310,18 @@ module _ {tool : MergeTool} {old : MergeState} (w : IsOpenMerge tool old) {mid :
         (wanted k (self_at_most cmp o k)) in
         (rest, cc (parts is_wanted, front_is_first, is, append_assoc front extra rest))
 
-    -- the entries of lesser keys are not all, if the group has entries
-    pub front_is_not_all : HasEntries tool g d k → ¬ (merged_entries tool all ≡ front ++ [])
+    -- the text of the entries of lesser keys is not all, if the group has entries
+    pub front_is_not_all : HasEntries tool g d k
+        → ¬ (unlines terminator (front ++ []) ≡ unlines terminator (merged_entries tool all))
     front_is_not_all has same =
-        let some = has is_wanted coming (λ side. (seen side).may_follow) (wanted k (self_at_most cmp o k)) in
-        let own = entries_by_key tool is_wanted (λ side. g side ++ coming side) in
-        absurd (omega (
-          arith,
-          some,
-          ap length (sym (parts is_wanted ∙ (λ i. front_is_first i ++ own)) ∙ same ∙ append-nil front),
-          length-append front own,
-        ))
+        some_text front (entries_by_key tool is_wanted (λ side. g side ++ coming side))
+        (has is_wanted coming (λ side. (seen side).may_follow) (wanted k (self_at_most cmp o k)))
+        (rw (append-nil front, parts is_wanted, front_is_first) at same)
+      where
+        some_text : (xs ys : Lines) → 0 < length ys → ¬ (unlines terminator xs ≡ unlines terminator (xs ++ ys))
+        some_text xs [] none same = absurd (omega (arith, none))
+        some_text xs (y ∷ ys) some same =
+            absurd (omega (arith, simp (unlines-append, length-append) at (ap length same)))
 
   -- the keys of the processed lines and of the group
   passed_keys : (of side : Side) → EachKey (λ x. AtMost cmp x k) (key side) (p side ++ g side)
@@ -404,9 +333,10 @@ module _ {tool : MergeTool} {old : MergeState} (w : IsOpenMerge tool old) {mid :
   passed_under of side =
       EachKey-weaker _ _ (m.later of).under _ _ (passed_keys of side)
 
-  pub group_written : {is : Output} (extra : Lines) → PushEffect mid is (unlines terminator extra)
+  pub group_written : {is : Output} {extra : Lines} → OutputStartsWith tool g d k extra
+      → PushEffect mid is (unlines terminator extra)
       → LagInvariant tool d (λ side. p side ++ g side) old.out is (front ++ extra)
-  group_written extra wrote = record {
+  group_written {extra = extra} begins wrote = record {
     mid = mid;
     front = p;
     tail = g;
@@ -420,30 +350,27 @@ module _ {tool : MergeTool} {old : MergeState} (w : IsOpenMerge tool old) {mid :
     under = passed_under;
     under_bound = passed_keys;
     may_follow = rest_not_less;
+    first = λ all seen. group_comes_first all seen begins;
   }
 
 -- ---- tools that write pairs
 
 -- a tool whose output for a key of both inputs is a list of pairs, or nothing
-pub record IsPairTool (tool : MergeTool) (most : GroupBounds) (pairs : List ℕ → Lines → Lines → Lines) : Type 0 where
+pub record IsPairTool (tool : MergeTool) (pairs : List ℕ → Lines → Lines → Lines) : Type 0 where
   pub none : (k : List ℕ) (g : Lines) → pairs k [] g ≡ []
   pub more : (k : List ℕ) (f g c : Lines) → pairs k (f ++ g) c ≡ pairs k f c ++ pairs k g c
   pub whole : (k a b : List ℕ) (f g : Lines) → tool.entries k (a ∷ f) (b ∷ g) ≡ pairs k (a ∷ f) (b ∷ g)
   pub written : tool.keeps_groups ≡ true → (k a b : List ℕ) (f g : Lines) → 0 < length (pairs k (a ∷ f) (b ∷ g))
   pub unwritten : tool.keeps_groups ≡ false → (k : List ℕ) (f g : Lines) → pairs k f g ≡ []
-  pub size : (ls : Side → Lines) → tool.size ls ≡ (2 * max_length (ls First) + 2 * max_length (ls Second)) + most.bytes
-      (ls Second)
-  pub slots : (ls : Side → Lines) → tool.slots ls ≡ 4 + most.lines (ls Second)
-  pub largest : tool.keeps_groups ≡ true → (g ls : Lines) → InGroup (largest_group (tool.key Second)) g ls
-      → InGroup most g ls
+  pub largest : tool.keeps_groups ≡ true → (g : Lines) (ls : Side → Lines) → InLargest (tool.key Second) g (ls Second)
+      → HasRoom tool g ls
 
 -- a call of such a tool, with its initial state
 pub record JoinCall : Type 0 where
   pub tool : MergeTool
   pub open tool use *
-  pub most : GroupBounds
   pub pairs : List ℕ → Lines → Lines → Lines
-  pub laws : IsPairTool tool most pairs
+  pub laws : IsPairTool tool pairs
   pub old : MergeState
   pub w : IsOpenMerge tool old
   pub open w use {o}
@@ -455,37 +382,6 @@ head_of now cursor s = line now.store (cursor s).current_slot
 -- the state after an input advanced, with this output and store
 abbrev pub state_after_read : MergeState → Side → Reader → Output → Slots → MergeState
 state_after_read now s reader out store = record { reader = with_side s reader now.reader; out = out; store = store }
-
--- ---- the bytes in the store
-
-pub extends : {now : Reader} {ls all : Lines} {piece : List ℕ} → HoldsLines now ls piece all → Extends ls all
-extends w = record { more = w.continues.more; is = w.continues.is }
-
--- the measure of `join` for inputs that begin with these lines
-pub size_of : (call : JoinCall) {store : Slots} {ls : Side → Lines} {g : Lines}
-    (h : GroupStore call.most call.old.store store ls g) (all : Side → Lines)
-    → ((side : Side) → max_length (ls side) ≤ max_length (all side)) → Extends (ls Second) (all Second)
-    → (store.peak ≤ max call.old.store.peak (call.size all))
-    × (length store.lines ≤ max (length call.old.store.lines) (call.slots all))
-    × (max (length call.old.store.lines) 4 ≤ length store.lines) × (total_bytes store.lines ≤ call.size all)
-size_of = grind (arith, has_lines_total)
-
-module _ (call : JoinCall) {store : Slots} {ls : Side → Lines} {g : Lines}
-    (h : GroupStore call.most call.old.store store ls g) {now : Side → Reader} where
-  -- a piece of a further line stays within the measure
-  pub peak_line : (s : Side) (cursor : Sorted) → HasSlots s cursor → (piece : List ℕ)
-      → Fits call.tool call.old.store now ls (with_side s piece (λ t. [])) (with_line store cursor.previous_slot piece)
-  peak_line = grind (arith, common_steps, group_store_line, put_same, extends, size_of)
-
-pub store_between_groups : (call : JoinCall) {reader : Side → Reader} {cursor : Side → Sorted} {store : Slots}
-    {ls : Side → Lines} → GroupStore call.most call.old.store store ls [] → AllSlots cursor
-    → StoreInvariant call.tool call.old.store reader cursor store ls
-store_between_groups call {cursor = cursor} h slots = record {
-  lines = h.lines;
-  denied = h.denied;
-  fits = λ after small same all more. grind (arith, common_steps, size_of, extends);
-  line = λ s. peak_line call h s (cursor s) (slots s);
-}
 
 -- the invariant of both inputs depends only on the first four slots
 pub same_cursors : (tool : MergeTool) {old now : Side → Reader} {cursor : Side → Sorted} {before after : Slots}
@@ -519,8 +415,8 @@ module _ (call : JoinCall) {mid : Output} {p g : Side → Lines} {d : Side → B
     rest = λ w r c wanted.
         let none = lines_with_key-above tool o (key Second) k (r Second) (above (r Second) (c Second)) in
         let (rest, is) = starts_pairs (g First) (lines_with_key (key First) (r First) k) (g Second) some in (
-          rest ++ entries_by_key tool w (others_of tool o k r),
-          front_is tool o w k g r m.own (none_less r c) (call.w.alone.none k)
+          rest ++ later_entries tool o w k (call.w.alone.none k) r,
+          front_is tool o w k (call.w.alone.none k) g r m.own (none_less r c)
               ∙ rw (wanted, none, append-nil (g Second), is) (append_assoc (pairs k (g First) (g Second)) rest _),
         );
   }
@@ -537,8 +433,8 @@ module _ (call : JoinCall) {mid : Output} {p g : Side → Lines} {d : Side → B
       let own = some_entries keeps f s
       (omega (arith, some First, length-append (g First) (lines_with_key (key First) (r First) k)))
       (omega (arith, some Second, length-append (g Second) (lines_with_key (key Second) (r Second) k))) in
-      let rest = entries_by_key tool w (others_of tool o k r) in
-      rw (front_is tool o w k g r m.own (none_less r c) (call.w.alone.none k), wanted)
+      let rest = later_entries tool o w k (call.w.alone.none k) r in
+      rw (front_is tool o w k (call.w.alone.none k) g r m.own (none_less r c), wanted)
       (omega (arith, own, length-append (entries k f s) rest))
 
   own_entries : (f s : Lines) → 0 < length f → 0 < length s → entries k f s ≡ pairs k f s
@@ -561,7 +457,7 @@ module _ (call : JoinCall) {mid : Output} {p g : Side → Lines} {d : Side → B
     where
       -- the output of the group alone
       alone_is : entries_by_key tool all_keys g ≡ entries k (g First) (g Second)
-      alone_is = simp append-nil at (front_is tool o all_keys k g (λ side. []) m.own (λ side. tt) (call.w.alone.none k))
+      alone_is = simp append-nil at (front_is tool o all_keys k (call.w.alone.none k) g (λ side. []) m.own (λ side. tt))
 
       splits_off : (w : List ℕ → Bool) (r : Side → Lines) → MayCome tool d r
           → entries_by_key tool w (λ side. g side ++ r side) ≡ entries_by_key tool w g ++ entries_by_key tool w r
@@ -570,7 +466,7 @@ module _ (call : JoinCall) {mid : Output} {p g : Side → Lines} {d : Side → B
           (above side (r side) (c side)) in
           let nothing : entries_of_key tool r k ≡ [] = (λ i. entries k (none First i) (none Second i))
           ∙ call.w.alone.none k in
-          front_first tool o w k g r m.own (none_less r c) (call.w.alone.none k)
+          front_first tool o w k (call.w.alone.none k) g r m.own (none_less r c)
           (simp (none First, none Second, nothing, append-nil))
 
       all : entries_by_key tool all_keys (λ side. p side ++ g side) ≡ entries_by_key tool all_keys p
@@ -599,7 +495,7 @@ pub record GroupState (call : JoinCall) (now : MergeState) (cursor : Side → So
   pub mid : Output
   pub sides : SidesInvariant call.tool call.old.reader now.reader cursor now.store ls (λ side. p side ++ g side) d
   pub within : OutputInGroup call.tool call.old.out mid p g d k
-  pub keeps : GroupStore call.most call.old.store now.store ls kept
+  pub keeps : GroupStore call.tool call.old.store now.store ls kept
   pub wrote : PushEffect mid now.out (unlines call.terminator (call.pairs k (g First) (g Second)))
   pub at : end ≡ 4 + length kept
 
@@ -635,20 +531,9 @@ module _ {call : JoinCall} {now : MergeState} {cursor : Side → Sorted} {end : 
 
   -- the group after other lines were stored for it
   pub group_kept : {after : Slots} → ((i : ℕ) → i < 4 → line after i ≡ line now.store i)
-      → {lines : Lines} → GroupStore call.most old.store after q.ls lines → {to : ℕ} → to ≡ 4 + length lines
+      → {lines : Lines} → GroupStore tool old.store after q.ls lines → {to : ℕ} → to ≡ 4 + length lines
       → GroupState call (record now { store = after }) cursor to k g lines
-  group_kept same holds at =
-      record {
-        ls = q.ls;
-        p = q.p;
-        d = q.d;
-        mid = q.mid;
-        sides = same_cursors call.tool q.sides holds.four same;
-        within = q.within;
-        keeps = holds;
-        wrote = q.wrote;
-        at = at;
-      }
+  group_kept same holds at = search (rules, same_cursors)
 
   -- the input `s` is at a further line of the group
   pub record IsAtGroupLine (s : Side) : Type 0 where
@@ -691,15 +576,15 @@ module _ {call : JoinCall} {now : MergeState} {cursor : Side → Sorted} {end : 
   -- writing failed, or reading the next line, after a prefix of the group's output was written
   pub group_breaks : {out : Output} {extra : Lines} → OutputStartsWith tool added q.d k extra
       → PushEffect q.mid out (unlines call.terminator extra) → EndsIfFails tool old now s (cursor s) out
-  group_breaks {extra = extra} begins wrote = advance_fails w {now = now} {cursor = cursor s}
+  group_breaks begins wrote = advance_fails w {now = now} {cursor = cursor s}
       {p = λ t. q.p t ++ added t} (record {
         facts = passing_now;
         all = all_processed;
         order = λ r piece free. both_begun (λ side. (q.sides side).begun);
-        denied = q.keeps.denied;
-        fits = peak_line call q.keeps s (cursor s) (q.sides s).slots;
-      }) (group_written w within_more extra wrote)
-      (λ new piece facts all more. group_comes_first w within_more new facts all more begins)
+        kept = kept;
+        keeps = q.keeps;
+        slots = (q.sides s).slots;
+      }) (group_written w within_more begins wrote)
 
   -- the input advances
   module _ {reader : Reader} {next : Sorted} {after : Slots}
@@ -728,7 +613,7 @@ module _ {call : JoinCall} {now : MergeState} {cursor : Side → Sorted} {end : 
       pub group : GroupState call (state_after_read now s reader new after) (with_side s next cursor) end k
           added kept
       pub bound : group.d (other s) ≡ q.d (other s)
-      pub more : Extends (q.ls Second) (group.ls Second)
+      pub more : AllExtend q.ls group.ls
 
     pub advanced_group : {new : Output} → PushEffect q.mid new (unlines call.terminator
         (pairs k (added First) (added Second))) → AdvancedGroup new
@@ -756,5 +641,5 @@ module _ {call : JoinCall} {now : MergeState} {cursor : Side → Sorted} {end : 
             at = q.at;
           };
           bound = put_other s n.bound q.d;
-          more = put_more s q.ls n.now_ls n.more n.continues_key;
+          more = side_extends s q.ls n.continues_key;
         }

@@ -14,7 +14,6 @@ use proofs.Common.{Disorder, status_at, same_key_at, NextOkPost, Result, Err, ma
 use proofs.Common.{advance_trans, push_trans, MergeFault, Write, lines_of, merged_entries, MergeState, MergePost}
 use proofs.Common.{HasNoLine, reads_nothing, EnsureFourSlotsErrPost, ◌*◌, option_map, CallOutcome, merge_state, both}
 use proofs.Common.{terminator, total_bytes, merge_engine, merge_end, disordered_line, HasSlots, length-set}
-use proofs.Parts.{by_keys_kept}
 use Rattle.ptlines.proofs.LineSearch.{IsLine-append}
 use Rattle.ptmerge.specs.MergeSpec.{MergeDisorder, decided_output, decided_entries, lines_decide_disorder, merge_output}
 use Rattle.ptmerge.specs.MergeSpec.{disorder_is_decided}
@@ -381,9 +380,7 @@ pub record SideAfterNext (tool : MergeTool) (s : Side) (old new : Reader) (curso
   pub later : IsLater tool.cmp (tool.key s) (bound_after last) bound
   pub bytes : List ℕ
   pub stored : after ≡ with_line before slot bytes
-  pub longer : max_length ls ≤ max_length now_ls
-  pub more : Lines
-  pub continues_key : now_ls ≡ ls ++ more
+  pub continues_key : Extends ls now_ls
   pub fits : length bytes ≤ max_length now_ls
 
 status_after_next : (cmp : Cmp) (key : Key) (last : Option (List ℕ)) (cursor : Sorted) (store : Slots) (next : List ℕ)
@@ -474,6 +471,14 @@ module _ (tool : MergeTool) (o : IsKeyOrder tool.cmp) (s : Side) (old now new : 
       (record { may_follow = λ r none. rw none (may_follow_none cmp own (bound_after last)); under = λ k u. tt })
       e.empty (omega arith))
 
+-- an input advances
+pub group_store_next : {tool : MergeTool} {before store after : Slots} {ls : Side → Lines} {g : Lines}
+    {old new : Reader} {next : Sorted} {last : Option (List ℕ)} (s : Side) (cursor : Sorted) → HasSlots s cursor
+    → GroupStore tool before store ls g
+    → (n : SideAfterNext tool s old new next cursor.previous_slot store after (ls s) last)
+    → GroupStore tool before after (with_side s n.now_ls ls) g
+group_store_next s cursor slots k n = search (rules, group_store_line, side_extends, put_same)
+
 -- ---- an exit
 
 abbrev pub state_by_side : (Side → Reader) → Output → Slots → MergeState
@@ -485,22 +490,28 @@ pub record IsFailedRead (new : Reader) (ls p : Lines) : Type 0 where
   pub eof : new.eof ≡ false
   pub all : ls ≡ p
 
--- the store never held more bytes than the measure of these lines, and has no more slots; it has the first four, and
--- those that it had
-abbrev pub FitsIn : MergeTool → Slots → Slots → (Side → Lines) → Type 0
-FitsIn tool before after ls =
-    (after.peak ≤ max before.peak (tool.size ls)) × (length after.lines ≤ max (length before.lines) (tool.slots ls))
-    × (max (length before.lines) 4 ≤ length after.lines)
-
--- this holds for all lists that continue these lines and pieces
+-- the store is within the measure for all lists that continue these lines and pieces
 abbrev pub Fits : MergeTool → Slots → (Side → Reader) → (Side → Lines) → (Side → List ℕ) → Slots → Type 0
 Fits tool before now ls piece after = (all : Side → Lines)
     → ((side : Side) → HoldsLines (now side) (ls side) (piece side) (all side)) → FitsIn tool before after all
 
--- the entries `done` come first, for all lists that continue the lines read
-abbrev pub ComeFirst : MergeTool → (Side → Reader) → (Side → Lines) → Lines → Type 0
-ComeFirst tool now ls done = (all : Side → Lines) → ((side : Side) → Continues (now side) (ls side) (all side))
-    → (rest : Lines) × (merged_entries tool all ≡ done ++ rest)
+pub extends : {now : Reader} {ls all : Lines} {piece : List ℕ} → HoldsLines now ls piece all → Extends ls all
+extends w = record { more = w.continues.more; is = w.continues.is }
+
+module _ {tool : MergeTool} {before store : Slots} {ls : Side → Lines} {g : Lines}
+    (k : GroupStore tool before store ls g) {now : Side → Reader} where
+  -- a piece of a further line stays within the measure
+  pub peak_line : (s : Side) (cursor : Sorted) → HasSlots s cursor → (piece : List ℕ)
+      → Fits tool before now ls (with_side s piece (λ t. [])) (with_line store cursor.previous_slot piece)
+  peak_line s cursor slots piece all holds =
+      let longest = rw (put_same s piece (λ t. [])) at (holds s).longest in
+      let next = group_store_line s cursor slots piece k (λ side. extends (holds side)) (omega (arith, longest)) refl in
+      next.fits all (λ side. extends_itself (all side))
+
+  -- and so does a store whose slots are emptied
+  pub fits_emptied : (after : Slots) → after.peak ≤ max store.peak (total_bytes store.lines)
+      → length after.lines ≡ length store.lines → Fits tool before now ls (λ side. []) after
+  fits_emptied = grind (arith, extends, total_within)
 
 -- The order of the first reads: the first input has begun, or the second is unread; and the second has begun, or at
 -- most one line of the first was read.
@@ -511,17 +522,6 @@ pub record FirstReads (end : ℕ) (old now new : Side → Reader) (ls : Side →
 pub both_begun : {end : ℕ} {old now new : Side → Reader} {ls : Side → Lines} {piece : Side → List ℕ}
     → ((side : Side) → HasBegun (now side) (ls side)) → FirstReads end old now new ls piece
 both_begun begun = record { first = inl (begun First); second = inl (begun Second) }
-
--- lines without a text are none
-no_lines_left : (end : ℕ) (done rest : Lines) → unlines end done ≡ unlines end (done ++ rest) → rest ≡ []
-no_lines_left end done [] same = refl
-no_lines_left end done (x ∷ rest) same =
-    absurd (omega (arith, simp (unlines-append, length-append) at (ap length same)))
-
--- the measure of a tool that stores two lines of each input
-abbrev pub HoldsTwoLines : MergeTool → Type 0
-HoldsTwoLines tool = (ls : Side → Lines)
-    → (2 * max_length (ls First) + 2 * max_length (ls Second) ≤ tool.size ls) × (4 ≤ tool.slots ls)
 
 -- the output for a key of one input alone is the output of each line
 pub record IsLineByLine (tool : MergeTool) : Type 0 where
@@ -534,7 +534,7 @@ pub record IsLineByLine (tool : MergeTool) : Type 0 where
 pub record IsOpenMerge (tool : MergeTool) (old : MergeState) : Type 0 where
   pub o : IsKeyOrder tool.cmp
   pub alone : IsLineByLine tool
-  pub fits : HoldsTwoLines tool
+  pub fits : (ls : Side → Lines) → HasRoom tool [] ls
   pub terminator : (side : Side) → (old.reader side).terminator ≡ tool.terminator
   pub sound : (side : Side) → IsSound (old.reader side)
   pub readable : (side : Side) → (old.reader side).fault ≡ None
@@ -564,12 +564,6 @@ module _ {tool : MergeTool} {old : MergeState} (w : IsOpenMerge tool old) (new :
       → (side : Side) → IsFuture cmp (key side) (all side) (p side) (b side)
   input_split_of all more side = rw (more side).is ((g side).processed_prefix.future (more side).more
       (λ ended. (more side).done ((g side).nothing_follows ended)))
-
-  -- the entries of the processed lines come first
-  pub processed_come_first : {was is : Output} → MergeInvariant tool b p was is
-      → ComeFirst tool now ls (entries_by_key tool all_keys p)
-  processed_come_first m all more =
-      let s = input_split_of all more in (_, input_split w.o m s)
 
   input_lines : (texts : Side → List ℕ) → AreAllConsistent both_sides given texts → (side : Side)
       → HoldsLines (now side) (ls side) (piece side) (lines tool.terminator (texts side))
@@ -605,15 +599,12 @@ module _ {tool : MergeTool} {old : MergeState} (w : IsOpenMerge tool old) (new :
         found,
       )
 
-  module _ {done : Lines} (lag : LagInvariant tool b p old.out new.out done) (first : ComeFirst tool now ls done) where
+  module _ {done : Lines} (lag : LagInvariant tool b p old.out new.out done) where
     open lag use {front, tail, bound, bytes}
 
-    -- if no bytes are missing in the output, no entry is
-    pub none_missing : (texts : Side → List ℕ) → AreAllConsistent both_sides given texts
-        → unlines tool.terminator done ≡ merge_output tool texts → merged_entries tool (lines_of tool texts) ≡ done
-    none_missing texts agree same =
-        let (rest, is) = first (lines_of tool texts) (continues texts agree) in
-        cc (is, append-nil done, no_lines_left _ done rest (same ∙ ap (unlines tool.terminator) is))
+    come_first : (texts : Side → List ℕ) → AreAllConsistent both_sides given texts
+        → (rest : Lines) × (merged_entries tool (lines_of tool texts) ≡ done ++ rest)
+    come_first texts agree = lag.first _ (input_split_of (lines_of tool texts) (continues texts agree))
 
     future : (side : Side) → LinesToCome tool side (known_lines tool.terminator (given side)) (p side) (tail side)
         (bound side)
@@ -652,8 +643,7 @@ module _ {tool : MergeTool} {old : MergeState} (w : IsOpenMerge tool old) (new :
       never_failed = λ side read. w.unfailed side;
       writable = w.writable;
       wrote = rw lag.all at (push_trans _ _ _ _ _ lag.clean lag.wrote lag.more);
-      is_prefix = λ texts agree. (let come = first (lines_of tool texts) (continues texts agree) in search
-          (rules, unlines-append));
+      is_prefix = λ texts agree. (let come = come_first texts agree in search (rules, unlines-append));
       -- everything was written that was decided two blocks of an input earlier
       bounded_lag = λ of read. rw lag.all at (bounded_lag_after _ _ old.out lag.mid (output_of tool front)
           (lag_bound tool w.o given front _ tail _ lag.split lag.under_bound future of (backs of)) lag.wrote lag.clean

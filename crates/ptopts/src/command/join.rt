@@ -9,14 +9,15 @@ ghost use Rattle.ptopts.specs.Args.{value_of};
 ghost use Rattle.ptopts.specs.Faults.{value_fault, each_value_fault, is_file_number, is_field_number, is_output_list};
 ghost use Rattle.ptopts.specs.Commands as commands;
 ghost use Rattle.ptopts.specs.Commands.{names_file, number_value, fields_of, checked_command, values_fault};
-ghost use Rattle.ptopts.specs.View.{words_view, CommandPost};
-ghost use Rattle.ptopts.specs.ParseSteps.{CheckPost, CheckThenMemoryPost, CheckOrMemoryPost, options_view};
+ghost use Rattle.ptopts.specs.View.{CommandPost};
+ghost use Rattle.ptopts.specs.ParseSteps.{CheckPost, CheckThenMemoryPost, CheckOrMemoryPost, options_of, operands_of};
+ghost use Rattle.ptopts.specs.ParseSteps.{options_view};
 
-use crate::command::{Command, read_inputs};
+use crate::command::Command;
 use crate::fault::UseFault;
-use crate::parsing::{ParsedOption, has_letter};
+use crate::parsing::{ParsedArgs, ParsedOption};
 use crate::tool::Tool;
-use crate::values::{delimiter, list_fault, value};
+use crate::values::list_fault;
 use ptlangs::jobs::JoinJob;
 use ptlangs::numbers;
 use ptlangs::outlist::{OutFault, OutList};
@@ -46,87 +47,75 @@ fn selected_files<'a>(options: &[ParsedOption<'a>], letter: u8) -> Result<[bool;
     Ok([first, second])
 }
 
-/// The number of a join field, counted from 1. The default is 1.
-fn field_number<'a>(options: &[ParsedOption<'a>], letter: u8) -> Result<u64, UseFault<'a>>
-    ensures fault { CheckPost result (value_fault (options_view options.now) (letter, is_field_number)) }
-    ensures number { IfOk result (λ n. n ≡ unwrap_or (number_value letter (options_view options.now)) 1) }
-{
-    let Some(text) = value(options, letter) else {
-        return Ok(1);
-    };
-    match numbers::decimal(text.as_bytes()) {
-        None | Some(0) => Err(UseFault::Value(letter, text)),
-        Some(number) => Ok(number),
+impl<'a, A: Allocator + Copy> ParsedArgs<'a, A> {
+    /// The number of a join field, counted from 1. The default is 1.
+    fn field_number(&self, letter: u8) -> Result<u64, UseFault<'a>>
+        ensures fault { CheckPost result (value_fault (options_of self.now) (letter, is_field_number)) }
+        ensures number { IfOk result (λ n. n ≡ unwrap_or (number_value letter (options_of self.now)) 1) }
+    {
+        let Some(text) = self.value(letter) else {
+            return Ok(1);
+        };
+        match numbers::decimal(text.as_bytes()) {
+            None | Some(0) => Err(UseFault::Value(letter, text)),
+            Some(number) => Ok(number),
+        }
     }
-}
 
-/// The output list, if there is one.
-fn output_list<'a, A: Allocator + Copy>(
-    alloc: A,
-    options: &[ParsedOption<'a>],
-) -> Result<Option<OutList<A>>, UseFault<'a>>
-    ensures fault { CheckThenMemoryPost result (value_fault (options_view options.now) (byte "o", is_output_list)) }
-    ensures list { IfOk result (λ l. l ≡ option_map fields_of (value_of (byte "o") (options_view options.now))) }
-{
-    let Some(text) = value(options, b'o') else {
-        return Ok(None);
-    };
-    match OutList::read(alloc, text.as_bytes()) {
-        Ok(list) => Ok(Some(list)),
-        Err(fault) => Err(list_fault(b'o', text, fault == OutFault::Memory)),
+    /// The output list, if there is one.
+    fn output_list(&self, alloc: A) -> Result<Option<OutList<A>>, UseFault<'a>>
+        ensures fault { CheckThenMemoryPost result (value_fault (options_of self.now) (byte "o", is_output_list)) }
+        ensures list { IfOk result (λ l. l ≡ option_map fields_of (value_of (byte "o") (options_of self.now))) }
+    {
+        let Some(text) = self.value(b'o') else {
+            return Ok(None);
+        };
+        match OutList::read(alloc, text.as_bytes()) {
+            Ok(list) => Ok(Some(list)),
+            Err(fault) => Err(list_fault(b'o', text, fault == OutFault::Memory)),
+        }
     }
-}
 
-/// The text for empty fields. The default is the empty string.
-fn empty_field<A: Allocator + Copy>(
-    alloc: A,
-    options: &[ParsedOption],
-) -> Result<Vec<u8, A>, AllocError>
-    ensures { IfOk result (λ v. v.items ≡ unwrap_or (value_of (byte "e") (options_view options.now)) []) }
-{
-    match value(options, b'e') {
-        None => Ok(Vec::new(alloc)),
-        Some(text) => text.as_bytes().to_vec(alloc),
+    /// The text for empty fields. The default is the empty string.
+    fn empty_field(&self, alloc: A) -> Result<Vec<u8, A>, AllocError>
+        ensures { IfOk result (λ v. v.items ≡ unwrap_or (value_of (byte "e") (options_of self.now)) []) }
+    {
+        match self.value(b'e') {
+            None => Ok(Vec::new(alloc)),
+            Some(text) => text.as_bytes().to_vec(alloc),
+        }
     }
-}
 
-/// The job of `join`.
-fn join_job<'a, A: Allocator + Copy>(
-    alloc: A,
-    options: &[ParsedOption<'a>],
-) -> Result<JoinJob<A>, UseFault<'a>>
-    ensures fault { CheckOrMemoryPost result (values_fault Join (options_view options.now)) }
-    ensures memory { result ≡ Err UseFault.Memory
-        → value_fault (options_view options.now) (byte "o", is_output_list) ≡ None }
-    ensures job { IfOk result (λ j. jobs.join_job j ≡ commands.join_from_options (options_view options.now)) }
-{
-    let [also1, also2] = selected_files(options, b'a')?;
-    let [only1, only2] = selected_files(options, b'v')?;
-    let list = output_list(alloc, options)?;
-    let sep = delimiter(options, b't')?;
-    let field1 = field_number(options, b'1')?;
-    let field2 = field_number(options, b'2')?;
-    Ok(JoinJob {
-        pairs: !has_letter(options, b'v'),
-        unpaired: [also1 || only1, also2 || only2],
-        empty: empty_field(alloc, options)?,
-        list,
-        sep,
-        field: [field1, field2],
-        zero: has_letter(options, b'z'),
-        descending: has_letter(options, b'r'),
-    })
-}
+    /// The job of `join`.
+    fn join_job(&self, alloc: A) -> Result<JoinJob<A>, UseFault<'a>>
+        ensures fault { CheckOrMemoryPost result (values_fault Join (options_of self.now)) }
+        ensures memory { result ≡ Err UseFault.Memory
+            → value_fault (options_of self.now) (byte "o", is_output_list) ≡ None }
+        ensures job { IfOk result (λ j. jobs.join_job j ≡ commands.join_from_options (options_of self.now)) }
+    {
+        let [also1, also2] = selected_files(&self.options, b'a')?;
+        let [only1, only2] = selected_files(&self.options, b'v')?;
+        let list = self.output_list(alloc)?;
+        let sep = self.delimiter(b't')?;
+        let field1 = self.field_number(b'1')?;
+        let field2 = self.field_number(b'2')?;
+        Ok(JoinJob {
+            pairs: !self.has(b'v'),
+            unpaired: [also1 || only1, also2 || only2],
+            empty: self.empty_field(alloc)?,
+            list,
+            sep,
+            field: [field1, field2],
+            zero: self.has(b'z'),
+            descending: self.has(b'r'),
+        })
+    }
 
-/// The command of `join`.
-pub(crate) fn join_command<'a, A: Allocator + Copy>(
-    alloc: A,
-    options: &[ParsedOption<'a>],
-    operands: &[&'a str],
-) -> Result<Command<'a, A>, UseFault<'a>>
-    ensures { CommandPost result (checked_command Join (options_view options.now) (words_view operands.now)) }
-{
-    let job = join_job(alloc, options)?;
-    let inputs = read_inputs(alloc, Tool::Join, options, operands)?;
-    Ok(Command::Join(job, inputs))
+    /// The command of `join`.
+    pub(crate) fn join_command(&self, alloc: A) -> Result<Command<'a, A>, UseFault<'a>>
+        ensures { CommandPost result (checked_command Join (options_of self.now) (operands_of self.now)) }
+    {
+        let job = self.join_job(alloc)?;
+        Ok(Command::Join(job, self.read_inputs(alloc, Tool::Join)?))
+    }
 }

@@ -6,72 +6,67 @@ ghost use Rattle.ptopts.specs.declared.tool.Tool.TheVariants.{Tr};
 ghost use Rattle.ptopts.specs.Faults as faults;
 ghost use Rattle.ptopts.specs.Faults.{form_of_options, operands_fault, strings_fault};
 ghost use Rattle.ptopts.specs.Commands.{char_tables, checked_command};
-ghost use Rattle.ptopts.specs.View.{words_view, CommandPost};
-ghost use Rattle.ptopts.specs.ParseSteps.{CheckPost, options_view};
+ghost use Rattle.ptopts.specs.View.{CommandPost};
+ghost use Rattle.ptopts.specs.ParseSteps.{CheckPost, options_of, operands_of};
 
-use crate::command::{Command, read_inputs};
+use crate::command::Command;
 use crate::fault::UseFault;
-use crate::parsing::{ParsedOption, has_letter};
+use crate::parsing::ParsedArgs;
 use crate::tool::Tool;
 use ptlangs::{CharPlan, Form};
 use std::alloc::Allocator;
 
-/// The form of `tr`, from its options and the number of its strings (POSIX.1-2017, XCU, `tr`, the synopsis).
-fn form(options: &[ParsedOption], strings: &[&str]) -> Form
-    ensures { result ≡ form_of_options (options_view options.now) (words_view strings.now) }
-{
-    match (has_letter(options, b'd'), has_letter(options, b's')) {
-        (false, false) => Form::Translate,
-        (false, true) if strings.len() == 1 => Form::Squeeze,
-        (false, true) => Form::TranslateSqueeze,
-        (true, false) => Form::Delete,
-        (true, true) => Form::DeleteSqueeze,
+impl<'a, A: Allocator + Copy> ParsedArgs<'a, A> {
+    /// The form of `tr`, from its options and the number of its strings (POSIX.1-2017, XCU, `tr`, the synopsis).
+    fn form(&self) -> Form
+        ensures { result ≡ form_of_options (options_of self.now) (operands_of self.now) }
+    {
+        match (self.has(b'd'), self.has(b's')) {
+            (false, false) => Form::Translate,
+            (false, true) if self.operands.len() == 1 => Form::Squeeze,
+            (false, true) => Form::TranslateSqueeze,
+            (true, false) => Form::Delete,
+            (true, true) => Form::DeleteSqueeze,
+        }
     }
-}
 
-/// Whether the first string is complemented.
-fn is_complemented(options: &[ParsedOption]) -> bool
-    ensures { result ≡ faults.is_complemented (options_view options.now) }
-{
-    has_letter(options, b'c') || has_letter(options, b'C')
-}
-
-/// The second string, if there is one.
-fn second<'a>(strings: &[&'a str]) -> Option<&'a [u8]>
-    ensures { option_copied result ≡ slice_get (words_view strings.now) 1 }
-{
-    match strings {
-        [_, second, ..] => Some(second.as_bytes()),
-        _ => None,
+    /// Whether the first string is complemented.
+    fn is_complemented(&self) -> bool
+        ensures { result ≡ faults.is_complemented (options_of self.now) }
+    {
+        self.has(b'c') || self.has(b'C')
     }
-}
 
-/// The plan for each byte.
-fn char_plan<'a>(
-    options: &[ParsedOption<'a>],
-    strings: &[&'a str],
-) -> Result<CharPlan, UseFault<'a>>
-    requires { operands_fault Tr (options_view options.now) (words_view strings.now) ≡ None }
-    ensures fault { CheckPost result (strings_fault Tr (options_view options.now) (words_view strings.now)) }
-    ensures plan { IfOk result (λ p. p ≡ char_tables (options_view options.now) (words_view strings.now)) }
-{
-    let plan = CharPlan::read(
-        form(options, strings),
-        is_complemented(options),
-        strings[0].as_bytes(),
-        second(strings),
-    )?;
-    Ok(plan)
-}
+    /// The second string, if there is one.
+    fn second(&self) -> Option<&'a [u8]>
+        ensures { option_copied result ≡ slice_get (operands_of self.now) 1 }
+    {
+        match self.operands {
+            [_, second, ..] => Some(second.as_bytes()),
+            _ => None,
+        }
+    }
 
-/// The command of `tr`.
-pub(crate) fn tr_command<'a, A: Allocator + Copy>(
-    alloc: A,
-    options: &[ParsedOption<'a>],
-    operands: &[&'a str],
-) -> Result<Command<'a, A>, UseFault<'a>>
-    ensures { CommandPost result (checked_command Tr (options_view options.now) (words_view operands.now)) }
-{
-    let inputs = read_inputs(alloc, Tool::Tr, options, operands)?;
-    Ok(Command::Tr(char_plan(options, operands)?, inputs))
+    /// The plan for each byte.
+    fn char_plan(&self) -> Result<CharPlan, UseFault<'a>>
+        requires { operands_fault Tr (options_of self.now) (operands_of self.now) ≡ None }
+        ensures fault { CheckPost result (strings_fault Tr (options_of self.now) (operands_of self.now)) }
+        ensures plan { IfOk result (λ p. p ≡ char_tables (options_of self.now) (operands_of self.now)) }
+    {
+        let plan = CharPlan::read(
+            self.form(),
+            self.is_complemented(),
+            self.operands[0].as_bytes(),
+            self.second(),
+        )?;
+        Ok(plan)
+    }
+
+    /// The command of `tr`.
+    pub(crate) fn tr_command(&self, alloc: A) -> Result<Command<'a, A>, UseFault<'a>>
+        ensures { CommandPost result (checked_command Tr (options_of self.now) (operands_of self.now)) }
+    {
+        let inputs = self.read_inputs(alloc, Tool::Tr)?;
+        Ok(Command::Tr(self.char_plan()?, inputs))
+    }
 }

@@ -6,56 +6,52 @@ ghost use Rattle.ptlangs.specs.Jobs as jobs;
 ghost use Rattle.ptopts.specs.declared.tool.Tool.TheVariants.{Uniq};
 ghost use Rattle.ptopts.specs.Commands as commands;
 ghost use Rattle.ptopts.specs.Commands.{checked_command, values_fault};
-ghost use Rattle.ptopts.specs.View.{words_view, CommandPost};
-ghost use Rattle.ptopts.specs.ParseSteps.{CheckPost, options_view};
+ghost use Rattle.ptopts.specs.View.{CommandPost};
+ghost use Rattle.ptopts.specs.ParseSteps.{CheckPost, options_of, operands_of};
 
-use crate::command::{Command, read_inputs};
+use crate::command::Command;
 use crate::fault::UseFault;
-use crate::parsing::{ParsedOption, has_letter};
+use crate::parsing::ParsedArgs;
 use crate::tool::Tool;
-use crate::values::number;
 use ptlangs::jobs::{Show, UniqJob};
 use std::alloc::Allocator;
 
-/// The lines that are written.
-fn show(options: &[ParsedOption]) -> Show
-    ensures { result ≡ commands.show (options_view options.now) }
-{
-    if has_letter(options, b'c') {
-        Show::Counts
-    } else if has_letter(options, b'd') {
-        Show::Repeated
-    } else if has_letter(options, b'u') {
-        Show::Single
-    } else {
-        Show::All
+impl<'a, A: Allocator + Copy> ParsedArgs<'a, A> {
+    /// The lines that are written.
+    fn show(&self) -> Show
+        ensures { result ≡ commands.show (options_of self.now) }
+    {
+        if self.has(b'c') {
+            Show::Counts
+        } else if self.has(b'd') {
+            Show::Repeated
+        } else if self.has(b'u') {
+            Show::Single
+        } else {
+            Show::All
+        }
     }
-}
 
-/// The job of `uniq`.
-fn uniq_job<'a>(options: &[ParsedOption<'a>]) -> Result<UniqJob, UseFault<'a>>
-    ensures fault { CheckPost result (values_fault Uniq (options_view options.now)) }
-    ensures job { IfOk result (λ j. jobs.uniq_job j ≡ commands.uniq_from_options (options_view options.now)) }
-{
-    let fields = number(options, b'f')?.unwrap_or(0);
-    let chars = number(options, b's')?.unwrap_or(0);
-    Ok(UniqJob {
-        show: show(options),
-        fields,
-        chars,
-        zero: has_letter(options, b'z'),
-    })
-}
+    /// The job of `uniq`.
+    fn uniq_job(&self) -> Result<UniqJob, UseFault<'a>>
+        ensures fault { CheckPost result (values_fault Uniq (options_of self.now)) }
+        ensures job { IfOk result (λ j. jobs.uniq_job j ≡ commands.uniq_from_options (options_of self.now)) }
+    {
+        let fields = self.number(b'f')?.unwrap_or(0);
+        let chars = self.number(b's')?.unwrap_or(0);
+        Ok(UniqJob {
+            show: self.show(),
+            fields,
+            chars,
+            zero: self.has(b'z'),
+        })
+    }
 
-/// The command of `uniq`.
-pub(crate) fn uniq_command<'a, A: Allocator + Copy>(
-    alloc: A,
-    options: &[ParsedOption<'a>],
-    operands: &[&'a str],
-) -> Result<Command<'a, A>, UseFault<'a>>
-    ensures { CommandPost result (checked_command Uniq (options_view options.now) (words_view operands.now)) }
-{
-    let job = uniq_job(options)?;
-    let inputs = read_inputs(alloc, Tool::Uniq, options, operands)?;
-    Ok(Command::Uniq(job, inputs))
+    /// The command of `uniq`.
+    pub(crate) fn uniq_command(&self, alloc: A) -> Result<Command<'a, A>, UseFault<'a>>
+        ensures { CommandPost result (checked_command Uniq (options_of self.now) (operands_of self.now)) }
+    {
+        let job = self.uniq_job()?;
+        Ok(Command::Uniq(job, self.read_inputs(alloc, Tool::Uniq)?))
+    }
 }

@@ -1,37 +1,37 @@
--- The buffered output is written before each read, so each exit comes after that. After the line in the last slot it is
--- written again, and the lines of the block follow. Each exit is an outcome of a pass.
+-- The buffered output is written before each read, so each exit comes after that. The lines that end in the block
+-- follow the line in the last slot. Each exit is an outcome of a pass.
 use Rattle.ptflow.proofs
-use proofs.Passes.LineLoop.{LineLoopState, short_block, filled_line, run_starts, run_unslotted, run_sent, run_count}
+use proofs.Passes.LineLoop.{LineLoopState, filled_line, run_starts, run_unslotted, run_sent, run_count}
 use proofs.Passes.LineLoop.{run_room, run_flush_failed, run_line, run_line_halts, filled_count, same_room, some_line}
-use proofs.Passes.LineLoop.{run_read, keeps_last, same_bounds, run_memory, run_done, run_unended, run_block}
+use proofs.Passes.LineLoop.{run_read, run_memory, run_done, run_unended, run_block}
 use proofs.Passes.LineLoop.{run_block_halts, bounds_start, swapped_room}
-use proofs.Passes.Exits.{by_write, budget_of_line, returned_err}
+use proofs.Passes.Exits.{by_write, returned_err}
 use Rattle.ptflow.proofs.line_loop.run_lines.Given as given
 use Rattle.ptflow.proofs.line_loop.run_lines.Goals as goal
 use Rattle.ptflow.proofs.line_loop.run_lines.Goals.{In_ok-write_out_before_blocking, In_ok-process_line-in-Ok-true}
-use proofs.Common.{rules}
+use proofs.Common.{rules, arith, common_steps, ◌∙◌}
 
 -- the state after the buffered output was written, and after the line in the last slot
 written_out : (g : given.Over) (c : In_ok-write_out_before_blocking g) → let T = g.T.LineFilter in
-    LineLoopState T.model (T.rest c.args.tool.now) (T.written c.args.tool.now) T.counted
-    (T.tool c.args.tool.now).end T.SLOTS c.args.state.now (T.model c.reading.state c.reading.store)
+    LineLoopState T.model (T.rest (T.job c.args.tool.now)) (T.written (T.job c.args.tool.now)) T.counted
+    (T.tool (T.job c.args.tool.now)).end T.SLOTS c.args.tool.now (T.model c.reading.tool c.reading.store)
     c.args.reader.now c.reading.reader c.args.out.now c.write_out_before_blocking.new.out c.args.store.now
     c.reading.store
 written_out g c = search (rules, run_sent)
 
 line_taken : (g : given.Over) (c : In_ok-process_line-in-Ok-true g) → let T = g.T.LineFilter in
-    LineLoopState T.model (T.rest c.args.tool.now) (T.written c.args.tool.now) T.counted
-    (T.tool c.args.tool.now).end T.SLOTS c.args.state.now
-    (T.model c.process_line.new.state c.process_line.new.store) c.args.reader.now c.fill.new.self c.args.out.now
+    LineLoopState T.model (T.rest (T.job c.args.tool.now)) (T.written (T.job c.args.tool.now)) T.counted
+    (T.tool (T.job c.args.tool.now)).end T.SLOTS c.args.tool.now
+    (T.model c.process_line.new.self c.process_line.new.store) c.args.reader.now c.fill.new.self c.args.out.now
     c.process_line.new.out c.args.store.now c.process_line.new.store
 line_taken g c =
-    let r = run_sent c.requires.tool c.reading.invariant c.write_out_before_blocking.ensures.pushed.wrote
+    let r = run_sent c.requires.tool c.reading.invariant.run c.write_out_before_blocking.ensures.pushed.wrote
     c.in_ok-write_out_before_blocking.ensures.pushed.clean in
     let e = filled_line c.requires.slots c.in-Ok-true.field-0-test
     (c.in-Ok-true.ensures.fills r.reached.advance_ok.fault) in
     let took = c.in_ok-process_line-in-Ok-true.ensures in
-    run_line c.requires.tool r e {next = g.T.LineFilter.model c.process_line.new.state c.process_line.new.store}
-    took.continues took.swapped
+    run_line c.requires.tool r e {next = g.T.LineFilter.model c.process_line.new.self c.process_line.new.store}
+    (rw c.reading.invariant.same_job at took.continues) took.swapped
 
 pub returns-in_err-ensure_slots : goal.returns-in_err-ensure_slots
 returns-in_err-ensure_slots g c =
@@ -47,13 +47,13 @@ reading-init g c = search (rules, run_starts, bounds_start)
 pub returns-in_err-write_out_before_blocking : goal.returns-in_err-write_out_before_blocking
 returns-in_err-write_out_before_blocking g c =
     by_write c.from_residual-in_err-write_out_before_blocking.ensures
-    (run_flush_failed c.requires.tool c.reading.invariant c.requires.begins.ready
+    (run_flush_failed c.requires.tool c.reading.invariant.run c.requires.begins.ready
     c.write_out_before_blocking.ensures.sound
     c.write_out_before_blocking.ensures.pushed.wrote c.in_err-write_out_before_blocking.ensures.pushed.fault)
 
 pub process_line-requires-clause-few : goal.process_line-requires-clause-few
 process_line-requires-clause-few g c =
-    let r = c.reading.invariant in
+    let r = c.reading.invariant.run in
     let e = filled_line c.requires.slots c.in-Ok-true.field-0-test
     (c.in-Ok-true.ensures.fills r.reached.advance_ok.fault) in
     filled_count c.requires.tool r c.requires.begins.sound c.fill.ensures.was_sound e.line e.stored
@@ -65,58 +65,45 @@ returns-in_err-process_line-in-Ok-true g c =
     (c.in-Ok-true.ensures.fills r.reached.advance_ok.fault) in
     rw c.in_err-process_line-in-Ok-true.ensures.same (by_write c.from_residual-in_err-process_line-in-Ok-true.ensures
     (run_line_halts c.requires.tool r e c.requires.begins.ready c.fill.ensures.was_sound c.fill.ensures.is_sound
-    c.in_err-process_line-in-Ok-true.ensures.halts))
+    (rw c.reading.invariant.same_job at c.in_err-process_line-in-Ok-true.ensures.halts)))
 
 pub returns-in_err-finish-in-Ok-false : goal.returns-in_err-finish-in-Ok-false
 returns-in_err-finish-in-Ok-false g c =
     let r = written_out g (goal.at.returns-in_err-finish-in-Ok-false g c).In_ok-write_out_before_blocking in
-    let (advance_ok, done, emptied) = rw (c.in-Ok-false.field-0-test, c.requires.slots) at
+    let ended = rw (c.in-Ok-false.field-0-test, c.requires.slots) at
     (c.in-Ok-false.ensures.fills r.reached.advance_ok.fault) in
-    let end = c.in_err-finish-in-Ok-false.ensures.pushed r.reached.clean in
+    let end = rw c.reading.invariant.same_job at (c.in_err-finish-in-Ok-false.ensures.pushed r.reached.clean) in
     rw c.in_err-finish-in-Ok-false.ensures.same (by_write c.from_residual-in_err-finish-in-Ok-false.ensures
-    (run_unended c.requires.tool r c.requires.begins.ready c.fill.ensures.was_sound c.fill.ensures.is_sound advance_ok
-    done emptied end.wrote end.fault))
+    (run_unended c.requires.tool r c.requires.begins.ready c.fill.ensures.was_sound c.fill.ensures.is_sound ended
+    end.wrote end.fault))
 
 pub returns-in-Ok-false : goal.returns-in-Ok-false
 returns-in-Ok-false g c =
     let r = written_out g (goal.at.returns-in-Ok-false g c).In_ok-write_out_before_blocking in
-    let (advance_ok, done, emptied) = rw (c.in-Ok-false.field-0-test, c.requires.slots) at
+    let ended = rw (c.in-Ok-false.field-0-test, c.requires.slots) at
     (c.in-Ok-false.ensures.fills r.reached.advance_ok.fault) in
     let end = c.in_ok-finish-in-Ok-false.ensures in
-    let pushed = end.pushed r.reached.clean in
-    run_done c.requires.tool r c.requires.begins.ready c.fill.ensures.was_sound c.fill.ensures.is_sound advance_ok done
-    emptied pushed.wrote end.emptied pushed.clean
+    let pushed = rw c.reading.invariant.same_job at (end.pushed r.reached.clean) in
+    run_done c.requires.tool r c.requires.begins.ready c.fill.ensures.was_sound c.fill.ensures.is_sound ended
+    pushed.wrote end.emptied pushed.clean
 
 pub returns-in-Err-Read : goal.returns-in-Err-Read
 returns-in-Err-Read g c =
     let r = written_out g (goal.at.returns-in-Err-Read g c).In_ok-write_out_before_blocking in
-    let e = rw (c.in-Err-Read.field-0-is, c.requires.slots) at
-    (c.in-Err-Read.ensures.fills r.reached.advance_ok.fault) in
-    run_read c.requires.tool r c.requires.begins.ready c.fill.ensures.was_sound e.faults.reads e.faults.whole
-    c.fill.ensures.is_sound (keeps_last c.requires.tool r e.piece e.stored) e.cause
+    run_read c.requires.tool r c.requires.begins.ready c.fill.ensures.was_sound c.fill.ensures.is_sound
+    (rw (c.in-Err-Read.field-0-is, c.requires.slots) at (c.in-Err-Read.ensures.fills r.reached.advance_ok.fault))
 
 pub returns-in-Err-Memory : goal.returns-in-Err-Memory
 returns-in-Err-Memory g c =
     let r = written_out g (goal.at.returns-in-Err-Memory g c).In_ok-write_out_before_blocking in
-    let e = rw (c.in-Err-Memory.field-0-is, c.requires.slots) at
-    (c.in-Err-Memory.ensures.fills r.reached.advance_ok.fault) in
-    run_memory c.requires.tool r c.requires.begins.ready c.fill.ensures.was_sound e.faults.reads e.faults.whole
-    c.fill.ensures.is_sound e.stored e.failed e.left
-
-pub returns-in_err-write_out_before_blocking-2 : goal.returns-in_err-write_out_before_blocking-2
-returns-in_err-write_out_before_blocking-2 g c =
-    let v = line_taken g (goal.at.returns-in_err-write_out_before_blocking-2 g c).In_ok-process_line-in-Ok-true in
-    by_write c.from_residual-in_err-write_out_before_blocking-2.ensures
-    (run_flush_failed c.requires.tool v c.requires.begins.ready c.fill.ensures.is_sound
-    c.write_out_before_blocking-in-reading.ensures.pushed.wrote
-    c.in_err-write_out_before_blocking-2.ensures.pushed.fault)
+    run_memory c.requires.tool r c.requires.begins.ready c.fill.ensures.was_sound c.fill.ensures.is_sound
+    (rw (c.in-Err-Memory.field-0-is, c.requires.slots) at (c.in-Err-Memory.ensures.fills r.reached.advance_ok.fault))
 
 pub reading-smaller : goal.reading-smaller
 reading-smaller g c =
     let e = filled_line c.requires.slots c.in-Ok-true.field-0-test
-    (c.in-Ok-true.ensures.fills c.reading.invariant.reached.advance_ok.fault) in
-    let (refilled, shown, _) = (rw c.in-Ok.is at c.block.follows.holds-at-none.shows) e.advance_ok.fault in
-    budget_of_line c.reading.reader c.in_ok-passed-in-Ok.passed e.less refilled c.consume.ensures.consumed
+    (c.in-Ok-true.ensures.fills c.reading.invariant.run.reached.advance_ok.fault) in
+    grind (arith, common_steps)
 
 pub process_lines-requires-clause-room : goal.process_lines-requires-clause-room
 process_lines-requires-clause-room g c = search (rules, swapped_room, same_room, run_room)
@@ -125,38 +112,26 @@ pub process_lines-requires-clause-buffered : goal.process_lines-requires-clause-
 process_lines-requires-clause-buffered g c =
     let took = c.in_ok-process_line-in-Ok-true.ensures in
     let v = line_taken g (goal.at.process_lines-requires-clause-buffered g c).In_ok-process_line-in-Ok-true in
-    let (_, shown, _) = (rw c.in-Ok.is at c.block.follows.holds-at-none.shows) v.reached.advance_ok.fault in
     record {
       few = run_count c.requires.tool v c.requires.begins.sound c.fill.ensures.is_sound;
       waits = took.continues.some some_line;
-      short = short_block shown c.block.follows.holds-at-none.is_sound;
+      short = grind (arith, common_steps);
     }
 
-pub returns-in_err-passed-in-Ok : goal.returns-in_err-passed-in-Ok
-returns-in_err-passed-in-Ok g c =
-    let v = line_taken g (goal.at.returns-in_err-passed-in-Ok g c).In_ok-process_line-in-Ok-true in
-    let u = run_sent c.requires.tool v c.write_out_before_blocking-in-reading.ensures.pushed.wrote
-    c.in_ok-write_out_before_blocking-2.ensures.pushed.clean in
-    let (refilled, shown, _) = (rw c.in-Ok.is at c.block.follows.holds-at-none.shows) u.reached.advance_ok.fault in
-    by_write c.from_residual-in_err-passed-in-Ok.ensures
-    (run_block_halts c.requires.tool u c.requires.begins.ready c.fill.ensures.is_sound refilled.reads
-    c.block.follows.holds-at-none.is_sound shown refilled.failed c.in_err-passed-in-Ok.ensures.halts)
-
-pub returns-in-Err : goal.returns-in-Err
-returns-in-Err g c =
-    let v = line_taken g (goal.at.returns-in-Err g c).In_ok-process_line-in-Ok-true in
-    let u = run_sent c.requires.tool v c.write_out_before_blocking-in-reading.ensures.pushed.wrote
-    c.in_ok-write_out_before_blocking-2.ensures.pushed.clean in
-    let (failed, cause, _) = (rw c.in-Err.is at c.block.follows.holds-at-none.shows) u.reached.advance_ok.fault in
-    run_read c.requires.tool u c.requires.begins.ready c.fill.ensures.is_sound failed.reads tt
-    c.block.follows.holds-at-none.is_sound (same_bounds c.requires.tool u) cause
+pub returns-in_err-passed : goal.returns-in_err-passed
+returns-in_err-passed g c =
+    let v = line_taken g (goal.at.returns-in_err-passed g c).In_ok-process_line-in-Ok-true in
+    let same = c.process_line.ensures.same_job ∙ c.reading.invariant.same_job in
+    by_write c.from_residual-in_err-passed.ensures
+    (run_block_halts c.requires.tool v c.requires.begins.ready c.fill.ensures.is_sound c.buffered.ensures.buffered
+    (rw same at c.in_err-passed.ensures.halts))
 
 pub reading-preserved : goal.reading-preserved
 reading-preserved g c =
     let v = line_taken g (goal.at.reading-preserved g c).In_ok-process_line-in-Ok-true in
-    let u = run_sent c.requires.tool v c.write_out_before_blocking-in-reading.ensures.pushed.wrote
-    c.in_ok-write_out_before_blocking-2.ensures.pushed.clean in
-    let (refilled, shown, _) = (rw c.in-Ok.is at c.block.follows.holds-at-none.shows) u.reached.advance_ok.fault in
-    let rest = c.in_ok-passed-in-Ok.ensures in
-    run_block c.requires.tool u refilled shown rest.passed c.consume.ensures.consumed
-    {next = g.T.LineFilter.model c.process_lines.new.state c.process_line.new.store} rest.continues
+    let same = c.process_line.ensures.same_job ∙ c.reading.invariant.same_job in
+    let rest = c.in_ok-passed.ensures in record {
+      same_job = c.process_lines.ensures.same_job ∙ same;
+      run = run_block c.requires.tool v c.buffered.ensures.buffered (rw same at rest.passed) c.consume.ensures.consumed
+          {next = g.T.LineFilter.model c.process_lines.new.self c.process_line.new.store} (rw same at rest.continues);
+    }

@@ -49,12 +49,11 @@ abbrev pub selected_bytes : List Interval → List ℕ → Line → ℕ → List
 selected_bytes list block line count =
     select_from (is_selected list) (line.line_offset + 1) (take count (drop line.start block))
 
--- Some of the 64 bytes at index `from` are terminators, and `mask` is their match mask; 16 bytes follow them.
+-- `mask` is the match mask of the terminators among the 64 bytes at index `from`; 16 bytes follow them.
 pub record HasTerminators (end : ℕ) (block : List ℕ) (from mask : ℕ) : Type 0 where
   pub within : from + 80 ≤ length block
   pub most : length block ≤ 8192
   pub is : mask ≡ mask_l (map (is_byte end) (chunk from 64 block))
-  pub some : 0 < mask
 
 -- This index is in the line. The output so far is not longer than the lines before.
 pub record IsLineAt (end : ℕ) (block : List ℕ) (at : ℕ) (line : Line) : Type 0 where

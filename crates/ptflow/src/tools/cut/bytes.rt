@@ -3,7 +3,7 @@
 ghost use Rattle.std.specs.Prelude.{◌≡◌, ◌<◌, ◌≤◌, ◌+◌, ◌*◌, ◌++◌, ◌∷◌, ℕ, List, [], length, take, drop};
 ghost use Rattle.ptlangs.specs.CutLists.{AreSeparated, is_selected};
 ghost use Rattle.ptflow.specs.Private.Cut.CutFrom.{cut_list_from, selected_bytes, IsCutPart, ExtendsCut};
-ghost use Rattle.ptflow.specs.Private.Cut.CutFrom.{HasTerminators, IsLineAt, CutPost};
+ghost use Rattle.ptflow.specs.Private.Cut.CutFrom.{HasTerminators, IsLineAt, IsSameLine, CutPost};
 ghost use Rattle.ptflow.specs.Private.Passes.BlockLoop.{HasRoom};
 ghost use Rattle.ptflow.specs.Private.Cut.ShortLines.{AreLineShuffles, AreSeparated-prop};
 ghost use Rattle.ptflow.specs.Cuts.{select_from};
@@ -144,7 +144,7 @@ impl Selection<'_> {
         requires line { IsLineAt self.now.terminator block.now from line }
         ensures on { CutPost self.now.terminator self.now.selected.now block.now line (take line.at into.old) result
             (take result.at into.new) }
-        ensures passed { (from < result.start) × (result.start ≤ from + 64) }
+        ensures same { IsSameLine self.now.terminator block.now (from + 64) result.start }
     {
         let mut mask = mask;
         let mut line = line;
@@ -207,12 +207,10 @@ impl Selection<'_> {
         let mut from = 0;
         while block.len() - from >= 80 {
             let mask = match_mask(self.terminator, block, from);
-            if mask == 0 {
-                from += 64;
-            } else {
+            if mask != 0 {
                 line = self.cut_chunk(block, from, mask, line, into);
-                from = line.start;
             }
+            from += 64;
         }
         self.cut_tail(block, line, into)
     }

@@ -39,8 +39,8 @@ fn skip_fields(delimiters: &ByteMatches, from: usize, to: usize, count: u64) -> 
     }
 }
 
-// What is left of the output for a line: the fields that these intervals select. The field after the first `passed` ones
-// starts at index `at` of the line; if there is no such field, `at` is after its end.
+// What is left of the output for a line: the fields that these intervals select. The field after the first `passed`
+// ones starts at index `at` of the line; if there is no such field, `at` is after its end.
 #[derive(Clone, Copy)]
 struct FieldCursor<'a> {
     left: &'a [Interval],
@@ -112,16 +112,23 @@ fn write_fields<A: Allocator + Copy, W: Sink>(
 
 /// A job that selects fields, and the terminator.
 #[derive(Drop)]
-pub(crate) struct FieldCut<'a, A: Allocator> {
+pub(crate) struct FieldSelection<'a, A: Allocator> {
     pub job: &'a CutJob<A>,
     pub terminator: u8,
     ghost by_fields: { job.now.fields ≡ true },
     ghost ends: { terminator ≡ (cut_job job.now).terminator },
 }
 
+/// The selection, and a buffer for the output of the lines of a block.
+#[derive(Drop)]
+pub(crate) struct FieldCut<'a, A: Allocator> {
+    pub by: FieldSelection<'a, A>,
+    pub buffer: OutBuf,
+}
+
 // Pushes the output of a line, which is given without its terminator.
 fn write_line<A: Allocator + Copy, W: Sink>(
-    by: &FieldCut<A>,
+    by: &FieldSelection<A>,
     line: &[u8],
     out: &mut Out<W>,
 ) -> Result<(), WriteFault>
@@ -191,7 +198,7 @@ fn whole_lines_len(terminator: u8, bytes: &[u8], to: usize, up_to: usize) -> usi
 // index after their output.
 #[inline(always)]
 fn copy_lines<A: Allocator + Copy>(
-    by: &FieldCut<A>,
+    by: &FieldSelection<A>,
     to: usize,
     bytes: &[u8],
     room: &mut [u8],
@@ -204,7 +211,7 @@ fn copy_lines<A: Allocator + Copy>(
         (take start room.old) (take result.1 room.new) }
     ensures end { (start ≤ result.1) × (result.1 ≤ start + result.0) }
 {
-    let FieldCut { job, terminator } = *by;
+    let FieldSelection { job, terminator } = *by;
     let delimiters = ByteMatches::new(job.delim, bytes);
     let first = delimiters.first().unwrap_or(bytes.len());
     if first < to {
@@ -220,36 +227,37 @@ fn copy_lines<A: Allocator + Copy>(
 
 impl<'a, A: Allocator + Copy> LineFilter for FieldCut<'a, A> {
     ghost use Rattle.std.specs.Prelude.{ℕ};
-    ghost use Rattle.ptlangs.specs.Jobs.{cut_job};
+    ghost use Rattle.ptlangs.specs.Jobs.{Cut, cut_job};
     ghost use Rattle.ptflow.specs.Cuts.{cut_tool};
     ghost use Rattle.ptflow.specs.Private.Cut.CutFrom.{cut_fields_from};
 
-    type State = OutBuf;
-
     ghost SLOTS = { 1 };
 
-    ghost tool = { λ t. cut_tool (cut_job t.job.now) };
+    ghost Job = { Cut };
+
+    ghost job = { λ t. cut_job t.by.job.now };
+
+    ghost tool = { cut_tool };
 
     // No state is carried from line to line.
     ghost Model = { Unit {0} };
 
-    ghost model = { λ room store. tt };
+    ghost model = { λ t store. tt };
 
     ghost Item = { ℕ };
 
-    ghost rest = { λ t. cut_fields_from (cut_job t.job.now) };
+    ghost rest = { cut_fields_from };
 
-    ghost written = { λ t bytes. bytes };
+    ghost written = { λ job bytes. bytes };
 
     ghost counted = { λ u. 1 };
 
     fn process_line<B: Allocator + Copy, W: Sink>(
-        &self,
-        _room: &mut OutBuf,
+        &mut self,
         store: &mut Store<B>,
         out: &mut Out<W>,
     ) -> Result<(), WriteFault> {
-        write_line(self, store.line(0), out)?;
+        write_line(&self.by, store.line(0), out)?;
         Ok(())
     }
 
@@ -257,32 +265,30 @@ impl<'a, A: Allocator + Copy> LineFilter for FieldCut<'a, A> {
     // Out of line, to keep the loop's values in registers.
     #[inline(never)]
     fn process_lines<B: Allocator + Copy, W: Sink>(
-        &self,
+        &mut self,
         block: &[u8],
-        room: &mut OutBuf,
         _store: &Store<B>,
         out: &mut Out<W>,
     ) -> Result<usize, WriteFault> {
         // A copy, so that the loop does not read the fields through `self`.
-        let by = FieldCut {
-            job: self.job,
-            terminator: self.terminator,
+        let by = FieldSelection {
+            job: self.by.job,
+            terminator: self.by.terminator,
         };
         let mut end = 0;
         let mut rest = block;
         'lines: while let Some(to) = ByteMatches::new(by.terminator, rest).first() {
-            let (size, put) = copy_lines(&by, to, rest, room, end);
+            let (size, put) = copy_lines(&by, to, rest, &mut self.buffer, end);
             rest = &rest[size..];
             end = put;
         }
-        out.push(&room[..end])?;
+        out.push(&self.buffer[..end])?;
         Ok(block.len() - rest.len())
     }
 
     // There is no output after the last line.
     fn finish<B: Allocator + Copy, W: Sink>(
         &self,
-        _room: &OutBuf,
         _store: &mut Store<B>,
         _out: &mut Out<W>,
     ) -> Result<(), WriteFault> {

@@ -1,11 +1,10 @@
 //! Cuts lines by byte shuffles, one for each 16 bytes. `bytes` uses it.
 
-ghost use Rattle.std.specs.Prelude.{◌≡◌, ◌<◌, ◌≤◌, ◌^◌, ℕ, false, nat_le};
-ghost use Rattle.std.specs.List.{list_all};
+ghost use Rattle.std.specs.Prelude.{◌≡◌, ◌<◌, ◌≤◌, ◌^◌, ℕ, false};
 ghost use Rattle.ptlangs.specs.CutLists.{is_selected};
 ghost use Rattle.ptflow.specs.Private.Cut.ShortLines.{AreLineShuffles, IsPieceShuffle, selected_after};
 
-use ptlangs::ranges::{Interval, Ranges};
+use ptlangs::ranges::Ranges;
 use std::alloc::Allocator;
 use std::simd::prelude::*;
 
@@ -23,21 +22,6 @@ pub(crate) struct LineShuffles {
     pub pieces: [PieceShuffle; 8],
     pub count: usize,
     pub max_len: usize,
-}
-
-// Checks that no byte after the first `limit` is selected.
-fn fits(selected: &[Interval], limit: u64) -> bool
-    ensures { result ≡ list_all (λ interval. nat_le interval.last limit) selected.now }
-{
-    selected.iter().all(|interval| interval.last <= limit)
-}
-
-// The maximum length of a line of which nothing after the first `limit` bytes is selected.
-fn max_line_len(selected: &[Interval], limit: usize) -> usize
-    ensures { (index : ℕ) → limit < index → index ≤ result → is_selected selected.now index ≡ false }
-{
-    let fits_all = fits(selected, limit as u64);
-    if fits_all { usize::MAX } else { limit }
 }
 
 impl PieceShuffle {
@@ -60,9 +44,19 @@ impl PieceShuffle {
     }
 }
 
+// The last selected position, or 0 if there is none.
+fn last_selected<A: Allocator>(list: &Ranges<A>) -> u64
+    ensures { (index : ℕ) → result < index → is_selected list.now index ≡ false }
+{
+    match list.intervals().last() {
+        Some(interval) => interval.last,
+        None => 0,
+    }
+}
+
 impl LineShuffles {
-    // The shuffles for a list. If there are at most two ranges, only the first 16 bytes of a line are cut so, since
-    // copying the ranges is as fast.
+    // The shuffles for a list. `count` of them reach its last position or, if that is later, byte 128 of a line. If there
+    // are at most two ranges, they reach byte 64, since in a longer line copying the ranges is faster.
     pub(crate) fn of<A: Allocator>(list: &Ranges<A>) -> LineShuffles
         ensures { AreLineShuffles (is_selected list.now) result }
     {
@@ -70,12 +64,16 @@ impl LineShuffles {
         for index in 1..8 {
             pieces[index] = PieceShuffle::of(list, 16 * index);
         }
-        let selected = list.intervals();
-        let count = if selected.len() > 2 { 8 } else { 1 };
+        let last = last_selected(list);
+        let limit = if list.intervals().len() > 2 { 128 } else { 64 };
         LineShuffles {
             pieces,
-            count,
-            max_len: max_line_len(selected, 16 * count),
+            count: last.min(limit).div_ceil(16) as usize,
+            max_len: if last <= limit {
+                usize::MAX
+            } else {
+                limit as usize
+            },
         }
     }
 }

@@ -117,30 +117,29 @@ pub(crate) struct LastRun {
     pub len: usize,
 }
 
-// Pushes the output of the runs of the lines that end in the block, except for the last run. Before the block the
-// current run has `count` lines, of which `first` is the first. Out of line, to keep the loop's values in registers.
+// Pushes the output of the runs of the lines that end in the block, except for the last run. `first` is the first line
+// of the current run before the block. Out of line, to keep the loop's values in registers.
 #[inline(never)]
 pub(crate) fn write_runs<W: Sink>(
     by: &LineUniq,
-    count: u64,
     first: &[u8],
     block: &[u8],
     out: &mut Out<W>,
 ) -> Result<LastRun, WriteFault>
-    requires { ProcessLinesPre count block.now }
-    ensures continues { IfOk result (λ last. RunsWritten (uniq_job by.now.job.now) (run_of first.now count)
+    requires { ProcessLinesPre by.now.run.count block.now }
+    ensures continues { IfOk result (λ last. RunsWritten (uniq_job by.now.job.now) (run_of first.now by.now.run.count)
         (run_of (first_of first.now block.now last.line) last.count)
         (complete_lines (uniq_job by.now.job.now).terminator block.now) out.old out.new) }
     ensures halts { OnErr result
-        (RunsFailed (uniq_job by.now.job.now) (run_of first.now count)
+        (RunsFailed (uniq_job by.now.job.now) (run_of first.now by.now.run.count)
         (complete_lines (uniq_job by.now.job.now).terminator block.now) out.old out.new) }
     ensures span { IfOk result
         (λ last. IfSome last.line (λ line. (line.from < line.to) × (line.to ≤ length block.now))) }
     ensures passed { IfOk result (λ last. IsLinesLength (uniq_job by.now.job.now).terminator block.now last.len) }
 {
-    let LineUniq { job, terminator } = *by;
+    let (job, terminator) = (by.job, by.terminator);
     let size = block.len();
-    let mut count = count;
+    let mut count = by.run.count;
     let mut line = None;
     let mut pending = Span { from: 0, to: 0 };
     let mut run_key = key(job, first);

@@ -19,10 +19,7 @@ loop-next-preserved g c =
     ]
 
 pub returns-clause-same : goal.returns-clause-same
-returns-clause-same g c =
-    let before =
-    rw (drop_all c.loop-next.next-index c.in-Some.others.now c.loop-next-test.false) at c.loop-next.invariant in
-    search rules
+returns-clause-same g c = search (rules, drop_all)
 
 pub overflow_sub-next : goal.overflow_sub-next
 overflow_sub-next g c = grind (arith, common_steps)

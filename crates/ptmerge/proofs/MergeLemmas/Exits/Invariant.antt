@@ -9,7 +9,8 @@ use proofs.Common.{Second, Lines, MergeTool, insert_key, distinct_keys, keys, li
 use proofs.Common.{entries_by_key, Key, ◌+◌, Option, Some, None, nat_lt, unwrap_or, if◌then◌else◌, last_or}
 use proofs.Common.{sorted_prefix, first_disorder, FirstDisorder, ◌&&◌, not, sym, flat_map-append, earlier_disorder}
 use proofs.Common.{is_up_to, subst, is_lt, Output, PushEffect, unlines, push_trans, push_nothing, unlines-append}
-use proofs.Common.{disorder, is_below, is_decided, merged_entries, option_map, with_side, disordered_line}
+use proofs.Common.{filter-append, disorder, is_below, is_decided, merged_entries, option_map, with_side}
+use proofs.Common.{disordered_line}
 use Rattle.std.specs.Cmp.{IsTotalOrder}
 use Rattle.ptmerge.specs.OrderLaws.{reversed_same_bytes, byte_cmp_equal}
 use Rattle.std.proofs.Common.{rules}
@@ -36,11 +37,11 @@ abbrev pub Above : Cmp → List ℕ → List ℕ → Type 0
 Above cmp k y = cmp y k ≡ Greater
 
 pub is_greater : (r : Ordering) → is_gt r ≡ true → r ≡ Greater
-is_greater r h = grind arith
+is_greater = grind arith
 
 -- equal keys have the same bytes
 pub same_bytes : {a b : List ℕ} → a ≡ b → bytes_eq a b ≡ true
-same_bytes {a} {b} e = search rules
+same_bytes = search rules
 
 pub not_same : (a b : List ℕ) → (a ≡ b → ⊥) → bytes_eq a b ≡ false
 not_same a b n = grind (arith, bytes_decides a b)
@@ -56,10 +57,10 @@ module _ (cmp : Cmp) (o : IsKeyOrder cmp) where
   at_most_trans a b c p q = upto o.total a b c p q
 
   pub greater_flips : (a b : List ℕ) → cmp a b ≡ Greater → cmp b a ≡ Less
-  greater_flips a b g = search rules
+  greater_flips = search rules
 
   pub less_flips : (a b : List ℕ) → cmp a b ≡ Less → cmp b a ≡ Greater
-  less_flips a b l = search rules
+  less_flips = search rules
 
   pub above_at_most : (k y : List ℕ) → cmp y k ≡ Greater → AtMost cmp k y
   above_at_most k y g = ap is_gt (greater_flips y k g)
@@ -70,18 +71,18 @@ module _ (cmp : Cmp) (o : IsKeyOrder cmp) where
   -- k equals y, or is less
   pub least_or_above : (k y : List ℕ) → AtMost cmp k y
       → ((bytes_eq y k ≡ true) × (y ≡ k)) ⊎ ((bytes_eq y k ≡ false) × (cmp y k ≡ Greater))
-  least_or_above k y h = search (rules, less_flips, above_not_same, same_bytes)
+  least_or_above = search (rules, less_flips, above_not_same, same_bytes)
 
   -- a ≤ b < c
   pub above_trans : (a b c : List ℕ) → AtMost cmp a b → cmp c b ≡ Greater → cmp c a ≡ Greater
-  above_trans a b c p g = search (rules, least_or_above, greater_flips, less_flips)
+  above_trans = search (rules, least_or_above, greater_flips, less_flips)
 
   -- a < b ≤ c
   pub above_up : (a b c : List ℕ) → cmp b a ≡ Greater → AtMost cmp b c → cmp c a ≡ Greater
-  above_up a b c g p = search (rules, least_or_above, greater_flips, less_flips)
+  above_up = search (rules, least_or_above, greater_flips, less_flips)
 
   pub at_most_is_le : (a b : List ℕ) → AtMost cmp a b → is_le (cmp a b) ≡ true
-  at_most_is_le a b h = grind arith
+  at_most_is_le = grind arith
 
 -- both orders of lines satisfy the laws
 pub line_order : (descending : Bool) → IsKeyOrder (line_cmp descending)
@@ -126,7 +127,7 @@ Each-parts P (x ∷ xs) ys (here, more) = search (rules, Each-parts P xs ys more
 
 pub EachKey-append : (P : List ℕ → Type 0) (key : Key) (xs ys : Lines) → EachKey P key xs → EachKey P key ys
     → EachKey P key (xs ++ ys)
-EachKey-append P key xs ys e h = grind (arith, common_steps)
+EachKey-append = grind (arith, common_steps)
 
 pub Each-insert : (cmp : Cmp) (P : List ℕ → Type 0) (k : List ℕ) (xs : Lines) → P k → Each P xs
     → Each P (insert_key cmp k xs)
@@ -138,38 +139,10 @@ Each-distinct cmp P [] e = tt
 Each-distinct cmp P (x ∷ xs) (here, more) =
     Each-insert cmp P x (distinct_keys cmp xs) here (Each-distinct _ P xs more)
 
--- the keys other than k
-abbrev others : List ℕ → Lines → Lines
-others k [] = []
-others k (y ∷ ys) = cond (bytes_eq y k) (others k ys) (y ∷ others k ys)
-
--- the lines whose key is not k
-abbrev pub without : Key → List ℕ → Lines → Lines
-without key k [] = []
-without key k (x ∷ xs) = cond (bytes_eq (key x) k) (without key k xs) (x ∷ without key k xs)
-
 module _ (cmp : Cmp) (o : IsKeyOrder cmp) where
   pub insert_least : (k : List ℕ) (ds : Lines) → Each (Above cmp k) ds → insert_key cmp k ds ≡ k ∷ ds
   insert_least k [] a = refl
   insert_least k (d ∷ ds) (here, _) = rw (greater_flips cmp o d k here) refl
-
-  others_above : (k : List ℕ) (ks : Lines) → Each (AtMost cmp k) ks → Each (Above cmp k) (others k ks)
-  others_above k [] e = tt
-  others_above k (y ∷ ks) (here, more) = grind (arith, least_or_above, others_above k ks more)
-
-  -- the least key, if it occurs, comes first
-  distinct_least : (k : List ℕ) (ks : Lines) → Each (AtMost cmp k) ks
-      → (distinct_keys cmp ks ≡ k ∷ distinct_keys cmp (others k ks))
-      ⊎ ((distinct_keys cmp ks ≡ distinct_keys cmp (others k ks)) × Each (λ y. bytes_eq y k ≡ false) ks)
-  distinct_least k [] e = inr (refl, tt)
-  distinct_least k (y ∷ ks) (here, more) =
-      grind (arith, least_or_above, insert_least, Each-distinct, others_above, distinct_least k ks more)
-
-others-keys : (key1 key2 : Key) (k : List ℕ) (xs ys : Lines)
-    → others k (map key1 xs ++ map key2 ys) ≡ map key1 (without key1 k xs) ++ map key2 (without key2 k ys)
-others-keys key1 key2 k [] [] = refl
-others-keys key1 key2 k [] (y ∷ ys) = let ih = others-keys key1 key2 k [] ys in grind arith
-others-keys key1 key2 k (x ∷ xs) ys = let ih = others-keys key1 key2 k xs ys in grind arith
 
 -- a test that no key passes keeps no line
 pub kept_none : (w : List ℕ → Bool) (key : Key) (ls : Lines) → EachKey (λ k. w k ≡ false) key ls
@@ -177,92 +150,13 @@ pub kept_none : (w : List ℕ → Bool) (key : Key) (ls : Lines) → EachKey (λ
 kept_none w key [] e = refl
 kept_none w key (x ∷ ls) (here, more) = rw here (kept_none w key ls more)
 
--- the lines with another key
-with_key_without : (key : Key) (k q : List ℕ) (xs : Lines) → bytes_eq q k ≡ false
-    → lines_with_key key (without key k xs) q ≡ lines_with_key key xs q
-with_key_without key k q [] n = refl
-with_key_without key k q (x ∷ xs) n = grind (arith, not_same, same_bytes, bytes_decides, with_key_without key k q xs n)
-
 module _ (tool : MergeTool) (o : IsKeyOrder tool.cmp) where
   open tool use {cmp}
-
-  abbrev nothing_follows : (List ℕ → Bool) → (Side → Lines) → Lines → Lines
-  nothing_follows w ls ks = flat_map (entries_of_key tool ls) (filter w ks)
-
-  -- the lines with keys other than k
-  abbrev pub others_of : List ℕ → (Side → Lines) → Side → Lines
-  others_of k ls side = without (tool.key side) k (ls side)
-
-  over_others : (w : List ℕ → Bool) (k : List ℕ) (ls : Side → Lines) (ks : Lines) → Each (Above cmp k) ks
-      → nothing_follows w ls ks ≡ nothing_follows w (others_of k ls) ks
-  over_others w k ls [] e = refl
-  over_others w k ls (q ∷ ks) (here, more) = grind (arith, above_not_same, with_key_without, over_others w k ls ks more)
-
-  -- The entries of a key that is at most all others come first, followed by those of the lines with other keys.
-  pub least_first : (w : List ℕ → Bool) (k : List ℕ) (ls : Side → Lines)
-      → ((side : Side) → EachKey (AtMost cmp k) (tool.key side) (ls side)) → tool.entries k [] [] ≡ []
-      → entries_by_key tool w ls ≡ cond (w k) (entries_of_key tool ls k) [] ++ entries_by_key tool w (others_of k ls)
-  least_first w k ls e none =
-      let ks = keys tool ls in
-      let all : Each (AtMost cmp k) ks = Each-append _ _ _ (e First) (e Second) in
-      let above = Each-distinct cmp _ _ (others_above cmp o k ks all) in
-      let none_of = λ (side : Side). kept_none (λ y. bytes_eq y k) (tool.key side) (ls side) in
-      let parts = Each-parts (λ y. bytes_eq y k ≡ false) (map (tool.key First) (ls First))
-      (map (tool.key Second) (ls Second)) in
-      grind (
-        arith,
-        over_others w k ls _ above,
-        others-keys (tool.key First) (tool.key Second) k (ls First)
-            (ls Second),
-        none,
-        distinct_least cmp o k ks all,
-        parts,
-        none_of First,
-        none_of Second,
-      )
-
-  -- lines of one key, followed by lines with no lesser keys
-  pub lines_with_key-front : (key : Key) (k : List ℕ) (f r : Lines) → EachKey (λ x. x ≡ k) key f
-      → (lines_with_key key (f ++ r) k ≡ f ++ lines_with_key key r k) × (without key k (f ++ r) ≡ without key k r)
-  lines_with_key-front key k [] r e = (refl, refl)
-  lines_with_key-front key k (x ∷ f) r (here, more) = grind (arith, same_bytes, lines_with_key-front key k f r more)
 
   pub at_most-same : (key : Key) (k : List ℕ) (f r : Lines) → EachKey (λ x. x ≡ k) key f → EachKey (AtMost cmp k) key r
       → EachKey (AtMost cmp k) key (f ++ r)
   at_most-same key k f r e h =
       EachKey-append _ key f r (EachKey-weaker _ _ (λ x is. rw is (self_at_most cmp o k)) _ f e) h
-
-  -- Lines of the least key, followed by lines with no lesser keys.
-  module _ (w : List ℕ → Bool) (k : List ℕ) (f r : Side → Lines)
-      (s : (side : Side) → EachKey (λ x. x ≡ k) (tool.key side) (f side))
-      (a : (side : Side) → EachKey (AtMost cmp k) (tool.key side) (r side)) (none : tool.entries k [] [] ≡ []) where
-    pub front_is : entries_by_key tool w (λ side. f side ++ r side)
-        ≡ cond (w k) (tool.entries k (f First ++ lines_with_key (tool.key First) (r First) k)
-        (f Second ++ lines_with_key (tool.key Second) (r Second) k)) [] ++ entries_by_key tool w (others_of k r)
-    front_is =
-        let in_front = λ (side : Side). lines_with_key-front (tool.key side) k (f side) (r side) (s side) in
-        least_first w k (λ side. f side ++ r side)
-        (λ side. at_most-same (tool.key side) k (f side) (r side) (s side) (a side)) none
-        ∙ (λ i. cond (w k) (tool.entries k ((in_front First).0 i) ((in_front Second).0 i)) []
-        ++ entries_by_key tool w (λ side. (in_front side).1 i))
-
-  pub front_first : (w : List ℕ → Bool) (k : List ℕ) (f r : Side → Lines)
-      → ((side : Side) → EachKey (λ x. x ≡ k) (tool.key side) (f side))
-      → ((side : Side) → EachKey (AtMost cmp k) (tool.key side) (r side)) → tool.entries k [] [] ≡ []
-      → tool.entries k (f First ++ lines_with_key (tool.key First) (r First) k)
-      (f Second ++ lines_with_key (tool.key Second) (r Second) k) ≡ tool.entries k (f First) (f Second)
-      ++ entries_of_key tool r k
-      → entries_by_key tool w (λ side. f side ++ r side) ≡ entries_by_key tool w f ++ entries_by_key tool w r
-  front_first w k f r s a none law =
-      let first = simp append-nil at (front_is w k f (λ side. []) s (λ side. tt) none) in
-      grind (
-        arith,
-        first,
-        front_is w k f r s a none,
-        least_first w k r a none,
-        append_assoc
-            (tool.entries k (f First) (f Second)) (entries_of_key tool r k) (entries_by_key tool w (others_of k r)),
-      )
 
   -- no line with a greater key has the key
   pub lines_with_key-above : (key : Key) (k : List ℕ) (r : Lines) → EachKey (Above cmp k) key r
@@ -389,7 +283,7 @@ IsUnder cmp (AfterDisorder d) k = AtMost cmp k d.last_key
 IsUnder cmp NothingMore k = Unit {0}
 
 pub may_follow_none : (cmp : Cmp) (key : Key) (b : Bound) → MayFollow cmp key b []
-may_follow_none cmp key b = grind arith
+may_follow_none = grind arith
 
 -- `d` is a later bound than `b`: no more lines may follow, and no fewer keys are at most theirs
 pub record IsLater (cmp : Cmp) (key : Key) (b d : Bound) : Type 0 where
@@ -463,6 +357,97 @@ module _ (cmp : Cmp) (o : IsKeyOrder cmp) where
       → MayDisorder cmp b2 f2 → IsUnder cmp b1 k → IsUnder cmp b2 k → is_up_to cmp (earlier_disorder cmp f1 f2) k ≡ true
   written_is_wanted = grind (arith, at_most_is_le, at_most_trans)
 
+-- ---- lines with some of the keys
+
+module _ (p : List ℕ → Bool) where
+  each_kept : (P : List ℕ → Type 0) (ks : Lines) → Each P ks → Each P (filter p ks)
+  each_kept P [] e = tt
+  each_kept P (k ∷ ks) (here, more) = grind (arith, each_kept P ks more)
+
+  module _ (cmp : Cmp) (o : IsKeyOrder cmp) where
+    insert_kept : (k : List ℕ) (xs : Lines) → Ascends cmp xs
+        → filter p (insert_key cmp k xs) ≡ cond (p k) (insert_key cmp k (filter p xs)) (filter p xs)
+    insert_kept k [] a = refl
+    insert_kept k (x ∷ xs) (above, more) =
+        let least : cmp k x ≡ Less → insert_key cmp k (filter p xs) ≡ k ∷ filter p xs =
+        λ e. insert_least cmp o k (filter p xs)
+        (each_kept _ xs (Each-weaker _ _ (λ y g. above_trans cmp o k x y (ap is_gt e) g) xs above)) in
+        let same : cmp k x ≡ Equal → p k ≡ p x = λ e. ap p (o.exact k x e) in
+        grind (arith, insert_kept k xs more, least, same)
+
+    -- filtering and computing the distinct keys commute
+    distinct_kept : (ks : Lines) → filter p (distinct_keys cmp ks) ≡ distinct_keys cmp (filter p ks)
+    distinct_kept [] = refl
+    distinct_kept (k ∷ ks) =
+        grind (arith, distinct_kept ks, insert_kept k (distinct_keys cmp ks) (ascends_distinct cmp o ks))
+
+  -- the lines whose keys pass the test
+  abbrev kept : Key → Lines → Lines
+  kept key ls = filter (λ line. p (key line)) ls
+
+  keys_kept : (key : Key) (ls : Lines) → map key (kept key ls) ≡ filter p (map key ls)
+  keys_kept key [] = refl
+  keys_kept key (x ∷ ls) = grind (arith, keys_kept key ls)
+
+  -- all lines of a key pass the test if the key does
+  with_key_kept : (key : Key) (k : List ℕ) (ls : Lines) → p k ≡ true
+      → lines_with_key key (kept key ls) k ≡ lines_with_key key ls k
+  with_key_kept key k [] h = refl
+  with_key_kept key k (x ∷ ls) h = search (rules, with_key_kept key k ls h)
+
+  module _ (tool : MergeTool) (o : IsKeyOrder tool.cmp) (ls : Side → Lines) where
+    open tool use {cmp, entries, key}
+
+    abbrev part : Side → Lines
+    part side = kept (key side) (ls side)
+
+    keys_of_part : keys tool part ≡ filter p (keys tool ls)
+    keys_of_part = simp (keys_kept, filter-append)
+
+    -- the entries of the lines that pass the test are those of the keys that pass it
+    pub by_keys_kept : (w : List ℕ → Bool) → entries_by_key tool w (λ side. filter (λ line. p (key side line))
+        (ls side)) ≡ entries_by_key tool (λ k. w k && p k) ls
+    by_keys_kept w = (λ i. flat_map (entries_of_key tool part)
+        (filter w ((ap (distinct_keys cmp) keys_of_part ∙ sym (distinct_kept cmp o (keys tool ls))) i)))
+        ∙ each_of (distinct_keys cmp (keys tool ls))
+      where
+        each_of : (ds : Lines) → flat_map (entries_of_key tool part) (filter w (filter p ds))
+            ≡ flat_map (entries_of_key tool ls) (filter (λ k. w k && p k) ds)
+        each_of [] = refl
+        each_of (d ∷ ds) =
+            let same : p d ≡ true → entries_of_key tool part d ≡ entries_of_key tool ls d =
+            λ h i. entries d (with_key_kept (key First) d (ls First) h i)
+            (with_key_kept (key Second) d (ls Second) h i) in
+            grind (arith, each_of ds, same)
+
+-- ---- the least key comes first
+
+-- the lines of the least key, and those with other keys
+record LeastLines (cmp : Cmp) (key : Key) (k : List ℕ) (f r : Lines) : Type 0 where
+  least : filter (λ line. is_le (cmp (key line) k)) (f ++ r) ≡ f ++ lines_with_key key r k
+  other : filter (λ line. not (is_le (cmp (key line) k))) (f ++ r) ≡ filter (λ line. not (is_le (cmp (key line) k))) r
+  own : EachKey (λ x. x ≡ k) key (f ++ lines_with_key key r k)
+  all : lines_with_key key (f ++ lines_with_key key r k) k ≡ f ++ lines_with_key key r k
+
+module _ (cmp : Cmp) (o : IsKeyOrder cmp) where
+  least_lines : (key : Key) (k : List ℕ) (f r : Lines) → EachKey (λ x. x ≡ k) key f → EachKey (AtMost cmp k) key r
+      → LeastLines cmp key k f r
+  least_lines key k [] [] e h = grind arith
+  least_lines key k [] (x ∷ r) e (here, more) =
+      grind (arith, common_steps, least_or_above, least_lines key k [] r tt more)
+  least_lines key k (x ∷ f) r (here, more) h =
+      grind (arith, common_steps, tied_itself o.total k, same_bytes, least_lines key k f r more h)
+
+  -- the only key of these lines
+  only_key : (key1 key2 : Key) (k : List ℕ) (xs ys : Lines) → EachKey (λ x. x ≡ k) key1 xs
+      → EachKey (λ x. x ≡ k) key2 ys
+      → (distinct_keys cmp (map key1 xs ++ map key2 ys) ≡ k ∷ []) ⊎ ((xs ≡ []) × (ys ≡ []))
+  only_key key1 key2 k [] [] e h = inr (refl, refl)
+  only_key key1 key2 k [] (y ∷ ys) e (here, more) =
+      grind (arith, tied_itself o.total k, only_key key1 key2 k [] ys tt more)
+  only_key key1 key2 k (x ∷ xs) ys (here, more) h =
+      grind (arith, tied_itself o.total k, only_key key1 key2 k xs ys more h)
+
 -- the output for these lines, of all keys
 abbrev pub output_of : MergeTool → (Side → Lines) → List ℕ
 output_of tool p = unlines tool.terminator (entries_by_key tool all_keys p)
@@ -472,11 +457,11 @@ module _ (tool : MergeTool) where
 
   pub all_wanted : (w : List ℕ → Bool) (p : Side → Lines) → ((side : Side)
       → EachKey (λ k. w k ≡ true) (key side) (p side)) → entries_by_key tool w p ≡ entries_by_key tool all_keys p
-  all_wanted w p e = grind (arith, filter_all, Each-distinct, Each-append, Each-all)
+  all_wanted = grind (arith, filter_all, Each-distinct, Each-append, Each-all)
 
   pub none_wanted : (w : List ℕ → Bool) (r : Side → Lines) → ((side : Side)
       → EachKey (λ k. w k ≡ false) (key side) (r side)) → entries_by_key tool w r ≡ []
-  none_wanted w r e = grind (arith, filter_none, Each-distinct, Each-append)
+  none_wanted = grind (arith, filter_none, Each-distinct, Each-append)
 
   -- the entries of the keys that pass the test come first
   pub downward_splits : IsKeyOrder cmp → (w p : List ℕ → Bool) → IsDownwardClosed cmp p → (ls : Side → Lines)
@@ -486,6 +471,51 @@ module _ (tool : MergeTool) where
       let ks = distinct_keys cmp (keys tool ls) in
       ap (flat_map (entries_of_key tool ls)) (downward_first cmp o w p down ks (ascends_distinct cmp o (keys tool ls)))
       ∙ flat_map-append (entries_of_key tool ls) (filter (λ k. w k && p k) ks) (filter (λ k. w k && not (p k)) ks)
+
+  -- lines of the least key, followed by lines with no lesser keys
+  module _ (o : IsKeyOrder cmp) (w : List ℕ → Bool) (k : List ℕ) (none : tool.entries k [] [] ≡ []) where
+    -- the entries of the lines of one key
+    of_one_key : (ls : Side → Lines) → ((side : Side) → EachKey (λ x. x ≡ k) (key side) (ls side))
+        → ((side : Side) → lines_with_key (key side) (ls side) k ≡ ls side)
+        → entries_by_key tool w ls ≡ cond (w k) (tool.entries k (ls First) (ls Second)) []
+    of_one_key ls own all =
+        grind (arith, append-nil, none, all First, all Second, only_key cmp o _ _ k _ _ (own First) (own Second))
+
+    -- the entries of the other keys
+    abbrev pub later_entries : (Side → Lines) → Lines
+    later_entries r = entries_by_key tool (λ x. w x && not (is_le (cmp x k))) r
+
+    pub front_is : (f r : Side → Lines) → ((side : Side) → EachKey (λ x. x ≡ k) (key side) (f side))
+        → ((side : Side) → EachKey (AtMost cmp k) (key side) (r side))
+        → entries_by_key tool w (λ side. f side ++ r side)
+        ≡ cond (w k) (tool.entries k (f First ++ lines_with_key (key First) (r First) k)
+        (f Second ++ lines_with_key (key Second) (r Second) k)) [] ++ later_entries r
+    front_is f r own above =
+        let p = λ (x : List ℕ). is_le (cmp x k) in
+        let ls : Side → Lines = λ side. f side ++ r side in
+        let s = λ (side : Side). least_lines cmp o (key side) k (f side) (r side) (own side) (above side) in
+        let first = sym (by_keys_kept p tool o ls w) ∙ (λ i. entries_by_key tool w (λ side. (s side).least i))
+        ∙ of_one_key _ (λ side. (s side).own) (λ side. (s side).all) in
+        let rest = sym (by_keys_kept (λ x. not (p x)) tool o ls w)
+        ∙ (λ i. entries_by_key tool w (λ side. (s side).other i)) ∙ by_keys_kept (λ x. not (p x)) tool o r w in
+        downward_splits o w p (grind (arith, at_most_trans, greater_flips)) ls ∙ (λ i. first i ++ rest i)
+
+    pub front_first : (f r : Side → Lines) → ((side : Side) → EachKey (λ x. x ≡ k) (key side) (f side))
+        → ((side : Side) → EachKey (AtMost cmp k) (key side) (r side))
+        → tool.entries k (f First ++ lines_with_key (key First) (r First) k)
+        (f Second ++ lines_with_key (key Second) (r Second) k) ≡ tool.entries k (f First) (f Second)
+        ++ entries_of_key tool r k
+        → entries_by_key tool w (λ side. f side ++ r side) ≡ entries_by_key tool w f ++ entries_by_key tool w r
+    front_first f r own above law =
+        let alone = simp append-nil at (front_is f (λ side. []) own (λ side. tt)) in
+        let rest = front_is (λ side. []) r (λ side. tt) above in
+        grind (
+          arith,
+          alone,
+          rest,
+          front_is f r own above,
+          append_assoc (tool.entries k (f First) (f Second)) (entries_of_key tool r k) (later_entries r),
+        )
 
   -- the lines that may follow in both inputs
   abbrev pub MayCome : (Side → Bound) → (Side → Lines) → Type 0
@@ -523,7 +553,32 @@ pub record MergeInvariant (tool : MergeTool) (b : Side → Bound) (p : Side → 
 -- before anything is read
 pub merge_invariant_starts : (tool : MergeTool) (was : Output)
     → MergeInvariant tool (λ side. NoBound) (λ side. []) was was
-merge_invariant_starts tool was = search (rules, push_nothing)
+merge_invariant_starts = search (rules, push_nothing)
+
+pub both_under : (key : Key) (P Q R : List ℕ → Type 0) → ((k : List ℕ) → P k → Q k → R k) → (xs : Lines)
+    → EachKey P key xs → EachKey Q key xs → EachKey R key xs
+both_under key P Q R f [] p q = tt
+both_under key P Q R f (x ∷ xs) (p, more1) (q, more2) = (f (key x) p q, both_under key P Q R f xs more1 more2)
+
+-- the entries of the processed lines come first, for all lists that continue those read so far
+pub input_split : {tool : MergeTool} (o : IsKeyOrder tool.cmp) {b : Side → Bound} {p ls : Side → Lines}
+    {was is : Output} → MergeInvariant tool b p was is
+    → (s : (side : Side) → IsFuture tool.cmp (tool.key side) (ls side) (p side) (b side))
+    → merged_entries tool ls ≡ entries_by_key tool all_keys p
+    ++ entries_by_key tool (is_up_to tool.cmp (disorder tool ls)) (λ side. (s side).rest)
+input_split {tool} o {b} {p} {ls} m s =
+    let w = is_up_to tool.cmp (disorder tool ls) in
+    let first = all_wanted tool w p (λ side. both_under (tool.key side) _ _ _
+    (λ k u1 u2. written_is_wanted _ o _ _ _ _ k (s First).may_disorder (s Second).may_disorder u1 u2)
+    _ (m.under First side) (m.under Second side)) in
+    (λ i. entries_by_key tool w (λ side. (s side).is i))
+    ∙ cc (m.splits w (λ side. (s side).rest) (λ side. (s side).may_follow), first)
+
+-- the entries `done` come first, for all lists that continue those read so far
+abbrev pub ComeFirst : MergeTool → (Side → Bound) → (Side → Lines) → Lines → Type 0
+ComeFirst tool b p done = (all : Side → Lines)
+    → ((side : Side) → IsFuture tool.cmp (tool.key side) (all side) (p side) (b side))
+    → (rest : Lines) × (merged_entries tool all ≡ done ++ rest)
 
 -- The entries `done` are written, and by the last time at which no write had failed, those of all processed lines `p`
 -- except perhaps the last ones, which precede all that may follow.
@@ -543,15 +598,17 @@ pub record LagInvariant (tool : MergeTool) (b : Side → Bound) (p : Side → Li
   pub under_bound : (of side : Side) → EachKey (IsUnder tool.cmp (bound of)) (tool.key side) (p side)
   pub may_follow : (side : Side) (r : Lines) → MayFollow tool.cmp (tool.key side) (b side) r
       → MayFollow tool.cmp (tool.key side) (bound side) (tail side ++ r)
+  pub first : ComeFirst tool b p done
 
 -- the entries of all processed lines are written
 abbrev pub AllWritten : MergeTool → (Side → Bound) → (Side → Lines) → Output → Output → Type 0
 AllWritten tool b p was is = LagInvariant tool b p was is (entries_by_key tool all_keys p)
 
 -- they were written by then, and nothing after it
-pub lag_invariant_starts : {tool : MergeTool} {b : Side → Bound} {p : Side → Lines} {was mid is : Output}
-    → MergeInvariant tool b p was mid → mid.write_failed ≡ false → PushEffect mid is [] → AllWritten tool b p was is
-lag_invariant_starts {tool} {b} {p} {mid = mid} m clean more = record {
+pub lag_invariant_starts : {tool : MergeTool} → IsKeyOrder tool.cmp → {b : Side → Bound} {p : Side → Lines}
+    {was mid is : Output} → MergeInvariant tool b p was mid → mid.write_failed ≡ false → PushEffect mid is []
+    → AllWritten tool b p was is
+lag_invariant_starts {tool} o {b} {p} {mid = mid} m clean more = record {
   mid = mid;
   front = p;
   tail = λ side. [];
@@ -565,6 +622,7 @@ lag_invariant_starts {tool} {b} {p} {mid = mid} m clean more = record {
   under = m.under;
   under_bound = m.under;
   may_follow = λ side r c. c;
+  first = λ all s. (_, input_split o m s);
 }
 
 -- the lines `f` of one key, processed by one input, precede all lines that may follow in it
@@ -583,8 +641,7 @@ pub write_least_run : {tool : MergeTool} (o : IsKeyOrder tool.cmp) (k : List ℕ
     {b : Side → Bound} {p : Side → Lines} {was is new : Output}
     → ((side : Side) → IsLeastKeyRun tool.cmp (tool.key side) (b side) k (f side))
     → ((side : Side) → q side ≡ p side ++ f side) → tool.entries k [] [] ≡ []
-    → ((r : Side → Lines) → ((side : Side) → MayFollow tool.cmp (tool.key side) (b side) (r side))
-    → tool.entries k (f First ++ lines_with_key (tool.key First) (r First) k)
+    → ((r : Side → Lines) → MayCome tool b r → tool.entries k (f First ++ lines_with_key (tool.key First) (r First) k)
     (f Second ++ lines_with_key (tool.key Second) (r Second) k) ≡ tool.entries k (f First) (f Second) ++ entries_of_key
     tool r k)
     → is.write_failed ≡ false → MergeInvariant tool b p was is
@@ -599,15 +656,16 @@ write_least_run {tool} o k q f {b} {p} {was} {is} {new} front all none law clean
     let under : (of side : Side) → EachKey (IsUnder tool.cmp (b of)) (tool.key side) (p side ++ f side) =
     λ of side. EachKey-append _ (tool.key side) _ _ (m.under of side)
     (EachKey-weaker _ _ (λ y e. rw e ((front of).later.under k (self_at_most _ o k))) _ _ (front side).own) in
+    let now : MergeInvariant tool b (λ side. p side ++ f side) was new = record {
+      splits = splits_step tool b b p f m.splits (λ side. (front side).may_follow)
+          (λ w r c. front_first tool o w k none f r (λ side. (front side).own)
+          (λ side. (front side).later.may_follow (r side) (c side)) (law r c));
+      under = under;
+      wrote = rw texts (push_trans _ _ _ _ _ clean m.wrote wrote);
+    } in
     subst (λ (l : Side → Lines). MergeInvariant tool b l was new × AllWritten tool b l was new)
     (λ i side. sym (all side) i) (
-      record {
-        splits = splits_step tool b b p f m.splits (λ side. (front side).may_follow)
-            (λ w r c. front_first tool o w k f r (λ side. (front side).own)
-            (λ side. (front side).later.may_follow (r side) (c side)) none (law r c));
-        under = under;
-        wrote = rw texts (push_trans _ _ _ _ _ clean m.wrote wrote);
-      },
+      now,
       record {
         mid = is;
         front = p;
@@ -622,6 +680,7 @@ write_least_run {tool} o k q f {b} {p} {was} {is} {new} front all none law clean
         under = under;
         under_bound = under;
         may_follow = λ side. (front side).may_follow;
+        first = λ l s. (_, input_split o now s);
       },
     )
 
@@ -644,17 +703,12 @@ bound_changes {tool} {b} s {d} m later = bounds_change
 
 -- the merge is at its end: the disorder is the one found, if any, and no line that may follow changes the output
 abbrev pub IsExactStop : MergeTool → (Side → Bound) → Option (Side × ℕ) → Type 0
-IsExactStop tool b found = (ls r : Side → Lines) → ((s : Side) → MayFollow tool.cmp (tool.key s) (b s) (r s))
+IsExactStop tool b found = (ls r : Side → Lines) → MayCome tool b r
     → ((s : Side) → MayDisorder tool.cmp (b s) (first_disorder tool.cmp (tool.key s) (ls s)))
     → (entries_by_key tool (is_up_to tool.cmp (disorder tool ls)) r ≡ [])
     × (option_map disordered_line (disorder tool ls) ≡ found)
 
 -- ---- the decided output
-
-pub both_under : (key : Key) (P Q R : List ℕ → Type 0) → ((k : List ℕ) → P k → Q k → R k) → (xs : Lines)
-    → EachKey P key xs → EachKey Q key xs → EachKey R key xs
-both_under key P Q R f [] p q = tt
-both_under key P Q R f (x ∷ xs) (p, more1) (q, more2) = (f (key x) p q, both_under key P Q R f xs more1 more2)
 
 -- a property of each key holds for the last key
 pub last_has : (key : Key) (P : List ℕ → Type 0) (last : Option (List ℕ)) (xs : Lines) (x : List ℕ)
@@ -699,24 +753,10 @@ module _ (tool : MergeTool) (o : IsKeyOrder tool.cmp) (eof : Side → Bool) (ls 
   open tool use {cmp}
 
   pub downward_decided : IsDownwardClosed cmp (is_decided tool eof ls)
-  downward_decided a b g h = search (rules, all_three, downward_up_to, downward_past)
+  downward_decided = search (rules, all_three, downward_up_to, downward_past)
 
   -- no key is decided unless it is past in this input
   pub not_decided : (side : Side) (k : List ℕ) → is_past cmp (tool.key side) (eof side) (ls side) k ≡ false
       → is_decided tool eof ls k ≡ false
   not_decided First k e = grind arith
   not_decided Second k e = grind arith
-
--- the entries of the processed lines come first, for all lists that continue those read so far
-pub input_split : {tool : MergeTool} (o : IsKeyOrder tool.cmp) {b : Side → Bound} {p ls : Side → Lines}
-    {was is : Output} → MergeInvariant tool b p was is
-    → (s : (side : Side) → IsFuture tool.cmp (tool.key side) (ls side) (p side) (b side))
-    → merged_entries tool ls ≡ entries_by_key tool all_keys p
-    ++ entries_by_key tool (is_up_to tool.cmp (disorder tool ls)) (λ side. (s side).rest)
-input_split {tool} o {b} {p} {ls} m s =
-    let w = is_up_to tool.cmp (disorder tool ls) in
-    let first = all_wanted tool w p (λ side. both_under (tool.key side) _ _ _
-    (λ k u1 u2. written_is_wanted _ o _ _ _ _ k (s First).may_disorder (s Second).may_disorder u1 u2)
-    _ (m.under First side) (m.under Second side)) in
-    (λ i. entries_by_key tool w (λ side. (s side).is i))
-    ∙ cc (m.splits w (λ side. (s side).rest) (λ side. (s side).may_follow), first)

@@ -7,12 +7,13 @@ use proofs.Common.{ReaderAdvance, AdvanceOk, IsDone, Slots, unlines, lines, comp
 use proofs.Common.{max_length, received_with, advance_ok_trans, unlines_push, IsSound, HasNoLine, IsFirstLineAndBlock}
 use proofs.Common.{◌≢◌, zero, suc, ◌*◌, get_or, set, line, total_bytes, with_new_slot, with_line, Side, First, Second}
 use proofs.Common.{Sorted, HasSlots, EnsureFourSlotsPost, ClearFourSlotsPost, Bool, both, with_side, other, with_input}
-use proofs.Common.{both_sides, length-set}
+use proofs.Common.{both_sides, length-set, Lines, MergeTool, drop, sym}
 use Rattle.ptlines.proofs.MaxLength.{max_length-append, piece_le_max_length}
 use Rattle.std.proofs.Common.{rules}
 use Rattle.std.proofs.lemmas.Grind.{common_steps}
 use Rattle.ptlines.proofs.TextLaws.{AreLines_push, complete_lines_cons, complete_lines_none, lines_of_last}
 use Rattle.ptlines.proofs.TextLaws.{lines_of_unlines}
+use Rattle.std.proofs.lemmas.List.{drop-set-lt}
 
 -- ---- lines that were read
 
@@ -156,7 +157,7 @@ module _ {end : ℕ} {old now new : Reader} {ls : List (List ℕ)} {piece : List
 
   -- at most one line was read, or a part of it
   pub one_line_and_block : IsSound new → length ls + length (lines end piece) ≤ 1 → IsFirstLineAndBlock end came
-  one_line_and_block sound few = search (rules, lines_of_unlines, length-append, done_gives_nothing)
+  one_line_and_block = search (rules, lines_of_unlines, length-append, done_gives_nothing)
 
 -- ---- a function of the side
 
@@ -173,25 +174,25 @@ module _ {X : Type 0} (P : Side → X → Type 0) where
   -- one function of the side, changed at one side
   pub put_each : (s : Side) (x : X) (f : Side → X) → P s x → ((side : Side) → P side (f side)) → (side : Side)
       → P side (with_side s x f side)
-  put_each s x f p q = search (rules, put_both)
+  put_each = search (rules, put_both)
 
 pub put_same : {X : Type 0} (s : Side) (x : X) (f : Side → X) → with_side s x f s ≡ x
-put_same s x f = grind arith
+put_same = grind arith
 
 pub put_other : {X : Type 0} (s : Side) (x : X) (f : Side → X) → with_side s x f (other s) ≡ f (other s)
-put_other s x f = grind arith
+put_other = grind arith
 
 -- a side that is changed as an input
 pub with_side_is : {X : Type 0} (s : Side) (x : X) (f : Side → X) (side : Side)
     → with_side s x f side ≡ with_input both_sides s x f side
-with_side_is s x f side = grind arith
+with_side_is = grind arith
 
 pub with_own : {X : Type 0} (s : Side) (f : Side → X) (side : Side) → with_input both_sides s (f s) f side ≡ f side
-with_own s f side = grind (arith, with_side_is, put_each)
+with_own = grind (arith, with_side_is, put_each)
 
 -- a property of one side and of the other
 pub side_case : (Q : Side → Type 0) (s : Side) → Q s → Q (other s) → (side : Side) → Q side
-side_case Q s p q = grind (arith, put_both)
+side_case = grind (arith, put_both)
 
 -- ---- the slots
 
@@ -207,10 +208,10 @@ low_slot = grind arith
 -- the slots of the two inputs are distinct
 pub slots_apart : (s : Side) (a c : Sorted) → HasSlots s a → HasSlots (other s) c
     → (a.previous_slot ≢ c.current_slot) × (a.previous_slot ≢ c.previous_slot)
-slots_apart s a c x y = grind arith
+slots_apart = grind arith
 
 pub line_other : (s : Slots) (a b : ℕ) (bytes : List ℕ) → a ≢ b → line (with_line s a bytes) b ≡ line s b
-line_other s a b bytes n = search rules
+line_other = search rules
 
 added_same : (xs : List (List ℕ)) (i : ℕ) → get_or (xs ++ [] ∷ []) i [] ≡ get_or xs i []
 added_same [] i = grind arith
@@ -247,29 +248,91 @@ pub set_line : (s : Side) (cursor : Sorted) (xs : List (List ℕ)) (m k : Side �
     → HasLines k more (set xs cursor.previous_slot x)
 set_line = search rules
 
--- The invariant of the store of a merge: two lines of each input, of at most `m` bytes each.
-pub record StoreOfLines (before store : Slots) (m : Side → ℕ) : Type 0 where
-  pub lines : HasLines m 0 store.lines
-  pub peak : store.peak ≤ max before.peak (2 * m First + 2 * m Second)
-  pub slots : length store.lines ≡ max (length before.lines) 4
+-- ---- the store of a tool
+
+-- the list `now` continues the list `was`
+pub record Extends (was now : Lines) : Type 0 where
+  pub more : Lines
+  pub is : now ≡ was ++ more
+
+-- so do the lists of both inputs
+abbrev pub AllExtend : (Side → Lines) → (Side → Lines) → Type 0
+AllExtend was now = (side : Side) → Extends (was side) (now side)
+
+pub extends_itself : (ls : Lines) → Extends ls ls
+extends_itself ls = record { more = []; is = sym (append-nil ls) }
+
+pub extends_on : {a b c : Lines} → Extends a b → Extends b c → Extends a c
+extends_on = grind (arith, append_assoc)
+
+pub longer : {was now : Lines} → Extends was now → max_length was ≤ max_length now
+longer = grind (arith, max_length-append)
+
+-- one input continues
+pub side_extends : (s : Side) (ls : Side → Lines) {now : Lines} → Extends (ls s) now
+    → AllExtend ls (with_side s now ls)
+side_extends = search (rules, put_each, extends_itself)
+
+-- the measure of a tool has room for two lines of each input and for the lines `g`
+abbrev pub HasRoom : MergeTool → Lines → (Side → Lines) → Type 0
+HasRoom tool g ls = (2 * max_length (ls First) + 2 * max_length (ls Second) + total_bytes g ≤ tool.size ls)
+    × (4 + length g ≤ tool.slots ls)
+
+-- the store never held more bytes than the measure of these lines, and has no more slots; it has the first four, and
+-- those that it had
+abbrev pub FitsIn : MergeTool → Slots → Slots → (Side → Lines) → Type 0
+FitsIn tool before after ls =
+    (after.peak ≤ max before.peak (tool.size ls)) × (length after.lines ≤ max (length before.lines) (tool.slots ls))
+    × (max (length before.lines) 4 ≤ length after.lines)
+
+-- The invariant of the store of a merge: two lines of each input, and then the lines `g` of a group. It stays within
+-- the measure for all lines that the inputs may continue with.
+pub record GroupStore (tool : MergeTool) (before store : Slots) (ls : Side → Lines) (g : Lines) : Type 0 where
+  pub tail : Lines
+  pub split : drop 4 store.lines ≡ g ++ tail
+  pub empty : total_bytes tail ≡ 0
+  pub lines : HasLines (λ side. max_length (ls side)) (total_bytes g) store.lines
+  pub room : (all : Side → Lines) → AllExtend ls all → HasRoom tool g all
+  pub fits : (all : Side → Lines) → AllExtend ls all → FitsIn tool before store all
+  pub four : 4 ≤ length store.lines
   pub denied : store.denied ≡ false
 
-pub store_of_no_lines : {before store : Slots} → EnsureFourSlotsPost before store → before.denied ≡ false
-    → total_bytes before.lines ≡ 0 → StoreOfLines before store (λ side. 0)
-store_of_no_lines = grind (arith, four_total)
+pub store_starts : {tool : MergeTool} {before store : Slots} → ((ls : Side → Lines) → HasRoom tool [] ls)
+    → EnsureFourSlotsPost before store → before.denied ≡ false → total_bytes before.lines ≡ 0
+    → GroupStore tool before store (λ side. []) []
+store_starts = grind (arith, four_total)
 
-pub store_with_line : {before store after : Slots} (s : Side) (cursor : Sorted) {m : Side → ℕ} (k : Side → ℕ)
-    (x : List ℕ)
-    → HasSlots s cursor → StoreOfLines before store m → ((side : Side) → m side ≤ k side) → length x ≤ k s
-    → after ≡ with_line store cursor.previous_slot x → StoreOfLines before after k
-store_with_line {store = store} s cursor {m} k x slots keeps up fit is =
-    let lines = set_line s cursor store.lines m k 0 x slots keeps.lines up fit in
-    let total = has_lines_total (set store.lines cursor.previous_slot x) k 0 lines in
+-- all bytes in the slots are within the measure
+pub total_within : (tool : MergeTool) {ls all : Side → Lines} (g xs : Lines)
+    → HasLines (λ side. max_length (ls side)) (total_bytes g) xs → AllExtend ls all → HasRoom tool g all
+    → total_bytes xs ≤ tool.size all
+total_within = grind (arith, has_lines_total, longer)
+
+-- the next line of an input replaces its previous line
+pub group_store_line : {tool : MergeTool} {before store after : Slots} {ls now : Side → Lines} {g : Lines} (s : Side)
+    (cursor : Sorted) → HasSlots s cursor → (x : List ℕ) → GroupStore tool before store ls g → AllExtend ls now
+    → length x ≤ max_length (now s) → after ≡ with_line store cursor.previous_slot x
+    → GroupStore tool before after now g
+group_store_line {tool} {store = store} {ls = ls} {now} {g} s cursor slots x k up fit is =
+    let inside = set_line s cursor store.lines (λ side. max_length (ls side)) (λ side. max_length (now side))
+    (total_bytes g) x slots k.lines (λ side. longer (up side)) fit in
+    let size = length-set store.lines cursor.previous_slot x in
+    let on = λ (all : Side → Lines) (more : AllExtend now all) (side : Side). extends_on (up side) (more side) in
     rw is (record {
-      lines = lines;
-      peak = omega (arith, keeps.peak, total, up First, up Second);
-      slots = length-set store.lines cursor.previous_slot x ∙ keeps.slots;
-      denied = keeps.denied;
+      tail = k.tail;
+      split = drop-set-lt 4 store.lines cursor.previous_slot x (low_slot s cursor slots).previous ∙ k.split;
+      empty = k.empty;
+      lines = inside;
+      room = λ all more. k.room all (on all more);
+      fits = λ all more. omega (
+        arith,
+        k.fits all (on all more),
+        size,
+        total_within tool g _ inside more
+            (k.room all (on all more)),
+      );
+      four = omega (arith, size);
+      denied = k.denied;
     })
 
 -- the first four slots were emptied

@@ -1,16 +1,15 @@
 -- Each iteration takes the rows that are complete in the buffers, and finishes the next row; then the invariant holds
 -- again. If that row has no line, all readers are at the end of their inputs.
 use Rattle.ptflow.proofs
-use proofs.Common.{true, false, ◌≡◌, ◌≤◌, sym, ap, subst, arith, length, take, Bool, paste_job, job_shape, PushEffect}
-use proofs.Common.{RowShape, RowAmid, CellsFilled, begun_in, shape_of, ◌++◌, Write, Output, slots_text, cells_text}
-use proofs.Common.{length-take-le, call_on_failed_output, List, Reader, Slots, push_nothing}
+use proofs.Common.{sym, ap, subst, arith, length, paste_job, job_shape, RowShape, RowAmid, begun_in, shape_of, Write}
+use proofs.Common.{length-take-le, call_on_failed_output, push_nothing}
 use Rattle.std.proofs.lemmas.Bool.{not-false, not-true}
 use proofs.PasteLemmas.Call.{by_fault, of_rows, row_job, paste_without_slots, paste_rows_write_failed, paste_done}
-use proofs.PasteLemmas.Call.{paste_shared_write_failed, paste_fill_failed, paste_row_write_failed, PasteInvariant}
-use proofs.PasteLemmas.Call.{HasStarted, invariant_starts, invariant_rows, invariant_written, invariant_sent}
-use proofs.PasteLemmas.Call.{invariant_slots, invariant_more, now_readable}
+use proofs.PasteLemmas.Call.{paste_shared_write_failed, paste_fill_failed, paste_row_write_failed, HasStarted}
+use proofs.PasteLemmas.Call.{invariant_starts, invariant_rows, invariant_written, invariant_sent, row_slots}
+use proofs.PasteLemmas.Call.{invariant_slots, invariant_more, now_readable, RowsInvariant}
 use proofs.PasteLemmas.BufferedRows.{still_readable}
-use proofs.PasteLemmas.Rows.{amid_starts, amid_text}
+use proofs.PasteLemmas.Rows.{amid_starts}
 use Rattle.ptflow.proofs.tools.paste.paste.Goals.{After-ensure_slots, After-fill_row, In_ok-filled}
 use Rattle.ptflow.proofs.tools.paste.paste.Given as given
 use Rattle.ptflow.proofs.tools.paste.paste.Goals as goal
@@ -41,25 +40,23 @@ returns-in_err-ensure_slots g c =
     c.in_err-ensure_slots.ensures.few c.in_err-ensure_slots.ensures.err)
 
 pub rows-init : goal.rows-init
-rows-init g c = record {
-  invariant_holds = subst (λ (r : RowShape). PasteInvariant (row_job r) r.cells c.args.readers.now
-      c.set_terminators.new.readers c.set_terminators.new.readers c.args.out.now c.args.out.now c.args.store.now
-      c.ensure_slots.new.store) (sym c.row_format-row.ensures) (invariant_starts (starts g
-      (goal.at.rows-init g c).After-ensure_slots) c.ensure_slots.ensures.adds c.in_ok-ensure_slots.ensures.allowed (cc)
-      c.ensure_slots.ensures.same_peak);
-}
+rows-init g c =
+    let row : RowShape → Type 0 = λ r. RowsInvariant r c.args.readers.now c.set_terminators.new.readers
+    c.set_terminators.new.readers c.args.out.now c.args.out.now c.args.store.now c.ensure_slots.new.store in
+    subst row (sym c.row_format-row.ensures) (invariant_starts (starts g (goal.at.rows-init g c).After-ensure_slots)
+    c.ensure_slots.ensures.adds c.in_ok-ensure_slots.ensures.allowed (cc) c.ensure_slots.ensures.same_peak)
 
 pub write_shared_rows-requires-clause-readable : goal.write_shared_rows-requires-clause-readable
-write_shared_rows-requires-clause-readable g c = now_readable c.rows.invariant.invariant_holds
+write_shared_rows-requires-clause-readable g c = now_readable c.rows.invariant
 
 pub returns-in_err-write_shared_rows : goal.returns-in_err-write_shared_rows
 returns-in_err-write_shared_rows g c = of_rows c.row_format-row.ensures
     (by_fault c.from_residual-in_err-write_shared_rows.result Write
-    c.from_residual-in_err-write_shared_rows.ensures (paste_shared_write_failed c.rows.invariant.invariant_holds
+    c.from_residual-in_err-write_shared_rows.ensures (paste_shared_write_failed c.rows.invariant
     c.write_shared_rows.ensures.rows c.in_err-write_shared_rows.ensures.fault))
 
 pub copy_rows-copied-requires : goal.copy_rows-copied-requires
-copy_rows-copied-requires g c = now_readable (invariant_written c.rows.invariant.invariant_holds
+copy_rows-copied-requires g c = now_readable (invariant_written c.rows.invariant
     c.write_shared_rows.ensures.rows c.in_ok-write_shared_rows.ensures.clean)
 
 pub slice_bounds-push-end : goal.slice_bounds-push-end
@@ -67,13 +64,13 @@ slice_bounds-push-end g c = sym (length-take-le _ c.copy_rows-copied.new.into (o
 
 pub returns-in_err-push : goal.returns-in_err-push
 returns-in_err-push g c = of_rows c.row_format-row.ensures (by_fault c.from_residual-in_err-push.result Write
-    c.from_residual-in_err-push.ensures (paste_rows_write_failed (invariant_written c.rows.invariant.invariant_holds
+    c.from_residual-in_err-push.ensures (paste_rows_write_failed (invariant_written c.rows.invariant
     c.write_shared_rows.ensures.rows c.in_ok-write_shared_rows.ensures.clean) c.copy_rows-copied.ensures.rows
     c.push.ensures.pushed.wrote c.in_err-push.ensures.pushed.fault))
 
 pub fill_row-requires-clause-readable : goal.fill_row-requires-clause-readable
 fill_row-requires-clause-readable g c = still_readable c.copy_rows-copied.ensures.rows.consumed
-    (now_readable (invariant_written c.rows.invariant.invariant_holds c.write_shared_rows.ensures.rows
+    (now_readable (invariant_written c.rows.invariant c.write_shared_rows.ensures.rows
     c.in_ok-write_shared_rows.ensures.clean))
 
 pub fill_row-requires-clause-within : goal.fill_row-requires-clause-within
@@ -83,13 +80,13 @@ fill_row-requires-clause-within g c = omega (
 )
 
 pub fill_row-requires-clause-slots : goal.fill_row-requires-clause-slots
-fill_row-requires-clause-slots g c = invariant_slots c.rows.invariant.invariant_holds
+fill_row-requires-clause-slots g c = invariant_slots c.rows.invariant
 
 -- The invariant after the rows from the buffers.
-now : (g : given.Over) (c : After-fill_row g) → PasteInvariant (row_job (shape_of c.row_format-row.result))
-    c.row_format-row.result.cells.now c.args.readers.now c.set_terminators.new.readers
-    c.copy_rows-copied.ensures.rows.mid c.args.out.now c.push.new.self c.args.store.now c.rows.store
-now g c = invariant_rows (invariant_written c.rows.invariant.invariant_holds c.write_shared_rows.ensures.rows
+now : (g : given.Over) (c : After-fill_row g) → RowsInvariant (shape_of c.row_format-row.result) c.args.readers.now
+    c.set_terminators.new.readers c.copy_rows-copied.ensures.rows.mid c.args.out.now c.push.new.self c.args.store.now
+    c.rows.store
+now g c = invariant_rows (invariant_written c.rows.invariant c.write_shared_rows.ensures.rows
     c.in_ok-write_shared_rows.ensures.clean) c.copy_rows-copied.ensures.rows.rows c.push.ensures.pushed.wrote
     c.in_ok-push.ensures.pushed.clean
 
@@ -110,54 +107,36 @@ module _ (g : given.Over) (c : In_ok-filled g) where
   amid = c.in_ok-filled.ensures.fills _ _
       (amid_starts c.copy_rows-copied.ensures.rows (c.move_to_front-begun.ensures _))
 
-  -- Each column still has a slot.
-  room : length shape.cells ≤ length c.fill_row.new.store.lines
-  room = omega (arith, amid.slots.same, invariant_slots c.rows.invariant.invariant_holds)
-
-  has : (any_line : Bool) → c.in_ok-filled.filled.any_line ≡ any_line
-      → CellsFilled shape (length shape.cells) c.copy_rows-copied.ensures.rows.mid c.fill_row.new.readers amid.fields
-      any_line
-  has any_line is = subst (CellsFilled shape (length shape.cells) c.copy_rows-copied.ensures.rows.mid
-      c.fill_row.new.readers amid.fields) is amid.filled
-
-  abbrev Now : List Reader → Output → Slots → Type 0
-  Now readers out store = PasteInvariant (row_job shape) shape.cells c.args.readers.now c.set_terminators.new.readers
-      readers c.args.out.now out c.args.store.now store
-
   -- The invariant before the row was written.
-  sent : Now c.copy_rows-copied.ensures.rows.mid c.fill_row.new.out c.rows.store
-  sent = invariant_sent (invariant_rows (invariant_written c.rows.invariant.invariant_holds
-      c.write_shared_rows.ensures.rows c.in_ok-write_shared_rows.ensures.clean) c.copy_rows-copied.ensures.rows.rows
-      c.push.ensures.pushed.wrote c.in_ok-push.ensures.pushed.clean) c.in_ok-filled.ensures.wrote
-      c.in_ok-filled.ensures.write_failed
-
-  row_pushed : {is : Output} → PushEffect c.fill_row.new.out is (take c.in_ok-filled.filled.end c.fill_row.new.into
-      ++ slots_text shape c.in_ok-filled.filled.count c.fill_row.new.store)
-      → PushEffect c.fill_row.new.out is (cells_text shape 0 amid.fields)
-  row_pushed {is} pushed = subst (PushEffect c.fill_row.new.out is) (amid_text amid room) pushed
+  sent : RowsInvariant shape c.args.readers.now c.set_terminators.new.readers c.copy_rows-copied.ensures.rows.mid
+      c.args.out.now c.fill_row.new.out c.args.store.now c.rows.store
+  sent = invariant_sent (invariant_rows (invariant_written c.rows.invariant c.write_shared_rows.ensures.rows
+      c.in_ok-write_shared_rows.ensures.clean) c.copy_rows-copied.ensures.rows.rows c.push.ensures.pushed.wrote
+      c.in_ok-push.ensures.pushed.clean) c.in_ok-filled.ensures.wrote c.in_ok-filled.ensures.write_failed
 
 pub clear_slots-requires : goal.clear_slots-requires
-clear_slots-requires g c = room g (goal.at.clear_slots-requires g c).In_ok-filled
+clear_slots-requires g c =
+    let here = (goal.at.clear_slots-requires g c).In_ok-filled in row_slots (sent g here) (amid g here)
 
 pub returns-then-not-filled : goal.returns-then-not-filled
 returns-then-not-filled g c =
     let here = (goal.at.returns-then-not-filled g c).In_ok-filled in
-    of_rows c.row_format-row.ensures (paste_done (sent g here) (amid g here).slots (has g here false
-    (not-true _ c.if-not-filled.true)) c.clear_slots.ensures (push_nothing _) c.in_ok-filled.ensures.write_failed)
+    of_rows c.row_format-row.ensures (paste_done (sent g here) (amid g here) (not-true _ c.if-not-filled.true)
+    c.clear_slots.ensures (push_nothing _) c.in_ok-filled.ensures.write_failed)
 
 pub write_row-requires-clause-within : goal.write_row-requires-clause-within
 write_row-requires-clause-within g c = (amid g (goal.at.write_row-requires-clause-within g c).In_ok-filled).within
 
 pub write_row-requires-clause-slots : goal.write_row-requires-clause-slots
-write_row-requires-clause-slots g c = room g (goal.at.write_row-requires-clause-slots g c).In_ok-filled
+write_row-requires-clause-slots g c =
+    let here = (goal.at.write_row-requires-clause-slots g c).In_ok-filled in row_slots (sent g here) (amid g here)
 
 pub returns-in_err-write_row : goal.returns-in_err-write_row
 returns-in_err-write_row g c =
     let here = (goal.at.returns-in_err-write_row g c).In_ok-filled in
     of_rows c.row_format-row.ensures (by_fault c.from_residual-in_err-write_row.result Write
-    c.from_residual-in_err-write_row.ensures (paste_row_write_failed (sent g here) (amid g here).slots
-    (has g here true (not-false _ c.if-not-filled.false)) (row_pushed g here c.write_row.ensures.wrote)
-    c.in_err-write_row.ensures.fault))
+    c.from_residual-in_err-write_row.ensures (paste_row_write_failed (sent g here) (amid g here)
+    (not-false _ c.if-not-filled.false) c.write_row.ensures.wrote c.in_err-write_row.ensures.fault))
 
 pub rows-smaller : goal.rows-smaller
 rows-smaller g c = omega (
@@ -169,8 +148,5 @@ rows-smaller g c = omega (
 pub rows-preserved : goal.rows-preserved
 rows-preserved g c =
     let here = (goal.at.rows-preserved g c).In_ok-filled in
-    record {
-      invariant_holds = invariant_more (sent g here) (amid g here).slots
-          (has g here true (not-false _ c.if-not-filled.false)) (row_pushed g here c.write_row.ensures.wrote)
-          c.in_ok-write_row.ensures.clean;
-    }
+    invariant_more (sent g here) (amid g here) (not-false _ c.if-not-filled.false) c.write_row.ensures.wrote
+    c.in_ok-write_row.ensures.clean

@@ -1,14 +1,12 @@
 -- The rows so far were pushed; the remaining rows are those of the lines still to come, for each continuation of the
 -- inputs.
 use Rattle.ptflow.proofs.Common.{sum_by, budget, shape_of}
-use Rattle.ptflow.proofs.PasteLemmas.Call.{PasteInvariant, row_job}
+use Rattle.ptflow.proofs.PasteLemmas.Call.{RowsInvariant}
 use Rattle.ptflow.proofs.tools.paste.paste.Given as goal
 
 abbrev pub invariant-rows : goal.invariant-rows
-invariant-rows g l = record {
-  invariant_holds : PasteInvariant (row_job (shape_of l.row)) l.row.cells.now l.fn.readers l.initial.readers l.readers
-      l.fn.out l.out l.fn.store l.store;
-}
+invariant-rows g l = RowsInvariant (shape_of l.row) l.fn.readers l.initial.readers l.readers l.fn.out l.out l.fn.store
+    l.store
 
 abbrev pub decreases-rows : goal.decreases-rows
 decreases-rows g l = sum_by budget l.readers

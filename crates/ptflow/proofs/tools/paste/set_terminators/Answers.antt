@@ -2,7 +2,6 @@
 -- further effect.
 use Rattle.ptflow.proofs
 use proofs.Common.{◌≡◌, ◌<◌, Bool, true, false, cond, length, get_or, refl, arith, terminator, common_steps, rules}
-use borrow.Author.Rules.{scaled_Fits}
 use proofs.PasteLemmas.Rows.{at_index, set_terminator_more}
 use Rattle.ptflow.proofs.tools.paste.set_terminators.Goals as goal
 
@@ -22,11 +21,10 @@ loop-input-preserved g c =
 
 pub bounds-readers-input : goal.bounds-readers-input
 bounds-readers-input g c =
-    omega (arith, c.requires c.loop-input.input-index 0 c.loop-input-test.true)
+    grind (arith, common_steps)
 
 pub offset_bounds-readers-input : goal.offset_bounds-readers-input
-offset_bounds-readers-input g c =
-    let low = c.requires c.loop-input.input-index 0 c.loop-input-test.true in search scaled_Fits
+offset_bounds-readers-input g c = grind (arith, common_steps)
 
 pub returns : goal.returns
 returns g c = grind (arith, common_steps)

@@ -1,4 +1,5 @@
 -- Each iteration preserves the invariant by one lemma of `CommLemmas`, and each exit has the postconditions by another.
+use Rattle.std.proofs.Common.{rules}
 use Rattle.ptmerge.proofs
 use proofs.Common.{refl, ◌∙◌, comm_job}
 use proofs.MergeLemmas.{advance_pre, err_is, start_fault, start_ok, between_starts, reads_less}
@@ -21,7 +22,7 @@ steps-init g c =
       iteration = record {
         opened = w;
         whole_line_keys = c.requires.whole_line_keys;
-        loop_invariant = start_ok w (λ ls holds. holds) p.starts;
+        loop_invariant = start_ok w p.starts;
         between = between_starts (rw p.order at p.valid_cursors) p.own_reader c.requires.begins.writable;
       };
       order = refl;
@@ -76,14 +77,10 @@ steps-preserved g c =
     })
 
 pub steps-smaller-in-Continue-branch-2 : goal.steps-smaller-in-Continue-branch-2
-steps-smaller-in-Continue-branch-2 g c =
-    let h = c.in_ok-write_head-in-First.ensures.advances in
-    reads_less c.steps.invariant.iteration.between _ h.continues c.in-First.ensures.status_is h.came
+steps-smaller-in-Continue-branch-2 g c = search (rules, reads_less)
 
 pub steps-smaller-in-Continue-branch-3 : goal.steps-smaller-in-Continue-branch-3
-steps-smaller-in-Continue-branch-3 g c =
-    let h = c.in_ok-write_head-in-Second.ensures.advances in
-    reads_less c.steps.invariant.iteration.between _ h.continues c.in-Second.ensures.status_is h.came
+steps-smaller-in-Continue-branch-3 g c = search (rules, reads_less)
 
 pub steps-smaller : goal.steps-smaller
 steps-smaller g c = pair_decreases c.steps.invariant.iteration c.in-Both.ensures

@@ -8,7 +8,6 @@ use proofs.JoinLemmas.{read_group_pre, read_group_fails, read_group_continues, g
 use proofs.JoinLemmas.{write_pairs_group, write_pairs_pre, pair_fails, write_pairs_next, write_pairs_continues}
 use proofs.JoinLemmas.{alone_continues, alone_fails, eof, disordered, measure_decreases, opened, group_opens}
 use proofs.MergeLemmas.{advance_pre, err_is, start_fault, start_ok, between_starts}
-use proofs.JoinLemmas.Group.{group_store_starts}
 use Rattle.ptmerge.specs.declared.key_order.Side.TheVariants as sides
 use Rattle.ptmerge.specs.declared.tools.join.JoinPhase.TheVariants as phases
 use Rattle.ptmerge.proofs.tools.join.join_with_order.Goals as goal
@@ -28,7 +27,7 @@ steps-init g c =
     rw e.order (record {
       iteration = record {
         opened = a;
-        phased = (start_ok a.w (λ ls. group_store_starts) e.starts, refl);
+        phased = (start_ok a.w e.starts, refl);
         between = between_starts (rw e.order at e.valid_cursors) e.own_reader c.requires.begins.writable;
       };
       order = refl;
@@ -145,10 +144,7 @@ steps-smaller-then-not-has_same_key g c =
     (read_group_pre c.steps.invariant.iteration c.in-ReadGroup.is).head ok.reads_line.came ok.continues
 
 pub steps-smaller-then-not-has_same_key-2 : goal.steps-smaller-then-not-has_same_key-2
-steps-smaller-then-not-has_same_key-2 g c =
-    let h = c.in_ok-write_pairs-in-WritePairs.ensures.advances in
-    measure_decreases c.steps.invariant.iteration sides.First phases.BetweenGroups
-    (write_pairs_pre c.steps.invariant.iteration c.in-WritePairs.is).status_is.head h.came h.continues
+steps-smaller-then-not-has_same_key-2 g c = search (rules, measure_decreases, write_pairs_pre)
 
 pub steps-smaller : goal.steps-smaller
 steps-smaller g c = search (rules, measure_decreases, write_pairs_pre)

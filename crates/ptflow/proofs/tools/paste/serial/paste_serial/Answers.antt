@@ -1,7 +1,7 @@
 -- `SerialPaste` is a block filter for `paste -s`: at the start of a row the rest of the row is the whole output, and
 -- the delimiters and the terminator do not change from block to block.
 use Rattle.ptflow.proofs
-use proofs.Common.{◌≡◌, ◌++◌, cond, [], ◌∷◌, refl, sym, ◌∙◌, paste_job, paste_serial_tool, row_rest, serial_rest, rules}
+use proofs.Common.{◌≡◌, [], refl, paste_job, paste_serial_tool, row_rest, rules}
 use proofs.Passes.Exits.{pass_unchanged, pass_set, ready_set}
 use proofs.PasteLemmas.Replaced.{serial_is_decided}
 use Rattle.ptflow.proofs.tools.paste.serial.paste_serial.Goals as goal
@@ -11,20 +11,14 @@ returns-then-has_failed g c = pass_unchanged (paste_serial_tool (paste_job c.arg
 
 pub returns : goal.returns
 returns g c =
-    let job = paste_job c.args.job.now in
-    let end : c.terminator-terminator.result ≡ job.terminator = search rules in
+    let end : c.terminator-terminator.result ≡ (paste_job c.args.job.now).terminator = search rules in
     let delims = c.as_slice-delims.ensures.all in
     pass_set _
-    (c.run_blocks.ensures (paste_serial_tool job)
+    (c.run_blocks.ensures (paste_serial_tool (paste_job c.args.job.now))
     (record {
       text = λ bytes i. row_rest (end i) (delims i) 0 bytes;
       decided = λ given pushed now same on.
-          let start : row_rest c.terminator-terminator.result c.as_slice-delims.result.now 0 (given ++ [])
-          ≡ row_rest job.terminator job.delimiters 0 (given ++ []) = λ i. row_rest (end i) (delims i) 0 (given
-          ++ []) in
-          serial_is_decided job given pushed now.cell.index now.cell.complete
-          (sym start ∙ on [] ∙ (λ i. pushed ++ serial_rest (same i) now.cell [])
-          ∙ (λ i. pushed ++ row_rest (end i) (delims i) now.cell.index (cond now.cell.complete (end i ∷ []) [])));
+          serial_is_decided (paste_job c.args.job.now) _ now.format end delims same given pushed now.cell (on []);
       holds = refl;
       slots = refl;
     })

@@ -12,7 +12,7 @@ none g c = search (rules, not_found)
 
 pub returns-then-is_none-clause-continues : goal.returns-then-is_none-clause-continues
 returns-then-is_none-clause-continues g c =
-    steps_written (steps_none (uniq_job c.args.self.now.job.now) (current_run_of c.args.run.now c.args.store.now))
+    steps_written (steps_none (uniq_job c.args.self.now.job.now) (current_run_of c.args.self.now.run c.args.store.now))
     (push_nothing c.args.out.now) (none g (goal.at.returns-then-is_none-clause-continues g c).Then-is_none)
     (λ clean. clean)
 

@@ -3,18 +3,15 @@
 use Rattle.ptmerge.proofs
 use proofs.Common.{◌≡◌, ◌∷◌, [], None, Some, option_copied, sym, ◌∙◌, MatchOption, slice_split, is_separator}
 use proofs.Common.{remaining_fields}
-use proofs.JoinLemmas.Fields.{field_in, remaining_after, skip_empty_word}
+use proofs.JoinLemmas.Fields.{fields_after, skip_empty_word}
 use Rattle.ptmerge.proofs.tools.join.fields.next_field.Goals as goal
 
 pub returns-then-is_some-clause-is_piece : goal.returns-then-is_some-clause-is_piece
 returns-then-is_some-clause-is_piece c =
-    let ends = rw c.in-Some.is at c.pieces.invariant.ends in
-    field_in _ (option_copied c.args.line) (Some c.in-Some.bytes.now) _
-    (option_copied c.first_piece.result.1) ends c.first_piece.ensures.is_piece
+    (rw c.in-Some.is at c.pieces.invariant.fields) _ _ c.first_piece.ensures.is_piece
 
 pub pieces-preserved : goal.pieces-preserved
 pieces-preserved c =
-    let ends = rw c.in-Some.is at c.pieces.invariant.ends in
     let splits = slice_split (is_separator c.args.separator) in
     let field = c.first_piece.result.0.now in
     let none = sym c.is_some.ensures ∙ c.if-is_some.false in
@@ -28,6 +25,6 @@ pieces-preserved c =
     ] in
     record {
       same = cc (word c.first_piece.ensures.first);
-      ends = remaining_after c.args.separator (option_copied c.args.line) (Some c.in-Some.bytes.now) field
-          (option_copied c.first_piece.result.1) ends c.first_piece.ensures.is_piece;
+      fields = λ f r p. (rw c.in-Some.is at c.pieces.invariant.fields) f r
+          (fields_after c.args.separator (Some c.in-Some.bytes.now) field _ c.first_piece.ensures.is_piece f r p);
     }

@@ -1,14 +1,13 @@
 -- Only blanks before a field are skipped, so the remaining fields are unchanged.
 use Rattle.ptmerge.proofs
 use proofs.Common.{◌≡◌, option_copied, remaining_fields}
-use proofs.JoinLemmas.Fields.{remaining_length, IsRemainderOf}
+use proofs.JoinLemmas.Fields.{AreFieldsOf, remaining_length}
 use Rattle.ptmerge.proofs.tools.join.fields.next_field.Given as goal
 
--- The rest has the same fields, since only empty words were skipped, and it is a suffix of the line.
 abbrev pub invariant-pieces : goal.invariant-pieces
 invariant-pieces l = record {
   same : remaining_fields l.separator (option_copied l.left) ≡ remaining_fields l.separator (option_copied l.fn.line);
-  ends : IsRemainderOf (option_copied l.fn.line) (option_copied l.left);
+  fields : AreFieldsOf l.separator (option_copied l.fn.line) (option_copied l.left);
 }
 
 abbrev pub decreases-pieces : goal.decreases-pieces

@@ -1,19 +1,32 @@
--- A chunk without a terminator is skipped, and the line continues.
+-- A chunk without a terminator is skipped, and the line continues, as the last line of another chunk does.
 use Rattle.ptflow.proofs
 use proofs.Common.{[], ap, arith, ◌∙◌, count_ones, chunk, ones-mask_l, is_byte}
 use proofs.Vectors.FindNth.{count_chunk}
 use proofs.tools.cut.bytes.Selection.cut_block.Goals as goal
+use proofs.tools.cut.bytes.Selection.cut_block.Goals.{then-mask-ne0, else-mask-ne0}
 
-pub loop-from-preserved-then-mask-eq0 : goal.loop-from-preserved-then-mask-eq0
-loop-from-preserved-then-mask-eq0 c =
+pub loop-from-preserved : goal.loop-from-preserved
+loop-from-preserved c =
     let p = is_byte c.args.self.now.terminator in
     let loop = c.loop-from in
-    let none = ap count_ones c.if-mask-eq0.true ∙ ones-mask_l p [] in
-    let counted = ap count_ones c.match_mask-mask.ensures
-    ∙ ones-mask_l p (chunk loop.from 64 c.args.block.now) in record {
-      within = omega arith;
-      same = (omega arith, omega (arith, count_chunk p c.args.block.now loop.from));
-      cut = loop.invariant.cut;
-      bound = loop.invariant.bound;
-      near = loop.invariant.near;
-    }
+    elim c.if-mask-ne0.branch [
+      | then-mask-ne0 w ↦
+          let cut = w.cut_chunk-line.ensures in
+          rw (w.into-is, w.line-is) (record {
+            within = omega arith;
+            same = cut.same;
+            cut = cut.on.cut _ _ loop.invariant.cut;
+            bound = omega arith;
+            near = cut.on.near;
+          })
+      | else-mask-ne0 w ↦
+          let none = ap count_ones w.if-mask-ne0.false ∙ ones-mask_l p [] in
+          let counted = ap count_ones c.match_mask-mask.ensures ∙ ones-mask_l p (chunk loop.from 64 c.args.block.now) in
+          rw (w.into-is, w.line-is) (record {
+            within = omega arith;
+            same = (omega arith, omega (arith, count_chunk p c.args.block.now loop.from));
+            cut = loop.invariant.cut;
+            bound = loop.invariant.bound;
+            near = loop.invariant.near;
+          })
+    ]

@@ -5,7 +5,7 @@ use proofs.Common.{◌≡◌, ◌+◌, suc, map, take, drop, refl, ◌∙◌, ap
 use proofs.Common.{take_more_put_chunk, ones-mask_l, is_byte, is_selected}
 use lib.Count.{count_trailing_zeros}
 use proofs.CutLemmas.CutBytes.{line_cut, terminators_next, cut_next}
-use proofs.Vectors.FindNth.{NextTerminator, cleared, next_terminator, some_counted}
+use proofs.Vectors.FindNth.{NextTerminator, cleared, count_chunk, next_terminator}
 use Rattle.ptflow.proofs.tools.cut.bytes.Selection.cut_chunk.Goals as goal
 use Rattle.ptflow.proofs.tools.cut.bytes.Selection.cut_chunk.Goals.{In-loop-end}
 
@@ -47,13 +47,12 @@ loop-end-preserved c =
       within = omega arith;
       ends = e.counted;
       on = line_cut _ l.invariant.on e.first c.copy_line.ensures.copied (omega arith) refl (omega arith);
-      passed = λ some_turns. omega arith;
     }
 
-pub returns-clause-passed : goal.returns-clause-passed
-returns-clause-passed c =
-    let bytes = chunk c.args.from 64 c.args.block.now in
-    let counted = ap count_ones c.requires.ends.is ∙ ones-mask_l (is_byte c.args.self.now.terminator) bytes in
-    let some = some_counted (is_byte c.args.self.now.terminator) bytes bytes
-    (rw c.requires.ends.is at c.requires.ends.some) in
-    (c.loop-end.invariant.passed (omega arith), c.loop-end.invariant.within)
+pub returns-clause-same : goal.returns-clause-same
+returns-clause-same c =
+    let p = is_byte c.args.self.now.terminator in
+    let block = c.args.block.now in
+    let counted = ap count_ones c.requires.ends.is ∙ ones-mask_l p (chunk c.args.from 64 block) in
+    let same = count_chunk p block c.args.from in
+    (c.loop-end.invariant.within, omega (arith, c.loop-end.invariant.ends, same, counted))

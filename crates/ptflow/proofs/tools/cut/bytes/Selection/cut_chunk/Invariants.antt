@@ -1,7 +1,7 @@
 -- The set bits are the terminators that are left. The output is that of the lines before the current one, which after
 -- the first iteration is in this chunk.
 use Rattle.ptflow.proofs
-use proofs.Common.{◌≡◌, ◌+◌, ◌<◌, ◌≤◌, map, take, count_by, mask_l, chunk, is_byte, CutPost}
+use proofs.Common.{◌≡◌, ◌+◌, ◌≤◌, map, take, count_by, mask_l, chunk, is_byte, CutPost}
 use proofs.Vectors.FindNth.{without}
 use proofs.tools.cut.bytes.Selection.cut_chunk.Given as goal
 
@@ -13,5 +13,4 @@ invariant-loop-end l = record {
       ≡ count_by (is_byte l.self.terminator) (take l.from l.block) + l._end;
   on : CutPost l.self.terminator l.self.selected.now l.block l.fn.line (take l.fn.line.at l.fn.into) l.line
       (take l.line.at l.into);
-  passed : 0 < l._end → l.from < l.line.start;
 }

@@ -7,7 +7,7 @@ use proofs.tools.cut.fields.FieldCutLineFilter.process_line.Goals as goal
 
 pub returns-in_err-write_line-clause-halts : goal.returns-in_err-write_line-clause-halts
 returns-in_err-write_line-clause-halts g c =
-    let job = cut_job c.args.self.now.job.now in
+    let job = cut_job c.args.self.now.by.job.now in
     let ls = line c.args.store.now 0 ∷ [] in
     on_err c.from_residual.result
     (record {

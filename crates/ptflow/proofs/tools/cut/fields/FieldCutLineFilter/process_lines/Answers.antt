@@ -14,11 +14,12 @@ less_left start size rest fits near space = omega (arith, length-drop size rest)
 pub lines-preserved : goal.lines-preserved
 lines-preserved g c =
     let l = c.lines in
-    let put = rw c.args.self.now.ends at c.copy_lines-size.ensures.put in
+    let put = rw c.args.self.now.by.ends at c.copy_lines-size.ensures.put in
     rw take_rest (record {
       taken = taken_more _ _ put.taken l.invariant.taken;
       on = λ more. l.invariant.on more ∙ put.on more;
       space = less_left _ _ _ put.fits c.copy_lines-size.ensures.end.1 l.invariant.space;
+      same_by = l.invariant.same_by;
       long = c.copy_lines-size.ensures.long ∙ l.invariant.long;
     })
 
@@ -27,31 +28,32 @@ returns-in_err-push-clause-halts g c =
     let l = c.lines in
     on_err c.from_residual.result
     (record {
-      passed = take l.end l.room;
+      passed = take l.end l.self.buffer;
       wrote = c.push.ensures.pushed.wrote;
       fault = c.in_err-push.ensures.pushed.fault;
       is_prefix = λ more. (
-        cut_lines (cut_job c.args.self.now.job.now)
-            (complete_lines (cut_job c.args.self.now.job.now).terminator l.rest.now ++ more),
+        cut_lines (cut_job c.args.self.now.by.job.now)
+            (complete_lines (cut_job c.args.self.now.by.job.now).terminator l.rest.now ++ more),
         l.invariant.on more,
       );
     })
 
 -- no complete line is left
-none_left : (g : given.Over) (c : In_default g) → IsLine (cut_job c.args.self.now.job.now).terminator c.lines.rest.now
+none_left : (g : given.Over) (c : In_default g)
+    → IsLine (cut_job c.args.self.now.by.job.now).terminator c.lines.rest.now
 none_left g c = line_if_not_found _ _
-    (rw (c.new.ensures.byte, c.new.ensures.bytes, c.args.self.now.ends) at c.in_default.ensures)
+    (rw (c.new.ensures.byte, c.new.ensures.bytes, c.args.self.now.by.ends) at c.in_default.ensures)
 
 pub returns-clause-continues : goal.returns-clause-continues
 returns-clause-continues g c =
     let l = c.lines in
-    let job = cut_job c.args.self.now.job.now in
+    let job = cut_job c.args.self.now.by.job.now in
     let none = complete_lines_none _ _
     (none_left g (goal.at.returns-clause-continues g c).In_default) in record {
-      passed = take l.end l.room;
+      passed = take l.end l.self.buffer;
       wrote = c.in_ok-push.ensures.pushed.wrote;
       clean = λ was_clean. c.in_ok-push.ensures.pushed.clean;
-      on = λ more. l.invariant.on more ∙ ap (λ ls. take l.end l.room ++ cut_lines job (ls ++ more)) none;
+      on = λ more. l.invariant.on more ∙ ap (λ ls. take l.end l.self.buffer ++ cut_lines job (ls ++ more)) none;
       count = omega arith;
       some = λ h. omega arith;
     }

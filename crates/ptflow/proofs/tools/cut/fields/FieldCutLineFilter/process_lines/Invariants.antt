@@ -5,15 +5,15 @@ use proofs.Passes.Exits.{TakenLines}
 use proofs.tools.cut.fields.FieldCutLineFilter.process_lines.Given as goal
 
 abbrev pub invariant-lines : goal.invariant-lines
-invariant-lines g l = record {
-  taken : TakenLines (cut_job l.self.job.now).terminator l.block l.rest;
-  on : (more : List (List ℕ))
-      → cut_lines (cut_job l.self.job.now) (complete_lines (cut_job l.self.job.now).terminator l.block ++ more)
-      ≡ take l.end l.room
-      ++ cut_lines (cut_job l.self.job.now) (complete_lines (cut_job l.self.job.now).terminator l.rest ++ more);
-  space : l.end + length l.rest ≤ length l.block;
-  long : length l.room ≡ 8208;
-}
+invariant-lines g l =
+    let job = cut_job l.fn.self.by.job.now in record {
+      taken : TakenLines job.terminator l.block l.rest;
+      on : (more : List (List ℕ)) → cut_lines job (complete_lines job.terminator l.block ++ more)
+          ≡ take l.end l.self.buffer ++ cut_lines job (complete_lines job.terminator l.rest ++ more);
+      space : l.end + length l.rest ≤ length l.block;
+      same_by : l.self.by ≡ l.fn.self.by;
+      long : length l.self.buffer ≡ 8208;
+    }
 
 abbrev pub decreases-lines : goal.decreases-lines
 decreases-lines g l = length l.rest

@@ -1,8 +1,8 @@
 -- The terminator that was held back comes first. Then a block is its bytes up to the last one, and the last one.
 use Rattle.ptflow.proofs
-use proofs.Common.{◌≡◌, ◌+◌, ◌-◌, ◌<◌, ◌++◌, ℕ, Bool, true, false, cond, List, [], ◌∷◌, length, take, get_or, refl}
-use proofs.Common.{sym, ◌∙◌, arith, append_assoc, take_more, take_all, take_more_set, from_bool, mod-lt, count_by}
-use proofs.Common.{is_byte, serial_rest, row_rest, Option, ◌==◌, not, set, eqb-true, take-set}
+use proofs.Common.{◌≡◌, ◌+◌, ◌-◌, ◌<◌, ◌++◌, ℕ, Bool, true, false, cond, List, [], ◌∷◌, length, take, get_or, refl, ◌∙◌}
+use proofs.Common.{arith, append_assoc, take_more, take_all, take_more_set, from_bool, serial_rest, row_rest, Option}
+use proofs.Common.{◌==◌, not, set, eqb-true, take-set, length-append}
 use Rattle.std.proofs.lemmas.List.{length-take}
 use proofs.PasteLemmas.Replaced.{copied_on, row_byte}
 use Rattle.ptflow.proofs.tools.paste.serial.SerialFormat.copy_block.Goals.{After-copy_cells-end}
@@ -25,22 +25,15 @@ module _ (c : After-copy_cells-end) (more : List ℕ) where
       ≡ take c.copy_cells-end.result.0 c.copy_cells-end.new.into
       ++ row_rest c.args.self.now.terminator c.args.self.now.delims.now c.copy_cells-end.result.1 (last ∷ more)
   copied =
-      let end = c.args.self.now.terminator in
-      let delims = c.args.self.now.delims.now in
       let block = c.args.block.now in
-      let held = take c.from-size.result (end ∷ []) in
       let bytes = take (length block - 1) block in
-      let first = c.copy_cells-at.ensures.copied in
-      let second = c.copy_cells-end.ensures.copied in
-      let some : 0 < length delims = omega arith in
       cc (
-        held_is c.args.cell.complete end (block ++ more) c.from-size.ensures,
+        held_is c.args.cell.complete c.args.self.now.terminator (block ++ more) c.from-size.ensures,
         parts block c.requires.some.0,
         append_assoc bytes (last ∷ []) more,
-        copied_on end delims c.args.cell.index held bytes (last ∷ more) (omega arith) first.is first.later second.is
-            second.later (rw (sym second.later) at
-            (mod-lt (c.copy_cells-at.result.1 + count_by (is_byte end) bytes) some))
-            (rw (sym first.later) at (mod-lt (c.args.cell.index + count_by (is_byte end) held) some)),
+        copied_on (bytes ++ (last ∷ more)) (omega (arith, length-append bytes (last ∷ more)))
+            c.copy_cells-at.ensures.copied,
+        copied_on (last ∷ more) (omega arith) c.copy_cells-end.ensures.copied,
       )
 
 -- The last byte is put after the copy, and counted unless it is a terminator.

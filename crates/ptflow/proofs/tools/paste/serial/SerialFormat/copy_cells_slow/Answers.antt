@@ -1,29 +1,24 @@
 -- Each step copies one line and the delimiter after its column. After the last terminator the rest is a part of a line,
 -- which is copied as it is.
 use Rattle.ptflow.proofs
-use proofs.Common.{◌≡◌, ◌+◌, ◌-◌, ◌<◌, ◌++◌, length, take, sym, ◌∙◌, ap, arith, length-drop, take_rest, take_all}
-use proofs.Common.{line_if_not_found, mod-eq_of_lt, delimiter, count_by, is_byte}
+use proofs.Common.{◌≡◌, ◌+◌, ◌-◌, ◌++◌, length, take, sym, ◌∙◌, ap, arith, length-drop, take_rest, take_all}
+use proofs.Common.{line_if_not_found, mod-eq_of_lt, delimiter, count_by, is_byte, take-append-drop}
 use proofs.Vectors.FindNth.{none_counted}
-use proofs.PasteLemmas.Replaced.{replaced_none, next_piece}
+use proofs.PasteLemmas.Replaced.{replaced_none, line_copied, copied_more}
 use Rattle.ptflow.proofs.tools.paste.serial.SerialFormat.copy_cells_slow.Goals as goal
 
 pub pieces-preserved : goal.pieces-preserved
 pieces-preserved c =
-    let delims = c.args.self.now.delims.now in
     let inv = c.pieces.invariant in
     let count = c.in-Some.count in
+    let rest = c.pieces.rest.now in
     let all : count - 0 ≡ count = omega arith in
-    let some : 0 < length delims = omega arith in
-    let line = take (c.pieces.at + count) c.copy_short.new.into in
-    let (is, later) = next_piece c.args.self.now.terminator delims some c.pieces.index
-    c.pieces.rest.now (take c.pieces.at c.pieces.into) c.in-Some.ensures c.next_index-index.ensures
-    (rw all at c.copy_short.ensures.copied)
-    (cc (mod-eq_of_lt inv.low)) inv.is inv.later in
+    let piece = line_copied {format = c.args.self.now} c.pieces.index rest (take c.pieces.at c.pieces.into)
+    c.in-Some.ensures c.next_index-index.ensures (rw all at c.copy_short.ensures.copied) (cc (mod-eq_of_lt inv.low)) in
     rw take_rest (record {
-      is = is;
-      later = later;
+      on = λ next after more. inv.on next after (rw (take-append-drop (count + 1) rest) at (copied_more piece more));
       low = omega arith;
-      size_bound = omega (arith, length-drop (count + 1) c.pieces.rest.now, c.in-Some.ensures.0.high);
+      size_bound = omega (arith, length-drop (count + 1) rest, c.in-Some.ensures.0.high);
       buffer_size = c.copy_option-at.array_long;
     })
 
@@ -38,10 +33,9 @@ returns-clause-copied c =
       arith,
       none_counted end rest rest free,
     ) in
-    let delims = c.args.self.now.delims.now in
-    record {
+    inv.on _ _ (record {
       is = rw all at c.copy_short-2.ensures.copied
           ∙ ap (◌++◌ (take c.pieces.at c.pieces.into)) (take_all (length rest) rest (omega arith)
-          ∙ sym (replaced_none end (delimiter delims) c.pieces.index rest free)) ∙ inv.is;
+          ∙ sym (replaced_none end (delimiter c.args.self.now.delims.now) c.pieces.index rest free));
       later = cc (mod-eq_of_lt inv.low);
-    }
+    })

@@ -8,7 +8,7 @@ use Rattle.ptlangs.specs.TrPlan.{Plan}
 use Rattle.ptlangs.specs.TrTables.{Tables, tables}
 use Rattle.ptlangs.specs.declared.faults.SetFault.{SetFault}
 use Rattle.std.proofs.Math.ListN.{get_or}
-use Rattle.ptopts.proofs.command.tr.char_plan.Goals as goal
+use Rattle.ptopts.proofs.parsing.ParsedArgs.char_plan.Goals as goal
 
 first_word : (words : List (Bor (List ℕ))) (d : Bor (List ℕ)) → d.now ≡ []
     → (get_or words 0 d).now ≡ slice_index_or (words_view words) 0 []
@@ -26,10 +26,10 @@ read_fault (Ok x) r e is read = cc
 read_fault (Err d) r e is read = cc
 
 pub returns-in_err-plan-clause-fault : goal.returns-in_err-plan-clause-fault
-returns-in_err-plan-clause-fault c = grind (arith, err_from_is_err_and, first_word, read_fault)
+returns-in_err-plan-clause-fault g c = grind (arith, err_from_is_err_and, first_word, read_fault)
 
 pub returns-clause-fault : goal.returns-clause-fault
-returns-clause-fault c = grind (arith, first_word, read_plan)
+returns-clause-fault g c = grind (arith, first_word, read_plan)
 
 pub returns-clause-plan : goal.returns-clause-plan
-returns-clause-plan c = grind (arith, first_word, read_plan)
+returns-clause-plan g c = grind (arith, first_word, read_plan)

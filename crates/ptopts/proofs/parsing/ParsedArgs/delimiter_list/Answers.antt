@@ -10,7 +10,7 @@ use Rattle.ptlangs.specs.declared.delims.DelimFault.{DelimFault}
 use denote.Enum.Bare.{sameb}
 use Rattle.ptopts.specs.declared.fault.UseFault.TheVariants as fault
 use Rattle.ptopts.specs.Faults as faults
-use Rattle.ptopts.proofs.command.paste.delimiter_list.Goals as goal
+use Rattle.ptopts.proofs.parsing.ParsedArgs.delimiter_list.Goals as goal
 
 module _ (letter : ℕ) (text : Bor (List ℕ)) (is_memory : DelimFault → Bool) (never : is_memory Memory ≡ true)
     (empty : is_memory Empty ≡ false) (escape : is_memory Escape ≡ false) where

@@ -4,11 +4,11 @@ use proofs.Common.{Bor, List, YieldsList-from_slice, ap, find_from_yields_List, 
 use proofs.Common.{tests, ℕ, ◌==◌, ◌∙◌}
 use proofs.OptionViews.{value_of-view}
 use Rattle.ptopts.specs.declared.parsing.ParsedOption.{ParsedOption}
-use Rattle.ptopts.proofs.values.value.Goals as goal
+use Rattle.ptopts.proofs.parsing.ParsedArgs.value.Goals as goal
 
 pub returns-in_err-find : goal.returns-in_err-find
-returns-in_err-find c =
-    let all = c.args.options.now in
+returns-in_err-find g c =
+    let all = c.args.self.now.options.items in
     let found = find_from_yields_List (λ (o : ParsedOption). o.letter == c.args.letter)
     _ _ c.find.result c.find.ensures.ran (YieldsList-from_slice all cc) (λ x b q k. search (rules, tests)) in
     let none = rw c.in_err-find.was at found in
@@ -17,8 +17,8 @@ returns-in_err-find c =
     ∙ sym (value_of-view c.args.letter all))
 
 pub returns : goal.returns
-returns c =
-    let all = c.args.options.now in
+returns g c =
+    let all = c.args.self.now.options.items in
     let found = find_from_yields_List (λ (o : ParsedOption). o.letter == c.args.letter)
     _ _ c.find.result c.find.ensures.ran (YieldsList-from_slice all cc) (λ x b q k. search (rules, tests)) in
     let some = rw c.in_ok-find.was at found in
