@@ -112,13 +112,14 @@ whole_lines_prefix end false bytes front last is =
     )
 
 -- Without the last bytes that were given, if these came from the buffer.
-pub earlier_before : {end most : ℕ} {now new : Reader} {given more : List ℕ} {ls : Column}
+pub earlier_before : {end most : ℕ} {now new : Reader} {given more all : List ℕ} {ls : Column}
     → AreReceivedLines end now given ls → ReaderAdvance now new more → new.pulled ≡ now.pulled
-    → length now.buffered ≤ 8192 → length ls < most → EarlierPart end most (received_with (given ++ more) new)
-earlier_before {now = now} {new} {given} {more} came reads still buffered few = record {
+    → length now.buffered ≤ 8192 → length ls < most → all ≡ given ++ more
+    → EarlierPart end most (received_with all new)
+earlier_before {now = now} {new} {given} {more} came reads still buffered few is = record {
   front = given;
   last = more ++ new.buffered;
-  split = append_assoc given more new.buffered;
+  split = cc (append_assoc given more new.buffered);
   short = omega (arith, length-append more new.buffered);
   few = omega (arith, few, rw (append-nil given) at (complete_few came (reads_nothing now) tt));
 }
@@ -175,8 +176,8 @@ module _ (job : Paste) (cells : List ℕ) (came : ℕ → Received) where
   -- The rows that were taken, if the input `here` without its last bytes has fewer lines than one more row takes. That
   -- input is then not known to end, so each row that is determined has all its lines of that input, and is a row of the
   -- whole grid.
-  module _ (taken_rows more : List (List (List ℕ))) (all : rows (grid came) ≡ taken_rows ++ more) (here : ℕ)
-      (named : 0 < uses_of cells here)
+  module _ (taken_rows more : List (List (List ℕ))) {pushed : List ℕ} (text : pushed ≡ rows_text job taken_rows)
+      (all : rows (grid came) ≡ taken_rows ++ more) (here : ℕ) (named : 0 < uses_of cells here)
       (cut : EarlierPart job.terminator ((length taken_rows + 1) * uses_of cells here) (came here)) where
     abbrev front : Received
     front = record { bytes = cut.front; eof = false }
@@ -245,7 +246,7 @@ module _ (job : Paste) (cells : List ℕ) (came : ℕ → Received) where
           get_or_append_left taken_rows more [] r less,
         )
 
-    pub begins_earlier : IsPrefix (paste_decided job cells earlier) (rows_text job taken_rows)
+    pub begins_earlier : IsPrefix (paste_decided job cells earlier) pushed
     begins_earlier =
         let (rest, is) = known_first (is_row_known (grid earlier) ends) (known_down (grid earlier) ends)
         (row_at (grid earlier)) taken_rows next_unknown (λ r known less. row_same r known ∙ taken_at r less) 0
@@ -255,7 +256,7 @@ module _ (job : Paste) (cells : List ℕ) (came : ℕ → Received) where
           is = grind (arith, common_steps);
         }
 
-    pub lags_here : LagsAt job cells came (rows_text job taken_rows) here
+    pub lags_here : LagsAt job cells came pushed here
     lags_here = record {
       before = λ u. record {
         earlier = front;
@@ -269,5 +270,5 @@ module _ (job : Paste) (cells : List ℕ) (came : ℕ → Received) where
 
     -- The input has not given more than that.
     pub decided_is_prefix : cut.front ≡ (came here).bytes → (came here).eof ≡ false
-        → IsPrefix (paste_decided job cells came) (rows_text job taken_rows)
+        → IsPrefix (paste_decided job cells came) pushed
     decided_is_prefix same going = grind (arith, begins_earlier)

@@ -123,7 +123,7 @@ module _ {row : RowShape} where
   )
 
   -- Rows are taken, and then more.
-  abbrev pub first_rows_trans : {a b c : List Reader} {ks ls : ℕ → Column} {xs ys : List (List (List ℕ))}
+  abbrev first_rows_trans : {a b c : List Reader} {ks ls : ℕ → Column} {xs ys : List (List (List ℕ))}
       → AreFirstRows row a b ks xs → AreFirstRows row b c ls ys
       → AreFirstRows row a c (λ input. ks input ++ ls input) (xs ++ ys)
   first_rows_trans {a} {b} {c} {ks} {ls} {xs} {ys} p q = record {
@@ -134,14 +134,14 @@ module _ {row : RowShape} where
     count = q.count ∙ p.count;
   }
 
-  pub no_rows : {old : List Reader} → AreFirstRows row old old (λ p. []) []
+  abbrev no_rows : {old : List Reader} → AreFirstRows row old old (λ p. []) []
   no_rows = record {
     lines_taken = λ p. nothing_taken (omega arith);
     are = grid_none row.cells (λ p. []) (λ p some. refl);
     count = refl;
   }
 
-  pub rows_taken_none : {old : List Reader} → RowsTaken row old old []
+  abbrev pub rows_taken_none : {old : List Reader} → RowsTaken row old old []
   rows_taken_none = record {
     ls = λ p. [];
     taken_rows = [];
@@ -151,7 +151,7 @@ module _ {row : RowShape} where
   }
 
   -- Rows are taken, and then more.
-  pub rows_taken_trans : {a b c : List Reader} {xs ys : List ℕ} → RowsTaken row a b xs → RowsTaken row b c ys
+  abbrev pub rows_taken_trans : {a b c : List Reader} {xs ys : List ℕ} → RowsTaken row a b xs → RowsTaken row b c ys
       → RowsTaken row a c (xs ++ ys)
   rows_taken_trans p q = record {
     ls = λ input. p.ls input ++ q.ls input;
@@ -188,7 +188,7 @@ module _ {row : RowShape} {old new : List Reader} {fields : List (List ℕ)}
       ≡ unlines row.terminator (map (join_with_cycle row.delims 0) (fields ∷ []))
   filled_row_text = search (rules, row_text)
 
-  pub row_taken : RowsTaken row old new (cells_text row 0 fields)
+  abbrev pub row_taken : RowsTaken row old new (cells_text row 0 fields)
   row_taken = record {
     ls = r.input_lines;
     taken_rows = fields ∷ [];
