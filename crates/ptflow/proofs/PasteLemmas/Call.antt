@@ -129,6 +129,10 @@ abbrev Kept : List ℕ → Slots → (ℕ → Column) → Slots → Type 0
 Kept cells first ls stored = (top : ℕ → ℕ) → ((p : ℕ) → 0 < uses_of cells p → max_length (ls p) ≤ top p)
     → SlotsBound cells top first stored
 
+kept_now : {cells : List ℕ} {first stored : Slots} (ls : ℕ → Column) → Kept cells first ls stored
+    → SlotsBound cells (λ p. max_length (ls p)) first stored
+kept_now ls kept = kept _ (λ p some. omega arith)
+
 -- Rows were taken, and their text `written` was pushed.
 pub record PasteInvariant (job : Paste) (cells : List ℕ) (old set now : List Reader) (was is : Output)
     (first store : Slots) : Type 0 where
@@ -210,7 +214,7 @@ module _ {job : Paste} {cells : List ℕ} {old set now : List Reader} {was is : 
 
   -- Each column has a slot.
   pub invariant_slots : length cells ≤ length store.lines
-  invariant_slots = let k = s.kept (λ p. max_length (s.rows.ls p)) (λ p some. omega arith) in omega arith
+  invariant_slots = let k = kept_now _ s.kept in omega arith
 
   -- More rows were taken and pushed.
   invariant_after : {new : List Reader} {written : List ℕ} (g : RowsTaken shape now new written) → {stored : Slots}
@@ -328,10 +332,6 @@ module _ {job : Paste} {cells : List ℕ} {old set now : List Reader} {was is : 
       piece_longest _ _ _ _ (all_taken p).came _ _ (q.reads p) (q.is_line p) _ (a p (used_is_in cells p some)),
     ))
 
-    bound_now : {stored : Slots} → Bound stored
-        → SlotsBound cells (λ p. max_line_length job.terminator (given p).bytes) first stored
-    bound_now bound = bound_for bound (λ p. (given p).bytes) (λ p named. consistent_itself (given p))
-
     -- Perhaps the store could not grow.
     module _ {is' : Output} (wrote : PushEffect is is' written) {after stored : Slots}
         (same : (after ≡ stored) ⊎ (after ≡ with_denied stored)) (bound : Bound stored)
@@ -347,7 +347,7 @@ module _ {job : Paste} {cells : List ℕ} {old set now : List Reader} {was is : 
 
       progress : CallProgress (inputs_at cells) (paste_engine job cells) begin end bytes pushed
       progress = let (size, peak) : (length after.lines ≡ length stored.lines) × (after.peak ≡ stored.peak) =
-          grind (arith, same) in let now_bound = bound_now bound in record {
+          grind (arith, same) in let now_bound = kept_now _ bound in record {
             reads = λ p named. advance_trans _ _ _ _ _ (all_taken p).reads (q.reads p);
             untouched = λ p other. let none = not_in cells p other in
                 q.left p none ∙ (all_taken p).none (rw none (omega (arith, uses_before cells q.n p)));
@@ -380,35 +380,21 @@ module _ {job : Paste} {cells : List ℕ} {old set now : List Reader} {was is : 
     write_exit wrote fault bound cut same = exit wrote (inl refl) bound cut (Err Write) (record {
       write_failed = fault;
       unfailed = λ p named. same p ∙ failed_last p;
-      not_denied = (bound_now bound).denied;
+      not_denied = (kept_now _ bound).denied;
     }) tt
 
   -- A write of rows from the buffers failed, after the first columns of the next row were copied.
-  taken_write_failed : {mid new : List Reader} {copied : List ℕ} → RowsTaken shape now mid copied
+  pub rows_write_failed : {mid new : List Reader} {copied : List ℕ} → RowsTaken shape now mid copied
       → (n : ℕ) {taken : ℕ → Column}
       → ((p : ℕ) → LinesTaken job.terminator (reader_at mid p) (reader_at new p) (uses_of (take n cells) p) (taken p))
       → AreConsumed now new → {is' : Output} → PushEffect is is' copied → is'.write_failed ≡ true
       → Ends new is' store (Err Write)
-  taken_write_failed rows n {taken} b consumed wrote fault =
+  rows_write_failed rows n {taken} b consumed wrote fault =
       write_exit rows (whole_columns n b) wrote fault (λ top high. s.kept top
       (grind (arith, common_steps, max_length-append)))
       (λ p some. earlier_before (so_far p).came
       (advance_trans _ _ _ _ _ (rows.first_rows.lines_taken p).reads (b p).reads) (still_pulled consumed p)
       (now_buffered p some) (omega (arith, taken_at_most (so_far p))) (simp (append_assoc, append-nil))) (λ p. refl)
-
-  -- A write of the rows of one input failed.
-  pub paste_shared_write_failed : {new : List Reader} {is' : Output}
-      → RowsWritten shape now new is is' → is'.write_failed ≡ true
-      → Ends new is' store (Err Write)
-  paste_shared_write_failed p fault =
-      taken_write_failed p.rows 0 (λ q. nothing_taken refl) p.consumed p.wrote fault
-
-  -- A write of rows of several inputs failed.
-  pub paste_rows_write_failed : {copied : List ℕ} {begun : BegunText} {is' : Output}
-      → CopyRowsPost shape now copied begun → PushEffect is is' copied → is'.write_failed ≡ true
-      → Ends begun.readers is' store (Err Write)
-  paste_rows_write_failed {begun = begun} p wrote fault =
-      taken_write_failed p.rows begun.count p.filled.consumed.lines_taken p.consumed wrote fault
 
   -- The first n columns of a row were filled, and not from the buffers alone.
   row_kept : {n : ℕ} {begun : BegunText} {after : Slots} (a : RowAmid shape n now store begun after) → n ≤ length cells
@@ -472,7 +458,7 @@ module _ {job : Paste} {cells : List ℕ} {old set now : List Reader} {was is : 
       paste_done {cleared = cleared} e wrote clean =
           let bound : Bound no_more at_end cleared =
           λ top high. e.kept first top (row_kept a (omega arith) top (grind (arith, common_steps, max_length-append))) in
-          let now_bound = bound_now no_more at_end bound in
+          let now_bound = kept_now _ bound in
           let unfailed = λ (p : ℕ) (named : is_in cells p ≡ true).
           (set_readable s.starts).unfailed p (is_in_used cells p named) in
           exit no_more at_end wrote (inl refl) bound (λ p some. cut_line no_more at_end p some refl refl
@@ -590,7 +576,7 @@ module _ {job : Paste} {cells : List ℕ} {old set now : List Reader} {was is : 
           cause = ⊎_elim inl (grind (arith, common_steps)) cause;
           others = λ q named differ. cc (b.others q differ, failed_last no_more row_to q);
           clean = clean;
-          not_denied = cc ((bound_now no_more row_to bound_with_piece).denied);
+          not_denied = cc ((kept_now _ bound_with_piece).denied);
         }) (λ p named failed. ⊎_elim decided_here
         (λ (long, same). cc (failed_to same p, failed_last no_more row_to p, never_failed s.starts p named)) cause)
       where

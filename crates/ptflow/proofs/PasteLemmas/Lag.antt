@@ -158,11 +158,6 @@ every_kth_more = grind (arith, common_steps, select_append)
 
 -- ---- the lag
 
--- Without the last bytes of this input alone, no more output is determined than was pushed.
-abbrev pub LagsAt : Paste → List ℕ → (ℕ → Received) → List ℕ → ℕ → Type 0
-LagsAt job cells came pushed input = ProcessLag {I = Unit {0}} (λ g. paste_decided job cells
-    (update_at input (g tt) came)) (λ u. came input) pushed
-
 module _ (job : Paste) (cells : List ℕ) (came : ℕ → Received) where
   abbrev known_of : (ℕ → Received) → ℕ → Column
   known_of given p = known_lines job.terminator (given p)
@@ -256,7 +251,9 @@ module _ (job : Paste) (cells : List ℕ) (came : ℕ → Received) where
           is = grind (arith, common_steps);
         }
 
-    pub lags_here : LagsAt job cells came pushed here
+    -- Without the last bytes of this input alone, no more output is determined than was pushed.
+    pub lags_here : ProcessLag {I = Unit {0}} (λ g. paste_decided job cells (update_at here (g tt) came))
+        (λ u. came here) pushed
     lags_here = record {
       before = λ u. record {
         earlier = front;
