@@ -54,32 +54,6 @@ whole_lines_after : {end : ℕ} {now : Reader} {given : List ℕ} {ls : Column} 
 whole_lines_after {end} {now} {given} {ls} k rest true may = lines_on end now given ls k rest (λ done. (may done).0)
 whole_lines_after {end} {now} {given} {ls} k rest false may = grind (arith, ended_more)
 
-module _ {row : RowShape} {set now : List Reader} {ls : ℕ → Column} {taken_rows : List (List (List ℕ))}
-    (g : AreFirstRows row set now ls taken_rows) where
-  -- What was received of an input goes on after the rows.
-  abbrev GoesOn : ℕ → Received → Type 0
-  GoesOn p given = (rest : List ℕ) × (given.bytes ≡ (g.lines_taken p).bytes ++ rest)
-      × (IsDone (reader_at now p) → (rest ≡ []) × (given.eof ≡ true))
-
-  rows_after : (given : ℕ → Received) → ((p : ℕ) → 0 < uses_of row.cells p → GoesOn p (given p))
-      → (later : List (List (List ℕ)))
-      × (rows (columns row.cells (λ p. known_lines row.terminator (given p))) ≡ taken_rows ++ later)
-  rows_after given on =
-      let rest : ℕ → List ℕ = λ p. drop (length (g.lines_taken p).bytes) (given p).bytes in
-      let rest_is : (p : ℕ) → 0 < uses_of row.cells p → ((given p).bytes ≡ (g.lines_taken p).bytes ++ rest p)
-      × (IsDone (reader_at now p) → (rest p ≡ []) × ((given p).eof ≡ true)) = λ p some.
-      let (more, is, may) = on p some in
-      let same : rest p ≡ more = ap (drop (length (g.lines_taken p).bytes)) is ∙ drop_at (g.lines_taken p).bytes more _ refl in
-      rw same (is, may) in
-      let later : ℕ → Column = λ p. known_lines row.terminator (record { bytes = rest p; eof = (given p).eof }) in (
-        rows (columns row.cells later),
-        ap rows (columns_same row.cells (λ p. known_lines row.terminator (given p)) (λ p. ls p ++ later p) (λ p some.
-            let (is, may) = rest_is p some in
-            ap (λ b. known_lines row.terminator (record { bytes = b; eof = (given p).eof })) is
-            ∙ whole_lines_after (g.lines_taken p).came (rest p) (given p).eof may))
-            ∙ rows_on g later (grind (arith, common_steps, rest_is)),
-      )
-
 -- ---- after the terminators of the readers were set
 
 -- The precondition held, and the terminators were set.
@@ -269,39 +243,39 @@ module _ {job : Paste} {cells : List ℕ} {old set now : List Reader} {was is : 
     abbrev given : ℕ → Received
     given p = received_with (bytes p) (reader_at new p)
 
-    -- Any continuation of what was given.
-    goes_on : (p : ℕ) (rest : List ℕ) (eof : Bool) → ((reader_at new p).eof ≡ true → (rest ≡ []) × (eof ≡ true))
-        → GoesOn all_rows.first_rows p (record { bytes = (given p).bytes ++ rest; eof = eof })
-    goes_on p rest eof may =
-        let r = reader_at new p in
+    -- The rows of any continuation of what was given.
+    rows_after : (full : ℕ → Received) → AreAllConsistent (inputs_at cells) given (λ p. (full p).bytes)
+        → ((p : ℕ) → (reader_at new p).eof ≡ true → (full p).eof ≡ true) → (later : List (List (List ℕ)))
+        × (rows (columns cells (λ p. known_lines job.terminator (full p))) ≡ all_rows.taken_rows ++ later)
+    rows_after full on ends =
+        let front = λ (p : ℕ). (all_rows.first_rows.lines_taken p).bytes in
+        let rest : ℕ → List ℕ = λ p. drop (length (front p)) (full p).bytes in
+        let rest_is : (p : ℕ) → 0 < uses_of cells p → ((full p).bytes ≡ front p ++ rest p)
+        × (IsDone (reader_at mid p) → (rest p ≡ []) × ((full p).eof ≡ true)) = λ p some.
+        let k = on p (used_is_in cells p some) in
         let extra = (q.lines_taken p).bytes ++ q.part p in
-        (extra ++ (r.buffered ++ rest), simp append_assoc, λ done.
-        let (none, empty, ended) = eof_gives_nothing _ r extra done
+        let more = extra ++ ((reader_at new p).buffered ++ k.rest) in
+        let is : (full p).bytes ≡ front p ++ more = k.is ∙ simp append_assoc in
+        let same : rest p ≡ more = ap (drop (length (front p))) is ∙ drop_at (front p) more _ refl in
+        rw same (is, λ done.
+        let (none, empty, ended) = eof_gives_nothing _ (reader_at new p) extra done
         (advance_trans _ _ _ _ _ (q.lines_taken p).reads (q.reads p)) in
-        ((λ i. none i ++ (empty i ++ (may ended).0 i)), (may ended).1))
-
-    -- A fact of all texts that are consistent with what was received.
-    abbrev ForTexts : ((ℕ → List ℕ) → Type 0) → Type 0
-    ForTexts P = (texts : ℕ → List ℕ) → AreAllConsistent (inputs_at cells) given texts → P texts
-
-    begins : ForTexts (λ texts. IsPrefix (s.written ++ written) (paste job cells texts))
-    begins texts a =
-        let (later, is) = rows_after all_rows.first_rows (λ p. record { bytes = texts p; eof = true }) (λ p some.
-        let k = a p (used_is_in cells p some) in rw k.is (goes_on p k.rest true (λ ended. (k.whole ended, refl)))) in
-        record {
-          rest = rows_text job later;
-          is = cc (is, all_rows.is, rows_text-append job.terminator job.delimiters all_rows.taken_rows later);
-        }
+        ((λ i. none i ++ (empty i ++ k.whole ended i)), ends p ended)) in
+        let later : ℕ → Column = λ p. known_lines job.terminator (record { bytes = rest p; eof = (full p).eof }) in (
+          rows (columns cells later),
+          ap rows (columns_same cells (λ p. known_lines job.terminator (full p)) (λ p. all_rows.ls p ++ later p)
+              (λ p some.
+              let (is, may) = rest_is p some in
+              ap (λ b. known_lines job.terminator (record { bytes = b; eof = (full p).eof })) is
+              ∙ whole_lines_after (all_rows.first_rows.lines_taken p).came (rest p) (full p).eof may))
+              ∙ rows_on all_rows.first_rows later (grind (arith, common_steps, rest_is)),
+        )
 
     rows_given : (later : List (List (List ℕ)))
         × (rows (columns cells (λ p. known_lines job.terminator (given p))) ≡ s.rows.taken_rows ++ later)
     rows_given =
-        let (later, is) = rows_after all_rows.first_rows given (λ p some.
-        rw (append-nil (given p).bytes) at (goes_on p [] (given p).eof (λ ended. (refl, ended)))) in
+        let (later, is) = rows_after given (λ p named. consistent_itself (given p)) (λ p ended. ended) in
         (g.taken_rows ++ later, is ∙ append_assoc s.rows.taken_rows g.taken_rows later)
-
-    failed_last : (p : ℕ) → (reader_at q.last p).failed ≡ (reader_at set p).failed
-    failed_last p = (all_taken p).failed
 
     abbrev Cut : ℕ → Type 0
     Cut p = EarlierPart job.terminator ((length s.rows.taken_rows + 1) * uses_of cells p) (given p)
@@ -324,14 +298,6 @@ module _ {job : Paste} {cells : List ℕ} {old set now : List Reader} {was is : 
     abbrev Bound : Slots → Type 0
     Bound = Kept cells first (λ p. all_lines p ++ q.part p ∷ [])
 
-    bound_for : {stored : Slots} → Bound stored
-        → ForTexts (λ texts. SlotsBound cells (λ p. max_line_length job.terminator (texts p)) first stored)
-    bound_for bound texts a = bound (λ p. max_line_length job.terminator (texts p)) (λ p some. omega (
-      arith,
-      max_length-append (all_lines p) (q.part p ∷ []),
-      piece_longest _ _ _ _ (all_taken p).came _ _ (q.reads p) (q.is_line p) _ (a p (used_is_in cells p some)),
-    ))
-
     -- Perhaps the store could not grow.
     module _ {is' : Output} (wrote : PushEffect is is' written) {after stored : Slots}
         (same : (after ≡ stored) ⊎ (after ≡ with_denied stored)) (bound : Bound stored)
@@ -345,31 +311,43 @@ module _ {job : Paste} {cells : List ℕ} {old set now : List Reader} {was is : 
       abbrev pushed : List ℕ
       pushed = s.written ++ written
 
-      progress : CallProgress (inputs_at cells) (paste_engine job cells) begin end bytes pushed
-      progress = let (size, peak) : (length after.lines ≡ length stored.lines) × (after.peak ≡ stored.peak) =
-          grind (arith, same) in let now_bound = kept_now _ bound in record {
+      exit : (result : Result (Unit {0}) FlowFault)
+          → CallOutcome (inputs_at cells) (paste_engine job cells) begin end given pushed (paste_end result)
+          → DecidedIfReadFailed (inputs_at cells) (paste_engine job cells) begin end bytes pushed (paste_end result)
+          → Ends new is' after result
+      exit result ends decided =
+          let (size, peak) : (length after.lines ≡ length stored.lines) × (after.peak ≡ stored.peak) =
+          grind (arith, same) in
+          let now_bound = kept_now _ bound in
+          let progress : CallProgress (inputs_at cells) (paste_engine job cells) begin end bytes pushed = record {
             reads = λ p named. advance_trans _ _ _ _ _ (all_taken p).reads (q.reads p);
             untouched = λ p other. let none = not_in cells p other in
                 q.left p none ∙ (all_taken p).none (rw none (omega (arith, uses_before cells q.n p)));
             never_failed = never_failed s.starts;
             writable = s.starts.writable;
             wrote = push_trans _ _ _ _ _ s.clean s.wrote wrote;
-            is_prefix = begins;
+            is_prefix = λ texts a.
+                let (later, is) = rows_after (λ p. record { bytes = texts p; eof = true }) a (λ p ended. refl) in
+                record {
+                  rest = rows_text job later;
+                  is = cc (is, all_rows.is, rows_text-append job.terminator job.delimiters all_rows.taken_rows later);
+                };
             bounded_lag = λ p named. let some = is_in_used cells p named in
                 bounded_lag_after (λ g'. paste_decided job cells (update_at p (g' tt) given)) (λ u. given p) _ _ _
                 (lags_here job cells given s.rows.taken_rows rows_given.0 s.rows.is rows_given.1 p some (cut p some))
                 s.wrote s.clean _ _ wrote;
-            peak = λ texts a. omega (arith, (bound_for bound texts a).peak);
+            peak = λ texts a.
+                let k = bound (λ p. max_line_length job.terminator (texts p)) (λ p some. omega (
+                  arith,
+                  max_length-append (all_lines p) (q.part p ∷ []),
+                  piece_longest _ _ _ _ (all_taken p).came _ _ (q.reads p) (q.is_line p) _
+                      (a p (used_is_in cells p some)),
+                )) in
+                omega (arith, k.peak);
             slots = λ texts a. omega (arith, now_bound.adds.most);
             least = omega (arith, now_bound.adds.least);
             room = omega (arith, now_bound.adds.all now_bound.denied);
-          }
-
-      exit : (result : Result (Unit {0}) FlowFault)
-          → CallOutcome (inputs_at cells) (paste_engine job cells) begin end given pushed (paste_end result)
-          → DecidedIfReadFailed (inputs_at cells) (paste_engine job cells) begin end bytes pushed (paste_end result)
-          → Ends new is' after result
-      exit result ends decided =
+          } in
           since_set s.starts (call_ends _ _ _ _ _ progress (paste_end result) ends decided)
 
     -- A write failed.
@@ -379,7 +357,7 @@ module _ {job : Paste} {cells : List ℕ} {old set now : List Reader} {was is : 
         → Ends new is' after (Err Write)
     write_exit wrote fault bound cut same = exit wrote (inl refl) bound cut (Err Write) (record {
       write_failed = fault;
-      unfailed = λ p named. same p ∙ failed_last p;
+      unfailed = λ p named. same p ∙ (all_taken p).failed;
       not_denied = (kept_now _ bound).denied;
     }) tt
 
@@ -438,7 +416,8 @@ module _ {job : Paste} {cells : List ℕ} {old set now : List Reader} {was is : 
           let all = ap (λ l. uses_of l p) (take_all (length cells) cells (omega arith)) in
           grind (arith, a.filled.none none p, (at_end.lines_taken p).enough)
 
-      out_is : ForTexts no_more at_end (λ texts. s.written ++ [] ≡ paste job cells texts)
+      out_is : (texts : ℕ → List ℕ) → AreAllConsistent (inputs_at cells) (given no_more at_end) texts
+          → s.written ++ [] ≡ paste job cells texts
       out_is texts input =
           cc (
             append-nil s.written,
@@ -469,7 +448,7 @@ module _ {job : Paste} {cells : List ℕ} {old set now : List Reader} {was is : 
             fault = λ p named. (all_taken no_more at_end p).fault ∙ unfailed p named;
             short = λ p named. (all_taken no_more at_end p).short
                 (((s.starts.are_set p).sound (is_in_used cells p named)).long (unfailed p named));
-            unfailed = λ p named. failed_last no_more at_end p;
+            unfailed = λ p named. (all_taken no_more at_end p).failed;
             clean = clean;
             not_denied = now_bound.denied;
             empty = omega (
@@ -559,7 +538,7 @@ module _ {job : Paste} {cells : List ℕ} {old set now : List Reader} {was is : 
     paste_memory_failed wrote clean stored same left =
         exit no_more row_to wrote (inr stored) bound_with_piece cut_to (Err Memory) (record {
           denied = cc stored;
-          unfailed = λ p named. failed_to same p ∙ failed_last no_more row_to p;
+          unfailed = λ p named. failed_to same p ∙ (all_taken no_more row_to p).failed;
           clean = clean;
           left = grind (arith, common_steps, used_is_in, here_used);
         }) tt
@@ -574,11 +553,11 @@ module _ {job : Paste} {cells : List ℕ} {old set now : List Reader} {was is : 
           named = used_is_in cells here here_used;
           unfailed = never_failed s.starts here (used_is_in cells here here_used);
           cause = ⊎_elim inl (grind (arith, common_steps)) cause;
-          others = λ q named differ. cc (b.others q differ, failed_last no_more row_to q);
+          others = λ q named differ. cc (b.others q differ, (all_taken no_more row_to q).failed);
           clean = clean;
           not_denied = cc ((kept_now _ bound_with_piece).denied);
         }) (λ p named failed. ⊎_elim decided_here
-        (λ (long, same). cc (failed_to same p, failed_last no_more row_to p, never_failed s.starts p named)) cause)
+        (λ (long, same). cc (failed_to same p, (all_taken no_more row_to p).failed, never_failed s.starts p named)) cause)
       where
         -- Nothing is buffered, so all that was given decided the rows that were pushed.
         decided_here : ((reader_at new here).failed ≡ true) × ((reader_at new here).buffered ≡ [])
