@@ -71,10 +71,6 @@ consumed_none = record { count = refl; buffered = λ p. record { size = 0; is = 
 both_consumed : {a b c : Reader} → IsConsumed a b → IsConsumed b c → IsConsumed a c
 both_consumed {a} p q = grind (arith, common_steps)
 
-pub consumed_more : {old now : List Reader} {input : ℕ} {b r : Reader} → AreConsumed old now → input < length now
-    → b ≡ reader_at now input → IsConsumed b r → AreConsumed old (set now input r)
-consumed_more = search (rules, both_consumed)
-
 pub consumed_trans : {a b c : List Reader} → AreConsumed a b → AreConsumed b c → AreConsumed a c
 consumed_trans p q = grind (arith, both_consumed)
 

@@ -464,7 +464,8 @@ module _ {job : Paste} {cells : List ℕ} {old set now : List Reader} {was is : 
       (b : RowFailed CellFailed shape now new store after) (piece : List ℕ)
       (piece_reads : ReaderAdvance (reader_at b.begun.readers (get_or cells b.column 0))
       (reader_at new (get_or cells b.column 0)) piece)
-      (free : IsLine (reader_at b.begun.readers (get_or cells b.column 0)).terminator piece) where
+      (free : IsLine (reader_at b.begun.readers (get_or cells b.column 0)).terminator piece) {is' : Output}
+      (wrote : PushEffect is is' []) where
     abbrev here : ℕ
     here = get_or cells b.column 0
 
@@ -523,19 +524,17 @@ module _ {job : Paste} {cells : List ℕ} {old set now : List Reader} {was is : 
         (cases_eq p here)
 
     -- The buffered output could not be written.
-    paste_send_failed : {is' : Output} → PushEffect is is' [] → is'.write_failed ≡ true → after ≡ b.buffered
-        → (reader_at new here).failed ≡ (reader_at b.begun.readers here).failed
-        → Ends new is' after (Err Write)
-    paste_send_failed wrote fault stored same =
+    paste_send_failed : is'.write_failed ≡ true → after ≡ b.buffered
+        → (reader_at new here).failed ≡ (reader_at b.begun.readers here).failed → Ends new is' after (Err Write)
+    paste_send_failed fault stored same =
         rw stored (write_exit no_more row_to wrote fault bound_to cut_to (failed_to same))
 
     -- A growth of a slot failed. That reader has bytes left.
-    paste_memory_failed : {is' : Output} → PushEffect is is' [] → is'.write_failed ≡ false
-        → after ≡ with_denied (with_line b.buffered b.column piece)
+    paste_memory_failed : is'.write_failed ≡ false → after ≡ with_denied (with_line b.buffered b.column piece)
         → (reader_at new here).failed ≡ (reader_at b.begun.readers here).failed
         → 0 < length (reader_at new here).buffered
         → Ends new is' after (Err Memory)
-    paste_memory_failed wrote clean stored same left =
+    paste_memory_failed clean stored same left =
         exit no_more row_to wrote (inr stored) bound_with_piece cut_to (Err Memory) (record {
           denied = cc stored;
           unfailed = λ p named. failed_to same p ∙ (all_taken no_more row_to p).failed;
@@ -544,11 +543,10 @@ module _ {job : Paste} {cells : List ℕ} {old set now : List Reader} {was is : 
         }) tt
 
     -- The read failed.
-    paste_read_failed : {is' : Output} → PushEffect is is' [] → is'.write_failed ≡ false
-        → after ≡ with_line b.buffered b.column piece
+    paste_read_failed : is'.write_failed ≡ false → after ≡ with_line b.buffered b.column piece
         → HasReadCause (reader_at b.begun.readers here) (reader_at new here)
         → Ends new is' after (Err (Read here))
-    paste_read_failed wrote clean stored cause =
+    paste_read_failed clean stored cause =
         exit no_more row_to wrote (inl stored) bound_with_piece cut_to (Err (Read here)) (record {
           named = used_is_in cells here here_used;
           unfailed = never_failed s.starts here (used_is_in cells here here_used);

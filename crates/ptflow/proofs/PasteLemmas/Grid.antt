@@ -308,9 +308,6 @@ is_row_unknown (col ∷ cols) (e ∷ eof) r (suc c) low within going few = grind
 pub update_here : {X : Type 0} (input : ℕ) (x : X) (f : ℕ → X) (q : ℕ) → q ≡ input → update_at input x f q ≡ x
 update_here input x f q same = ap (λ t. cond t x (f q)) (eq-eqb q input same)
 
-pub update_there : {X : Type 0} (input : ℕ) (x : X) (f : ℕ → X) (q : ℕ) → q ≢ input → update_at input x f q ≡ f q
-update_there input x f q differ = ap (λ t. cond t x (f q)) (ne_eqb q input differ)
-
 -- `ls` for this input, and no lines for all others.
 abbrev pub lines_of_input : ℕ → Column → ℕ → Column
 lines_of_input input ls = update_at input ls (λ q. [])

@@ -165,9 +165,6 @@ module _ (job : Paste) (cells : List ℕ) (came : ℕ → Received) where
   abbrev grid : (ℕ → Received) → List Column
   grid given = columns cells (known_of given)
 
-  update_same : (here : ℕ) (x : Received) → x ≡ came here → update_at here x came ≡ came
-  update_same = grind (arith, update_here)
-
   -- The rows that were taken, if the input `here` without its last bytes has fewer lines than one more row takes. That
   -- input is then not known to end, so each row that is determined has all its lines of that input, and is a row of the
   -- whole grid.

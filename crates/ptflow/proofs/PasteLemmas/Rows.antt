@@ -246,9 +246,6 @@ slots_bound_line {cells} {top} {before} {store} k column bytes within fits = rec
     lines : List (List ℕ)
     lines = set store.lines column bytes
 
-    size : length lines ≡ length store.lines
-    size = length-set store.lines column bytes
-
     short : (c : ℕ) → c < length cells → length (get_or lines c []) ≤ top (get_or cells c 0)
     short c low = grind (
       arith,
@@ -266,9 +263,6 @@ line_le_max_length : (ls : List (List ℕ)) (j : ℕ) → length (get_or ls j []
 line_le_max_length [] j = omega arith
 line_le_max_length (line ∷ ls) zero = omega arith
 line_le_max_length (line ∷ ls) (suc j) = omega (arith, line_le_max_length ls j)
-
-pub slots_kept_start : {cells : List ℕ} {fields : List (List ℕ)} {store : Slots} → SlotsKept cells fields store store
-slots_kept_start = search rules
 
 module _ {cells : List ℕ} {fields : List (List ℕ)} {before store : Slots} (s : SlotsKept cells fields before store)
   where
@@ -303,11 +297,6 @@ at_same readers input r low = get_or-set_same readers input r no_reader low
 pub at_other : (readers : List Reader) (input other : ℕ) (r : Reader) → other ≢ input
     → reader_at (set readers input r) other ≡ reader_at readers other
 at_other readers input other r differ = search rules
-
--- A fact of each reader, after one of them was set.
-pub each_reader : (P : ℕ → Reader → Type 0) (readers : List Reader) {input : ℕ} {r : Reader} → input < length readers
-    → P input r → ((q : ℕ) → q ≢ input → P q (reader_at readers q)) → (q : ℕ) → P q (reader_at (set readers input r) q)
-each_reader = grind (arith, at_same, at_other)
 
 -- The reader that an index expression read.
 pub at_index : (readers : List Reader) (input : ℕ) (r : Reader) → input < length readers
