@@ -121,19 +121,6 @@ pub record PasteInvariant (job : Paste) (cells : List ℕ) (old set now : List R
 abbrev pub RowsInvariant : RowShape → List Reader → List Reader → List Reader → Output → Output → Slots → Slots → Type 0
 RowsInvariant row = PasteInvariant (row_job row) row.cells
 
-pub invariant_starts : {job : Paste} {cells : List ℕ} {old set : List Reader} {was : Output} {first store : Slots}
-    → HasStarted job cells old set was first
-    → AddedSlots first store (length cells) → store.denied ≡ false → total_bytes store.lines ≡ 0
-    → store.peak ≡ first.peak → PasteInvariant job cells old set set was was first store
-invariant_starts {was = was} starts adds allowed empty peak = record {
-  starts = starts;
-  written = [];
-  rows = rows_taken_none;
-  wrote = push_nothing was;
-  clean = starts.writable;
-  kept = λ top high. slots_bound_start adds allowed empty peak;
-}
-
 -- After whole rows the first `n` columns of a row took their lines, and then perhaps a reader gave a part of a line.
 record RowPart (job : Paste) (cells : List ℕ) (mid new : List Reader) : Type 0 where
   n : ℕ
@@ -476,11 +463,9 @@ module _ {job : Paste} {cells : List ℕ} {old set now : List Reader} {was is : 
     abbrev part_to : ℕ → List ℕ
     part_to p = cond (p == here) piece []
 
-    reads_to : (p : ℕ) → ReaderAdvance (reader_at b.begun.readers p) (reader_at new p) (part_to p)
-    reads_to p = grind (arith, nat_tests, b.others, reads_nothing)
-
-    is_line_to : (p : ℕ) → IsLine job.terminator (part_to p)
-    is_line_to p = grind (arith, nat_tests, b.amid.filled.consumed, now_readable, here_used)
+    part_is : (p : ℕ) → ReaderAdvance (reader_at b.begun.readers p) (reader_at new p) (part_to p)
+        × IsLine job.terminator (part_to p)
+    part_is p = grind (arith, nat_tests, b.others, reads_nothing, b.amid.filled.consumed, now_readable, here_used)
 
     abbrev row_to : RowPart job cells now new
     row_to = record {
@@ -489,8 +474,8 @@ module _ {job : Paste} {cells : List ℕ} {old set now : List Reader} {was is : 
       taken = b.amid.filled.input_lines;
       lines_taken = b.amid.filled.consumed.lines_taken;
       part = part_to;
-      reads = reads_to;
-      is_line = is_line_to;
+      reads = λ p. (part_is p).0;
+      is_line = λ p. (part_is p).1;
       left = λ p none. b.others p (λ same. absurd (omega (arith, here_used, ap (uses_of cells) same)));
     }
 
@@ -510,7 +495,7 @@ module _ {job : Paste} {cells : List ℕ} {old set now : List Reader} {was is : 
     cut_here = earlier_now (reader_at new here) _ (b.few (now_buffered here here_used))
         (omega (
           arith,
-          complete_few (all_taken no_more row_to here).came (reads_to here) (is_line_to here),
+          complete_few (all_taken no_more row_to here).came (part_is here).0 (part_is here).1,
           ap (λ (n : ℕ). n * uses_of cells here) (length-append s.rows.taken_rows []),
           taken_at_most (all_taken no_more row_to here),
           uses_before_lt cells b.column b.within,

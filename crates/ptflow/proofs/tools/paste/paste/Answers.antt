@@ -2,14 +2,14 @@
 -- again. If that row has no line, all readers are at the end of their inputs.
 use Rattle.ptflow.proofs
 use proofs.Common.{sym, ap, subst, arith, length, paste_job, job_shape, RowShape, RowAmid, begun_in, shape_of, Write}
-use proofs.Common.{length-take-le, call_on_failed_output, push_nothing, refl}
+use proofs.Common.{length-take-le, call_on_failed_output, push_nothing, refl, []}
 use Rattle.std.proofs.lemmas.Bool.{not-false, not-true}
 use proofs.PasteLemmas.Call.{by_fault, of_rows, row_job, paste_without_slots, rows_write_failed, paste_done}
 use proofs.PasteLemmas.Call.{paste_fill_failed, paste_row_write_failed, HasStarted}
-use proofs.PasteLemmas.Call.{invariant_starts, invariant_rows, invariant_written, invariant_sent, row_slots}
+use proofs.PasteLemmas.Call.{invariant_rows, invariant_written, invariant_sent, row_slots}
 use proofs.PasteLemmas.Call.{invariant_slots, invariant_more, now_readable, RowsInvariant}
 use proofs.PasteLemmas.BufferedRows.{still_readable}
-use proofs.PasteLemmas.Rows.{amid_starts, nothing_taken}
+use proofs.PasteLemmas.Rows.{amid_starts, nothing_taken, rows_taken_none, slots_bound_start}
 use Rattle.ptflow.proofs.tools.paste.paste.Goals.{After-ensure_slots, After-fill_row, In_ok-filled}
 use Rattle.ptflow.proofs.tools.paste.paste.Given as given
 use Rattle.ptflow.proofs.tools.paste.paste.Goals as goal
@@ -43,8 +43,15 @@ pub rows-init : goal.rows-init
 rows-init g c =
     let row : RowShape → Type 0 = λ r. RowsInvariant r c.args.readers.now c.set_terminators.new.readers
     c.set_terminators.new.readers c.args.out.now c.args.out.now c.args.store.now c.ensure_slots.new.store in
-    subst row (sym c.row_format-row.ensures) (invariant_starts (starts g (goal.at.rows-init g c).After-ensure_slots)
-    c.ensure_slots.ensures.adds c.in_ok-ensure_slots.ensures.allowed (cc) c.ensure_slots.ensures.same_peak)
+    subst row (sym c.row_format-row.ensures) (record {
+      starts = starts g (goal.at.rows-init g c).After-ensure_slots;
+      written = [];
+      rows = rows_taken_none;
+      wrote = push_nothing _;
+      clean = cc;
+      kept = λ top high. slots_bound_start c.ensure_slots.ensures.adds c.in_ok-ensure_slots.ensures.allowed (cc)
+          c.ensure_slots.ensures.same_peak;
+    })
 
 pub write_shared_rows-requires-clause-readable : goal.write_shared_rows-requires-clause-readable
 write_shared_rows-requires-clause-readable g c = now_readable c.rows.invariant
