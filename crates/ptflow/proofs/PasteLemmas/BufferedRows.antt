@@ -31,16 +31,6 @@ sound_after_consume {b} s step = grind (arith, common_steps)
 
 -- ---- one column
 
--- A line that is complete in a buffer was consumed.
-taken_buffered : {end : ℕ} {b r : Reader} (at : ℕ) → b.fault ≡ None → IsSound r
-    → IsFirstByte (is_byte end) b.buffered (Some at) → r ≡ record b { buffered = drop (at + 1) b.buffered }
-    → LinesTaken end b r 1 (take at b.buffered ∷ [])
-taken_buffered {end} {b} {r} at clean sound first step =
-    let (found, here) = first in
-    taken_by (advance_ok_take b r (at + 1) clean (omega arith) step) clean sound (record {
-      so_far = search (rules, take_with_terminator, append-nil, line_before_terminator);
-    }) (inl refl) (λ none. cc)
-
 -- The field was copied from a buffer.
 field_in_buffer : (end : ℕ) {b r : Reader} (before after : List ℕ) (has : Bool) → b.fault ≡ None → IsSound b
     → IsFieldCopied end b r before after has
@@ -51,7 +41,10 @@ field_in_buffer end {b} {r} before after true clean sound p =
       take p.at b.buffered,
       p.is,
       (
-        taken_buffered p.at clean (sound_after_consume sound consumed) p.found p.consumed,
+        taken_by (advance_ok_take b r (p.at + 1) clean (omega arith) p.consumed) clean
+            (sound_after_consume sound consumed) (record {
+          so_far = search (rules, take_with_terminator, append-nil, line_before_terminator);
+        }) (inl refl) (λ none. cc),
         grind (arith, common_steps),
       ),
       consumed,

@@ -241,26 +241,6 @@ module _ (cells : List ℕ) where
   TakesAll n ins more = (p : ℕ) → 0 < uses_of cells p → (length (ins p) ≡ n * uses_of cells p) ⊎ ((more p ≡ [])
       × (length (ins p) ≤ n * uses_of cells p))
 
-  module _ (n : ℕ) (ins more : ℕ → Column) (all : TakesAll (suc n) ins more) where
-    -- The first row is that of `ins`.
-    top_same : (c : ℕ) → c < length cells
-        → top_of (λ p. ins p ++ more p) c (get_or cells c 0) ≡ top_of ins c (get_or cells c 0)
-    top_same c low = grind (arith, common_steps, uses_before_lt c low)
-
-    rest_same : (p : ℕ) → 0 < uses_of cells p → drop (uses_of cells p) (ins p ++ more p) ≡ after_row ins p ++ more p
-    rest_same p some = grind (arith, common_steps, all p)
-
-    rest_takes : TakesAll n (after_row ins) more
-    rest_takes = grind (arith, common_steps)
-
-    -- If no column has a line, no input continues.
-    none_follows : ((c : ℕ) → c < length cells → length (ins (get_or cells c 0)) ≤ uses_of (take c cells)
-        (get_or cells c 0)) → (p : ℕ) → 0 < uses_of cells p → more p ≡ []
-    none_follows short p some =
-        let (c, low, is, count) = last_use cells p some in
-        let few = rw is at (short c low) in
-        grind arith
-
   pub rows-append : (n : ℕ) (ins more : ℕ → Column) → TakesAll n ins more
       → rows (columns cells (λ p. ins p ++ more p)) ≡ rows (columns cells ins) ++ rows (columns cells more)
   rows-append zero ins more all =
@@ -271,11 +251,17 @@ module _ (cells : List ℕ) where
       (λ (c, low, some). let p = get_or cells c 0 in cc (
         grid_step (λ q. ins q ++ more q) c low (omega (arith, length-append (ins p) (more p))),
         grid_step ins c low some,
-        for_each_cell_same (top_of (λ q. ins q ++ more q)) (top_of ins) cells (top_same n ins more all),
-        columns_same (after_row (λ q. ins q ++ more q)) (λ q. after_row ins q ++ more q) (rest_same n ins more all),
-        rows-append n (after_row ins) more (rest_takes n ins more all),
+        for_each_cell_same (top_of (λ q. ins q ++ more q)) (top_of ins) cells
+            (λ d within. grind (arith, common_steps, uses_before_lt d within)),
+        columns_same (after_row (λ q. ins q ++ more q)) (λ q. after_row ins q ++ more q)
+            (λ q used. grind (arith, common_steps, all q)),
+        rows-append n (after_row ins) more (grind (arith, common_steps)),
       ))
-      (λ short. let over = none_follows n ins more all short in cc (
+      -- If no column has a line, no input continues.
+      (λ short. let over : (p : ℕ) → 0 < uses_of cells p → more p ≡ [] = λ p some.
+      let (c, low, is, count) = last_use cells p some in
+      let few = rw is at (short c low) in
+      grind arith in cc (
         columns_same (λ p. ins p ++ more p) ins (λ p some. cc (over p some, append-nil (ins p))),
         append-nil (rows (columns cells ins)),
         grid_none more over,

@@ -218,10 +218,6 @@ module _ (job : Paste) (cells : List ℕ) (came : ℕ → Received) where
         (λ other. grind (arith, common_steps))
         (cases_eq (get_or cells c 0) here)
 
-    row_same : (r : ℕ) → is_row_known (grid earlier) ends r ≡ true → row_at (grid earlier) r ≡ row_at (grid came) r
-    row_same r known = row_is cells (known_of earlier) r (cell r) (cell_same r known)
-        ∙ sym (row_is cells (known_of came) r (cell r) (λ c low. refl))
-
     taken_at : (r : ℕ) → r < length taken_rows → row_at (grid came) r ≡ get_or taken_rows r []
     taken_at r less =
         let n = row_count (grid came) in
@@ -241,7 +237,9 @@ module _ (job : Paste) (cells : List ℕ) (came : ℕ → Received) where
     pub begins_earlier : IsPrefix (paste_decided job cells earlier) pushed
     begins_earlier =
         let (rest, is) = known_first (is_row_known (grid earlier) ends) (known_down (grid earlier) ends)
-        (row_at (grid earlier)) taken_rows next_unknown (λ r known less. row_same r known ∙ taken_at r less) 0
+        (row_at (grid earlier)) taken_rows next_unknown (λ r known less.
+        row_is cells (known_of earlier) r (cell r) (cell_same r known)
+        ∙ sym (row_is cells (known_of came) r (cell r) (λ c low. refl)) ∙ taken_at r less) 0
         (row_count (grid earlier)) (omega arith) in
         record {
           rest = rows_text job rest;

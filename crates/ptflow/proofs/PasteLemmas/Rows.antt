@@ -70,13 +70,6 @@ pub taken_by : {end n : ℕ} {b c : Reader} {bytes : List ℕ} {ls : List (List 
     → LinesTaken end b c n ls
 taken_by = grind arith
 
--- A line was read into a slot.
-pub taken_line : {end : ℕ} {b c : Reader} {before after : Slots} {slot : ℕ} (e : FillLine b c before after slot)
-    → b.terminator ≡ end → b.fault ≡ None → IsSound c
-    → LinesTaken end b c 1 (e.line ∷ [])
-taken_line {end} {b} {c} {before} {after} {slot} e same clean sound = taken_by e.advance_ok clean sound
-    (lines_more end b [] [] (lines_none end b) c before after slot e same) (inl refl) (λ none. cc)
-
 -- No line was left.
 pub taken_eof : {end : ℕ} {b c : Reader} → AdvanceOk b c [] → IsDone c → b.fault ≡ None → IsSound c
     → LinesTaken end b c 1 []
@@ -122,30 +115,15 @@ module _ {row : RowShape} where
     t.are,
   )
 
-  -- Rows are taken, and then more.
-  abbrev first_rows_trans : {a b c : List Reader} {ks ls : ℕ → Column} {xs ys : List (List (List ℕ))}
-      → AreFirstRows row a b ks xs → AreFirstRows row b c ls ys
-      → AreFirstRows row a c (λ input. ks input ++ ls input) (xs ++ ys)
-  first_rows_trans {a} {b} {c} {ks} {ls} {xs} {ys} p q = record {
-    lines_taken = λ input. taken_more
-        (ap (λ (n : ℕ). n * uses_of row.cells input) (length-append xs ys) ∙ omega arith)
-        (p.lines_taken input) (q.lines_taken input);
-    are = cc (rows_on p ls (λ input some done. none_at_eof (q.lines_taken input) done), q.are);
-    count = q.count ∙ p.count;
-  }
-
-  abbrev no_rows : {old : List Reader} → AreFirstRows row old old (λ p. []) []
-  no_rows = record {
-    lines_taken = λ p. nothing_taken (omega arith);
-    are = grid_none row.cells (λ p. []) (λ p some. refl);
-    count = refl;
-  }
-
   abbrev pub rows_taken_none : {old : List Reader} → RowsTaken row old old []
   rows_taken_none = record {
     ls = λ p. [];
     taken_rows = [];
-    first_rows = no_rows;
+    first_rows = record {
+      lines_taken = λ p. nothing_taken (omega arith);
+      are = grid_none row.cells (λ p. []) (λ p some. refl);
+      count = refl;
+    };
     least = omega arith;
     is = refl;
   }
@@ -156,17 +134,23 @@ module _ {row : RowShape} where
   rows_taken_trans p q = record {
     ls = λ input. p.ls input ++ q.ls input;
     taken_rows = p.taken_rows ++ q.taken_rows;
-    first_rows = first_rows_trans p.first_rows q.first_rows;
+    first_rows = record {
+      lines_taken = λ input. taken_more
+          (ap (λ (n : ℕ). n * uses_of row.cells input) (length-append p.taken_rows q.taken_rows) ∙ omega arith)
+          (p.first_rows.lines_taken input) (q.first_rows.lines_taken input);
+      are = cc (
+        rows_on p.first_rows q.ls (λ input some done. none_at_eof (q.first_rows.lines_taken input) done),
+        p.first_rows.are,
+        q.first_rows.are,
+      );
+      count = q.first_rows.count ∙ p.first_rows.count;
+    };
     least = omega arith;
     is = grind (arith, common_steps);
   }
 
 module _ {row : RowShape} {old new : List Reader} {fields : List (List ℕ)}
     {any_line : Bool} (r : CellsFilled row (length row.cells) old new fields any_line) (some : any_line ≡ true) where
-  lines_taken_by_row : (p : ℕ)
-      → LinesTaken row.terminator (reader_at old p) (reader_at new p) (1 * uses_of row.cells p) (r.input_lines p)
-  lines_taken_by_row p = grind (arith, common_steps)
-
   -- A filled row in which some column has a line is the next row.
   pub filled_row_is_first : AreFirstRows row old new r.input_lines (fields ∷ [])
   filled_row_is_first =
@@ -175,7 +159,7 @@ module _ {row : RowShape} {old new : List Reader} {fields : List (List ℕ)}
       let row_is =
       for_each_cell_unique field row.cells fields [] r.consumed.width r.consumed.fields_taken in
       record {
-        lines_taken = lines_taken_by_row;
+        lines_taken = λ p. grind (arith, common_steps);
         are = cc (
           grid_step row.cells r.input_lines c low (omega arith),
           grid_none row.cells (after_row row.cells r.input_lines)
@@ -290,14 +274,6 @@ slots_kept_by_lines = grind (arith, line_le_max_length, uses_before_lt)
 
 -- ---- readers by their indices
 
-pub at_same : (readers : List Reader) (input : ℕ) (r : Reader) → input < length readers
-    → reader_at (set readers input r) input ≡ r
-at_same readers input r low = get_or-set_same readers input r no_reader low
-
-pub at_other : (readers : List Reader) (input other : ℕ) (r : Reader) → other ≢ input
-    → reader_at (set readers input r) other ≡ reader_at readers other
-at_other readers input other r differ = search rules
-
 -- The reader that an index expression read.
 pub at_index : (readers : List Reader) (input : ℕ) (r : Reader) → input < length readers
     → get_or readers input r ≡ reader_at readers input
@@ -400,8 +376,15 @@ FieldTaken end b r field false = LinesTaken end b r 1 [] × (field ≡ []) × (b
 field_in_slot : (end : ℕ) (b r : Reader) (before after : Slots) (slot : ℕ) (has : Bool) → b.fault ≡ None
     → b.terminator ≡ end → IsSound r → FillPost b r before after slot (Ok has)
     → (field : List ℕ) × (after ≡ with_line before slot field) × FieldTaken end b r field has
-field_in_slot end b r before after slot true clean same sound e =
-    (e.line, e.stored, (taken_line e same clean sound, e.less))
+field_in_slot end b r before after slot true clean same sound e = (
+  e.line,
+  e.stored,
+  (
+    taken_by e.advance_ok clean sound
+        (lines_more end b [] [] (lines_none end b) r before after slot e same) (inl refl) (λ none. cc),
+    e.less,
+  ),
+)
 field_in_slot end b r before after slot false clean same sound (advance_ok, done, kept) = search rules
 
 module _ {row : RowShape} {n : ℕ} {old now : List Reader} {fields : List (List ℕ)} {any_line : Bool}
@@ -508,16 +491,14 @@ module _ {row : RowShape} where
   amid_columns : {from : List Reader} {first store : Slots} {now next : BegunText}
       → RowAmid row now.count from first now store → CopyColumnsPost row now next
       → RowAmid row next.count from first next store
-  amid_columns {from} {now = now} {next = next} a p =
-      let all = a.fields ++ p.fields in
-      record {
-        fields = all;
-        filled = p.filled from a.fields a.filled;
-        within = omega arith;
-        is = search (rules, take_all, cells_text-append, length-append);
-        held = λ c over under. absurd (omega arith);
-        slots = slots_kept_more a.slots p.fields;
-      }
+  amid_columns a p = record {
+    fields = a.fields ++ p.fields;
+    filled = p.filled _ a.fields a.filled;
+    within = omega arith;
+    is = search (rules, take_all, cells_text-append, length-append);
+    held = λ c over under. absurd (omega arith);
+    slots = slots_kept_more a.slots p.fields;
+  }
 
   -- The field in a slot was copied, and then more fields from the buffers.
   pub amid_resumed : {n : ℕ} {from : List Reader} {first store : Slots} {now middle next : BegunText}
