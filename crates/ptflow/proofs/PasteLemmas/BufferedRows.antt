@@ -4,7 +4,8 @@
 -- terminator), they become the row. So bytes with count * n terminators, the last at the end, become `count` rows.
 use Rattle.ptflow.proofs
 use proofs.Common.{eq-eqb, ne_eqb, option_to_list, slice_index_or, Bool, List, None, Some, [], ap, append_assoc, arith}
-use proofs.Common.{drop, false, get_or, get_or-take, inl, length, length-append, length-drop, map, refl, set, suc, sym}
+use proofs.Passes.Exits.{lines_none}
+use proofs.Common.{drop, false, get_or, get_or-take, inl, inr, length, length-append, length-drop, map, refl, set, suc, sym}
 use proofs.Common.{take, take-append-drop, true, zero, ℕ, ◌%◌, ◌*◌, ◌++◌, ◌+◌, ◌-◌, ◌<◌, ◌||◌, ◌∙◌, ◌∷◌, ◌≡◌, ◌≢◌, ◌≤◌}
 use proofs.Common.{mod-eq_of_lt, nat_tests, common_steps, append-nil, length-set, length-take-le, nil_from_length}
 use proofs.Common.{take-append-le, take-take, mod-mul-add, length-chunk, take_more_put_chunk, count_by, chunk}
@@ -18,7 +19,7 @@ use Rattle.memchr.specs.Find.{IsFirst, Passes}
 use Rattle.ptlines.proofs.CopyFacts.{copied_prefix}
 use borrow.Rule.Slice.PartMut.{mid_of, put_mid}
 use Rattle.ptflow.specs.Private.Paste.BufferedRows.{LineCopied}
-use proofs.PasteLemmas.Rows.{cells_text-push, rows_taken_trans, row_taken, taken_by, taken_eof, rows_taken_none}
+use proofs.PasteLemmas.Rows.{cells_text-push, rows_taken_trans, row_taken, taken_by, rows_taken_none}
 use proofs.PasteLemmas.Rows.{row_text, IsNextReader, next_reader, fill_starts, fill_next, FieldTaken, taken_from_one}
 use proofs.Vectors.FindNth.{none_counted}
 use proofs.PasteLemmas.Grid.{Column, for_each_cell_unique, top_of, grid_step, grid_none, after_row, columns_same}
@@ -53,7 +54,8 @@ field_in_buffer end {b} before after false clean sound p =
     let done : IsDone b = grind arith in (
       [],
       cc (append-nil before),
-      rw p.same (taken_eof (advance_ok_take b b 0 clean (omega arith) refl) done clean sound, refl, omega arith),
+      rw p.same (taken_by (advance_ok_take b b 0 clean (omega arith) refl) clean sound (lines_none end b)
+          (inr (done, omega arith)) (λ none. cc), refl, omega arith),
       rw p.same (record { size = 0; is = refl }),
     )
 
@@ -165,31 +167,6 @@ module _ {row : RowShape} where
               rw (append_assoc front s.fields (field ∷ [])) at
               (fill_next (s.filled from front given) x r field has taken);
         }
-
-  -- The first columns of a row were copied after whole rows.
-  pub rows_and_begun : {old now new : List Reader} {n at to : ℕ} {any_line : Bool} (into next : List ℕ)
-      → RowsTaken row old now (take at into) → AreConsumed old now
-      → (p : CopyColumnsPost row (record { readers = now; count = 0; any_line = false; text = take at into })
-      (record { readers = new; count = n; any_line = any_line; text = take to next }))
-      → at ≤ to → at ≤ length into
-      → CopyRowsPost row old (take at next)
-      (record { readers = new; count = n; any_line = any_line; text = drop at (take to next) })
-  rows_and_begun {now = now} {at = at} {to} into next rows consumed p further fits = record {
-    mid = now;
-    rows = rw (prefix_is_kept at to next into (cells_text row 0 p.fields) further fits p.is) rows;
-    fields = p.fields;
-    filled = p.filled now [] fill_starts;
-    is = grind (arith, common_steps);
-    consumed = consumed_trans consumed p.consumed;
-  }
-
-  -- All columns of a row were copied.
-  pub rows_more : {old now : List Reader} {copied : List ℕ} {next : BegunText} → RowsTaken row old now copied
-      → BufferedRowsPre row now
-      → (p : CopyColumnsPost row (record { readers = now; count = 0; any_line = false; text = copied }) next)
-      → next.count ≡ length row.cells → next.any_line ≡ true → RowsTaken row old next.readers next.text
-  rows_more rows ready p all some = rw p.is (rows_taken_trans rows
-      (row_taken (rw all at (p.filled _ [] fill_starts)) some))
 
 -- ---- complete rows are known by the number of terminators
 
@@ -335,16 +312,6 @@ module _ {row : RowShape} {cycle : Cycle} (t : IsSharedCycle row cycle) {old : L
   same : (c : ℕ) → c < length row.cells → get_or row.cells c 0 ≡ shared
   same c low = t.same c 0 low
 
-  lines_taken_here : LinesTaken end b r (rs.count * length row.cells) rs.ls
-  lines_taken_here = taken_by (advance_ok_take b r count x.clean within step) x.clean
-      (sound_after_consume sound (record { size = count; is = step })) (record { so_far = inl (rs.is, rs.are_lines) })
-      (inl rs.long) (λ none. absurd (omega (
-        arith,
-        length-take-le count b.buffered within,
-        ap length rs.is,
-        ap (λ l. length (unlines end l)) (nil_from_length rs.ls (rs.long ∙ none)),
-      )))
-
   rows_of_input : RowsTaken row old (set old shared r)
       (with_replacements end (cycle_byte cycle) 0 (take count b.buffered))
   rows_of_input = record {
@@ -356,7 +323,14 @@ module _ {row : RowShape} {cycle : Cycle} (t : IsSharedCycle row cycle) {old : L
             (rows_replaced t 0 rs.count rs.ls rs.are_lines rs.long).0,
             uses_all row.cells shared same,
             ← x.is_read,
-          ) lines_taken_here)
+          ) (taken_by (advance_ok_take b r count x.clean within step) x.clean
+              (sound_after_consume sound (record { size = count; is = step }))
+              (record { so_far = inl (rs.is, rs.are_lines) }) (inl rs.long) (λ none. absurd (omega (
+            arith,
+            length-take-le count b.buffered within,
+            ap length rs.is,
+            ap (λ l. length (unlines end l)) (nil_from_length rs.ls (rs.long ∙ none)),
+          )))))
           (λ q differ. rw (uses_none row.cells shared same q differ) (omega arith));
       are = refl;
       count = length-set old shared r;

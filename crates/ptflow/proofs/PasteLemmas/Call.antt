@@ -22,8 +22,8 @@ use proofs.PasteLemmas.Rows.{rows_on, rows_taken_none, rows_taken_trans, row_tak
 use proofs.PasteLemmas.Rows.{nothing_taken, amid_text}
 use proofs.PasteLemmas.Grid.{Column, columns_same, last_use, uses_before_lt, uses_before, rows_text-append, is_in_used}
 use proofs.PasteLemmas.Grid.{not_in, used_is_in, consistent_itself}
-use proofs.PasteLemmas.Lag.{EarlierPart, ended_more, lags_here, decided_is_prefix, earlier_now, complete_few}
-use proofs.PasteLemmas.Lag.{earlier_before, earlier_lines, begins_earlier, no_lines}
+use proofs.PasteLemmas.Lag.{EarlierPart, ended_more, lags_here, decided_is_prefix, complete_few}
+use proofs.PasteLemmas.Lag.{earlier_lines, begins_earlier, no_lines}
 use proofs.PasteLemmas.BufferedRows.{still_pulled}
 use proofs.Passes.Exits.{max_length-append, lines_on, lines_are_given, piece_longest, eof_gives_nothing}
 use Rattle.ptlines.specs.Calls.{InputNames, EngineSpec}
@@ -354,12 +354,26 @@ module _ {job : Paste} {cells : List ℕ} {old set now : List Reader} {was is : 
       → ((p : ℕ) → LinesTaken job.terminator (reader_at mid p) (reader_at new p) (uses_of (take n cells) p) (taken p))
       → AreConsumed now new → {is' : Output} → PushEffect is is' copied → is'.write_failed ≡ true
       → Ends new is' store (Err Write)
-  rows_write_failed rows n {taken} b consumed wrote fault =
+  rows_write_failed {new = new} rows n {taken} b consumed wrote fault =
       write_exit rows (whole_columns n b) wrote fault (λ top high. s.kept top
       (grind (arith, common_steps, max_length-append)))
-      (λ p some. earlier_before (so_far p).came
-      (advance_trans _ _ _ _ _ (rows.first_rows.lines_taken p).reads (b p).reads) (still_pulled consumed p)
-      (now_buffered p some) (omega (arith, taken_at_most (so_far p))) (simp (append_assoc, append-nil))) (λ p. refl)
+      -- Without the bytes that came from the buffers.
+      (λ p some.
+      let given = (so_far p).bytes in
+      let more = (rows.first_rows.lines_taken p).bytes ++ (b p).bytes in
+      let reads = advance_trans _ _ _ _ _ (rows.first_rows.lines_taken p).reads (b p).reads in
+      record {
+        front = given;
+        last = more ++ (reader_at new p).buffered;
+        split = simp (append_assoc, append-nil);
+        short = omega (arith, length-append more (reader_at new p).buffered, still_pulled consumed p,
+            now_buffered p some);
+        few = omega (
+          arith,
+          taken_at_most (so_far p),
+          rw (append-nil given) at (complete_few (so_far p).came (reads_nothing (reader_at now p)) tt),
+        );
+      }) (λ p. refl)
 
   -- The first n columns of a row were filled, and not from the buffers alone.
   row_kept : {n : ℕ} {begun : BegunText} {after : Slots} (a : RowAmid shape n now store begun after) → n ≤ length cells
@@ -492,14 +506,19 @@ module _ {job : Paste} {cells : List ℕ} {old set now : List Reader} {was is : 
 
     -- That reader is the one that limits the rows.
     abbrev cut_here : Cut no_more row_to here
-    cut_here = earlier_now (reader_at new here) _ (b.few (now_buffered here here_used))
-        (omega (
-          arith,
-          complete_few (all_taken no_more row_to here).came (part_is here).0 (part_is here).1,
-          ap (λ (n : ℕ). n * uses_of cells here) (length-append s.rows.taken_rows []),
-          taken_at_most (all_taken no_more row_to here),
-          uses_before_lt cells b.column b.within,
-        ))
+    cut_here = record {
+      front = bytes no_more row_to here;
+      last = (reader_at new here).buffered;
+      split = refl;
+      short = omega (arith, b.few (now_buffered here here_used));
+      few = omega (
+        arith,
+        complete_few (all_taken no_more row_to here).came (part_is here).0 (part_is here).1,
+        ap (λ (n : ℕ). n * uses_of cells here) (length-append s.rows.taken_rows []),
+        taken_at_most (all_taken no_more row_to here),
+        uses_before_lt cells b.column b.within,
+      );
+    }
 
     cut_to : (p : ℕ) → 0 < uses_of cells p → Cut no_more row_to p
     cut_to p some = ⊎_elim

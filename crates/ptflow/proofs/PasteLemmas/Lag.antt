@@ -26,17 +26,6 @@ pub record EarlierPart (end most : ℕ) (came : Received) : Type 0 where
   pub short : length last ≤ 16384
   pub few : length (complete_lines end front) < most
 
--- Without the bytes that are still in the buffer.
-abbrev pub earlier_now : {end most : ℕ} (reader : Reader) (given : List ℕ) → length reader.buffered ≤ 8192
-    → length (complete_lines end given) < most → EarlierPart end most (received_with given reader)
-earlier_now reader given buffered few = record {
-  front = given;
-  last = reader.buffered;
-  split = refl;
-  short = omega arith;
-  few = few;
-}
-
 -- The complete lines of what was received and a part of the next line.
 pub complete_few : {end : ℕ} {now new : Reader} {given piece : List ℕ} {ls : Column} → AreReceivedLines end now given ls
     → ReaderAdvance now new piece → IsLine end piece → length (complete_lines end (given ++ piece)) ≤ length ls
@@ -110,19 +99,6 @@ whole_lines_prefix end false bytes front last is =
       complete_lines end (split.piece ++ last),
       grind (arith, common_steps, append_assoc, ended_more),
     )
-
--- Without the last bytes that were given, if these came from the buffer.
-pub earlier_before : {end most : ℕ} {now new : Reader} {given more all : List ℕ} {ls : Column}
-    → AreReceivedLines end now given ls → ReaderAdvance now new more → new.pulled ≡ now.pulled
-    → length now.buffered ≤ 8192 → length ls < most → all ≡ given ++ more
-    → EarlierPart end most (received_with all new)
-earlier_before {now = now} {new} {given} {more} came reads still buffered few is = record {
-  front = given;
-  last = more ++ new.buffered;
-  split = cc (append_assoc given more new.buffered);
-  short = omega (arith, length-append more new.buffered);
-  few = omega (arith, few, rw (append-nil given) at (complete_few came (reads_nothing now) tt));
-}
 
 -- ---- the rows that are determined come first
 

@@ -70,11 +70,6 @@ pub taken_by : {end n : ℕ} {b c : Reader} {bytes : List ℕ} {ls : List (List 
     → LinesTaken end b c n ls
 taken_by = grind arith
 
--- No line was left.
-pub taken_eof : {end : ℕ} {b c : Reader} → AdvanceOk b c [] → IsDone c → b.fault ≡ None → IsSound c
-    → LinesTaken end b c 1 []
-taken_eof advance_ok done clean sound = search rules
-
 -- ---- the text of a row, column by column
 
 module _ (row : RowShape) where

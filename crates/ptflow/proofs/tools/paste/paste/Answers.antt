@@ -43,12 +43,13 @@ pub rows-init : goal.rows-init
 rows-init g c =
     let row : RowShape → Type 0 = λ r. RowsInvariant r c.args.readers.now c.set_terminators.new.readers
     c.set_terminators.new.readers c.args.out.now c.args.out.now c.args.store.now c.ensure_slots.new.store in
+    let start = starts g (goal.at.rows-init g c).After-ensure_slots in
     subst row (sym c.row_format-row.ensures) (record {
-      starts = starts g (goal.at.rows-init g c).After-ensure_slots;
+      starts = start;
       written = [];
       rows = rows_taken_none;
       wrote = push_nothing _;
-      clean = cc;
+      clean = start.writable;
       kept = λ top high. slots_bound_start c.ensure_slots.ensures.adds c.in_ok-ensure_slots.ensures.allowed (cc)
           c.ensure_slots.ensures.same_peak;
     })
