@@ -93,27 +93,12 @@ prefix_is_kept at end now old written low fits is =
     )
 
 -- A vector was stored at `at`.
-vector_stored : (at k n : ℕ) (was lanes : List ℕ) → length lanes ≡ n → n ≤ k → at + k ≡ length was
+pub vector_stored : (at k n : ℕ) (was lanes : List ℕ) → length lanes ≡ n → n ≤ k → at + k ≡ length was
     → take (at + n) (put_mid at k was (put_chunk 0 (mid_of at k was) lanes)) ≡ take at was ++ lanes
 vector_stored at k n was lanes long room all =
     let mid = mid_of at k was in
     let size = length-take-le k (drop at was) (omega (arith, length-drop at was)) in
     grind (arith, common_steps, length-take-le, take-append-add, take-append-le, take_more_put_chunk)
-
--- A vector was stored at `at`, and the line that it begins with was consumed.
-pub vector_line : (at k n : ℕ) (was : List ℕ) {end count : ℕ} {old new : Reader} {bytes : List ℕ}
-    → bytes ≡ old.buffered → n ≤ length bytes → n ≤ k → at + k ≡ length was
-    → IsFirst (Passes (is_byte end) bytes) 0 (0 + n) (Some count)
-    → new ≡ record old { buffered = drop (count + 1) old.buffered }
-    → LineCopied end old new (take at was)
-    (take (at + count) (put_mid at k was (put_chunk 0 (mid_of at k was) (chunk 0 n bytes))))
-vector_line at k n was {count = count} {bytes = bytes} same long room all first consumed = record {
-  at = count;
-  found = search rules;
-  consumed = consumed;
-  is = rw (sym same) (copied_prefix at count n was _ bytes (omega arith) (omega arith)
-      (vector_stored at k n was (chunk 0 n bytes) (length-chunk 0 n bytes (omega arith)) room all));
-}
 
 -- ---- the columns of a row
 
@@ -204,9 +189,6 @@ whole_rows_counted end n count bytes last counted =
 
 -- ---- the text of rows
 
-are_parts : (end n : ℕ) (ls : List (List ℕ)) → AreLines end ls → AreLines end (take n ls) × AreLines end (drop n ls)
-are_parts = grind (arith, common_steps)
-
 module _ {row : RowShape} {cycle : Cycle} (t : IsSharedCycle row cycle) where
   abbrev n : ℕ
   n = length row.cells
@@ -279,7 +261,7 @@ module _ {row : RowShape} {cycle : Cycle} (t : IsSharedCycle row cycle) where
       let n = length row.cells in
       let first = take n ls in
       let rest = drop n ls in
-      let (whole_first, whole_rest) = are_parts end n ls are_lines in
+      let (whole_first, whole_rest) : AreLines end first × AreLines end rest = grind (arith, common_steps) in
       let first_long = length-take-le n ls (omega arith) in
       let start : k * n ≡ k * n + 0 = omega arith in
       let next : k * n + count_by (is_byte end) (unlines end first) ≡ (k + 1) * n =

@@ -17,7 +17,7 @@ use proofs.Common.{rows_text, uses_of, SetTerminatorsPost, SlotsBound, RowFailed
 use proofs.Common.{is_write_fault, RowShape, BegunText, job_shape, AreReceivedLines, LinesTaken, BufferedRowsPre}
 use proofs.Common.{AreConsumed, AreFirstRows, RowsTaken, CopyRowsPost, RowsWritten, FlowFault, Memory, Read, Write}
 use proofs.Common.{RowAmid, slots_text, cells_text}
-use proofs.PasteLemmas.Rows.{slots_bound_start, slots_kept_by_lines, slots_bound_line, cells_total, sum_of_zeros}
+use proofs.PasteLemmas.Rows.{slots_bound_start, line_le_max_length, slots_bound_line, cells_total, sum_of_zeros}
 use proofs.PasteLemmas.Rows.{rows_on, rows_taken_none, rows_taken_trans, row_taken, taken_at_most, taken_more}
 use proofs.PasteLemmas.Rows.{nothing_taken, amid_text}
 use proofs.PasteLemmas.Grid.{Column, columns_same, last_use, uses_before_lt, uses_before, rows_text-append, is_in_used}
@@ -199,11 +199,6 @@ module _ {job : Paste} {cells : List ℕ} {old set now : List Reader} {was is : 
   abbrev no_more : RowsTaken shape now now []
   no_more = rows_taken_none
 
-  -- Buffered output was written out.
-  pub invariant_sent : {written_out : Output} → PushEffect is written_out [] → written_out.write_failed ≡ false
-      → PasteInvariant job cells old set now was written_out first store
-  invariant_sent = invariant_rows no_more
-
   pub invariant_written : {new : List Reader} {is' : Output} → RowsWritten shape now new is is'
       → is'.write_failed ≡ false → PasteInvariant job cells old set new was is' first store
   invariant_written p clean = invariant_rows p.rows p.wrote clean
@@ -379,9 +374,8 @@ module _ {job : Paste} {cells : List ℕ} {old set now : List Reader} {was is : 
   row_kept : {n : ℕ} {begun : BegunText} {after : Slots} (a : RowAmid shape n now store begun after) → n ≤ length cells
       → Kept cells first (λ p. s.rows.ls p ++ a.filled.input_lines p) after
   row_kept a few top high =
-      slots_kept_by_lines a.slots few a.filled.consumed first top
-      (s.kept top (grind (arith, common_steps, max_length-append)))
-      (grind (arith, common_steps, max_length-append))
+      a.slots.kept first top (s.kept top (grind (arith, common_steps, max_length-append)))
+      (grind (arith, common_steps, max_length-append, line_le_max_length, uses_before_lt))
 
   -- A row was filled.
   module _ {begun : BegunText} {after : Slots} (a : RowAmid shape (length cells) now store begun after) where

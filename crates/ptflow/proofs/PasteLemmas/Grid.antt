@@ -237,11 +237,8 @@ module _ (cells : List ℕ) where
       (cases_lt (uses_of (take n cells) (get_or cells n 0)) (length (f (get_or cells n 0))))
 
   -- n rows take all lines of an input; more lines follow only if it has all the lines that n rows take.
-  abbrev pub TakesAll : ℕ → (ℕ → Column) → (ℕ → Column) → Type 0
-  TakesAll n ins more = (p : ℕ) → 0 < uses_of cells p → (length (ins p) ≡ n * uses_of cells p) ⊎ ((more p ≡ [])
-      × (length (ins p) ≤ n * uses_of cells p))
-
-  pub rows-append : (n : ℕ) (ins more : ℕ → Column) → TakesAll n ins more
+  pub rows-append : (n : ℕ) (ins more : ℕ → Column) → ((p : ℕ) → 0 < uses_of cells p
+      → (length (ins p) ≡ n * uses_of cells p) ⊎ ((more p ≡ []) × (length (ins p) ≤ n * uses_of cells p)))
       → rows (columns cells (λ p. ins p ++ more p)) ≡ rows (columns cells ins) ++ rows (columns cells more)
   rows-append zero ins more all =
       let none : (p : ℕ) → 0 < uses_of cells p → ins p ≡ [] = λ p some.

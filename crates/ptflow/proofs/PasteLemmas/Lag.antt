@@ -166,19 +166,6 @@ module _ (job : Paste) (cells : List ℕ) (came : ℕ → Received) where
         (grind (arith, common_steps))
         (grind (arith, common_steps, column_at))
 
-    -- The last column of the input has no line in the next row.
-    next_unknown : is_row_known (grid earlier) ends (length taken_rows) ≡ false
-    next_unknown =
-        let (c, low, is, count) = last_use cells here named in
-        unknown (length taken_rows) c low is (grind (
-          arith,
-          common_steps,
-          every_kth_short,
-          uses_before_lt,
-          taken_rows,
-          known_of,
-        ))
-
     -- The line of a column in a row of the whole grid.
     abbrev cell : ℕ → ℕ → ℕ → List ℕ
     cell r c p = slice_index_or (column_of cells (known_of came) c p) r []
@@ -212,6 +199,10 @@ module _ (job : Paste) (cells : List ℕ) (came : ℕ → Received) where
 
     pub begins_earlier : IsPrefix (paste_decided job cells earlier) pushed
     begins_earlier =
+        -- The last column of the input has no line in the next row.
+        let (c, low, is_here, count) = last_use cells here named in
+        let next_unknown = unknown (length taken_rows) c low is_here
+        (grind (arith, common_steps, every_kth_short, uses_before_lt, taken_rows, known_of)) in
         let (rest, is) = known_first (is_row_known (grid earlier) ends) (known_down (grid earlier) ends)
         (row_at (grid earlier)) taken_rows next_unknown (λ r known less.
         row_is cells (known_of earlier) r (cell r) (cell_same r known)

@@ -238,7 +238,7 @@ slots_bound_line {cells} {top} {before} {store} k column bytes within fits = rec
 
 -- ---- the slots of a row that is being filled
 
-line_le_max_length : (ls : List (List ℕ)) (j : ℕ) → length (get_or ls j []) ≤ max_length ls
+pub line_le_max_length : (ls : List (List ℕ)) (j : ℕ) → length (get_or ls j []) ≤ max_length ls
 line_le_max_length [] j = omega arith
 line_le_max_length (line ∷ ls) zero = omega arith
 line_le_max_length (line ∷ ls) (suc j) = omega (arith, line_le_max_length ls j)
@@ -257,15 +257,6 @@ module _ {cells : List ℕ} {fields : List (List ℕ)} {before store : Slots} (s
       kept = λ first top k high. slots_bound_line ((slots_kept_more (field ∷ [])).kept first top k high) n field low
           (grind (arith, common_steps));
     }
-
--- The bound on the slots, by the lines that the readers gave.
-pub slots_kept_by_lines : {row : RowShape} {n : ℕ} {old new : List Reader} {fields : List (List ℕ)}
-    {input_lines : ℕ → List (List ℕ)} {before store : Slots} → SlotsKept row.cells fields before store
-    → n ≤ length row.cells → CellsTaken row n old new fields input_lines → (first : Slots) (top : ℕ → ℕ)
-    → SlotsBound row.cells top first before
-    → ((input : ℕ) → 0 < uses_of row.cells input → max_length (input_lines input) ≤ top input)
-    → SlotsBound row.cells top first store
-slots_kept_by_lines = grind (arith, line_le_max_length, uses_before_lt)
 
 -- ---- readers by their indices
 

@@ -6,7 +6,7 @@ use proofs.Common.{length-take-le, call_on_failed_output, push_nothing, refl, []
 use Rattle.std.proofs.lemmas.Bool.{not-false, not-true}
 use proofs.PasteLemmas.Call.{by_fault, of_rows, row_job, paste_without_slots, rows_write_failed, paste_done}
 use proofs.PasteLemmas.Call.{paste_fill_failed, paste_row_write_failed, HasStarted}
-use proofs.PasteLemmas.Call.{invariant_rows, invariant_written, invariant_sent, row_slots}
+use proofs.PasteLemmas.Call.{invariant_rows, invariant_written, row_slots}
 use proofs.PasteLemmas.Call.{invariant_slots, invariant_more, now_readable, RowsInvariant}
 use proofs.PasteLemmas.BufferedRows.{still_readable}
 use proofs.PasteLemmas.Rows.{amid_starts, nothing_taken, rows_taken_none, slots_bound_start}
@@ -121,9 +121,9 @@ module _ (g : given.Over) (c : In_ok-filled g) where
   -- The invariant before the row was written.
   sent : RowsInvariant shape c.args.readers.now c.set_terminators.new.readers c.copy_rows-copied.ensures.rows.mid
       c.args.out.now c.fill_row.new.out c.args.store.now c.rows.store
-  sent = invariant_sent (invariant_rows (invariant_written c.rows.invariant c.write_shared_rows.ensures.rows
+  sent = invariant_rows (invariant_rows (invariant_written c.rows.invariant c.write_shared_rows.ensures.rows
       c.in_ok-write_shared_rows.ensures.clean) c.copy_rows-copied.ensures.rows.rows c.push.ensures.pushed.wrote
-      c.in_ok-push.ensures.pushed.clean) c.in_ok-filled.ensures.wrote c.in_ok-filled.ensures.write_failed
+      c.in_ok-push.ensures.pushed.clean) rows_taken_none c.in_ok-filled.ensures.wrote c.in_ok-filled.ensures.write_failed
 
 pub clear_slots-requires : goal.clear_slots-requires
 clear_slots-requires g c =
