@@ -375,7 +375,7 @@ module _ {job : Paste} {cells : List ℕ} {old set now : List Reader} {was is : 
       → Kept cells first (λ p. s.rows.ls p ++ a.filled.input_lines p) after
   row_kept a few top high =
       a.slots.kept first top (s.kept top (grind (arith, common_steps, max_length-append)))
-      (grind (arith, common_steps, max_length-append, line_le_max_length, uses_before_lt))
+      (grind (arith, max_length-append, line_le_max_length, uses_before_lt))
 
   -- A row was filled.
   module _ {begun : BegunText} {after : Slots} (a : RowAmid shape (length cells) now store begun after) where

@@ -2,7 +2,7 @@
 -- again. If that row has no line, all readers are at the end of their inputs.
 use Rattle.ptflow.proofs
 use proofs.Common.{sym, ap, subst, arith, length, paste_job, job_shape, RowShape, RowAmid, begun_in, shape_of, Write}
-use proofs.Common.{length-take-le, call_on_failed_output, push_nothing, refl, []}
+use proofs.Common.{length-take-le, call_on_failed_output, push_nothing, refl, [], ◌∙◌}
 use Rattle.std.proofs.lemmas.Bool.{not-false, not-true}
 use proofs.PasteLemmas.Call.{by_fault, of_rows, row_job, paste_without_slots, rows_write_failed, paste_done}
 use proofs.PasteLemmas.Call.{paste_fill_failed, paste_row_write_failed, HasStarted}
@@ -50,8 +50,8 @@ rows-init g c =
       rows = rows_taken_none;
       wrote = push_nothing _;
       clean = start.writable;
-      kept = λ top high. slots_bound_start c.ensure_slots.ensures.adds c.in_ok-ensure_slots.ensures.allowed (cc)
-          c.ensure_slots.ensures.same_peak;
+      kept = λ top high. slots_bound_start c.ensure_slots.ensures.adds c.in_ok-ensure_slots.ensures.allowed
+          (c.ensure_slots.ensures.same_total ∙ c.requires.empty) c.ensure_slots.ensures.same_peak;
     })
 
 pub write_shared_rows-requires-clause-readable : goal.write_shared_rows-requires-clause-readable
