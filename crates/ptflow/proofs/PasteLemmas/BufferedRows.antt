@@ -126,18 +126,14 @@ module _ {row : RowShape} where
     x : IsNextReader row now.readers now.count b
     x = next_reader (still_readable s.consumed ready) low unread
 
-    -- The row after one more column.
-    abbrev pub with_column : List ℕ → BegunText
-    with_column next = record {
-      readers = set now.readers input r;
-      count = now.count + 1;
-      any_line = now.any_line || has;
-      text = next;
-    }
-
     -- One more column was copied, and the byte after it.
     pub columns_more : {next byte : List ℕ} → IsFieldCopied row.terminator b r now.text copied has
-        → next ≡ copied ++ byte → byte ≡ after_cell row now.count → CopyColumnsPost row begun (with_column next)
+        → next ≡ copied ++ byte → byte ≡ after_cell row now.count → CopyColumnsPost row begun (record {
+          readers = set now.readers input r;
+          count = now.count + 1;
+          any_line = now.any_line || has;
+          text = next;
+        })
     columns_more field_is stored after =
         let (field, is, taken, consumed) = field_in_buffer row.terminator now.text copied has x.clean sound field_is in
         record {
@@ -294,43 +290,39 @@ module _ {row : RowShape} {cycle : Cycle} (t : IsSharedCycle row cycle) {old : L
   same : (c : ℕ) → c < length row.cells → get_or row.cells c 0 ≡ shared
   same c low = t.same c 0 low
 
-  rows_of_input : RowsTaken row old (set old shared r)
-      (with_replacements end (cycle_byte cycle) 0 (take count b.buffered))
-  rows_of_input = record {
-    taken_rows = rows_of t rs.ls;
-    ls = lines_of_input shared rs.ls;
-    first_rows = record {
-      lines_taken = taken_from_one old (λ q. length (rows_of t rs.ls) * uses_of row.cells q) x.within
-          (rw (
-            (rows_replaced t 0 rs.count rs.ls rs.are_lines rs.long).0,
-            uses_all row.cells shared same,
-            ← x.is_read,
-          ) (taken_by (advance_ok_take b r count x.clean within step) x.clean
-              (sound_after_consume sound (record { size = count; is = step }))
-              (record { so_far = inl (rs.is, rs.are_lines) }) (inl rs.long) (λ none. absurd (omega (
-            arith,
-            length-take-le count b.buffered within,
-            ap length rs.is,
-            ap (λ l. length (unlines end l)) (nil_from_length rs.ls (rs.long ∙ none)),
-          )))))
-          (λ q differ. rw (uses_none row.cells shared same q differ) (omega arith));
-      are = refl;
-      count = length-set old shared r;
-    };
-    least = grind (arith, common_steps);
-    is =
-        let start : 0 ≡ 0 * length row.cells = omega arith in
-        (λ i. with_replacements end (cycle_byte cycle) (start i) (rs.is i))
-        ∙ (rows_replaced t 0 rs.count rs.ls rs.are_lines rs.long).1;
-  }
-
   -- The rows in the buffer, by the bytes that were copied and pushed.
   pub copied_rows : {written : List ℕ}
       → written ≡ with_replacements cycle.terminator (cycle_byte cycle) 0 (take count b.buffered)
       → {out pushed : Output} → PushEffect out pushed written → RowsWritten row old (set old shared r) out pushed
   copied_rows {written} copied wrote = record {
     written = written;
-    rows = rw (copied, t.terminator) rows_of_input;
+    rows = rw (copied, t.terminator) (record {
+      taken_rows = rows_of t rs.ls;
+      ls = lines_of_input shared rs.ls;
+      first_rows = record {
+        lines_taken = taken_from_one old (λ q. length (rows_of t rs.ls) * uses_of row.cells q) x.within
+            (rw (
+              (rows_replaced t 0 rs.count rs.ls rs.are_lines rs.long).0,
+              uses_all row.cells shared same,
+              ← x.is_read,
+            ) (taken_by (advance_ok_take b r count x.clean within step) x.clean
+                (sound_after_consume sound (record { size = count; is = step }))
+                (record { so_far = inl (rs.is, rs.are_lines) }) (inl rs.long) (λ none. absurd (omega (
+              arith,
+              length-take-le count b.buffered within,
+              ap length rs.is,
+              ap (λ l. length (unlines end l)) (nil_from_length rs.ls (rs.long ∙ none)),
+            )))))
+            (λ q differ. rw (uses_none row.cells shared same q differ) (omega arith));
+        are = refl;
+        count = length-set old shared r;
+      };
+      least = grind (arith, common_steps);
+      is =
+          let start : 0 ≡ 0 * length row.cells = omega arith in
+          (λ i. with_replacements end (cycle_byte cycle) (start i) (rs.is i))
+          ∙ (rows_replaced t 0 rs.count rs.ls rs.are_lines rs.long).1;
+    });
     consumed = search rules;
     wrote = wrote;
   }

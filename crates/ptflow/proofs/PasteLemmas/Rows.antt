@@ -19,7 +19,7 @@ use proofs.Common.{slots_text, AreReceivedLines, LinesTaken, BufferedRowsPre, Ar
 use proofs.Common.{CopyRowsPost, FlowFault, Memory, Read, Write, rules}
 use proofs.Passes.Exits.{lines_none, lines_are_given, lines_more, eof_gives_nothing}
 use proofs.PasteLemmas.Grid.{Column, for_each_cell_unique, grid_step, grid_none, after_row, rows-append, uses_before_lt}
-use proofs.PasteLemmas.Grid.{lines_of_input, uses_more, update_here}
+use proofs.PasteLemmas.Grid.{lines_of_input, uses_more, update_here, top_of}
 use Rattle.std.proofs.Math.Bool.{or-true, or-false}
 
 AreLines-append : (end : ℕ) (xs ys : List (List ℕ)) → AreLines end xs → AreLines end ys → AreLines end (xs ++ ys)
@@ -150,9 +150,8 @@ module _ {row : RowShape} {old new : List Reader} {fields : List (List ℕ)}
   pub filled_row_is_first : AreFirstRows row old new r.input_lines (fields ∷ [])
   filled_row_is_first =
       let (c, low, first) = r.some some in
-      let field = λ (c p : ℕ). slice_index_or (r.input_lines p) (uses_of (take c row.cells) p) [] in
-      let row_is =
-      for_each_cell_unique field row.cells fields [] r.consumed.width r.consumed.fields_taken in
+      let row_is = for_each_cell_unique (top_of row.cells r.input_lines) row.cells fields [] r.consumed.width
+      r.consumed.fields_taken in
       record {
         lines_taken = λ p. grind (arith, common_steps);
         are = cc (
@@ -446,25 +445,22 @@ module _ {row : RowShape} where
         })
 
     -- The step for the next column failed.
-    abbrev fill_failed : {CellFailed : Reader → Reader → Slots → Slots → ℕ → Type 0} (after : Slots) (r : Reader)
-        → CellFailed b r store after n → (length b.buffered ≤ 8192 → length r.buffered ≤ 8192)
-        → RowFailed CellFailed row from (set now.readers (get_or row.cells n 0) r) first after
-    fill_failed after r failure few = record {
-      column = n;
-      within = x.low;
-      begun = now;
-      buffered = store;
-      amid = a;
-      failure = search rules;
-      others = search rules;
-      few = search rules;
-    }
-
     pub amid_failed : (r : Reader) (after : Slots) (into : List ℕ) (e : FlowFault)
         → FillCellPost (get_or row.cells n 0) n b r store after (Err e)
         → RowFilled row from first (set now.readers (get_or row.cells n 0) r) after into (Err e)
-    amid_failed r after into (Read input) (p, sound, named) =
-        (fill_failed {CellFailed = FillReadErr} after r p (λ few. sound.buffered), named)
+    amid_failed r after into (Read input) (p, sound, named) = (
+      record {
+        column = n;
+        within = x.low;
+        begun = now;
+        buffered = store;
+        amid = a;
+        failure = search rules;
+        others = search rules;
+        few = search rules;
+      },
+      named,
+    )
     amid_failed r after into Write (same, kept, going) = search rules
     amid_failed r after into Memory (p, sound) = search rules
 
