@@ -28,7 +28,7 @@ use proofs.PasteLemmas.Replaced.{counted, replaced-append, replaced_line}
 use Rattle.ptflow.specs.declared.simd.replace.Cycle.{Cycle}
 
 sound_after_consume : {b r : Reader} → IsSound b → IsConsumed b r → IsSound r
-sound_after_consume {b} s step = grind (arith, common_steps)
+sound_after_consume s step = grind (arith, common_steps)
 
 -- ---- one column
 
@@ -64,7 +64,7 @@ consumed_none = record { count = refl; buffered = λ p. record { size = 0; is = 
 
 -- Some bytes were consumed, and then more.
 both_consumed : {a b c : Reader} → IsConsumed a b → IsConsumed b c → IsConsumed a c
-both_consumed {a} p q = grind (arith, common_steps)
+both_consumed p q = grind (arith, common_steps)
 
 pub consumed_trans : {a b c : List Reader} → AreConsumed a b → AreConsumed b c → AreConsumed a c
 consumed_trans p q = grind (arith, both_consumed)
@@ -112,7 +112,7 @@ after_other row c index other at = rw (ne_eqb (c + 1) (length row.cells) other, 
 
 module _ {row : RowShape} where
   pub columns_start : {begun : BegunText} → CopyColumnsPost row begun begun
-  columns_start {begun} = search rules
+  columns_start = search rules
 
   module _ {begun now : BegunText} (s : CopyColumnsPost row begun now) (ready : BufferedRowsPre row begun.readers)
       (low : now.count < length row.cells) (unread r : Reader)

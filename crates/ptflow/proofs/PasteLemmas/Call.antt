@@ -21,7 +21,7 @@ use proofs.PasteLemmas.Rows.{slots_bound_start, line_le_max_length, slots_bound_
 use proofs.PasteLemmas.Rows.{rows_on, rows_taken_none, rows_taken_trans, row_taken, taken_at_most, taken_more}
 use proofs.PasteLemmas.Rows.{nothing_taken, amid_text}
 use proofs.PasteLemmas.Grid.{Column, columns_same, last_use, uses_before_lt, uses_before, rows_text-append, is_in_used}
-use proofs.PasteLemmas.Grid.{not_in, used_is_in, consistent_itself}
+use proofs.PasteLemmas.Grid.{not_in, used_is_in}
 use proofs.PasteLemmas.Lag.{EarlierPart, ended_more, lags_here, decided_is_prefix, complete_few}
 use proofs.PasteLemmas.Lag.{earlier_lines, begins_earlier, no_lines}
 use proofs.PasteLemmas.BufferedRows.{still_pulled}
@@ -42,7 +42,7 @@ row_job row = record { serial = false; delimiters = row.delims; terminator = row
 pub of_rows : {row same : RowShape} {old new : CallState ℕ} {end : CallEnd ℕ} → row ≡ same
     → CallPost (inputs_at row.cells) (paste_engine (row_job row) row.cells) old new end
     → CallPost (inputs_at same.cells) (paste_engine (row_job same) same.cells) old new end
-of_rows {old = old} {new} {end} is post = grind (arith, common_steps)
+of_rows is post = grind (arith, common_steps)
 
 -- ---- the rows of all that was received, if some rows were taken
 
@@ -52,7 +52,7 @@ whole_lines_after : {end : ℕ} {now : Reader} {given : List ℕ} {ls : Column} 
     → known_lines end (record { bytes = given ++ rest; eof = eof }) ≡ ls ++ known_lines end
     (record { bytes = rest; eof = eof })
 whole_lines_after {end} {now} {given} {ls} k rest true may = lines_on end now given ls k rest (λ done. (may done).0)
-whole_lines_after {end} {now} {given} {ls} k rest false may = grind (arith, ended_more)
+whole_lines_after k rest false may = grind (arith, ended_more)
 
 -- ---- after the terminators of the readers were set
 
@@ -256,7 +256,9 @@ module _ {job : Paste} {cells : List ℕ} {old set now : List Reader} {was is : 
     rows_given : (later : List (List (List ℕ)))
         × (rows (columns cells (λ p. known_lines job.terminator (given p))) ≡ s.rows.taken_rows ++ later)
     rows_given =
-        let (later, is) = rows_after given (λ p named. consistent_itself (given p)) (λ p ended. ended) in
+        let (later, is) = rows_after given
+        (λ p named. record { rest = []; is = sym (append-nil (given p).bytes); whole = λ ended. refl })
+        (λ p ended. ended) in
         (g.taken_rows ++ later, is ∙ append_assoc s.rows.taken_rows g.taken_rows later)
 
     abbrev Cut : ℕ → Type 0
@@ -349,7 +351,7 @@ module _ {job : Paste} {cells : List ℕ} {old set now : List Reader} {was is : 
       → ((p : ℕ) → LinesTaken job.terminator (reader_at mid p) (reader_at new p) (uses_of (take n cells) p) (taken p))
       → AreConsumed now new → {is' : Output} → PushEffect is is' copied → is'.write_failed ≡ true
       → Ends new is' store (Err Write)
-  rows_write_failed {new = new} rows n {taken} b consumed wrote fault =
+  rows_write_failed {new = new} rows n b consumed wrote fault =
       write_exit rows (whole_columns n b) wrote fault (λ top high. s.kept top
       (grind (arith, common_steps, max_length-append)))
       -- Without the bytes that came from the buffers.

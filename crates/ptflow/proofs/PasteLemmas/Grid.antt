@@ -123,7 +123,7 @@ length-for_each_cell f cells = grind (arith, common_steps, length-enumerate_from
 
 get_or-for_each_cell : {Y : Type 0} (f : ℕ → ℕ → Y) (cells : List ℕ) (c : ℕ) (d : Y) → c < length cells
     → get_or (for_each_cell f cells) c d ≡ f c (get_or cells c 0)
-get_or-for_each_cell {Y} f cells c d low = let same : 0 + c ≡ c =
+get_or-for_each_cell f cells c d low = let same : 0 + c ≡ c =
     omega arith in cc (
       get_or-map (λ cell. f cell.0 cell.1) (enumerate_from 0 cells) c (0, 0) d
           (omega (arith, length-enumerate_from 0 cells)),
@@ -345,10 +345,6 @@ map_same : {X : Type 0} (f g : ℕ → X) (cells : List ℕ) → ((p : ℕ) → 
 map_same f g [] same = refl
 map_same f g (c ∷ cells) same = λ i.
     same c (grind arith) i ∷ map_same f g cells (λ p named. same p (grind arith)) i
-
--- The received bytes may be the whole input.
-pub consistent_itself : (given : Received) → IsConsistent given given.bytes
-consistent_itself given = grind (arith, common_steps)
 
 module _ (job : Paste) (cells : List ℕ) where
   pub decided_same : (f g : ℕ → Received) → ((p : ℕ) → is_in cells p ≡ true → f p ≡ g p)

@@ -29,7 +29,7 @@ pub record EarlierPart (end most : ℕ) (came : Received) : Type 0 where
 -- The complete lines of what was received and a part of the next line.
 pub complete_few : {end : ℕ} {now new : Reader} {given piece : List ℕ} {ls : Column} → AreReceivedLines end now given ls
     → ReaderAdvance now new piece → IsLine end piece → length (complete_lines end (given ++ piece)) ≤ length ls
-complete_few {end} {given = given} {piece} {ls} k reads free = grind (
+complete_few k reads free = grind (
   arith,
   common_steps,
   complete_lines_of_unlines,

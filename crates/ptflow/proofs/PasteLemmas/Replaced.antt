@@ -191,7 +191,7 @@ module _ {end : ℕ} {byte : ℕ → ℕ} where
       pub replace_next : {rest put : ℕ} {to' : List ℕ} → marked < 2 ^ 64 → put ≡ byte (first + n)
           → rest ≡ bit_and marked ((marked + (2 ^ 64 - 1)) % 2 ^ 64) → to' ≡ slice_set to (at + bit) put
           → ReplaceInvariant end byte first at from was (n + 1) rest to'
-      replace_next {rest} {put} {to'} small put_is rest_is to_is =
+      replace_next {rest} {put} small put_is rest_is to_is =
           let next : suc n ≡ n + 1 = omega arith in
           record {
             room = r.room;
@@ -247,7 +247,7 @@ module _ {cycle : Cycle} {first index at : ℕ} {from to to' : List ℕ} (long :
     pub replaced_terminator : {next v : ℕ} → get_or from at 0 ≡ cycle.terminator → v ∷ [] ≡ cycle_byte cycle index
         → next ≡ (index + 1) % cycle.len → to' ≡ slice_set (slice_set to at (get_or from at 0)) at v
         → IsReplacedTo cycle first next (at + 1) from to'
-    replaced_terminator {next} {v} is_end is later set =
+    replaced_terminator is_end is later set =
         let x = get_or from at 0 in
         let test = eq-eqb x _ is_end in
         let one = one_byte at from room in

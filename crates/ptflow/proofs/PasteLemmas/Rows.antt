@@ -29,7 +29,7 @@ AreLines-append end (x ∷ xs) ys (line, more) q = (line, AreLines-append end xs
 -- A reader at the end of its input gives no lines.
 none_received : {end : ℕ} {b c : Reader} {bytes : List ℕ} {ls : List (List ℕ)} → IsDone b → ReaderAdvance b c bytes
     → AreReceivedLines end c bytes ls → ls ≡ []
-none_received {end} {b} {c} {bytes} {ls} done reads k =
+none_received done reads k =
     let (none, empty, eof) = eof_gives_nothing _ _ _ done reads in
     cc (lines_are_given _ _ _ _ k)
 
@@ -52,7 +52,7 @@ nothing_taken = grind arith
 
 abbrev pub taken_more : {end : ℕ} {a b c : Reader} {k m n : ℕ} {xs ys : List (List ℕ)} → k ≡ m + n
     → LinesTaken end a b m xs → LinesTaken end b c n ys → LinesTaken end a c k (xs ++ ys)
-taken_more {end} {a} {b} {c} {k} {m} {n} {xs} {ys} all p q = record {
+taken_more all p q = record {
   bytes = p.bytes ++ q.bytes;
   reads = advance_trans _ _ _ _ _ p.reads q.reads;
   failed = q.failed ∙ p.failed;
@@ -301,7 +301,7 @@ pub taken_from_one : {end : ℕ} (now : List Reader) {input : ℕ} {r : Reader} 
     → input < length now → LinesTaken end (reader_at now input) r (most input) ls
     → ((q : ℕ) → q ≢ input → most q ≡ 0) → (q : ℕ)
     → LinesTaken end (reader_at now q) (reader_at (set now input r) q) (most q) (lines_of_input input ls q)
-taken_from_one {end} now {input} {ls = ls} most within t none = search rules
+taken_from_one now most within t none = search rules
 
 module _ {row : RowShape} {n : ℕ} {old now : List Reader} {fields : List (List ℕ)} {input_lines : ℕ → List (List ℕ)}
     (t : CellsTaken row n old now fields input_lines) (low : n < length row.cells)
@@ -423,7 +423,7 @@ module _ {row : RowShape} where
   -- All fields were copied from the buffers, and then the row was moved.
   pub amid_starts : {old : List Reader} {copied : List ℕ} {begun moved : BegunText} {store : Slots}
       (p : CopyRowsPost row old copied begun) → moved ≡ begun → RowAmid row moved.count p.mid store moved store
-  amid_starts {begun = begun} {store = store} p same = grind (arith, common_steps)
+  amid_starts p same = grind (arith, common_steps)
 
   module _ {n : ℕ} {from : List Reader} {first store : Slots} {now : BegunText} (a : RowAmid row n from first now store)
       {b : Reader} (x : IsNextReader row now.readers n b) where
