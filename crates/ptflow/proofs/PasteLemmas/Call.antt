@@ -42,7 +42,7 @@ row_job row = record { serial = false; delimiters = row.delims; terminator = row
 pub of_rows : {row same : RowShape} {old new : CallState ℕ} {end : CallEnd ℕ} → row ≡ same
     → CallPost (inputs_at row.cells) (paste_engine (row_job row) row.cells) old new end
     → CallPost (inputs_at same.cells) (paste_engine (row_job same) same.cells) old new end
-of_rows is post = grind (arith, common_steps)
+of_rows is post = grind arith
 
 -- ---- the rows of all that was received, if some rows were taken
 
@@ -73,7 +73,7 @@ module _ {job : Paste} {cells : List ℕ} {old set : List Reader} {was : Output}
   set_readable = grind (arith, readable)
 
   never_failed : (p : ℕ) → is_in cells p ≡ true → (reader_at set p).failed ≡ false
-  never_failed p named = grind (arith, is_in_used, readable, set_readable)
+  never_failed p named = grind (arith, is_in_used, readable)
 
   -- A call from there on is the whole call.
   since_set : {new : CallState ℕ} {end : CallEnd ℕ}
@@ -89,12 +89,12 @@ module _ {job : Paste} {cells : List ℕ} {old set : List Reader} {was : Output}
       → result ≡ Err Memory → PastePost job cells old set was was first store result
   paste_without_slots adds same denied missing is =
       rw (is, paste_end) (since_set (call_without_slots _ _ _ _ s.writable refl
-      (grind (arith, common_steps, is_in_used))
+      (grind (arith, is_in_used))
       (λ p other. refl) (λ p named. (s.are_set p).sound (is_in_used cells p named)) never_failed denied same
       adds.least missing (λ texts. omega arith) (λ p named. let some = is_in_used cells p named in
       begins_earlier job cells (λ q. received_with [] (reader_at set q)) []
       (rows (columns cells (λ q. known_lines job.terminator (received_with [] (reader_at set q))))) refl refl p some
-      (grind (arith, common_steps)))))
+      (grind arith))))
 
 -- ---- rows that were taken
 
@@ -171,7 +171,7 @@ module _ {job : Paste} {cells : List ℕ} {old set now : List Reader} {was is : 
   }
 
   now_buffered : (p : ℕ) → 0 < uses_of cells p → length (reader_at now p).buffered ≤ 8192
-  now_buffered p some = grind (arith, common_steps)
+  now_buffered p some = grind arith
 
   -- Each column has a slot.
   pub invariant_slots : length cells ≤ length store.lines
@@ -194,7 +194,7 @@ module _ {job : Paste} {cells : List ℕ} {old set now : List Reader} {was is : 
   pub invariant_rows : {new : List Reader} {written : List ℕ} → RowsTaken shape now new written
       → {is' : Output} → PushEffect is is' written → is'.write_failed ≡ false
       → PasteInvariant job cells old set new was is' first store
-  invariant_rows g = invariant_after g (λ top high. s.kept top (grind (arith, common_steps, max_length-append)))
+  invariant_rows g = invariant_after g (λ top high. s.kept top (grind (arith, max_length-append)))
 
   abbrev no_more : RowsTaken shape now now []
   no_more = rows_taken_none
@@ -250,7 +250,7 @@ module _ {job : Paste} {cells : List ℕ} {old set now : List Reader} {was is : 
               let (is, may) = rest_is p some in
               ap (λ b. known_lines job.terminator (record { bytes = b; eof = (full p).eof })) is
               ∙ whole_lines_after (all_rows.first_rows.lines_taken p).came (rest p) (full p).eof may))
-              ∙ rows_on all_rows.first_rows later (grind (arith, common_steps, rest_is)),
+              ∙ rows_on all_rows.first_rows later (grind arith),
         )
 
     rows_given : (later : List (List (List ℕ)))
@@ -301,7 +301,7 @@ module _ {job : Paste} {cells : List ℕ} {old set now : List Reader} {was is : 
           → Ends new is' after result
       exit result ends decided =
           let (size, peak) : (length after.lines ≡ length stored.lines) × (after.peak ≡ stored.peak) =
-          grind (arith, same) in
+          grind arith in
           let now_bound = kept_now _ bound in
           let progress : CallProgress (inputs_at cells) (paste_engine job cells) begin end bytes pushed = record {
             reads = λ p named. advance_trans _ _ _ _ _ (all_taken p).reads (q.reads p);
@@ -314,7 +314,7 @@ module _ {job : Paste} {cells : List ℕ} {old set now : List Reader} {was is : 
                 let (later, is) = rows_after (λ p. record { bytes = texts p; eof = true }) a (λ p ended. refl) in
                 record {
                   rest = rows_text job later;
-                  is = cc (is, all_rows.is, rows_text-append job.terminator job.delimiters all_rows.taken_rows later);
+                  is = cc (all_rows.is, rows_text-append job.terminator job.delimiters all_rows.taken_rows later);
                 };
             bounded_lag = λ p named. let some = is_in_used cells p named in
                 bounded_lag_after (λ g'. paste_decided job cells (update_at p (g' tt) given)) (λ u. given p) _ _ _
@@ -327,10 +327,10 @@ module _ {job : Paste} {cells : List ℕ} {old set now : List Reader} {was is : 
                   piece_longest _ _ _ _ (all_taken p).came _ _ (q.reads p) (q.is_line p) _
                       (a p (used_is_in cells p some)),
                 )) in
-                omega (arith, k.peak);
-            slots = λ texts a. omega (arith, now_bound.adds.most);
-            least = omega (arith, now_bound.adds.least);
-            room = omega (arith, now_bound.adds.all now_bound.denied);
+                omega arith;
+            slots = λ texts a. omega arith;
+            least = omega arith;
+            room = omega arith;
           } in
           since_set s.starts (call_ends _ _ _ _ _ progress (paste_end result) ends decided)
 
@@ -353,7 +353,7 @@ module _ {job : Paste} {cells : List ℕ} {old set now : List Reader} {was is : 
       → Ends new is' store (Err Write)
   rows_write_failed {new = new} rows n b consumed wrote fault =
       write_exit rows (whole_columns n b) wrote fault (λ top high. s.kept top
-      (grind (arith, common_steps, max_length-append)))
+      (grind (arith, max_length-append)))
       -- Without the bytes that came from the buffers.
       (λ p some.
       let given = (so_far p).bytes in
@@ -376,13 +376,13 @@ module _ {job : Paste} {cells : List ℕ} {old set now : List Reader} {was is : 
   row_kept : {n : ℕ} {begun : BegunText} {after : Slots} (a : RowAmid shape n now store begun after) → n ≤ length cells
       → Kept cells first (λ p. s.rows.ls p ++ a.filled.input_lines p) after
   row_kept a few top high =
-      a.slots.kept first top (s.kept top (grind (arith, common_steps, max_length-append)))
+      a.slots.kept first top (s.kept top (grind (arith, max_length-append)))
       (grind (arith, max_length-append, line_le_max_length, uses_before_lt))
 
   -- A row was filled.
   module _ {begun : BegunText} {after : Slots} (a : RowAmid shape (length cells) now store begun after) where
     pub row_slots : length cells ≤ length after.lines
-    row_slots = omega (arith, a.slots.same, invariant_slots)
+    row_slots = omega (arith, invariant_slots)
 
     -- Some column has a line, and the row was pushed.
     module _ (some : begun.any_line ≡ true) {is' : Output}
@@ -400,7 +400,7 @@ module _ {job : Paste} {cells : List ℕ} {old set now : List Reader} {was is : 
           let q = whole_columns 0 (λ (p : ℕ). nothing_taken {end = job.terminator} {r = reader_at begun.readers p} refl)
           in
           write_exit g q row_wrote fault
-          (λ top high. row_kept a (omega arith) top (grind (arith, common_steps, max_length-append)))
+          (λ top high. row_kept a (omega arith) top (grind (arith, max_length-append)))
           (λ p some. cut_line g q p some refl refl (omega arith)) (λ p. refl)
 
     -- No column has a line.
@@ -411,15 +411,13 @@ module _ {job : Paste} {cells : List ℕ} {old set now : List Reader} {was is : 
       done_by : (p : ℕ) → 0 < uses_of cells p → IsDone (reader_at begun.readers p)
       done_by p some =
           let all = ap (λ l. uses_of l p) (take_all (length cells) cells (omega arith)) in
-          grind (arith, a.filled.none none p, (at_end.lines_taken p).enough)
+          grind arith
 
       out_is : (texts : ℕ → List ℕ) → AreAllConsistent (inputs_at cells) (given no_more at_end) texts
           → s.written ++ [] ≡ paste job cells texts
       out_is texts input =
           cc (
             append-nil s.written,
-            s.rows.is,
-            s.rows.first_rows.are,
             columns_same cells (λ p. lines job.terminator (texts p)) s.rows.ls (λ p some.
                 let k = input p (used_is_in cells p some) in
                 let done = done_by p some in
@@ -433,7 +431,7 @@ module _ {job : Paste} {cells : List ℕ} {old set now : List Reader} {was is : 
           → is'.write_failed ≡ false → Ends begun.readers is' cleared (Ok tt)
       paste_done {cleared = cleared} e wrote clean =
           let bound : Bound no_more at_end cleared =
-          λ top high. e.kept first top (row_kept a (omega arith) top (grind (arith, common_steps, max_length-append))) in
+          λ top high. e.kept first top (row_kept a (omega arith) top (grind (arith, max_length-append))) in
           let now_bound = kept_now _ bound in
           let unfailed = λ (p : ℕ) (named : is_in cells p ≡ true).
           (set_readable s.starts).unfailed p (is_in_used cells p named) in
@@ -475,7 +473,7 @@ module _ {job : Paste} {cells : List ℕ} {old set now : List Reader} {was is : 
 
     part_is : (p : ℕ) → ReaderAdvance (reader_at b.begun.readers p) (reader_at new p) (part_to p)
         × IsLine job.terminator (part_to p)
-    part_is p = grind (arith, nat_tests, b.others, reads_nothing, b.amid.filled.consumed, now_readable, here_used)
+    part_is p = grind (arith, nat_tests, reads_nothing, here_used)
 
     abbrev row_to : RowPart job cells now new
     row_to = record {
@@ -490,15 +488,15 @@ module _ {job : Paste} {cells : List ℕ} {old set now : List Reader} {was is : 
     }
 
     bound_to : Bound no_more row_to b.buffered
-    bound_to top high = row_kept b.amid (omega (arith, b.within)) top (grind (arith, common_steps, max_length-append))
+    bound_to top high = row_kept b.amid (omega arith) top (grind (arith, max_length-append))
 
     bound_with_piece : Bound no_more row_to (with_line b.buffered b.column piece)
     bound_with_piece top high = slots_bound_line (bound_to top high) b.column piece b.within
-        (grind (arith, nat_tests, max_length-append, high here here_used))
+        (grind (arith, max_length-append, high here here_used))
 
     failed_to : (reader_at new here).failed ≡ (reader_at b.begun.readers here).failed
         → (p : ℕ) → (reader_at new p).failed ≡ (reader_at b.begun.readers p).failed
-    failed_to same p = grind (arith, b.others p, cases_eq p here)
+    failed_to same p = grind arith
 
     -- That reader is the one that limits the rows.
     abbrev cut_here : Cut no_more row_to here
@@ -539,7 +537,7 @@ module _ {job : Paste} {cells : List ℕ} {old set now : List Reader} {was is : 
           denied = cc stored;
           unfailed = λ p named. failed_to same p ∙ (all_taken no_more row_to p).failed;
           clean = clean;
-          left = grind (arith, common_steps, used_is_in, here_used);
+          left = grind (arith, used_is_in, here_used);
         }) tt
 
     -- The read failed.
@@ -550,7 +548,7 @@ module _ {job : Paste} {cells : List ℕ} {old set now : List Reader} {was is : 
         exit no_more row_to wrote (inl stored) bound_with_piece cut_to (Err (Read here)) (record {
           named = used_is_in cells here here_used;
           unfailed = never_failed s.starts here (used_is_in cells here here_used);
-          cause = ⊎_elim inl (grind (arith, common_steps)) cause;
+          cause = ⊎_elim inl (grind arith) cause;
           others = λ q named differ. cc (b.others q differ, (all_taken no_more row_to q).failed);
           clean = clean;
           not_denied = cc ((kept_now _ bound_with_piece).denied);

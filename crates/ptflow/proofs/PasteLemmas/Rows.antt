@@ -135,7 +135,6 @@ module _ {row : RowShape} where
           (p.first_rows.lines_taken input) (q.first_rows.lines_taken input);
       are = cc (
         rows_on p.first_rows q.ls (λ input some done. none_at_eof (q.first_rows.lines_taken input) done),
-        p.first_rows.are,
         q.first_rows.are,
       );
       count = q.first_rows.count ∙ p.first_rows.count;
