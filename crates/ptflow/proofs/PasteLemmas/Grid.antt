@@ -41,7 +41,7 @@ module _ {k j : ℕ} (low : j < k) where
       let more = chosen (n + 1) b xs (omega arith) in
       ⊎_elim
       (λ less. grind arith)
-      (grind (arith, common_steps))
+      (grind arith)
       (cases_lt n j)
 
   -- A column is its first line, if there is one, and the rest.
@@ -136,7 +136,7 @@ pub for_each_cell_unique : {Y : Type 0} (f : ℕ → ℕ → Y) (cells : List �
     → ys ≡ for_each_cell f cells
 for_each_cell_unique f cells ys d long same =
     ext_get_or d ys (for_each_cell f cells) (cc (length-for_each_cell f cells))
-    (grind (arith, common_steps, get_or-for_each_cell))
+    (grind (arith, get_or-for_each_cell))
 
 pub for_each_cell_same : {Y : Type 0} (f g : ℕ → ℕ → Y) (cells : List ℕ) → ((c : ℕ) → c < length cells
     → f c (get_or cells c 0) ≡ g c (get_or cells c 0)) → for_each_cell f cells ≡ for_each_cell g cells
@@ -155,7 +155,7 @@ last_use (x ∷ cells) p some =
     (λ more.
     let (c, low, is, count) = last_use cells p more in
     (suc c, omega arith, is, grind (arith, common_steps)))
-    (grind (arith, common_steps))
+    (grind arith)
     (cases_lt 0 (uses_of cells p))
 
 module _ (cells : List ℕ) where
@@ -169,7 +169,7 @@ module _ (cells : List ℕ) where
   pub uses_before_lt : (c : ℕ) → c < length cells → uses_of (take c cells) (get_or cells c 0) < uses_of cells
       (get_or cells c 0)
   uses_before_lt c low =
-      grind (arith, nat_tests, uses_more c (get_or cells c 0) low, uses_before (c + 1) (get_or cells c 0))
+      grind (arith, uses_more c (get_or cells c 0) low, uses_before (c + 1) (get_or cells c 0))
 
   -- ---- one row of a grid
 
@@ -233,7 +233,7 @@ module _ (cells : List ℕ) where
   some_cell f zero high = inr (λ c low. absurd (omega arith))
   some_cell f (suc n) high = ⊎_elim
       (λ here. inl (n, omega arith, here))
-      (λ past. ⊎_elim inl (grind (arith, common_steps)) (some_cell f n (omega arith)))
+      (λ past. ⊎_elim inl (grind arith) (some_cell f n (omega arith)))
       (cases_lt (uses_of (take n cells) (get_or cells n 0)) (length (f (get_or cells n 0))))
 
   -- n rows take all lines of an input; more lines follow only if it has all the lines that n rows take.
@@ -243,7 +243,7 @@ module _ (cells : List ℕ) where
   rows-append zero ins more all =
       let none : (p : ℕ) → 0 < uses_of cells p → ins p ≡ [] = λ p some.
       nil_from_length (ins p) (grind arith) in
-      grind (arith, common_steps, columns_same, grid_none)
+      grind (arith, columns_same, grid_none)
   rows-append (suc n) ins more all = ⊎_elim
       (λ (c, low, some). let p = get_or cells c 0 in cc (
         grid_step (λ q. ins q ++ more q) c low (omega (arith, length-append (ins p) (more p))),
@@ -251,7 +251,7 @@ module _ (cells : List ℕ) where
         for_each_cell_same (top_of (λ q. ins q ++ more q)) (top_of ins) cells
             (λ d within. grind (arith, common_steps, uses_before_lt d within)),
         columns_same (after_row (λ q. ins q ++ more q)) (λ q. after_row ins q ++ more q)
-            (λ q used. grind (arith, common_steps, all q)),
+            (λ q used. grind (arith, common_steps)),
         rows-append n (after_row ins) more (grind (arith, common_steps)),
       ))
       -- If no column has a line, no input continues.

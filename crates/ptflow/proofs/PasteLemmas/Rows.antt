@@ -91,7 +91,6 @@ module _ (row : RowShape) where
   row_text c (x ∷ y ∷ more) all some = grind (
     arith,
     common_steps,
-    ne_eqb,
     row_text (c + 1) (y ∷ more) (omega arith)
         (omega arith),
   )
@@ -106,9 +105,7 @@ module _ {row : RowShape} where
       → rows (columns row.cells (λ input. ls input ++ more input)) ≡ taken_rows ++ rows (columns row.cells more)
   rows_on {ls = ls} {taken_rows} t more may = cc (
     rows-append row.cells (length taken_rows) ls more
-        (λ input some. grind (arith, may input some)),
-    t.are,
-  )
+        (λ input some. grind arith))
 
   abbrev pub rows_taken_none : {old : List Reader} → RowsTaken row old old []
   rows_taken_none = record {
@@ -226,7 +223,6 @@ slots_bound_line {cells} {top} {before} {store} k column bytes within fits = rec
     short : (c : ℕ) → c < length cells → length (get_or lines c []) ≤ top (get_or cells c 0)
     short c low = grind (
       arith,
-      k.short c low,
       get_or-set_same store.lines column bytes [],
       get_or-set_other store.lines column c bytes [],
     )
@@ -291,7 +287,7 @@ pub set_terminator_more : (end : ℕ) (cells : List ℕ) (i : ℕ) (old now : Li
     → get_or cells i 0 < length now → SetTerminatorsPost end (take i cells) old now
     → r ≡ record (reader_at now (get_or cells i 0)) { terminator = end } → IsSound r
     → SetTerminatorsPost end (take (i + 1) cells) old (set now (get_or cells i 0) r)
-set_terminator_more = grind (arith, common_steps, nat_tests, uses_more)
+set_terminator_more = grind (arith, common_steps)
 
 -- ---- the lines of a row
 
@@ -320,7 +316,7 @@ module _ {row : RowShape} {n : ℕ} {old now : List Reader} {fields : List (List
   taken_next : (q : ℕ) → LinesTaken row.terminator (reader_at now q) (reader_at (set now input r) q)
       (cond (input == q) 1 0) (more_lines q)
   taken_next = taken_from_one now (λ q. cond (input == q) 1 0) within (rw (eq-eqb input input refl) lines_taken)
-      (grind (arith, common_steps))
+      (grind arith)
 
   -- The line of a column before this one does not change.
   earlier_cell : (c : ℕ) → c < n → let p = get_or cells c 0 in let j = uses_of (take c cells) p in
@@ -337,7 +333,7 @@ module _ {row : RowShape} {n : ℕ} {old now : List Reader} {fields : List (List
   cells_taken_more = record {
     lines_taken = λ q. taken_more (uses_more cells n q low) (t.lines_taken q) (taken_next q);
     width = omega (arith, length-append fields (field ∷ []));
-    fields_taken = search (rules, cases_eq, get_or_push, update_here, get_or_append_left, earlier_cell);
+    fields_taken = search (rules, get_or_push, get_or_append_left, earlier_cell);
     count = length-set now input r ∙ t.count;
   }
 
@@ -386,7 +382,7 @@ module _ {row : RowShape} {n : ℕ} {old now : List Reader} {fields : List (List
     fill_next field true (t, fewer) =
         let lines_taken = rw x.is_read at t in
         let all : length (f.input_lines p) ≡ uses_of (take n row.cells) p =
-        grind (arith, none_at_eof lines_taken) in
+        grind arith in
         let here = update_here p (field ∷ []) (λ q. []) p refl in
         let less : sum_by budget (set now p r) < sum_by budget old = omega (arith, all_budgets) in
         rw or-true (record {
@@ -506,11 +502,7 @@ module _ {row : RowShape} where
 
 -- ---- the readers, after a line was read
 
-after_fill : (b r : Reader) (before after : Slots) (slot : ℕ) (has : Bool) → FillPost b r before after slot (Ok has)
-    → (r.fault ≡ None) × (r.terminator ≡ b.terminator)
-after_fill = grind arith
-
 pub readable_after : {row : RowShape} {now : List Reader} {n : ℕ} {b : Reader} → IsNextReader row now n b → (r : Reader)
     → BufferedRowsPre row now → (before after : Slots) (slot : ℕ) (has : Bool)
     → FillPost b r before after slot (Ok has) → BufferedRowsPre row (set now (get_or row.cells n 0) r)
-readable_after = search (rules, after_fill)
+readable_after = search rules
