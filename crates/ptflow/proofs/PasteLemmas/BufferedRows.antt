@@ -44,7 +44,7 @@ field_in_buffer end {b} {r} before after true clean sound p =
       (
         taken_by (advance_ok_take b r (p.at + 1) clean (omega arith) p.consumed) clean
             (sound_after_consume sound consumed) (record {
-          so_far = search (rules, take_with_terminator, append-nil, line_before_terminator);
+          so_far = search (rules, take_with_terminator, line_before_terminator);
         }) (inl refl) (λ none. cc),
         grind (arith, common_steps),
       ),
@@ -98,7 +98,7 @@ pub vector_stored : (at k n : ℕ) (was lanes : List ℕ) → length lanes ≡ n
 vector_stored at k n was lanes long room all =
     let mid = mid_of at k was in
     let size = length-take-le k (drop at was) (omega (arith, length-drop at was)) in
-    grind (arith, common_steps, length-take-le, take-append-add, take-append-le, take_more_put_chunk)
+    grind (arith, common_steps, take-append-add, take_more_put_chunk)
 
 -- ---- the columns of a row
 
@@ -157,7 +157,6 @@ ends_of_lines end [] are_lines = refl
 ends_of_lines end (line ∷ ls) (free, are_lines) = grind (
   arith,
   common_steps,
-  byte_eq,
   none_counted,
   ends_of_lines end
       ls are_lines,
@@ -174,13 +173,13 @@ pub whole_rows_counted : (end n count : ℕ) (bytes : List ℕ)
 whole_rows_counted end n count bytes last counted =
     let ((are_lines, text), only) = the_lines end bytes in
     let is : unlines end (lines end bytes) ≡ bytes =
-    grind (arith, text, ends_with end bytes) in
+    grind (arith, ends_with end bytes) in
     record {
       count = count;
       ls = lines end bytes;
       is = sym is;
       are_lines = lines_are end bytes;
-      long = search (rules, ends_of_lines, lines_are);
+      long = search (rules, ends_of_lines);
     }
 
 -- ---- the text of rows
@@ -232,12 +231,12 @@ module _ (cells : List ℕ) (input : ℕ) (same : (c : ℕ) → c < length cells
       let ins = lines_of_input input ls in
       let here = update_here input ls (λ q. []) in
       cc (
-        grid_step cells ins 0 some (grind (arith, common_steps)),
+        grid_step cells ins 0 some (grind arith),
         for_each_cell_unique (top_of cells ins) cells (take n ls) [] (length-take-le n ls long)
             (λ c low. rw (same c low) (rw (here input refl, uses_before_column c (omega arith))
             (get_or-take n ls c [] low))),
         columns_same cells (after_row cells ins) (lines_of_input input (drop n ls))
-            (λ q used. grind (arith, nat_tests, uses_all, uses_none q)),
+            (λ q used. grind (arith, uses_all)),
       )
 
 module _ {row : RowShape} {cycle : Cycle} (t : IsSharedCycle row cycle) where
@@ -329,4 +328,4 @@ module _ {row : RowShape} {cycle : Cycle} (t : IsSharedCycle row cycle) {old : L
 
 -- Nothing is in the buffer, or the columns share no reader.
 pub no_rows_written : {row : RowShape} {old : List Reader} {out : Output} → RowsWritten row old old out out
-no_rows_written = search (rules, rows_taken_none, push_nothing)
+no_rows_written = search (rules, rows_taken_none)
