@@ -164,7 +164,7 @@ module _ (job : Paste) (cells : List ℕ) (came : ℕ → Received) where
         is_row_unknown (grid earlier) ends r c (omega (arith, length-columns cells (known_of earlier)))
         (grind (arith, common_steps))
         (grind (arith, common_steps))
-        (grind (arith, common_steps, column_at))
+        (grind (arith, column_at))
 
     -- The line of a column in a row of the whole grid.
     abbrev cell : ℕ → ℕ → ℕ → List ℕ
@@ -202,7 +202,7 @@ module _ (job : Paste) (cells : List ℕ) (came : ℕ → Received) where
         -- The last column of the input has no line in the next row.
         let (c, low, is_here, count) = last_use cells here named in
         let next_unknown = unknown (length taken_rows) c low is_here
-        (grind (arith, common_steps, every_kth_short, uses_before_lt, taken_rows, known_of)) in
+        (grind (arith, every_kth_short, uses_before_lt)) in
         let (rest, is) = known_first (is_row_known (grid earlier) ends) (known_down (grid earlier) ends)
         (row_at (grid earlier)) taken_rows next_unknown (λ r known less.
         row_is cells (known_of earlier) r (cell r) (cell_same r known)
