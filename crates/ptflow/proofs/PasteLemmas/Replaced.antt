@@ -261,7 +261,7 @@ module _ {cycle : Cycle} {first index at : ℕ} {from to to' : List ℕ} (long :
         let test = byte_ne _ x other in
         let one = one_byte at from room in
         let number : index + ends_in cycle (take 1 (drop at from)) ≡ index =
-        grind (arith, common_steps) in
+        grind arith in
         replaced_more 1 (omega arith) (cc (mod-eq_of_lt less))
         (cc (take_more_set to at x (omega arith)))
 
@@ -297,7 +297,6 @@ module _ (end : ℕ) (delims : List (Option ℕ)) where
     arith,
     common_steps,
     row_next,
-    row_byte,
     row_rest_on (number + 1) bytes more some,
     row_rest_on number bytes more some,
   )
@@ -305,7 +304,7 @@ module _ (end : ℕ) (delims : List (Option ℕ)) where
   -- Only the index of the delimiter matters.
   row_rest_mod : (m n : ℕ) → m % length delims ≡ n % length delims → (bytes : List ℕ)
       → row_rest end delims m bytes ≡ row_rest end delims n bytes
-  row_rest_mod m n same bytes = grind (arith, common_steps, joined_mod)
+  row_rest_mod m n same bytes = grind (arith, joined_mod)
     where
       joined_mod : (m n : ℕ) → m % length delims ≡ n % length delims → (ls : List (List ℕ))
           → join_with_cycle delims m ls ≡ join_with_cycle delims n ls
@@ -337,14 +336,12 @@ copied_more {format} {index} {next} {xs = xs} {ys} {before} p q =
     grind (arith, common_steps) in
     record {
       is = cc (
-        p.is,
-        q.is,
         replaced-append end (delimiter delims) index xs ys,
         replaced_mod end (λ k. option_to_list (slice_index_or delims k None)) len next number same ys,
         append_assoc before (with_replacements end (delimiter delims) index xs)
             (with_replacements end (delimiter delims) number ys),
       );
-      later = grind (arith, common_steps, mod-add-mod);
+      later = grind (arith, mod-add-mod);
     }
 
 -- A line and its delimiter were copied.
@@ -357,7 +354,7 @@ line_copied {format} index {next} {at} rest before first next_is line_is text_is
     let head = take at rest in
     let free = line_before_terminator end rest at first in
     let one : count_by (is_byte end) (head ++ end ∷ []) ≡ 1 =
-    grind (arith, common_steps, sum_by-append, counted, none_counted) in
+    grind (arith, common_steps, counted, none_counted) in
     rw (take_with_terminator end rest at first) (grind (arith, common_steps, replaced_line, append-nil, append_assoc))
 
 -- A piece was copied, and at least one byte follows.
@@ -366,7 +363,7 @@ pub copied_on : {format : SerialFormat} {index : ℕ} {bytes before : List ℕ} 
     → before ++ row_rest format.terminator format.delims.now index (bytes ++ more)
     ≡ after ++ row_rest format.terminator format.delims.now next more
 copied_on more some p =
-    grind (arith, common_steps, mod-eq_of_lt, mod-lt, row_rest_on, row_rest_mod, append_assoc)
+    grind (arith, mod-eq_of_lt, mod-lt, row_rest_on, row_rest_mod, append_assoc)
 
 -- The output for the received bytes begins with their complete lines.
 pub serial_is_decided : (job : Paste) (format now : SerialFormat) → format.terminator ≡ job.terminator
@@ -379,7 +376,7 @@ serial_is_decided job format now ends are same given pushed cell on =
     let ls = complete_lines end given in
     let text = join_with_cycle delims 0 (lines end (given ++ [])) in
     let is : text ≡ pushed = append_cancel_right text pushed (end ∷ [])
-    (grind (arith, common_steps)) in
+    (grind arith) in
     let b = joined_begins end delims 0 ls (lines end ((line_split end given).piece ++ [])) in
     rw (← ends, ← are) (grind (arith, common_steps, complete_prefix, append-nil))
   where
