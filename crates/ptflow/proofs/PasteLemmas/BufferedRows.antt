@@ -3,24 +3,21 @@
 -- terminators of these lines are replaced by the cycle (the delimiters of the row, and a last entry that keeps the
 -- terminator), they become the row. So bytes with count * n terminators, the last at the end, become `count` rows.
 use Rattle.ptflow.proofs
-use proofs.Common.{eq-eqb, ne_eqb, option_to_list, slice_index_or, Bool, List, None, Some, [], ap, append_assoc, arith}
-use proofs.Passes.Exits.{lines_none}
-use proofs.Common.{drop, false, get_or, get_or-take, inl, inr, length, length-append, length-drop, map, refl, set, suc, sym}
+use proofs.Common.{eq-eqb, ne_eqb, option_to_list, slice_index_or, Bool, List, None, [], ap, append_assoc, arith}
+use proofs.Common.{drop, false, get_or, get_or-take, inl, inr, length, length-append, length-drop, map, refl, set, suc}
 use proofs.Common.{take, take-append-drop, true, zero, ℕ, ◌%◌, ◌*◌, ◌++◌, ◌+◌, ◌-◌, ◌<◌, ◌||◌, ◌∙◌, ◌∷◌, ◌≡◌, ◌≢◌, ◌≤◌}
 use proofs.Common.{mod-eq_of_lt, nat_tests, common_steps, append-nil, length-set, length-take-le, nil_from_length}
-use proofs.Common.{take-append-le, take-take, mod-mul-add, length-chunk, take_more_put_chunk, count_by, chunk}
-use proofs.Common.{put_chunk, IsFirstByte, is_byte, push_nothing, advance_ok_take, line_before_terminator}
-use proofs.Common.{take_with_terminator, lines_are, byte_eq, unlines-append, the_lines, Output, PushEffect, IsDone}
+use proofs.Common.{take-append-le, take-take, mod-mul-add, take_more_put_chunk, count_by}
+use proofs.Common.{put_chunk, is_byte, advance_ok_take, line_before_terminator}
+use proofs.Common.{take_with_terminator, lines_are, unlines-append, the_lines, Output, PushEffect, IsDone}
 use proofs.Common.{IsSound, Reader, reader_at, line, AreLines, EndsWithByte, lines, unlines, columns, join_with_cycle}
 use proofs.Common.{rows, uses_of, IsWholeRows, IsSharedCycle, cycle_byte, with_replacements, RowShape, BegunText}
-use proofs.Common.{after_cell, cells_text, LinesTaken, IsConsumed, BufferedRowsPre, AreConsumed, RowsTaken}
-use proofs.Common.{IsFieldCopied, CopyColumnsPost, CopyRowsPost, RowsWritten, take-append-add, rules}
-use Rattle.memchr.specs.Find.{IsFirst, Passes}
-use Rattle.ptlines.proofs.CopyFacts.{copied_prefix}
+use proofs.Common.{after_cell, cells_text, IsConsumed, BufferedRowsPre, AreConsumed}
+use proofs.Common.{IsFieldCopied, CopyColumnsPost, RowsWritten, take-append-add, rules, sym}
 use borrow.Rule.Slice.PartMut.{mid_of, put_mid}
-use Rattle.ptflow.specs.Private.Paste.BufferedRows.{LineCopied}
-use proofs.PasteLemmas.Rows.{cells_text-push, rows_taken_trans, row_taken, taken_by, rows_taken_none}
-use proofs.PasteLemmas.Rows.{row_text, IsNextReader, next_reader, fill_starts, fill_next, FieldTaken, taken_from_one}
+use proofs.PasteLemmas.Rows.{cells_text-push, taken_by, rows_taken_none}
+use proofs.PasteLemmas.Rows.{row_text, IsNextReader, next_reader, fill_next, FieldTaken, taken_from_one}
+use proofs.Passes.Exits.{lines_none}
 use proofs.Vectors.FindNth.{none_counted}
 use proofs.PasteLemmas.Grid.{Column, for_each_cell_unique, top_of, grid_step, grid_none, after_row, columns_same}
 use proofs.PasteLemmas.Grid.{uses_more, last_use, update_here, lines_of_input}
@@ -44,8 +41,8 @@ field_in_buffer end {b} {r} before after true clean sound p =
       (
         taken_by (advance_ok_take b r (p.at + 1) clean (omega arith) p.consumed) clean
             (sound_after_consume sound consumed) (record {
-          so_far = search (rules, take_with_terminator, line_before_terminator);
-        }) (inl refl) (λ none. cc),
+              so_far = search (rules, take_with_terminator, line_before_terminator);
+            }) (inl refl) (λ none. cc),
         grind (arith, common_steps),
       ),
       consumed,
@@ -54,8 +51,12 @@ field_in_buffer end {b} before after false clean sound p =
     let done : IsDone b = grind arith in (
       [],
       cc (append-nil before),
-      rw p.same (taken_by (advance_ok_take b b 0 clean (omega arith) refl) clean sound (lines_none end b)
-          (inr (done, omega arith)) (λ none. cc), refl, omega arith),
+      rw p.same (
+        taken_by (advance_ok_take b b 0 clean (omega arith) refl) clean sound (lines_none end b)
+            (inr (done, omega arith)) (λ none. cc),
+        refl,
+        omega arith,
+      ),
       rw p.same (record { size = 0; is = refl }),
     )
 
@@ -305,8 +306,8 @@ module _ {row : RowShape} {cycle : Cycle} (t : IsSharedCycle row cycle) {old : L
               uses_all row.cells shared same,
               ← x.is_read,
             ) (taken_by (advance_ok_take b r count x.clean within step) x.clean
-                (sound_after_consume sound (record { size = count; is = step }))
-                (record { so_far = inl (rs.is, rs.are_lines) }) (inl rs.long) (λ none. absurd (omega (
+            (sound_after_consume sound (record { size = count; is = step }))
+            (record { so_far = inl (rs.is, rs.are_lines) }) (inl rs.long) (λ none. absurd (omega (
               arith,
               length-take-le count b.buffered within,
               ap length rs.is,

@@ -5,25 +5,25 @@
 -- the next row, and perhaps a part of a line.
 use Rattle.ptflow.proofs
 use proofs.Common.{Bool, Err, List, Ok, Result, [], ap, append_assoc, arith, cond, drop, false, get_or, inl, inr}
-use proofs.Common.{length, length-append, max, refl, sym, take, true, ℕ, ⊎_elim, ◌*◌, ◌++◌, ◌+◌, ◌<◌, ◌==◌, ◌^◌, ◌∙◌}
-use proofs.Common.{◌∷◌, ◌≡◌, ◌≤◌, ◌⊎◌, cases_eq, ne_eqb, nat_tests, common_steps, append-nil, drop_at, take_all, top}
-use proofs.Common.{Paste, received_with, advance_trans, push_nothing, push_trans, bounded_lag_after, IsPrefix, Received}
+use proofs.Common.{length, length-append, refl, sym, take, true, ℕ, ⊎_elim, ◌*◌, ◌++◌, ◌+◌, ◌<◌, ◌==◌, ◌∙◌}
+use proofs.Common.{◌∷◌, ◌≡◌, ◌≤◌, ◌⊎◌, cases_eq, ne_eqb, nat_tests, append-nil, drop_at, take_all, top}
+use proofs.Common.{Paste, received_with, advance_trans, push_trans, bounded_lag_after, IsPrefix, Received}
 use proofs.Common.{known_lines, Output, PushEffect, HasReadCause, IsDone, Reader, ReaderAdvance, reader_at, Slots}
-use proofs.Common.{total_bytes, with_denied, with_line, AddedSlots, IsLine, lines, max_length, max_line_length, cut}
+use proofs.Common.{with_denied, with_line, AddedSlots, IsLine, lines, max_length, max_line_length, cut}
 use proofs.Common.{CallPost, CallOutcome, CallState, call_state, CallEnd, AreAllConsistent, inputs_at, is_in}
 use proofs.Common.{CallProgress, DecidedIfReadFailed, reads_nothing, call_ends, call_set, call_without_slots, PastePre}
 use proofs.Common.{PastePost, IsReadable, paste_end, paste_engine, update_at, columns, paste, paste_decided, rows}
 use proofs.Common.{rows_text, uses_of, SetTerminatorsPost, SlotsBound, RowFailed, RowFilled, ClearSlotsPost}
 use proofs.Common.{is_write_fault, RowShape, BegunText, job_shape, AreReceivedLines, LinesTaken, BufferedRowsPre}
-use proofs.Common.{AreConsumed, AreFirstRows, RowsTaken, CopyRowsPost, RowsWritten, FlowFault, Memory, Read, Write}
+use proofs.Common.{AreConsumed, RowsTaken, RowsWritten, FlowFault, Memory, Read, Write}
 use proofs.Common.{RowAmid, slots_text, cells_text}
-use proofs.PasteLemmas.Rows.{slots_bound_start, line_le_max_length, slots_bound_line, cells_total, sum_of_zeros}
+use proofs.PasteLemmas.Rows.{line_le_max_length, slots_bound_line, cells_total, sum_of_zeros}
 use proofs.PasteLemmas.Rows.{rows_on, rows_taken_none, rows_taken_trans, row_taken, taken_at_most, taken_more}
 use proofs.PasteLemmas.Rows.{nothing_taken, amid_text}
 use proofs.PasteLemmas.Grid.{Column, columns_same, last_use, uses_before_lt, uses_before, rows_text-append, is_in_used}
 use proofs.PasteLemmas.Grid.{not_in, used_is_in}
 use proofs.PasteLemmas.Lag.{EarlierPart, ended_more, lags_here, decided_is_prefix, complete_few}
-use proofs.PasteLemmas.Lag.{earlier_lines, begins_earlier, no_lines}
+use proofs.PasteLemmas.Lag.{earlier_lines, begins_earlier}
 use proofs.PasteLemmas.BufferedRows.{still_pulled}
 use proofs.Passes.Exits.{max_length-append, lines_on, lines_are_given, piece_longest, eof_gives_nothing}
 use Rattle.ptlines.specs.Calls.{InputNames, EngineSpec}
@@ -239,10 +239,13 @@ module _ {job : Paste} {cells : List ℕ} {old set now : List Reader} {was is : 
         let more = extra ++ ((reader_at new p).buffered ++ k.rest) in
         let is : (full p).bytes ≡ front p ++ more = k.is ∙ simp append_assoc in
         let same : rest p ≡ more = ap (drop (length (front p))) is ∙ drop_at (front p) more _ refl in
-        rw same (is, λ done.
-        let (none, empty, ended) = eof_gives_nothing _ (reader_at new p) extra done
-        (advance_trans _ _ _ _ _ (q.lines_taken p).reads (q.reads p)) in
-        ((λ i. none i ++ (empty i ++ k.whole ended i)), ends p ended)) in
+        rw same (
+          is,
+          λ done.
+              let (none, empty, ended) = eof_gives_nothing _ (reader_at new p) extra done
+              (advance_trans _ _ _ _ _ (q.lines_taken p).reads (q.reads p)) in
+              ((λ i. none i ++ (empty i ++ k.whole ended i)), ends p ended),
+        ) in
         let later : ℕ → Column = λ p. known_lines job.terminator (record { bytes = rest p; eof = (full p).eof }) in (
           rows (columns cells later),
           ap rows (columns_same cells (λ p. known_lines job.terminator (full p)) (λ p. all_rows.ls p ++ later p)
@@ -363,8 +366,12 @@ module _ {job : Paste} {cells : List ℕ} {old set now : List Reader} {was is : 
         front = given;
         last = more ++ (reader_at new p).buffered;
         split = simp (append_assoc, append-nil);
-        short = omega (arith, length-append more (reader_at new p).buffered, still_pulled consumed p,
-            now_buffered p some);
+        short = omega (
+          arith,
+          length-append more (reader_at new p).buffered,
+          still_pulled consumed p,
+          now_buffered p some,
+        );
         few = omega (
           arith,
           taken_at_most (so_far p),
@@ -553,7 +560,8 @@ module _ {job : Paste} {cells : List ℕ} {old set now : List Reader} {was is : 
           clean = clean;
           not_denied = cc ((kept_now _ bound_with_piece).denied);
         }) (λ p named failed. ⊎_elim decided_here
-        (λ (long, same). cc (failed_to same p, (all_taken no_more row_to p).failed, never_failed s.starts p named)) cause)
+        (λ (long, same). cc (failed_to same p, (all_taken no_more row_to p).failed, never_failed s.starts p named))
+        cause)
       where
         -- Nothing is buffered, so all that was given decided the rows that were pushed.
         decided_here : ((reader_at new here).failed ≡ true) × ((reader_at new here).buffered ≡ [])

@@ -5,12 +5,12 @@
 use Rattle.ptflow.proofs
 use proofs.Common.{slice_index_or, Bool, List, Option, [], ap, arith, cond, drop, false, get_or, inl, inr, length}
 use proofs.Common.{length-append, length-drop, map, max, refl, suc, sym, take, true, zero, ℕ, ⊎_elim, ◌%◌, ◌*◌, ◌++◌}
-use proofs.Common.{◌+◌, ◌-◌, ◌<◌, ◌==◌, ◌∙◌, ◌∷◌, ◌≡◌, ◌≢◌, ◌≤◌, ◌⊎◌, add-mod_left, mod-eq_of_lt, cases_lt, eq-eqb}
-use proofs.Common.{ne_eqb, nat_tests, get_or_after_one, append-nil, ext_get_or, get_or-map, nil_from_length}
+use proofs.Common.{◌+◌, ◌-◌, ◌<◌, ◌==◌, ◌∙◌, ◌∷◌, ◌≡◌, ◌≤◌, ◌⊎◌, add-mod_left, mod-eq_of_lt, cases_lt, eq-eqb}
+use proofs.Common.{get_or_after_one, append-nil, ext_get_or, get_or-map, nil_from_length}
 use proofs.Common.{get_or-enumerate_from, length-enumerate_from, sum_by-cons, sum_by-take-le, map-map, enumerate_from}
 use proofs.Common.{range_with_len, fold, the_lines_of_parts, lines, unlines, select_from, cut, IsRowSplit, PasteOfParts}
 use proofs.Common.{update_at, columns, every_kth, join_with_cycle, row_count, is_row_known, row_at, rows, uses_of}
-use proofs.Common.{common_steps, subst, Paste, IsConsistent, Received, is_in, paste_decided, leb}
+use proofs.Common.{common_steps, subst, Paste, Received, is_in, paste_decided, leb}
 use Rattle.std.proofs.lemmas.List.Sums.{sum_by_more}
 
 abbrev pub Column : Type 0

@@ -7,14 +7,14 @@
 use Rattle.ptflow.proofs
 use proofs.Common.{slice_index_or, Bool, Err, List, None, Ok, [], ap, arith, cond, drop, false, get_or, get_or-take}
 use proofs.Common.{inl, length, length-append, map, refl, set, suc, take, take-append-drop, true, zero, ℕ, ◌*◌, ◌++◌}
-use proofs.Common.{◌+◌, ◌<◌, ◌==◌, ◌||◌, ◌∙◌, ◌∷◌, ◌≡◌, ◌≢◌, ◌≤◌, ◌⊎◌, cases_eq, eq-eqb, ne_eqb, nat_tests}
+use proofs.Common.{◌+◌, ◌<◌, ◌==◌, ◌||◌, ◌∙◌, ◌∷◌, ◌≡◌, ◌≢◌, ◌≤◌, ◌⊎◌, eq-eqb}
 use proofs.Common.{common_steps, append-nil, drop-set-lt, ext_get_or, get_or-set_other, get_or-set_same}
 use proofs.Common.{get_or_append_left, get_or_default, get_or_push, length-set, length-take-le, take-take, take_all}
 use proofs.Common.{sum_by-append, sum_by-cons, sum_by, top, advance_trans, lines_of_unlines, unlines-append}
-use proofs.Common.{FillReadErr, FillPost, FillLine, AdvanceOk, IsDone, IsSound, Reader, ReaderAdvance, budget}
+use proofs.Common.{FillPost, AdvanceOk, IsDone, IsSound, Reader, ReaderAdvance, budget}
 use proofs.Common.{no_reader, reader_at, Slots, line, total_bytes, with_line, AddedSlots, AreLines, max_length, unlines}
 use proofs.Common.{columns, join_with_cycle, rows, uses_of, SetTerminatorsPost, FillCellPost, SlotsBound, SlotsKept}
-use proofs.Common.{RowAmid, RowFailed, RowFilled, RowShape, BegunText, CellsFilled, CellsTaken, after_cell, cells_text}
+use proofs.Common.{RowAmid, RowFilled, RowShape, BegunText, CellsFilled, CellsTaken, after_cell, cells_text}
 use proofs.Common.{slots_text, AreReceivedLines, LinesTaken, BufferedRowsPre, AreFirstRows, RowsTaken, CopyColumnsPost}
 use proofs.Common.{CopyRowsPost, FlowFault, Memory, Read, Write, rules}
 use proofs.Passes.Exits.{lines_none, lines_are_given, lines_more, eof_gives_nothing}
@@ -104,8 +104,8 @@ module _ {row : RowShape} where
       → ((input : ℕ) → 0 < uses_of row.cells input → IsDone (reader_at new input) → more input ≡ [])
       → rows (columns row.cells (λ input. ls input ++ more input)) ≡ taken_rows ++ rows (columns row.cells more)
   rows_on {ls = ls} {taken_rows} t more may = cc (
-    rows-append row.cells (length taken_rows) ls more
-        (λ input some. grind arith))
+      rows-append row.cells (length taken_rows) ls more
+      (λ input some. grind arith))
 
   abbrev pub rows_taken_none : {old : List Reader} → RowsTaken row old old []
   rows_taken_none = record {

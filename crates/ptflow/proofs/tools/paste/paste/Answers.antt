@@ -123,7 +123,8 @@ module _ (g : given.Over) (c : In_ok-filled g) where
       c.args.out.now c.fill_row.new.out c.args.store.now c.rows.store
   sent = invariant_rows (invariant_rows (invariant_written c.rows.invariant c.write_shared_rows.ensures.rows
       c.in_ok-write_shared_rows.ensures.clean) c.copy_rows-copied.ensures.rows.rows c.push.ensures.pushed.wrote
-      c.in_ok-push.ensures.pushed.clean) rows_taken_none c.in_ok-filled.ensures.wrote c.in_ok-filled.ensures.write_failed
+      c.in_ok-push.ensures.pushed.clean) rows_taken_none c.in_ok-filled.ensures.wrote
+      c.in_ok-filled.ensures.write_failed
 
 pub clear_slots-requires : goal.clear_slots-requires
 clear_slots-requires g c =
