@@ -3,17 +3,16 @@
 -- terminators of these lines are replaced by the cycle (the delimiters of the row, and a last entry that keeps the
 -- terminator), they become the row. So bytes with count * n terminators, the last at the end, become `count` rows.
 use Rattle.ptflow.proofs
-use proofs.Common.{eq-eqb, ne_eqb, option_to_list, slice_index_or, Bool, List, None, [], ap, append_assoc, arith}
-use proofs.Common.{drop, false, get_or, get_or-take, inl, inr, length, length-append, length-drop, map, refl, set, suc}
-use proofs.Common.{take, take-append-drop, true, zero, ℕ, ◌%◌, ◌*◌, ◌++◌, ◌+◌, ◌-◌, ◌<◌, ◌||◌, ◌∙◌, ◌∷◌, ◌≡◌, ◌≢◌, ◌≤◌}
+use proofs.Common.{eq-eqb, ne_eqb, option_to_list, slice_index_or, Bool, List, None, [], ap, append_assoc, arith, drop}
+use proofs.Common.{false, get_or, get_or-take, inl, inr, length, length-append, length-drop, map, refl, set, suc, take}
+use proofs.Common.{take-append-drop, true, zero, ℕ, ◌%◌, ◌*◌, ◌++◌, ◌+◌, ◌-◌, ◌<◌, ◌||◌, ◌∙◌, ◌∷◌, ◌≡◌, ◌≢◌, ◌≤◌}
 use proofs.Common.{mod-eq_of_lt, nat_tests, common_steps, append-nil, length-set, length-take-le, nil_from_length}
-use proofs.Common.{take-append-le, take-take, mod-mul-add, take_more_put_chunk, count_by}
-use proofs.Common.{put_chunk, is_byte, advance_ok_take, line_before_terminator}
-use proofs.Common.{take_with_terminator, lines_are, unlines-append, the_lines, Output, PushEffect, IsDone}
-use proofs.Common.{IsSound, Reader, reader_at, line, AreLines, EndsWithByte, lines, unlines, columns, join_with_cycle}
-use proofs.Common.{rows, uses_of, IsWholeRows, IsSharedCycle, cycle_byte, with_replacements, RowShape, BegunText}
-use proofs.Common.{after_cell, cells_text, IsConsumed, BufferedRowsPre, AreConsumed}
-use proofs.Common.{IsFieldCopied, CopyColumnsPost, RowsWritten, take-append-add, rules, sym}
+use proofs.Common.{take-append-le, take-take, mod-mul-add, take_more_put_chunk, count_by, put_chunk, is_byte}
+use proofs.Common.{advance_ok_take, line_before_terminator, take_with_terminator, lines_are, unlines-append, the_lines}
+use proofs.Common.{Output, PushEffect, IsDone, IsSound, Reader, reader_at, line, AreLines, EndsWithByte, lines, unlines}
+use proofs.Common.{columns, join_with_cycle, rows, uses_of, IsWholeRows, IsSharedCycle, cycle_byte, with_replacements}
+use proofs.Common.{RowShape, BegunText, after_cell, cells_text, IsConsumed, BufferedRowsPre, AreConsumed, IsFieldCopied}
+use proofs.Common.{CopyColumnsPost, RowsWritten, take-append-add, rules, sym}
 use borrow.Rule.Slice.PartMut.{mid_of, put_mid}
 use proofs.PasteLemmas.Rows.{cells_text-push, taken_by, rows_taken_none}
 use proofs.PasteLemmas.Rows.{row_text, IsNextReader, next_reader, fill_next, FieldTaken, taken_from_one}

@@ -5,21 +5,19 @@
 -- the next row, and perhaps a part of a line.
 use Rattle.ptflow.proofs
 use proofs.Common.{Bool, Err, List, Ok, Result, [], ap, append_assoc, arith, cond, drop, false, get_or, inl, inr}
-use proofs.Common.{length, length-append, refl, sym, take, true, ℕ, ⊎_elim, ◌*◌, ◌++◌, ◌+◌, ◌<◌, ◌==◌, ◌∙◌}
-use proofs.Common.{◌∷◌, ◌≡◌, ◌≤◌, ◌⊎◌, cases_eq, ne_eqb, nat_tests, append-nil, drop_at, take_all, top}
-use proofs.Common.{Paste, received_with, advance_trans, push_trans, bounded_lag_after, IsPrefix, Received}
-use proofs.Common.{known_lines, Output, PushEffect, HasReadCause, IsDone, Reader, ReaderAdvance, reader_at, Slots}
-use proofs.Common.{with_denied, with_line, AddedSlots, IsLine, lines, max_length, max_line_length, cut}
-use proofs.Common.{CallPost, CallOutcome, CallState, call_state, CallEnd, AreAllConsistent, inputs_at, is_in}
-use proofs.Common.{CallProgress, DecidedIfReadFailed, reads_nothing, call_ends, call_set, call_without_slots, PastePre}
-use proofs.Common.{PastePost, IsReadable, paste_end, paste_engine, update_at, columns, paste, paste_decided, rows}
-use proofs.Common.{rows_text, uses_of, SetTerminatorsPost, SlotsBound, RowFailed, RowFilled, ClearSlotsPost}
-use proofs.Common.{is_write_fault, RowShape, BegunText, job_shape, AreReceivedLines, LinesTaken, BufferedRowsPre}
-use proofs.Common.{AreConsumed, RowsTaken, RowsWritten, FlowFault, Memory, Read, Write}
-use proofs.Common.{RowAmid, slots_text, cells_text}
-use proofs.PasteLemmas.Rows.{line_le_max_length, slots_bound_line, cells_total, sum_of_zeros}
-use proofs.PasteLemmas.Rows.{rows_on, rows_taken_none, rows_taken_trans, row_taken, taken_at_most, taken_more}
-use proofs.PasteLemmas.Rows.{nothing_taken, amid_text}
+use proofs.Common.{length, length-append, refl, sym, take, true, ℕ, ⊎_elim, ◌*◌, ◌++◌, ◌+◌, ◌<◌, ◌==◌, ◌∙◌, ◌∷◌, ◌≡◌}
+use proofs.Common.{◌≤◌, ◌⊎◌, cases_eq, ne_eqb, nat_tests, append-nil, drop_at, take_all, top, Paste, received_with}
+use proofs.Common.{advance_trans, push_trans, bounded_lag_after, IsPrefix, Received, known_lines, Output, PushEffect}
+use proofs.Common.{HasReadCause, IsDone, Reader, ReaderAdvance, reader_at, Slots, with_denied, with_line, AddedSlots}
+use proofs.Common.{IsLine, lines, max_length, max_line_length, cut, CallPost, CallOutcome, CallState, call_state}
+use proofs.Common.{CallEnd, AreAllConsistent, inputs_at, is_in, CallProgress, DecidedIfReadFailed, reads_nothing}
+use proofs.Common.{call_ends, call_set, call_without_slots, PastePre, PastePost, IsReadable, paste_end, paste_engine}
+use proofs.Common.{update_at, columns, paste, paste_decided, rows, rows_text, uses_of, SetTerminatorsPost, SlotsBound}
+use proofs.Common.{RowFailed, RowFilled, ClearSlotsPost, is_write_fault, RowShape, BegunText, job_shape}
+use proofs.Common.{AreReceivedLines, LinesTaken, BufferedRowsPre, AreConsumed, RowsTaken, RowsWritten, FlowFault}
+use proofs.Common.{Memory, Read, Write, RowAmid, slots_text, cells_text}
+use proofs.PasteLemmas.Rows.{line_le_max_length, slots_bound_line, cells_total, sum_of_zeros, rows_on, rows_taken_none}
+use proofs.PasteLemmas.Rows.{rows_taken_trans, row_taken, taken_at_most, taken_more, nothing_taken, amid_text}
 use proofs.PasteLemmas.Grid.{Column, columns_same, last_use, uses_before_lt, uses_before, rows_text-append, is_in_used}
 use proofs.PasteLemmas.Grid.{not_in, used_is_in}
 use proofs.PasteLemmas.Lag.{EarlierPart, ended_more, lags_here, decided_is_prefix, complete_few}

@@ -7,9 +7,8 @@ use proofs.Common.{◌<◌, ◌∙◌, ◌∷◌, ◌≡◌, ◌≢◌, ◌≤�
 use proofs.Common.{get_or-map, get_or_append_left, get_or-range_with_len, length-map-range_with_len}
 use proofs.Common.{length-range_with_len, Paste, line, range_with_len, received_with, complete_lines_cons}
 use proofs.Common.{complete_lines_of_unlines, Reader, IsPrefix, Received, known_lines, ProcessLag, ReaderAdvance}
-use proofs.Common.{AreLines, IsLine, complete_lines, lines, unlines, update_at, columns, every_kth}
-use proofs.Common.{row_count, is_row_known, row_at, paste_decided, rows, rows_text, uses_of, AreReceivedLines}
-use proofs.Common.{nil_from_length}
+use proofs.Common.{AreLines, IsLine, complete_lines, lines, unlines, update_at, columns, every_kth, row_count}
+use proofs.Common.{is_row_known, row_at, paste_decided, rows, rows_text, uses_of, AreReceivedLines, nil_from_length}
 use proofs.CutLemmas.CutBytes.{select_append}
 use proofs.PasteLemmas.Grid.{Column, column_of, uses_before_lt, column_at, length-columns, every_kth_short}
 use proofs.PasteLemmas.Grid.{is_row_unknown, update_here, last_use, row_is}

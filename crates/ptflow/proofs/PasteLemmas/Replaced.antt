@@ -4,13 +4,12 @@ use Rattle.ptflow.proofs
 use proofs.Common.{slice_index_or, ◌≡◌, ◌≢◌, ℕ, zero, suc, ◌+◌, ◌-◌, ◌%◌, ◌^◌, ◌==◌, ◌<◌, ◌≤◌, Bool, cond, List, []}
 use proofs.Common.{◌∷◌, ◌++◌, length, map, take, drop, get_or, slice_set, refl, sym, ◌∙◌, ap, arith, bit_and, count_by}
 use proofs.Common.{count_ones, mask_l, chunk, mod-add-mod, mod-eq_of_lt, take-add, take_at, take-append-drop}
-use proofs.Common.{take-set-lt, eq-eqb, set-append_right, drop_more, take_more_set, length-set, common_steps}
-use proofs.Common.{is_byte, byte_eq, byte_ne, IsLine, IsNth, length-take-le, length-chunk}
-use proofs.Common.{length-put_chunk, take_more_put_chunk, put_chunk, ones-mask_l, with_replacements, cycle_byte}
-use proofs.Common.{IsReplacedTo, true, false, Option, append_assoc, onto_first, append-nil, append_cancel_right, lines}
-use proofs.Common.{complete_lines, IsPrefix, Paste, delimiter, join_with_cycle, paste_serial_decided, row_rest}
-use proofs.Common.{option_to_list, None, Some, IsFirstByte, line_before_terminator, mod-lt, serial_rest}
-use proofs.Common.{take_with_terminator}
+use proofs.Common.{take-set-lt, eq-eqb, set-append_right, drop_more, take_more_set, length-set, common_steps, is_byte}
+use proofs.Common.{byte_eq, byte_ne, IsLine, IsNth, length-take-le, length-chunk, length-put_chunk, take_more_put_chunk}
+use proofs.Common.{put_chunk, ones-mask_l, with_replacements, cycle_byte, IsReplacedTo, true, false, Option}
+use proofs.Common.{append_assoc, onto_first, append-nil, append_cancel_right, lines, complete_lines, IsPrefix, Paste}
+use proofs.Common.{delimiter, join_with_cycle, paste_serial_decided, row_rest, option_to_list, None, Some, IsFirstByte}
+use proofs.Common.{line_before_terminator, mod-lt, serial_rest, take_with_terminator}
 use lib.Count.{count_trailing_zeros}
 use proofs.Vectors.FindNth.{after_set, cleared, without, none_counted}
 use Rattle.ptflow.specs.declared.simd.replace.Cycle.{Cycle}

@@ -7,16 +7,15 @@
 use Rattle.ptflow.proofs
 use proofs.Common.{slice_index_or, Bool, Err, List, None, Ok, [], ap, arith, cond, drop, false, get_or, get_or-take}
 use proofs.Common.{inl, length, length-append, map, refl, set, suc, take, take-append-drop, true, zero, ℕ, ◌*◌, ◌++◌}
-use proofs.Common.{◌+◌, ◌<◌, ◌==◌, ◌||◌, ◌∙◌, ◌∷◌, ◌≡◌, ◌≢◌, ◌≤◌, ◌⊎◌, eq-eqb}
-use proofs.Common.{common_steps, append-nil, drop-set-lt, ext_get_or, get_or-set_other, get_or-set_same}
-use proofs.Common.{get_or_append_left, get_or_default, get_or_push, length-set, length-take-le, take-take, take_all}
-use proofs.Common.{sum_by-append, sum_by-cons, sum_by, top, advance_trans, lines_of_unlines, unlines-append}
-use proofs.Common.{FillPost, AdvanceOk, IsDone, IsSound, Reader, ReaderAdvance, budget}
-use proofs.Common.{no_reader, reader_at, Slots, line, total_bytes, with_line, AddedSlots, AreLines, max_length, unlines}
-use proofs.Common.{columns, join_with_cycle, rows, uses_of, SetTerminatorsPost, FillCellPost, SlotsBound, SlotsKept}
-use proofs.Common.{RowAmid, RowFilled, RowShape, BegunText, CellsFilled, CellsTaken, after_cell, cells_text}
-use proofs.Common.{slots_text, AreReceivedLines, LinesTaken, BufferedRowsPre, AreFirstRows, RowsTaken, CopyColumnsPost}
-use proofs.Common.{CopyRowsPost, FlowFault, Memory, Read, Write, rules}
+use proofs.Common.{◌+◌, ◌<◌, ◌==◌, ◌||◌, ◌∙◌, ◌∷◌, ◌≡◌, ◌≢◌, ◌≤◌, ◌⊎◌, eq-eqb, common_steps, append-nil, drop-set-lt}
+use proofs.Common.{ext_get_or, get_or-set_other, get_or-set_same, get_or_append_left, get_or_default, get_or_push}
+use proofs.Common.{length-set, length-take-le, take-take, take_all, sum_by-append, sum_by-cons, sum_by, top}
+use proofs.Common.{advance_trans, lines_of_unlines, unlines-append, FillPost, AdvanceOk, IsDone, IsSound, Reader}
+use proofs.Common.{ReaderAdvance, budget, no_reader, reader_at, Slots, line, total_bytes, with_line, AddedSlots}
+use proofs.Common.{AreLines, max_length, unlines, columns, join_with_cycle, rows, uses_of, SetTerminatorsPost}
+use proofs.Common.{FillCellPost, SlotsBound, SlotsKept, RowAmid, RowFilled, RowShape, BegunText, CellsFilled}
+use proofs.Common.{CellsTaken, after_cell, cells_text, slots_text, AreReceivedLines, LinesTaken, BufferedRowsPre}
+use proofs.Common.{AreFirstRows, RowsTaken, CopyColumnsPost, CopyRowsPost, FlowFault, Memory, Read, Write, rules}
 use proofs.Passes.Exits.{lines_none, lines_are_given, lines_more, eof_gives_nothing}
 use proofs.PasteLemmas.Grid.{Column, for_each_cell_unique, grid_step, grid_none, after_row, rows-append, uses_before_lt}
 use proofs.PasteLemmas.Grid.{lines_of_input, uses_more, update_here, top_of}

@@ -5,9 +5,8 @@ use proofs.Common.{sym, ap, subst, arith, length, paste_job, job_shape, RowShape
 use proofs.Common.{length-take-le, call_on_failed_output, push_nothing, refl, [], ◌∙◌}
 use Rattle.std.proofs.lemmas.Bool.{not-false, not-true}
 use proofs.PasteLemmas.Call.{by_fault, of_rows, row_job, paste_without_slots, rows_write_failed, paste_done}
-use proofs.PasteLemmas.Call.{paste_fill_failed, paste_row_write_failed, HasStarted}
-use proofs.PasteLemmas.Call.{invariant_rows, invariant_written, row_slots}
-use proofs.PasteLemmas.Call.{invariant_slots, invariant_more, now_readable, RowsInvariant}
+use proofs.PasteLemmas.Call.{paste_fill_failed, paste_row_write_failed, HasStarted, invariant_rows, invariant_written}
+use proofs.PasteLemmas.Call.{row_slots, invariant_slots, invariant_more, now_readable, RowsInvariant}
 use proofs.PasteLemmas.BufferedRows.{still_readable}
 use proofs.PasteLemmas.Rows.{amid_starts, nothing_taken, rows_taken_none, slots_bound_start}
 use Rattle.ptflow.proofs.tools.paste.paste.Goals.{After-ensure_slots, After-fill_row, In_ok-filled}
