@@ -32,7 +32,6 @@ complete_few k reads free = grind (
   arith,
   common_steps,
   complete_lines_of_unlines,
-  eof_gives_nothing,
   append-nil,
   complete_prefix,
   length-append,
@@ -96,7 +95,7 @@ whole_lines_prefix end false bytes front last is =
     let split = line_split end front in
     let ls = complete_lines end front in (
       complete_lines end (split.piece ++ last),
-      grind (arith, common_steps, append_assoc, ended_more),
+      grind (arith, append_assoc, ended_more),
     )
 
 -- ---- the rows that are determined come first
@@ -177,7 +176,7 @@ module _ (job : Paste) (cells : List ℕ) (came : ℕ → Received) where
         cut.split in
         let is_front = update_here here front came (get_or cells c 0) is in
         grind (arith, unknown r c low is, every_kth_more))
-        (λ other. grind (arith, common_steps))
+        (λ other. grind arith)
         (cases_eq (get_or cells c 0) here)
 
     taken_at : (r : ℕ) → r < length taken_rows → row_at (grid came) r ≡ get_or taken_rows r []
@@ -201,7 +200,7 @@ module _ (job : Paste) (cells : List ℕ) (came : ℕ → Received) where
         -- The last column of the input has no line in the next row.
         let (c, low, is_here, count) = last_use cells here named in
         let next_unknown = unknown (length taken_rows) c low is_here
-        (grind (arith, every_kth_short, uses_before_lt)) in
+        (grind (arith, every_kth_short)) in
         let (rest, is) = known_first (is_row_known (grid earlier) ends) (known_down (grid earlier) ends)
         (row_at (grid earlier)) taken_rows next_unknown (λ r known less.
         row_is cells (known_of earlier) r (cell r) (cell_same r known)
