@@ -141,7 +141,7 @@ module _ {row : RowShape} where
           is =
               let text = cells_text row begun.count s.fields in
               let end = after_cell row now.count in
-              grind (arith, common_steps, cells_text-push, append_assoc);
+              grind (arith, cells_text-push, append_assoc);
           consumed = grind (arith, common_steps);
           width = omega (arith, length-append s.fields (field ∷ []));
           filled = λ from front given.
@@ -204,7 +204,7 @@ module _ {row : RowShape} {cycle : Cycle} (t : IsSharedCycle row cycle) where
       let byte = ap (λ m. get_or cycle.unrolled m 0 ∷ []) index ∙ t.bytes c low in
       let number : k * n + c + 1 ≡ k * n + (c + 1) = omega arith in
       let more = ap (λ m. all_replaced m rest) number ∙ row_replaced k (c + 1) ls are_lines (omega arith) in
-      grind (arith, common_steps, append_assoc, replaced_line)
+      grind (arith, append_assoc, replaced_line)
 
 -- ---- the grid of one input
 

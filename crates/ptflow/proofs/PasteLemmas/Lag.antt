@@ -10,9 +10,9 @@ use proofs.Common.{complete_lines_of_unlines, Reader, IsPrefix, Received, known_
 use proofs.Common.{AreLines, IsLine, complete_lines, lines, unlines, update_at, columns, every_kth, row_count}
 use proofs.Common.{is_row_known, row_at, paste_decided, rows, rows_text, uses_of, AreReceivedLines, nil_from_length}
 use proofs.CutLemmas.CutBytes.{select_append}
-use proofs.PasteLemmas.Grid.{Column, column_of, uses_before_lt, column_at, length-columns, every_kth_short}
+use proofs.PasteLemmas.Grid.{Column, column_of, column_at, length-columns, every_kth_short}
 use proofs.PasteLemmas.Grid.{is_row_unknown, update_here, last_use, row_is}
-use proofs.Passes.Exits.{complete_prefix, line_split, eof_gives_nothing}
+use proofs.Passes.Exits.{complete_prefix, line_split}
 
 -- ---- one input without its last bytes
 
