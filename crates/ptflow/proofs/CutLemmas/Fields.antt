@@ -69,7 +69,7 @@ module _ (d : ℕ) where
 
       -- after the line no field is left
       pub none_left : length line < at → drop n (fields d line) ≡ []
-      none_left past = none (drop n (fields d line)) (sym o.back ∙ drop_all at (d ∷ line) (omega arith))
+      none_left past = grind (arith, none, drop_all)
         where
           none : (fs : List (List ℕ)) → prefixed_fields d fs ≡ [] → fs ≡ []
           none [] is = refl
@@ -92,8 +92,7 @@ slice_of from size {to} bytes le = grind (arith, common_steps, rest_of, take-tak
 module _ (cursor : FieldCursor) (none : cursor.passed ≡ 0) where
   pub cursor_starts : (d : ℕ) (line : List ℕ) → cursor.at ≡ 0 → AreSeparated 0 cursor.left.now
       → IsFieldCursor d line cursor
-  cursor_starts d line start apart =
-      record { offset = rw (none, start) (offset_start d line); apart = rw none apart }
+  cursor_starts d line start apart = grind (arith, offset_start)
 
   -- all selected fields of a line are left, by the list of a job
   pub selected_remaining : (job : Cut) {d : ℕ} (line : List ℕ) → d ≡ job.delimiter
@@ -111,8 +110,7 @@ module _ (d : ℕ) (line : List ℕ) (cursor : FieldCursor) where
 
   -- no interval is left
   pub no_interval : length all ≡ 0 → output_from_cursor d line cursor ≡ []
-  no_interval none = none_selected
-      (select_none (is_selected all) _ _ (λ k low high. ap (λ rs. is_selected rs k) (nil_from_length all none)))
+  no_interval none = grind (arith, none_selected, select_none, nil_from_length)
 
   -- the line ends before the cursor
   pub no_field : IsFieldCursor d line cursor → length line < cursor.at → output_from_cursor d line cursor ≡ []
@@ -137,7 +135,7 @@ module _ (d : ℕ) (line : List ℕ) (cursor : FieldCursor) where
     size = r.last - r.first + 1
 
     these : all ≡ r ∷ rs
-    these = drop_more all 0 (record { first = 0; last = 0 }) within
+    these = grind (arith, drop_more)
 
     apart : AreSeparated (cursor.passed + min cursor.passed 1) (r ∷ rs)
     apart = rw these at w.apart
@@ -176,13 +174,13 @@ module _ (d : ℕ) (line : List ℕ) (cursor : FieldCursor) where
 
         -- the start of the interval, with or without the delimiter before it
         sep_drop : drop (from - min cursor.passed 1) line ≡ drop (1 - min cursor.passed 1) (d ∷ rest)
-        sep_drop = by_sep (min cursor.passed 1) from (omega arith) sep_fits (rest_at d line starts begun)
+        sep_drop = grind (arith, by_sep, sep_fits, rest_at, starts)
           where
             by_sep : (sep n : ℕ) → sep ≤ 1 → sep ≤ n → drop n (d ∷ line) ≡ d ∷ drop n line
                 → drop (n - sep) line ≡ drop (1 - sep) (d ∷ drop n line)
-            by_sep zero n one fits split = let same : n - 0 ≡ n = omega arith in rw same refl
+            by_sep zero n one fits split = grind arith
             by_sep (suc zero) zero one fits split = absurd (omega arith)
-            by_sep (suc zero) (suc n) one fits split = let same : suc n - 1 ≡ n = omega arith in cc
+            by_sep (suc zero) (suc n) one fits split = grind arith
             by_sep (suc (suc sep)) n one fits split = absurd (omega arith)
 
         module _ {at : ℕ} (later : from ≤ at) (p : IsFieldOffset d size rest (at - from)) where
@@ -218,20 +216,17 @@ module _ (d : ℕ) (line : List ℕ) (cursor : FieldCursor) where
               ≡ take ((at - 1) - (from - min cursor.passed 1)) (drop (from - min cursor.passed 1) line)
               ++ prefixed_fields d (select_from (is_selected rs) (r.last + 1) (drop r.last (fields d line)))
           output =
-              let sep = min cursor.passed 1 in
-              let slice = take (at - from) (d ∷ rest) in
-              let others = select_from (is_selected rs) (r.last + 1) (drop r.last (fields d line)) in
-              let long : length slice ≡ at - from = length-take-le (at - from) (d ∷ rest) (omega (arith, p.fits)) in
-              let size_is : at - from - (1 - sep) ≡ at - 1 - (from - sep) = omega (arith, some, sep_fits) in
-              cc (
+              grind (
+                arith,
+                length-take-le,
+                some,
+                sep_fits,
                 these,
                 selected,
-                prefixed_fields-append d (take size (fields d rest)) others,
-                p.front,
-                drop-append-le (1 - sep) slice (prefixed_fields d others) (omega (arith, long, some)),
-                rest_of (1 - sep) (at - from) (d ∷ rest),
+                prefixed_fields-append,
+                drop-append-le,
+                rest_of,
                 sep_drop,
-                size_is,
               )
 
           one : min r.last 1 ≡ 1

@@ -17,6 +17,7 @@ use proofs.Common.{complete_lines_of_unlines, AreReceivedLines, cond, ap, Some, 
 use proofs.Common.{onto_first_if_any, complete_lines_none, complete_lines_cons, take_at, IsFirstByte, is_byte}
 use proofs.Common.{line_before_terminator, drop_at_terminator}
 use Rattle.std.specs.Prelude.{IsErrAnd}
+use Rattle.std.proofs.lemmas.Bool.{cases_Bool}
 use Rattle.ptlines.specs.Outputs.{PushPost}
 use Rattle.ptflow.specs.Private.Passes.BlockLoop.{IsBlockFilter}
 use Rattle.ptflow.specs.Private.Passes.StepOutput.{OutputPart}
@@ -148,7 +149,7 @@ module _ {X : Type 0} {rest_from : X → List ℕ → List ℕ} {start now : X} 
   received = received_with (midway.given ++ piece) new
 
   advanced : ReaderAdvance old new (midway.given ++ piece)
-  advanced = advance_trans _ _ _ _ _ midway.reached.advance_ok.reads p.reads
+  advanced = search (rules, advance_trans)
 
   never_failed : old.failed ≡ false
   never_failed = grind (arith, common_steps)
@@ -187,7 +188,7 @@ module _ {X : Type 0} {rest_from : X → List ℕ → List ℕ} {start now : X} 
         (λ u. midway.given ++ piece) (midway.pushed ++ bytes) (pass_end result)
         → ((index : ℕ) → result ≡ Err (Read index) → index ≡ 0) → PassPost tool old new was is' before store result
     pass result ends decided only = record {
-      call = call_ends only_input (pass_engine tool) _ _ _ progress (pass_end result) ends decided;
+      call = search (rules, call_ends, progress);
       only = only;
       keeps_store = p.keeps_store;
       stays_done = λ done. stays_at_eof _ _ _ done advanced;
@@ -248,12 +249,10 @@ module _ {X : Type 0} {rest_from : X → List ℕ → List ℕ} {start now : X} 
 
 -- one push after another, even after a fault
 pub wrote_then : (a b c : Output) {xs ys : List ℕ} → PushEffect a b xs → PushEffect b c ys → PushEffect a c (xs ++ ys)
-wrote_then a b c {xs} {ys} p q = by_fault b.write_failed refl
-  where
-    by_fault : (fault : Bool) → b.write_failed ≡ fault → PushEffect a c (xs ++ ys)
-    by_fault false clean = push_trans a b c xs ys clean p q
-    by_fault true fault =
-        subst (λ o. PushEffect a o (xs ++ ys)) (sym (q.stays fault)) (push_past_failure a b xs ys fault p)
+wrote_then a b c {xs} {ys} p q = elim (cases_Bool b.write_failed) [
+  | inl fault ↦ rw (q.stays fault) (push_past_failure a b xs ys fault p)
+  | inr clean ↦ push_trans a b c xs ys clean p q
+]
 
 pub push_then : {E : Type 0} {a b c : Output} {xs ys : List ℕ} {r : Result (Unit {0}) E} → PushEffect a b xs
     → PushPost b c ys r → PushPost a c (xs ++ ys) r
@@ -300,12 +299,11 @@ returned_err r (_, is_err) = err_from_is_err_and r is_err
 -- output yet is in the reader's buffer.
 
 -- a counter is at most the number of bytes that were processed
-module _ {reader shown : Reader} {block : List ℕ} (advance_ok : AdvanceOk reader shown [])
-    (buffered : shown.buffered ≡ block) (sound : IsSound reader) {counted : ℕ}
-    (few : counted ≤ reader.pulled - length reader.buffered) where
-  pub counted_more : {new : Reader} {more : ℕ} → new ≡ record shown { buffered = drop (length block) shown.buffered }
-      → more ≤ counted + length block → more ≤ new.pulled - length new.buffered
-  counted_more consumed least = grind (arith, common_steps)
+pub counted_more : {reader shown new : Reader} {block : List ℕ} {counted more : ℕ} → AdvanceOk reader shown []
+    → shown.buffered ≡ block → IsSound reader → counted ≤ reader.pulled - length reader.buffered
+    → new ≡ record shown { buffered = drop (length block) shown.buffered } → more ≤ counted + length block
+    → more ≤ new.pulled - length new.buffered
+counted_more = grind (arith, common_steps)
 
 -- The state between two blocks. The configuration of the tool is unchanged.
 pub record BlockLoopState {X : Type 0} (rest_from : X → List ℕ → List ℕ) (IsUnchanged : X → X → Type 0) (start now : X)

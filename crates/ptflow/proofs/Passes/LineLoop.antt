@@ -20,6 +20,7 @@ use proofs.Passes.Exits.{PassEnding, nothing_more, pass_unslotted, pass_read, pa
 use proofs.Passes.Exits.{pass_unended}
 use Rattle.ptflow.specs.Private.Passes.LineLoop.{RunLinesPre}
 use Rattle.std.proofs.lemmas.List.Edits.{swap_is}
+use Rattle.std.proofs.lemmas.List.Sums.{sum_by-drop_more, sum_by-take-drop}
 
 -- ---- the slots
 
@@ -31,33 +32,25 @@ pub record SlotBounds (width most : ℕ) (before store : Slots) : Type 0 where
   pub others : total_bytes (drop width store.lines) ≡ 0
   pub peak : store.peak ≤ max before.peak (width * most)
 
-total_split : (width : ℕ) (ls : List (List ℕ))
-    → total_bytes ls ≡ total_bytes (take width ls) + total_bytes (drop width ls)
-total_split width ls = cc (take-append-drop width ls, sum_by-append length (take width ls) (drop width ls))
-
-prefix_total : (width most : ℕ) (ls : List (List ℕ)) → ((k : ℕ) → k < width → length (get_or ls k []) ≤ most)
-    → total_bytes (take width ls) ≤ width * most
-prefix_total zero most ls short = omega arith
-prefix_total (suc width) most [] short = omega arith
-prefix_total (suc width) most (l ∷ ls) short =
+-- the total of slots with bounded lines is bounded
+pub bounded_total : (width most : ℕ) (ls : List (List ℕ)) → ((k : ℕ) → k < width → length (get_or ls k []) ≤ most)
+    → total_bytes (drop width ls) ≡ 0 → total_bytes ls ≤ width * most
+bounded_total zero most ls short others = omega (arith, others)
+bounded_total (suc width) most [] short others = omega arith
+bounded_total (suc width) most (l ∷ ls) short others =
     let more : suc width * most ≡ most + width * most = omega arith in
     rw more
     (omega (
       arith,
-      sum_by-cons length l (take width ls),
+      sum_by-cons length l ls,
       short 0 (omega arith),
-      prefix_total width most ls (λ k low. short (suc k) (omega arith)),
+      bounded_total width most ls (λ k low. short (suc k) (omega arith)) others,
     ))
-
--- the total of slots with bounded lines is bounded
-pub bounded_total : (width most : ℕ) (ls : List (List ℕ)) → ((k : ℕ) → k < width → length (get_or ls k []) ≤ most)
-    → total_bytes (drop width ls) ≡ 0 → total_bytes ls ≤ width * most
-bounded_total width most ls short others = omega (arith, total_split width ls, prefix_total width most ls short, others)
 
 pub bounds_start : {width : ℕ} {before store : Slots} → AddedSlots before store width → store.denied ≡ false
     → total_bytes store.lines ≡ 0 → store.peak ≡ before.peak → SlotBounds width 0 before store
 bounds_start {width} {store} adds denied empty peak =
-    grind (arith, common_steps, get_or-le-sum_by, total_split width store.lines)
+    grind (arith, common_steps, get_or-le-sum_by, sum_by-take-drop length store.lines width)
 
 pub bounds_weaker : {width most : ℕ} (more : ℕ) {before store : Slots} → SlotBounds width most before store
     → most ≤ more → SlotBounds width more before store
@@ -72,13 +65,7 @@ bounds_line {width} {most} {store} new slot bytes bounds within fits is = record
   size = same_length ∙ bounds.size;
   short = short;
   others = others;
-  peak =
-      omega (
-        arith,
-        ap (λ s. s.peak) is,
-        ap (λ s. total_bytes s.lines) is,
-        bounded_total width most new.lines short others,
-      );
+  peak = grind (arith, bounded_total, short, others);
 }
   where
     same_length : length new.lines ≡ length store.lines
@@ -132,10 +119,9 @@ bounds_cleared {width} {most} {store} {new} bounds some last cleared = (
   record {
     denied = cc;
     size = cleared.size ∙ bounds.size;
-    short =
-        grind (arith, common_steps);
-    others = omega (arith, none, total_split width new.lines);
-    peak = omega (arith, bounded_total width most store.lines bounds.short bounds.others);
+    short = grind (arith, common_steps);
+    others = omega (arith, none, sum_by-take-drop length new.lines width);
+    peak = search (rules, bounded_total);
   },
   none,
 )
@@ -143,9 +129,7 @@ bounds_cleared {width} {most} {store} {new} bounds some last cleared = (
     none : total_bytes new.lines ≡ 0
     none =
         let one : width - 1 + 1 ≡ width = omega arith in
-        let more = drop_more store.lines (width - 1) [] (omega arith) in
-        let behind = ap total_bytes more ∙ sum_by-cons length (get_or store.lines (width - 1) [])
-        (drop (width - 1 + 1) store.lines) in
+        let behind = sum_by-drop_more length store.lines (width - 1) [] (omega arith) in
         omega (arith, behind, ap length last, ap (λ n. total_bytes (drop n store.lines)) one)
 
 -- ---- the lines
@@ -338,10 +322,10 @@ module _ {S X E : Type 0} {tool : ToolSpec} {state : S → Slots → X} {rest_fr
           (omega arith) told
 
       same_bounds : SlotBounds width (max (max_length run.ls) 0) before store
-      same_bounds = bounds_weaker (max (max_length run.ls) 0) run.keeps (omega arith)
+      same_bounds = grind (arith, bounds_weaker)
 
       same_end : reader.terminator ≡ end
-      same_end = run.reached.advance_ok.reads.terminator ∙ run.terminator
+      same_end = grind arith
 
       free : (piece : List ℕ) → IsLine reader.terminator piece → IsLine end piece
       free piece whole = rw same_end at whole
@@ -371,11 +355,11 @@ module _ {S X E : Type 0} {tool : ToolSpec} {state : S → Slots → X} {rest_fr
             (whole : IsLine reader.terminator piece) (is_sound : IsSound new) where
           stored : {after : Slots} → SlotBounds width (max (max_length run.ls) (length piece)) before after
               → StoreBounds tool before after (received piece new)
-          stored bounds = kept (received piece new) bounds (piece_longest _ _ _ _ run.came _ _ reads (free _ whole))
+          stored bounds = search (rules, kept, piece_longest, free)
 
           piece_ending : {after : Slots} → StoreBounds tool before after (received piece new)
               → PassEnding tool midway new before after piece
-          piece_ending bounded = ending reads bounded (works_piece reads (free _ whole) is_sound)
+          piece_ending bounded = search (rules, ending, works_piece, free)
 
         -- and then a read failed
         pub run_read : {new : Reader} {after : Slots} → IsSound new → FillReadErr reader new store after (width - 1)
@@ -399,7 +383,7 @@ module _ {S X E : Type 0} {tool : ToolSpec} {state : S → Slots → X} {rest_fr
 
         -- nothing more was read
         ended_here : PassEnding tool midway reader before store []
-        ended_here = piece_ending (reads_nothing reader) tt sound (stored (reads_nothing reader) tt sound same_bounds)
+        ended_here = search (rules, piece_ending, reads_nothing, stored, same_bounds)
 
         -- a write failed at the lines of the block
         pub run_block_halts : {block : List ℕ} → block ≡ reader.buffered → {is' : Output}

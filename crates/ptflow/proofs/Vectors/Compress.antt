@@ -11,7 +11,7 @@ use proofs.Common.{pick_l-range_with_len, take-map, take-append-le, drop-append-
 use proofs.Common.{length-range_with_len, get_or-range_with_len, and_numeral, nat_tests, pow-succ', select_by, not, eqb}
 use proofs.Common.{true_indices, IsCompressRow, IsCompressTable, filter, append-nil, take-append-drop, take-add, zip2}
 use proofs.Common.{drop-drop, drop_all, length-chunk, mask_l-mod, length-zip2, bit_and, top, cast_unsigned, mask_of}
-use proofs.Common.{is_not_repeat, keep_flags, kept_bytes, FilterPre, bit_or, ◌-◌}
+use proofs.Common.{is_not_repeat, keep_flags, kept_bytes, FilterPre, bit_or, ◌-◌, rules}
 use proofs.Vectors.Lanes.{lanes_of, tops_of_lanes}
 use Rattle.std.specs.Prelude.{slice_index_or, count_ones}
 use Rattle.ptlines.proofs.MatchMasks.{mask_append}
@@ -275,7 +275,7 @@ module _ (test : ℕ → Bool) where
     equal_at k = zip2 eqb (chunk k 16 before) (chunk k 16 bytes)
 
     pub select_kept_at : (k : ℕ) (t : List ℕ) → t ++ select_by (flags_at k) (chunk k 16 bytes) ≡ t ++ kept_at k 16
-    select_kept_at k t = ap (λ l. t ++ l) (select_kept (chunk k 16 before) (chunk k 16 bytes))
+    select_kept_at k t = grind (arith, select_kept)
 
     -- no byte is left
     pub filter_done : {into : List ℕ} {at count : ℕ} {whole : List ℕ} → FilterInvariant into at count whole
@@ -290,8 +290,7 @@ module _ (test : ℕ → Bool) where
       kept_full : (k : ℕ) {mask : ℕ} → k + 16 ≤ length bytes → mask ≡ mask_l (flags_at k) → 65535 ≤ mask
           → kept_at k 16 ≡ chunk k 16 bytes
       kept_full k {mask} room is full =
-          let long : 2 ^ 16 ≡ 2 ^ length (chunk k 16 bytes) =
-          ap (λ (n : ℕ). 2 ^ n) (sym (length-chunk k 16 bytes room)) in
+          let long : 2 ^ 16 ≡ 2 ^ length (chunk k 16 bytes) = search (rules, length-chunk) in
           let flags_long = pairs_long (λ a b. is_not_repeat test (a, b)) before bytes paired k room in
           let low : mask_l (flags_at k) < 2 ^ 16 = rw flags_long at (mask_l-lt (flags_at k)) in
           all_kept (chunk k 16 before) (chunk k 16 bytes) (same_length k 16 room) (omega (arith, is, low, long))
@@ -309,7 +308,7 @@ module _ (test : ℕ → Bool) where
         pub kept_in_four : (t : List ℕ) {a b c d : List ℕ} → a ≡ t ++ kept_at at 16
             → b ≡ a ++ kept_at (at + 16) 16 → c ≡ b ++ kept_at (at + 32) 16 → d ≡ c ++ kept_at (at + 48) 16
             → d ≡ t ++ kept_at at 64
-        kept_in_four t ea eb ec ed = grind (arith, common_steps, kept_at, append_four, four)
+        kept_in_four t ea eb ec ed = grind (arith, append_four, four)
 
         whole : kept_at at 16 ≡ chunk at 16 bytes → kept_at (at + 16) 16 ≡ chunk (at + 16) 16 bytes
             → kept_at (at + 32) 16 ≡ chunk (at + 32) 16 bytes → kept_at (at + 48) 16 ≡ chunk (at + 48) 16 bytes
@@ -387,15 +386,10 @@ module _ (test : ℕ → Bool) (before bytes : List ℕ) (paired : length bytes 
         (map (cast_unsigned w8) lanes))) % 2 ^ 64
 
     long : length removed ≡ 16
-    long = pairs_long (λ a b. eqb a b && test b) before bytes paired at room
+    long = search (rules, pairs_long)
 
     mask_is : mask ≡ mask_l removed
-    mask_is = cc (
-      is,
-      removed_lanes test (chunk at 16 before) (chunk at 16 bytes),
-      tops_of_lanes removed,
-      mask_l-mod removed 64 (omega (arith, long)),
-    )
+    mask_is = search (rules, is, removed_lanes, tops_of_lanes, mask_l-mod, long)
 
     pub removed_small : mask < 65536
     removed_small = grind (arith, long, mask_l-lt, mask_is)

@@ -96,7 +96,7 @@ stretch_taken (s ∷ ss) (suc i) b = search (rules, stretch_taken ss i b, sum_by
 
 range_added : (ranges : List ShiftRange) (last : ShiftRange) (b : ℕ)
     → range_sum (ranges ++ last ∷ []) b ≡ range_sum ranges b + range_delta last b
-range_added ranges last b = omega (arith, range_sum, range_delta, sum_by-append)
+range_added ranges last b = omega (arith, sum_by-append)
 
 -- one range more adds what its stretch adds
 pub one_stretch_more : (ranges : List ShiftRange) (ss : List Stretch) (i : ℕ) (range : ShiftRange) (b : ℕ)
@@ -197,7 +197,7 @@ bit_of {half} small = grind arith
 
 -- either this bit of an entry is set, or the result is zero
 all_or_none : (row k : ℕ) → eqb (bit_and row (2 ^ k)) (2 ^ k) ≡ eqb (bit_at row k) 1
-all_or_none row k = cc (and_pow row k, times (bit_at row k) (2 ^ k) (bit_at-lt row k) (pow_pos k))
+all_or_none row k = grind (arith, and_pow, times, bit_at-lt, pow_pos)
   where
     times : (x p : ℕ) → x < 2 → 0 < p → eqb (x * p) p ≡ eqb x 1
     times zero p few some = grind (arith, nat_tests)
@@ -245,9 +245,7 @@ flags_set table n x = set table (n % 16) (bit_or (get_or table (n % 16) 0) (x * 
 
 module _ (table : List ℕ) {n : ℕ} (long : length table ≡ 16) (within : n < 128) where
   unset : flags_set table n 0 ≡ table
-  unset =
-      let nothing : 0 * 2 ^ (n / 16) % 256 ≡ 0 = omega arith in
-      cc (or_zero_r (get_or table (n % 16) 0), set-get_or table (n % 16) 0)
+  unset = grind (arith, or_zero_r, set-get_or)
 
   same_bit : n / 16 % 8 ≡ n / 16
   same_bit = omega arith
@@ -391,7 +389,7 @@ module _ (first n : ℕ) (table : List (List ℕ)) (within : first + 16 * n ≤ 
     entry : (b : ℕ) → b < 256
         → cond (ltb (offset b / 16) n) (get_or (get_or table (offset b / 16) []) (offset b % 16) 0) b
         ≡ image_from first table b
-    entry b byte = grind (arith, common_steps, lt-ltb, le-ltb, offset, get_or_default, get_or_past, cases_lt)
+    entry b byte = grind (arith, lt-ltb, le-ltb, get_or_default, get_or_past, cases_lt)
 
     module _ (v : List ℕ) (long : length v ≡ 16) (fit : Each1 (Fits w8) v) {offsets rows : List ℕ} (found : List ℕ)
         (found_in_rows : List (List ℕ)) (offsets_are : offsets ≡ map offset v)
@@ -406,24 +404,24 @@ module _ (first n : ℕ) (table : List (List ℕ)) (within : first + 16 * n ≤ 
             ≡ get_or (get_or table (offset (get_or v lane 0) / 16) []) (offset (get_or v lane 0) % 16) 0
         found_lane lane low inside =
             let b = get_or v lane 0 in
-            let row : get_or rows lane 0 ≡ offset b / 16 =
-            ap (λ l. get_or l lane 0) rows_are ∙ get_or-map (λ b. offset b / 16) v lane 0 0 (omega arith) in
-            let is : get_or offsets lane 0 ≡ offset b =
-            ap (λ l. get_or l lane 0) offsets_are ∙ get_or-map offset v lane 0 0 (omega arith) in
-            let offsets_long : length offsets ≡ 16 = ap length offsets_are ∙ length-map v offset ∙ long in
-            selected lane low (omega (arith, inside)) ∙ ap (λ k. get_or (get_or found_in_rows k []) lane 0) row
-            ∙ ap (λ l. get_or l lane 0) (looked_up (offset b / 16) inside)
-            ∙ get_or-map (λ o. get_or (get_or table (offset b / 16) []) (o % 16) 0) offsets lane 0 0 (omega arith)
-            ∙ ap (λ o. get_or (get_or table (offset b / 16) []) (o % 16) 0) is
+            let row : get_or rows lane 0 ≡ offset b / 16 = grind (arith, get_or-map) in
+            let is : get_or offsets lane 0 ≡ offset b = grind (arith, get_or-map) in
+            let offsets_long : length offsets ≡ 16 = grind (arith, length-map) in
+            cc (
+              selected lane low (omega (arith, inside)),
+              row,
+              looked_up (offset b / 16) inside,
+              get_or-map (λ o. get_or (get_or table (offset b / 16) []) (o % 16) 0) offsets lane 0 0 (omega arith),
+              is,
+            )
 
         pub images_of : {flags : List Bool} → flags ≡ map (λ b. ltb (offset b / 16) n) v
             → sel_l flags found v ≡ map (image_from first table) v
         images_of {flags} flags_are =
-            let flags_long : length flags ≡ 16 = ap length flags_are
-            ∙ length-map v (λ b. ltb (offset b / 16) n) ∙ long in
+            let flags_long : length flags ≡ 16 = grind (arith, length-map) in
             let sizes = length-sel_l flags found v (omega arith) (omega arith) in
             ext_get_or 0 (sel_l flags found v) (map (image_from first table) v)
-            (sizes ∙ flags_long ∙ sym (length-map v (image_from first table) ∙ long)) (λ lane low.
+            (grind (arith, length-map)) (λ lane low.
             let few : lane < 16 = omega (arith, low) in
             let b = get_or v lane 0 in
             let byte = (Each1-get_or (Fits w8) v lane 0 (omega arith) fit).fits in
