@@ -333,9 +333,7 @@ module _ (selected : ℕ → Bool) where
       → count ≤ length xs → select_from selected 1 (take start xs) ≡ select_from selected 1 (take count xs)
   none_later {start} {count} xs past later upto within =
       let whole : start + (count - start) ≡ count = omega arith in
-      let none : select_from selected (1 + length (take start xs)) (take (count - start) (drop start xs)) ≡ [] =
-      grind (arith, common_steps, select_none, length-take) in
-      grind (arith, common_steps, append-nil, select_append, take-add)
+      grind (arith, select_none, length-take, append-nil, select_append, take-add)
 
   -- ---- the bytes of a line that the row moves to the front
 
@@ -359,15 +357,7 @@ module _ (selected : ℕ → Bool) where
         → take (get_or piece.counts count 0) (swz_l w8 16 v 0 piece.row) ≡ select_from selected 1 (take count v)
     pick_line {count} v short long =
         let lanes = Each1-from_get_or (λ index. index < 16) piece.row 0 (λ i low. is.lanes i 0 low) in
-        grind (
-          arith,
-          common_steps,
-          shuffle_result,
-          take-map,
-          prefix_indices,
-          map_select,
-          pick_l-range_with_len,
-        )
+        grind (arith, shuffle_result, take-map, prefix_indices, map_select, pick_l-range_with_len)
 
     pub shuffle_few : (count : ℕ) → count ≤ 16 → get_or piece.counts count 0 ≤ count
     shuffle_few count short = grind (arith, few_selected, length-range_with_len)
@@ -384,7 +374,7 @@ none_after (one ∷ []) low zero separated few is later = grind (arith, above)
 none_after (one ∷ two ∷ more) low zero separated few is later = absurd (omega arith)
 none_after (one ∷ more) low (suc n) {last} {index} separated few is later =
     let (none, less) = none_after more (one.last + 1) n separated.2 (omega (arith, few)) is later in
-    (cc (none, above one index (omega (arith, less))), omega (arith, separated, less))
+    grind (arith, above)
 
 -- ---- a line, piece by piece
 

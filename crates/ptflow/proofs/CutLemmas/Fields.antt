@@ -200,15 +200,17 @@ module _ (d : ℕ) (line : List ℕ) (cursor : FieldCursor) where
               let b = r.last + 1 - (cursor.passed + 1) in
               let many : b - skip ≡ size = omega (arith, not_past, apart.1) in
               let count : (cursor.passed + 1) + (skip + size) ≡ r.last + 1 = omega (arith, not_past, apart.1) in
-              let all_of : cursor.passed + (skip + size) ≡ r.last = omega (arith, not_past, apart.1) in
-              cc (
-                select_first r rs (cursor.passed + 1) here apart.2,
-                select_slice r (cursor.passed + 1) here skip b (omega arith) refl,
+              grind (
+                arith,
+                not_past,
+                select_first,
+                select_slice,
                 left,
-                starts.later begun,
-                select_skip (is_selected rs) (cursor.passed + 1) (skip + size) here
-                    (grind (arith, not_selected, apart)),
-                drop-drop (skip + size) _ (fields d line),
+                starts.later,
+                select_skip,
+                not_selected,
+                apart,
+                drop-drop,
               )
 
           -- the slice, and then the output that is left

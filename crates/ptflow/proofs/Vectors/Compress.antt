@@ -200,7 +200,7 @@ module _ (f : ℕ → ℕ → Bool) (before bytes : List ℕ) (paired : length b
   pub pairs_long : (at : ℕ) → at + 16 ≤ length bytes → length (zip2 f (chunk at 16 before) (chunk at 16 bytes)) ≡ 16
   pairs_long at room =
       let long = length-chunk at 16 before (omega arith) in
-      length-zip2 f (chunk at 16 before) (chunk at 16 bytes) (long ∙ sym (length-chunk at 16 bytes room)) ∙ long
+      search (rules, length-zip2, long, length-chunk)
 
 none_set : {a b c d : ℕ} → bit_or (bit_or (bit_or a b) c) d ≡ 0 → (a ≡ 0) × (b ≡ 0) × (c ≡ 0) × (d ≡ 0)
 none_set {a} {b} {c} {d} none = omega (arith, le_or_l, le_or_r)
@@ -274,9 +274,6 @@ module _ (test : ℕ → Bool) where
     abbrev pub equal_at : ℕ → List Bool
     equal_at k = zip2 eqb (chunk k 16 before) (chunk k 16 bytes)
 
-    pub select_kept_at : (k : ℕ) (t : List ℕ) → t ++ select_by (flags_at k) (chunk k 16 bytes) ≡ t ++ kept_at k 16
-    select_kept_at k t = grind (arith, select_kept)
-
     -- no byte is left
     pub filter_done : {into : List ℕ} {at count : ℕ} {whole : List ℕ} → FilterInvariant into at count whole
         → length bytes ≤ at → take count into ≡ whole
@@ -305,10 +302,11 @@ module _ (test : ℕ → Bool) where
             cc (kept_two at 48 16 (omega arith), kept_two at 32 16 (omega arith), kept_two at 16 16 (omega arith))
 
         -- the bytes kept of four vectors, appended one after another
-        pub kept_in_four : (t : List ℕ) {a b c d : List ℕ} → a ≡ t ++ kept_at at 16
-            → b ≡ a ++ kept_at (at + 16) 16 → c ≡ b ++ kept_at (at + 32) 16 → d ≡ c ++ kept_at (at + 48) 16
-            → d ≡ t ++ kept_at at 64
-        kept_in_four t ea eb ec ed = grind (arith, append_four, four)
+        pub kept_in_four : (t : List ℕ) {a b c d : List ℕ} → a ≡ t ++ select_by (flags_at at) (chunk at 16 bytes)
+            → b ≡ a ++ select_by (flags_at (at + 16)) (chunk (at + 16) 16 bytes)
+            → c ≡ b ++ select_by (flags_at (at + 32)) (chunk (at + 32) 16 bytes)
+            → d ≡ c ++ select_by (flags_at (at + 48)) (chunk (at + 48) 16 bytes) → d ≡ t ++ kept_at at 64
+        kept_in_four t ea eb ec ed = grind (arith, append_four, four, select_kept)
 
         whole : kept_at at 16 ≡ chunk at 16 bytes → kept_at (at + 16) 16 ≡ chunk (at + 16) 16 bytes
             → kept_at (at + 32) 16 ≡ chunk (at + 32) 16 bytes → kept_at (at + 48) 16 ≡ chunk (at + 48) 16 bytes

@@ -192,11 +192,7 @@ module _ (p : ℕ → Bool) (bytes : List ℕ) (start end : ℕ) (fits : end < l
       × Passes p (drop start bytes) (end - start)
   next_is =
       let whole : start + (end - start) ≡ end = omega (arith, in_order) in
-      first_is p (drop start bytes) (end - start) (
-        grind (arith, common_steps, in_order),
-        grind (arith, common_steps),
-        grind (arith, take-add, sum_by-append),
-      )
+      grind (arith, common_steps, first_is, in_order, take-add, sum_by-append)
 
 -- the next terminator among 64 bytes, after n of them, where the line starts at `start`
 pub record NextTerminator (d : ℕ) (block : List ℕ) (from n bit start : ℕ) : Type 0 where

@@ -406,14 +406,7 @@ module _ (first n : ℕ) (table : List (List ℕ)) (within : first + 16 * n ≤ 
             let b = get_or v lane 0 in
             let row : get_or rows lane 0 ≡ offset b / 16 = grind (arith, get_or-map) in
             let is : get_or offsets lane 0 ≡ offset b = grind (arith, get_or-map) in
-            let offsets_long : length offsets ≡ 16 = grind (arith, length-map) in
-            cc (
-              selected lane low (omega (arith, inside)),
-              row,
-              looked_up (offset b / 16) inside,
-              get_or-map (λ o. get_or (get_or table (offset b / 16) []) (o % 16) 0) offsets lane 0 0 (omega arith),
-              is,
-            )
+            grind (arith, length-map, looked_up, get_or-map)
 
         pub images_of : {flags : List Bool} → flags ≡ map (λ b. ltb (offset b / 16) n) v
             → sel_l flags found v ≡ map (image_from first table) v

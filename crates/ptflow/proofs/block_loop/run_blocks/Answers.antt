@@ -68,7 +68,7 @@ reading-preserved g c =
     let b = c.block.follows.holds-at-none in
     let run = written_out g (goal.at.reading-preserved g c).In_ok-write_out_before_blocking in
     let (refilled, shown, ended) = (rw c.in-Ok.is at b.shows) run.reached.advance_ok.fault in
-    record { run = search (rules, block_taken); counted = search (rules, counted_more) }
+    record { run = grind (arith, block_taken); counted = grind (arith, counted_more) }
 
 pub reading-smaller : goal.reading-smaller
 reading-smaller g c = grind (arith, common_steps)

@@ -31,14 +31,14 @@ line_taken g c =
     (c.in-Ok-true.ensures.fills r.reached.advance_ok.fault) in
     let took = c.in_ok-process_line-in-Ok-true.ensures in
     run_line c.requires.tool r e {next = g.T.LineFilter.model c.process_line.new.self c.process_line.new.store}
-    (search rules) took.swapped
+    (grind arith) took.swapped
 
 pub returns-in_err-ensure_slots : goal.returns-in_err-ensure_slots
 returns-in_err-ensure_slots g c =
     let (_, is_err, is_fault) = returned_err c.from_residual.result c.from_residual.ensures in
     let adds = rw c.requires.slots at c.ensure_slots.ensures.adds in
     rw (is_err, is_fault, c.in_err-ensure_slots.ensures.err)
-    (run_unslotted c.requires.tool c.requires.begins adds (search rules)
+    (run_unslotted c.requires.tool c.requires.begins adds (grind arith)
     c.ensure_slots.ensures.same_peak c.in_err-ensure_slots.ensures.denied)
 
 pub reading-init : goal.reading-init
@@ -65,7 +65,7 @@ returns-in_err-process_line-in-Ok-true g c =
     (c.in-Ok-true.ensures.fills r.reached.advance_ok.fault) in
     rw c.in_err-process_line-in-Ok-true.ensures.same (by_write c.from_residual-in_err-process_line-in-Ok-true.ensures
     (run_line_halts c.requires.tool r e c.requires.begins.ready c.fill.ensures.was_sound c.fill.ensures.is_sound
-    (search rules)))
+    (grind arith)))
 
 pub returns-in_err-finish-in-Ok-false : goal.returns-in_err-finish-in-Ok-false
 returns-in_err-finish-in-Ok-false g c =
@@ -74,7 +74,8 @@ returns-in_err-finish-in-Ok-false g c =
     (c.in-Ok-false.ensures.fills r.reached.advance_ok.fault) in
     let end = rw c.reading.invariant.same_job at (c.in_err-finish-in-Ok-false.ensures.pushed r.reached.clean) in
     rw c.in_err-finish-in-Ok-false.ensures.same (by_write c.from_residual-in_err-finish-in-Ok-false.ensures
-    (search (rules, run_unended)))
+    (run_unended c.requires.tool r c.requires.begins.ready c.fill.ensures.was_sound c.fill.ensures.is_sound ended
+    end.wrote end.fault))
 
 pub returns-in-Ok-false : goal.returns-in-Ok-false
 returns-in-Ok-false g c =
@@ -89,14 +90,12 @@ returns-in-Ok-false g c =
 pub returns-in-Err-Read : goal.returns-in-Err-Read
 returns-in-Err-Read g c =
     let r = written_out g (goal.at.returns-in-Err-Read g c).In_ok-write_out_before_blocking in
-    run_read c.requires.tool r c.requires.begins.ready c.fill.ensures.was_sound c.fill.ensures.is_sound
-    (search rules)
+    run_read c.requires.tool r c.requires.begins.ready c.fill.ensures.was_sound c.fill.ensures.is_sound (grind arith)
 
 pub returns-in-Err-Memory : goal.returns-in-Err-Memory
 returns-in-Err-Memory g c =
     let r = written_out g (goal.at.returns-in-Err-Memory g c).In_ok-write_out_before_blocking in
-    run_memory c.requires.tool r c.requires.begins.ready c.fill.ensures.was_sound c.fill.ensures.is_sound
-    (search rules)
+    run_memory c.requires.tool r c.requires.begins.ready c.fill.ensures.was_sound c.fill.ensures.is_sound (grind arith)
 
 pub reading-smaller : goal.reading-smaller
 reading-smaller g c = grind (arith, common_steps, filled_line)
@@ -120,7 +119,7 @@ returns-in_err-passed g c =
     let same = c.process_line.ensures.same_job ∙ c.reading.invariant.same_job in
     by_write c.from_residual-in_err-passed.ensures
     (run_block_halts c.requires.tool v c.requires.begins.ready c.fill.ensures.is_sound c.buffered.ensures.buffered
-    (search rules))
+    (grind arith))
 
 pub reading-preserved : goal.reading-preserved
 reading-preserved g c =
@@ -128,5 +127,5 @@ reading-preserved g c =
     let same = c.process_line.ensures.same_job ∙ c.reading.invariant.same_job in
     let rest = c.in_ok-passed.ensures in record {
       same_job = c.process_lines.ensures.same_job ∙ same;
-      run = search (rules, run_block);
+      run = grind (arith, run_block);
     }
