@@ -18,7 +18,7 @@ use proofs.Vectors.Lanes.{stored_more}
 use mir.Val.{bool_byte}
 use Rattle.ptflow.specs.Private.Cut.ShortLines.{selected_indices, selected_after, IsPieceShuffle}
 use Rattle.ptflow.specs.declared.tools.cut.shuffle.PieceShuffle.{PieceShuffle}
-use proofs.Vectors.Compress.{selected_stored, shuffle_result}
+use proofs.Vectors.Compress.{row_lanes, selected_stored, shuffle_result}
 use lib.Seq.{take-nil}
 use Rattle.std.proofs.lemmas.List.{drop_min, length-take}
 
@@ -56,7 +56,7 @@ select_none test n [] out = refl
 select_none test n (x ∷ xs) out = grind (arith, select_none test (n + 1) xs (grind arith))
 
 pub select_past : {X : Type 0} (r : Interval) (n : ℕ) (xs : List X) → r.last < n → select_from (is_within r) n xs ≡ []
-select_past r n xs past = select_none (is_within r) n xs (λ k low high. above r k (omega arith))
+select_past r n xs past = grind (arith, select_none, above)
 
 -- the items of the first interval, and then those of the others
 pub select_first : {X : Type 0} (r : Interval) (rs : List Interval) (n : ℕ) (xs : List X) → AreSeparated (r.last + 1) rs
@@ -254,7 +254,7 @@ module _ (job : Cut) (by_bytes : job.fields ≡ false) where
     where
       one_each : (xs : List (List ℕ)) → flat_map (cut_line job) xs ≡ map (select_from job.selected 1) xs
       one_each [] = refl
-      one_each (x ∷ xs) = rw by_bytes (ap (◌∷◌ (select_from job.selected 1 x)) (one_each xs))
+      one_each (x ∷ xs) = cc (by_bytes, one_each xs)
 
   pub rest_is_cut : (bytes : List ℕ) → cut_bytes_from end job.selected 0 bytes ≡ cut job bytes
   rest_is_cut bytes = simp (rest_of_all, made_is)
@@ -356,14 +356,10 @@ module _ (selected : ℕ → Bool) where
     pub pick_line : {count : ℕ} (v : List ℕ) → count ≤ 16 → length v ≡ 16
         → take (get_or piece.counts count 0) (swz_l w8 16 v 0 piece.row) ≡ select_from selected 1 (take count v)
     pick_line {count} v short long =
-        let lanes = Each1-from_get_or (λ index. index < 16) piece.row 0 (λ i low. is.lanes i 0 low) in
-        grind (arith, shuffle_result, take-map, prefix_indices, map_select, pick_l-range_with_len)
+        grind (arith, shuffle_result, row_lanes, take-map, prefix_indices, map_select, pick_l-range_with_len)
 
     pub shuffle_few : (count : ℕ) → count ≤ 16 → get_or piece.counts count 0 ≤ count
     shuffle_few count short = grind (arith, few_selected, length-range_with_len)
-
-    pub shuffle_lanes : Each1 (λ index. index < 16) piece.row
-    shuffle_lanes = Each1-from_get_or (λ index. index < 16) _ 0 (λ i low. is.lanes i 0 low)
 
 -- positions after the last interval are not selected
 pub none_after : (all : List Interval) (low n : ℕ) {last : Interval} {index : ℕ} → AreSeparated low all

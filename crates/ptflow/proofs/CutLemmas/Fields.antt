@@ -114,7 +114,7 @@ module _ (d : ℕ) (line : List ℕ) (cursor : FieldCursor) where
 
   -- the line ends before the cursor
   pub no_field : IsFieldCursor d line cursor → length line < cursor.at → output_from_cursor d line cursor ≡ []
-  no_field w past = none_selected (cc (none_left d line w.offset past))
+  no_field w past = grind (arith, none_selected, none_left)
 
   module _ (w : IsFieldCursor d line cursor) (fits : cursor.at ≤ length line) (within : 0 < length all) where
     -- the next interval, and those after it
@@ -293,7 +293,7 @@ module _ (job : Cut) (by_fields : job.fields ≡ true) (line : List ℕ) where
   of_line none keeps = grind arith
 
   pub of_none : list_any (is_field_delimiter job) line ≡ false → job.only ≡ true → cut_line job line ≡ []
-  of_none none only = rw (by_fields, none, only) refl
+  of_none none only = grind arith
 
 module _ (job : Cut) (line : List ℕ) where
   pub line_written : (bytes : List ℕ) → cut_line job line ≡ bytes ∷ [] → cut_lines job (line ∷ []) ≡ bytes
@@ -368,7 +368,7 @@ module _ (job : Cut) (by_fields : job.fields ≡ true) {end : ℕ} (same : end �
     is_ended = grind (arith, common_steps)
 
     texts : unlines end front ≡ take size bytes
-    texts = cc (is_ended, text_of_ended end (take (size - 1) bytes))
+    texts = grind (arith, is_ended, text_of_ended)
 
     lines_are : complete_lines end bytes ≡ front ++ complete_lines end (drop size bytes)
     lines_are =
@@ -384,7 +384,7 @@ module _ (job : Cut) (by_fields : job.fields ≡ true) {end : ℕ} (same : end �
 
     are_free : ((size ≡ to + 1) ⊎ (size ≤ up_to)) → AreLines job.delimiter front
     are_free (inl one) = grind (arith, common_steps, complete_lines_cons, line_before_terminator, free_up_to)
-    are_free (inr le) = free_lines _ end (take size bytes) (free_up_to le)
+    are_free (inr le) = search (rules, free_lines, free_up_to)
 
     pub puts_kept : {old new : List ℕ} → job.only ≡ false → new ≡ old ++ take size bytes
         → CopyLinesPost job end bytes size old new

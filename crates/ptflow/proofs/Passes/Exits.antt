@@ -40,12 +40,6 @@ pub may_follow : (now new : Reader) (bytes rest : List ℕ) → ReaderAdvance no
     → IsDone now → bytes ++ rest ≡ []
 may_follow now new bytes rest reads may done = grind (arith, common_steps)
 
--- the first bytes of a block were consumed
-pub advance_past : {now shown new : Reader} {block : List ℕ} (count : ℕ) → AdvanceOk now shown []
-    → shown.buffered ≡ block → count ≤ length block → new ≡ record shown { buffered = drop count shown.buffered }
-    → AdvanceOk now new (take count block)
-advance_past {shown} count advance_ok buffered fits consumed = grind (arith, common_steps, advance_ok_take)
-
 abbrev state : Reader → Output → Slots → CallState (Unit {0})
 state reader out store = call_state (λ u. reader) out store
 
@@ -224,12 +218,9 @@ module _ {X : Type 0} {rest_from : X → List ℕ → List ℕ} {start now : X} 
   -- the end of the input was reached
   module _ {is' : Output} (wrote : PushEffect is is' (rest_from now [])) (done : IsDone new) (none : piece ≡ [])
       (same : new.failed ≡ reader.failed) (not_denied : store.denied ≡ false) where
-    nothing_left : (rest : List ℕ) → (new.eof ≡ true → rest ≡ []) → piece ++ (new.buffered ++ rest) ≡ []
-    nothing_left rest whole = λ i. none i ++ (done.buffered i ++ whole done.eof i)
-
     all_of_it : (rest : List ℕ) → (new.eof ≡ true → rest ≡ [])
         → IsPrefix (rest_from now []) (rest_from now (piece ++ (new.buffered ++ rest)))
-    all_of_it rest whole = grind (arith, common_steps, nothing_left, append-nil)
+    all_of_it rest whole = grind (arith, common_steps, append-nil)
 
     -- and the output that is due there was pushed
     pub pass_done : is'.write_failed ≡ false → new.fault ≡ None → new.pulled < 2 ^ 63 → total_bytes store.lines ≡ 0
@@ -240,7 +231,7 @@ module _ {X : Type 0} {rest_from : X → List ℕ → List ℕ} {start now : X} 
 
     -- and a write failed there
     pub pass_unended : is'.write_failed ≡ true → PassPost tool old new was is' before store (Err Write)
-    pass_unended fault = pass_write wrote all_of_it fault same not_denied
+    pass_unended fault = search (rules, pass_write, all_of_it)
 
 -- ---- pushes
 
@@ -348,7 +339,7 @@ module _ {X : Type 0} {rest_from : X → List ℕ → List ℕ} {IsUnchanged : X
       given = run.given ++ block;
       pushed = run.pushed ++ part.pushed;
       reached = record {
-        advance_ok = grind (arith, common_steps, advance_ok_trans, take_all, advance_past);
+        advance_ok = grind (arith, common_steps, advance_ok_trans, take_all, advance_ok_take);
         wrote = search (rules, push_trans);
         clean = part.clean;
       };
@@ -373,7 +364,7 @@ module _ {X : Type 0} {rest_from : X → List ℕ → List ℕ} {IsUnchanged : X
         ready = ready;
         sound = sound;
         reads = reads;
-        stored = store_unchanged block_filter.slots;
+        stored = search (rules, store_unchanged);
         keeps_store = λ none. refl;
         processing = record {
           before = λ u. record {
@@ -555,13 +546,7 @@ module _ {end : ℕ} {now new : Reader} {given : List ℕ} {ls : List (List ℕ)
       before = record {
         earlier = record { bytes = given ++ take n line; eof = false };
         last = drop n line ++ behind;
-        split =
-            cc (
-              append_assoc given piece new.buffered,
-              take-append-drop n line,
-              append_assoc (take n line) (drop n line) behind,
-              append_assoc given (take n line) (drop n line ++ behind),
-            );
+        split = grind (arith, append_assoc, take-append-drop n line);
         short = grind (arith, common_steps, length-append);
         eof = λ never. absurd (false≢true never);
       };

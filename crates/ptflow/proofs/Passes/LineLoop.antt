@@ -38,14 +38,12 @@ pub bounded_total : (width most : ℕ) (ls : List (List ℕ)) → ((k : ℕ) →
 bounded_total zero most ls short others = omega (arith, others)
 bounded_total (suc width) most [] short others = omega arith
 bounded_total (suc width) most (l ∷ ls) short others =
-    let more : suc width * most ≡ most + width * most = omega arith in
-    rw more
-    (omega (
+    omega (
       arith,
       sum_by-cons length l ls,
       short 0 (omega arith),
       bounded_total width most ls (λ k low. short (suc k) (omega arith)) others,
-    ))
+    )
 
 pub bounds_start : {width : ℕ} {before store : Slots} → AddedSlots before store width → store.denied ≡ false
     → total_bytes store.lines ≡ 0 → store.peak ≡ before.peak → SlotBounds width 0 before store
@@ -62,15 +60,12 @@ pub bounds_line : {width most : ℕ} {before store : Slots} (new : Slots) (slot 
     → SlotBounds width most before new
 bounds_line {width} {most} {store} new slot bytes bounds within fits is = record {
   denied = cc;
-  size = same_length ∙ bounds.size;
+  size = grind (arith, length-set);
   short = short;
   others = others;
   peak = grind (arith, bounded_total, short, others);
 }
   where
-    same_length : length new.lines ≡ length store.lines
-    same_length = cc (length-set store.lines slot bytes)
-
     short : (i : ℕ) → i < width → length (get_or new.lines i []) ≤ most
     short i low = grind (arith, common_steps)
 
@@ -85,18 +80,11 @@ swapped_room = grind (arith, swap_is, length-set)
 pub bounds_swapped : {width most : ℕ} {before store : Slots} (new : Slots) → 0 < width
     → SlotBounds width most before store → IsSwapped width store new → SlotBounds width most before new
 bounds_swapped {width} {most} {before} {store} new some bounds either = elim either [
-  | inl same ↦ subst (SlotBounds width most before) (sym same) bounds
+  | inl same ↦ grind arith
   | inr is ↦
       let room : width ≤ length store.lines = omega (arith, bounds.size) in
-      let swapped = swap_is store.lines 0 (width - 1) [] (omega arith) (omega arith) in
-      let same : new.lines ≡ set (set store.lines 0 last) (width - 1) first = cc in
-      record {
-        denied = cc;
-        size = cc (same, bounds_both.size);
-        short = λ i low. rw same (bounds_both.short i low);
-        others = cc (same, bounds_both.others);
-        peak = omega (arith, ap (λ s. s.peak) is, bounds.peak);
-      }
+      let same : new.lines ≡ set (set store.lines 0 last) (width - 1) first = grind (arith, swap_is) in
+      search (rules, bounds_both, same)
 ]
   where
     first : List ℕ
@@ -128,9 +116,7 @@ bounds_cleared {width} {most} {store} {new} bounds some last cleared = (
   where
     none : total_bytes new.lines ≡ 0
     none =
-        let one : width - 1 + 1 ≡ width = omega arith in
-        let behind = sum_by-drop_more length store.lines (width - 1) [] (omega arith) in
-        omega (arith, behind, ap length last, ap (λ n. total_bytes (drop n store.lines)) one)
+        grind (arith, sum_by-drop_more length store.lines (width - 1) [])
 
 -- ---- the lines
 
@@ -206,9 +192,8 @@ module _ {S X E : Type 0} {tool : ToolSpec} {state : S → Slots → X} {rest_fr
         → PassPost tool old old was was before store (Err Memory)
     run_unslotted {store} begins adds few same denied =
         let nothing : Received = record { bytes = []; eof = false } in
-        pass_unslotted tool was begins.ready begins.sound begins.clean (rw line_filter.slots adds)
-        (rw line_filter.slots few) same denied begins.ends
-        (rw none_written at (line_filter.decided store nothing [] (state start store) (λ more. refl)))
+        let decided = line_filter.decided store nothing [] (state start store) (λ more. refl) in
+        grind (arith, pass_unslotted, none_written)
 
     module _ {now : X} {reader : Reader} {is : Output} {store : Slots}
         (run : Run old reader was is before store now) where
@@ -317,9 +302,7 @@ module _ {S X E : Type 0} {tool : ToolSpec} {state : S → Slots → X} {rest_fr
       keeps_last : {after : Slots} (bytes : List ℕ) → after ≡ with_line store (width - 1) bytes
           → SlotBounds width (max (max_length run.ls) (length bytes)) before after
       keeps_last bytes told =
-          let most = max (max_length run.ls) (length bytes) in
-          bounds_line _ (width - 1) bytes (bounds_weaker most run.keeps (omega arith)) (omega arith)
-          (omega arith) told
+          bounds_line _ (width - 1) bytes (grind (arith, bounds_weaker)) (omega arith) (omega arith) told
 
       same_bounds : SlotBounds width (max (max_length run.ls) 0) before store
       same_bounds = grind (arith, bounds_weaker)
@@ -410,7 +393,7 @@ module _ {S X E : Type 0} {tool : ToolSpec} {state : S → Slots → X} {rest_fr
 
       same_state : {after : Slots} (bytes : List ℕ) → after ≡ with_line store (width - 1) bytes
           → state now after ≡ state now store
-      same_state bytes told = cc (line_filter.stays now store bytes (run_room run))
+      same_state bytes told = grind (arith, run_room)
 
       -- the number of lines with no output yet is unchanged
       pub filled_count : IsSound old → IsSound reader → {after : Slots} (bytes : List ℕ)
@@ -429,7 +412,7 @@ module _ {S X E : Type 0} {tool : ToolSpec} {state : S → Slots → X} {rest_fr
             (lines_more _ _ _ _ run.came _ _ _ _ next_line (cc))
             (bounds_swapped after' line_filter.some
             (bounds_weaker most (keeps_last run next_line.line next_line.stored) (omega arith)) swapped)
-            (grind (arith, same_state, stored, filled))
+            (grind (arith, same_state, filled))
 
         -- a write failed
         pub run_line_halts : PassPre old before → IsSound reader → IsSound new → {is' : Output}

@@ -81,9 +81,8 @@ pub shuffle_result : (v : List ℕ) (i : ℕ) (row : List ℕ) → i + length ro
 shuffle_result v i [] room lanes = refl
 shuffle_result v i (j ∷ js) room (low, lanes) = grind (arith, common_steps, low_index, shuffle_result v (suc i) js)
 
-pub row_lanes : {flags : List Bool} {indices : List ℕ} → IsCompressRow flags indices
-    → Each1 (λ place. place < 16) indices
-row_lanes {indices} is = Each1-from_get_or (λ place. place < 16) indices 0 (λ i low. is.lanes i 0 low)
+pub row_lanes : (row : List ℕ) → All (λ index. index < 16) row → Each1 (λ index. index < 16) row
+row_lanes row lanes = Each1-from_get_or (λ index. index < 16) row 0 (λ i low. lanes i 0 low)
 
 -- the row of a mask
 pub row_of_mask : (rows : List (List ℕ)) (mask : ℕ) → IsCompressTable rows → mask < 256
@@ -193,7 +192,7 @@ select_by_halves front back before v turned few others lanes is =
 -- ---- bytes that a filter keeps
 
 chunk_parts : (at n m : ℕ) (from : List ℕ) → chunk at (n + m) from ≡ chunk at n from ++ chunk (at + n) m from
-chunk_parts at n m from = cc (take-add n m (drop at from), drop-drop n at from)
+chunk_parts at n m from = simp (take-add, drop-drop)
 
 module _ (f : ℕ → ℕ → Bool) (before bytes : List ℕ) (paired : length bytes ≤ length before) where
   -- a flag for each of 16 bytes

@@ -102,8 +102,7 @@ shifted (suc n) [] = zero-div (2 ^ suc n)
 shifted (suc n) (b ∷ bits) =
     let half : (b : Bool) → (cond b 1 0 + 2 * mask_l bits) / 2 ≡ mask_l bits =
     grind arith in
-    ap (λ k. mask_l (b ∷ bits) / k) (pow-suc 2 n ∙ mul_comm (2 ^ n) 2)
-    ∙ sym (div-div-eq-div-mul (mask_l (b ∷ bits)) 2 (2 ^ n)) ∙ ap (λ x. x / 2 ^ n) (half b) ∙ shifted n bits
+    grind (arith, half, pow-suc, mul_comm, div-div-eq-div-mul, shifted n bits)
 
 -- the mask of the first bytes, without those before an index
 pub mask_from : (p : ℕ → Bool) (size from : ℕ) (bytes : List ℕ) {mask : ℕ} → mask ≡ mask_l (map p (take size bytes))

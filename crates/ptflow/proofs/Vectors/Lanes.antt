@@ -423,7 +423,4 @@ module _ (first n : ℕ) (table : List (List ℕ)) (within : first + 16 * n ≤ 
             ∙ ap (λ flag. cond flag (get_or found lane 0) b)
             (ap (λ l. get_or l lane false) flags_are
             ∙ get_or-map (λ b. ltb (offset b / 16) n) v lane 0 false (omega arith))
-            ∙ ⊎_elim
-            (λ inside. cc (lt-ltb (offset b / 16) n inside, found_lane lane few inside, entry b byte, image))
-            (λ past. cc (le-ltb (offset b / 16) n past, entry b byte, image))
-            (cases_lt (offset b / 16) n))
+            ∙ grind (arith, cases_lt, lt-ltb, le-ltb, found_lane, entry))
