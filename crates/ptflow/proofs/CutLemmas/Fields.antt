@@ -48,7 +48,7 @@ module _ (d : ℕ) where
 
     -- after the last field
     pub offset_end : {n : ℕ} → count_by (is_byte d) line < n → IsFieldOffset d n line (length line + 1)
-    offset_end {n} lt = grind (arith, common_steps, length-slice_split, take_all, prefixed_of_fields, drop_all)
+    offset_end {n} lt = grind (arith, length-slice_split, take_all, prefixed_of_fields, drop_all)
 
     -- after the delimiter that comes after n - 1 others
     pub offset_after_nth : {n : ℕ} (at : ℕ) → 0 < n → IsNth (is_byte d) 0 (n - 1) line at
@@ -56,10 +56,8 @@ module _ (d : ℕ) where
     offset_after_nth {n} at some (within, passes, before) =
         let xs = take at line in
         let ys = drop (at + 1) line in
-        let one : at + 1 ≡ suc at = omega arith in
-        let long : length xs ≡ at = length-take-le at line (omega arith) in
-        let here : drop at line ≡ d ∷ ys = grind (arith, common_steps, eqb-true) in
-        let number : length (fields d xs) ≡ n = omega (arith, length-slice_split (is_byte d) xs, before) in
+        let here : drop at line ≡ d ∷ ys = grind (arith, common_steps) in
+        let number : length (fields d xs) ≡ n = omega (arith, length-slice_split (is_byte d) xs) in
         let split : fields d line ≡ fields d xs ++ fields d ys = cc (take-append-drop at line, fields-append xs ys) in
         grind (arith, common_steps, prefixed_of_fields)
 
@@ -79,12 +77,12 @@ module _ (d : ℕ) where
       pub offset_add : at ≤ length line → {k size : ℕ} → IsFieldOffset d k (drop at line) size
           → IsFieldOffset d (n + k) line (at + size)
       offset_add fits {k} {size} next =
-          grind (arith, common_steps, length-drop, take-add, rest_at, prefixed_fields-append, drop-drop)
+          grind (arith, common_steps, length-drop, take-add, rest_at, drop-drop)
 
 -- a slice of a line
 pub slice_of : (from size : ℕ) {to : ℕ} (bytes : List ℕ) → from + size ≤ to
     → take size (drop from (take to bytes)) ≡ take size (drop from bytes)
-slice_of from size {to} bytes le = grind (arith, common_steps, rest_of, take-take)
+slice_of from size {to} bytes le = grind (arith, rest_of, take-take)
 
 -- ---- the selected fields of a line, in one pass
 
@@ -97,7 +95,7 @@ module _ (cursor : FieldCursor) (none : cursor.passed ≡ 0) where
   -- all selected fields of a line are left, by the list of a job
   pub selected_remaining : (job : Cut) {d : ℕ} (line : List ℕ) → d ≡ job.delimiter
       → is_selected cursor.left.now ≡ job.selected → cut_fields job line ≡ output_from_cursor d line cursor
-  selected_remaining job {d} line same selected = grind (arith, common_steps, join_prefixed)
+  selected_remaining job {d} line same selected = grind (arith, join_prefixed)
 
 module _ (d : ℕ) (line : List ℕ) (cursor : FieldCursor) where
   abbrev all : List Interval
@@ -110,7 +108,7 @@ module _ (d : ℕ) (line : List ℕ) (cursor : FieldCursor) where
 
   -- no interval is left
   pub no_interval : length all ≡ 0 → output_from_cursor d line cursor ≡ []
-  no_interval none = grind (arith, none_selected, select_none, nil_from_length)
+  no_interval none = grind (arith, select_none, nil_from_length)
 
   -- the line ends before the cursor
   pub no_field : IsFieldCursor d line cursor → length line < cursor.at → output_from_cursor d line cursor ≡ []
@@ -135,7 +133,7 @@ module _ (d : ℕ) (line : List ℕ) (cursor : FieldCursor) where
     size = r.last - r.first + 1
 
     these : all ≡ r ∷ rs
-    these = grind (arith, drop_more)
+    these = grind arith
 
     apart : AreSeparated (cursor.passed + min cursor.passed 1) (r ∷ rs)
     apart = rw these at w.apart
@@ -160,7 +158,7 @@ module _ (d : ℕ) (line : List ℕ) (cursor : FieldCursor) where
       ends_before past = none_selected (cc (
         these,
         select_skip (is_selected (r ∷ rs)) (cursor.passed + 1) skip here
-            (grind (arith, not_selected, not_past, apart)),
+            (grind (arith, not_selected)),
         left,
         none_left d line starts past,
       ))
@@ -170,11 +168,11 @@ module _ (d : ℕ) (line : List ℕ) (cursor : FieldCursor) where
         rest = drop from line
 
         sep_fits : min cursor.passed 1 ≤ from
-        sep_fits = omega (arith, not_past)
+        sep_fits = omega arith
 
         -- the start of the interval, with or without the delimiter before it
         sep_drop : drop (from - min cursor.passed 1) line ≡ drop (1 - min cursor.passed 1) (d ∷ rest)
-        sep_drop = grind (arith, by_sep, sep_fits, rest_at, starts)
+        sep_drop = grind (arith, by_sep, rest_at, starts)
           where
             by_sep : (sep n : ℕ) → sep ≤ 1 → sep ≤ n → drop n (d ∷ line) ≡ d ∷ drop n line
                 → drop (n - sep) line ≡ drop (1 - sep) (d ∷ drop n line)
@@ -186,7 +184,7 @@ module _ (d : ℕ) (line : List ℕ) (cursor : FieldCursor) where
         module _ {at : ℕ} (later : from ≤ at) (p : IsFieldOffset d size rest (at - from)) where
           ends : IsFieldOffset d r.last line at
           ends =
-              let is : from + (at - from) ≡ at = omega (arith, later) in
+              let is : from + (at - from) ≡ at = omega arith in
               let last : cursor.passed + skip + size ≡ r.last = omega (arith, not_past, apart.1) in
               rw (is, last) at (offset_add d line starts begun p)
 
@@ -198,7 +196,6 @@ module _ (d : ℕ) (line : List ℕ) (cursor : FieldCursor) where
               ++ select_from (is_selected rs) (r.last + 1) (drop r.last (fields d line))
           selected =
               let b = r.last + 1 - (cursor.passed + 1) in
-              let many : b - skip ≡ size = omega (arith, not_past, apart.1) in
               let count : (cursor.passed + 1) + (skip + size) ≡ r.last + 1 = omega (arith, not_past, apart.1) in
               grind (
                 arith,
@@ -231,19 +228,16 @@ module _ (d : ℕ) (line : List ℕ) (cursor : FieldCursor) where
                 sep_drop,
               )
 
-          one : min r.last 1 ≡ 1
-          one = omega (arith, not_past, in_order)
-
           pub next_slice : (next : FieldCursor) → next.left.now ≡ rs → next.passed ≡ r.last → next.at ≡ at
               → IsNextSlice d line cursor (from - min cursor.passed 1) (at - 1) next
-          next_slice next left_is passed_is at_is = grind (arith, common_steps, output, one, ends, some, these, apart)
+          next_slice next left_is passed_is at_is = grind (arith, output, ends)
 
 -- ---- the output of a line is not longer than the line
 
 few_prefixed : (d : ℕ) (test : ℕ → Bool) (n : ℕ) (fs : List (List ℕ))
     → length (prefixed_fields d (select_from test n fs)) ≤ length (prefixed_fields d fs)
 few_prefixed d test n [] = omega arith
-few_prefixed d test n (f ∷ fs) = grind (arith, common_steps, few_prefixed d test (n + 1) fs, length-append)
+few_prefixed d test n (f ∷ fs) = grind (arith, common_steps, few_prefixed d test (n + 1) fs)
 
 pub output_is_short : (job : Cut) (line : List ℕ) → length (cut_fields job line) ≤ length line
 output_is_short job line =
@@ -276,13 +270,13 @@ output_is_near start end was now out part rest copied room place =
 
 pub none_of : (d : ℕ) (line : List ℕ) → IsLine d line → list_any (λ b. b == d) line ≡ false
 none_of d [] free = refl
-none_of d (b ∷ line) free = grind (arith, none_of d line, byte_ne)
+none_of d (b ∷ line) free = grind (arith, none_of d line)
 
 -- the delimiter is in a line, by a search
 pub found : (d : ℕ) (line : List ℕ) (r : Option ℕ) → IsFirstByte (is_byte d) line r
     → list_any (λ b. b == d) line ≡ is_some r
 found d line None first = none_of d line (line_if_not_found d line first)
-found d line (Some at) first = grind (arith, common_steps, list_any_at)
+found d line (Some at) first = grind (arith, list_any_at)
 
 -- the output for a line that is cut by fields
 module _ (job : Cut) (by_fields : job.fields ≡ true) (line : List ℕ) where
@@ -298,7 +292,7 @@ module _ (job : Cut) (by_fields : job.fields ≡ true) (line : List ℕ) where
 module _ (job : Cut) (line : List ℕ) where
   pub line_written : (bytes : List ℕ) → cut_line job line ≡ bytes ∷ [] → cut_lines job (line ∷ []) ≡ bytes
       ++ job.terminator ∷ []
-  line_written bytes is = grind (arith, common_steps, append-nil)
+  line_written bytes is = grind (arith, append-nil)
 
   pub line_dropped : cut_line job line ≡ [] → cut_lines job (line ∷ []) ≡ []
   line_dropped is = cc
@@ -310,7 +304,7 @@ module _ (job : Cut) where
   -- all output that was pushed is decided
   cut_sure : (ls : List (List ℕ)) (pushed : List ℕ) → cut_lines job (ls ++ []) ≡ pushed ++ cut_lines job []
       → IsPrefix (cut_lines job ls) pushed
-  cut_sure ls pushed on = grind (arith, common_steps, append-nil, cut_lines)
+  cut_sure ls pushed on = grind (arith, append-nil, cut_lines)
 
   pub cut_line_tool : {S : Type 0} (start : S) → job.fields ≡ true
       → IsLineFilter {S = S} {X = Unit {0}} {E = ℕ} (cut_tool job) (λ room store. tt) (cut_fields_from job)
@@ -383,7 +377,7 @@ module _ (job : Cut) (by_fields : job.fields ≡ true) {end : ℕ} (same : end �
     free_up_to {n} le = rw (take-take n up_to bytes le) at (free_prefix job.delimiter n (take up_to bytes) free)
 
     are_free : ((size ≡ to + 1) ⊎ (size ≤ up_to)) → AreLines job.delimiter front
-    are_free (inl one) = grind (arith, common_steps, complete_lines_cons, line_before_terminator, free_up_to)
+    are_free (inl one) = grind (arith, common_steps, complete_lines_cons, line_before_terminator)
     are_free (inr le) = search (rules, free_lines, free_up_to)
 
     pub puts_kept : {old new : List ℕ} → job.only ≡ false → new ≡ old ++ take size bytes
@@ -396,7 +390,7 @@ module _ (job : Cut) (by_fields : job.fields ≡ true) {end : ℕ} (same : end �
 -- before the first delimiter there is none
 pub free_before : (d : ℕ) (bytes : List ℕ) (r : Option ℕ) → IsFirstByte (is_byte d) bytes r
     → IsLine d (take (unwrap_or r (length bytes)) bytes)
-free_before d bytes None none = grind (arith, common_steps, take_all, line_if_not_found)
+free_before d bytes None none = grind (arith, take_all, line_if_not_found)
 free_before d bytes (Some at) first = line_before_terminator d bytes at first
 
 -- the first delimiter of some bytes is the first one of the first line if it is in that line
@@ -404,8 +398,8 @@ pub first_within : (d : ℕ) (bytes : List ℕ) (r : Option ℕ) (to : ℕ) → 
     → unwrap_or r (length bytes) < to → to ≤ length bytes
     → IsFirstByte (is_byte d) (take to bytes) (Some (unwrap_or r (length bytes)))
 first_within d bytes None to none lt le = absurd (omega arith)
-first_within d bytes (Some at) to first lt le = grind (arith, common_steps, length-take-le, get_or-take)
+first_within d bytes (Some at) to first lt le = grind (arith, common_steps, get_or-take)
 
 -- a text that is cut after a line
 pub cut_of_parts : CutOfParts
-cut_of_parts job a b whole = grind (arith, common_steps, the_lines_of_parts, cut_lines-append)
+cut_of_parts job a b whole = grind (arith, common_steps, the_lines_of_parts)

@@ -81,11 +81,6 @@ pub record StoreBounds (tool : ToolSpec) (before store : Slots) (given : Receive
   pub peak : (input : List ℕ) → IsConsistent given input → store.peak ≤ max before.peak (tool.size input)
   pub size : length store.lines ≡ max (length before.lines) tool.slots
 
--- the store is unchanged
-pub store_unchanged : {tool : ToolSpec} {store : Slots} {given : Received} → tool.slots ≡ 0
-    → StoreBounds tool store store given
-store_unchanged none = record { peak = λ input a. omega arith; size = omega (arith, none) }
-
 -- `?` returns that a write failed
 pub by_write : {A : Type 0} {tool : ToolSpec} {old new : Reader} {was is : Output} {before store : Slots}
     {result : Result (Unit {0}) FlowFault}
@@ -101,7 +96,7 @@ pass_unchanged = grind (arith, call_on_failed_output)
 -- the terminator of the reader was set before the call
 module _ (old : Reader) {set : Reader} {end : ℕ} where
   pub ready_set : {store : Slots} → PassPre old store → set ≡ record old { terminator = end } → PassPre set store
-  ready_set ready same = grind (arith, common_steps)
+  ready_set ready same = grind arith
 
   pub pass_set : {tool : ToolSpec} {new : Reader} {was is : Output} {before store : Slots}
       {result : Result (Unit {0}) FlowFault} → PassPost tool set new was is before store result
@@ -146,10 +141,7 @@ module _ {X : Type 0} {rest_from : X → List ℕ → List ℕ} {start now : X} 
   advanced = search (rules, advance_trans)
 
   never_failed : old.failed ≡ false
-  never_failed = grind (arith, common_steps)
-
-  same_failed : new.failed ≡ reader.failed → new.failed ≡ old.failed
-  same_failed same = cc
+  never_failed = grind arith
 
   text_of : {input : List ℕ} (consistent : IsConsistent received input)
       → tool.text input ≡ midway.pushed ++ rest_from now (piece ++ (new.buffered ++ consistent.rest))
@@ -165,9 +157,9 @@ module _ {X : Type 0} {rest_from : X → List ℕ → List ℕ} {start now : X} 
       reads = λ u read. advanced;
       untouched = λ u unread. cc;
       never_failed = λ u read. never_failed;
-      writable = grind (arith, common_steps, false_from_ne_true);
+      writable = grind (arith, common_steps);
       wrote = search (rules, push_trans);
-      is_prefix = grind (arith, common_steps, text_of, append_assoc);
+      is_prefix = grind (arith, text_of, append_assoc);
       bounded_lag = search (rules, bounded_lag_after);
       peak = grind arith;
       slots = λ texts a. omega arith;
@@ -192,27 +184,27 @@ module _ {X : Type 0} {rest_from : X → List ℕ → List ℕ} {start now : X} 
     pub pass_write : is'.write_failed ≡ true → new.failed ≡ reader.failed → store.denied ≡ false
         → PassPost tool old new was is' before store (Err Write)
     pass_write fault same not_denied = pass (Err Write)
-        (grind (arith, same_failed)) tt
+        (grind arith) tt
         (λ index is. cc)
 
   pub nothing_more : (rest : List ℕ) → (new.eof ≡ true → rest ≡ [])
       → IsPrefix [] (rest_from now (piece ++ (new.buffered ++ rest)))
-  nothing_more rest may = grind (arith, common_steps)
+  nothing_more rest may = grind arith
 
   -- a read failed
   pub pass_read : HasReadCause reader new → store.denied ≡ false
       → (new.buffered ≡ [] → new.eof ≡ false → IsPrefix (tool.decided received) midway.pushed)
       → PassPost tool old new was is before store (Err (Read 0))
   pass_read cause not_denied decided = pass (push_nothing is) nothing_more (Err (Read 0))
-      (grind (arith, never_failed))
-      (search (rules, same_failed, never_failed))
+      (grind arith)
+      (search rules)
       (λ index is. cc)
 
   -- the store could not grow
   pub pass_memory : new.failed ≡ reader.failed → store.denied ≡ true → 0 < length new.buffered
       → PassPost tool old new was is before store (Err Memory)
   pass_memory same denied left = pass (push_nothing is) nothing_more (Err Memory)
-      (grind (arith, same_failed))
+      (grind arith)
       tt (λ index is. cc)
 
   -- the end of the input was reached
@@ -220,13 +212,13 @@ module _ {X : Type 0} {rest_from : X → List ℕ → List ℕ} {start now : X} 
       (same : new.failed ≡ reader.failed) (not_denied : store.denied ≡ false) where
     all_of_it : (rest : List ℕ) → (new.eof ≡ true → rest ≡ [])
         → IsPrefix (rest_from now []) (rest_from now (piece ++ (new.buffered ++ rest)))
-    all_of_it rest whole = grind (arith, common_steps, append-nil)
+    all_of_it rest whole = grind (arith, append-nil)
 
     -- and the output that is due there was pushed
     pub pass_done : is'.write_failed ≡ false → new.fault ≡ None → new.pulled < 2 ^ 63 → total_bytes store.lines ≡ 0
         → PassPost tool old new was is' before store (Ok tt)
     pass_done clean fault short empty = pass wrote all_of_it (Ok tt)
-        (search (rules, same_failed))
+        (search rules)
         tt (λ index is. cc)
 
     -- and a write failed there
@@ -252,7 +244,7 @@ push_then p q = record { wrote = wrote_then _ _ _ p q.wrote; clean = q.clean; fa
 -- a push failed, and so did the call
 pub push_failed : {E : Type 0} {a b : Output} {xs : List ℕ} {r : Result (Unit {0}) E} {e : E} → r ≡ Err e
     → PushEffect a b xs → b.write_failed ≡ true → PushPost a b xs r
-push_failed = grind (arith, common_steps)
+push_failed = grind arith
 
 pub record WrittenPrefix (whole rest : List ℕ) (was is : Output) : Type 0 where
   pub pushed : List ℕ
@@ -339,11 +331,11 @@ module _ {X : Type 0} {rest_from : X → List ℕ → List ℕ} {IsUnchanged : X
       given = run.given ++ block;
       pushed = run.pushed ++ part.pushed;
       reached = record {
-        advance_ok = grind (arith, common_steps, advance_ok_trans, take_all, advance_ok_take);
+        advance_ok = grind (arith, common_steps, take_all, advance_ok_take);
         wrote = search (rules, push_trans);
         clean = part.clean;
       };
-      on = grind (arith, common_steps, append_assoc);
+      on = grind (arith, append_assoc);
       holds = λ same. unchanged (run.holds same);
     }
 
@@ -355,7 +347,7 @@ module _ {X : Type 0} {rest_from : X → List ℕ → List ℕ} {IsUnchanged : X
         (ready : PassPre old store) (sound : IsSound reader) {new : Reader} (reads : ReaderAdvance reader new [])
         (is_sound : IsSound new) where
       decided_so : IsPrefix (tool.decided (record { bytes = run.given; eof = false })) run.pushed
-      decided_so = grind (arith, common_steps)
+      decided_so = grind arith
 
       -- the output that was pushed before this block
       pub ending : PassEnding tool midway new store store []
@@ -364,7 +356,7 @@ module _ {X : Type 0} {rest_from : X → List ℕ → List ℕ} {IsUnchanged : X
         ready = ready;
         sound = sound;
         reads = reads;
-        stored = search (rules, store_unchanged);
+        stored = search rules;
         keeps_store = λ none. refl;
         processing = record {
           before = λ u. record {
@@ -380,7 +372,7 @@ module _ {X : Type 0} {rest_from : X → List ℕ → List ℕ} {IsUnchanged : X
 
       pub block_read : HasReadCause reader new → PassPost tool old new was is store store (Err (Read 0))
       block_read cause = pass_read ending cause ready.not_denied
-          (search (rules, decided_so))
+          (search rules)
 
 -- ---- lines that were read
 
@@ -419,7 +411,7 @@ line_split end (b ∷ bytes) =
 -- the complete lines come before those of the continuation
 pub complete_prefix : (end : ℕ) (bytes rest : List ℕ)
     → lines end (bytes ++ rest) ≡ complete_lines end bytes ++ lines end ((line_split end bytes).piece ++ rest)
-complete_prefix = grind (arith, common_steps, line_split, append_assoc, lines_of_unlines)
+complete_prefix = grind (arith, line_split, append_assoc, lines_of_unlines)
 
 -- the bytes before the first terminator, and those after it
 module _ (end : ℕ) (bytes : List ℕ) (at : ℕ) (first : IsFirstByte (is_byte end) bytes (Some at)) where
@@ -449,14 +441,14 @@ module _ (end : ℕ) where
   taken_more {rest} size texts taken =
       let front = take size rest in record {
         front = taken.front ++ front;
-        split = grind (arith, common_steps, take-append-drop, append_assoc);
-        texts = grind (arith, common_steps, append_assoc);
+        split = grind (arith, common_steps, append_assoc);
+        texts = grind (arith, append_assoc);
       }
 
   -- no complete line is left
   pub taken_all : {block rest : List ℕ} → IsLine end rest → TakenLines end block rest
       → take (length block - length rest) block ≡ unlines end (complete_lines end block)
-  taken_all = grind (arith, common_steps, length-append, take_at, complete_lines_none, append-nil)
+  taken_all = grind (arith, common_steps, take_at, complete_lines_none, append-nil)
 
 longest_prefix : (end : ℕ) (ls : List (List ℕ)) (piece rest : List ℕ) → AreLines end ls → IsLine end piece
     → max (max_length ls) (length piece) ≤ max_length (lines end (unlines end ls ++ (piece ++ rest)))
@@ -479,22 +471,22 @@ module _ (end : ℕ) (now : Reader) (given : List ℕ) (ls : List (List ℕ))
 
   -- for every continuation
   pub lines_on : (rest : List ℕ) → (IsDone now → rest ≡ []) → lines end (given ++ rest) ≡ ls ++ lines end rest
-  lines_on rest may = grind (arith, common_steps, lines_of_unlines, append-nil)
+  lines_on rest may = grind (arith, lines_of_unlines, append-nil)
 
   pub received_longest : (input : List ℕ) → IsConsistent (received_with given now) input
       → max_length ls ≤ max_line_length end input
-  received_longest input consistent = grind (arith, common_steps, append_assoc, lines_on, max_length-append)
+  received_longest input consistent = grind (arith, append_assoc, lines_on, max_length-append)
 
   -- the first part of a line was read
   module _ (new : Reader) (piece : List ℕ) (reads : ReaderAdvance now new piece) (free : IsLine end piece) where
     pub piece_longest : (input : List ℕ) → IsConsistent (received_with (given ++ piece) new) input
         → max (max_length ls) (length piece) ≤ max_line_length end input
     piece_longest input consistent =
-        grind (arith, common_steps, append_assoc, longest_prefix, free, eof_gives_nothing, append-nil)
+        grind (arith, common_steps, append_assoc, longest_prefix, free, append-nil)
 
     -- and the read of its rest failed
     pub whole_before : new.buffered ≡ [] → new.eof ≡ false → known_lines end (received_with (given ++ piece) new) ≡ ls
-    whole_before empty going = search (rules, complete_lines_of_unlines, free, stays_at_eof)
+    whole_before empty going = search (rules, complete_lines_of_unlines)
 
   -- one line was read
   module _ (new : Reader) (before after : Slots) (slot : ℕ) (next_line : FillLine now new before after slot)
@@ -505,7 +497,7 @@ module _ (end : ℕ) (now : Reader) (given : List ℕ) (ls : List (List ℕ))
     -- its bytes are a line for every continuation
     pub line_prefix : (rest : List ℕ) → (IsDone new → rest ≡ [])
         → lines end ((next_line.line ++ next_line.terminator) ++ rest) ≡ next_line.line ∷ lines end rest
-    line_prefix rest may = grind (arith, common_steps, append_assoc, lines_cons, free, append-nil, lines_of_last)
+    line_prefix rest may = grind (arith, append_assoc, lines_cons, free, append-nil, lines_of_last)
 
     pub lines_more : AreReceivedLines end new (given ++ (next_line.line ++ next_line.terminator))
         (ls ++ next_line.line ∷ [])
@@ -547,10 +539,10 @@ module _ {end : ℕ} {now new : Reader} {given : List ℕ} {ls : List (List ℕ)
         earlier = record { bytes = given ++ take n line; eof = false };
         last = drop n line ++ behind;
         split = grind (arith, append_assoc, take-append-drop n line);
-        short = grind (arith, common_steps, length-append);
+        short = grind (arith, common_steps);
         eof = λ never. absurd (false≢true never);
       };
-      whole = grind (arith, common_steps, complete_lines_of_unlines, line_take);
+      whole = grind (arith, complete_lines_of_unlines, line_take);
     }
     | inr (same, done) ↦ let none = eof_gives_nothing _ _ _ done reads in record {
       before = record {
