@@ -7,9 +7,9 @@ use proofs.Common.{IsFirstByte, is_byte, unlines, lines, IsLine, complete_lines,
 use proofs.Common.{unlines-append, line_before_terminator, select_from, cut_line, cut, cut_decided, cut_lines_from}
 use proofs.Common.{cut_bytes_from, cut_list_from, IsPrefix, Cut, Interval, ExtendsCut, CutPost, selected_bytes}
 use proofs.Common.{is_selected, drop-drop, zero, suc, ◌<◌, true, cond, set, ◌&&◌, get_or, length-append, sym}
-use proofs.Common.{◌∙◌, w8, All, nat_le, range_with_len, nat_tests, take-add, Each1}
-use proofs.Common.{Each1-from_get_or, swz_l, pick_l-range_with_len, take-map, take-take, take-append-le, take_all}
-use proofs.Common.{length-take-le, append-nil, All-set, length-range_with_len, cases_eq, put_chunk, length-drop}
+use proofs.Common.{◌∙◌, w8, All, nat_le, range_with_len, nat_tests, take-add}
+use proofs.Common.{swz_l, pick_l-range_with_len, take-map, take-take, take-append-le, take_all}
+use proofs.Common.{length-take-le, append-nil, length-range_with_len, cases_eq, put_chunk, length-drop}
 use proofs.Common.{length-swz_l, slice_get, take_more_set, min, drop_all, drop_more, AreSeparated}
 use Rattle.ptflow.specs.declared.tools.cut.bytes.Line.{Line}
 use proofs.Passes.Exits.{split_of, LineSplit, line_split}

@@ -5,13 +5,13 @@
 -- lines is the output for each, one after the other.
 use Rattle.ptflow.proofs
 use proofs.Common.{common_steps, ◌≡◌, ℕ, zero, suc, ◌+◌, ◌<◌, ◌==◌, ◌-◌, ◌≤◌, Bool, true, false, List, [], ◌∷◌}
-use proofs.Common.{◌++◌, length, take, drop, refl, sym, ◌∙◌, ap, arith, join_with_byte, append-nil}
+use proofs.Common.{◌++◌, length, take, drop, refl, sym, ap, arith, join_with_byte, append-nil}
 use proofs.Common.{take-take, take-add, take_all, drop_all, drop-drop, length-drop, length-take-le, take-append-drop}
-use proofs.Common.{flat_map-append, length-slice_split, count_by, is_byte, byte_eq, eqb-true, fields, prefixed_fields}
-use proofs.Common.{IsFieldOffset, IsNth, get_or, length-append, drop_more, drop-append-le, nil_from_length, Cut}
+use proofs.Common.{flat_map-append, length-slice_split, count_by, is_byte, byte_eq, fields, prefixed_fields}
+use proofs.Common.{IsFieldOffset, IsNth, get_or, length-append, drop-append-le, nil_from_length, Cut}
 use proofs.Common.{cut_fields, is_selected, AreSeparated, Interval, select_from, IsFieldCursor, IsNextSlice}
 use proofs.Common.{output_from_cursor, min, Option, None, Some, is_some, flat_map, list_any, list_any_at, IsFirstByte}
-use proofs.Common.{line_if_not_found, unlines, IsLine, byte_ne, is_field_delimiter, cut_line, cut_lines, cut_tool}
+use proofs.Common.{line_if_not_found, unlines, IsLine, is_field_delimiter, cut_line, cut_lines, cut_tool}
 use proofs.Common.{cut_fields_from, IsPrefix, IsLineFilter, ◌⊎◌, inl, inr, get_or-take, unwrap_or, complete_lines}
 use proofs.Common.{AreLines, line_before_terminator, complete_lines_cons, the_lines, the_complete_lines, CopyLinesPost}
 use proofs.Common.{the_lines_of_parts, CutOfParts, rules}

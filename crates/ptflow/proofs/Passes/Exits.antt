@@ -4,14 +4,14 @@
 -- prefix of the output for each consistent input, and decided output is written.
 use Rattle.ptflow.proofs
 use proofs.Common.{◌≡◌, ℕ, ◌≤◌, ◌<◌, ◌^◌, true, false, List, [], ◌++◌, length, None, Result, Ok, Err, max, arith, Slots}
-use proofs.Common.{append_assoc, common_steps, append-nil, false_from_ne_true, Reader, ReaderAdvance, AdvanceOk, IsDone}
+use proofs.Common.{append_assoc, common_steps, append-nil, Reader, ReaderAdvance, AdvanceOk, IsDone}
 use proofs.Common.{IsSound, HasReadCause, Received, IsPrefix, IsConsistent, Output, PushEffect, total_bytes, push_trans}
 use proofs.Common.{received_with, advance_trans, push_nothing, ToolSpec, PassPre, PassPost, only_input, pass_end, Read}
 use proofs.Common.{pass_engine, CallState, call_state, CallOutcome, AddedSlots, CallProgress, DecidedIfReadFailed, take}
 use proofs.Common.{call_ends, call_on_failed_output, call_set, call_without_slots, ProcessLag, bounded_lag_after, Write}
-use proofs.Common.{FlowFault, Memory, rules, drop, advance_ok_take, Bool, refl, sym, subst, push_past_failure}
-use proofs.Common.{OnErr, err_from_is_err_and, ◌+◌, ◌-◌, take_all, advance_ok_trans, inl, inr, zero, suc, ◌∷◌, unlines}
-use proofs.Common.{length-append, take-append-drop, false≢true, lines, IsLine, AreLines, max_length, max_line_length}
+use proofs.Common.{FlowFault, Memory, rules, drop, advance_ok_take, Bool, refl, push_past_failure}
+use proofs.Common.{OnErr, err_from_is_err_and, ◌+◌, ◌-◌, take_all, inl, inr, zero, suc, ◌∷◌, unlines}
+use proofs.Common.{take-append-drop, false≢true, lines, IsLine, AreLines, max_length, max_line_length}
 use proofs.Common.{known_lines, LaggedInput, FillLine, lines_of_unlines, lines_of_last, lines_cons, lines-unlines, ◌==◌}
 use proofs.Common.{complete_lines_of_unlines, AreReceivedLines, cond, ap, Some, eqb-true, eqb-false, complete_lines}
 use proofs.Common.{onto_first_if_any, complete_lines_none, complete_lines_cons, take_at, IsFirstByte, is_byte}

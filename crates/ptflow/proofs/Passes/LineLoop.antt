@@ -3,9 +3,9 @@
 -- `Exits`. At most one line is in each slot of the tool, and nothing in the others, so the store holds at most `width`
 -- times the maximum length of these lines.
 use Rattle.ptflow.proofs
-use proofs.Common.{◌≡◌, ℕ, zero, suc, ◌+◌, ◌-◌, ◌*◌, ◌<◌, ◌≤◌, false, List, [], ◌∷◌, length, take, drop, set, get_or}
-use proofs.Common.{max, refl, sym, ◌∙◌, ap, subst, arith, inl, inr, take-append-drop, common_steps, drop_more}
-use proofs.Common.{length-set, drop-set-lt, sum_by-cons, sum_by-append, get_or-le-sum_by, Slots, total_bytes, with_line}
+use proofs.Common.{◌≡◌, ℕ, zero, suc, ◌+◌, ◌-◌, ◌*◌, ◌<◌, ◌≤◌, false, List, [], ◌∷◌, length, drop, set, get_or}
+use proofs.Common.{max, refl, ◌∙◌, ap, arith, inl, inr, common_steps}
+use proofs.Common.{length-set, drop-set-lt, sum_by-cons, get_or-le-sum_by, Slots, total_bytes, with_line}
 use proofs.Common.{AddedSlots, IsSwapped, SlotsCleared, Bool, ◌^◌, true, ◌++◌, Ok, Err, append_assoc, length-append}
 use proofs.Common.{nil_from_length, get_or-set_same, lines, complete_lines, IsLine, max_length, max_line_length}
 use proofs.Common.{Received, known_lines, IsPrefix, IsConsistent, Output, PushEffect, Reader, ReaderAdvance, AdvanceOk}

@@ -5,10 +5,10 @@
 use Rattle.ptflow.proofs
 use proofs.Common.{common_steps, ◌≡◌, ℕ, zero, suc, ◌+◌, ◌*◌, ◌^◌, ◌/◌, ◌%◌, ◌<◌, ◌≤◌, Bool, true, false, cond, List, ℤ}
 use proofs.Common.{[], ◌∷◌, ◌++◌, map, length, take, drop, set, get_or, length-drop, drop-cons, append_assoc, add-one}
-use proofs.Common.{refl, sym, ◌∙◌, ap, arith, w8, All, nat_eq, nat_le, range_with_len, mask_l, put_chunk, chunk, pick_l}
+use proofs.Common.{refl, sym, ◌∙◌, ap, arith, w8, All, nat_eq, range_with_len, mask_l, put_chunk, chunk, pick_l}
 use proofs.Common.{Each1, take_more_put_chunk, bit_mask_l, mask_l-lt, Each1-from_get_or, swz_l, ones-mask_l_cons, ◌&&◌}
 use proofs.Common.{pick_l-range_with_len, take-map, take-append-le, drop-append-le, length-take-le, take-append-add}
-use proofs.Common.{length-range_with_len, get_or-range_with_len, and_numeral, nat_tests, pow-succ', select_by, not, eqb}
+use proofs.Common.{length-range_with_len, get_or-range_with_len, and_numeral, pow-succ', select_by, not, eqb}
 use proofs.Common.{true_indices, IsCompressRow, IsCompressTable, filter, append-nil, take-append-drop, take-add, zip2}
 use proofs.Common.{drop-drop, drop_all, length-chunk, mask_l-mod, length-zip2, bit_and, top, cast_unsigned, mask_of}
 use proofs.Common.{is_not_repeat, keep_flags, kept_bytes, FilterPre, bit_or, ◌-◌, rules}

@@ -8,16 +8,16 @@ use proofs.Common.{common_steps, ◌≡◌, ℕ, ◌+◌, ◌<◌, ◌≤◌, �
 use proofs.Common.{length, get_or, replicate, cond, refl, sym, ◌∙◌, ap, arith, w8, Fits, sum_by, zero, suc, slice_get}
 use proofs.Common.{option_map, sel_l, zip2, top, Each1, take-add, false≢true, map-append, tops_compared, zip2_splat}
 use proofs.Common.{zip2_of_maps, splat_is_map, Each1-from_get_or, shift_at, stretch_delta, pos, negsuc, filter, mask_of}
-use proofs.Common.{cast_unsigned, true, set, take_more_set, take-set, take_more, append-nil, add-one, sum_by-append}
-use proofs.Common.{sum_by-cons, range_delta, shift_by_ranges, ◌*◌, ◌/◌, ◌^◌, ◌&&◌, ◌||◌, leb, ltb, eqb, ◌≢◌, ⊎_elim}
+use proofs.Common.{cast_unsigned, true, set, take_more_set, take-set, append-nil, add-one, sum_by-append}
+use proofs.Common.{sum_by-cons, range_delta, shift_by_ranges, ◌*◌, ◌/◌, ◌^◌, ◌&&◌, ◌||◌, ltb, eqb, ◌≢◌, ⊎_elim}
 use proofs.Common.{get_or-drop, ◌-◌, bit_or, bit_and, cast_signed, bit_at, from_bool, swz_l, SwzOk, SwzOk-from_below}
-use proofs.Common.{map-map, and_mask, lt-ltb, le-ltb, cases_eq, cases_lt, nat_tests, pow_pos, length-map, set-get_or}
+use proofs.Common.{map-map, and_mask, lt-ltb, le-ltb, cases_eq, cases_lt, pow_pos, length-map, set-get_or}
 use proofs.Common.{get_or-set_same, table_has, set_has, IsSetOf, All, not, length-set, get_or-chunk, get_or-map, chunk}
-use proofs.Common.{ext_get_or, get_or-set_other, get_or_default, get_or_past, inl, inr, ◌⊎◌, min, rules}
+use proofs.Common.{ext_get_or, get_or_default, get_or_past, inl, inr, ◌⊎◌, min, rules}
 use Rattle.std.specs.Prelude.{is_some}
 use Rattle.ptflow.specs.declared.simd.shift.ShiftRange.{ShiftRange}
 use Rattle.ptlangs.specs.declared.tr.shifts.Stretch.{Stretch}
-use Rattle.std.proofs.lemmas.Nat.Bits.{and_pow, bit_at-lt, bit_at_set_same, bit_at_set_other}
+use Rattle.std.proofs.lemmas.Nat.Bits.{and_pow, bit_at_set_same, bit_at_set_other}
 use Rattle.std.specs.Int.Bits.{or_zero_r}
 use Rattle.ptflow.specs.declared.simd.byte_set.ByteSet.{ByteSet}
 use Rattle.std.proofs.lemmas.Simd.{Each1-get_or, get_or-sel_l, length-sel_l}

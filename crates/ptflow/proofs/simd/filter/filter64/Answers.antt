@@ -1,7 +1,7 @@
 -- If no byte is equal to the one that it is compared with, or the four masks are full, all 64 bytes are kept. Otherwise
 -- each of the four vectors appends those of its bytes that are kept.
 use Rattle.ptflow.proofs
-use proofs.Common.{ℕ, ◌+◌, ◌++◌, ◌∙◌, ap, sym, arith, take, set_has, is_not_repeat}
+use proofs.Common.{◌+◌, ◌++◌, ◌∙◌, ap, sym, arith, take, set_has, is_not_repeat}
 use proofs.Vectors.Compress.{all_kept_in_four, flags_at, kept_in_four, none_equal_in_four, pairs_long}
 use proofs.simd.filter.filter64.Goals as goal
 
