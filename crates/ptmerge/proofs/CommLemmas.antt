@@ -76,6 +76,7 @@ module _ {job : Comm} {cmp : Cmp} {key : Side → Key} {old now : MergeState} {o
   open t use {
     opened as w,
     whole_line_keys,
+    loop_invariant,
     loop_invariant.{ls, p, b, sides, merge_invariant, cursors as lines_before},
     between,
   }
@@ -106,13 +107,12 @@ module _ {job : Comm} {cmp : Cmp} {key : Side → Key} {old now : MergeState} {o
         opened = w;
         whole_line_keys = whole_line_keys;
         loop_invariant = rw (← place_is s one two one2 two2 h.continues.others)
-            (runs_on lines_before s step.status_is h.came
-            (wrote_alone lines_before step between.clean merge_invariant wrote_line).0);
+            (runs_on lines_before s step.status_is h.came (wrote_alone loop_invariant between.clean step wrote_line).0);
         between = between_next between s h.continues;
       }
 
       pub alone_fails : EndsIfFails tool old now s (both one two s) new
-      alone_fails = alone_breaks lines_before step between.clean merge_invariant wrote_line
+      alone_fails = search (rules, alone_breaks, wrote_line)
 
   module _ (step : HaveEqualKeys cmp key (both one two) now.store) where
     -- after the first input advanced: the second one is still at the line
@@ -156,7 +156,7 @@ module _ {job : Comm} {cmp : Cmp} {key : Side → Key} {old now : MergeState} {o
       module _ {one2 two2 : Sorted} {reader : Reader} {after : Slots}
           (h : Advances First one2 two2 reader after mid) {new : Output} (written_out : PushEffect mid new []) where
         wrote_line_out : MergeInvariant tool b both_written old.out new
-        wrote_line_out = (wrote_both (wrote_and_sent _ _ _ _ h.continues.clean wrote_pair written_out)).0
+        wrote_line_out = (wrote_both (search (rules, wrote_and_sent, wrote_pair))).0
 
         pub second_fails : EndsIfFails tool old (state_by_side (both reader (now.reader Second)) new after) Second two2
             new
@@ -176,17 +176,6 @@ module _ {job : Comm} {cmp : Cmp} {key : Side → Key} {old now : MergeState} {o
               opened = w;
               whole_line_keys = whole_line_keys;
               loop_invariant = rw k.continues.others (runs_on g Second step.second came
-                  (goes_merging lines_before First step.first h.came wrote_line_out));
-              between = between_next (between_next between First h.continues) Second k.continues;
+                  (search (rules, goes_merging, wrote_line_out)));
+              between = grind (arith, between_next, between);
             }
-
-  -- ---- the end
-
-  module _ {after : Slots} (clear : ClearFourSlotsPost now.store after) where
-    pub eof : ((side : Side) → (both one two side).status ≡ Ended)
-        → MergePost tool old (state_by_side now.reader now.out after) (Ok tt)
-    eof step = ends_well lines_before merge_invariant between.clean clear step
-
-    pub disordered : {s : Side} {n : ℕ} → IsDisorderDecided cmp key (both one two) now.store s n
-        → MergePost tool old (state_by_side now.reader now.out after) (Err (faults.Disorder s n))
-    disordered = search (rules, ends_fallen, lines_before)

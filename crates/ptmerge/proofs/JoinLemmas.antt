@@ -178,10 +178,10 @@ module _ {job : Join} {cmp : Cmp} {key : Side → Key} {old : MergeState} {phase
     between : LoopInvariant t.opened.w now (both one two) × (end ≡ 4)
     between = rw is at t.phased
 
-    r : LoopInvariant t.opened.w now (both one two)
-    r = between.0
+    pub loop_invariant : LoopInvariant t.opened.w now (both one two)
+    loop_invariant = between.0
 
-    open r use {cursors as lines_before}
+    open loop_invariant use {cursors as lines_before, ls, p, b, sides, merge_invariant}
 
     -- a step for an unpaired line
     module _ {s : Side} (step : HasOnlyLeastKey cmp key (both one two) now.store s) {new : Output}
@@ -195,25 +195,25 @@ module _ {job : Join} {cmp : Cmp} {key : Side → Key} {old : MergeState} {phase
           → AdvanceOkPost key cmp s one two one2 two2 (now.reader s) reader now.store after new
           → IterationInvariant job cmp key old phase (state_after_read now s reader new after) one2 two2 end
       alone_continues h =
-          let (m, _) = wrote_alone lines_before step t.clean r.merge_invariant wrote_unpaired in
+          let (m, _) = wrote_alone loop_invariant t.clean step wrote_unpaired in
           iteration_continues {next = phase} s h.continues
           (rw is (runs_on lines_before s step.status_is h.came m, between.1))
 
       pub alone_fails : EndsIfFails (join_with job cmp key) old now s (both one two s) new
-      alone_fails = alone_breaks lines_before step t.clean r.merge_invariant wrote_unpaired
+      alone_fails = alone_breaks loop_invariant t.clean step wrote_unpaired
 
     -- both inputs have the same key, and a group of it begins
     pub group_opens : HaveEqualKeys cmp key (both one two) now.store
         → IterationInvariant job cmp key old phases.ReadGroup now one two end
     group_opens step =
         let k = key First (head_of now (both one two) First) in
-        let bounds : (side : Side) → r.b side ≡ AtLeast
+        let bounds : (side : Side) → b side ≡ AtLeast
         k = elim [
-          | First ↦ (at_current_line (r.sides First) step.first).bound
-          | Second ↦ rw step.same (at_current_line (r.sides Second) step.second).bound
+          | First ↦ (at_current_line (sides First) step.first).bound
+          | Second ↦ rw step.same (at_current_line (sides Second) step.second).bound
         ] in
-        let none : (side : Side) → r.p side ≡ r.p side ++ both [] []
-        side = elim [ First ↦ sym (append-nil (r.p First)) | Second ↦ sym (append-nil (r.p Second)) ] in
+        let none : (side : Side) → p side ≡ p side ++ both [] []
+        side = elim [ First ↦ sym (append-nil (p First)) | Second ↦ sym (append-nil (p Second)) ] in
         record {
           opened = t.opened;
           phased = record {
@@ -222,13 +222,13 @@ module _ {job : Join} {cmp : Cmp} {key : Side → Key} {old : MergeState} {phase
             kept = [];
             copied = sym (cond_of_empty _);
             q = record {
-              ls = r.ls;
-              p = r.p;
-              d = r.b;
+              ls = ls;
+              p = p;
+              d = b;
               mid = now.out;
-              sides = λ side. rw (← none side) (r.sides side);
+              sides = λ side. rw (← none side) (sides side);
               within = record {
-                merge_invariant = bounds_change (λ side. rw (bounds side) same_bound) r.merge_invariant;
+                merge_invariant = bounds_change (λ side. rw (bounds side) same_bound) merge_invariant;
                 clean = t.clean;
                 own = elim [ First ↦ tt | Second ↦ tt ];
                 later = λ side. rw (bounds side) same_bound;
@@ -244,16 +244,6 @@ module _ {job : Join} {cmp : Cmp} {key : Side → Key} {old : MergeState} {phase
           };
           between = t.between;
         }
-
-    -- the end of the loop
-    module _ {after : Slots} (clear : ClearFourSlotsPost now.store after) where
-      pub eof : ((side : Side) → (both one two side).status ≡ Ended)
-          → MergePost (join_with job cmp key) old (record now { store = after }) (Ok tt)
-      eof step = ends_well lines_before r.merge_invariant t.clean clear step
-
-      pub disordered : {s : Side} {n : ℕ} → IsDisorderDecided cmp key (both one two) now.store s n
-          → MergePost (join_with job cmp key) old (record now { store = after }) (Err (faults.Disorder s n))
-      disordered step = ends_fallen lines_before r.merge_invariant t.clean clear step
 
   -- ---- reading the group
 

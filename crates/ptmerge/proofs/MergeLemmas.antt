@@ -227,94 +227,6 @@ module _ {tool : MergeTool} {old : MergeState} {w : IsOpenMerge tool old} {reade
         slots = (a.sides s).slots;
       }) lag
 
-  -- the current line of the input `s`, whose key precedes everything in the other input, is written
-  module _ {s : Side} (step : HasOnlyLeastKey cmp key cursor store s) {is new : Output}
-      (clean : is.write_failed ≡ false) (m : MergeInvariant tool b p old.out is)
-      (wrote : PushEffect is new (unlines (reader s).terminator (entries_by_key tool all_keys
-      (alone s (line store (cursor s).current_slot))))) where
-    pub wrote_alone : MergeInvariant tool b (with_side s (ls s) p) old.out new
-        × AllWritten tool b (with_side s (ls s) p) old.out new
-    wrote_alone =
-        let x = line store (cursor s).current_slot in
-        let h = at_current_line (a.sides s) step.status_is in
-        let (above, later) =
-        current_key_is_above _ w.o _ _ _ _ _ _ _ _ _ step.before (a.sides (other s)).status_is in
-        let none = lines_with_key-above tool w.o (key (other s)) (key s x) in
-        write_least_run w.o (key s x) (with_side s (ls s) p) (alone s x)
-        (side_case _ s (simp put_same (line_is_least_run w.o h.bound refl)) (simp put_other (record {
-          -- no line of the other input has the key, and only greater keys follow
-          own = tt;
-          may_follow = λ r c. c;
-          later = later;
-        })))
-        (side_case _ s (simp put_same h.all) (simp (put_other, append-nil))) (w.alone.none (key s x))
-        (λ r c. grind (arith, w.alone, none (r (other s)) (above (r (other s)) (c (other s))))) clean m
-        (rw (a.sides s).lines_read.terminator at wrote)
-
-    pub alone_breaks : EndsIfFails tool old (state_by_side reader new store) s (cursor s) new
-    alone_breaks = iteration_fails s step.status_is wrote_alone.1 (put_same s (ls s) p)
-        (rw (put_other s (ls s) p) (read_facts_current (other s)))
-
-  -- an input is out of order, and no key that may follow is up to its last key
-  stops_at : {s : Side} {n : ℕ} → IsDisorderDecided cmp key cursor store s n → IsExactStop tool b (Some (s, n))
-  stops_at {s} {n} dec l r c f =
-      let d : FirstDisorder = record { last_key = previous_key key cursor store s; line = n } in
-      let disordered : b s ≡ AfterDisorder d = rw dec.status_is at (a.sides s).status_is in
-      let st = (a.sides (other s)).status_is in
-      let (above, _) = current_key_is_above _ w.o _ d.last_key _ _ _ _ _ _ _
-      (grind (arith, greater_flips, is_greater, dec.named)) st in
-      rw (named_is _ w.o _ s d _ _ _ _ _ _ _ dec.named st (λ side. first_disorder cmp (key side) (l side))
-      (rw disordered at (f s)) (f (other s))) (
-        none_wanted tool (λ k. is_le (cmp k d.last_key)) r
-            (side_case _ s (rw (rw disordered at (c s)) tt)
-            (EachKey-weaker _ _ (λ k h. ap is_le h) _ _ (above _ (c (other s))))),
-        refl,
-      )
-
-  -- the slots are emptied at the end
-  module _ {out : Output} (m : MergeInvariant tool b p old.out out) (clean : out.write_failed ≡ false) {after : Slots}
-      (clear : ClearFourSlotsPost store after) where
-    abbrev last : MergeState
-    last = state_by_side reader out after
-
-    pushed_all : {found : Option (Side × ℕ)} → (found ≡ None → (side : Side) → IsDone (reader side))
-        → IsExactStop tool b found → AllPushed both_sides (merge_engine tool) old last
-        (given w last read_facts_current) (output_of tool p) found
-    pushed_all ended stop =
-        let exact = exact_output w last read_facts_current m stop in
-        record {
-          out = λ texts agree. (exact texts agree).0;
-          disorder = λ texts agree. (exact texts agree).1;
-          ended = λ none side read. ended none side;
-          fault = λ side read. (a.sides side).lines_read.advance_ok.fault;
-          short = λ side read. (a.sides side).lines_read.advance_ok.short ((w.sound side).long (w.readable side));
-          unfailed = λ side read. none_failed side;
-          clean = clean;
-          not_denied = clear.denied ∙ a.keeps.denied;
-          empty = omega (arith, (has_lines_total store.lines (λ side. max_length (ls side)) 0 a.keeps.lines).is);
-        }
-
-    concludes : (result : Result (Unit {0}) MergeFault) → CallOutcome both_sides (merge_engine tool) old last
-        (given w last read_facts_current) (output_of tool p) (merge_end result)
-        → MergePost tool old last result
-    concludes result ends = exit_is_merge_post w _ read_facts_current
-        (lag_invariant_starts w.o m clean (push_nothing out)) (fits_emptied a.keeps after clear.peak clear.slots)
-        (both_begun begun)
-        (λ side fail. cc (none_failed side, w.unfailed side)) result ends
-
-    pub ends_well : ((side : Side) → (cursor side).status ≡ Ended) → MergePost tool old last (Ok tt)
-    ends_well step =
-        let e : (side : Side) → (b side ≡ NothingMore) × IsDone (reader side) =
-        λ side. rw (step side) at (a.sides side).status_is in
-        concludes (Ok tt) (pushed_all (λ none side. (e side).1) (grind (arith, e)))
-
-    pub ends_fallen : {s : Side} {n : ℕ} → IsDisorderDecided cmp key cursor store s n
-        → MergePost tool old last (Err (faults.Disorder s n))
-    ends_fallen {s} {n} step = concludes (Err (faults.Disorder s n)) (record {
-      named = refl;
-      pushed_all = pushed_all (λ none. cc) (stops_at step);
-    })
-
   -- an input advances
   module _ (s : Side) (head : (cursor s).status ≡ Head) {next : Sorted} {new : Reader} {after : Slots}
       (comes : NextOkPost (key s) cmp (cursor s) next (reader s) new store after) where
@@ -337,6 +249,99 @@ module _ {tool : MergeTool} {old : MergeState} {w : IsOpenMerge tool old} {reade
     pub runs_on : {out : Output} → MergeInvariant tool b (with_side s (ls s) p) old.out out
         → LoopInvariant w (state_by_side (with_side s new reader) out after) (with_side s next cursor)
     runs_on = search (rules, advance_ok, goes_merging)
+
+module _ {tool : MergeTool} {old : MergeState} {w : IsOpenMerge tool old} {now : MergeState} {cursor : Side → Sorted}
+    (loop : LoopInvariant w now cursor) (clean : now.out.write_failed ≡ false) where
+  open tool use {cmp, key}
+  open loop use {ls, p, b, cursors as a, sides, merge_invariant as m}
+
+  -- the current line of the input `s`, whose key precedes everything in the other input, is written
+  module _ {s : Side} (step : HasOnlyLeastKey cmp key cursor now.store s) {new : Output}
+      (wrote : PushEffect now.out new (unlines (now.reader s).terminator (entries_by_key tool all_keys
+      (alone s (line now.store (cursor s).current_slot))))) where
+    pub wrote_alone : MergeInvariant tool b (with_side s (ls s) p) old.out new
+        × AllWritten tool b (with_side s (ls s) p) old.out new
+    wrote_alone =
+        let x = line now.store (cursor s).current_slot in
+        let h = at_current_line (sides s) step.status_is in
+        let (above, later) =
+        current_key_is_above _ w.o _ _ _ _ _ _ _ _ _ step.before (sides (other s)).status_is in
+        let none = lines_with_key-above tool w.o (key (other s)) (key s x) in
+        write_least_run w.o (key s x) (with_side s (ls s) p) (alone s x)
+        (side_case _ s (simp put_same (line_is_least_run w.o h.bound refl)) (simp put_other (record {
+          -- no line of the other input has the key, and only greater keys follow
+          own = tt;
+          may_follow = λ r c. c;
+          own_under = later.under _ (self_at_most _ w.o _);
+          under = λ j u. u;
+          later = later;
+        })))
+        (side_case _ s (simp put_same h.all) (simp (put_other, append-nil))) (w.alone.none (key s x))
+        (λ r c. grind (arith, w.alone, none (r (other s)) (above (r (other s)) (c (other s))))) clean m
+        (rw (sides s).lines_read.terminator at wrote)
+
+    pub alone_breaks : EndsIfFails tool old now s (cursor s) new
+    alone_breaks = iteration_fails a s step.status_is wrote_alone.1 (put_same s (ls s) p)
+        (rw (put_other s (ls s) p) (read_facts_current a (other s)))
+
+  -- an input is out of order, and no key that may follow is up to its last key
+  stops_at : {s : Side} {n : ℕ} → IsDisorderDecided cmp key cursor now.store s n → IsExactStop tool b (Some (s, n))
+  stops_at {s} {n} dec l r c f =
+      let d : FirstDisorder = record { last_key = previous_key key cursor now.store s; line = n } in
+      let disordered : b s ≡ AfterDisorder d = rw dec.status_is at (sides s).status_is in
+      let st = (sides (other s)).status_is in
+      let (above, _) = current_key_is_above _ w.o _ d.last_key _ _ _ _ _ _ _
+      (grind (arith, greater_flips, is_greater, dec.named)) st in
+      rw (named_is _ w.o _ s d _ _ _ _ _ _ _ dec.named st (λ side. first_disorder cmp (key side) (l side))
+      (rw disordered at (f s)) (f (other s))) (
+        none_wanted tool (λ k. is_le (cmp k d.last_key)) r
+            (side_case _ s (rw (rw disordered at (c s)) tt)
+            (EachKey-weaker _ _ (λ k h. ap is_le h) _ _ (above _ (c (other s))))),
+        refl,
+      )
+
+  -- the slots are emptied at the end
+  module _ {after : Slots} (clear : ClearFourSlotsPost now.store after) where
+    abbrev last : MergeState
+    last = record now { store = after }
+
+    pushed_all : {found : Option (Side × ℕ)} → (found ≡ None → (side : Side) → IsDone (now.reader side))
+        → IsExactStop tool b found → AllPushed both_sides (merge_engine tool) old last
+        (given w last (read_facts_current a)) (output_of tool p) found
+    pushed_all ended stop =
+        let exact = exact_output w last (read_facts_current a) m stop in
+        record {
+          out = λ texts agree. (exact texts agree).0;
+          disorder = λ texts agree. (exact texts agree).1;
+          ended = λ none side read. ended none side;
+          fault = λ side read. (sides side).lines_read.advance_ok.fault;
+          short = λ side read. (sides side).lines_read.advance_ok.short ((w.sound side).long (w.readable side));
+          unfailed = λ side read. none_failed a side;
+          clean = clean;
+          not_denied = clear.denied ∙ a.keeps.denied;
+          empty = omega (arith, (has_lines_total now.store.lines (λ side. max_length (ls side)) 0 a.keeps.lines).is);
+        }
+
+    concludes : (result : Result (Unit {0}) MergeFault) → CallOutcome both_sides (merge_engine tool) old last
+        (given w last (read_facts_current a)) (output_of tool p) (merge_end result)
+        → MergePost tool old last result
+    concludes result ends = exit_is_merge_post w _ (read_facts_current a)
+        (lag_invariant_starts w.o m clean (push_nothing now.out)) (fits_emptied a.keeps after clear.peak clear.slots)
+        (both_begun (begun a))
+        (λ side fail. cc (none_failed a side, w.unfailed side)) result ends
+
+    pub ends_well : ((side : Side) → (cursor side).status ≡ Ended) → MergePost tool old last (Ok tt)
+    ends_well step =
+        let e : (side : Side) → (b side ≡ NothingMore) × IsDone (now.reader side) =
+        λ side. rw (step side) at (sides side).status_is in
+        concludes (Ok tt) (pushed_all (λ none side. (e side).1) (grind (arith, e)))
+
+    pub ends_fallen : {s : Side} {n : ℕ} → IsDisorderDecided cmp key cursor now.store s n
+        → MergePost tool old last (Err (faults.Disorder s n))
+    ends_fallen {s} {n} step = concludes (Err (faults.Disorder s n)) (record {
+      named = refl;
+      pushed_all = pushed_all (λ none. cc) (stops_at step);
+    })
 
 -- ---- after one input advanced
 

@@ -15,8 +15,8 @@ use proofs.JoinLemmas.Fields.{partial_starts}
 use proofs.MergeLemmas.{line_other, HasLines, GroupStore, AllExtend, HasRoom, total_within, side_extends}
 use proofs.MergeLemmas.{group_store_next, put_each, put_same, low_slot}
 use proofs.MergeLemmas.{put_both, put_other, side_case, EachKey, same_bytes, Bound, AtLeast, MayFollow, IsUnder}
-use proofs.MergeLemmas.{MergeInvariant, IsFuture, MayCome, all_keys, splits_step, all_wanted, written_is_wanted}
-use proofs.MergeLemmas.{LagInvariant, IsLater, EachKey-append, EachKey-weaker, at_most-same, front_first, front_is}
+use proofs.MergeLemmas.{MergeInvariant, IsFuture, MayCome, all_keys, write_least_run, all_wanted, written_is_wanted}
+use proofs.MergeLemmas.{LagInvariant, IsLater, EachKey-append, EachKey-weaker, at_most-same, front_is}
 use proofs.MergeLemmas.{later_entries, lines_with_key-above, AtMost, least_or_above, self_at_most, equal_is}
 use proofs.MergeLemmas.{SideAfterNext}
 use proofs.MergeLemmas.{at_current_line, IsAtCurrentLine, MatchesStatus, side_invariant_kept}
@@ -244,11 +244,6 @@ pub ruleset pair_steps = (partial_starts, pairs_text)
 -- After a fault within a group, the output of all lesser keys is complete, and the output of the group's key is a
 -- prefix.
 
--- a property of k holds for the keys of all lines of its group
-pub all_own_keys : (P : List ℕ → Type 0) (key : Key) (k : List ℕ) (g : Lines) → P k → EachKey (λ x. x ≡ k) key g
-    → EachKey P key g
-all_own_keys P key k g h = EachKey-weaker _ P (λ x same. subst P (sym same) h) _ g
-
 -- the lines `p` are processed, the lines `g` are the group of the key `k`, and `d` bounds the lines that may follow
 pub record OutputInGroup (tool : MergeTool) (was mid : Output) (p g : Side → Lines) (d : Side → Bound)
     (k : List ℕ) : Type 0 where
@@ -327,11 +322,7 @@ module _ {tool : MergeTool} {old : MergeState} (w : IsOpenMerge tool old) {mid :
   passed_keys : (of side : Side) → EachKey (λ x. AtMost cmp x k) (key side) (p side ++ g side)
   passed_keys of side =
       EachKey-append _ (key side) _ _ (m.merge_invariant.under of side)
-      (all_own_keys (λ x. AtMost cmp x k) (key side) k (g side) (self_at_most cmp o k) (m.own side))
-
-  passed_under : (of side : Side) → EachKey (IsUnder cmp (d of)) (key side) (p side ++ g side)
-  passed_under of side =
-      EachKey-weaker _ _ (m.later of).under _ _ (passed_keys of side)
+      (EachKey-weaker _ _ (λ x is. rw is (self_at_most cmp o k)) _ _ (m.own side))
 
   pub group_written : {is : Output} {extra : Lines} → OutputStartsWith tool g d k extra
       → PushEffect mid is (unlines terminator extra)
@@ -347,7 +338,7 @@ module _ {tool : MergeTool} {old : MergeState} (w : IsOpenMerge tool old) {mid :
     more = wrote;
     all = sym (unlines-append terminator front extra);
     split = λ side. refl;
-    under = passed_under;
+    under = λ of side. EachKey-weaker _ _ (m.later of).under _ _ (passed_keys of side);
     under_bound = passed_keys;
     may_follow = rest_not_less;
     first = λ all seen. group_comes_first all seen begins;
@@ -446,35 +437,22 @@ module _ (call : JoinCall) {mid : Output} {p g : Side → Lines} {d : Side → B
       → ((side : Side) → IsAbove cmp (key side) k (d side))
       → PushEffect mid is (unlines call.terminator (pairs k (g First) (g Second)))
       → MergeInvariant tool d (λ side. p side ++ g side) call.old.out is
-  closes {is} some above wrote =
-      record {
-        splits = splits_step tool (λ side. AtLeast k) d p g m.merge_invariant.splits
-            (rest_not_less call.w m) splits_off;
-        under = passed_under call.w m;
-        wrote = rw (all, unlines-append call.terminator (entries_by_key tool all_keys p) (pairs k (g First) (g Second)))
-            (push_trans _ _ _ _ _ m.clean m.merge_invariant.wrote wrote);
-      }
+  closes some above wrote = (write_least_run o k _ g (λ side. record {
+    own = m.own side;
+    may_follow = rest_not_less call.w m side;
+    own_under = self_at_most cmp o k;
+    under = (m.later side).under;
+    later = m.later side;
+  }) (λ side. refl) (call.w.alone.none k)
+      (λ r c.
+      let none = λ (side : Side). lines_with_key-above tool o (key side) k (r side) (above side (r side) (c side)) in
+      simp (none First, none Second, call.w.alone.none k, append-nil)) m.clean m.merge_invariant (rw output_is wrote)).0
     where
       -- the output of the group alone
-      alone_is : entries_by_key tool all_keys g ≡ entries k (g First) (g Second)
-      alone_is = simp append-nil at (front_is tool o all_keys k (call.w.alone.none k) g (λ side. []) m.own (λ side. tt))
-
-      splits_off : (w : List ℕ → Bool) (r : Side → Lines) → MayCome tool d r
-          → entries_by_key tool w (λ side. g side ++ r side) ≡ entries_by_key tool w g ++ entries_by_key tool w r
-      splits_off w r c =
-          let none = λ (side : Side). lines_with_key-above tool o (key side) k (r side)
-          (above side (r side) (c side)) in
-          let nothing : entries_of_key tool r k ≡ [] = (λ i. entries k (none First i) (none Second i))
-          ∙ call.w.alone.none k in
-          front_first tool o w k (call.w.alone.none k) g r m.own (none_less r c)
-          (simp (none First, none Second, nothing, append-nil))
-
-      all : entries_by_key tool all_keys (λ side. p side ++ g side) ≡ entries_by_key tool all_keys p
-          ++ pairs k (g First) (g Second)
-      all =
-          let split = m.merge_invariant.splits all_keys g
-          (λ side. all_own_keys (AtMost cmp k) (key side) k (g side) (self_at_most cmp o k) (m.own side)) in
-          cc (split, alone_is, own_entries (g First) (g Second) (some First) (some Second))
+      output_is : entries_by_key tool all_keys g ≡ pairs k (g First) (g Second)
+      output_is =
+          simp append-nil at (front_is tool o all_keys k (call.w.alone.none k) g (λ side. []) m.own (λ side. tt))
+          ∙ own_entries (g First) (g Second) (some First) (some Second)
 
 -- ---- the lines of a group
 

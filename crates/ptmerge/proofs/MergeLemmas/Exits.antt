@@ -267,37 +267,36 @@ module _ (tool : MergeTool) (o : IsKeyOrder tool.cmp) (given : Side → Received
       none_tail = above side;
     }
 
-    abbrev mix : Side → Received
-    mix = with_side of point.before.earlier given
+    -- this input as it was then, with the other one
+    module _ (mix : Side → Received) (own : mix of ≡ point.before.earlier) where
+      whole_now : known_lines terminator (mix of) ≡ whole
+      whole_now = rw own point.whole_is
 
-    going : (mix of).eof ≡ false
-    going = rw (put_same of point.before.earlier given) point.going
-
-    whole_now : known_lines terminator (mix of) ≡ whole
-    whole_now = rw (put_same of point.before.earlier given) point.whole_is
-
-    -- the output that this part decides was pushed
-    pub decided_at : IsPrefix (decided_output tool (with_input both_sides of point.before.earlier given))
-        (output_of tool p)
-    decided_at = subst (λ (m : Side → Received). IsPrefix (decided_output tool m)
-        (output_of tool p)) (λ i side. with_side_is of point.before.earlier given side i)
-        (decided_of_passed tool o (λ side. (mix side).eof) (λ side. known_lines terminator (mix side)) of going
-        (rw whole_now ordered.1) p (rw whole_now (put_each Differs of point.before.earlier given mine others)))
+      -- the output that this part decides was pushed
+      pub decided_at : mix (other of) ≡ given (other of) → IsPrefix (decided_output tool mix) (output_of tool p)
+      decided_at rest = decided_of_passed tool o (λ side. (mix side).eof) (λ side. known_lines terminator (mix side)) of
+          (rw own point.going) (rw whole_now ordered.1) p (rw whole_now
+          (side_case (λ side. Differs side (mix side)) of (rw own mine) (rw rest (others (other of)))))
 
     pub lag_bound : ProcessLag {I = Unit {0}} (λ came. decided_output tool (with_input both_sides of (came tt) given))
         (λ u. given of) (output_of tool p)
-    lag_bound = record { before = λ u. point.before; begins = decided_at }
+    lag_bound = record {
+      before = λ u. point.before;
+      begins = decided_at (with_input both_sides of point.before.earlier given) (grind arith) (grind arith);
+    }
 
     -- no disorder was decided
     pub unsettled : EachKey (λ k. IsDisorderFrom cmp k (first_disorder cmp (tool.key (other of))
         (known_lines terminator (given (other of))))) (tool.key of) (q of)
         → (before : LaggedInput (given of)) × (disorder_is_decided tool (with_side of before.earlier given) ≡ false)
-    unsettled up = (
-      point.before,
-      not_settled tool o (λ side. (mix side).eof) (λ side. known_lines terminator (mix side)) of going
-          (rw whole_now ordered.1) (rw (put_other, whole_now)
-          (front_has _ (tool.key of) whole point.rest (rw point.split at up))),
-    )
+    unsettled up =
+        let mix = with_side of point.before.earlier given in
+        let own = put_same of point.before.earlier given in (
+          point.before,
+          not_settled tool o (λ side. (mix side).eof) (λ side. known_lines terminator (mix side)) of
+              (rw own point.going) (rw (whole_now mix own) ordered.1) (rw (put_other, whole_now mix own)
+              (front_has _ (tool.key of) whole point.rest (rw point.split at up))),
+        )
 
 -- ---- the cursor of one input
 
@@ -630,9 +629,8 @@ module _ {tool : MergeTool} {old : MergeState} (w : IsOpenMerge tool old) (new :
           rest = [];
           split = sym (append-nil (p side));
         } in
-        let begins = subst (λ (all : Side → Received). IsPrefix (decided_output tool all)
-        (output_of tool front)) (λ i t. with_own side given t i)
-        (decided_at tool w.o given front _ tail _ lag.split lag.under_bound future side point) in
+        let begins = decided_at tool w.o given front _ tail _ lag.split lag.under_bound future side point given refl
+        refl in
         search (rules, begins, append_assoc)
 
     progress : Fits tool old.store now ls piece new.store
@@ -749,7 +747,8 @@ merge_without_slots {tool} {old} w {new} same_output unread slots =
           slots.least
           slots.few (λ texts. omega (arith, w.fits (lines_of tool texts)))
           (λ side read. decided_at tool w.o (given_before old) none none none (λ t. NoBound) (λ t. refl) (λ of t. tt)
-          future side (point side));
+          future side (point side) (with_input both_sides side (point side).before.earlier (given_before old))
+          (grind arith) (grind arith));
       stops_at_disorder = λ side clean. unsettled tool w.o (given_before old) none none none (λ t. NoBound)
           (λ t. refl) (λ of t. tt) future side (point side) tt;
       first_reads = search (rules, set);

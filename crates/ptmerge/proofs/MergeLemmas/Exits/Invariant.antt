@@ -625,45 +625,47 @@ lag_invariant_starts {tool} o {b} {p} {mid = mid} m clean more = record {
   first = λ all s. (_, input_split o m s);
 }
 
--- the lines `f` of one key, processed by one input, precede all lines that may follow in it
-pub record IsLeastKeyRun (cmp : Cmp) (key : Key) (b : Bound) (k : List ℕ) (f : Lines) : Type 0 where
+-- the lines `f` of one key, processed by one input, may follow after `b`, and precede all lines that may follow after `d`
+pub record IsLeastKeyRun (cmp : Cmp) (key : Key) (b d : Bound) (k : List ℕ) (f : Lines) : Type 0 where
   pub own : EachKey (λ y. y ≡ k) key f
-  pub may_follow : (r : Lines) → MayFollow cmp key b r → MayFollow cmp key b (f ++ r)
-  pub later : IsLater cmp key (AtLeast k) b
+  pub may_follow : (r : Lines) → MayFollow cmp key d r → MayFollow cmp key b (f ++ r)
+  pub own_under : IsUnder cmp b k
+  pub under : (j : List ℕ) → IsUnder cmp b j → IsUnder cmp d j
+  pub later : IsLater cmp key (AtLeast k) d
 
 -- the current line, or no line
 pub line_is_least_run : {cmp : Cmp} (o : IsKeyOrder cmp) {key : Key} {b : Bound} {k x : List ℕ} → b ≡ AtLeast (key x)
-    → key x ≡ k → IsLeastKeyRun cmp key b k (x ∷ [])
+    → key x ≡ k → IsLeastKeyRun cmp key b b k (x ∷ [])
 line_is_least_run = grind (arith, self_at_most)
 
 -- such lines are processed
 pub write_least_run : {tool : MergeTool} (o : IsKeyOrder tool.cmp) (k : List ℕ) (q f : Side → Lines)
-    {b : Side → Bound} {p : Side → Lines} {was is new : Output}
-    → ((side : Side) → IsLeastKeyRun tool.cmp (tool.key side) (b side) k (f side))
+    {b d : Side → Bound} {p : Side → Lines} {was is new : Output}
+    → ((side : Side) → IsLeastKeyRun tool.cmp (tool.key side) (b side) (d side) k (f side))
     → ((side : Side) → q side ≡ p side ++ f side) → tool.entries k [] [] ≡ []
-    → ((r : Side → Lines) → MayCome tool b r → tool.entries k (f First ++ lines_with_key (tool.key First) (r First) k)
+    → ((r : Side → Lines) → MayCome tool d r → tool.entries k (f First ++ lines_with_key (tool.key First) (r First) k)
     (f Second ++ lines_with_key (tool.key Second) (r Second) k) ≡ tool.entries k (f First) (f Second) ++ entries_of_key
     tool r k)
     → is.write_failed ≡ false → MergeInvariant tool b p was is
-    → PushEffect is new (output_of tool f) → MergeInvariant tool b q was new
-    × AllWritten tool b q was new
-write_least_run {tool} o k q f {b} {p} {was} {is} {new} front all none law clean m wrote =
+    → PushEffect is new (output_of tool f) → MergeInvariant tool d q was new
+    × AllWritten tool d q was new
+write_least_run {tool} o k q f {b} {d} {p} {was} {is} {new} front all none law clean m wrote =
     let nothing =
     λ (side : Side). rw append-nil at
-    ((front side).may_follow [] (may_follow_none tool.cmp (tool.key side) (b side))) in
+    ((front side).may_follow [] (may_follow_none tool.cmp (tool.key side) (d side))) in
     let texts = ap (unlines tool.terminator) (m.splits all_keys f nothing)
     ∙ unlines-append _ (entries_by_key tool all_keys p) (entries_by_key tool all_keys f) in
     let under : (of side : Side) → EachKey (IsUnder tool.cmp (b of)) (tool.key side) (p side ++ f side) =
     λ of side. EachKey-append _ (tool.key side) _ _ (m.under of side)
-    (EachKey-weaker _ _ (λ y e. rw e ((front of).later.under k (self_at_most _ o k))) _ _ (front side).own) in
-    let now : MergeInvariant tool b (λ side. p side ++ f side) was new = record {
-      splits = splits_step tool b b p f m.splits (λ side. (front side).may_follow)
+    (EachKey-weaker _ _ (λ y e. rw e (front of).own_under) _ _ (front side).own) in
+    let now : MergeInvariant tool d (λ side. p side ++ f side) was new = record {
+      splits = splits_step tool b d p f m.splits (λ side. (front side).may_follow)
           (λ w r c. front_first tool o w k none f r (λ side. (front side).own)
           (λ side. (front side).later.may_follow (r side) (c side)) (law r c));
-      under = under;
+      under = λ of side. EachKey-weaker _ _ (front of).under _ _ (under of side);
       wrote = rw texts (push_trans _ _ _ _ _ clean m.wrote wrote);
     } in
-    subst (λ (l : Side → Lines). MergeInvariant tool b l was new × AllWritten tool b l was new)
+    subst (λ (l : Side → Lines). MergeInvariant tool d l was new × AllWritten tool d l was new)
     (λ i side. sym (all side) i) (
       now,
       record {
@@ -677,7 +679,7 @@ write_least_run {tool} o k q f {b} {p} {was} {is} {new} front all none law clean
         more = wrote;
         all = sym texts;
         split = λ side. refl;
-        under = under;
+        under = now.under;
         under_bound = under;
         may_follow = λ side. (front side).may_follow;
         first = λ l s. (_, input_split o now s);

@@ -6,8 +6,8 @@ use proofs.Common.{append_assoc, length-append, append-nil, FillLine, Received, 
 use proofs.Common.{ReaderAdvance, AdvanceOk, IsDone, Slots, unlines, lines, complete_lines, IsLine, AreLines}
 use proofs.Common.{max_length, received_with, advance_ok_trans, unlines_push, IsSound, HasNoLine, IsFirstLineAndBlock}
 use proofs.Common.{◌≢◌, zero, suc, ◌*◌, get_or, set, line, total_bytes, with_new_slot, with_line, Side, First, Second}
-use proofs.Common.{Sorted, HasSlots, EnsureFourSlotsPost, ClearFourSlotsPost, Bool, both, with_side, other, with_input}
-use proofs.Common.{both_sides, length-set, Lines, MergeTool, drop, sym}
+use proofs.Common.{Sorted, HasSlots, EnsureFourSlotsPost, ClearFourSlotsPost, Bool, both, with_side, other}
+use proofs.Common.{length-set, Lines, MergeTool, drop, sym}
 use Rattle.ptlines.proofs.MaxLength.{max_length-append, piece_le_max_length}
 use Rattle.std.proofs.Common.{rules}
 use Rattle.std.proofs.lemmas.Grind.{common_steps}
@@ -181,14 +181,6 @@ put_same = grind arith
 
 pub put_other : {X : Type 0} (s : Side) (x : X) (f : Side → X) → with_side s x f (other s) ≡ f (other s)
 put_other = grind arith
-
--- a side that is changed as an input
-pub with_side_is : {X : Type 0} (s : Side) (x : X) (f : Side → X) (side : Side)
-    → with_side s x f side ≡ with_input both_sides s x f side
-with_side_is = grind arith
-
-pub with_own : {X : Type 0} (s : Side) (f : Side → X) (side : Side) → with_input both_sides s (f s) f side ≡ f side
-with_own = grind (arith, with_side_is, put_each)
 
 -- a property of one side and of the other
 pub side_case : (Q : Side → Type 0) (s : Side) → Q s → Q (other s) → (side : Side) → Q side

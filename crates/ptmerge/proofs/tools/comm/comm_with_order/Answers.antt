@@ -2,8 +2,9 @@
 use Rattle.std.proofs.Common.{rules}
 use Rattle.ptmerge.proofs
 use proofs.Common.{refl, ◌∙◌, comm_job}
-use proofs.MergeLemmas.{advance_pre, err_is, start_fault, start_ok, between_starts, reads_less}
-use proofs.CommLemmas.{alone_continues, alone_fails, eof, disordered, pair_decreases, pair_continues}
+use proofs.MergeLemmas.{advance_pre, err_is, start_fault, start_ok, between_starts, reads_less, ends_well}
+use proofs.MergeLemmas.{ends_fallen}
+use proofs.CommLemmas.{alone_continues, alone_fails, pair_decreases, pair_continues}
 use proofs.CommLemmas.{pair_fails, second_advance_pre, second_fails, opened}
 use Rattle.ptmerge.proofs.tools.comm.comm_with_order.Goals as goal
 
@@ -116,9 +117,12 @@ returns-in_err-write_out_and_advance-in-Both g c =
 
 pub returns-in-End : goal.returns-in-End
 returns-in-End g c =
-    rw (← c.steps.invariant.order) (eof c.steps.invariant.iteration c.clear_four_slots.ensures c.in-End.ensures)
+    let i = c.steps.invariant in
+    rw (← i.order)
+    (ends_well i.iteration.loop_invariant i.iteration.between.clean c.clear_four_slots.ensures c.in-End.ensures)
 
 pub returns-in-Stop : goal.returns-in-Stop
 returns-in-Stop g c =
-    rw (← c.steps.invariant.order)
-    (disordered c.steps.invariant.iteration c.clear_four_slots-in-Stop.ensures c.in-Stop.ensures)
+    let i = c.steps.invariant in
+    rw (← i.order) (ends_fallen i.iteration.loop_invariant i.iteration.between.clean c.clear_four_slots-in-Stop.ensures
+    c.in-Stop.ensures)

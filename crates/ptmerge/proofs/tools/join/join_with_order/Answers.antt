@@ -6,8 +6,8 @@ use Rattle.ptmerge.proofs
 use proofs.Common.{refl, sym, ◌∙◌, join_job, arith}
 use proofs.JoinLemmas.{read_group_pre, read_group_fails, read_group_continues, group_closed, group_there}
 use proofs.JoinLemmas.{write_pairs_group, write_pairs_pre, pair_fails, write_pairs_next, write_pairs_continues}
-use proofs.JoinLemmas.{alone_continues, alone_fails, eof, disordered, measure_decreases, opened, group_opens}
-use proofs.MergeLemmas.{advance_pre, err_is, start_fault, start_ok, between_starts}
+use proofs.JoinLemmas.{alone_continues, alone_fails, loop_invariant, measure_decreases, opened, group_opens}
+use proofs.MergeLemmas.{advance_pre, err_is, start_fault, start_ok, between_starts, ends_well, ends_fallen}
 use Rattle.ptmerge.specs.declared.key_order.Side.TheVariants as sides
 use Rattle.ptmerge.specs.declared.tools.join.JoinPhase.TheVariants as phases
 use Rattle.ptmerge.proofs.tools.join.join_with_order.Goals as goal
@@ -90,12 +90,14 @@ steps-preserved-in-Both g c = record {
 pub returns-in-End : goal.returns-in-End
 returns-in-End g c =
     let i = c.steps.invariant in
-    rw (← i.order) (eof i.iteration c.in-BetweenGroups.is c.clear_four_slots.ensures c.in-End.ensures)
+    rw (← i.order) (ends_well (loop_invariant i.iteration c.in-BetweenGroups.is) i.iteration.clean
+    c.clear_four_slots.ensures c.in-End.ensures)
 
 pub returns-in-Stop : goal.returns-in-Stop
 returns-in-Stop g c =
     let i = c.steps.invariant in
-    rw (← i.order) (disordered i.iteration c.in-BetweenGroups.is c.clear_four_slots-in-Stop.ensures c.in-Stop.ensures)
+    rw (← i.order) (ends_fallen (loop_invariant i.iteration c.in-BetweenGroups.is) i.iteration.clean
+    c.clear_four_slots-in-Stop.ensures c.in-Stop.ensures)
 
 pub read_group_line-requires-clause-group : goal.read_group_line-requires-clause-group
 read_group_line-requires-clause-group g c = read_group_in c.steps.invariant.iteration c.in-ReadGroup.is
