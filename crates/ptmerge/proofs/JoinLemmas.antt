@@ -4,27 +4,20 @@
 pub mod Group
 pub mod Fields
 use Rattle.ptmerge.proofs
-use proofs.Common.{NextOkPost, ◌≡◌, ℕ, Bool, true, false, cond, List, [], ◌∷◌, ◌++◌, map, refl, ap, sym, ◌∙◌, ◌+◌, ◌*◌}
-use proofs.Common.{◌≤◌, ◌<◌, Ok, Err, length, arith, append-nil, flat_map-append, Join, Side, First, Second}
-use proofs.Common.{pair_entries, Lines, entries_by_key, Cmp, Key, Output, PushEffect, Reader, Slots, line, unlines}
-use proofs.Common.{MergeFault, Sorted, Head, Ended, IsReadyToContinue, AdvanceOkPost, MergeState, MergePost}
-use proofs.Common.{merge_state, both, with_side, lines_of, Memory, HaveEqualKeys, HasOnlyLeastKey, IsDisorderDecided}
-use proofs.Common.{ClearFourSlotsPost, ◌⊎◌, MergeRunPre, AdvancePre, push_nothing, if◌then◌else◌, max_group_bytes}
-use proofs.Common.{max_group_lines, inl, inr, ClearGroupPost, group, ⊎_elim, ◌-◌, ◌==◌, push_trans, nat_tests}
-use proofs.Common.{length_push, unlines-append, append_assoc, merged_entries, nil_from_length, length-set}
+use proofs.Common.{cond, ◌*◌, Ok, Err, flat_map-append, Cmp, MergeFault, IsReadyToContinue, AdvanceOkPost, MergePost}
+use proofs.Common.{merge_state, both, lines_of, Memory, HaveEqualKeys, HasOnlyLeastKey, IsDisorderDecided}
+use proofs.Common.{ClearFourSlotsPost, ◌⊎◌, MergeRunPre, AdvancePre, push_nothing, if◌then◌else◌, inl, inr, ◌==◌}
+use proofs.Common.{nat_tests, length_push, nil_from_length}
 use Rattle.ptmerge.specs.JoinGroup.{IsInItsSlot, IsCopiedToGroup, ReadGroupLineOkPost, ReadGroupLinePost, IsGroup}
 use Rattle.ptmerge.specs.JoinGroup.{JoinStepPre, JoinLinePre, group_end_slot, group_first_slot}
 use proofs.MergeLemmas.{BetweenSteps, between_next, advance_pre, reads_less, open_merge, alone, wrote_alone}
-use proofs.MergeLemmas.{alone_breaks, IsAbove, reads_ahead, place_is, LoopInvariant, CursorsInvariant, EndsIfFails}
-use proofs.MergeLemmas.{Extends, input_split_of, extends, extends_on, total_within, runs_on, n, ends_well, ends_fallen}
-use proofs.MergeLemmas.{valid_cursors_kept, wrote_and_sent, others_stay}
-use proofs.MergeLemmas.{IsLineByLine, at_current_line, IsOpenMerge as OpenMerge, ComeFirst, exit_is_merge_post}
-use proofs.MergeLemmas.{continues, both_begun, all_keys, AtLeast, same_bound, bounds_change, IsKeyOrder}
-use proofs.MergeLemmas.{same_bytes, EachKey-at, low_slot, Continues}
+use proofs.MergeLemmas.{alone_breaks, reads_ahead, place_is, LoopInvariant, CursorsInvariant, Extends, input_split_of}
+use proofs.MergeLemmas.{extends, extends_on, runs_on, n, ends_well, ends_fallen, valid_cursors_kept, wrote_and_sent}
+use proofs.MergeLemmas.{others_stay, IsLineByLine, IsOpenMerge as OpenMerge, ComeFirst, exit_is_merge_post, continues}
+use proofs.MergeLemmas.{same_bound, bounds_change, IsKeyOrder, EachKey-at, Continues}
 use Rattle.ptmerge.specs.declared.tools.join.JoinPhase.{JoinPhase}
 use Rattle.ptmerge.specs.declared.faults.MergeFault.TheVariants as faults
 use Rattle.ptmerge.specs.declared.tools.join.JoinPhase.TheVariants as phases
-use Rattle.std.proofs.Common.{rules}
 use Rattle.ptmerge.specs.Join.{unpaired_entries1, unpaired_entry, join_with, join_entries, join_key}
 use Group.*
 

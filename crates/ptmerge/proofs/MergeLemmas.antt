@@ -3,18 +3,9 @@
 -- a disorder is reported, and a fault of a write or read ends it with a prefix of the output.
 pub mod Exits
 use Rattle.ptmerge.proofs
-use proofs.Common.{AdvancePre, IsReadyToContinue, ◌≡◌, inl, inr, ℕ, ◌+◌, ◌≤◌, true, false, List, [], ◌∷◌, Option, Some}
-use proofs.Common.{None, Err, length, refl, sym, ◌∙◌, arith, is_le, append-nil, Output, PushEffect, Reader}
-use proofs.Common.{ReaderAdvance, IsDone, IsSound, Slots, line, with_line, unlines, IsLine, push_nothing, MergeFault}
-use proofs.Common.{Side, First, Second, Sorted, CursorStatus, Head, Ended, Disorder, Lines, MergeTool, FirstDisorder}
-use proofs.Common.{entries_by_key, earlier_disorder, first_disorder, MergeState, MergePost, Cmp, Key, NextOkPost}
-use proofs.Common.{HasSlots, with_side, other, PrecedesInput, IsDisorderDecided, ap, ◌⊎◌, max, total_bytes, max_length}
-use proofs.Common.{Write, MergeRunPre, merge_state, WriteFaultPost, both, budget, push_trans, cond, Ordering, is_eq}
-use proofs.Common.{is_gt, CopyToGroupPost, same_key_at, status_at, ◌<◌, Result, ClearFourSlotsPost, Ok, CallOutcome}
-use proofs.Common.{AllPushed, Received, both_sides, reads_nothing, merge_engine, merge_end, IsErrAnd, HasOnlyLeastKey}
+use proofs.Common.{AdvancePre, IsReadyToContinue, PrecedesInput, IsDisorderDecided, MergeRunPre, WriteFaultPost, budget}
+use proofs.Common.{CopyToGroupPost, Ok, AllPushed, IsErrAnd, HasOnlyLeastKey}
 use Rattle.ptmerge.specs.declared.faults.MergeFault.TheVariants as faults
-use Rattle.std.proofs.Common.{rules}
-use Rattle.std.proofs.lemmas.Grind.{common_steps}
 use Rattle.ptmerge.specs.Cursor.{NextErrPost, initial_cursor, base_slot}
 use Rattle.ptmerge.specs.MergeSteps.{StartErrPost, StartFirstPost, MergeInputs, IsReaderOf, IsReportable}
 use Rattle.ptmerge.specs.MergeSteps.{AreValidCursors, StartOkPost, merge_inputs, previous_key}

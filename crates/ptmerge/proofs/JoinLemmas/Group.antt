@@ -2,29 +2,28 @@
 -- all inputs, since lesser keys are complete and the pairs of the group are written in their final order. Once both
 -- inputs are past the key, the group is complete, and counts as processed.
 use Rattle.ptmerge.proofs
-use proofs.Common.{◌≡◌, ⊎_elim, ℕ, ◌+◌, ◌-◌, ◌≤◌, ◌<◌, suc, true, false, length-drop, List, [], ◌∷◌, ◌++◌, length}
-use proofs.Common.{map, drop, get_or, set, max, refl, ap, ◌∙◌, arith, append_assoc, length-append}
-use proofs.Common.{length-set, drop_more, Slots, line, total_bytes, with_line, with_denied, unlines, max_length, Join}
-use proofs.Common.{ClearGroupPost, group, CopyToGroupPost, entry, join_fields, pair_entries, max_over_keys}
-use proofs.Common.{max_group_bytes, max_group_lines, Lines, lines_with_key, Reader, Side, First, Second, Sorted, Key}
-use proofs.Common.{with_side, MergeTool, ◌&&◌, Bool, Some, sym, subst, bytes_eq, bytes_decides, append-nil}
-use proofs.Common.{Output, PushEffect, push_trans, unlines-append, CursorStatus, Head, Ended, Disorder, entries_by_key}
-use proofs.Common.{entries_of_key, MergeState, NextOkPost, other, PrecedesInput, disorder, merged_entries}
-use proofs.Common.{sorted_prefixes, is_up_to, line_of_with_line}
+pub use proofs.Common.{◌≡◌, ⊎_elim, ℕ, ◌+◌, ◌-◌, ◌≤◌, ◌<◌, suc, true, false, length-drop, List, [], ◌∷◌, ◌++◌, length}
+pub use proofs.Common.{map, drop, get_or, set, max, refl, ap, ◌∙◌, arith, append_assoc, length-append, length-set}
+pub use proofs.Common.{drop_more, Slots, line, total_bytes, with_line, with_denied, unlines, max_length, Join}
+pub use proofs.Common.{ClearGroupPost, group, CopyToGroupPost, entry, join_fields, pair_entries, max_over_keys}
+pub use proofs.Common.{max_group_bytes, max_group_lines, Lines, lines_with_key, Reader, Side, First, Second, Sorted}
+pub use proofs.Common.{Key, with_side, MergeTool, ◌&&◌, Bool, Some, sym, subst, bytes_eq, bytes_decides, append-nil}
+pub use proofs.Common.{Output, PushEffect, push_trans, unlines-append, CursorStatus, Head, Ended, Disorder}
+pub use proofs.Common.{entries_by_key, entries_of_key, MergeState, NextOkPost, other, PrecedesInput, disorder}
+pub use proofs.Common.{merged_entries, sorted_prefixes, is_up_to, line_of_with_line}
 use proofs.JoinLemmas.Fields.{partial_starts}
-use proofs.MergeLemmas.{line_other, HasLines, GroupStore, AllExtend, HasRoom, total_within, side_extends}
-use proofs.MergeLemmas.{group_store_next, put_each, put_same, low_slot}
-use proofs.MergeLemmas.{put_both, put_other, side_case, EachKey, same_bytes, Bound, AtLeast, MayFollow, IsUnder}
-use proofs.MergeLemmas.{MergeInvariant, IsFuture, MayCome, all_keys, write_least_run, all_wanted, written_is_wanted}
-use proofs.MergeLemmas.{LagInvariant, IsLater, EachKey-append, EachKey-weaker, at_most-same, front_is}
-use proofs.MergeLemmas.{later_entries, lines_with_key-above, AtMost, least_or_above, self_at_most, equal_is}
-use proofs.MergeLemmas.{SideAfterNext}
-use proofs.MergeLemmas.{at_current_line, IsAtCurrentLine, MatchesStatus, side_invariant_kept}
-use proofs.MergeLemmas.{read_facts_after_line, both_begun, IsOpenMerge, ReadFactsOf, SidesInvariant}
-use proofs.MergeLemmas.{IsAbove, current_key_is_above, next_at, sides_next, EndsIfFails, advance_fails}
+pub use proofs.MergeLemmas.{total_within, low_slot, same_bytes, AtLeast, all_keys, at_current_line, both_begun, IsAbove}
+pub use proofs.MergeLemmas.{EndsIfFails}
+use proofs.MergeLemmas.{line_other, HasLines, GroupStore, AllExtend, HasRoom, side_extends, group_store_next, put_each}
+use proofs.MergeLemmas.{put_same, put_both, put_other, side_case, EachKey, Bound, MayFollow, IsUnder, MergeInvariant}
+use proofs.MergeLemmas.{IsFuture, MayCome, write_least_run, all_wanted, written_is_wanted, LagInvariant, IsLater}
+use proofs.MergeLemmas.{EachKey-append, EachKey-weaker, at_most-same, front_is, later_entries, lines_with_key-above}
+use proofs.MergeLemmas.{AtMost, least_or_above, self_at_most, equal_is, SideAfterNext, IsAtCurrentLine, MatchesStatus}
+use proofs.MergeLemmas.{side_invariant_kept, read_facts_after_line, IsOpenMerge, ReadFactsOf, SidesInvariant}
+use proofs.MergeLemmas.{current_key_is_above, next_at, sides_next, advance_fails}
 use Rattle.std.proofs.Math.ListN.{get_or-append}
 use Rattle.std.proofs.lemmas.Grind.{common_steps}
-use Rattle.std.proofs.Common.{rules}
+pub use Rattle.std.proofs.Common.{rules}
 use Rattle.std.proofs.lemmas.List.{drop-append-le, drop-set-add, set_at, take_at, take_more}
 use Rattle.std.proofs.lemmas.List.Sums.{sum_by-append, sum_by-cons, sum_by_push}
 use Rattle.ptlines.proofs.SlotTotals.{total_bytes_set}

@@ -3,25 +3,15 @@
 pub mod Invariant
 pub mod SlotLines
 use Rattle.ptmerge.proofs
-use proofs.Common.{◌≡◌, ◌⊎◌, ⊎_elim, inl, inr, ℕ, ◌≤◌, false, List, [], ◌∷◌, ◌++◌, Option, Some, None, length, map}
-use proofs.Common.{refl, sym, ◌∙◌, ap, arith, append_assoc, length-append, last_or, append-nil, Received, known_lines}
-use proofs.Common.{Reader, unlines, IsLine, AreLines, received_with, unlines_push, Lines, first_disorder, is_below}
-use proofs.Common.{sorted_prefix, Cmp, Key, Bool, filter-append, filter, IsPrefix, unlines-append, Side, First, Second}
-use proofs.Common.{MergeTool, entries_by_key, disorder, earlier_disorder, is_decided, other, with_side, FirstDisorder}
-use proofs.Common.{with_input, both_sides, subst, not, ◌+◌, ◌<◌, true, cond, nat_tests, length_push, FillLine, IsDone}
-use proofs.Common.{IsSound, Slots, line, with_line, max_length, line_of_with_line, Sorted, CursorStatus, Head, Ended}
-use proofs.Common.{Disorder, status_at, same_key_at, NextOkPost, Result, Err, max, Output, ReaderAdvance, Memory, lines}
-use proofs.Common.{advance_trans, push_trans, MergeFault, Write, lines_of, merged_entries, MergeState, MergePost}
-use proofs.Common.{HasNoLine, reads_nothing, EnsureFourSlotsErrPost, ◌*◌, option_map, CallOutcome, merge_state, both}
-use proofs.Common.{terminator, total_bytes, merge_engine, merge_end, disordered_line, HasSlots, length-set}
+pub use proofs.Common.{⊎_elim, inl, IsPrefix, with_input, both_sides, nat_tests, length_push, line_of_with_line}
+pub use proofs.Common.{CursorStatus, Head, Ended, Disorder, status_at, same_key_at, NextOkPost, Result, Err, Memory}
+pub use proofs.Common.{advance_trans, MergeFault, Write, lines_of, MergeState, MergePost, reads_nothing}
+pub use proofs.Common.{EnsureFourSlotsErrPost, CallOutcome, merge_state, terminator, merge_engine, merge_end}
 use Rattle.ptlines.proofs.LineSearch.{IsLine-append}
-use Rattle.ptmerge.specs.MergeSpec.{MergeDisorder, decided_output, decided_entries, lines_decide_disorder, merge_output}
+use Rattle.ptmerge.specs.MergeSpec.{decided_output, decided_entries, lines_decide_disorder, merge_output}
 use Rattle.ptmerge.specs.MergeSpec.{disorder_is_decided}
 use Rattle.ptlines.proofs.Calls.{call_ends, call_set, call_without_slots, given_before, given_by, CallProgress}
 use Rattle.ptlines.proofs.Calls.{DecidedIfReadFailed, call_on_failed_output}
-use Rattle.ptlines.proofs.MaxLength.{max_length-append}
-use Rattle.std.proofs.Common.{rules}
-use Rattle.std.proofs.lemmas.Grind.{common_steps}
 use Rattle.std.proofs.lemmas.List.{append_cancel_right, map-append}
 use Rattle.ptlines.proofs.Lag.{bounded_lag_after}
 use Rattle.ptlines.specs.Calls.{CallEnd, ReadFault, AreAllConsistent}
@@ -695,12 +685,13 @@ module _ {tool : MergeTool} {old : MergeState} (w : IsOpenMerge tool old) (new :
 
 -- the terminator of both readers was set
 pub merge_set : {tool : MergeTool} {first second set1 set2 : Reader} {out : Output} {store : Slots} {new : MergeState}
-    → (zero : Bool) → tool.terminator ≡ terminator zero → out.write_failed ≡ false
-    → set1 ≡ record first { terminator = cond zero 0 10 } → set2 ≡ record second { terminator = cond zero 0 10 }
+    → (zero_byte : Bool) → tool.terminator ≡ terminator zero_byte → out.write_failed ≡ false
+    → set1 ≡ record first { terminator = cond zero_byte 0 10 }
+    → set2 ≡ record second { terminator = cond zero_byte 0 10 }
     → {result : Result (Unit {0}) MergeFault} → MergePost tool (merge_state set1 set2 out store) new result
     → MergePost tool (merge_state first second out store) new result
 unfolding call_set
-merge_set {tool} {first} {second} {set1} {set2} {new = new} zero end clean is1 is2 m =
+merge_set {tool} {first} {second} {set1} {set2} {new = new} zero_byte end clean is1 is2 m =
     let is : (side : Side) → both set1 set2 side ≡ record (both first second side) { terminator = tool.terminator } =
     λ side. grind (arith, end, is1, is2) in record {
       call = call_set both_sides _ _ _ new clean refl refl (λ side read. is side) (λ side none. cc) m.call;

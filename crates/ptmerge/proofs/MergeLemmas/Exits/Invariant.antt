@@ -2,21 +2,21 @@
 -- key than a processed line. So the output for the processed lines is a prefix of the output for all inputs that begin
 -- with the lines read so far.
 use Rattle.ptmerge.proofs
-use proofs.Common.{◌≡◌, ◌⊎◌, inr, ℕ, List, Bool, true, false, refl, ◌∙◌, ap, arith, bytes_eq, Ordering, Less, Equal}
-use proofs.Common.{Greater, is_eq, is_gt, is_le, bytes_decides, tied_itself, Cmp, byte_cmp, line_cmp, ◌<◌, length}
-use proofs.Common.{get_or, suc, zero, [], ◌∷◌, ◌++◌, cond, map, append_assoc, append-nil, filter, flat_map, Side, First}
-use proofs.Common.{Second, Lines, MergeTool, insert_key, distinct_keys, keys, lines_with_key, entries_of_key}
-use proofs.Common.{entries_by_key, Key, ◌+◌, Option, Some, None, nat_lt, unwrap_or, if◌then◌else◌, last_or}
-use proofs.Common.{sorted_prefix, first_disorder, FirstDisorder, ◌&&◌, not, sym, flat_map-append, earlier_disorder}
-use proofs.Common.{is_up_to, subst, is_lt, Output, PushEffect, unlines, push_trans, push_nothing, unlines-append}
-use proofs.Common.{filter-append, disorder, is_below, is_decided, merged_entries, option_map, with_side}
-use proofs.Common.{disordered_line}
+pub use proofs.Common.{◌≡◌, ◌⊎◌, inr, ℕ, List, Bool, true, false, refl, ◌∙◌, ap, arith, bytes_eq, Ordering, Less, Equal}
+pub use proofs.Common.{Greater, is_eq, is_gt, is_le, bytes_decides, tied_itself, Cmp, byte_cmp, line_cmp, ◌<◌, length}
+pub use proofs.Common.{get_or, suc, zero, [], ◌∷◌, ◌++◌, cond, map, append_assoc, append-nil, filter, flat_map, Side}
+pub use proofs.Common.{First, Second, Lines, MergeTool, insert_key, distinct_keys, keys, lines_with_key, entries_of_key}
+pub use proofs.Common.{entries_by_key, Key, ◌+◌, Option, Some, None, nat_lt, unwrap_or, if◌then◌else◌, last_or}
+pub use proofs.Common.{sorted_prefix, first_disorder, FirstDisorder, ◌&&◌, not, sym, flat_map-append, earlier_disorder}
+pub use proofs.Common.{is_up_to, subst, is_lt, Output, PushEffect, unlines, push_trans, push_nothing, unlines-append}
+pub use proofs.Common.{filter-append, disorder, is_below, is_decided, merged_entries, option_map, with_side}
+pub use proofs.Common.{disordered_line}
 use Rattle.std.specs.Cmp.{IsTotalOrder}
 use Rattle.ptmerge.specs.OrderLaws.{reversed_same_bytes, byte_cmp_equal}
-use Rattle.std.proofs.Common.{rules}
-use Rattle.std.proofs.lemmas.Grind.{common_steps}
+pub use Rattle.std.proofs.Common.{rules}
+pub use Rattle.std.proofs.lemmas.Grind.{common_steps}
 use proofs.MergeLemmas.Exits.SlotLines.{put_each}
-use Rattle.ptmerge.specs.MergeSpec.{MergeDisorder, is_past}
+pub use Rattle.ptmerge.specs.MergeSpec.{MergeDisorder, is_past}
 use Rattle.std.proofs.lemmas.Cmp.{back_total, nat_list_cmp_total, upto}
 
 -- ---- keys in order
@@ -625,7 +625,8 @@ lag_invariant_starts {tool} o {b} {p} {mid = mid} m clean more = record {
   first = λ all s. (_, input_split o m s);
 }
 
--- the lines `f` of one key, processed by one input, may follow after `b`, and precede all lines that may follow after `d`
+-- the lines `f` of one key, processed by one input, may follow at the bound `b`, and precede all lines that may follow
+-- at the bound `d`
 pub record IsLeastKeyRun (cmp : Cmp) (key : Key) (b d : Bound) (k : List ℕ) (f : Lines) : Type 0 where
   pub own : EachKey (λ y. y ≡ k) key f
   pub may_follow : (r : Lines) → MayFollow cmp key d r → MayFollow cmp key b (f ++ r)
