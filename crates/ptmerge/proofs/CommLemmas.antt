@@ -2,17 +2,16 @@
 -- So each step of the merge extends the output by the entries of its key, and the loop invariant of the merge carries
 -- over.
 use Rattle.ptmerge.proofs
-use proofs.Common.{◌≡◌, ℕ, ◌<◌, List, [], ◌∷◌, ◌++◌, Ok, Err, refl, sym, arith, Comm, Output, PushEffect, Reader, Slots}
-use proofs.Common.{line, unlines, Side, First, Second, Sorted, Ended, Lines, MergeTool, entries_by_key, AdvanceOkPost}
-use proofs.Common.{AdvancePre, MergeState, MergePost, merge_state, Cmp, Key, both, with_side, HaveEqualKeys}
-use proofs.Common.{HasOnlyLeastKey, IsDisorderDecided, ClearFourSlotsPost, suc, append-nil, Bool, MergeRunPre}
+use proofs.Common.{◌≡◌, ℕ, ◌<◌, List, [], ◌∷◌, ◌++◌, refl, sym, arith, Comm, Output, PushEffect, Reader, Slots}
+use proofs.Common.{line, unlines, Side, First, Second, Sorted, Lines, MergeTool, entries_by_key, AdvanceOkPost}
+use proofs.Common.{AdvancePre, MergeState, merge_state, Cmp, Key, both, with_side, HaveEqualKeys}
+use proofs.Common.{HasOnlyLeastKey, suc, append-nil, Bool, MergeRunPre}
 use proofs.MergeLemmas.{BetweenSteps, between_next, advance_pre, reads_less, EndsIfFails}
 use proofs.MergeLemmas.{LoopInvariant, advance_ok, goes_merging, passing_now, runs_on, read_facts_current}
 use proofs.MergeLemmas.{iteration_fails, alone, wrote_alone, alone_breaks, reads_ahead, place_is, wrote_and_sent}
-use proofs.MergeLemmas.{ends_well, ends_fallen, open_merge, IsKeyOrder}
+use proofs.MergeLemmas.{open_merge, IsKeyOrder}
 use proofs.MergeLemmas.{same_bytes, AllWritten, MergeInvariant, line_is_least_run, lag_invariant_starts}
 use proofs.MergeLemmas.{write_least_run, all_keys, at_current_line, state_by_side, IsOpenMerge, IsLineByLine}
-use Rattle.ptmerge.specs.declared.faults.MergeFault.TheVariants as faults
 use Rattle.std.proofs.Common.{rules}
 use Rattle.ptmerge.specs.Comm.{comm_with, entries, column_entries, tab_if_shown}
 

@@ -16,7 +16,7 @@ use proofs.MergeLemmas.Exits.Invariant.{sorted_prefix_is, IsDownwardClosed, all_
 use proofs.MergeLemmas.Exits.Invariant.{by_keys_kept, downward_splits, up_to_from, Each, Each-weaker, EachKey}
 use proofs.MergeLemmas.Exits.Invariant.{Each-all, EachKey-weaker, Each-parts, IsKeyOrder, AtMost}
 use proofs.MergeLemmas.Exits.Invariant.{at_most_trans, greater_flips, line_order}
-use Rattle.std.proofs.lemmas.List.Elements.{All-filter, All-from_recursion, recursion_from_All}
+use Rattle.std.proofs.lemmas.List.Elements.{All-filter, recursion_from_All}
 use Rattle.std.proofs.lemmas.List.Sorted.{IsPermutation-refl, IsPermutation-trans, IsPermutation-append_left}
 use Rattle.std.proofs.lemmas.List.Sorted.{IsPermutation-append_right, IsPermutation-append_comm}
 use Rattle.std.specs.List.Sorted.{IsPermutation}
