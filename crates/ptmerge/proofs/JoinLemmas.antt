@@ -4,19 +4,18 @@
 pub mod Group
 pub mod Fields
 use Rattle.ptmerge.proofs
-use proofs.Common.{cond, ◌*◌, Ok, Err, flat_map-append, Cmp, MergeFault, IsReadyToContinue, AdvanceOkPost, MergePost}
-use proofs.Common.{merge_state, both, lines_of, Memory, HaveEqualKeys, HasOnlyLeastKey, IsDisorderDecided}
-use proofs.Common.{ClearFourSlotsPost, ◌⊎◌, MergeRunPre, AdvancePre, push_nothing, if◌then◌else◌, inl, inr, ◌==◌}
+use proofs.Common.{cond, ◌*◌, Err, flat_map-append, Cmp, MergeFault, IsReadyToContinue, AdvanceOkPost, MergePost}
+use proofs.Common.{merge_state, both, lines_of, Memory, HaveEqualKeys, HasOnlyLeastKey}
+use proofs.Common.{◌⊎◌, MergeRunPre, AdvancePre, push_nothing, if◌then◌else◌, inl, inr, ◌==◌}
 use proofs.Common.{nat_tests, length_push, nil_from_length}
 use Rattle.ptmerge.specs.JoinGroup.{IsInItsSlot, IsCopiedToGroup, ReadGroupLineOkPost, ReadGroupLinePost, IsGroup}
 use Rattle.ptmerge.specs.JoinGroup.{JoinStepPre, JoinLinePre, group_end_slot, group_first_slot}
 use proofs.MergeLemmas.{BetweenSteps, between_next, advance_pre, reads_less, open_merge, alone, wrote_alone}
-use proofs.MergeLemmas.{alone_breaks, reads_ahead, place_is, LoopInvariant, CursorsInvariant, Extends, input_split_of}
-use proofs.MergeLemmas.{extends, extends_on, runs_on, n, ends_well, ends_fallen, valid_cursors_kept, wrote_and_sent}
-use proofs.MergeLemmas.{others_stay, IsLineByLine, IsOpenMerge as OpenMerge, ComeFirst, exit_is_merge_post, continues}
+use proofs.MergeLemmas.{alone_breaks, reads_ahead, place_is, LoopInvariant, Extends, input_split_of}
+use proofs.MergeLemmas.{extends, extends_on, runs_on, valid_cursors_kept, wrote_and_sent}
+use proofs.MergeLemmas.{others_stay, IsLineByLine, IsOpenMerge as OpenMerge, exit_is_merge_post, continues}
 use proofs.MergeLemmas.{same_bound, bounds_change, IsKeyOrder, EachKey-at, Continues}
 use Rattle.ptmerge.specs.declared.tools.join.JoinPhase.{JoinPhase}
-use Rattle.ptmerge.specs.declared.faults.MergeFault.TheVariants as faults
 use Rattle.ptmerge.specs.declared.tools.join.JoinPhase.TheVariants as phases
 use Rattle.ptmerge.specs.Join.{unpaired_entries1, unpaired_entry, join_with, join_entries, join_key}
 use Group.*

@@ -3,12 +3,13 @@
 -- a disorder is reported, and a fault of a write or read ends it with a prefix of the output.
 pub mod Exits
 use Rattle.ptmerge.proofs
-use proofs.Common.{AdvancePre, IsReadyToContinue, PrecedesInput, IsDisorderDecided, MergeRunPre, WriteFaultPost, budget}
+use proofs.Common.{AdvancePre, IsReadyToContinue, PrecedesInput, MergeRunPre, WriteFaultPost, budget}
 use proofs.Common.{CopyToGroupPost, Ok, AllPushed, IsErrAnd, HasOnlyLeastKey}
 use Rattle.ptmerge.specs.declared.faults.MergeFault.TheVariants as faults
 use Rattle.ptmerge.specs.Cursor.{NextErrPost, initial_cursor, base_slot}
 use Rattle.ptmerge.specs.MergeSteps.{StartErrPost, StartFirstPost, MergeInputs, IsReaderOf, IsReportable}
 use Rattle.ptmerge.specs.MergeSteps.{AreValidCursors, StartOkPost, merge_inputs, previous_key}
+use Rattle.ptmerge.specs.MergeSteps.{IsDisorderDecided}
 pub use Exits.*
 
 -- ---- keys that may follow

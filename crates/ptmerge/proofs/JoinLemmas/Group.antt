@@ -5,11 +5,11 @@ use Rattle.ptmerge.proofs
 pub use proofs.Common.{◌≡◌, ⊎_elim, ℕ, ◌+◌, ◌-◌, ◌≤◌, ◌<◌, suc, true, false, length-drop, List, [], ◌∷◌, ◌++◌, length}
 pub use proofs.Common.{map, drop, get_or, set, max, refl, ap, ◌∙◌, arith, append_assoc, length-append, length-set}
 pub use proofs.Common.{drop_more, Slots, line, total_bytes, with_line, with_denied, unlines, max_length, Join}
-pub use proofs.Common.{ClearGroupPost, group, CopyToGroupPost, entry, join_fields, pair_entries, max_over_keys}
-pub use proofs.Common.{max_group_bytes, max_group_lines, Lines, lines_with_key, Reader, Side, First, Second, Sorted}
+pub use proofs.Common.{ClearGroupPost, group, CopyToGroupPost, entry, join_fields, pair_entries}
+pub use proofs.Common.{Lines, lines_with_key, Reader, Side, First, Second, Sorted}
 pub use proofs.Common.{Key, with_side, MergeTool, ◌&&◌, Bool, Some, sym, subst, bytes_eq, bytes_decides, append-nil}
 pub use proofs.Common.{Output, PushEffect, push_trans, unlines-append, CursorStatus, Head, Ended, Disorder}
-pub use proofs.Common.{entries_by_key, entries_of_key, MergeState, NextOkPost, other, PrecedesInput, disorder}
+pub use proofs.Common.{entries_by_key, MergeState, NextOkPost, other, PrecedesInput, disorder}
 pub use proofs.Common.{merged_entries, sorted_prefixes, is_up_to, line_of_with_line}
 use proofs.JoinLemmas.Fields.{partial_starts}
 pub use proofs.MergeLemmas.{total_within, low_slot, same_bytes, AtLeast, all_keys, at_current_line, both_begun, IsAbove}
@@ -28,6 +28,7 @@ use Rattle.std.proofs.lemmas.List.{drop-append-le, drop-set-add, set_at, take_at
 use Rattle.std.proofs.lemmas.List.Sums.{sum_by-append, sum_by-cons, sum_by_push}
 use Rattle.ptlines.proofs.SlotTotals.{total_bytes_set}
 use Rattle.ptmerge.specs.JoinGroup.{EnsureSlotPost, CopyToGroupErrPost, is_head}
+pub use Rattle.ptmerge.specs.Join.{max_over_keys, max_group_bytes, max_group_lines}
 
 -- ---- the slots of a group
 
@@ -167,12 +168,12 @@ module _ {tool : MergeTool} {before store : Slots} {ls : Side → Lines} {g : Li
 
   module _ {made : Slots} {to : ℕ} (w : EnsuredSlot store made to) where
     made_same : (i : ℕ) → i < 4 → line made i ≡ line store i
-    made_same i low = cc (get_or-append store.lines w.more [] i (omega (arith, low)))
+    made_same i low = grind (arith, get_or-append)
 
     module _ (y : List ℕ) (at : to ≡ 4 + length g) (within : to < length made.lines)
         (largest : (all : Side → Lines) → AllExtend ls all → HasRoom tool (g ++ y ∷ []) all) where
       first_same : (i : ℕ) → i < 4 → get_or (set made.lines to y) i [] ≡ get_or store.lines i []
-      first_same i low = line_other made to i y (λ e. absurd (omega (arith, at))) ∙ made_same i low
+      first_same i low = grind (arith, line_other, made_same)
 
       by_tail : (t : Lines) → total_bytes t ≡ 0 → length g + 1 ≤ length (g ++ t)
           → drop 4 (set made.lines to y) ≡ set (g ++ t) (length g) y
@@ -189,16 +190,7 @@ module _ {tool : MergeTool} {before store : Slots} {ls : Side → Lines} {g : Li
             empty = omega (arith, none, sum_by-cons length z t);
             lines = lines;
             room = largest;
-            fits = λ all more. omega (
-              arith,
-              k.fits all more,
-              total_within tool (g ++ y ∷ []) (set made.lines to y) lines more (largest all more),
-              largest all more,
-              w.slots,
-              w.peak,
-              length-set made.lines to y,
-              length-append g (y ∷ []),
-            );
+            fits = λ all more. search (rules, k.fits, total_within, largest, length-set, length-append);
             four = four;
             denied = w.denied ∙ k.denied;
           }
@@ -421,8 +413,8 @@ module _ (call : JoinCall) {mid : Output} {p g : Side → Lines} {d : Side → B
       let f = g First ++ lines_with_key (key First) (r First) k in
       let s = g Second ++ lines_with_key (key Second) (r Second) k in
       let own = some_entries keeps f s
-      (omega (arith, some First, length-append (g First) (lines_with_key (key First) (r First) k)))
-      (omega (arith, some Second, length-append (g Second) (lines_with_key (key Second) (r Second) k))) in
+      (grind (arith, length-append, lines_with_key))
+      (grind (arith, length-append, lines_with_key)) in
       let rest = later_entries tool o w k (call.w.alone.none k) r in
       rw (front_is tool o w k (call.w.alone.none k) g r m.own (none_less r c), wanted)
       (omega (arith, own, length-append (entries k f s) rest))
@@ -536,8 +528,7 @@ module _ {call : JoinCall} {now : MergeState} {cursor : Side → Sorted} {end : 
   with_head = at_head.all ∙ append_assoc (q.p s) (g s) (x ∷ [])
 
   pub own_more : (side : Side) → EachKey (λ z. z ≡ k) (key side) (added side)
-  own_more = put_each (λ side (l : Lines). EachKey (λ z. z ≡ k) (key side) l) s (g s ++ x ∷ []) g
-      (EachKey-append _ (key s) _ _ (q.within.own s) (l.is, tt)) q.within.own
+  own_more = grind (arith, common_steps, put_each, q.within.own, l.is)
 
   pub within_more : OutputInGroup tool old.out q.mid q.p added q.d k
   within_more = assumption (own_more, q.within)
@@ -580,7 +571,7 @@ module _ {call : JoinCall} {now : MergeState} {cursor : Side → Sorted} {end : 
 
     -- whether the next line has the key of the group, too
     pub continues_key : next.same ≡ true → (next.status ≡ Head) × (key s (line after next.current_slot) ≡ k)
-    continues_key same = has_key next.status k (key s (line after next.current_slot)) (sym says ∙ same)
+    continues_key same = grind (arith, has_key, says)
 
     pub leaves_key : next.same ≡ false → next.status ≡ Head → ¬ (key s (line after next.current_slot) ≡ k)
     leaves_key same head is = cc (says, same_bytes (refl {a = k}))
@@ -606,13 +597,8 @@ module _ {call : JoinCall} {now : MergeState} {cursor : Side → Sorted} {end : 
                 (with_side s next cursor) after (with_side s n.now_ls q.ls) f (with_side s n.bound q.d))
                 (λ i side. put_both (λ side (l m : Lines). l ≡ q.p side ++ m) s (q.ls s) (λ side. q.p side ++ g side)
                 (g s ++ x ∷ []) g with_head refl side i) (sides_next o q.sides s l.head comes);
-            within = record {
-              merge_invariant = q.within.merge_invariant;
-              clean = q.within.clean;
-              own = own_more;
-              later = put_each (λ side. IsLater cmp (key side) (AtLeast k)) s n.bound q.d (rw l.is at n.later)
-                  q.within.later;
-            };
+            within = assumption (q.within, own_more, put_each (λ side. IsLater cmp (key side) (AtLeast k)) s n.bound q.d
+                (rw l.is at n.later) q.within.later);
             keeps = group_store_next s (cursor s) (q.sides s).slots q.keeps n;
             wrote = wrote;
             at = q.at;

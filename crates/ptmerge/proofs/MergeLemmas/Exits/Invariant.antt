@@ -2,14 +2,14 @@
 -- key than a processed line. So the output for the processed lines is a prefix of the output for all inputs that begin
 -- with the lines read so far.
 use Rattle.ptmerge.proofs
-pub use proofs.Common.{◌≡◌, ◌⊎◌, inr, ℕ, List, Bool, true, false, refl, ◌∙◌, ap, arith, bytes_eq, Ordering, Less, Equal}
+pub use proofs.Common.{◌≡◌, ◌⊎◌, inr, ℕ, List, Bool, true, false, refl, ◌∙◌, ap, arith, bytes_eq, Less, Equal}
 pub use proofs.Common.{Greater, is_eq, is_gt, is_le, bytes_decides, tied_itself, Cmp, byte_cmp, line_cmp, ◌<◌, length}
 pub use proofs.Common.{get_or, suc, zero, [], ◌∷◌, ◌++◌, cond, map, append_assoc, append-nil, filter, flat_map, Side}
-pub use proofs.Common.{First, Second, Lines, MergeTool, insert_key, distinct_keys, keys, lines_with_key, entries_of_key}
+pub use proofs.Common.{First, Second, Lines, MergeTool, distinct_keys, keys, lines_with_key, entries_of_key}
 pub use proofs.Common.{entries_by_key, Key, ◌+◌, Option, Some, None, nat_lt, unwrap_or, if◌then◌else◌, last_or}
-pub use proofs.Common.{sorted_prefix, first_disorder, FirstDisorder, ◌&&◌, not, sym, flat_map-append, earlier_disorder}
+pub use proofs.Common.{sorted_prefix, first_disorder, FirstDisorder, ◌&&◌, not, sym, flat_map-append}
 pub use proofs.Common.{is_up_to, subst, is_lt, Output, PushEffect, unlines, push_trans, push_nothing, unlines-append}
-pub use proofs.Common.{filter-append, disorder, is_below, is_decided, merged_entries, option_map, with_side}
+pub use proofs.Common.{disorder, merged_entries, option_map, with_side}
 pub use proofs.Common.{disordered_line}
 use Rattle.std.specs.Cmp.{IsTotalOrder}
 use Rattle.ptmerge.specs.OrderLaws.{reversed_same_bytes, byte_cmp_equal}
@@ -18,6 +18,9 @@ pub use Rattle.std.proofs.lemmas.Grind.{common_steps}
 use proofs.MergeLemmas.Exits.SlotLines.{put_each}
 pub use Rattle.ptmerge.specs.MergeSpec.{MergeDisorder, is_past}
 use Rattle.std.proofs.lemmas.Cmp.{back_total, nat_list_cmp_total, upto}
+pub use Rattle.std.proofs.lemmas.List.Elements.{filter-append}
+pub use Rattle.std.specs.declared.cmp.Ordering.{Ordering}
+pub use Rattle.ptmerge.specs.MergeSpec.{earlier_disorder, insert_key, is_below, is_decided}
 
 -- ---- keys in order
 

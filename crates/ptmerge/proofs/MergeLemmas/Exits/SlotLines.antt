@@ -2,11 +2,11 @@
 -- than its longest line, bound the bytes stored.
 use Rattle.ptmerge.proofs
 pub use proofs.Common.{◌≡◌, ◌⊎◌, ℕ, ◌+◌, ◌<◌, ◌≤◌, true, false, List, [], ◌∷◌, ◌++◌, length, max, refl, ◌∙◌, arith}
-pub use proofs.Common.{append_assoc, length-append, append-nil, FillLine, Received, IsConsistent, known_lines, Reader}
-pub use proofs.Common.{ReaderAdvance, AdvanceOk, IsDone, Slots, unlines, lines, complete_lines, IsLine, AreLines}
-pub use proofs.Common.{max_length, received_with, advance_ok_trans, unlines_push, IsSound, HasNoLine}
+pub use proofs.Common.{append_assoc, length-append, append-nil, Received, IsConsistent, known_lines, Reader}
+pub use proofs.Common.{Slots, unlines, lines, complete_lines, IsLine, AreLines}
+pub use proofs.Common.{max_length, advance_ok_trans, HasNoLine}
 pub use proofs.Common.{IsFirstLineAndBlock, ◌≢◌, zero, suc, ◌*◌, get_or, set, line, total_bytes, with_new_slot}
-pub use proofs.Common.{with_line, Side, First, Second, Sorted, HasSlots, EnsureFourSlotsPost, ClearFourSlotsPost, Bool}
+pub use proofs.Common.{with_line, Side, First, Second, Sorted, HasSlots, Bool}
 pub use proofs.Common.{both, with_side, other, length-set, Lines, MergeTool, drop, sym}
 pub use Rattle.ptlines.proofs.MaxLength.{max_length-append, piece_le_max_length}
 pub use Rattle.std.proofs.Common.{rules}
@@ -14,6 +14,11 @@ pub use Rattle.std.proofs.lemmas.Grind.{common_steps}
 use Rattle.ptlines.proofs.TextLaws.{AreLines_push, complete_lines_cons, complete_lines_none, lines_of_last}
 use Rattle.ptlines.proofs.TextLaws.{lines_of_unlines}
 use Rattle.std.proofs.lemmas.List.{drop-set-lt}
+pub use Rattle.ptlines.proofs.Received.{received_with}
+pub use Rattle.ptlines.proofs.TextLaws.{unlines_push}
+pub use Rattle.ptlines.specs.ReadLine.{FillLine}
+pub use Rattle.ptlines.specs.Readers.{AdvanceOk, IsDone, IsSound, ReaderAdvance}
+pub use Rattle.ptmerge.specs.MergeSlots.{EnsureFourSlotsPost, ClearFourSlotsPost}
 
 -- ---- lines that were read
 

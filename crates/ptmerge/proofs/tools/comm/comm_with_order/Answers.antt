@@ -47,35 +47,23 @@ write_out_and_advance-requires-clause-status_is g c = rw c.write_head-in-Both.en
 
 pub steps-preserved-in-Continue-branch-2 : goal.steps-preserved-in-Continue-branch-2
 steps-preserved-in-Continue-branch-2 g c =
-    let i = c.steps.invariant in
     let p = c.write_head.ensures in
-    rw p.order (record {
-      iteration = alone_continues i.iteration c.in-First.ensures refl p.wrote
-          c.in_ok-write_head-in-First.ensures.advances;
-      order = i.order;
-    })
+    rw p.order (assumption (alone_continues c.steps.invariant.iteration c.in-First.ensures refl p.wrote
+    c.in_ok-write_head-in-First.ensures.advances))
 
 pub steps-preserved-in-Continue-branch-3 : goal.steps-preserved-in-Continue-branch-3
 steps-preserved-in-Continue-branch-3 g c =
-    let i = c.steps.invariant in
     let p = c.write_head-in-Second.ensures in
-    rw p.order (record {
-      iteration = alone_continues i.iteration c.in-Second.ensures c.tabs-tabs2.ensures p.wrote
-          c.in_ok-write_head-in-Second.ensures.advances;
-      order = i.order;
-    })
+    rw p.order (assumption (alone_continues c.steps.invariant.iteration c.in-Second.ensures c.tabs-tabs2.ensures
+    p.wrote c.in_ok-write_head-in-Second.ensures.advances))
 
 pub steps-preserved : goal.steps-preserved
 steps-preserved g c =
-    let i = c.steps.invariant in
     let p = c.write_head-in-Both.ensures in
     let q = c.write_out_and_advance.ensures in
-    rw (q.order ∙ p.order) (record {
-      iteration = pair_continues i.iteration c.in-Both.ensures c.tabs-tabs3.ensures p.wrote
-          c.in_ok-write_head-in-Both.ensures.advances q.written_out
-          (rw p.order at c.in_ok-write_out_and_advance-in-Both.ensures.advances);
-      order = i.order;
-    })
+    rw (q.order ∙ p.order) (assumption (pair_continues c.steps.invariant.iteration c.in-Both.ensures
+    c.tabs-tabs3.ensures p.wrote c.in_ok-write_head-in-Both.ensures.advances q.written_out (rw p.order at
+    c.in_ok-write_out_and_advance-in-Both.ensures.advances)))
 
 pub steps-smaller-in-Continue-branch-2 : goal.steps-smaller-in-Continue-branch-2
 steps-smaller-in-Continue-branch-2 g c = search (rules, reads_less)
