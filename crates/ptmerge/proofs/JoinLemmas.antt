@@ -27,7 +27,7 @@ cond_of_empty = grind arith
 
 module _ (job : Join) (cmp : Cmp) (key : Side → Key) where
   first_alone : (k : List ℕ) (g : Lines) → join_entries job k g [] ≡ unpaired_entries1 job k g
-  first_alone k [] = cond_of_empty job.unpaired2 ∙ sym (cond_of_empty job.unpaired1)
+  first_alone k [] = grind (arith, cond_of_empty)
   first_alone k (a ∷ g) = refl
 
   is_line_by_line : IsLineByLine (join_with job cmp key)
@@ -111,7 +111,7 @@ pub record IsOpenMerge (job : Join) (cmp : Cmp) (key : Side → Key) (old : Merg
 pub opened : (job : Join) {cmp : Cmp} {key : Side → Key} {first second : Reader} {out : Output} {store : Slots}
     → IsKeyOrder cmp → ((side : Side) (x : List ℕ) → key side x ≡ join_key job side x)
     → MergeRunPre job.terminator first second out store → IsOpenMerge job cmp key (merge_state first second out store)
-opened job {cmp} {key} o keys begins = grind (arith, open_merge, begins, is_line_by_line job cmp key)
+opened job {cmp} {key} o keys begins = grind (arith, open_merge, is_line_by_line)
 
 -- the call
 abbrev pub join_call_of : {job : Join} {cmp : Cmp} {key : Side → Key} {old : MergeState} → IsOpenMerge job cmp key old
@@ -181,7 +181,7 @@ module _ {job : Join} {cmp : Cmp} {key : Side → Key} {old : MergeState} {phase
         (unpaired_entry job s (head_of now (both one two) s)))) where
       wrote_unpaired : PushEffect now.out new (unlines (now.reader s).terminator
           (entries_by_key (join_with job cmp key) all_keys (alone s (head_of now (both one two) s))))
-      wrote_unpaired = rw (entries_alone job cmp key s _ (t.opened.keys s _)) pushed
+      wrote_unpaired = grind (arith, entries_alone)
 
       pub alone_continues : {one2 two2 : Sorted} {reader : Reader} {after : Slots}
           → AdvanceOkPost key cmp s one two one2 two2 (now.reader s) reader now.store after new
@@ -205,7 +205,7 @@ module _ {job : Join} {cmp : Cmp} {key : Side → Key} {old : MergeState} {phase
           | Second ↦ rw step.same (at_current_line (sides Second) step.second).bound
         ] in
         let none : (side : Side) → p side ≡ p side ++ both [] []
-        side = elim [ First ↦ sym (append-nil (p First)) | Second ↦ sym (append-nil (p Second)) ] in
+        side = search rules in
         record {
           opened = t.opened;
           phased = record {

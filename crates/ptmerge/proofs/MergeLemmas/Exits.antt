@@ -207,19 +207,15 @@ module _ (tool : MergeTool) (o : IsKeyOrder tool.cmp) (eof : Side → Bool) (ls 
 front_has : (P : List ℕ → Type 0) (key : Key) (xs ys : Lines) → EachKey P key (xs ++ ys) → EachKey P key xs
 front_has P key xs ys e = let (front, _) = Each-parts P (map key xs) (map key ys) (rw map-append at e) in front
 
--- the sorted prefix of the lines `ls` is `q`, whose last lines are `tail`, and then lines that may follow
-pub record LinesToCome (tool : MergeTool) (side : Side) (ls q tail : Lines) (bound : Bound) : Type 0 where
-  pub rest : Lines
-  pub is : sorted_prefix tool.cmp (tool.key side) ls ≡ q ++ rest
-  pub may_follow : MayFollow tool.cmp (tool.key side) bound (tail ++ rest)
-
--- `q` are the processed lines; the output for `p` is complete, and the rest of `q` follows it
-module _ (tool : MergeTool) (o : IsKeyOrder tool.cmp) (given : Side → Received) (p q tail : Side → Lines)
-    (bound : Side → Bound) (split : (side : Side) → q side ≡ p side ++ tail side)
-    (under : (of side : Side) → EachKey (IsUnder tool.cmp (bound of)) (tool.key side) (q side))
-    (future : (side : Side) → LinesToCome tool side (known_lines tool.terminator (given side)) (q side) (tail side)
-    (bound side)) where
+-- `q` are the processed lines; the output for the first of them is complete, and the rest of `q` follows it
+module _ {tool : MergeTool} (o : IsKeyOrder tool.cmp) (given : Side → Received) {b : Side → Bound} {q : Side → Lines}
+    {was is : Output} {done : Lines} (lag : LagInvariant tool b q was is done) (seen : (side : Side)
+    → IsFuture tool.cmp (tool.key side) (known_lines tool.terminator (given side)) (q side) (b side)) where
   open tool use {cmp, terminator}
+
+  -- the lines whose output is not complete, and then lines that may follow
+  abbrev to_come : Side → Lines
+  to_come side = lag.tail side ++ (seen side).rest
 
   module _ (of : Side) (point : LagPoint tool.terminator (given of) (q of)) where
     abbrev whole : Lines
@@ -231,21 +227,21 @@ module _ (tool : MergeTool) (o : IsKeyOrder tool.cmp) (given : Side → Received
 
     in_order : IsSortedFrom cmp (tool.key of) None (whole ++ point.rest)
     in_order = rw (← point.split) (sorted_from_parts cmp (tool.key of) None (q of)
-        (future of).rest (rw (← (future of).is, sorted_prefix_is) (sorted_from_after cmp (tool.key of) None _))).0
+        (seen of).rest (rw (← (seen of).is, sorted_prefix_is) (sorted_from_after cmp (tool.key of) None _))).0
 
     ordered : (sorted_prefix cmp (tool.key of) whole ≡ whole) × (first_disorder cmp (tool.key of) whole ≡ None)
     ordered = grind (arith, sorted_from_parts, in_order, sorted_from_start)
 
     -- no line that follows is below that key
-    above : (side : Side) → EachKey (λ k. is_below cmp k last ≡ false) (tool.key side) (tail side ++ (future side).rest)
+    above : (side : Side) → EachKey (λ k. is_below cmp k last ≡ false) (tool.key side) (to_come side)
     above side =
-        past_none cmp o (tool.key of) _ (bound side) whole _ (front_has _ (tool.key of) whole point.rest
-        (rw point.split at (under side of))) (future side).may_follow
+        past_none cmp o (tool.key of) _ (lag.bound side) whole _ (front_has _ (tool.key of) whole point.rest
+        (rw point.split at (lag.under_bound side of))) (lag.may_follow side _ (seen side).may_follow)
 
     -- the lines of an input are the processed ones, except for lines that are not below that key
     abbrev Differs : Side → Received → Type 0
     Differs side g =
-        Differ tool last (tool.key side) (sorted_prefix cmp (tool.key side) (known_lines terminator g)) (p side)
+        Differ tool last (tool.key side) (sorted_prefix cmp (tool.key side) (known_lines terminator g)) (lag.front side)
 
     mine : Differs of point.before.earlier
     mine = grind (arith, none_below, front_has, ordered, in_order, above of)
@@ -253,8 +249,8 @@ module _ (tool : MergeTool) (o : IsKeyOrder tool.cmp) (given : Side → Received
     others : (side : Side) → Differs side (given side)
     others side = record {
       rest = [];
-      tail = tail side ++ (future side).rest;
-      same = grind (arith, append-nil, (future side).is, split side, append_assoc);
+      tail = to_come side;
+      same = grind (arith, append-nil, (seen side).is, lag.split side, append_assoc);
       none_rest = tt;
       none_tail = above side;
     }
@@ -265,23 +261,28 @@ module _ (tool : MergeTool) (o : IsKeyOrder tool.cmp) (given : Side → Received
       whole_now = rw own point.whole_is
 
       -- the output that this part decides was pushed
-      pub decided_at : mix (other of) ≡ given (other of) → IsPrefix (decided_output tool mix) (output_of tool p)
+      decided_at : mix (other of) ≡ given (other of) → IsPrefix (decided_output tool mix) (output_of tool lag.front)
       decided_at rest = decided_of_passed tool o (λ side. (mix side).eof) (λ side. known_lines terminator (mix side)) of
-          (rw own point.going) (rw whole_now ordered.1) p (rw whole_now
+          (rw own point.going) (rw whole_now ordered.1) lag.front (rw whole_now
           (side_case (λ side. Differs side (mix side)) of (rw own mine) (rw rest (others (other of)))))
 
+      pub decided_by : mix (other of) ≡ given (other of) → IsPrefix (decided_output tool mix) (unlines terminator done)
+      decided_by rest = let begins = decided_at rest in search (rules, begins, append_assoc, lag.all)
+
     pub lag_bound : ProcessLag {I = Unit {0}} (λ came. decided_output tool (with_input both_sides of (came tt) given))
-        (λ u. given of) (output_of tool p)
+        (λ u. given of) (output_of tool lag.front)
     lag_bound = record {
       before = λ u. point.before;
       begins = decided_at (with_input both_sides of point.before.earlier given) (grind arith) (grind arith);
     }
 
     -- no disorder was decided
-    pub unsettled : EachKey (λ k. IsDisorderFrom cmp k (first_disorder cmp (tool.key (other of))
-        (known_lines terminator (given (other of))))) (tool.key of) (q of)
-        → (before : LaggedInput (given of)) × (disorder_is_decided tool (with_side of before.earlier given) ≡ false)
-    unsettled up =
+    pub unsettled : (before : LaggedInput (given of))
+        × (disorder_is_decided tool (with_side of before.earlier given) ≡ false)
+    unsettled =
+        let up = EachKey-weaker _ (λ k. IsDisorderFrom cmp k (first_disorder cmp (tool.key (other of))
+        (known_lines terminator (given (other of)))))
+        (λ k u. grind (arith, at_most_trans, (seen (other of)).may_disorder)) _ _ (lag.under (other of) of) in
         let mix = with_side of point.before.earlier given in
         let own = put_same of point.before.earlier given in (
           point.before,
@@ -591,18 +592,6 @@ module _ {tool : MergeTool} {old : MergeState} (w : IsOpenMerge tool old) (new :
       )
 
   module _ {done : Lines} (lag : LagInvariant tool b p old.out new.out done) where
-    open lag use {front, tail, bound, bytes}
-
-    come_first : (texts : Side → List ℕ) → AreAllConsistent both_sides given texts
-        → (rest : Lines) × (merged_entries tool (lines_of tool texts) ≡ done ++ rest)
-    come_first texts agree = lag.first _ (input_split_of (lines_of tool texts) (continues texts agree))
-
-    future : (side : Side) → LinesToCome tool side (known_lines tool.terminator (given side)) (p side) (tail side)
-        (bound side)
-    future side =
-        let s = whole_input_split side in
-        record { rest = s.rest; is = s.is; may_follow = lag.may_follow side s.rest s.may_follow }
-
     -- everything is decided once the last line of an input is processed
     decided : (side : Side) → IsFailedRead (new.reader side) (ls side) (p side)
         → IsPrefix (decided_output tool given) (unlines tool.terminator done)
@@ -621,9 +610,7 @@ module _ {tool : MergeTool} {old : MergeState} (w : IsOpenMerge tool old) (new :
           rest = [];
           split = sym (append-nil (p side));
         } in
-        let begins = decided_at tool w.o given front _ tail _ lag.split lag.under_bound future side point given refl
-        refl in
-        search (rules, begins, append_assoc)
+        decided_by w.o given lag whole_input_split side point given refl refl
 
     progress : Fits tool old.store now ls piece new.store
         → CallProgress both_sides (merge_engine tool) old new took (unlines tool.terminator done)
@@ -633,11 +620,12 @@ module _ {tool : MergeTool} {old : MergeState} (w : IsOpenMerge tool old) (new :
       never_failed = λ side read. w.unfailed side;
       writable = w.writable;
       wrote = rw lag.all at (push_trans _ _ _ _ _ lag.clean lag.wrote lag.more);
-      is_prefix = λ texts agree. (let come = come_first texts agree in search (rules, unlines-append));
+      is_prefix = λ texts agree.
+          let come = lag.first _ (input_split_of (lines_of tool texts) (continues texts agree)) in
+          search (rules, unlines-append);
       -- everything was written that was decided two blocks of an input earlier
-      bounded_lag = λ of read. rw lag.all at (bounded_lag_after _ _ old.out lag.mid (output_of tool front)
-          (lag_bound tool w.o given front _ tail _ lag.split lag.under_bound future of (backs of)) lag.wrote lag.clean
-          new.out bytes lag.more);
+      bounded_lag = λ of read. rw lag.all at (bounded_lag_after _ _ old.out lag.mid _
+          (lag_bound w.o given lag whole_input_split of (backs of)) lag.wrote lag.clean new.out lag.bytes lag.more);
       peak = λ texts agree. (fits (lines_of tool texts) (input_lines texts agree)).0;
       slots = λ texts agree. (fits (lines_of tool texts) (input_lines texts agree)).1;
       least = omega (arith, has);
@@ -660,11 +648,7 @@ module _ {tool : MergeTool} {old : MergeState} (w : IsOpenMerge tool old) (new :
       call = call_ends both_sides (merge_engine tool) old new took (progress fits) (merge_end result) ends
           (by (merge_end result));
       -- no disorder was decided two blocks of an input earlier
-      stops_at_disorder = λ of clean_then.
-          let f = first_disorder cmp (key (other of)) (known_lines tool.terminator (given (other of))) in
-          unsettled tool w.o given front _ tail _ lag.split lag.under_bound future of (backs of)
-          (EachKey-weaker _ _ (λ k u. grind (arith, at_most_trans, (whole_input_split (other of)).may_disorder)) _ _
-          (lag.under (other of) of));
+      stops_at_disorder = λ of clean_then. unsettled w.o given lag whole_input_split of (backs of);
       first_reads = λ clean_then. record {
         second_unread = λ none. ⊎_elim (λ begun. absurd (has_line First begun none))
             (λ same. same ∙ (λ i. record (old.reader Second) { terminator = w.terminator Second i })) order.first;
@@ -714,10 +698,10 @@ unfolding call_without_slots
 merge_without_slots {tool} {old} w {new} same_output unread slots =
     let set : (side : Side) → new.reader side ≡ record (old.reader side) { terminator = tool.terminator } =
     λ side. unread side ∙ (λ i. record (old.reader side) { terminator = w.terminator side i }) in
-    let none : Side → Lines = λ side. [] in
-    let future : (side : Side)
-    → LinesToCome tool side (known_lines tool.terminator (given_before old side)) [] [] NoBound =
-    λ side. record { rest = _; is = refl; may_follow = tt } in
+    let lag = lag_invariant_starts w.o (merge_invariant_starts tool old.out) w.writable (push_nothing old.out) in
+    let seen : (side : Side)
+    → IsFuture tool.cmp (tool.key side) (known_lines tool.terminator (given_before old side)) [] NoBound =
+    λ side. record { rest = _; is = refl; may_follow = tt; may_disorder = tt } in
     -- nothing is received
     let point : (side : Side) → LagPoint tool.terminator (given_before old side) [] =
     λ side. record {
@@ -739,10 +723,8 @@ merge_without_slots {tool} {old} w {new} same_output unread slots =
           (λ side none. cc) (λ side read. w.sound side) (λ side read. w.unfailed side) slots.denied slots.peak
           slots.least
           slots.few (λ texts. omega (arith, w.fits (lines_of tool texts)))
-          (λ side read. decided_at tool w.o (given_before old) none none none (λ t. NoBound) (λ t. refl) (λ of t. tt)
-          future side (point side) (with_input both_sides side (point side).before.earlier (given_before old))
-          (grind arith) (grind arith));
-      stops_at_disorder = λ side clean. unsettled tool w.o (given_before old) none none none (λ t. NoBound)
-          (λ t. refl) (λ of t. tt) future side (point side) tt;
+          (λ side read. decided_by w.o (given_before old) lag seen side (point side)
+          (with_input both_sides side (point side).before.earlier (given_before old)) (grind arith) (grind arith));
+      stops_at_disorder = λ side clean. unsettled w.o (given_before old) lag seen side (point side);
       first_reads = search (rules, set);
     }

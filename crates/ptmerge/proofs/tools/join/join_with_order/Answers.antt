@@ -153,18 +153,16 @@ clear_group-requires g c = group_there c.steps.invariant.iteration c.in-WritePai
 pub steps-preserved-then-not-has_same_key-2 : goal.steps-preserved-then-not-has_same_key-2
 steps-preserved-then-not-has_same_key-2 g c =
     let p = c.write_pairs.ensures in
-    let continues =
-    group_closed c.steps.invariant.iteration c.in-WritePairs.is p.wrote
-    c.in_ok-write_pairs-in-WritePairs.ensures.advances in
-    rw p.order (assumption (continues c.clear_group.ensures (sym c.has_same_key-in-WritePairs.ensures ∙
-    c.if-not-has_same_key-2.true)))
+    rw p.order (assumption (group_closed c.steps.invariant.iteration c.in-WritePairs.is p.wrote
+    c.in_ok-write_pairs-in-WritePairs.ensures.advances c.clear_group.ensures
+    (sym c.has_same_key-in-WritePairs.ensures ∙ c.if-not-has_same_key-2.true)))
 
 pub steps-preserved : goal.steps-preserved
 steps-preserved g c =
     let p = c.write_pairs.ensures in
-    let continues = write_pairs_continues c.steps.invariant.iteration c.in-WritePairs.is p.wrote
-    c.in_ok-write_pairs-in-WritePairs.ensures.advances in
-    rw p.order (assumption (continues (sym c.has_same_key-in-WritePairs.ensures ∙ c.if-not-has_same_key-2.false)))
+    rw p.order (assumption (write_pairs_continues c.steps.invariant.iteration c.in-WritePairs.is p.wrote
+    c.in_ok-write_pairs-in-WritePairs.ensures.advances
+    (sym c.has_same_key-in-WritePairs.ensures ∙ c.if-not-has_same_key-2.false)))
 
 pub steps-smaller-in-Both : goal.steps-smaller-in-Both
 steps-smaller-in-Both g c = grind (arith, common_steps)
