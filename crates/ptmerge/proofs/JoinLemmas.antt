@@ -479,12 +479,8 @@ module _ {job : Join} {cmp : Cmp} {key : Side → Key} {old : MergeState} {phase
           (push_trans _ _ _ _ _ t.clean state.q.wrote
           (rw ((state.q.sides First).lines_read.terminator, state.head.is, group_pairs_are z) at pushed))
 
-      pairs_begin : OutputStartsWith (join_with job cmp key) (with_added_line now (both one two) First state.g)
-          state.q.d state.k (pair_entries job state.k (state.g First ++ z) (state.g Second))
-      pairs_begin = starts call (within_more state.head) state.some state.above
-
       pub pair_fails : EndsIfFails (join_with job cmp key) old now First one new
-      pair_fails = group_breaks state.head pairs_begin wrote_more
+      pair_fails = group_breaks state.head (starts call (within_more state.head) state.some state.above) wrote_more
 
       module _ {one2 two2 : Sorted} {reader : Reader} {after : Slots}
           (h : AdvanceOkPost key cmp First one two one2 two2 (now.reader First) reader now.store after new) where

@@ -117,16 +117,6 @@ failed_advance : (s : Side) (cursor : Sorted) (was is : Reader) (before after : 
     → FailedAdvance cursor was is before after
 failed_advance = search rules
 
--- how the call ends
-advance_ends : {tool : MergeTool} {old : MergeState} (w : IsOpenMerge tool old) (now : MergeState) (s : Side)
-    (cursor : Sorted) (new : Reader) (after : Slots) (out : Output) (came : Side → Received) (pushed : List ℕ)
-    (fault : MergeFault) → ((side : Side) → (now.reader side).failed ≡ (old.reader side).failed)
-    → now.store.denied ≡ false → AdvanceErrPost s cursor (now.reader s) new now.store after out fault
-    → CallOutcome both_sides (merge_engine tool) old (state_by_side (with_side s new now.reader) out after) came pushed
-    (merge_end (Err fault))
-advance_ends w now s cursor new after out came pushed fault none_failed denied =
-    grind (arith, w.unfailed, put_same, none_failed, side_case, put_other, buffered_not_done)
-
 -- the input `s` is to advance, and all its lines are processed
 pub record IsAdvancing (tool : MergeTool) (old now : MergeState) (s : Side) (cursor : Sorted) (ls p : Side → Lines)
     (b : Side → Bound) : Type 0 where
@@ -157,7 +147,7 @@ module _ {tool : MergeTool} {old : MergeState} (w : IsOpenMerge tool old) {now :
       (λ all holds. omega (arith, peak_line a.keeps s cursor a.slots f.piece all holds)) (a.order new f.piece f.line)
       (put_each (λ side (r : Reader). r.failed ≡ true → IsFailedRead r (ls side) (p side)) s new _
       (grind (arith, f, none_failed_yet s, w.unfailed s)) (λ side fail. cc (none_failed_yet side, w.unfailed side)))
-      (Err fault) (advance_ends w now s cursor new after out _ _ fault none_failed_yet a.keeps.denied e)
+      (Err fault) (grind (arith, w.unfailed, put_same, none_failed_yet, side_case, put_other, buffered_not_done, e))
 
 -- ---- between two steps
 
@@ -465,23 +455,6 @@ module _ {tool : MergeTool} {old : MergeState} (w : IsOpenMerge tool old) where
   unread : (side : Side) → ReadFactsOf tool old old.reader no_lines no_lines (λ t. NoBound) side (old.reader side) []
   unread side = grind (arith, none_read, reads_nothing, w.sound side, sorted_up_to_none)
 
-  -- the first read of an input failed
-  first_read_fails : (s : Side) (now : MergeState) {ls : Side → Lines} {b : Side → Bound}
-      → ((side : Side) → ReadFactsOf tool old now.reader ls no_lines b side (now.reader side) []) → ls s ≡ []
-      → ((r : Reader) (piece : List ℕ) → IsLine (now.reader s).terminator piece
-      → FirstReads terminator old.reader now.reader (with_side s r now.reader) ls (with_side s piece (λ side. [])))
-      → GroupStore tool old.store now.store ls [] → MergeInvariant tool b no_lines old.out old.out
-      → EndsIfFails tool old now s (initial_cursor s) old.out
-  first_read_fails s now {ls} facts none order kept m =
-      advance_fails w {now = now} {cursor = initial_cursor s} (record {
-        facts = facts;
-        all = sym none;
-        order = order;
-        kept = [];
-        keeps = kept;
-        slots = fresh_slots s;
-      }) (lag_invariant_starts w.o m w.writable (push_nothing old.out))
-
   -- the merge could not start
   abbrev StartErr : Reader → Reader → Slots → MergeFault → Type 0
   StartErr new1 new2 after fault =
@@ -492,13 +465,25 @@ module _ {tool : MergeTool} {old : MergeState} (w : IsOpenMerge tool old) where
         → MergePost tool old (state_by_side (both new1 new2) old.out after) (Err fault)
     start_fault (inl u) = rw u.memory (merge_without_slots w refl u.unread u.slots)
     start_fault (inr (inl f)) =
-        rw f.unread (first_read_fails First (state_by_side old.reader old.out f.made) unread refl
-        (λ r piece free. grind (arith, one_line_at_most, free, w.terminator First))
-        (store_starts w.fits f.four w.allowed w.empty) (merge_invariant_starts tool old.out) _ _ _
+        rw f.unread (advance_fails w {now = state_by_side old.reader old.out f.made} {cursor = initial_cursor First} (record {
+          facts = unread;
+          all = refl;
+          order = λ r piece free. grind (arith, one_line_at_most, free, w.terminator First);
+          kept = [];
+          keeps = store_starts w.fits f.four w.allowed w.empty;
+          slots = fresh_slots First;
+        }) (lag_invariant_starts w.o (merge_invariant_starts tool old.out) w.writable (push_nothing old.out)) _ _ _
         (inr (w.writable, f.fails)))
     start_fault (inr (inr f)) =
         let s = f.begins in
         let g = began s in
-        first_read_fails Second (state_by_side (both new1 (old.reader Second)) old.out s.mid)
-        (elim [ First ↦ g.side_invariant.facts | Second ↦ unread Second ]) refl (λ r piece free. grind (arith, g))
-        (half_store s) (half_invariant s) _ _ _ (inr (w.writable, s.later))
+        advance_fails w {now = state_by_side (both new1 (old.reader Second)) old.out s.mid}
+        {s = Second} {cursor = initial_cursor Second} {ls = both g.now_ls []} {p = no_lines} {b = both g.bound NoBound} (record {
+          facts = elim [ First ↦ g.side_invariant.facts | Second ↦ unread Second ];
+          all = refl;
+          order = λ r piece free. grind (arith, g);
+          kept = [];
+          keeps = half_store s;
+          slots = fresh_slots Second;
+        }) (lag_invariant_starts w.o (half_invariant s) w.writable (push_nothing old.out)) _ _ _
+        (inr (w.writable, s.later))

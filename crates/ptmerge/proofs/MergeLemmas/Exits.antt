@@ -288,7 +288,7 @@ module _ {tool : MergeTool} (o : IsKeyOrder tool.cmp) (given : Side → Received
           point.before,
           not_settled tool o (λ side. (mix side).eof) (λ side. known_lines terminator (mix side)) of
               (rw own point.going) (rw (whole_now mix own) ordered.1) (rw (put_other, whole_now mix own)
-              (front_has _ (tool.key of) whole point.rest (rw point.split at up))),
+              (search (rules, front_has, whole))),
         )
 
 -- ---- the cursor of one input
@@ -457,7 +457,7 @@ module _ (tool : MergeTool) (o : IsKeyOrder tool.cmp) (s : Side) (old now new : 
       (at_line e.next_line e.sound lines_read number same last sorted_up_to is _ refl)
   next_invariant {last} lines_read number sorted_up_to is (inr e) =
       rw e.cursor (at_next last [] [] (next_cursor Ended cursor.number false) NothingMore
-      (simp append-nil (lines_read_eof lines_read e.advance_ok e.done)) (inl e.done) e.sound (refl, refl)
+      (search (rules, lines_read)) (inl e.done) e.sound (refl, refl)
       (inl (append-nil ls)) (simp append-nil number) (grind (arith, common_steps, sorted_up_to)) (λ ended. e.done)
       (refl, e.done)
       (record { may_follow = λ r none. rw none (may_follow_none cmp own (bound_after last)); under = λ k u. tt })
@@ -645,8 +645,7 @@ module _ {tool : MergeTool} {old : MergeState} (w : IsOpenMerge tool old) (new :
         → MergePost tool old new result
     unfolding call_ends
     exit_is_merge_post fits order failed result ends = record {
-      call = call_ends both_sides (merge_engine tool) old new took (progress fits) (merge_end result) ends
-          (by (merge_end result));
+      call = grind (arith, call_ends, progress, by);
       -- no disorder was decided two blocks of an input earlier
       stops_at_disorder = λ of clean_then. unsettled w.o given lag whole_input_split of (backs of);
       first_reads = λ clean_then. record {
@@ -697,7 +696,7 @@ pub merge_without_slots : {tool : MergeTool} {old : MergeState} → IsOpenMerge 
 unfolding call_without_slots
 merge_without_slots {tool} {old} w {new} same_output unread slots =
     let set : (side : Side) → new.reader side ≡ record (old.reader side) { terminator = tool.terminator } =
-    λ side. unread side ∙ (λ i. record (old.reader side) { terminator = w.terminator side i }) in
+    search rules in
     let lag = lag_invariant_starts w.o (merge_invariant_starts tool old.out) w.writable (push_nothing old.out) in
     let seen : (side : Side)
     → IsFuture tool.cmp (tool.key side) (known_lines tool.terminator (given_before old side)) [] NoBound =

@@ -529,22 +529,6 @@ module _ (tool : MergeTool) where
   Splits b p = (w : List ℕ → Bool) (r : Side → Lines) → MayCome b r
       → entries_by_key tool w (λ side. p side ++ r side) ≡ entries_by_key tool w p ++ entries_by_key tool w r
 
-  -- lines are processed whose entries precede those of all lines that may follow
-  pub splits_step : (b d : Side → Bound) (p f : Side → Lines) → Splits b p
-      → ((side : Side) (r : Lines) → MayFollow cmp (key side) (d side) r
-      → MayFollow cmp (key side) (b side) (f side ++ r)) → ((w : List ℕ → Bool) (r : Side → Lines) → MayCome d r
-      → entries_by_key tool w (λ side. f side ++ r side) ≡ entries_by_key tool w f ++ entries_by_key tool w r)
-      → Splits d (λ side. p side ++ f side)
-  splits_step b d p f s u front w r c =
-      let none = λ (side : Side). rw append-nil at (u side [] (may_follow_none cmp (key side) (d side))) in
-      (λ i. entries_by_key tool w (λ side. append_assoc (p side) (f side) (r side) i))
-      ∙ cc (
-        s w (λ side. f side ++ r side) (λ side. u side (r side) (c side)),
-        s w f none,
-        front w r c,
-        append_assoc (entries_by_key tool w p) (entries_by_key tool w f) (entries_by_key tool w r),
-      )
-
 -- ---- the bytes written
 
 -- the output is the output for the processed lines, which comes first for all lines that may follow
@@ -663,9 +647,14 @@ write_least_run {tool} o k q f {b} {d} {p} {was} {is} {new} front all none law c
     λ of side. EachKey-append _ (tool.key side) _ _ (m.under of side)
     (EachKey-weaker _ _ (λ y e. rw e (front of).own_under) _ _ (front side).own) in
     let now : MergeInvariant tool d (λ side. p side ++ f side) was new = record {
-      splits = splits_step tool b d p f m.splits (λ side. (front side).may_follow)
-          (λ w r c. front_first tool o w k none f r (λ side. (front side).own)
-          (λ side. (front side).later.may_follow (r side) (c side)) (law r c));
+      splits = λ w r c.
+          (λ i. entries_by_key tool w (λ side. append_assoc (p side) (f side) (r side) i)) ∙ cc (
+            m.splits w (λ side. f side ++ r side) (λ side. (front side).may_follow (r side) (c side)),
+            m.splits w f nothing,
+            front_first tool o w k none f r (λ side. (front side).own)
+                (λ side. (front side).later.may_follow (r side) (c side)) (law r c),
+            append_assoc (entries_by_key tool w p) (entries_by_key tool w f) (entries_by_key tool w r),
+          );
       under = λ of side. EachKey-weaker _ _ (front of).under _ _ (under of side);
       wrote = rw texts (push_trans _ _ _ _ _ clean m.wrote wrote);
     } in

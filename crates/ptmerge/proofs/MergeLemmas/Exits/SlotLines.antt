@@ -321,13 +321,7 @@ group_store_line {tool} {store = store} {ls = ls} {now} {g} s cursor slots x k u
       empty = k.empty;
       lines = inside;
       room = λ all more. k.room all (on all more);
-      fits = λ all more. omega (
-        arith,
-        k.fits all (on all more),
-        size,
-        total_within tool g _ inside more
-            (k.room all (on all more)),
-      );
+      fits = λ all more. grind (arith, k.fits, more, total_within, k.room);
       four = omega (arith, size);
       denied = k.denied;
     })
