@@ -61,9 +61,12 @@ pub steps-preserved : goal.steps-preserved
 steps-preserved g c =
     let p = c.write_head-in-Both.ensures in
     let q = c.write_out_and_advance.ensures in
-    rw (q.order ∙ p.order) (assumption (pair_continues c.steps.invariant.iteration c.in-Both.ensures
+    rw (q.order ∙ p.order) (record {
+      iteration = pair_continues c.steps.invariant.iteration c.in-Both.ensures
     c.tabs-tabs3.ensures p.wrote c.in_ok-write_head-in-Both.ensures.advances q.written_out (rw p.order at
-    c.in_ok-write_out_and_advance-in-Both.ensures.advances)))
+    c.in_ok-write_out_and_advance-in-Both.ensures.advances);
+      order = c.steps.invariant.order;
+    })
 
 pub steps-smaller-in-Continue-branch-2 : goal.steps-smaller-in-Continue-branch-2
 steps-smaller-in-Continue-branch-2 g c = search (rules, reads_less)

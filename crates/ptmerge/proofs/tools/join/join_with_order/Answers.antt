@@ -44,8 +44,11 @@ write_unpaired-requires-in-Second-clause-status_is g c =
 pub steps-preserved-in-Continue-branch-2 : goal.steps-preserved-in-Continue-branch-2
 steps-preserved-in-Continue-branch-2 g c =
     let p = c.write_unpaired.ensures in
-    rw p.order (assumption (alone_continues c.steps.invariant.iteration c.in-BetweenGroups.is c.in-First.ensures
-    p.wrote c.in_ok-write_unpaired-in-First.ensures.advances))
+    rw p.order (record {
+      iteration = alone_continues c.steps.invariant.iteration c.in-BetweenGroups.is c.in-First.ensures
+    p.wrote c.in_ok-write_unpaired-in-First.ensures.advances;
+      order = c.steps.invariant.order;
+    })
 
 pub steps-preserved-in-Continue-branch-3 : goal.steps-preserved-in-Continue-branch-3
 steps-preserved-in-Continue-branch-3 g c =
@@ -112,8 +115,11 @@ pub steps-preserved-else-not-has_same_key : goal.steps-preserved-else-not-has_sa
 steps-preserved-else-not-has_same_key g c =
     let p = c.read_group_line.ensures in
     let ok = c.in_ok-end-in-ReadGroup.ensures in
-    rw p.order (assumption (read_group_continues c.steps.invariant.iteration c.in-ReadGroup.is p.written_out
-    ok.reads_line ok.continues (sym c.has_same_key.ensures ∙ c.if-not-has_same_key.false)))
+    rw p.order (record {
+      iteration = read_group_continues c.steps.invariant.iteration c.in-ReadGroup.is p.written_out
+    ok.reads_line ok.continues (sym c.has_same_key.ensures ∙ c.if-not-has_same_key.false);
+      order = c.steps.invariant.order;
+    })
 
 pub steps-smaller-else-not-has_same_key : goal.steps-smaller-else-not-has_same_key
 steps-smaller-else-not-has_same_key g c =
