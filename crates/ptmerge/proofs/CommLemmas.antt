@@ -33,9 +33,9 @@ abbrev tabs_of : Comm → Side → List ℕ
 tabs_of job First = []
 tabs_of job Second = tab_if_shown job.hide1 ++ []
 
-module _ (job : Comm) (x : List ℕ) where
-  entries_both : (n k : ℕ) → entries job x (suc n) (suc k) ≡ entries job x 1 1 ++ entries job x n k
-  entries_both = grind (arith, no_entries, one_more_entry)
+entries_both : (job : Comm) (x : List ℕ) (n k : ℕ)
+    → entries job x (suc n) (suc k) ≡ entries job x 1 1 ++ entries job x n k
+entries_both = grind (arith, no_entries, one_more_entry)
 
 module _ (job : Comm) (cmp : Cmp) (key : Side → Key) where
   is_line_by_line : IsLineByLine (comm_with job cmp key)

@@ -28,9 +28,9 @@ current_key_is_above cmp o key x Head cursor store now ls p b before line_is =
     let above : Above cmp x head = is_greater (cmp head x) before in
     let below = above_at_most cmp o x head above in
     rw line_is.bound (
-      λ r c. EachKey-weaker _ _ (λ k h. above_up cmp o x head k above h) _ _ c,
+      λ r c. Each-weaker _ _ (λ k h. above_up cmp o x head k above h) _ c,
       record {
-        may_follow = λ r c. EachKey-weaker _ _ (λ k h. at_most_trans cmp o x head k below h) _ _ c;
+        may_follow = λ r c. Each-weaker _ _ (λ k h. at_most_trans cmp o x head k below h) _ c;
         under = λ k h. at_most_trans cmp o k x head h below;
       },
     )
@@ -278,7 +278,7 @@ module _ {tool : MergeTool} {old : MergeState} {w : IsOpenMerge tool old} {now :
       (rw disordered at (f s)) (f (other s))) (
         none_wanted tool (λ k. is_le (cmp k d.last_key)) r
             (side_case _ s (rw (rw disordered at (c s)) tt)
-            (EachKey-weaker _ _ (λ k h. ap is_le h) _ _ (above _ (c (other s))))),
+            (Each-weaker _ _ (λ k h. ap is_le h) _ (above _ (c (other s))))),
         refl,
       )
 
@@ -465,7 +465,8 @@ module _ {tool : MergeTool} {old : MergeState} (w : IsOpenMerge tool old) where
         → MergePost tool old (state_by_side (both new1 new2) old.out after) (Err fault)
     start_fault (inl u) = rw u.memory (merge_without_slots w refl u.unread u.slots)
     start_fault (inr (inl f)) =
-        rw f.unread (advance_fails w {now = state_by_side old.reader old.out f.made} {cursor = initial_cursor First} (record {
+        rw f.unread (advance_fails w {now = state_by_side old.reader old.out f.made} {cursor = initial_cursor First}
+        (record {
           facts = unread;
           all = refl;
           order = λ r piece free. grind (arith, one_line_at_most, free, w.terminator First);
@@ -478,7 +479,8 @@ module _ {tool : MergeTool} {old : MergeState} (w : IsOpenMerge tool old) where
         let s = f.begins in
         let g = began s in
         advance_fails w {now = state_by_side (both new1 (old.reader Second)) old.out s.mid}
-        {s = Second} {cursor = initial_cursor Second} {ls = both g.now_ls []} {p = no_lines} {b = both g.bound NoBound} (record {
+        {s = Second} {cursor = initial_cursor Second} {ls = both g.now_ls []} {p = no_lines}
+        {b = both g.bound NoBound} (record {
           facts = elim [ First ↦ g.side_invariant.facts | Second ↦ unread Second ];
           all = refl;
           order = λ r piece free. grind (arith, g);

@@ -14,7 +14,7 @@ use proofs.MergeLemmas.Exits.Invariant.{IsDisorderFrom, after_from, disorder_aft
 use proofs.MergeLemmas.Exits.Invariant.{sorted_from_start, sorted_from_none, is_disordered, sorted_after}
 use proofs.MergeLemmas.Exits.Invariant.{sorted_prefix_is, IsDownwardClosed, all_keys, all_wanted}
 use proofs.MergeLemmas.Exits.Invariant.{by_keys_kept, downward_splits, up_to_from, Each, Each-weaker, EachKey}
-use proofs.MergeLemmas.Exits.Invariant.{Each-all, EachKey-weaker, Each-parts, IsKeyOrder, AtMost}
+use proofs.MergeLemmas.Exits.Invariant.{Each-all, Each-parts, IsKeyOrder, AtMost}
 use proofs.MergeLemmas.Exits.Invariant.{at_most_trans, greater_flips, line_order}
 use Rattle.std.proofs.lemmas.List.Elements.{All-filter, recursion_from_All}
 use Rattle.std.proofs.lemmas.List.Sorted.{IsPermutation-refl, IsPermutation-trans, IsPermutation-append_left}
@@ -138,15 +138,14 @@ module _ (tool : MergeTool) (o : IsKeyOrder tool.cmp) where
       (low : (side : Side) → EachKey (λ k. p k ≡ true) (key side) (a side))
       (high : (side : Side) → EachKey (λ k. p k ≡ false) (key side) (b side)) where
     at_most_high : (side : Side) (k : List ℕ) → p k ≡ true → EachKey (AtMost cmp k) (key side) (b side)
-    at_most_high side k h = EachKey-weaker _ _ (λ l g. grind (arith, down l k)) _
-        _ (high side)
+    at_most_high side k h = Each-weaker _ _ (λ l g. grind (arith, down l k)) _ (high side)
 
     both_go_on : (side : Side)
         → (sorted_prefix cmp (key side) (a side ++ b side) ≡ a side ++ sorted_prefix cmp (key side) (b side))
         × (without_line_number (first_disorder cmp (key side) (a side ++ b side))
         ≡ without_line_number (first_disorder cmp (key side) (b side)))
     both_go_on side = together cmp o (key side) (a side) (b side) (none_disordered a in_order side)
-        (EachKey-weaker _ _ (at_most_high side) _ _ (low side))
+        (Each-weaker _ _ (at_most_high side) _ (low side))
 
     -- the same keys are wanted
     same_wanted : (k : List ℕ)
@@ -157,8 +156,8 @@ module _ (tool : MergeTool) (o : IsKeyOrder tool.cmp) where
     entries_together : merged_entries tool (λ side. a side ++ b side) ≡ merged_entries tool a ++ merged_entries tool b
     entries_together =
         let w = is_up_to cmp (disorder tool b) in
-        let first_wanted = λ (side : Side). EachKey-weaker _ _
-        (λ k h. search (rules, from_below, at_most_high, up_to_from)) _ _ (low side) in
+        let first_wanted = λ (side : Side).
+        Each-weaker _ _ (λ k h. search (rules, from_below, at_most_high, up_to_from)) _ (low side) in
         let all : Side → Lines = λ side. a side ++ sorted_prefixes tool b side in
         let parts = λ (side : Side). kept_parts p (key side) (a side) (sorted_prefixes tool b side) (low side)
         (each_ordered cmp o (key side) (λ k. p k ≡ false) (b side) (high side)) in

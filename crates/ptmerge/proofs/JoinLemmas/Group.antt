@@ -17,7 +17,7 @@ pub use proofs.MergeLemmas.{EndsIfFails}
 use proofs.MergeLemmas.{line_other, HasLines, GroupStore, AllExtend, HasRoom, side_extends, group_store_next, put_each}
 use proofs.MergeLemmas.{put_same, put_both, put_other, side_case, EachKey, Bound, MayFollow, IsUnder, MergeInvariant}
 use proofs.MergeLemmas.{IsFuture, MayCome, write_least_run, all_wanted, written_is_wanted, LagInvariant, IsLater}
-use proofs.MergeLemmas.{EachKey-append, EachKey-weaker, at_most-same, front_is, later_entries, lines_with_key-above}
+use proofs.MergeLemmas.{EachKey-append, at_most-same, front_is, later_entries, lines_with_key-above, Each-weaker}
 use proofs.MergeLemmas.{AtMost, least_or_above, self_at_most, equal_is, SideAfterNext, IsAtCurrentLine, MatchesStatus}
 use proofs.MergeLemmas.{side_invariant_kept, read_facts_after_line, IsOpenMerge, ReadFactsOf, SidesInvariant}
 use proofs.MergeLemmas.{current_key_is_above, next_at, sides_next, advance_fails}
@@ -286,8 +286,7 @@ module _ {tool : MergeTool} {old : MergeState} (w : IsOpenMerge tool old) {mid :
 
     -- the entries of all lesser keys come first
     front_is_first : entries_by_key tool is_wanted p ≡ front
-    front_is_first = all_wanted tool is_wanted p (λ side. EachKey-weaker _ _
-        wanted _ _ (m.merge_invariant.under First side))
+    front_is_first = all_wanted tool is_wanted p (λ side. Each-weaker _ _ wanted _ (m.merge_invariant.under First side))
 
     pub group_comes_first : {extra : Lines} → OutputStartsWith tool g d k extra → (rest : Lines)
         × (merged_entries tool all ≡ (front ++ extra) ++ rest)
@@ -313,7 +312,7 @@ module _ {tool : MergeTool} {old : MergeState} (w : IsOpenMerge tool old) {mid :
   passed_keys : (of side : Side) → EachKey (λ x. AtMost cmp x k) (key side) (p side ++ g side)
   passed_keys of side =
       EachKey-append _ (key side) _ _ (m.merge_invariant.under of side)
-      (EachKey-weaker _ _ (λ x is. rw is (self_at_most cmp o k)) _ _ (m.own side))
+      (Each-weaker _ _ (λ x is. rw is (self_at_most cmp o k)) _ (m.own side))
 
   pub group_written : {is : Output} {extra : Lines} → OutputStartsWith tool g d k extra
       → PushEffect mid is (unlines terminator extra)
@@ -329,7 +328,7 @@ module _ {tool : MergeTool} {old : MergeState} (w : IsOpenMerge tool old) {mid :
     more = wrote;
     all = sym (unlines-append terminator front extra);
     split = λ side. refl;
-    under = λ of side. EachKey-weaker _ _ (m.later of).under _ _ (passed_keys of side);
+    under = λ of side. Each-weaker _ _ (m.later of).under _ (passed_keys of side);
     under_bound = passed_keys;
     may_follow = rest_not_less;
     first = λ all seen. group_comes_first all seen begins;

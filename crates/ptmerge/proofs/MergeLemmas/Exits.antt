@@ -46,7 +46,7 @@ module _ (cmp : Cmp) (o : IsKeyOrder cmp) (key : Key) where
   from_key : (k : List ℕ) (ls : Lines) → IsSortedFrom cmp key (Some k) ls → EachKey (AtMost cmp k) key ls
   from_key k [] r = tt
   from_key k (x ∷ ls) (here, more) =
-      (here, EachKey-weaker _ _ (λ y h. at_most_trans cmp o k (key x) y here h) _ _ (from_key (key x) ls more))
+      (here, Each-weaker _ _ (λ y h. at_most_trans cmp o k (key x) y here h) _ (from_key (key x) ls more))
 
   -- no later key is below the last one
   none_below : (xs ys : Lines) → IsSortedFrom cmp key None (xs ++ ys)
@@ -56,7 +56,7 @@ module _ (cmp : Cmp) (o : IsKeyOrder cmp) (key : Key) where
     where
       by : (l : Option (List ℕ)) → IsSortedFrom cmp key l ys → EachKey (λ k. is_below cmp k l ≡ false) key ys
       by None h = Each-all _ (λ k. refl) (map key ys)
-      by (Some x) h = EachKey-weaker _ _ (λ k a. not_below cmp o k x a) _ _ (from_key x ys h)
+      by (Some x) h = Each-weaker _ _ (λ k a. not_below cmp o k x a) _ (from_key x ys h)
 
 -- ---- the bytes received
 
@@ -178,7 +178,7 @@ module _ (tool : MergeTool) (o : IsKeyOrder tool.cmp) (eof : Side → Bool) (ls 
       let is : entries_by_key tool all_keys p ≡ entries_by_key tool dec p ++ rest = downward_splits tool o all_keys
       dec down p in
       let none = λ (side : Side) (l : Lines) (e : EachKey _ (tool.key side) l). kept_none dec (tool.key side) l
-      (EachKey-weaker _ _ undecided _ _ e) in
+      (Each-weaker _ _ undecided _ e) in
       -- the lists differ only in lines that are left out
       let kept = λ (side : Side). (let d = differ side in
       simp (filter-append, none side d.rest d.none_rest, none side d.tail d.none_tail, append-nil) at
@@ -280,9 +280,9 @@ module _ {tool : MergeTool} (o : IsKeyOrder tool.cmp) (given : Side → Received
     pub unsettled : (before : LaggedInput (given of))
         × (disorder_is_decided tool (with_side of before.earlier given) ≡ false)
     unsettled =
-        let up = EachKey-weaker _ (λ k. IsDisorderFrom cmp k (first_disorder cmp (tool.key (other of))
+        let up = Each-weaker _ (λ k. IsDisorderFrom cmp k (first_disorder cmp (tool.key (other of))
         (known_lines terminator (given (other of)))))
-        (λ k u. grind (arith, at_most_trans, (seen (other of)).may_disorder)) _ _ (lag.under (other of) of) in
+        (λ k u. grind (arith, at_most_trans, (seen (other of)).may_disorder)) _ (lag.under (other of) of) in
         let mix = with_side of point.before.earlier given in
         let own = put_same of point.before.earlier given in (
           point.before,
@@ -383,7 +383,7 @@ status_after_next = grind (arith, nat_tests)
 from_next : {cmp : Cmp} (o : IsKeyOrder cmp) (key : Key) (last : Option (List ℕ)) (x : List ℕ)
     → is_disordered cmp last (key x) ≡ false → IsLater cmp key (bound_after last) (AtLeast (key x))
 from_next o key None x h = record { may_follow = λ r c. tt; under = λ k u. absurd u }
-from_next {cmp} o key (Some j) x h = search (rules, EachKey-weaker, at_most_trans)
+from_next {cmp} o key (Some j) x h = search (rules, Each-weaker, at_most_trans)
 
 module _ (tool : MergeTool) (o : IsKeyOrder tool.cmp) (s : Side) (old now new : Reader) (cursor next : Sorted)
     (before after : Slots) (ls : Lines) (slots : HasSlots s cursor) (four : 4 ≤ length before.lines) where

@@ -112,10 +112,6 @@ EachKey-at P key [] i low e = absurd (omega (arith, low))
 EachKey-at P key (x ∷ xs) zero low (here, _) = here
 EachKey-at P key (x ∷ xs) (suc i) low (_, more) = EachKey-at P key xs i (omega (arith, low)) more
 
-pub EachKey-weaker : (P Q : List ℕ → Type 0) → ((x : List ℕ) → P x → Q x) → (key : Key) (xs : Lines) → EachKey P key xs
-    → EachKey Q key xs
-EachKey-weaker P Q f key xs e = Each-weaker P Q f _ e
-
 pub Each-all : (P : List ℕ → Type 0) → ((x : List ℕ) → P x) → (xs : Lines) → Each P xs
 Each-all P f [] = tt
 Each-all P f (x ∷ xs) = (f x, Each-all P f xs)
@@ -159,13 +155,13 @@ module _ (tool : MergeTool) (o : IsKeyOrder tool.cmp) where
   pub at_most-same : (key : Key) (k : List ℕ) (f r : Lines) → EachKey (λ x. x ≡ k) key f → EachKey (AtMost cmp k) key r
       → EachKey (AtMost cmp k) key (f ++ r)
   at_most-same key k f r e h =
-      EachKey-append _ key f r (EachKey-weaker _ _ (λ x is. rw is (self_at_most cmp o k)) _ f e) h
+      EachKey-append _ key f r (Each-weaker _ _ (λ x is. rw is (self_at_most cmp o k)) _ e) h
 
   -- no line with a greater key has the key
   pub lines_with_key-above : (key : Key) (k : List ℕ) (r : Lines) → EachKey (Above cmp k) key r
       → lines_with_key key r k ≡ []
   lines_with_key-above key k r a =
-      kept_none (λ y. bytes_eq y k) key r (EachKey-weaker _ _ (λ y g. above_not_same cmp o k y g) _ _ a)
+      kept_none (λ y. bytes_eq y k) key r (Each-weaker _ _ (λ y g. above_not_same cmp o k y g) _ a)
 
 -- ---- lines in order
 
@@ -253,7 +249,7 @@ after_from cmp o key k n (x ∷ w) =
     let ih = after_from cmp o key (key x) (n + 1) w in
     let (more, _) = ih in
     let weaker : is_gt _ ≡ false → EachKey (AtMost cmp k) key _ =
-    λ h. EachKey-weaker _ _ (λ y a. at_most_trans cmp o k (key x) y h a) _ _ more in
+    λ h. Each-weaker _ _ (λ y a. at_most_trans cmp o k (key x) y h a) _ more in
     grind (arith, weaker, at_most_trans, self_at_most cmp o k)
 
 -- The lines that may follow in an input: any lines; lines with keys of at least k; none, since the input is out of
@@ -645,7 +641,7 @@ write_least_run {tool} o k q f {b} {d} {p} {was} {is} {new} front all none law c
     ∙ unlines-append _ (entries_by_key tool all_keys p) (entries_by_key tool all_keys f) in
     let under : (of side : Side) → EachKey (IsUnder tool.cmp (b of)) (tool.key side) (p side ++ f side) =
     λ of side. EachKey-append _ (tool.key side) _ _ (m.under of side)
-    (EachKey-weaker _ _ (λ y e. rw e (front of).own_under) _ _ (front side).own) in
+    (Each-weaker _ _ (λ y e. rw e (front of).own_under) _ (front side).own) in
     let now : MergeInvariant tool d (λ side. p side ++ f side) was new = record {
       splits = λ w r c.
           (λ i. entries_by_key tool w (λ side. append_assoc (p side) (f side) (r side) i)) ∙ cc (
@@ -655,7 +651,7 @@ write_least_run {tool} o k q f {b} {d} {p} {was} {is} {new} front all none law c
                 (λ side. (front side).later.may_follow (r side) (c side)) (law r c),
             append_assoc (entries_by_key tool w p) (entries_by_key tool w f) (entries_by_key tool w r),
           );
-      under = λ of side. EachKey-weaker _ _ (front of).under _ _ (under of side);
+      under = λ of side. Each-weaker _ _ (front of).under _ (under of side);
       wrote = rw texts (push_trans _ _ _ _ _ clean m.wrote wrote);
     } in
     subst (λ (l : Side → Lines). MergeInvariant tool d l was new × AllWritten tool d l was new)
@@ -685,7 +681,7 @@ pub bounds_change : {tool : MergeTool} {b d : Side → Bound} {p : Side → Line
     → MergeInvariant tool d p was is
 bounds_change later m = record {
   splits = λ w r c. m.splits w r (λ side. (later side).may_follow (r side) (c side));
-  under = λ of side. EachKey-weaker _ _ (later of).under _ _ (m.under of side);
+  under = λ of side. Each-weaker _ _ (later of).under _ (m.under of side);
   wrote = m.wrote;
 }
 
@@ -720,7 +716,7 @@ module _ (cmp : Cmp) (o : IsKeyOrder cmp) where
   coming_under : (key : Key) (b : Bound) (x : List ℕ) (r : Lines) → IsUnder cmp b x → MayFollow cmp key b r
       → EachKey (AtMost cmp x) key r
   coming_under key NoBound x r u c = absurd u
-  coming_under key (AtLeast l) x r u c = EachKey-weaker _ _ (λ k h. at_most_trans cmp o x l k u h) _ _ c
+  coming_under key (AtLeast l) x r u c = Each-weaker _ _ (λ k h. at_most_trans cmp o x l k u h) _ c
   coming_under key (AfterDisorder d) x r u c = rw c tt
   coming_under key NothingMore x r u c = rw c tt
 
@@ -731,7 +727,7 @@ module _ (cmp : Cmp) (o : IsKeyOrder cmp) where
     where
       by : (l : Option (List ℕ)) → last_or None (map key p) ≡ l → EachKey (λ k. is_below cmp k l ≡ false) other_key r
       by None e = Each-all _ (λ k. refl) _
-      by (Some x) e = EachKey-weaker _ _ (λ k h. not_below k x h) _ _
+      by (Some x) e = Each-weaker _ _ (λ k h. not_below k x h) _
           (coming_under other_key b x r (last_has key (IsUnder cmp b) None p x e (λ y bad. cc) u) c)
 
   downward_up_to : (d : Option MergeDisorder) → IsDownwardClosed cmp (is_up_to cmp d)
