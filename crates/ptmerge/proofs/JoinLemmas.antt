@@ -37,14 +37,19 @@ module _ (job : Join) (cmp : Cmp) (key : Side → Key) where
     second = λ k x g. grind arith;
   }
 
+  some_pairs : job.pairs ≡ true → (k : List ℕ) (f g : Lines) → 0 < length f → 0 < length g
+      → 0 < length (pair_entries job k f g)
+  some_pairs keeps k (a ∷ f) (b ∷ g) some1 some2 = rw keeps (omega arith)
+  some_pairs keeps k f g some1 some2 = absurd (omega arith)
+
   pub join_pairs : IsPairTool (join_with job cmp key) (pair_entries job)
   join_pairs = record {
     none = λ k g. cond_of_empty job.pairs;
     more = λ k f g c.
         let each = λ (a : List ℕ). map (pair_of job k a) c in
         grind (arith, flat_map-append each f g);
-    whole = λ k a b f g. refl;
-    written = λ keeps k a b f g. rw keeps (omega arith);
+    whole = grind arith;
+    written = some_pairs;
     unwritten = λ none k f g. rw none;
     largest = λ keeps g ls within. rw keeps (omega (arith, within));
   }

@@ -340,8 +340,9 @@ module _ {tool : MergeTool} {old : MergeState} (w : IsOpenMerge tool old) {mid :
 pub record IsPairTool (tool : MergeTool) (pairs : List ℕ → Lines → Lines → Lines) : Type 0 where
   pub none : (k : List ℕ) (g : Lines) → pairs k [] g ≡ []
   pub more : (k : List ℕ) (f g c : Lines) → pairs k (f ++ g) c ≡ pairs k f c ++ pairs k g c
-  pub whole : (k a b : List ℕ) (f g : Lines) → tool.entries k (a ∷ f) (b ∷ g) ≡ pairs k (a ∷ f) (b ∷ g)
-  pub written : tool.keeps_groups ≡ true → (k a b : List ℕ) (f g : Lines) → 0 < length (pairs k (a ∷ f) (b ∷ g))
+  pub whole : (k : List ℕ) (f g : Lines) → 0 < length f → 0 < length g → tool.entries k f g ≡ pairs k f g
+  pub written : tool.keeps_groups ≡ true → (k : List ℕ) (f g : Lines) → 0 < length f → 0 < length g
+      → 0 < length (pairs k f g)
   pub unwritten : tool.keeps_groups ≡ false → (k : List ℕ) (f g : Lines) → pairs k f g ≡ []
   pub largest : tool.keeps_groups ≡ true → (g : Lines) (ls : Side → Lines) → InLargest (tool.key Second) g (ls Second)
       → HasRoom tool g ls
@@ -384,8 +385,8 @@ module _ (call : JoinCall) {mid : Output} {p g : Side → Lines} {d : Side → B
   -- the pairs of a group come first, for all lines of its key that the first input still has
   starts_pairs : (f c s : Lines) → 0 < length s → (rest : Lines) × (entries k (f ++ c) s ≡ pairs k f s ++ rest)
   starts_pairs [] c s some = (entries k c s, rw (laws.none k s) refl)
-  starts_pairs (a ∷ f) c [] some = absurd (omega (arith, some))
-  starts_pairs (a ∷ f) c (b ∷ s) some = (pairs k c (b ∷ s), laws.whole k a b (f ++ c) s ∙ laws.more k (a ∷ f) c (b ∷ s))
+  starts_pairs (a ∷ f) c s some =
+      (pairs k c s, laws.whole k (a ∷ (f ++ c)) s (omega arith) some ∙ laws.more k (a ∷ f) c s)
 
   pub starts_none : OutputStartsWith tool g d k []
   starts_none = record { rest = λ w r c wanted. (entries_by_key tool w (λ side. g side ++ r side), refl) }
@@ -402,25 +403,19 @@ module _ (call : JoinCall) {mid : Output} {p g : Side → Lines} {d : Side → B
         );
   }
 
-  some_entries : tool.keeps_groups ≡ true → (f s : Lines) → 0 < length f → 0 < length s → 0 < length (entries k f s)
-  some_entries keeps (a ∷ f) (b ∷ s) some1 some2 = rw (laws.whole k a b f s) (laws.written keeps k a b f s)
-  some_entries keeps f s some1 some2 = absurd (omega arith)
-
   -- the entries of a group of lines of both inputs
   pub has_entries : tool.keeps_groups ≡ true → ((side : Side) → 0 < length (g side)) → HasEntries tool g d k
   has_entries keeps some w r c wanted =
       let f = g First ++ lines_with_key (key First) (r First) k in
       let s = g Second ++ lines_with_key (key Second) (r Second) k in
-      let own = some_entries keeps f s
-      (grind (arith, length-append, lines_with_key))
-      (grind (arith, length-append, lines_with_key)) in
+      let some_first : 0 < length f = grind (arith, length-append, lines_with_key) in
+      let some_second : 0 < length s = grind (arith, length-append, lines_with_key) in
       let rest = later_entries tool o w k (call.w.alone.none k) r in
-      rw (front_is tool o w k (call.w.alone.none k) g r m.own (none_less r c), wanted)
-      (omega (arith, own, length-append (entries k f s) rest))
-
-  own_entries : (f s : Lines) → 0 < length f → 0 < length s → entries k f s ≡ pairs k f s
-  own_entries (a ∷ f) (b ∷ s) some1 some2 = laws.whole k a b f s
-  own_entries f s some1 some2 = absurd (omega arith)
+      rw (
+        front_is tool o w k (call.w.alone.none k) g r m.own (none_less r c),
+        wanted,
+        laws.whole k f s some_first some_second,
+      ) (omega (arith, laws.written keeps k f s some_first some_second, length-append (pairs k f s) rest))
 
   -- a group is complete if only greater keys follow
   pub closes : {is : Output} → ((side : Side) → 0 < length (g side))
@@ -442,7 +437,7 @@ module _ (call : JoinCall) {mid : Output} {p g : Side → Lines} {d : Side → B
       output_is : entries_by_key tool all_keys g ≡ pairs k (g First) (g Second)
       output_is =
           simp append-nil at (front_is tool o all_keys k (call.w.alone.none k) g (λ side. []) m.own (λ side. tt))
-          ∙ own_entries (g First) (g Second) (some First) (some Second)
+          ∙ laws.whole k (g First) (g Second) (some First) (some Second)
 
 -- ---- the lines of a group
 
