@@ -83,13 +83,9 @@ module _ (cmp : Cmp) (o : IsKeyOrder cmp) where
       → MatchesStatus cmp key status cursor store now ls p b → (f : Side → Option FirstDisorder) → f s ≡ Some d
       → MayDisorder cmp b (f (other s))
       → earlier_disorder cmp (f First) (f Second) ≡ Some (record { file = s; first_disorder = d })
-  named_is = grind (arith, above_up, is_greater, not_below, greater_flips)
+  named_is = grind arith
 
 -- ---- a failed read
-
--- a reader with buffered bytes is not at its end
-pub buffered_not_done : {r : Reader} → 0 < length r.buffered → ¬ IsDone r
-buffered_not_done some done = absurd (omega (arith, some, ap length done.buffered))
 
 -- a write failed, or reading the next line did
 abbrev pub AdvanceErrPost : Side → Sorted → Reader → Reader → Slots → Slots → Output → MergeFault → Type 0
@@ -147,7 +143,7 @@ module _ {tool : MergeTool} {old : MergeState} (w : IsOpenMerge tool old) {now :
       (λ all holds. omega (arith, peak_line a.keeps s cursor a.slots f.piece all holds)) (a.order new f.piece f.line)
       (put_each (λ side (r : Reader). r.failed ≡ true → IsFailedRead r (ls side) (p side)) s new _
       (grind (arith, f, none_failed_yet s, w.unfailed s)) (λ side fail. cc (none_failed_yet side, w.unfailed side)))
-      (Err fault) (grind (arith, w.unfailed, put_same, none_failed_yet, side_case, put_other, buffered_not_done, e))
+      (Err fault) (grind (arith, w.unfailed, put_same, none_failed_yet, side_case, put_other, e))
 
 -- ---- between two steps
 

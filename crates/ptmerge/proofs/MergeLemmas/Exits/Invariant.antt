@@ -54,7 +54,7 @@ module _ (cmp : Cmp) (o : IsKeyOrder cmp) where
   self_at_most a = ap is_gt (tied_itself o.total a)
 
   pub equal_is : (a b : List ℕ) → is_eq (cmp a b) ≡ bytes_eq a b
-  equal_is a b = grind (arith, not_same a b, tied_itself o.total a, o.exact a b, bytes_decides a b)
+  equal_is a b = grind (arith, not_same, tied_itself, bytes_decides)
 
   pub at_most_trans : (a b c : List ℕ) → AtMost cmp a b → AtMost cmp b c → AtMost cmp a c
   at_most_trans a b c p q = upto o.total a b c p q
@@ -226,7 +226,7 @@ none_disordered cmp key last n (x ∷ ls) e = grind (arith, none_disordered cmp 
 -- lines without a disorder are in order
 pub sorted_from_none : (cmp : Cmp) (key : Key) (ls : Lines) → first_disorder cmp key ls ≡ None
     → IsSortedFrom cmp key None ls
-sorted_from_none cmp key ls e = none_disordered cmp key None 0 ls (sym (first_disorder_is cmp key ls) ∙ e)
+sorted_from_none cmp key ls e = grind (arith, none_disordered, first_disorder_is)
 
 -- lines in order, up to a last key
 pub record IsSortedUpTo (cmp : Cmp) (key : Key) (q : Lines) (last : Option (List ℕ)) : Type 0 where
@@ -369,8 +369,7 @@ module _ (p : List ℕ → Bool) where
     insert_kept k [] a = refl
     insert_kept k (x ∷ xs) (above, more) =
         let least : cmp k x ≡ Less → insert_key cmp k (filter p xs) ≡ k ∷ filter p xs =
-        λ e. insert_least cmp o k (filter p xs)
-        (each_kept _ xs (Each-weaker _ _ (λ y g. above_trans cmp o k x y (ap is_gt e) g) xs above)) in
+        grind (arith, insert_least, each_kept, Each-weaker, above_trans) in
         let same : cmp k x ≡ Equal → p k ≡ p x = λ e. ap p (o.exact k x e) in
         grind (arith, insert_kept k xs more, least, same)
 
@@ -415,8 +414,7 @@ module _ (p : List ℕ → Bool) where
         each_of [] = refl
         each_of (d ∷ ds) =
             let same : p d ≡ true → entries_of_key tool part d ≡ entries_of_key tool ls d =
-            λ h i. entries d (with_key_kept (key First) d (ls First) h i)
-            (with_key_kept (key Second) d (ls Second) h i) in
+            grind (arith, with_key_kept) in
             grind (arith, each_of ds, same)
 
 -- ---- the least key comes first
@@ -468,7 +466,7 @@ module _ (tool : MergeTool) where
       ++ entries_by_key tool (λ k. w k && not (p k)) ls
   downward_splits o w p down ls =
       let ks = distinct_keys cmp (keys tool ls) in
-      ap (flat_map (entries_of_key tool ls)) (downward_first cmp o w p down ks (ascends_distinct cmp o (keys tool ls)))
+      ap (flat_map (entries_of_key tool ls)) (grind (arith, downward_first, ascends_distinct))
       ∙ flat_map-append (entries_of_key tool ls) (filter (λ k. w k && p k) ks) (filter (λ k. w k && not (p k)) ks)
 
   -- lines of the least key, followed by lines with no lesser keys
@@ -498,23 +496,6 @@ module _ (tool : MergeTool) where
         let rest = sym (by_keys_kept (λ x. not (p x)) tool o ls w)
         ∙ (λ i. entries_by_key tool w (λ side. (s side).other i)) ∙ by_keys_kept (λ x. not (p x)) tool o r w in
         downward_splits o w p (grind (arith, at_most_trans, greater_flips)) ls ∙ (λ i. first i ++ rest i)
-
-    pub front_first : (f r : Side → Lines) → ((side : Side) → EachKey (λ x. x ≡ k) (key side) (f side))
-        → ((side : Side) → EachKey (AtMost cmp k) (key side) (r side))
-        → tool.entries k (f First ++ lines_with_key (key First) (r First) k)
-        (f Second ++ lines_with_key (key Second) (r Second) k) ≡ tool.entries k (f First) (f Second)
-        ++ entries_of_key tool r k
-        → entries_by_key tool w (λ side. f side ++ r side) ≡ entries_by_key tool w f ++ entries_by_key tool w r
-    front_first f r own above law =
-        let alone = simp append-nil at (front_is f (λ side. []) own (λ side. tt)) in
-        let rest = front_is (λ side. []) r (λ side. tt) above in
-        grind (
-          arith,
-          alone,
-          rest,
-          front_is f r own above,
-          append_assoc (tool.entries k (f First) (f Second)) (entries_of_key tool r k) (later_entries r),
-        )
 
   -- the lines that may follow in both inputs
   abbrev pub MayCome : (Side → Bound) → (Side → Lines) → Type 0
@@ -644,11 +625,19 @@ write_least_run {tool} o k q f {b} {d} {p} {was} {is} {new} front all none law c
     (Each-weaker _ _ (λ y e. rw e (front of).own_under) _ (front side).own) in
     let now : MergeInvariant tool d (λ side. p side ++ f side) was new = record {
       splits = λ w r c.
-          (λ i. entries_by_key tool w (λ side. append_assoc (p side) (f side) (r side) i)) ∙ cc (
+          let own = λ (side : Side). (front side).own in
+          let above = λ (side : Side). (front side).later.may_follow (r side) (c side) in
+          let alone = simp append-nil at (front_is tool o w k none f (λ side. []) own (λ side. tt)) in
+          let rest = front_is tool o w k none (λ side. []) r (λ side. tt) above in
+          (λ i. entries_by_key tool w (λ side. append_assoc (p side) (f side) (r side) i)) ∙ grind (
+            arith,
             m.splits w (λ side. f side ++ r side) (λ side. (front side).may_follow (r side) (c side)),
             m.splits w f nothing,
-            front_first tool o w k none f r (λ side. (front side).own)
-                (λ side. (front side).later.may_follow (r side) (c side)) (law r c),
+            alone,
+            rest,
+            front_is tool o w k none f r own above,
+            law r c,
+            append_assoc (tool.entries k (f First) (f Second)) (entries_of_key tool r k) (later_entries tool o w k none r),
             append_assoc (entries_by_key tool w p) (entries_by_key tool w f) (entries_by_key tool w r),
           );
       under = λ of side. Each-weaker _ _ (front of).under _ (under of side);
@@ -690,7 +679,7 @@ pub bound_changes : {tool : MergeTool} {b : Side → Bound} {p : Side → Lines}
     → MergeInvariant tool b p was is → IsLater tool.cmp (tool.key s) (b s) d
     → MergeInvariant tool (with_side s d b) p was is
 bound_changes {tool} {b} s {d} m later = bounds_change
-    (put_each (λ side. IsLater tool.cmp (tool.key side) (b side)) s d b later (λ side. same_bound)) m
+    (grind (arith, put_each, same_bound)) m
 
 -- the merge is at its end: the disorder is the one found, if any, and no line that may follow changes the output
 abbrev pub IsExactStop : MergeTool → (Side → Bound) → Option (Side × ℕ) → Type 0
