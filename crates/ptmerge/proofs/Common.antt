@@ -16,7 +16,6 @@ pub use Rattle.std.specs.declared.cmp.Ordering.TheVariants.{Equal, Greater, Less
 pub use Rattle.ptlangs.specs.Jobs.{Comm, Join, comm_job, terminator, join_job}
 pub use Rattle.ptlines.proofs.ReadLine.{advance_ok_trans, line_of_with_line, advance_trans}
 pub use Rattle.ptlines.proofs.Push.{push_nothing, push_trans}
-pub use Rattle.ptlines.specs.Calls.{AllPushed}
 pub use Rattle.ptlines.proofs.TextLaws.{unlines-append}
 pub use Rattle.ptlines.specs.Received.{IsConsistent, IsPrefix, Received, known_lines}
 pub use Rattle.ptlines.specs.Outputs.{Output, PushPost, PushEffect}
@@ -38,7 +37,6 @@ pub use Rattle.ptmerge.specs.Orders.{Cmp, Key, byte_cmp, line_cmp}
 pub use Rattle.ptmerge.specs.Cursor.{NextOkPost, HasSlots, same_key_at, status_at}
 pub use Rattle.ptmerge.specs.Sides.{both, other, with_side}
 pub use Rattle.ptmerge.specs.MergeSteps.{HaveEqualKeys, PrecedesInput, HasOnlyLeastKey}
-pub use Rattle.ptmerge.specs.MergeSlots.{EnsureFourSlotsErrPost}
 pub use Rattle.ptmerge.specs.declared.faults.MergeFault.{MergeFault}
 pub use Rattle.ptmerge.specs.declared.faults.MergeFault.TheVariants.{Memory, Write}
 pub use Rattle.ptmerge.specs.declared.merging.cursor.Sorted.{Sorted}

@@ -4,12 +4,13 @@
 pub mod Exits
 use Rattle.ptmerge.proofs
 use proofs.Common.{AdvancePre, IsReadyToContinue, PrecedesInput, MergeRunPre, WriteFaultPost, budget}
-use proofs.Common.{CopyToGroupPost, Ok, AllPushed, IsErrAnd, HasOnlyLeastKey}
+use proofs.Common.{CopyToGroupPost, Ok, IsErrAnd, HasOnlyLeastKey}
 use Rattle.ptmerge.specs.declared.faults.MergeFault.TheVariants as faults
 use Rattle.ptmerge.specs.Cursor.{NextErrPost, initial_cursor, base_slot}
 use Rattle.ptmerge.specs.MergeSteps.{StartErrPost, StartFirstPost, MergeInputs, IsReaderOf, IsReportable}
 use Rattle.ptmerge.specs.MergeSteps.{AreValidCursors, StartOkPost, merge_inputs, previous_key}
 use Rattle.ptmerge.specs.MergeSteps.{IsDisorderDecided}
+use Rattle.ptlines.specs.Calls.{AllPushed}
 pub use Exits.*
 
 -- ---- keys that may follow

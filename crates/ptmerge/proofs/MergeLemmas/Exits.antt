@@ -6,7 +6,7 @@ use Rattle.ptmerge.proofs
 pub use proofs.Common.{⊎_elim, inl, IsPrefix, both_sides, nat_tests, length_push, line_of_with_line}
 pub use proofs.Common.{CursorStatus, Head, Ended, Disorder, status_at, same_key_at, NextOkPost, Result, Err, Memory}
 pub use proofs.Common.{advance_trans, MergeFault, Write, lines_of, MergeState, MergePost}
-pub use proofs.Common.{EnsureFourSlotsErrPost, merge_state, terminator, merge_engine, merge_end}
+pub use proofs.Common.{merge_state, terminator, merge_engine, merge_end}
 use Rattle.ptlines.proofs.LineSearch.{IsLine-append}
 use Rattle.ptmerge.specs.MergeSpec.{decided_output, decided_entries, lines_decide_disorder, merge_output}
 use Rattle.ptmerge.specs.MergeSpec.{disorder_is_decided}
@@ -19,6 +19,7 @@ use Rattle.ptlines.proofs.TextLaws.{complete_lines_of_unlines, the_lines}
 use Rattle.ptlines.specs.Lag.{LaggedInput, ProcessLag}
 pub use Rattle.ptlines.specs.Calls.{CallOutcome, with_input}
 pub use Rattle.ptlines.proofs.Calls.{reads_nothing}
+pub use Rattle.ptmerge.specs.MergeSlots.{EnsureFourSlotsErrPost}
 pub use Invariant.*
 pub use SlotLines.*
 
