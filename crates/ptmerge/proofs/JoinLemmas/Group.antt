@@ -77,13 +77,13 @@ clears_more a s t slot from within c is =
     let back : 4 + (slot - 4) ≡ slot = omega arith in
     let all = total_bytes_set s.lines slot [] (omega arith) in
     let at : get_or rest (slot - 4) [] ≡ line a slot = grind (arith, common_steps, back) in
-    let d : drop 4 (set s.lines slot []) ≡ set rest (slot - 4) [] = cc (back, drop-set-add 4 s.lines (slot - 4) []) in
+    let d : drop 4 (set s.lines slot []) ≡ set rest (slot - 4) [] = grind (arith, drop-set-add) in
     let here = total_bytes_set rest (slot - 4) [] (omega (arith, length-drop 4 s.lines)) in
     let grows = ap total_bytes (group_more a 4 slot from within) ∙ sum_by_push length (group a 4 slot) (line a slot) in
     rw is (record {
       slots = length-set s.lines slot [] ∙ c.slots;
       others = λ i far. grind (arith, line_other);
-      emptied = omega (arith, here, ap total_bytes d, ap length at, grows);
+      emptied = grind (arith, d);
       less = omega (arith, all);
       peak = omega (arith, all);
       denied = c.denied;
@@ -178,9 +178,9 @@ module _ {tool : MergeTool} {before store : Slots} {ls : Side → Lines} {g : Li
       by_tail : (t : Lines) → total_bytes t ≡ 0 → length g + 1 ≤ length (g ++ t)
           → drop 4 (set made.lines to y) ≡ set (g ++ t) (length g) y
           → GroupStore tool before (with_line made to y) ls (g ++ y ∷ [])
-      by_tail [] none some is = absurd (omega (arith, some, length-append g []))
+      by_tail [] none some is = grind (arith, length-append)
       by_tail (z ∷ t) none some is =
-          let four : 4 ≤ length (set made.lines to y) = omega (arith, k.four, w.slots, length-set made.lines to y) in
+          let four : 4 ≤ length (set made.lines to y) = grind (arith, length-set) in
           let split : drop 4 (set made.lines to y) ≡ (g ++ y ∷ []) ++ t = grind (arith, common_steps, set_at, is) in
           let lines = same_lines store.lines (set made.lines to y) (λ side. max_length (ls side)) (total_bytes g)
           (total_bytes (g ++ y ∷ [])) k.lines four first_same (grind (arith, common_steps, split, none)) in
@@ -218,7 +218,7 @@ module _ {tool : MergeTool} {before store : Slots} {ls : Side → Lines} {g : Li
   kept_line = grind (arith, common_steps)
 
   pub group_is : {end : ℕ} → end ≡ 4 + length g → group store 4 end ≡ g
-  group_is at = rw k.split (take_at g k.tail _ (omega (arith, at)))
+  group_is at = grind (arith, take_at)
 
   pub end_within : {end : ℕ} → end ≡ 4 + length g → end ≤ length store.lines
   end_within = grind (arith, length-append)
@@ -380,13 +380,13 @@ module _ (call : JoinCall) {mid : Output} {p g : Side → Lines} {d : Side → B
 
   -- no key that follows is less
   none_less : (r : Side → Lines) → MayCome tool d r → (side : Side) → EachKey (AtMost cmp k) (key side) (r side)
-  none_less r c side = (m.later side).may_follow (r side) (c side)
+  none_less = grind arith
 
   -- the pairs of a group come first, for all lines of its key that the first input still has
   starts_pairs : (f c s : Lines) → 0 < length s → (rest : Lines) × (entries k (f ++ c) s ≡ pairs k f s ++ rest)
   starts_pairs [] c s some = (entries k c s, rw (laws.none k s) refl)
   starts_pairs (a ∷ f) c s some =
-      (pairs k c s, laws.whole k (a ∷ (f ++ c)) s (omega arith) some ∙ laws.more k (a ∷ f) c s)
+      (pairs k c s, grind arith)
 
   pub starts_none : OutputStartsWith tool g d k []
   starts_none = record { rest = λ w r c wanted. (entries_by_key tool w (λ side. g side ++ r side), refl) }
@@ -415,7 +415,7 @@ module _ (call : JoinCall) {mid : Output} {p g : Side → Lines} {d : Side → B
         front_is tool o w k (call.w.alone.none k) g r m.own (none_less r c),
         wanted,
         laws.whole k f s some_first some_second,
-      ) (omega (arith, laws.written keeps k f s some_first some_second, length-append (pairs k f s) rest))
+      ) (grind (arith, keeps, length-append))
 
   -- a group is complete if only greater keys follow
   pub closes : {is : Output} → ((side : Side) → 0 < length (g side))

@@ -88,7 +88,7 @@ lines_read_more {end} {old} {now} {new} {ls} c e =
         length-append,
       );
       advance_ok = advance_ok_trans old now new c.given _ c.advance_ok e.advance_ok;
-      terminator = e.advance_ok.reads.terminator ∙ c.terminator;
+      terminator = grind arith;
     }
 
 pub lines_read_eof : {end : ℕ} {old now new : Reader} {ls : List (List ℕ)} → LinesRead end old now ls
@@ -321,7 +321,7 @@ group_store_line {tool} {store = store} {ls = ls} {now} {g} s cursor slots x k u
       empty = k.empty;
       lines = inside;
       room = λ all more. k.room all (on all more);
-      fits = λ all more. grind (arith, k.fits, more, total_within, k.room);
+      fits = λ all more. grind (arith, more, total_within);
       four = omega (arith, size);
       denied = k.denied;
     })
