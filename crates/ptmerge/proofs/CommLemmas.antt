@@ -137,7 +137,7 @@ module _ {job : Comm} {cmp : Cmp} {key : Side → Key} {old now : MergeState} {o
         let x = head First in
         write_least_run w.o (key First x) both_written (both (x ∷ []) (head Second ∷ []))
         (elim [ First ↦ line_is_least_run w.o h1.bound refl | Second ↦ line_is_least_run w.o h2.bound (sym step.same) ])
-        (elim [ First ↦ h1.all | Second ↦ h2.all ]) (w.alone.none (key First x))
+        (grind arith) (w.alone.none (key First x))
         (λ r c. entries_both job (key First x) _ _) between.clean merge_invariant wrote
 
     module _ {mid : Output} {tabs : List ℕ} (led : tabs ≡ tab_if_shown job.hide1 ++ tab_if_shown job.hide2)

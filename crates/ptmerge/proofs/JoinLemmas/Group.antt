@@ -591,8 +591,12 @@ module _ {call : JoinCall} {now : MergeState} {cursor : Side → Sorted} {end : 
                 (with_side s next cursor) after (with_side s n.now_ls q.ls) f (with_side s n.bound q.d))
                 (λ i side. put_both (λ side (l m : Lines). l ≡ q.p side ++ m) s (q.ls s) (λ side. q.p side ++ g side)
                 (g s ++ x ∷ []) g with_head refl side i) (sides_next o q.sides s l.head comes);
-            within = assumption (q.within, own_more, put_each (λ side. IsLater cmp (key side) (AtLeast k)) s n.bound q.d
-                (rw l.is at n.later) q.within.later);
+            within = assumption (
+              q.within,
+              own_more,
+              put_each (λ side. IsLater cmp (key side) (AtLeast k)) s n.bound q.d
+                  (rw l.is at n.later) q.within.later,
+            );
             keeps = group_store_next s (cursor s) (q.sides s).slots q.keeps n;
             wrote = wrote;
             at = q.at;

@@ -63,8 +63,8 @@ steps-preserved g c =
     let q = c.write_out_and_advance.ensures in
     rw (q.order ∙ p.order) (record {
       iteration = pair_continues c.steps.invariant.iteration c.in-Both.ensures
-    c.tabs-tabs3.ensures p.wrote c.in_ok-write_head-in-Both.ensures.advances q.written_out (rw p.order at
-    c.in_ok-write_out_and_advance-in-Both.ensures.advances);
+          c.tabs-tabs3.ensures p.wrote c.in_ok-write_head-in-Both.ensures.advances q.written_out (rw p.order at
+          c.in_ok-write_out_and_advance-in-Both.ensures.advances);
       order = c.steps.invariant.order;
     })
 

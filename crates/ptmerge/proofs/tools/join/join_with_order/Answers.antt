@@ -46,7 +46,7 @@ steps-preserved-in-Continue-branch-2 g c =
     let p = c.write_unpaired.ensures in
     rw p.order (record {
       iteration = alone_continues c.steps.invariant.iteration c.in-BetweenGroups.is c.in-First.ensures
-    p.wrote c.in_ok-write_unpaired-in-First.ensures.advances;
+          p.wrote c.in_ok-write_unpaired-in-First.ensures.advances;
       order = c.steps.invariant.order;
     })
 
@@ -117,7 +117,7 @@ steps-preserved-else-not-has_same_key g c =
     let ok = c.in_ok-end-in-ReadGroup.ensures in
     rw p.order (record {
       iteration = read_group_continues c.steps.invariant.iteration c.in-ReadGroup.is p.written_out
-    ok.reads_line ok.continues (sym c.has_same_key.ensures ∙ c.if-not-has_same_key.false);
+          ok.reads_line ok.continues (sym c.has_same_key.ensures ∙ c.if-not-has_same_key.false);
       order = c.steps.invariant.order;
     })
 
