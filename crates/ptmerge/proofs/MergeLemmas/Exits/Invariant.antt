@@ -637,7 +637,8 @@ write_least_run {tool} o k q f {b} {d} {p} {was} {is} {new} front all none law c
             rest,
             front_is tool o w k none f r own above,
             law r c,
-            append_assoc (tool.entries k (f First) (f Second)) (entries_of_key tool r k) (later_entries tool o w k none r),
+            append_assoc (tool.entries k (f First) (f Second)) (entries_of_key tool r k)
+                (later_entries tool o w k none r),
             append_assoc (entries_by_key tool w p) (entries_by_key tool w f) (entries_by_key tool w r),
           );
       under = λ of side. Each-weaker _ _ (front of).under _ (under of side);
