@@ -310,15 +310,10 @@ module _ (t : MergeTool) {old : List Reader} {was : Output} {before : Slots} {p 
       placed_at f First = put_here p (f First) (λ k. f Second)
       placed_at f Second = put_other p q (f First) (λ k. f Second) apart
 
-  -- what holds of both readers, by side
-  by_side : (readers : List Reader) (side : Side)
-      → both (reader_at readers p) (reader_at readers q) side ≡ reader_at readers (operand two side)
-  by_side readers First = refl
-  by_side readers Second = refl
-
-  position_is : (side : Side) → both p q side ≡ operand two side
-  position_is First = refl
-  position_is Second = refl
+  -- what holds of both positions, by side
+  by_side : {X : Type 0} (f : ℕ → X) (side : Side) → both (f p) (f q) side ≡ f (operand two side)
+  by_side f First = refl
+  by_side f Second = refl
 
   pub two_inputs_post : {new : List Reader} {is : Output} {store : Slots} {result : Result (Unit {0}) MergeFault}
       → ((k : ℕ) → (p ≡ k → ⊥) → (q ≡ k → ⊥) → reader_at new k ≡ reader_at old k)
@@ -327,17 +322,17 @@ module _ (t : MergeTool) {old : List Reader} {was : Output} {before : Slots} {p 
       → JointPost (two_input_tool t) two old new was is before store (merge_completion (both p q) result)
   two_inputs_post {new} {is} {store} {result} others post = record {
     end = end_at (operand two) (merge_end result);
-    result_is = λ i. result_of_end (end_at (λ side. position_is side i) (merge_end result));
+    result_is = λ i. result_of_end (end_at (λ side. by_side (λ k. k) side i) (merge_end result));
     call = placed_call (merge_engine t) (operand two) two_placed old new (λ k other. others k
         (λ same. false≢true (sym other ∙ ap (is_in two) (sym same) ∙ side_named First))
         (λ same. false≢true (sym other ∙ ap (is_in two) (sym same) ∙ side_named Second))) ready.writable
         (λ few. (First, refl, (new_at First).eof))
         (subst (λ (rs : Side → Reader). CallPost both_sides (merge_engine t) (call_state rs was before)
         (call_state (λ side. reader_at new (operand two side)) is store) (merge_end result))
-        (λ i side. by_side old side i)
+        (λ i side. by_side (reader_at old) side i)
         (subst (λ (rs : Side → Reader). CallPost both_sides (merge_engine t)
         (call_state (both (reader_at old p) (reader_at old q)) was before) (call_state rs is store) (merge_end result))
-        (λ i side. by_side new side i)
+        (λ i side. by_side (reader_at new) side i)
         post.call));
     same = λ f g same. ap (decided_output t) (λ i side. same (operand two side) (side_named side) i);
   }

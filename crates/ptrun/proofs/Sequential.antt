@@ -46,20 +46,10 @@ pub record OperandsDone (word : List ℕ) (t : ToolSpec) (names : List (List ℕ
   pub clean : is.write_failed ≡ false
   pub not_denied : store.denied ≡ false
   pub empty : total_bytes store.lines ≡ 0
-  pub peak : (w : InputBytes) → AreInputsConsistent inputs_read w
-      → store.peak ≤ max before.peak (sequential_bound t w done)
-  pub slots : (w : InputBytes) → AreInputsConsistent inputs_read w
-      → length store.lines ≤ max (length before.lines) (sequential_slots t w done)
+  pub bounds : (w : InputBytes) → AreInputsConsistent inputs_read w
+      → (store.peak ≤ max before.peak (sequential_bound t w done))
+      × (length store.lines ≤ max (length before.lines) (sequential_slots t w done))
   pub room : (q : ℕ) → is_in done q ≡ true → is_reader_unopened old q ≡ false → t.slots ≤ length store.lines
-
--- such a state, along equalities of its parts
-pub done_as : {word : List ℕ} {t : ToolSpec} {names : List (List ℕ)} {old now now' : List Reader} {was is is' : Output}
-    {messages_old messages_new messages_new' : SinkState} {before store store' : Slots}
-    {done done' : List ℕ} {so_far so_far' : Completion} → now' ≡ now → store' ≡ store → is' ≡ is
-    → messages_new' ≡ messages_new → so_far' ≡ so_far → done' ≡ done
-    → OperandsDone word t names old now was is messages_old messages_new before store done so_far
-    → OperandsDone word t names old now' was is' messages_old messages_new' before store' done' so_far'
-done_as inputs kept out messages far positions k = grind arith
 
 ok_of : (p : ℕ) {all : Completion} (passed : Result (Unit {0}) FlowFault) → operand_completion p passed ≡ Ok all
     → passed ≡ Ok tt
@@ -95,8 +85,7 @@ module _ {word : List ℕ} {t : ToolSpec} {names : List (List ℕ)} {old : List 
     clean = clean;
     not_denied = not_denied;
     empty = empty;
-    peak = λ w agrees. omega arith;
-    slots = λ w agrees. omega arith;
+    bounds = λ w agrees. (omega arith, omega arith);
     room = λ q seen. absurd (false≢true seen);
   }
 
@@ -163,8 +152,8 @@ module _ {word : List ℕ} {t : ToolSpec} {names : List (List ℕ)} {old : List 
             buffering = sends_now was is k.pushed (sequential_decided t k.inputs_read done)
                 k.wrote k.clean processing;
           }));
-      peak = k.peak;
-      slots = k.slots;
+      peak = λ w agrees. (k.bounds w agrees).0;
+      slots = λ w agrees. (k.bounds w agrees).1;
     }
       where
         all_taken : take (length done + 1) done ≡ done
@@ -240,8 +229,7 @@ module _ {word : List ℕ} {t : ToolSpec} {names : List (List ℕ)} {old : List 
         clean = k.clean;
         not_denied = k.not_denied;
         empty = k.empty;
-        peak = λ w agrees. rw (nothing w agrees) (k.peak w agrees);
-        slots = λ w agrees. rw (nothing w agrees) (k.slots w agrees);
+        bounds = λ w agrees. rw (nothing w agrees) (k.bounds w agrees);
         room = holds_more (λ q. is_reader_unopened old q ≡ false → t.slots ≤ length store.lines) done p k.room
             (grind (arith, old_unopened));
       }
@@ -255,9 +243,15 @@ module _ {word : List ℕ} {t : ToolSpec} {names : List (List ℕ)} {old : List 
 
     -- ---- an operand that was opened
 
-    module _ {is' : Output} {store' : Slots} {p : ℕ} {new : Reader} {result : Result (Unit {0}) FlowFault}
+    module _ {is' : Output} {store' : Slots} {p : ℕ} {now' : List Reader} {result : Result Completion FlowFault}
         (within : p < length old) (d : Reader) (open_here : (get_or now p d).refused ≡ false)
-        (sound : IsSound (get_or now p d)) (e : PassPost t (reader_at now p) new is is' store store' result) where
+        (sound : IsSound (get_or now p d)) (o : OperandPost t p now now' is is' store store' result) where
+      abbrev new : Reader
+      new = o.reader
+
+      abbrev e : PassPost t (reader_at now p) new is is' store store' o.pass_result
+      e = o.pass
+
       abbrev was_here : CallState (Unit {0})
       was_here = call_state (λ u. reader_at now p) is store
 
@@ -268,8 +262,8 @@ module _ {word : List ℕ} {t : ToolSpec} {names : List (List ℕ)} {old : List 
       given_here = e.call.given tt
 
       abbrev EndedAs : Result (Unit {0}) FlowFault → Type 0
-      EndedAs result = CallOutcome only_input (pass_engine t) was_here is_here e.call.given e.call.pushed
-          (pass_end result)
+      EndedAs passed = CallOutcome only_input (pass_engine t) was_here is_here e.call.given e.call.pushed
+          (pass_end passed)
 
       came_here : HasReceived (reader_at now p) new given_here
       came_here = e.call.came tt refl
@@ -293,14 +287,11 @@ module _ {word : List ℕ} {t : ToolSpec} {names : List (List ℕ)} {old : List 
       abbrev inputs_read' : ReceivedInputs
       inputs_read' = set k.inputs_read p (Some (given_now y.given))
 
-      abbrev now' : List Reader
-      now' = set now p new
-
       reader_here : reader_at now' p ≡ new
-      reader_here = search rules
+      reader_here = ap (λ rs. reader_at rs p) o.inputs ∙ search rules
 
       reader_other : (q : ℕ) → p ≢ q → reader_at now' q ≡ reader_at now q
-      reader_other q differs = search rules
+      reader_other q differs = rw o.inputs (search rules)
 
       read_here : at inputs_read' p ≡ Some (given_now y.given)
       read_here = search rules
@@ -386,16 +377,16 @@ module _ {word : List ℕ} {t : ToolSpec} {names : List (List ℕ)} {old : List 
       bounds_here w more agrees =
           let f = operand_finds w agrees in
           rw (opened_inputs_some [] w done p more f.bytes f.are, map-append, map-append) (
-            omega (arith, maximum-append, e.call.peak (λ u. f.bytes) (λ u read. f.agree), k.peak w (back w agrees)),
-            omega (arith, maximum-append, e.call.slots (λ u. f.bytes) (λ u read. f.agree), k.slots w (back w agrees)),
+            omega (arith, maximum-append, e.call.peak (λ u. f.bytes) (λ u read. f.agree), (k.bounds w (back w agrees)).0),
+            omega (arith, maximum-append, e.call.slots (λ u. f.bytes) (λ u read. f.agree), (k.bounds w (back w agrees)).1),
           )
 
       -- it was read to its end
-      passed_ok : result ≡ Ok tt
+      pub done_operand : {all : Completion} → result ≡ Ok all
           → OperandsDone word t names old now' was is' messages_old messages_new before store' (done ++ p ∷ []) so_far
-      passed_ok ok = record {
+      done_operand ok = record {
         inputs_read = inputs_read';
-        same_length = length-set now p new ∙ k.same_length;
+        same_length = ap length o.inputs ∙ length-set now p new ∙ k.same_length;
         long = length-set k.inputs_read p (Some (given_now y.given)) ∙ k.long;
         came = received';
         at_eof = grind (arith, by_position, reader_here, at_eof, reader_other, is_in-other);
@@ -413,13 +404,12 @@ module _ {word : List ℕ} {t : ToolSpec} {names : List (List ℕ)} {old : List 
         clean = end.clean;
         not_denied = end.not_denied;
         empty = end.empty;
-        peak = λ w agrees. (bounds_here w [] agrees).0;
-        slots = λ w agrees. (bounds_here w [] agrees).1;
+        bounds = λ w agrees. bounds_here w [] agrees;
         room = λ q seen opened. omega (arith, (e.call.added k.clean).all end.not_denied);
       }
         where
           end : AllPushed only_input (pass_engine t) was_here is_here e.call.given e.call.pushed None
-          end = subst EndedAs ok e.call.ends
+          end = subst EndedAs (ok_of p o.pass_result (sym o.result_is ∙ ok)) e.call.ends
 
           at_eof : IsAtEof new
           at_eof = record {
@@ -465,7 +455,7 @@ module _ {word : List ℕ} {t : ToolSpec} {names : List (List ℕ)} {old : List 
 
       -- If no slot was missing, a line is left. A slot was missing only if no operand was read before: then its input
       -- is unread.
-      input_left : result ≡ Err Memory → IsDone new → ⊥
+      input_left : o.pass_result ≡ Err Memory → IsDone new → ⊥
       input_left memory ended = ⊎_elim
           (λ few.
           let unread = (e.call.unread k.clean few).readers tt refl in
@@ -512,7 +502,7 @@ module _ {word : List ℕ} {t : ToolSpec} {names : List (List ℕ)} {old : List 
             ≡ k.pushed ++ t.decided earlier
         decided_here = search (rules, decided_all, decided_open)
 
-        stopped : (more : List ℕ) (fault : FlowFault) → result ≡ Err fault
+        stopped : (more : List ℕ) (fault : FlowFault) → o.pass_result ≡ Err fault
             → RunInputsPost (sequential_spec word t names (done ++ p ∷ more)) old now' was is' messages_old messages_new
             before store' (Err (fault_at p fault))
         stopped more fault is_err = record {
@@ -586,15 +576,7 @@ module _ {word : List ℕ} {t : ToolSpec} {names : List (List ℕ)} {old : List 
             index_within Write = tt
             index_within Memory = tt
 
-    module _ {is' : Output} {store' : Slots} {p : ℕ} {after : List Reader} {result : Result Completion FlowFault}
-        (within : p < length old) (d : Reader) (open_here : (get_or now p d).refused ≡ false)
-        (sound : IsSound (get_or now p d)) (call : OperandPost t p now after is is' store store' result) where
-      pub done_operand : {all : Completion} → result ≡ Ok all
-          → OperandsDone word t names old after was is' messages_old messages_new before store' (done ++ p ∷ []) so_far
-      done_operand ok = grind (arith, passed_ok, ok_of)
-
-      pub done_stopped : DecidesAll t → (more : List ℕ) {fault : FlowFault} → result ≡ Err fault
-          → RunInputsPost (sequential_spec word t names (done ++ p ∷ more)) old after was is' messages_old messages_new
-          before store' (Err fault)
-      done_stopped law more is_err = let f = err_of call.pass_result (sym call.result_is ∙ is_err) in
-          grind (arith, stopped)
+        pub done_stopped : (more : List ℕ) {fault : FlowFault} → result ≡ Err fault
+            → RunInputsPost (sequential_spec word t names (done ++ p ∷ more)) old now' was is' messages_old messages_new
+            before store' (Err fault)
+        done_stopped more is_err = let f = err_of o.pass_result (sym o.result_is ∙ is_err) in grind (arith, stopped)

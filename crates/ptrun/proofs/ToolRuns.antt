@@ -18,9 +18,13 @@ abbrev pub one_tool : ToolInRun → ToolSpec
 one_tool (OneByOne t law) = t
 one_tool (Together t) = record { text = λ i. []; decided = λ g. []; size = λ i. 0; slots = 0; end = 10 }
 
-pub decides_all : (s : ToolInRun) → DecidesAll (one_tool s)
+abbrev pub decides_all : (s : ToolInRun) → DecidesAll (one_tool s)
 decides_all (OneByOne t law) = law
 decides_all (Together t) = λ bytes. refl
+
+pub read_in_turn : (s : ToolInRun) → reads_together s ≡ false → s ≡ OneByOne (one_tool s) (decides_all s)
+read_in_turn (OneByOne t law) in_turn = refl
+read_in_turn (Together t) in_turn = cc
 
 module _ (word : List ℕ) (names : List (List ℕ)) (positions : List ℕ) where
   -- ---- a file could not be opened
@@ -89,27 +93,7 @@ module _ (word : List ℕ) (names : List (List ℕ)) (positions : List ℕ) wher
         together_pre,
       )
 
-      pub sequential_post : (s : ToolInRun) {messages_old messages_new : SinkState} → reads_together s ≡ false
-          → RunInputsPost (sequential_spec word (one_tool s) names positions) old new was is messages_old messages_new
-          before store result
-          → RunInputsPost (spec_of_tool word s names positions) old new was is messages_old messages_new before store
-          result
-      sequential_post (OneByOne t law) in_turn post = post
-      sequential_post (Together t) in_turn post = absurd (false≢true (sym in_turn))
-
 -- ---- one operand
-
-pub operand_pre : (s : ToolInRun) {operands : List ℕ} {inputs : List Reader} (out : Output) {store : Slots}
-    → reads_together s ≡ false → OperandPre operands inputs store → RunOnPre s operands inputs out store
-operand_pre (OneByOne t law) out in_turn ready = ready
-operand_pre (Together t) out in_turn ready = absurd (false≢true (sym in_turn))
-
-pub operand_post : (s : ToolInRun) {p : ℕ} {old new : List Reader} {was is : Output} {before store : Slots}
-    {result : Result Completion FlowFault}
-    → reads_together s ≡ false → RunOnPost s (p ∷ []) old new was is before store result
-    → OperandPost (one_tool s) p old new was is before store result
-operand_post (OneByOne t law) in_turn post = post
-operand_post (Together t) in_turn post = absurd (false≢true (sym in_turn))
 
 -- a pass over the reader of the only operand
 pub operand_passed : {t : ToolSpec} {operands : List ℕ} {old : List Reader} {new : Reader} {was is : Output}
