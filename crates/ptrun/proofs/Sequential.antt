@@ -104,7 +104,7 @@ module _ {word : List ℕ} {t : ToolSpec} {names : List (List ℕ)} {old : List 
 
     can_read_now : (q : ℕ) → is_reader_unopened old q ≡ false
         → ((reader_at now q).buffered ≡ []) × ((reader_at now q).fault ≡ None)
-    can_read_now q opened = grind (arith, k.at_eof q, k.unread q, fresh_all old fresh q)
+    can_read_now q opened = grind (arith, fresh_all)
 
     -- ---- all operands are done
 
@@ -121,8 +121,7 @@ module _ {word : List ℕ} {t : ToolSpec} {names : List (List ℕ)} {old : List 
       message = unopened_messages word names (is_reader_unopened old) done;
       has_said = k.has_said;
       names =
-          λ w agrees. rw (take-length done) (unopened_same word names (is_reader_unopened old) (is_unopened w) done
-          (unopened_agrees old now k.inputs_read w k.came agrees));
+          grind (arith, take-length, unopened_same, is_reader_unopened, is_unopened, unopened_agrees);
       ends = (
         record {
           all = refl;
@@ -131,27 +130,16 @@ module _ {word : List ℕ} {t : ToolSpec} {names : List (List ℕ)} {old : List 
           not_denied = k.not_denied;
           read = λ q. ⊎_elim (none q) (short q);
         },
-        λ w agrees. let same = any_same (is_reader_unopened old) (is_unopened w) done
-            (unopened_agrees old now k.inputs_read w k.came agrees) in
-            let (message, status, position) = ends_with (list_any (is_unopened w) done) in
-            rw (k.so_far_is, same) (message, status),
+        grind (arith, any_same, is_reader_unopened, is_unopened, unopened_agrees, ends_with, list_any),
       );
-      position = let (message, status, position) = ends_with (list_any (is_reader_unopened old) done) in
-          rw k.so_far_is position;
-      untouched = λ q other. k.unread q (rw all_taken at other);
-      ended = λ q named opened. (k.at_eof q (rw (take-length done) at named) (was_unopened q ∙ opened)).done;
+      position = grind (arith, ends_with, list_any, is_reader_unopened);
+      untouched = grind (arith, all_taken);
+      ended = grind (arith, take-length, was_unopened);
       left = λ memory. cc;
-      is_prefix = λ w agrees. record { rest = []; is = sym (k.out w agrees) ∙ sym (append-nil k.pushed) };
+      is_prefix = grind (arith, is, append-nil);
       names_failed_read = λ q failed clean. absurd (none q failed);
       decided_is_written = λ q failed clean. absurd (none q failed);
-      bounded_lag = rw all_taken
-          (all_earlier t (opened_inputs empty_input k.inputs_read done)
-          (λ decided. IsPushedUpToBlock decided was is k.pushed)
-          (record {
-            begins = processing;
-            buffering = sends_now was is k.pushed (sequential_decided t k.inputs_read done)
-                k.wrote k.clean processing;
-          }));
+      bounded_lag = search (rules, all_taken, all_earlier, opened_inputs, empty_input, k.inputs_read, is, k.pushed, processing, sends_now, sequential_decided, k.wrote, k.clean);
       peak = λ w agrees. (k.bounds w agrees).0;
       slots = λ w agrees. (k.bounds w agrees).1;
     }
@@ -186,7 +174,7 @@ module _ {word : List ℕ} {t : ToolSpec} {names : List (List ℕ)} {old : List 
         processing =
             let all = decided_inputs t law k.inputs_read [] done [] ended_now
             ∙ append-nil (sequential_output t (least_bytes k.inputs_read) done)
-            ∙ sym (k.out (least_bytes k.inputs_read) (least_consistent k.inputs_read)) in
+            ∙ sym (grind (arith, least_bytes, least_consistent)) in
             let none = append-nil (opened_inputs empty_input k.inputs_read done) in
             record {
               rest = [];
@@ -223,15 +211,14 @@ module _ {word : List ℕ} {t : ToolSpec} {names : List (List ℕ)} {old : List 
         unreceived = grind (arith, not_more);
         pushed = k.pushed;
         wrote = k.wrote;
-        out = λ w agrees. rw (nothing w agrees) (k.out w agrees);
-        has_said = said_more word names (is_reader_unopened old) done p k.has_said (rw old_unopened says);
+        out = grind (arith, nothing);
+        has_said = grind (arith, said_more, is_reader_unopened, old_unopened);
         so_far_is = grind (arith, any_now, old_unopened);
         clean = k.clean;
         not_denied = k.not_denied;
         empty = k.empty;
-        bounds = λ w agrees. rw (nothing w agrees) (k.bounds w agrees);
-        room = holds_more (λ q. is_reader_unopened old q ≡ false → t.slots ≤ length store.lines) done p k.room
-            (grind (arith, old_unopened));
+        bounds = grind (arith, nothing);
+        room = grind (arith, common_steps, holds_more, is_reader_unopened, old_unopened);
       }
         where
           old_unopened : (reader_at old p).refused ≡ true
@@ -272,7 +259,7 @@ module _ {word : List ℕ} {t : ToolSpec} {names : List (List ℕ)} {old : List 
       not_failed_before = grind (arith, here, ready_here)
 
       old_open : is_reader_unopened old p ≡ false
-      old_open = was_unopened p ∙ rw (here within d) at open_here
+      old_open = grind (arith, was_unopened, here)
 
       -- what its input had received before
       abbrev y : OpenedInput (reader_at old p) (reader_at now p) (at k.inputs_read p)
@@ -288,7 +275,7 @@ module _ {word : List ℕ} {t : ToolSpec} {names : List (List ℕ)} {old : List 
       inputs_read' = set k.inputs_read p (Some (given_now y.given))
 
       reader_here : reader_at now' p ≡ new
-      reader_here = ap (λ rs. reader_at rs p) o.inputs ∙ search rules
+      reader_here = search (rules, reader_at)
 
       reader_other : (q : ℕ) → p ≢ q → reader_at now' q ≡ reader_at now q
       reader_other q differs = rw o.inputs (search rules)
@@ -300,20 +287,10 @@ module _ {word : List ℕ} {t : ToolSpec} {names : List (List ℕ)} {old : List 
       read_other q differs = search rules
 
       receives_here : HasReceived (reader_at old p) new (given_now y.given)
-      receives_here = receives_trans (reader_at old p) (reader_at now p) new y.given given_here y.received came_here
-          buffered
+      receives_here = grind (arith, common_steps, receives_trans, reader_at, y.given, y.received, came_here, buffered)
 
       received' : HaveReceived old now' inputs_read'
-      received' = grind (
-        arith,
-        by_position,
-        reader_here,
-        read_here,
-        old_open,
-        receives_here,
-        reader_other,
-        read_other,
-      )
+      received' = grind (arith, by_position, reader_here, read_here, old_open, receives_here, reader_other, read_other)
 
       still : y.given.eof ≡ true → (given_here.bytes ≡ []) × (given_here.eof ≡ true)
       still eof = grind (arith, ended_gives_nothing, came_here, buffered)
@@ -334,16 +311,7 @@ module _ {word : List ℕ} {t : ToolSpec} {names : List (List ℕ)} {old : List 
 
       -- the bytes are consistent with what was received before
       back : (w : InputBytes) → AreInputsConsistent inputs_read' w → AreInputsConsistent k.inputs_read w
-      back w agrees = grind (
-        arith,
-        here,
-        consistent_bytes,
-        read_here,
-        by_position,
-        consistent_before,
-        still,
-        read_other,
-      )
+      back w agrees = grind (arith, here, consistent_bytes, read_here, by_position, consistent_before, still, read_other)
 
       -- the bytes that are left for the operand, consistent with what this call received
       record OperandFinds (w : InputBytes) : Type 0 where
@@ -386,8 +354,8 @@ module _ {word : List ℕ} {t : ToolSpec} {names : List (List ℕ)} {old : List 
           → OperandsDone word t names old now' was is' messages_old messages_new before store' (done ++ p ∷ []) so_far
       done_operand ok = record {
         inputs_read = inputs_read';
-        same_length = ap length o.inputs ∙ length-set now p new ∙ k.same_length;
-        long = length-set k.inputs_read p (Some (given_now y.given)) ∙ k.long;
+        same_length = grind (arith, length-set);
+        long = grind (arith, length-set);
         came = received';
         at_eof = grind (arith, by_position, reader_here, at_eof, reader_other, is_in-other);
         unread = grind (arith, not_more, reader_other);
@@ -399,13 +367,13 @@ module _ {word : List ℕ} {t : ToolSpec} {names : List (List ℕ)} {old : List 
             ++ (end.out (λ u. f.bytes) (λ u read. f.agree) ∙ sym (append-nil (t.text f.bytes))) i)
             ∙ sym (out_here w [] f);
         has_said =
-            said_more word names (is_reader_unopened old) done p k.has_said (rw old_open (said_nothing messages_new));
+            grind (arith, said_more, is_reader_unopened, old_open, said_nothing);
         so_far_is = grind (arith, any_before, old_open);
         clean = end.clean;
         not_denied = end.not_denied;
         empty = end.empty;
         bounds = λ w agrees. bounds_here w [] agrees;
-        room = λ q seen opened. omega (arith, (e.call.added k.clean).all end.not_denied);
+        room = grind arith;
       }
         where
           end : AllPushed only_input (pass_engine t) was_here is_here e.call.given e.call.pushed None
@@ -427,17 +395,7 @@ module _ {word : List ℕ} {t : ToolSpec} {names : List (List ℕ)} {old : List 
       cause_of more (Read position) r = (
         nth_here done more p,
         grind (arith, common_steps, unseen),
-        grind (
-          arith,
-          old_open,
-          unseen,
-          not_failed_before,
-          reader_here,
-          read_here,
-          fresh_all,
-          receives_here,
-          buffered,
-        ),
+        grind (arith, old_open, unseen, not_failed_before, reader_here, read_here, fresh_all, receives_here, buffered),
         r.clean,
         r.not_denied,
       )
@@ -515,35 +473,26 @@ module _ {word : List ℕ} {t : ToolSpec} {names : List (List ℕ)} {old : List 
           message = unopened_messages word names (is_reader_unopened old) done;
           has_said = k.has_said;
           names =
-              λ w agrees. rw (take-append_seam done (p ∷ more))
-              (unopened_same word names (is_reader_unopened old) (is_unopened w) done
-              (unopened_agrees old now' inputs_read' w received' agrees));
+              grind (arith, take-append_seam, unopened_same, is_reader_unopened, is_unopened, unopened_agrees, received');
           ends = cause_of more fault end;
           position = index_within fault;
-          untouched = λ q other. let (differs, before) =
-              not_more done p q (rw (take-append-add done (p ∷ more) 1) at other) in reader_other q differs
-              ∙ k.unread q before;
-          ended = λ q named. ended_still q (rw (take-append_seam done (p ∷ more)) at named);
-          left = λ memory. let same : fault_at p fault ≡ Memory = cc in inl (
-            p,
-            rw (take-append-add done (p ∷ more) 1) (is_in-same done p),
-            rw reader_here (came_here.refused ∙ sym (was_unopened p) ∙ old_open),
-            rw reader_here (input_left (is_err ∙ ap (λ f. Err f) (memory_is fault same))),
-          );
+          untouched = grind (arith, not_more, take-append-add, reader_other);
+          ended = grind (arith, ended_still, take-append_seam);
+          left = grind (arith, fault_at, take-append-add, is_in-same, reader_here, came_here.refused, was_unopened, old_open, input_left, memory_is);
           is_prefix = λ w agrees. let f = operand_finds w agrees in let b = e.call.is_prefix (λ u. f.bytes)
               (λ u read. f.agree) in let rest =
               flat_map t.text (later w more) in record {
                 rest = b.rest ++ rest;
                 is = out_here w more f ∙ (λ i. sym (k.out w (back w agrees)) i ++ (b.is i ++ rest))
                     ∙ ap (λ l. k.pushed ++ l) (append_assoc e.call.pushed b.rest rest)
-                    ∙ sym (append_assoc k.pushed e.call.pushed (b.rest ++ rest));
+                    ∙ sym (grind (arith, common_steps));
               };
           decided_is_written = λ q failed clean. let here = fails_here q failed in let after =
               opened_values (inputs_of_operands empty_input inputs_read' (done ++ p ∷ []) more) in
               begins_after (t.decided given_here) (ap (λ l. flat_map t.decided (up_to_unended l))
-              (opened_inputs_some empty_input inputs_read' done p more given_here input_given)
+              (grind (arith, opened_inputs_some, empty_input, input_given))
               ∙ decided_all (given_here ∷ after) ∙ ap (λ l. k.pushed ++ l)
-              (decided_open given_here after (inr (came_here.eof ∙ (failing fault end here).0))))
+              (grind (arith, decided_open, failing, end, here)))
               (e.call.decided_is_written tt refl here clean);
           bounded_lag =
               rw (
@@ -551,12 +500,7 @@ module _ {word : List ℕ} {t : ToolSpec} {names : List (List ℕ)} {old : List 
                 opened_inputs_some empty_input inputs_read' done p [] given_here input_given,
               )
               (last_earlier t (opened_inputs empty_input inputs_read' done) given_here (one_keeps.processing.before tt)
-              (λ bytes. IsPushedUpToBlock bytes was is' (k.pushed ++ e.call.pushed)) (record {
-                begins = begins_after (t.decided earlier) decided_here one_keeps.processing.begins;
-                buffering =
-                    rw decided_here
-                    (sends_after was is is' k.pushed (t.decided earlier) k.wrote k.clean one_keeps.buffering);
-              }));
+              (λ bytes. IsPushedUpToBlock bytes was is' (k.pushed ++ e.call.pushed)) (search (rules, begins_after, t.decided, decided_here, one_keeps.processing.begins, sends_after, is, k.pushed, k.wrote, k.clean, one_keeps.buffering)));
           names_failed_read = grind (arith, failing fault end, fails_here, position_of);
           peak = λ w agrees. (bounds_here w more agrees).0;
           slots = λ w agrees. (bounds_here w more agrees).1;
