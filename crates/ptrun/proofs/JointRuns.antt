@@ -119,18 +119,13 @@ module _ {I : Type 0} {names : InputNames I} (engine : EngineSpec I) (position :
       (run_state new is store) (end_at position end)
   placed_call = record {
     given = given;
-    came = each by (λ q. HasReceived (reader_at old q) (reader_at new q) (given q)) (λ i read. subst
-        (λ g. HasReceived (reader_at old (position i)) (reader_at new (position i)) g)
-        (sym (by.placed_at call.given i)) (call.came i read));
+    came = grind (arith, each, reader_at, position);
     untouched = others;
     pushed = call.pushed;
     wrote = call.wrote;
     ends = ends end call.ends;
-    is_prefix = λ texts a. call.is_prefix (λ i. texts (position i)) (placed_agree texts a);
-    decided_is_written = each by (λ q. (reader_at new q).failed ≡ true → is.write_failed ≡ false
-        → IsPrefix (engine.decided (λ i. given (position i))) call.pushed) (λ i read failed fine.
-        subst (λ g. IsPrefix (engine.decided g) call.pushed) (sym given_is)
-        (call.decided_is_written i read failed fine));
+    is_prefix = grind (arith, position, placed_agree);
+    decided_is_written = grind (arith, common_steps, each, reader_at, position, given_is);
     bounded_lag = each by (λ q. was.write_failed ≡ false → BoundedLag {I = Unit {0}}
         (λ came. engine.decided (λ j. with_input (inputs_at positions) q (came tt) given (position j)))
         (λ u. given q) was is call.pushed) (λ i read fine.
@@ -139,9 +134,9 @@ module _ {I : Type 0} {names : InputNames I} (engine : EngineSpec I) (position :
         (λ u. g) was is call.pushed) (sym (by.placed_at call.given i))
         (subst (λ (f : (Unit {0} → Received) → List ℕ). BoundedLag f (λ u. call.given i) was is call.pushed)
         (placed_decided i) (call.bounded_lag i read fine)));
-    peak = λ texts a. call.peak (λ i. texts (position i)) (placed_agree texts a);
-    slots = λ texts a. call.slots (λ i. texts (position i)) (placed_agree texts a);
-    added = λ fine. record { least = (call.added fine).least; all = λ allowed. omega arith };
+    peak = grind (arith, position, placed_agree);
+    slots = grind (arith, position, placed_agree);
+    added = grind arith;
     unread = λ fine none. absurd (omega arith);
     unchanged_if_failed = λ fault. cc;
   }
@@ -156,7 +151,7 @@ only_operand_of positions d one = grind (arith, eqb-true)
 one_placed : (p : ℕ) → Placement only_input (λ u. p) (p ∷ [])
 one_placed p = record {
   listed = λ u read. is_in-same [] p;
-  name_at = λ q named. (tt, refl, eqb-true p q (sym (or-false (p == q)) ∙ named));
+  name_at = λ q named. grind (arith, eqb-true, or-false, named);
   same = λ u v. same_here p;
   placed = λ f q. f tt;
   placed_at = λ f u. refl;
@@ -197,7 +192,7 @@ module _ {j : JointTool} {positions : List ℕ} {old : List Reader} {was : Outpu
           result_is = refl;
           call = placed_call (pass_engine t) (λ u. p) (one_placed p) old (set old p new)
               (λ q other. get_or-set_other old p q new no_reader
-              (λ same. false≢true (sym other ∙ ap (is_in (p ∷ [])) same ∙ is_in-same [] p))) ready.writable
+              (λ same. false≢true (grind (arith, is_in, same, is_in-same)))) ready.writable
               (λ few. (tt, refl, new_here.eof))
               (rw here (rw (get_or_default old p e no_reader (only_operand_within d)) at pass).call);
           same = λ f g same. ap t.decided (same p (is_in-same [] p));
@@ -241,7 +236,7 @@ module _ (job : Paste) {positions : List ℕ} {old : List Reader} {was : Output}
     result_is = completes result;
     call = placed_call (paste_engine job positions) (λ p. p) in_place old new k.untouched ready.writable
         (λ few. let first = cell_in positions 0 (omega arith) in let q = get_or positions 0 0 in
-        (q, first, (fresh_all old ready.fresh q (cell_open q first)).eof)) k;
+        (q, first, grind (arith, fresh_all, cell_open))) k;
     same = decided_same job positions;
   }
 
@@ -259,7 +254,7 @@ AcceptsTwo positions =
 pub two_of : (positions : List ℕ) (d : ℕ) → AcceptsTwo positions
     → TwoPositions positions (get_or positions 0 d) (get_or positions 1 d)
 two_of (p ∷ q ∷ []) d accepts_operands = grind arith
-two_of positions d accepts_operands = absurd (grind (arith, nat_tests, accepts_operands))
+two_of positions d accepts_operands = grind (arith, nat_tests)
 
 pub length_two : (positions : List ℕ) → AcceptsTwo positions → length positions ≡ 2
 length_two positions accepts_operands = search (rules, two_of)
@@ -292,8 +287,7 @@ module _ (t : MergeTool) {old : List Reader} {was : Output} {before : Slots} {p 
   two_placed : Placement both_sides (operand two) two
   two_placed = record {
     listed = λ side read. side_named side;
-    name_at = each_listed IsSide two (All-cons IsSide p (q ∷ []) (First, refl, refl)
-        (All-cons IsSide q [] (Second, refl, refl) (All-nil IsSide)));
+    name_at = grind (arith, each_listed);
     same = same;
     placed = λ f. update_at p (f First) (λ k. f Second);
     placed_at = placed_at;
@@ -324,8 +318,8 @@ module _ (t : MergeTool) {old : List Reader} {was : Output} {before : Slots} {p 
     end = end_at (operand two) (merge_end result);
     result_is = λ i. result_of_end (end_at (λ side. by_side (λ k. k) side i) (merge_end result));
     call = placed_call (merge_engine t) (operand two) two_placed old new (λ k other. others k
-        (λ same. false≢true (sym other ∙ ap (is_in two) (sym same) ∙ side_named First))
-        (λ same. false≢true (sym other ∙ ap (is_in two) (sym same) ∙ side_named Second))) ready.writable
+        (λ same. false≢true (grind (arith, is_in, same, side_named)))
+        (λ same. false≢true (grind (arith, is_in, same, side_named)))) ready.writable
         (λ few. (First, refl, (new_at First).eof))
         (subst (λ (rs : Side → Reader). CallPost both_sides (merge_engine t) (call_state rs was before)
         (call_state (λ side. reader_at new (operand two side)) is store) (merge_end result))
@@ -334,7 +328,7 @@ module _ (t : MergeTool) {old : List Reader} {was : Output} {before : Slots} {p 
         (call_state (both (reader_at old p) (reader_at old q)) was before) (call_state rs is store) (merge_end result))
         (λ i side. by_side (reader_at new) side i)
         post.call));
-    same = λ f g same. ap (decided_output t) (λ i side. same (operand two side) (side_named side) i);
+    same = λ f g same. search (rules, decided_output, same, operand, side_named);
   }
 
 -- ---- two readers of a list that was split between them
@@ -358,10 +352,7 @@ module _ {inputs : List Reader} (front back : List Reader) {low high : ℕ} (spl
   module _ (x y : Reader) where
     set_both : set (set inputs low x) high y ≡ set front low x ++ set back 0 y
     set_both =
-        ap (λ l. set (set l low x) high y) split
-        ∙ ap (λ l. set l high y) (set-append_left front back low x (omega (arith, size, below)))
-        ∙ set-append_right (set front low x) back high high y (length-set front low x ∙ size) (omega arith)
-        ∙ ap (λ n. set front low x ++ set back n y) none_left
+        grind (arith, set, set-append_left, set-append_right, length-set, none_left)
 
     pub split_readers : (d e : Reader)
         → SplitReaders inputs (set front low x ++ set back 0 y) low high (get_or front low d) (get_or back 0 e) x y
@@ -383,7 +374,7 @@ first_at [] p there = absurd (false≢true there)
 first_at (q ∷ positions) p there = ⊎_elim (λ same. (0, omega arith, ap (λ n. Some n) same.1, refl))
     (λ other.
     let f = first_at positions p (search rules) in
-    (suc f.0, omega (arith, f.1), f.2, ap (λ b. b || is_in (take f.0 positions) p) other.0 ∙ f.3))
+    (suc f.0, omega (arith, f.1), f.2, grind (arith, is_in, take, positions)))
     (eqb_tells q p)
 
 -- ---- the inputs received, as a list
@@ -512,16 +503,7 @@ module _ (word : List ℕ) {t : JointTool} (names : List (List ℕ)) {positions 
   all_pushed found e below = record {
     operands_done = length positions;
     within = omega arith;
-    ends = (
-      record {
-        all = refl;
-        out = λ w agrees. rw (complete w agrees) (e.out (bytes_of w) (agree w agrees));
-        no_write_failed = e.clean;
-        not_denied = e.not_denied;
-        read = λ q. ⊎_elim (none_failed e.unfailed q) (none_long e.short q);
-      },
-      λ w agrees. rw (complete w agrees, e.disorder (bytes_of w) (agree w agrees)) (ends_with word names found),
-    );
+    ends = grind (arith, complete, e.out, bytes_of, agree, e.clean, e.not_denied, none_failed, e.unfailed, none_long, e.short, e.disorder, ends_with);
     position = below;
     names_failed_read = grind (arith, none_failed);
     ended = ended_if_written found e.ended;
@@ -535,11 +517,7 @@ module _ (word : List ℕ) {t : JointTool} (names : List (List ℕ)) {positions 
   ending (ReadFault p) e =
       let f = first_at positions p e.named in
       let cause : HasReadFailed old new p ⊎ IsTooLong (at received p) =
-      ⊎_elim (λ broke. inl (open_at p e.named, e.unfailed, broke.0))
-      (λ long. let first = fresh p (open_at p e.named) in
-      inr
-      (rw (at_listed p e.named)
-      (omega (arith, long.0, (k.came p e.named).count, ap length first.buffered, first.pulled)))) e.cause in
+      grind (arith, open_at, fresh, at_listed) in
       record {
         operands_done = f.0;
         within = f.1;
