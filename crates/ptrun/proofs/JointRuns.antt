@@ -119,13 +119,13 @@ module _ {I : Type 0} {names : InputNames I} (engine : EngineSpec I) (position :
       (run_state new is store) (end_at position end)
   placed_call = record {
     given = given;
-    came = grind (arith, each, reader_at, position);
+    came = grind arith;
     untouched = others;
     pushed = call.pushed;
     wrote = call.wrote;
     ends = ends end call.ends;
-    is_prefix = grind (arith, position, placed_agree);
-    decided_is_written = grind (arith, common_steps, each, reader_at, position, given_is);
+    is_prefix = grind arith;
+    decided_is_written = grind (arith, common_steps, given_is);
     bounded_lag = each by (λ q. was.write_failed ≡ false → BoundedLag {I = Unit {0}}
         (λ came. engine.decided (λ j. with_input (inputs_at positions) q (came tt) given (position j)))
         (λ u. given q) was is call.pushed) (λ i read fine.
@@ -134,8 +134,8 @@ module _ {I : Type 0} {names : InputNames I} (engine : EngineSpec I) (position :
         (λ u. g) was is call.pushed) (sym (by.placed_at call.given i))
         (subst (λ (f : (Unit {0} → Received) → List ℕ). BoundedLag f (λ u. call.given i) was is call.pushed)
         (placed_decided i) (call.bounded_lag i read fine)));
-    peak = grind (arith, position, placed_agree);
-    slots = grind (arith, position, placed_agree);
+    peak = grind arith;
+    slots = grind arith;
     added = grind arith;
     unread = λ fine none. absurd (omega arith);
     unchanged_if_failed = λ fault. cc;
@@ -151,7 +151,7 @@ only_operand_of positions d one = grind (arith, eqb-true)
 one_placed : (p : ℕ) → Placement only_input (λ u. p) (p ∷ [])
 one_placed p = record {
   listed = λ u read. is_in-same [] p;
-  name_at = λ q named. grind (arith, eqb-true, or-false, named);
+  name_at = λ q named. grind arith;
   same = λ u v. same_here p;
   placed = λ f q. f tt;
   placed_at = λ f u. refl;
@@ -192,7 +192,7 @@ module _ {j : JointTool} {positions : List ℕ} {old : List Reader} {was : Outpu
           result_is = refl;
           call = placed_call (pass_engine t) (λ u. p) (one_placed p) old (set old p new)
               (λ q other. get_or-set_other old p q new no_reader
-              (λ same. false≢true (grind (arith, is_in, same, is_in-same)))) ready.writable
+              (λ same. false≢true (grind arith))) ready.writable
               (λ few. (tt, refl, new_here.eof))
               (rw here (rw (get_or_default old p e no_reader (only_operand_within d)) at pass).call);
           same = λ f g same. ap t.decided (same p (is_in-same [] p));
@@ -287,7 +287,7 @@ module _ (t : MergeTool) {old : List Reader} {was : Output} {before : Slots} {p 
   two_placed : Placement both_sides (operand two) two
   two_placed = record {
     listed = λ side read. side_named side;
-    name_at = grind (arith, each_listed);
+    name_at = grind arith;
     same = same;
     placed = λ f. update_at p (f First) (λ k. f Second);
     placed_at = placed_at;
@@ -318,8 +318,8 @@ module _ (t : MergeTool) {old : List Reader} {was : Output} {before : Slots} {p 
     end = end_at (operand two) (merge_end result);
     result_is = λ i. result_of_end (end_at (λ side. by_side (λ k. k) side i) (merge_end result));
     call = placed_call (merge_engine t) (operand two) two_placed old new (λ k other. others k
-        (λ same. false≢true (grind (arith, is_in, same, side_named)))
-        (λ same. false≢true (grind (arith, is_in, same, side_named)))) ready.writable
+        (λ same. false≢true (grind arith))
+        (λ same. false≢true (grind arith))) ready.writable
         (λ few. (First, refl, (new_at First).eof))
         (subst (λ (rs : Side → Reader). CallPost both_sides (merge_engine t) (call_state rs was before)
         (call_state (λ side. reader_at new (operand two side)) is store) (merge_end result))
@@ -328,7 +328,7 @@ module _ (t : MergeTool) {old : List Reader} {was : Output} {before : Slots} {p 
         (call_state (both (reader_at old p) (reader_at old q)) was before) (call_state rs is store) (merge_end result))
         (λ i side. by_side (reader_at new) side i)
         post.call));
-    same = λ f g same. search (rules, decided_output, same, operand, side_named);
+    same = λ f g same. search (rules, same, side_named);
   }
 
 -- ---- two readers of a list that was split between them
@@ -352,7 +352,7 @@ module _ {inputs : List Reader} (front back : List Reader) {low high : ℕ} (spl
   module _ (x y : Reader) where
     set_both : set (set inputs low x) high y ≡ set front low x ++ set back 0 y
     set_both =
-        grind (arith, set, set-append_left, set-append_right, length-set, none_left)
+        grind (arith, set-append_left, set-append_right, length-set, none_left)
 
     pub split_readers : (d e : Reader)
         → SplitReaders inputs (set front low x ++ set back 0 y) low high (get_or front low d) (get_or back 0 e) x y
@@ -374,7 +374,7 @@ first_at [] p there = absurd (false≢true there)
 first_at (q ∷ positions) p there = ⊎_elim (λ same. (0, omega arith, ap (λ n. Some n) same.1, refl))
     (λ other.
     let f = first_at positions p (search rules) in
-    (suc f.0, omega (arith, f.1), f.2, grind (arith, is_in, take, positions)))
+    (suc f.0, omega arith, f.2, grind arith))
     (eqb_tells q p)
 
 -- ---- the inputs received, as a list
@@ -503,9 +503,9 @@ module _ (word : List ℕ) {t : JointTool} (names : List (List ℕ)) {positions 
   all_pushed found e below = record {
     operands_done = length positions;
     within = omega arith;
-    ends = grind (arith, complete, e.out, bytes_of, agree, e.clean, e.not_denied, none_failed, e.unfailed, none_long, e.short, e.disorder, ends_with);
+    ends = grind (arith, complete, e.out, agree, e.clean, e.not_denied, e.unfailed, none_long, e.short, e.disorder);
     position = below;
-    names_failed_read = grind (arith, none_failed);
+    names_failed_read = grind arith;
     ended = ended_if_written found e.ended;
   }
 
@@ -528,8 +528,8 @@ module _ (word : List ℕ) {t : JointTool} (names : List (List ℕ)) {positions 
             (cases_eq q p);
         ended = none_ended;
       }
-  ending WriteFault e = grind (arith, none_ended)
-  ending MemoryFault e = grind (arith, none_failed, none_ended)
+  ending WriteFault e = grind arith
+  ending MemoryFault e = grind (arith, none_failed)
 
   -- memory ran out, so something was left
   left_by : (end : CallEnd ℕ)
@@ -553,14 +553,8 @@ module _ (word : List ℕ) {t : JointTool} (names : List (List ℕ)) {positions 
     message = [];
     has_said = said_nothing messages_old;
     names = λ w agrees. sym (none_unopened word names (is_unopened w) (take e.operands_done positions)
-        (grind (
-          arith,
-          neither,
-          complete w agrees,
-          list_any-append (is_unopened w) (take e.operands_done positions)
-              (drop e.operands_done positions),
-          take-append-drop,
-        )));
+        (grind (arith, complete w agrees, list_any-append (is_unopened w) (take e.operands_done positions)
+              (drop e.operands_done positions), take-append-drop)));
     ends = e.ends;
     position = e.position;
     untouched = k.untouched;
@@ -572,7 +566,7 @@ module _ (word : List ℕ) {t : JointTool} (names : List (List ℕ)) {positions 
         )) (left_by post.end k.ends (sym post.result_is ∙ memory));
     is_prefix = λ w agrees. rw (complete w agrees) (k.is_prefix (bytes_of w) (agree w agrees));
     names_failed_read = e.names_failed_read;
-    decided_is_written = grind (arith, decided_is received k.given (λ q. refl) given_listed, failed_is_in, k);
+    decided_is_written = grind (arith, decided_is received k.given (λ q. refl) given_listed);
     bounded_lag = λ q g named there. let up = lagged_output (λ e. (t.engine positions).decided (update_at q e k.given))
         (k.bounded_lag q named start.writable) in let e = up.0.earlier in
         rw (some_same (sym there ∙ at_listed q named)) (

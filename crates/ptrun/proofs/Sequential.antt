@@ -121,7 +121,7 @@ module _ {word : List ℕ} {t : ToolSpec} {names : List (List ℕ)} {old : List 
       message = unopened_messages word names (is_reader_unopened old) done;
       has_said = k.has_said;
       names =
-          grind (arith, take-length, unopened_same, is_reader_unopened, is_unopened, unopened_agrees);
+          grind (arith, take-length);
       ends = (
         record {
           all = refl;
@@ -130,16 +130,16 @@ module _ {word : List ℕ} {t : ToolSpec} {names : List (List ℕ)} {old : List 
           not_denied = k.not_denied;
           read = λ q. ⊎_elim (none q) (short q);
         },
-        grind (arith, any_same, is_reader_unopened, is_unopened, unopened_agrees, ends_with, list_any),
+        grind arith,
       );
-      position = grind (arith, ends_with, list_any, is_reader_unopened);
+      position = grind arith;
       untouched = grind (arith, all_taken);
       ended = grind (arith, take-length, was_unopened);
       left = λ memory. cc;
-      is_prefix = grind (arith, is, append-nil);
+      is_prefix = grind (arith, append-nil);
       names_failed_read = λ q failed clean. absurd (none q failed);
       decided_is_written = λ q failed clean. absurd (none q failed);
-      bounded_lag = search (rules, all_taken, all_earlier, opened_inputs, empty_input, k.inputs_read, is, k.pushed, processing, sends_now, sequential_decided, k.wrote, k.clean);
+      bounded_lag = search (rules, all_taken, all_earlier, processing, sends_now, k.wrote);
       peak = λ w agrees. (k.bounds w agrees).0;
       slots = λ w agrees. (k.bounds w agrees).1;
     }
@@ -148,19 +148,10 @@ module _ {word : List ℕ} {t : ToolSpec} {names : List (List ℕ)} {old : List 
         all_taken = take_all (length done + 1) done (omega arith)
 
         none : (q : ℕ) → HasReadFailed old now q → ⊥
-        none q failed = grind (arith, not_failed_now)
+        none q failed = grind arith
 
         short : (q : ℕ) → IsTooLong (at k.inputs_read q) → ⊥
-        short q long = grind (
-          arith,
-          not_long,
-          never_long,
-          fresh_all old fresh q,
-          k.came q,
-          k.at_eof q,
-          k.unreceived q,
-          was_unopened,
-        )
+        short q long = grind (arith, fresh_all old fresh q)
 
         ends_with : (b : Bool)
             → (result_message word names (Ok (completion_with b)) ≡ [])
@@ -174,7 +165,7 @@ module _ {word : List ℕ} {t : ToolSpec} {names : List (List ℕ)} {old : List 
         processing =
             let all = decided_inputs t law k.inputs_read [] done [] ended_now
             ∙ append-nil (sequential_output t (least_bytes k.inputs_read) done)
-            ∙ sym (grind (arith, least_bytes, least_consistent)) in
+            ∙ sym (grind (arith, least_consistent)) in
             let none = append-nil (opened_inputs empty_input k.inputs_read done) in
             record {
               rest = [];
@@ -212,21 +203,21 @@ module _ {word : List ℕ} {t : ToolSpec} {names : List (List ℕ)} {old : List 
         pushed = k.pushed;
         wrote = k.wrote;
         out = grind (arith, nothing);
-        has_said = grind (arith, said_more, is_reader_unopened, old_unopened);
+        has_said = grind (arith, said_more, old_unopened);
         so_far_is = grind (arith, any_now, old_unopened);
         clean = k.clean;
         not_denied = k.not_denied;
         empty = k.empty;
         bounds = grind (arith, nothing);
-        room = grind (arith, common_steps, holds_more, is_reader_unopened, old_unopened);
+        room = grind (arith, common_steps);
       }
         where
           old_unopened : (reader_at old p).refused ≡ true
-          old_unopened = grind (arith, was_unopened, here)
+          old_unopened = grind (arith, here)
 
           nothing : (w : InputBytes) → AreInputsConsistent k.inputs_read w
               → opened_inputs [] w (done ++ p ∷ []) ≡ opened_inputs [] w done
-          nothing w agrees = grind (arith, opened_inputs_none, none_of, unopened_agrees, old_unopened)
+          nothing w agrees = grind (arith, opened_inputs_none, old_unopened)
 
     -- ---- an operand that was opened
 
@@ -290,7 +281,7 @@ module _ {word : List ℕ} {t : ToolSpec} {names : List (List ℕ)} {old : List 
       receives_here = grind (arith, common_steps, receives_trans, reader_at, y.given, y.received, came_here, buffered)
 
       received' : HaveReceived old now' inputs_read'
-      received' = grind (arith, by_position, reader_here, read_here, old_open, receives_here, reader_other, read_other)
+      received' = grind (arith, reader_here, read_here, receives_here, reader_other, read_other)
 
       still : y.given.eof ≡ true → (given_here.bytes ≡ []) × (given_here.eof ≡ true)
       still eof = grind (arith, ended_gives_nothing, came_here, buffered)
@@ -311,7 +302,7 @@ module _ {word : List ℕ} {t : ToolSpec} {names : List (List ℕ)} {old : List 
 
       -- the bytes are consistent with what was received before
       back : (w : InputBytes) → AreInputsConsistent inputs_read' w → AreInputsConsistent k.inputs_read w
-      back w agrees = grind (arith, here, consistent_bytes, read_here, by_position, consistent_before, still, read_other)
+      back w agrees = grind (arith, read_here, consistent_before, still, read_other)
 
       -- the bytes that are left for the operand, consistent with what this call received
       record OperandFinds (w : InputBytes) : Type 0 where
@@ -357,7 +348,7 @@ module _ {word : List ℕ} {t : ToolSpec} {names : List (List ℕ)} {old : List 
         same_length = grind (arith, length-set);
         long = grind (arith, length-set);
         came = received';
-        at_eof = grind (arith, by_position, reader_here, at_eof, reader_other, is_in-other);
+        at_eof = grind (arith, reader_here, at_eof, reader_other, is_in-other);
         unread = grind (arith, not_more, reader_other);
         unreceived = grind (arith, not_more, read_other);
         pushed = k.pushed ++ e.call.pushed;
@@ -367,7 +358,7 @@ module _ {word : List ℕ} {t : ToolSpec} {names : List (List ℕ)} {old : List 
             ++ (end.out (λ u. f.bytes) (λ u read. f.agree) ∙ sym (append-nil (t.text f.bytes))) i)
             ∙ sym (out_here w [] f);
         has_said =
-            grind (arith, said_more, is_reader_unopened, old_open, said_nothing);
+            grind (arith, said_more, old_open, said_nothing);
         so_far_is = grind (arith, any_before, old_open);
         clean = end.clean;
         not_denied = end.not_denied;
@@ -395,7 +386,7 @@ module _ {word : List ℕ} {t : ToolSpec} {names : List (List ℕ)} {old : List 
       cause_of more (Read position) r = (
         nth_here done more p,
         grind (arith, common_steps, unseen),
-        grind (arith, old_open, unseen, not_failed_before, reader_here, read_here, fresh_all, receives_here, buffered),
+        grind (arith, reader_here, read_here),
         r.clean,
         r.not_denied,
       )
@@ -473,12 +464,12 @@ module _ {word : List ℕ} {t : ToolSpec} {names : List (List ℕ)} {old : List 
           message = unopened_messages word names (is_reader_unopened old) done;
           has_said = k.has_said;
           names =
-              grind (arith, take-append_seam, unopened_same, is_reader_unopened, is_unopened, unopened_agrees, received');
+              grind (arith, take-append_seam, received');
           ends = cause_of more fault end;
           position = index_within fault;
           untouched = grind (arith, not_more, take-append-add, reader_other);
           ended = grind (arith, ended_still, take-append_seam);
-          left = grind (arith, fault_at, take-append-add, is_in-same, reader_here, came_here.refused, was_unopened, old_open, input_left, memory_is);
+          left = grind (arith, take-append-add, is_in-same, reader_here, came_here.refused, old_open, input_left);
           is_prefix = λ w agrees. let f = operand_finds w agrees in let b = e.call.is_prefix (λ u. f.bytes)
               (λ u read. f.agree) in let rest =
               flat_map t.text (later w more) in record {
@@ -490,9 +481,9 @@ module _ {word : List ℕ} {t : ToolSpec} {names : List (List ℕ)} {old : List 
           decided_is_written = λ q failed clean. let here = fails_here q failed in let after =
               opened_values (inputs_of_operands empty_input inputs_read' (done ++ p ∷ []) more) in
               begins_after (t.decided given_here) (ap (λ l. flat_map t.decided (up_to_unended l))
-              (grind (arith, opened_inputs_some, empty_input, input_given))
+              (grind (arith, opened_inputs_some, input_given))
               ∙ decided_all (given_here ∷ after) ∙ ap (λ l. k.pushed ++ l)
-              (grind (arith, decided_open, failing, end, here)))
+              (grind (arith, decided_open, failing, end)))
               (e.call.decided_is_written tt refl here clean);
           bounded_lag =
               rw (
@@ -500,7 +491,7 @@ module _ {word : List ℕ} {t : ToolSpec} {names : List (List ℕ)} {old : List 
                 opened_inputs_some empty_input inputs_read' done p [] given_here input_given,
               )
               (last_earlier t (opened_inputs empty_input inputs_read' done) given_here (one_keeps.processing.before tt)
-              (λ bytes. IsPushedUpToBlock bytes was is' (k.pushed ++ e.call.pushed)) (search (rules, begins_after, t.decided, decided_here, one_keeps.processing.begins, sends_after, is, k.pushed, k.wrote, k.clean, one_keeps.buffering)));
+              (λ bytes. IsPushedUpToBlock bytes was is' (k.pushed ++ e.call.pushed)) (search (rules, begins_after, decided_here, one_keeps.processing.begins, sends_after, k.wrote, one_keeps.buffering)));
           names_failed_read = grind (arith, failing fault end, fails_here, position_of);
           peak = λ w agrees. (bounds_here w more agrees).0;
           slots = λ w agrees. (bounds_here w more agrees).1;
@@ -510,7 +501,7 @@ module _ {word : List ℕ} {t : ToolSpec} {names : List (List ℕ)} {old : List 
             end = grind arith
 
             position_of : (q : ℕ) → HasReadFailed old now' q → p ≡ q
-            position_of q failed = grind (arith, reader_other, not_failed_now, cases_eq p q)
+            position_of q failed = grind (arith, reader_other)
 
             fails_here : (q : ℕ) → HasReadFailed old now' q → new.failed ≡ true
             fails_here q failed = grind (arith, position_of, reader_here)
