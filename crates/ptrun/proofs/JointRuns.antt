@@ -8,18 +8,18 @@
 -- If an operand could not be opened, nothing but messages is required. Otherwise what the engine of such a tool has
 -- done at the positions of its operands is what processing the inputs has to do.
 use Rattle.ptrun.proofs
-use proofs.Common.{All-cons, All-nil, AllPushed, AllWritten, AreInputsConsistent, AreReadToEnd, Bool, BoundedLag}
-use proofs.Common.{CallOutcome, Completion, Disorder, Err, First, FlowFault, HasIndexBelow, HasReadFailed, HasReceived}
-use proofs.Common.{HaveReceived, InputBytes, IsDone, IsPrefix, IsTooLong, JointTool, List, Memory, MergeTool, None, Ok}
+use proofs.Common.{AllPushed, AllWritten, AreInputsConsistent, AreReadToEnd, Bool, BoundedLag}
+use proofs.Common.{CallOutcome, Completion, Disorder, Err, First, FlowFault, HasIndexBelow, HasReadFailed}
+use proofs.Common.{HaveReceived, InputBytes, IsDone, IsTooLong, JointTool, List, Memory, MergeTool, None, Ok}
 use proofs.Common.{Option, Output, PassPost, PassPre, Paste, Read, Reader, Received, ReceivedInputs, Result}
 use proofs.Common.{RunInputsEnd, RunInputsPost, Second, SinkState, Slots, Some, ToolSpec, Write, [], ap, arith}
-use proofs.Common.{bytes_of, call_state, cases_eq, common_steps, cond, decided_output, disorder_status, disorder_text}
+use proofs.Common.{bytes_of, call_state, cases_eq, common_steps, cond, disorder_status, disorder_text}
 use proofs.Common.{drop, ended_operands, eqb-true, eqb_tells, false, false≢true, get_or, get_or_default, has_unopened}
 use proofs.Common.{inl, inr, is_in, is_reader_unopened, is_unopened, joint_spec, length, length-append, length-set}
 use proofs.Common.{list_any, list_any-append, nat_tests, no_reader, not, one_input_tool, only_input, operand}
-use proofs.Common.{option_map, or-false, pass_end, pass_engine, paste_rows_tool, positions, reader_at, received_in}
+use proofs.Common.{option_map, pass_end, pass_engine, paste_rows_tool, positions, reader_at, received_in}
 use proofs.Common.{refl, result_message, result_status, rules, set, slice_get, subst, suc, sym, take, take-append-drop}
-use proofs.Common.{true, two_input_tool, unopened_messages, zero, ℕ, ⊎_elim, ◌&&◌, ◌++◌, ◌+◌, ◌-◌, ◌<◌, ◌==◌, ◌^◌, ◌||◌}
+use proofs.Common.{true, two_input_tool, unopened_messages, zero, ℕ, ⊎_elim, ◌&&◌, ◌++◌, ◌+◌, ◌-◌, ◌<◌, ◌==◌, ◌^◌}
 use proofs.Common.{◌∙◌, ◌∷◌, ◌≡◌, ◌≤◌, ◌⊎◌}
 use proofs.MessageWrites.{said_nothing}
 use proofs.OperandInputs.{any_same, at_set, by_position, consistent_bytes, each_listed, fresh_all, is_in-same}
@@ -553,8 +553,13 @@ module _ (word : List ℕ) {t : JointTool} (names : List (List ℕ)) {positions 
     message = [];
     has_said = said_nothing messages_old;
     names = λ w agrees. sym (none_unopened word names (is_unopened w) (take e.operands_done positions)
-        (grind (arith, complete w agrees, list_any-append (is_unopened w) (take e.operands_done positions)
-              (drop e.operands_done positions), take-append-drop)));
+        (grind (
+          arith,
+          complete w agrees,
+          list_any-append (is_unopened w) (take e.operands_done positions)
+              (drop e.operands_done positions),
+          take-append-drop,
+        )));
     ends = e.ends;
     position = e.position;
     untouched = k.untouched;

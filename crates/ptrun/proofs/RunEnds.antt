@@ -11,7 +11,7 @@ use proofs.Common.{EndRunPost, Err, File, FinishPost, FlowFault, HasCause, HasRe
 use proofs.Common.{InputsPre, IsAtEnd, IsConsistent, IsPrefix, IsRun, IsTooLong, IsWrittenUpToBlock, Job, List, Memory}
 use proofs.Common.{MergeTool as TwoInputs, None, Ok, Option, Output, PushEffect, Read, Reader, Received, ReceivedInputs}
 use proofs.Common.{Result, RunComm, RunCut, RunInputsEnd, RunInputsPost, RunJoin, RunPaste, RunTr, RunUniq, SinkState}
-use proofs.Common.{Slots, Some, Standard, Write, [], ap, append-nil, append_assoc, append_known, arith, cases_Bool}
+use proofs.Common.{Slots, Some, Standard, Write, [], ap, append-nil, append_known, arith, cases_Bool}
 use proofs.Common.{command_of_args, command_spec, command_view, common_steps, cond, ended_operands, eqb_tells, false}
 use proofs.Common.{false≢true, fault_view, is_memory_fault, is_none, is_reader_unopened, is_unopened, length}
 use proofs.Common.{length-append, map, message_only, messages, nat_tests, position, positions, prepend_known}

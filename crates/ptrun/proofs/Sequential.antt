@@ -7,21 +7,21 @@ use proofs.Common.{Completion, DecidesAll, Err, FlowFault, HasCause, HasIndexBel
 use proofs.Common.{HasReceived, HasSaid, HaveReceived, InputBytes, IsConsistent, IsDone, IsPrefix, IsPushedUpToBlock}
 use proofs.Common.{IsSound, IsTooLong, List, Memory, None, Ok, OperandPost, Output, PassPost, PushEffect, Read, Reader}
 use proofs.Common.{Received, ReceivedInputs, Result, RunInputsPost, SinkState, Slots, Some, ToolSpec, Unopened, Write}
-use proofs.Common.{[], ap, append-nil, append_assoc, arith, call_state, cases_Bool, cases_eq, cases_lt, common_steps}
-use proofs.Common.{cond, decided_in_order, empty_input, false, false≢true, flat_map, flat_map-append, get_or, inl, inr}
-use proofs.Common.{is_in, is_reader_unopened, is_unopened, length, length-append, length-map, length-set, list_any, map}
+use proofs.Common.{[], ap, append-nil, append_assoc, arith, call_state, cases_Bool, cases_lt, common_steps}
+use proofs.Common.{cond, decided_in_order, empty_input, false, false≢true, flat_map, flat_map-append, get_or}
+use proofs.Common.{is_in, is_reader_unopened, length, length-append, length-map, length-set, list_any, map}
 use proofs.Common.{map-append, max, name_of, only_input, pass_end, pass_engine, push_nothing, push_trans, reader_at}
 use proofs.Common.{refl, result_message, result_status, rules, sequential_spec, set, subst, sym, take, take_all}
 use proofs.Common.{total_bytes, true, unopened_message, unopened_messages, up_to_unended, ℕ, ⊎_elim, ◌++◌, ◌+◌, ◌<◌}
 use proofs.Common.{◌∙◌, ◌∷◌, ◌≡◌, ◌≢◌, ◌≤◌, ◌⊎◌}
 use proofs.MessageWrites.{said_nothing}
-use proofs.OperandInputs.{IsAtEof, IsEndedAt, OpenedInput, all_earlier, any_before, any_now, any_same, by_position}
+use proofs.OperandInputs.{IsAtEof, IsEndedAt, OpenedInput, all_earlier, any_before, any_now, by_position}
 use proofs.OperandInputs.{completion_with, consistent_before, consistent_bytes, decided_inputs, ended_at}
 use proofs.OperandInputs.{ended_gives_nothing, fresh_all, holds_more, is_in-other, is_in-same, last_earlier}
-use proofs.OperandInputs.{least_bytes, least_consistent, maximum-append, never_long, none_of, none_received, not_long}
+use proofs.OperandInputs.{least_bytes, least_consistent, maximum-append, none_received}
 use proofs.OperandInputs.{not_more, nothing_read, nth_here, opened_inputs_none, opened_inputs_some, opened_receives}
 use proofs.OperandInputs.{received_at, received_of, receives_trans, said_more, sends_after, sends_now, some_same}
-use proofs.OperandInputs.{still_unopened, unopened_agrees, unopened_same}
+use proofs.OperandInputs.{still_unopened}
 use Rattle.ptrun.specs.Driver.{OperandPre, fault_at, operand_completion}
 use Rattle.ptrun.specs.Files.{IsNewOrUnopened, at, input_of_operand, inputs_of_operands, opened_inputs, opened_values}
 use Rattle.ptrun.specs.Operands.{sequential_bound, sequential_decided, sequential_output, sequential_slots}

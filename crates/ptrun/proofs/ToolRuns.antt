@@ -4,8 +4,8 @@ use Rattle.ptrun.proofs
 use proofs.Common.{All, Bool, Completion, DecidesAll, FlowFault, HasSaid, InputsPre, IsRun, List, OneByOne}
 use proofs.Common.{OperandPost, Output, PassPost, Reader, Result, RunInputsPost, SinkState, Slots, Together, ToolInRun}
 use proofs.Common.{ToolSpec, [], append-nil, arith, common_steps, false, false≢true, get_or, is_reader_unopened}
-use proofs.Common.{is_unopened, joint_spec, length, list_any, map, only_operand, reads_together, refl, sequential_spec}
-use proofs.Common.{set, sinks, spec_of_tool, sym, total_bytes, true, unopened_messages, ℕ, ◌∙◌, ◌∷◌, ◌≡◌, ◌≤◌}
+use proofs.Common.{is_unopened, joint_spec, list_any, map, only_operand, reads_together, refl}
+use proofs.Common.{set, sinks, spec_of_tool, sym, total_bytes, true, unopened_messages, ℕ, ◌∙◌, ◌≡◌}
 use proofs.JointRuns.{joint_post, none_unopened}
 use proofs.OperandInputs.{any_same, fresh_all, nothing_read, received_of, unopened_agrees, unopened_same}
 use proofs.RunEnds.{unread}

@@ -1,7 +1,7 @@
 -- Each iteration reports one more operand if it could not be opened.
 use Rattle.ptrun.proofs
 use proofs.Common.{IsSound, Standard, ap, arith, get_or_default, is_reader_unopened, length, no_reader, positions}
-use proofs.Common.{reader_at, scaled_Fits, subst, sym, take, words_view, ◌<◌, ◌∙◌}
+use proofs.Common.{reader_at, scaled_Fits, subst, sym, take, words_view, ◌∙◌}
 use proofs.MessageWrites.{said_nothing}
 use proofs.OperandInputs.{any_before, any_now, holds_more, names_counted, operand_step, position_in_range}
 use proofs.OperandInputs.{positions_end, said_more}

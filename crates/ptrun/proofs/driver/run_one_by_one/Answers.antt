@@ -1,7 +1,7 @@
 -- Each iteration processes one more operand. If one fails, the run stops there, and the operands after it are
 -- unchanged.
 use Rattle.ptrun.proofs
-use proofs.Common.{Standard, arith, drop, err_from_is_err_and, length, positions, scaled_Fits, sym, ◌+◌, ◌<◌, ◌∙◌}
+use proofs.Common.{Standard, arith, drop, err_from_is_err_and, length, positions, scaled_Fits, sym, ◌+◌, ◌∙◌}
 use proofs.OperandInputs.{OperandStep, names_counted, only_within, operand_step, position_in_range, positions_end}
 use proofs.Sequential.{done_all, done_nothing, done_operand, done_stopped, done_unopened, operand_ready}
 use proofs.ToolRuns.{decides_all, read_in_turn}
