@@ -139,7 +139,7 @@ module _ {word : List ℕ} {t : ToolSpec} {names : List (List ℕ)} {old : List 
       is_prefix = grind (arith, append-nil);
       names_failed_read = λ q failed clean. absurd (none q failed);
       decided_is_written = λ q failed clean. absurd (none q failed);
-      bounded_lag = search (rules, all_taken, all_earlier, processing, sends_now, k.wrote);
+      bounded_lag = search (rules, all_taken, all_earlier, processing, sends_now);
       peak = λ w agrees. (k.bounds w agrees).0;
       slots = λ w agrees. (k.bounds w agrees).1;
     }
@@ -491,7 +491,8 @@ module _ {word : List ℕ} {t : ToolSpec} {names : List (List ℕ)} {old : List 
                 opened_inputs_some empty_input inputs_read' done p [] given_here input_given,
               )
               (last_earlier t (opened_inputs empty_input inputs_read' done) given_here (one_keeps.processing.before tt)
-              (λ bytes. IsPushedUpToBlock bytes was is' (k.pushed ++ e.call.pushed)) (search (rules, begins_after, decided_here, one_keeps.processing.begins, sends_after, k.wrote, one_keeps.buffering)));
+              (λ bytes. IsPushedUpToBlock bytes was is' (k.pushed ++ e.call.pushed))
+              (search (rules, begins_after, decided_here, sends_after, k.wrote, one_keeps.processing, one_keeps.buffering)));
           names_failed_read = grind (arith, failing fault end, fails_here, position_of);
           peak = λ w agrees. (bounds_here w more agrees).0;
           slots = λ w agrees. (bounds_here w more agrees).1;

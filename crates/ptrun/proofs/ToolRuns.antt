@@ -5,7 +5,7 @@ use proofs.Common.{All, Bool, Completion, DecidesAll, FlowFault, HasSaid, Inputs
 use proofs.Common.{OperandPost, Output, PassPost, Reader, Result, RunInputsPost, SinkState, Slots, Together, ToolInRun}
 use proofs.Common.{ToolSpec, [], append-nil, arith, common_steps, false, false≢true, get_or, is_reader_unopened}
 use proofs.Common.{is_unopened, joint_spec, list_any, map, only_operand, reads_together, refl}
-use proofs.Common.{set, sinks, spec_of_tool, sym, total_bytes, true, unopened_messages, ℕ, ◌∙◌, ◌≡◌}
+use proofs.Common.{sequential_spec, set, sinks, spec_of_tool, sym, total_bytes, true, unopened_messages, ℕ, ◌∙◌, ◌≡◌}
 use proofs.JointRuns.{joint_post, none_unopened}
 use proofs.OperandInputs.{any_same, fresh_all, nothing_read, received_of, unopened_agrees, unopened_same}
 use proofs.RunEnds.{unread}
@@ -92,6 +92,13 @@ module _ (word : List ℕ) (names : List (List ℕ)) (positions : List ℕ) wher
         joint_post,
         together_pre,
       )
+
+      pub sequential_post : (s : ToolInRun) {messages_old messages_new : SinkState} → reads_together s ≡ false
+          → RunInputsPost (sequential_spec word (one_tool s) names positions) old new was is messages_old messages_new
+          before store result
+          → RunInputsPost (spec_of_tool word s names positions) old new was is messages_old messages_new before store
+          result
+      sequential_post s in_turn post = rw (read_in_turn s in_turn) post
 
 -- ---- one operand
 

@@ -4,7 +4,7 @@ use Rattle.ptrun.proofs
 use proofs.Common.{Standard, arith, drop, err_from_is_err_and, length, positions, scaled_Fits, sym, ◌+◌, ◌∙◌}
 use proofs.OperandInputs.{OperandStep, names_counted, only_within, operand_step, position_in_range, positions_end}
 use proofs.Sequential.{done_all, done_nothing, done_operand, done_stopped, done_unopened, operand_ready}
-use proofs.ToolRuns.{decides_all, read_in_turn}
+use proofs.ToolRuns.{decides_all, read_in_turn, sequential_post}
 use Rattle.ptrun.proofs.driver.run_one_by_one.Given as given
 use Rattle.ptrun.proofs.driver.run_one_by_one.Goals.{After-position_of-position, then-is_refused}
 use Rattle.ptrun.proofs.driver.run_one_by_one.Goals.{else-is_refused+in_ok-run_on}
@@ -45,12 +45,12 @@ loop-input-preserved g c =
     let turn = turn g (goal.at.loop-input-preserved g c).After-position_of-position in
     elim c.if-is_refused.branch [
       | then-is_refused w ↦
-          rw (w.inputs-is, w.store-is, w.out-is, w.messages-is, w.done-is, turn.next)
+          simp (w.inputs-is, w.store-is, w.out-is, w.messages-is, w.done-is, turn.next)
           (done_unopened c.requires.ready.given.fresh k turn.low d (sym c.is_refused.ensures.refused
           ∙ w.if-is_refused.true)
           (rw (w.name.ensures, w.name_at.ensures) at w.say_unopened.ensures))
       | else-is_refused+in_ok-run_on w ↦
-          rw (w.inputs-is, w.store-is, w.out-is, w.messages-is, w.done-is, turn.next)
+          simp (w.inputs-is, w.store-is, w.out-is, w.messages-is, w.done-is, turn.next)
           (done_operand c.requires.ready.given.fresh k turn.low d (sym c.is_refused.ensures.refused
           ∙ w.if-is_refused.false)
           c.is_refused.ensures.sound
@@ -64,16 +64,17 @@ returns-in_err-run_on g c =
     let in_turn = c.requires.in_turn in
     let turn = turn g (goal.at.returns-in_err-run_on g c).After-position_of-position in
     let e = err_from_is_err_and c.from_residual.result c.from_residual.ensures.1 in
-    rw (e.1, e.2, read_in_turn s in_turn)
+    rw (e.1, e.2)
+    (sequential_post _ _ _ s in_turn
     (rw turn.split at (done_stopped c.requires.ready.given.fresh c.loop-input.invariant turn.low
     c.index-inputs-position.result (sym c.is_refused.ensures.refused ∙ c.if-is_refused.false)
     c.is_refused.ensures.sound (rw (read_in_turn s in_turn) at c.run_on.ensures) (decides_all s)
-    (drop (i + 1) (positions c.args.order.now)) c.in_err-run_on.was))
+    (drop (i + 1) (positions c.args.order.now)) c.in_err-run_on.was)))
 
 pub returns : goal.returns
 returns g c =
     let s = g.T.Tool.tool c.args.tool.now in
-    rw (read_in_turn s c.requires.in_turn)
+    sequential_post _ _ _ s c.requires.in_turn
     (rw (positions_end c.args.order.now c.loop-input.input-index c.loop-input-test.false) at
     (done_all c.requires.ready.given.fresh c.loop-input.invariant (decides_all s)))
 
