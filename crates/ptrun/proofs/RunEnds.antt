@@ -117,8 +117,8 @@ exact_of_run m old new before o fresh k w bytes none fine not_denied = by_fault 
     by_fault : (fault : Option FlowFault) → RunEnd m k.received old new k.written k.message o k.operands_done fault
         → IsExact m w before o
     by_fault None (complete, says) = record {
-      out = grind (arith, append_known, agrees);
-      messages = grind (arith, append_known, append-nil, agrees);
+      out = grind (arith, agrees);
+      messages = grind (arith, append-nil, agrees);
       status_is = let (message, status) = says w agrees in status;
       bounded = k.bounded w agrees;
     }
