@@ -281,9 +281,6 @@ module _ (t : MergeTool) {old : List Reader} {was : Output} {before : Slots} {p 
   not_same : (a b : ℕ) → (a ≡ b → ⊥) → (a == b) ≡ false
   not_same a b differs = grind (arith, eqb_tells)
 
-  abbrev IsSide : ℕ → Type 0
-  IsSide k = (side : Side) × (true ≡ true) × (operand two side ≡ k)
-
   two_placed : Placement both_sides (operand two) two
   two_placed = record {
     listed = λ side read. side_named side;
@@ -395,12 +392,6 @@ at_received given n (r ∷ readers) (suc q) m is = at_received given (n + 1) rea
 abbrev completion_of : Option (ℕ × ℕ) → Completion
 completion_of None = AllWritten
 completion_of (Some found) = Disorder found.0 found.1
-
-ends_with : (word : List ℕ) (names : List (List ℕ)) (found : Option (ℕ × ℕ))
-    → (result_message word names (Ok (completion_of found)) ≡ disorder_text word names found)
-    × (result_status (Ok (completion_of found)) ≡ disorder_status found)
-ends_with word names None = (refl, refl)
-ends_with word names (Some found) = (refl, refl)
 
 module _ (word : List ℕ) {t : JointTool} (names : List (List ℕ)) {positions : List ℕ} {old new : List Reader}
     {was is : Output} (messages_old : SinkState) {before store : Slots} {result : Result Completion FlowFault}

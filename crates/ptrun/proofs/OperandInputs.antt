@@ -315,10 +315,6 @@ pub unopened_received : (old now : Reader) (o : Option Received) → HasReceived
 unopened_received old now None (unopened, same) = unopened
 unopened_received old now (Some g) (opened, received) = opened
 
-pub none_of : (v : Option (List ℕ)) → is_none v ≡ true → v ≡ None
-none_of None is = refl
-none_of (Some b) is = absurd (false≢true is)
-
 -- ---- the input of an operand
 
 -- the bytes of an input, consistent with what was received from it

@@ -95,10 +95,6 @@ module _ {word : List ℕ} {t : ToolSpec} {names : List (List ℕ)} {old : List 
     was_unopened : (q : ℕ) → is_reader_unopened old q ≡ (reader_at now q).refused
     was_unopened q = grind (arith, still_unopened)
 
-    not_failed_now : (q : ℕ) → is_reader_unopened old q ≡ false → (reader_at old q).failed ≡ false
-        → (reader_at now q).failed ≡ false
-    not_failed_now q opened not_failed_before = grind (arith, k.at_eof q, k.unread q)
-
     ended_now : (q : ℕ) → is_in done q ≡ true → IsEndedAt (at k.inputs_read q)
     ended_now q seen = grind (arith, ended_at)
 
@@ -152,13 +148,6 @@ module _ {word : List ℕ} {t : ToolSpec} {names : List (List ℕ)} {old : List 
 
         short : (q : ℕ) → IsTooLong (at k.inputs_read q) → ⊥
         short q long = grind (arith, fresh_all old fresh q)
-
-        ends_with : (b : Bool)
-            → (result_message word names (Ok (completion_with b)) ≡ [])
-            × (result_status (Ok (completion_with b)) ≡ cond b 1 0)
-            × HasIndexBelow (length old) (Ok (completion_with b))
-        ends_with true = (refl, refl, tt)
-        ends_with false = (refl, refl, tt)
 
         -- all output that they decided was pushed
         processing : IsPrefix (sequential_decided t k.inputs_read done) k.pushed
@@ -266,7 +255,7 @@ module _ {word : List ℕ} {t : ToolSpec} {names : List (List ℕ)} {old : List 
       inputs_read' = set k.inputs_read p (Some (given_now y.given))
 
       reader_here : reader_at now' p ≡ new
-      reader_here = search (rules, reader_at)
+      reader_here = search rules
 
       reader_other : (q : ℕ) → p ≢ q → reader_at now' q ≡ reader_at now q
       reader_other q differs = rw o.inputs (search rules)
@@ -278,7 +267,7 @@ module _ {word : List ℕ} {t : ToolSpec} {names : List (List ℕ)} {old : List 
       read_other q differs = search rules
 
       receives_here : HasReceived (reader_at old p) new (given_now y.given)
-      receives_here = grind (arith, common_steps, receives_trans, reader_at, y.given, y.received, came_here, buffered)
+      receives_here = grind (arith, common_steps, receives_trans, y.received, came_here, buffered)
 
       received' : HaveReceived old now' inputs_read'
       received' = grind (arith, reader_here, read_here, receives_here, reader_other, read_other)
@@ -396,11 +385,6 @@ module _ {word : List ℕ} {t : ToolSpec} {names : List (List ℕ)} {old : List 
       -- an operand before it with the same input has read that to its end
       ended_still : (q : ℕ) → is_in done q ≡ true → (reader_at now' q).refused ≡ false → IsDone (reader_at now' q)
       ended_still = grind (arith, by_position, reader_here, old_open, reader_other, was_unopened)
-
-      memory_is : (fault : FlowFault) → fault_at p fault ≡ Memory → fault ≡ Memory
-      memory_is (Read position) is = cc
-      memory_is Write is = is
-      memory_is Memory is = refl
 
       -- If no slot was missing, a line is left. A slot was missing only if no operand was read before: then its input
       -- is unread.
