@@ -13,12 +13,12 @@ use proofs.Common.{CallOutcome, Completion, Disorder, Err, First, FlowFault, Has
 use proofs.Common.{HaveReceived, InputBytes, IsDone, IsTooLong, JointTool, List, Memory, MergeTool, None, Ok}
 use proofs.Common.{Option, Output, PassPost, PassPre, Paste, Read, Reader, Received, ReceivedInputs, Result}
 use proofs.Common.{RunInputsEnd, RunInputsPost, Second, SinkState, Slots, Some, ToolSpec, Write, [], ap, arith}
-use proofs.Common.{bytes_of, call_state, cases_eq, common_steps, cond, disorder_status, disorder_text}
+use proofs.Common.{bytes_of, call_state, cases_eq, common_steps, cond}
 use proofs.Common.{drop, ended_operands, eqb-true, eqb_tells, false, false≢true, get_or, get_or_default, has_unopened}
 use proofs.Common.{inl, inr, is_in, is_reader_unopened, is_unopened, joint_spec, length, length-append, length-set}
 use proofs.Common.{list_any, list_any-append, nat_tests, no_reader, not, one_input_tool, only_input, operand}
 use proofs.Common.{option_map, pass_end, pass_engine, paste_rows_tool, positions, reader_at, received_in}
-use proofs.Common.{refl, result_message, result_status, rules, set, slice_get, subst, suc, sym, take, take-append-drop}
+use proofs.Common.{refl, result_status, rules, set, slice_get, subst, suc, sym, take, take-append-drop}
 use proofs.Common.{true, two_input_tool, unopened_messages, zero, ℕ, ⊎_elim, ◌&&◌, ◌++◌, ◌+◌, ◌-◌, ◌<◌, ◌==◌, ◌^◌}
 use proofs.Common.{◌∙◌, ◌∷◌, ◌≡◌, ◌≤◌, ◌⊎◌}
 use proofs.MessageWrites.{said_nothing}

@@ -2,7 +2,7 @@
 -- operand whose input was read by an earlier one receives nothing more. An operand that fails leaves a prefix of the
 -- output, with all that was decided by then.
 use Rattle.ptrun.proofs
-use proofs.Common.{All, AllPushed, AllWritten, AreInputsConsistent, Bool, BoundedLag, CallOutcome, CallState}
+use proofs.Common.{All, AllPushed, AllWritten, AreInputsConsistent, BoundedLag, CallOutcome, CallState}
 use proofs.Common.{Completion, DecidesAll, Err, FlowFault, HasCause, HasIndexBelow, HasReadCause, HasReadFailed}
 use proofs.Common.{HasReceived, HasSaid, HaveReceived, InputBytes, IsConsistent, IsDone, IsPrefix, IsPushedUpToBlock}
 use proofs.Common.{IsSound, IsTooLong, List, Memory, None, Ok, OperandPost, Output, PassPost, PushEffect, Read, Reader}
@@ -11,7 +11,7 @@ use proofs.Common.{[], ap, append-nil, append_assoc, arith, call_state, cases_Bo
 use proofs.Common.{cond, decided_in_order, empty_input, false, false≢true, flat_map, flat_map-append, get_or}
 use proofs.Common.{is_in, is_reader_unopened, length, length-append, length-map, length-set, list_any, map}
 use proofs.Common.{map-append, max, name_of, only_input, pass_end, pass_engine, push_nothing, push_trans, reader_at}
-use proofs.Common.{refl, result_message, result_status, rules, sequential_spec, set, subst, sym, take, take_all}
+use proofs.Common.{refl, rules, sequential_spec, set, subst, sym, take, take_all}
 use proofs.Common.{total_bytes, true, unopened_message, unopened_messages, up_to_unended, ℕ, ⊎_elim, ◌++◌, ◌+◌, ◌<◌}
 use proofs.Common.{◌∙◌, ◌∷◌, ◌≡◌, ◌≢◌, ◌≤◌, ◌⊎◌}
 use proofs.MessageWrites.{said_nothing}
