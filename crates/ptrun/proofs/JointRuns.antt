@@ -546,6 +546,7 @@ module _ (word : List ℕ) {t : JointTool} (names : List (List ℕ)) {positions 
     names = λ w agrees. sym (none_unopened word names (is_unopened w) (take e.operands_done positions)
         (grind (
           arith,
+          neither,
           complete w agrees,
           list_any-append (is_unopened w) (take e.operands_done positions)
               (drop e.operands_done positions),
@@ -562,7 +563,7 @@ module _ (word : List ℕ) {t : JointTool} (names : List (List ℕ)) {positions 
         )) (left_by post.end k.ends (sym post.result_is ∙ memory));
     is_prefix = λ w agrees. rw (complete w agrees) (k.is_prefix (bytes_of w) (agree w agrees));
     names_failed_read = e.names_failed_read;
-    decided_is_written = grind (arith, decided_is received k.given (λ q. refl) given_listed);
+    decided_is_written = grind (arith, decided_is received k.given (λ q. refl) given_listed, failed_is_in, k);
     bounded_lag = λ q g named there. let up = lagged_output (λ e. (t.engine positions).decided (update_at q e k.given))
         (k.bounded_lag q named start.writable) in let e = up.0.earlier in
         rw (some_same (sym there ∙ at_listed q named)) (

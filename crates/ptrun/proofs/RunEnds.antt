@@ -265,10 +265,10 @@ module _ {m : CommandSpec} {old new : List Reader} {was is : Output}
     has_said = search (rules, said_trans);
     operands_done = k.operands_done;
     fault = fault_of final_result;
-    ends = grind (arith, ends_as, f, cases_Bool);
+    ends = ends_as final_result refl (grind (arith, f, cases_Bool is'.write_failed));
     untouched = k.untouched;
-    ended = grind (arith, f, ended_after_all, cases_Bool);
-    left = grind (arith, f, all_front, not_memory, err_of, cases_Bool);
+    ended = grind (arith, f, ended_after_all, cases_Bool is'.write_failed);
+    left = grind (arith, f, all_front, not_memory, err_of, cases_Bool is'.write_failed);
     is_prefix = begins;
     names_failed_read = grind (arith, f);
     decided_is_written = grind (arith, f, all_front);

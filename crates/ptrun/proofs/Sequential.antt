@@ -324,9 +324,10 @@ module _ {word : List ℕ} {t : ToolSpec} {names : List (List ℕ)} {old : List 
           × (length store'.lines ≤ max (length before.lines) (sequential_slots t w (done ++ p ∷ more)))
       bounds_here w more agrees =
           let f = operand_finds w agrees in
+          let bounds = k.bounds w (back w agrees) in
           rw (opened_inputs_some [] w done p more f.bytes f.are, map-append, map-append) (
-            omega (arith, maximum-append, e.call.peak (λ u. f.bytes) (λ u read. f.agree), (k.bounds w (back w agrees)).0),
-            omega (arith, maximum-append, e.call.slots (λ u. f.bytes) (λ u read. f.agree), (k.bounds w (back w agrees)).1),
+            omega (arith, maximum-append, e.call.peak (λ u. f.bytes) (λ u read. f.agree), bounds.0),
+            omega (arith, maximum-append, e.call.slots (λ u. f.bytes) (λ u read. f.agree), bounds.1),
           )
 
       -- it was read to its end
@@ -375,7 +376,17 @@ module _ {word : List ℕ} {t : ToolSpec} {names : List (List ℕ)} {old : List 
       cause_of more (Read position) r = (
         nth_here done more p,
         grind (arith, common_steps, unseen),
-        grind (arith, reader_here, read_here),
+        grind (
+          arith,
+          old_open,
+          unseen,
+          not_failed_before,
+          reader_here,
+          read_here,
+          fresh_all,
+          receives_here,
+          buffered,
+        ),
         r.clean,
         r.not_denied,
       )
@@ -476,7 +487,8 @@ module _ {word : List ℕ} {t : ToolSpec} {names : List (List ℕ)} {old : List 
               )
               (last_earlier t (opened_inputs empty_input inputs_read' done) given_here (one_keeps.processing.before tt)
               (λ bytes. IsPushedUpToBlock bytes was is' (k.pushed ++ e.call.pushed))
-              (search (rules, begins_after, decided_here, sends_after, k.wrote, one_keeps.processing, one_keeps.buffering)));
+              (search
+              (rules, begins_after, decided_here, sends_after, k.wrote, one_keeps.processing, one_keeps.buffering)));
           names_failed_read = grind (arith, failing fault end, fails_here, position_of);
           peak = λ w agrees. (bounds_here w more agrees).0;
           slots = λ w agrees. (bounds_here w more agrees).1;

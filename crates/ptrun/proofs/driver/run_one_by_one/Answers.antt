@@ -80,7 +80,8 @@ returns g c =
 
 pub bounds-inputs-position : goal.bounds-inputs-position
 bounds-inputs-position g c =
-    omega (arith, (turn g (goal.at.bounds-inputs-position g c).After-position_of-position).low, c.loop-input.auto.inputs)
+    let low = (turn g (goal.at.bounds-inputs-position g c).After-position_of-position).low in
+    omega (arith, low, c.loop-input.auto.inputs)
 
 pub offset_bounds-inputs-position : goal.offset_bounds-inputs-position
 offset_bounds-inputs-position g c =
