@@ -1,9 +1,9 @@
 -- The lists of `paste`: each escape is one case of the grammar, so `delim_list` agrees with the grammar in both
 -- directions. The fault of a list is the first one found from left to right, and is never an allocation failure.
 use Rattle.ptlangs.proofs
-use proofs.Common.{Bool, Err, List, None, Ok, Option, Result, Some, [], and_then, ap, append-nil, arith, cond}
-use proofs.Common.{cond_both, cons_ok, delim_list, eqb, eqb-true, false, length, refl, result_err, subst, sym, true, ℕ, ◌++◌}
-use proofs.Common.{◌<◌, ◌∙◌, ◌∷◌, ◌≡◌}
+use proofs.Common.{Bool, Err, List, Ok, Option, Result, Some, [], and_then, append-nil, arith, cond}
+use proofs.Common.{cond_both, cons_ok, delim_list, eqb-true, length, refl, result_err, subst, ℕ, ◌++◌}
+use proofs.Common.{◌<◌, ◌∷◌, ◌≡◌}
 use proofs.ListElements.{reads_first}
 use Rattle.ptlangs.specs.DelimLists.{Backslash, DelimListMatchesGrammar, IsDelim, IsDelimList, Last, More, Newline}
 use Rattle.ptlangs.specs.DelimLists.{Nothing, Plain, Tab, backslash, delim_list_fault, delims, escape}

@@ -11,7 +11,7 @@ use Rattle.ptlangs.proofs
 use proofs.Common.{Bool, Err, Interval, IsValidInterval, List, None, Ok, Option, Result, Some, [], and_then, ap, arith}
 use proofs.Common.{common_steps, cond, cond_both, cons_ok, digits_value_after, drop, element_field, element_interval}
 use proofs.Common.{elements, eqb, eqb-true, false, get_or, is_ascii_digit, is_dash, is_err, is_list_separator, length}
-use proofs.Common.{length-drop, ltb-true, map, max_u64, not, refl, result_err, result_ok, rules, subst, suc, sym, take}
+use proofs.Common.{length-drop, ltb-true, map, max_u64, not, refl, result_err, result_ok, rules, subst, suc, take}
 use proofs.Common.{take_all, true, value, ℕ, ◌*◌, ◌++◌, ◌+◌, ◌-◌, ◌<◌, ◌||◌, ◌∙◌, ◌∷◌, ◌≡◌, ◌≤◌}
 use Rattle.ptlangs.specs.CutLists.{AreSeparated, AreSortedFrom, CutListMatchesGrammar, From, FromTo, IsIntervalElement}
 use Rattle.ptlangs.specs.CutLists.{One, SpellsInterval, UpTo, checked_interval, cut_list, cut_list_fault}
@@ -22,16 +22,16 @@ use Rattle.ptlangs.specs.OutLists.{SecondFileField, SpellsField, field_of, out_l
 use Rattle.ptlangs.specs.declared.outlist.File.TheVariants.{First, Second}
 use Rattle.ptlangs.specs.declared.outlist.File.{File}
 use Rattle.ptlangs.specs.declared.outlist.OutFault.{OutFault}
-use Rattle.ptlangs.specs.declared.outlist.OutField.TheVariants.{Field, Join}
+use Rattle.ptlangs.specs.declared.outlist.OutField.TheVariants.{Field}
 use Rattle.ptlangs.specs.declared.outlist.OutField.{OutField}
 use Rattle.ptlangs.specs.declared.ranges.ListFault.{ListFault}
-use Rattle.std.proofs.Common.{inl, inr, leb, max, ◌&&◌}
+use Rattle.std.proofs.Common.{leb, max, ◌&&◌}
 use Rattle.std.proofs.lemmas.Bool.{and_parts, cases_Bool, ltb-false, not-false}
 use Rattle.std.proofs.lemmas.List.Elements.{All-cons}
 use Rattle.std.proofs.lemmas.List.Sorted.{list_any-IsPermutation}
 use Rattle.std.proofs.lemmas.List.Splits.{join_with_byte-slice_split, length-slice_split, slice_split_at}
 use Rattle.std.proofs.lemmas.List.Splits.{slice_split_first, slice_split_none}
-use Rattle.std.proofs.lemmas.List.Sums.{AllPass-from_list_all, fails_before_first}
+use Rattle.std.proofs.lemmas.List.Sums.{fails_before_first}
 use Rattle.std.specs.Char.{digit_value}
 use Rattle.std.specs.List.Sorted.{IsNonDecreasingBy, IsPermutation}
 use Rattle.std.specs.List.{All, filter_map, find, join_with_byte, onto_first, position, slice_split}

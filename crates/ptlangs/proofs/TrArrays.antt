@@ -19,7 +19,7 @@ use proofs.Common.{refl, replicate, result_map_both, rules, segments_of, sequenc
 use proofs.Common.{suc, sym, take, take_all, true, zero, ℕ, ◌++◌, ◌+◌, ◌-◌, ◌<◌, ◌||◌, ◌∙◌, ◌∷◌, ◌≡◌, ◌≢◌, ◌≤◌}
 use proofs.ListElements.{append_ok as onto, append_ok-nil, cons_ok-append_ok, reads_first}
 use Rattle.ptlangs.specs.TrClasses.{all_bytes, class_bytes, span}
-use Rattle.ptlangs.specs.TrParsing.{class_of, classes_match, marked_members, members_from}
+use Rattle.ptlangs.specs.TrParsing.{classes_match, marked_members, members_from}
 use Rattle.ptlangs.specs.TrPlan.{are_paired, class_offsets, has_byte, has_other_case_at, last_position, members}
 use Rattle.ptlangs.specs.TrPlan.{next_index_or, padded_to, segment}
 use Rattle.ptlangs.specs.declared.faults.SetFaultKind.TheVariants.{ClassPlace}
