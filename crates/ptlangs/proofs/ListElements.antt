@@ -353,9 +353,6 @@ AreSeparated-more : (low : ℕ) (kept : List Interval) (r s : Interval) → r.la
 AreSeparated-more low [] r s gap proper separated = grind arith
 AreSeparated-more low (k ∷ kept) r s gap proper separated = grind (arith, AreSeparated-more (k.last + 1) kept)
 
-abbrev holds : ℕ → Interval → Bool
-holds n r = leb r.first n && leb n r.last
-
 InOrder-lower : (low high : ℕ) (rest : List Interval) → low ≤ high → AreSortedFrom high rest → AreSortedFrom low rest
 InOrder-lower low high [] h ordered = tt
 InOrder-lower low high (r ∷ rest) h ordered = grind arith
