@@ -78,7 +78,16 @@ octal_value : (b : ℕ) → is_octal_digit b ≡ true → digit_value b < 8
 octal_value b h = grind (arith, rules)
 
 pub octal_digits : (bs : List ℕ) → All (λ d. digit_value d < 8) (take (length (octal_run bs)) bs)
-octal_digits = grind (arith, length-prefix_len, length-take, octal_value, take-octal_run, get_or-take, prefix_len_passes)
+octal_digits = grind (
+  arith,
+  common_steps,
+  length-prefix_len,
+  length-take,
+  octal_value,
+  take-octal_run,
+  get_or-take,
+  prefix_len_passes,
+)
 
 -- a backslash before an octal digit
 after_backslash-octal : (bs : List ℕ) (c : ℕ) → Some c ≡ slice_get bs 0 → is_octal_digit c ≡ true
@@ -355,7 +364,9 @@ bracketed_at-StartsBracketed us p rest (ARepeat u v digits more m t) = grind (
   plain_run-map,
 )
 bracketed_at-StartsBracketed us p rest (AClass c name more t) =
-    search (rules, and_parts, is_ascii_lowercase, ne_eqb, after_run-map, plain_run-map)
+    let (lower, _) = and_parts (is_ascii_lowercase c) _ t in
+    let no_star = ne_eqb c 42 (λ e. cc) in
+    rw (no_star, after_run-map is_ascii_lowercase _ 58 _ t refl, plain_run-map is_ascii_lowercase _ 58 _ t refl) refl
 bracketed_at-StartsBracketed us p rest (AnEquivalence u v more m) = grind (arith, byte_of-DenotesByte)
 
 bracketed_at-none : (us : List SetChar) → bracketed_at us ≡ None → ¬ HasBracketed us
@@ -495,8 +506,7 @@ set_elements-AreElements us (p ∷ ps) (rest, begins, more) = grind (
 pub AreElements-set_elements : (ps : List SetElement) (us : List SetChar) → set_elements us ≡ map Ok ps
     → AreElements us ps
 AreElements-set_elements [] [] e = refl
-AreElements-set_elements [] (u ∷ us) e =
-    search (rules, by_first)
+AreElements-set_elements [] (u ∷ us) e = search (rules, by_first)
 AreElements-set_elements (p ∷ ps) [] e = absurd (cc)
 AreElements-set_elements (p ∷ ps) (u ∷ us) e = by_first u us
     (λ q rest b is.
@@ -518,7 +528,8 @@ pub class_at-found : (us : List SetChar) {inside : List SetChar} (after : List S
     → after ≡ after_run is_ascii_lowercase inside → 0 < length name → Some rest ≡ after_two 58 93 after
     → found ≡ class_named name → Some (Class found, rest) ≡ class_at us
 class_at-found us after name found e n a h r f =
-    search (rules, class_with_name-named)
+    let named = class_with_name-named name after h in
+    rw (← e, ← a, ← n, named, ← r, f) refl
 
 pub chars-some : (bs : List ℕ) (i : ℕ) → i < length bs → 0 < length (chars (drop i bs))
 chars-some bs i h = rw (drop_more bs i 0 h) (omega arith)
@@ -564,7 +575,11 @@ module _ (role : SetRole) where
   fault_is : (has_fill : Bool) (us : List SetChar) {k : SetFaultKind} → FirstFault role has_fill us k
       → sequence (segments role has_fill (set_elements us)) ≡ Err k
   fault_is has_fill us (NoElement f vs j b) = grind (arith, first_set_element-faulty, set_elements-fault)
-  fault_is has_fill us (NoSegment f vs rest p j b e) = grind (arith, set_elements-first, first_set_element-StartsElement)
+  fault_is has_fill us (NoSegment f vs rest p j b e) = grind (
+    arith,
+    set_elements-first,
+    first_set_element-StartsElement,
+  )
   fault_is has_fill us (LaterFault f vs rest p x j b e later) =
       cc (
         set_elements-first vs p rest (first_set_element-StartsElement vs p rest b),
