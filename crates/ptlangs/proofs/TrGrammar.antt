@@ -506,7 +506,8 @@ set_elements-AreElements us (p ∷ ps) (rest, begins, more) = grind (
 pub AreElements-set_elements : (ps : List SetElement) (us : List SetChar) → set_elements us ≡ map Ok ps
     → AreElements us ps
 AreElements-set_elements [] [] e = refl
-AreElements-set_elements [] (u ∷ us) e = search (rules, by_first)
+AreElements-set_elements [] (u ∷ us) e =
+    by_first u us (λ p rest b is. let never = sym is ∙ e in cc) (λ k b is. let never = sym is ∙ e in cc)
 AreElements-set_elements (p ∷ ps) [] e = absurd (cc)
 AreElements-set_elements (p ∷ ps) (u ∷ us) e = by_first u us
     (λ q rest b is.
