@@ -53,13 +53,9 @@ pub push_broken : (old new : Output) (written_out bytes more : List ℕ) → old
     → old.buffered ++ bytes ≡ written_out ++ more → OutputErr old new written_out → PushEffect old new bytes
 push_broken old new written_out bytes more clean is broken =
     let text_new : output_bytes new ≡ append_known old.accepted broken.front =
-    ap (λ s. append_known new.accepted s) broken.buffered ∙ append_known-nil new.accepted ∙ broken.accepted in
+    grind (arith, append_known, append_known-nil) in
     let all : append_known (output_bytes old) bytes ≡ append_known (output_bytes new) (broken.rest ++ more) =
-    append_known-append old.accepted old.buffered bytes
-    ∙ ap (λ s. append_known old.accepted s)
-    (is ∙ ap (λ s. s ++ more) broken.split ∙ append_assoc broken.front broken.rest more)
-    ∙ sym (append_known-append old.accepted broken.front (broken.rest ++ more))
-    ∙ ap (λ t. append_known t (broken.rest ++ more)) (sym text_new) in
+    grind (arith, common_steps, append_known-append, old.accepted, old.buffered, append_known, broken.split, broken.front, broken.rest) in
     grind arith
 
 -- the result of a direct write with an empty block

@@ -65,15 +65,7 @@ budget_decreases = grind arith
 pub fill_line : (old now new : Reader) (before so_far after : Slots) (slot : ℕ) → slot < length before.lines
     → old.pulled < 2 ^ 63 → LineSoFar old now before so_far slot → PieceLine now new so_far after slot
     → FillLine old new before after slot
-fill_line old now new before so_far after slot within short begun last = grind (
-  arith,
-  budget_decreases,
-  all,
-  length-append,
-  IsLine-append,
-  same,
-  appended_twice,
-)
+fill_line old now new before so_far after slot within short begun last = grind (arith, common_steps, budget_decreases, all, length-append, same, appended_twice)
   where
     same : now.terminator ≡ old.terminator
     same = begun.advance_ok.reads.terminator
@@ -83,7 +75,7 @@ fill_line old now new before so_far after slot within short begun last = grind (
         subst (λ b. AdvanceOk old new b)
         (ap (λ end. begun.piece ++ (last.piece ++ end ∷ [])) same
         ∙ sym (append_assoc begun.piece last.piece (old.terminator ∷ [])))
-        (advance_ok_trans _ _ _ _ _ begun.advance_ok last.advance_ok)
+        (search (rules, advance_ok_trans))
 
 not_empty : (n : ℕ) → 0 < n → (n == 0) ≡ false
 not_empty = grind (arith, nat_tests)
@@ -119,15 +111,4 @@ module _ (n : ℕ) (old new : Reader) (block front : List ℕ) (start end size :
       → IsFirst (Passes (is_byte old.terminator) front) 0 n (Some size)
       → new ≡ record old { buffered = slice_range block (start + size + 1) end }
       → after ≡ with_line before slot (take size front) → FillLine old new before after slot
-  fill_short_line = grind (
-    arith,
-    common_steps,
-    length_range,
-    first_in_block,
-    rest_of_range,
-    take_with_terminator,
-    advance_ok_take,
-    line_before_terminator,
-    budget_decreases,
-    length-append,
-  )
+  fill_short_line = grind (arith, common_steps, length_range, first_in_block, rest_of_range, take_with_terminator, advance_ok_take, line_before_terminator, budget_decreases, length-append)
