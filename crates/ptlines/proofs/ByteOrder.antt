@@ -1,6 +1,5 @@
 -- Big-endian numbers of equally many bytes compare as the bytes do, since the first digit that differs decides. Equal
 -- chunks can be skipped, and if the shorter slice is a prefix of the longer, the lengths decide.
-use Rattle.std.proofs.Common.{rules}
 use Rattle.ptlines.proofs.Common.{◌≡◌, ℕ, zero, suc, ◌+◌, ◌*◌, ◌<◌, ◌≤◌, List, [], ◌∷◌, ◌++◌, length, take, drop, min}
 use Rattle.ptlines.proofs.Common.{refl, sym, ◌∙◌, ap, arith, get_or, Fits, take-add, nat_tests, take-take, chunk-fits}
 use Rattle.ptlines.proofs.Common.{length-chunk, Each1, common_steps}
@@ -122,7 +121,9 @@ module _ {n : ℕ} {read : List ℕ → ℕ} (is_number : (xs : List ℕ) → le
   -- if they are equal, their bytes are
   pub words_same : x ≡ y → take (at + n) a ≡ take (at + n) b
   words_same is =
-      grind (arith, nat_cmp, nat_cmp_equal, take-add, take, byte_cmp_equal, words_cmp)
+      let equal : nat_cmp x y ≡ Equal = ap (nat_cmp x) (sym is) ∙ nat_cmp_equal x in
+      take-add at n a ∙ ap (λ l. l ++ xs) same ∙ ap (λ l. take at b ++ l) (byte_cmp_equal xs ys (sym words_cmp ∙ equal))
+      ∙ sym (take-add at n b)
 
 -- a prefix of equal bytes is equal
 pub shorter_prefix_same : (m n : ℕ) (a b : List ℕ) → m ≤ n → take n a ≡ take n b → take m a ≡ take m b

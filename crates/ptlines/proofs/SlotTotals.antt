@@ -67,7 +67,7 @@ pub slot_lines-swap : (slots : List SlotBuffer) (a b : ℕ) → a < length slots
     → slot_lines (swap slots a b) ≡ swap (slot_lines slots) a b
 slot_lines-swap [] a b a_in b_in = refl
 slot_lines-swap (s ∷ more) a b a_in b_in =
-    grind (arith, map-set, set, get_or, get_or-map)
+    grind (arith, map-set, get_or-map)
 
 -- the invariant after an exchange
 pub counted_after_swap : (slots : List SlotBuffer) (a b : ℕ) {byte_count peak : ℕ} → a < length slots → b < length slots
@@ -94,7 +94,7 @@ module _ (slots after : List SlotBuffer) (slot : ℕ) (had new : SlotBuffer) (d 
   line_was = grind (arith, common_steps)
 
   lines_are : slot_lines after ≡ set (slot_lines slots) slot new.line
-  lines_are = grind (arith, slot_lines, map-set)
+  lines_are = grind (arith, map-set)
 
   lengths_after_set : length new.line ≤ 2 ^ 63 → LengthsAreBounded (slot_lines slots)
       → LengthsAreBounded (slot_lines after)
@@ -176,7 +176,7 @@ module _ (slots : List SlotBuffer) {peak : ℕ} {denied : Bool} {now : Slots} (s
       → byte_count ≡ total_bytes (slot_lines (set slots slot new)) → peak_now ≡ max peak byte_count
       → store_of (set slots slot new) peak_now denied ≡ with_line now slot bytes
   store_after_set new {bytes} new_is counts peak_is =
-      grind (arith, map-set, set, slot_lines)
+      grind (arith, map-set)
 
 -- the invariant after an empty slot was added
 pub counted_after_add : (slots : List SlotBuffer) {after : List SlotBuffer} {byte_count peak : ℕ}
@@ -258,7 +258,7 @@ pub copy_lines : (lines cleared after : List (List ℕ)) (from to : ℕ) → fro
     → cleared ≡ set lines to [] → after ≡ set cleared to (get_or cleared to [] ++ get_or cleared from [])
     → after ≡ set lines to (get_or lines from [])
 copy_lines lines cleared after from to differ to_in cleared_is after_is =
-    search (rules, get_or, set-set)
+    search (rules, set-set)
 
 -- the total after that copy
 pub copy_total : (lines cleared after : List (List ℕ)) (from to byte_count size : ℕ) (v : List ℕ) → from ≢ to
