@@ -5,9 +5,9 @@ use proofs.Common.{IsLine, refl, arith, take_rest, line_if_not_found, uniq_job, 
 use proofs.Passes.Exits.{on_err}
 use proofs.UniqLemmas.Runs.{runs_loop_starts, runs_loop_few, runs_loop_left, runs_loop_more, runs_loop_next}
 use proofs.UniqLemmas.Runs.{runs_loop_failed, running_done, running_unended, runs_loop_passed}
-use Rattle.ptflow.proofs.tools.uniq.block_runs.write_runs.Given as given
-use Rattle.ptflow.proofs.tools.uniq.block_runs.write_runs.Goals as goal
-use Rattle.ptflow.proofs.tools.uniq.block_runs.write_runs.Goals.{In_default}
+use Rattle.ptflow.proofs.tools.uniq.block_runs.RunWriter.write_runs.Given as given
+use Rattle.ptflow.proofs.tools.uniq.block_runs.RunWriter.write_runs.Goals as goal
+use Rattle.ptflow.proofs.tools.uniq.block_runs.RunWriter.write_runs.Goals.{In_default}
 
 pub lines-init : goal.lines-init
 lines-init g c = search (rules, runs_loop_starts)
@@ -21,18 +21,18 @@ lines-preserved-then-eq g c = grind (arith, common_steps, runs_loop_more)
 pub returns-in_err-pending-clause-halts : goal.returns-in_err-pending-clause-halts
 returns-in_err-pending-clause-halts g c =
     on_err _
-    (runs_loop_failed c.lines.invariant (rw c.args.by.now.ends at c.in-Some.ensures) c.key-next.ensures c.eq.ensures
+    (runs_loop_failed c.lines.invariant (rw c.args.self.now.ends at c.in-Some.ensures) c.key-next.ensures c.eq.ensures
     c.if-eq.false c.in_err-pending.ensures.wrote c.in_err-pending.ensures.fault)
 
 pub lines-preserved : goal.lines-preserved
 lines-preserved g c =
-    rw take_rest (runs_loop_next c.lines.invariant (rw c.args.by.now.ends at c.in-Some.ensures) c.key-next.ensures
+    rw take_rest (runs_loop_next c.lines.invariant (rw c.args.self.now.ends at c.in-Some.ensures) c.key-next.ensures
     c.eq.ensures c.if-eq.false c.in_ok-pending.ensures.waits refl refl)
 
 pub overflow_sub-len : goal.overflow_sub-len
 overflow_sub-len g c = search (rules, runs_loop_left)
 
-none_left : (g : given.Over) (c : In_default g) → IsLine (uniq_job c.args.by.now.job.now).terminator c.lines.rest.now
+none_left : (g : given.Over) (c : In_default g) → IsLine (uniq_job c.args.self.now.job.now).terminator c.lines.rest.now
 none_left g c = search (rules, line_if_not_found)
 
 pub returns-in_err-push-clause-halts : goal.returns-in_err-push-clause-halts
