@@ -13,6 +13,7 @@ use proofs.Common.{span_of, IsSpan, IsPending, sym, ◌∙◌, swap, is_some, kn
 use proofs.Common.{uniq_tool, IsLineFilter, first_line, current_run_of, count_of, rules, ◌⊎◌, inl, inr, ⊎_elim, filter}
 use proofs.Common.{AllByRecursion, cases_Bool, the_lines_of_parts, lines-unlines, lines_are, BeginsWith, EndsWith}
 use proofs.Common.{HasGroupedKeys, UniqOfParts, UniqByKey}
+use proofs.Common.{line_before_terminator}
 use proofs.Passes.Exits.{wrote_then, split_of, ended_next}
 use Rattle.ptlines.proofs.Consume.{length_range}
 use Rattle.ptflow.specs.Private.Uniq.BlockRuns.{EndRunPre, IsLineSpan, first_of}
@@ -322,7 +323,7 @@ module _ {job : Uniq} {first block rest : List ℕ} {start count : ℕ} {line : 
             steps = rw line_is steps;
             waits = grind (arith, entries, pending_then);
             run_key_is = cc;
-            ready = grind (arith, common_steps);
+            ready = grind (arith, common_steps, line_before_terminator);
             some = omega arith;
           }
 
@@ -333,6 +334,14 @@ module _ {job : Uniq} {first block rest : List ℕ} {start count : ℕ} {line : 
       runs_loop_failed wrote fault = steps_failed steps
           (search (rules, entries, pending_pushed))
           (complete_lines job.terminator (drop (at + 1) rest)) (front_more so_far.lies at found).lines fault
+
+  -- the next line repeats the first one of its run
+  pub runs_loop_repeats : {at : ℕ} → IsFirstByte (is_byte job.terminator) rest (Some at)
+      → first_of first block line ≡ take at rest
+      → RunsInvariant job first block (drop (at + 1) rest) start (count + 1) line pending run_key was is
+  runs_loop_repeats {at} found repeats =
+      let same : bytes_eq run_key (key job (take at rest)) ≡ true = grind (arith, bytes_eq-Decides, so_far.run_key_is) in
+      runs_loop_more found refl (sym same) refl
 
   -- no complete line is left
   module _ (none : IsLine job.terminator rest) {is' : Output} (wrote : PushEffect is is' (span_of block pending)) where

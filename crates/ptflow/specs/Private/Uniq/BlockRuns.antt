@@ -3,6 +3,7 @@ use Rattle.std.specs.Prelude.{◌≡◌, ℕ, ◌-◌, ◌≤◌, ◌<◌, List,
 use Rattle.std.specs.Prelude.{slice_range}
 use Rattle.ptlines.specs.Outputs.{Output, PushEffect}
 use Rattle.ptlangs.specs.Jobs.{Uniq}
+use Rattle.ptlines.specs.Text.{IsLine}
 use Rattle.ptflow.specs.Uniqs.{Run, output_of}
 use Rattle.ptflow.specs.Private.Passes.LineLoop.{LinesWritten, LinesFailed}
 use Rattle.ptflow.specs.Private.Uniq.RunsFrom.{count_of, runs_after}
@@ -35,6 +36,7 @@ pub record IsLineSpan (end : ℕ) (block : List ℕ) (line : Span) : Type 0 wher
   pub some : line.from < line.to
   pub within : line.to ≤ length block
   pub text : span_of block line ≡ slice_range block line.from (line.to - 1) ++ end ∷ []
+  pub whole : IsLine end (slice_range block line.from (line.to - 1))
 
 -- The deferred output is in the block. There is none if the first line of the run is before the block.
 pub record EndRunPre (end : ℕ) (block : List ℕ) (line : Option Span) (pending : Span) : Type 0 where
