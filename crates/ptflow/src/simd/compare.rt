@@ -14,8 +14,6 @@ pub(crate) fn same_short_start(a: &[u8], b: &[u8], count: usize) -> bool
     if count > 16 || a.len() < 16 || b.len() < 16 {
         return false;
     }
-    let differ = u8x16::from_slice(a)
-        .simd_ne(u8x16::from_slice(b))
-        .to_bitmask();
-    count <= differ.trailing_zeros() as usize
+    let (a, b) = (u8x16::from_slice(a), u8x16::from_slice(b));
+    count <= a.simd_ne(b).to_bitmask().trailing_zeros() as usize
 }

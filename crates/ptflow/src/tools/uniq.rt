@@ -175,11 +175,9 @@ pub fn uniq<A: Allocator + Copy, S: Source, R: Source, W: Sink>(
         return Err(FlowFault::Write);
     }
     reader.set_ending(job.zero);
+    let terminator = reader.terminator();
     let mut tool = LineUniq {
-        by: RunWriter {
-            job,
-            terminator: reader.terminator(),
-        },
+        by: RunWriter { job, terminator },
         run: CurrentRun {
             count: 0,
             is_copied: false,
