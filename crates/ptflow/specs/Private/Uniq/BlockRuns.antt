@@ -1,9 +1,8 @@
 -- The runs of the lines of a block: their output that was pushed, and that which is deferred.
 use Rattle.std.specs.Prelude.{◌≡◌, ℕ, ◌-◌, ◌≤◌, ◌<◌, List, [], ◌∷◌, ◌++◌, Option, None, Some, IfSome, length}
-use Rattle.std.specs.Prelude.{slice_range}
+use Rattle.std.specs.Prelude.{slice_range, zero, suc}
 use Rattle.ptlines.specs.Outputs.{Output, PushEffect}
 use Rattle.ptlangs.specs.Jobs.{Uniq}
-use Rattle.ptlines.specs.Text.{IsLine}
 use Rattle.ptflow.specs.Uniqs.{Run, output_of}
 use Rattle.ptflow.specs.Private.Passes.LineLoop.{LinesWritten, LinesFailed}
 use Rattle.ptflow.specs.Private.Uniq.RunsFrom.{count_of, runs_after}
@@ -16,6 +15,11 @@ RunsWritten job before after ls was is = LinesWritten (runs_after job) (output_o
 -- a write failed at these lines
 abbrev pub RunsFailed : Uniq → Run → List (List ℕ) → Output → Output → Type 0
 RunsFailed job before ls was is = LinesFailed (runs_after job) (output_of job) before ls was is
+
+-- these bytes, `n` times
+abbrev pub repeated : ℕ → List ℕ → List ℕ
+repeated zero bytes = []
+repeated (suc n) bytes = bytes ++ repeated n bytes
 
 -- the bytes of a range
 abbrev pub span_of : List ℕ → Span → List ℕ
@@ -36,7 +40,6 @@ pub record IsLineSpan (end : ℕ) (block : List ℕ) (line : Span) : Type 0 wher
   pub some : line.from < line.to
   pub within : line.to ≤ length block
   pub text : span_of block line ≡ slice_range block line.from (line.to - 1) ++ end ∷ []
-  pub whole : IsLine end (slice_range block line.from (line.to - 1))
 
 -- The deferred output is in the block. There is none if the first line of the run is before the block.
 pub record EndRunPre (end : ℕ) (block : List ℕ) (line : Option Span) (pending : Span) : Type 0 where

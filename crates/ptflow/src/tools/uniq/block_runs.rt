@@ -1,13 +1,12 @@
 //! The runs of the lines of a block: counts and writes them. `uniq` uses it.
 
-ghost use Rattle.std.specs.Prelude.{◌≡◌, ◌<◌, ◌≤◌, ◌++◌, ℕ, List, length, take, true, option_map, IfOk, IfSome, OnErr};
-ghost use Rattle.memchr.specs.Find.{IsFirstByte, is_byte};
+ghost use Rattle.std.specs.Prelude.{◌≡◌, ◌<◌, ◌≤◌, ◌++◌, length, take, drop, true, IfOk, IfSome, OnErr};
 ghost use Rattle.ptlines.specs.Outputs.{PushEffect, PushPost};
 ghost use Rattle.ptlines.specs.Text.{complete_lines};
 ghost use Rattle.ptlangs.specs.Jobs.{uniq_job};
 ghost use Rattle.ptflow.specs.Private.Passes.LineLoop.{IsLinesLength, ProcessLinesPre};
 ghost use Rattle.ptflow.specs.Private.Uniq.RunsFrom.{has_output, count_prefix, run_of, run_text};
-ghost use Rattle.ptflow.specs.Private.Uniq.BlockRuns.{RunsWritten, RunsFailed, EndRunPre, IsLineSpan, IsPending, first_of, span_of};
+ghost use Rattle.ptflow.specs.Private.Uniq.BlockRuns.{RunsWritten, RunsFailed, EndRunPre, IsPending, first_of, repeated, span_of};
 
 use crate::simd::compare::same_short_start;
 use crate::tools::uniq::line_key::key;
@@ -62,23 +61,19 @@ pub(crate) struct LastRun {
     pub len: usize,
 }
 
-// The end of the next line in the rest of a block, and whether it is known to repeat the first line of its run, whose
-// range in the block is `line`. Such a line needs no search, and has the key of the run.
-#[inline(always)]
-fn next_line(terminator: u8, block: &[u8], line: Option<Span>, rest: &[u8]) -> Option<(usize, bool)>
-    requires { IfSome line (IsLineSpan terminator block.now) }
-    ensures end { IsFirstByte (is_byte terminator) rest.now (option_map (λ next. next.0) result) }
-    ensures repeats { IfSome result (λ next. next.1 ≡ true → (first : List ℕ)
-        → first_of first block.now line ≡ take next.0 rest.now) }
+// Skips the lines that repeat the line at the start of `bytes`, which has this size with its terminator. Returns how many
+// there are, and the bytes after them. Lines of more than 16 bytes are not skipped, and neither are the last ones.
+fn skip_repeats(bytes: &[u8], size: usize) -> (u64, &[u8])
+    requires { (0 < size) × (size ≤ length bytes.now) }
+    ensures { drop size bytes.now ≡ repeated result.0 (take size bytes.now) ++ result.1.now }
 {
-    if let Some(line) = line {
-        let size = line.to - line.from;
-        if same_short_start(&block[line.from..], rest, size) {
-            return Some((size - 1, true));
-        }
+    let mut count = 0;
+    let mut rest = &bytes[size..];
+    while same_short_start(bytes, rest, size) {
+        count += 1;
+        rest = &rest[size..];
     }
-    let at = find_byte(terminator, rest)?;
-    Some((at, false))
+    (count, rest)
 }
 
 // Writes runs, by the options of a job.
@@ -175,17 +170,14 @@ impl RunWriter<'_> {
         let mut pending = Span { from: 0, to: 0 };
         let mut run_key = key(job, first);
         let mut rest = block;
-        'lines: while let Some((at, repeats)) = next_line(terminator, block, line, rest) {
-            let bytes = &rest[..at];
-            rest = &rest[at + 1..];
-            if repeats {
-                count += 1;
-                continue;
-            }
-            let next = key(job, bytes);
+        'lines: while let Some(at) = find_byte(terminator, rest) {
+            let next = key(job, &rest[..at]);
             if run_key == next {
-                count += 1;
+                let (repeats, left) = skip_repeats(rest, at + 1);
+                count += 1 + repeats;
+                rest = left;
             } else {
+                rest = &rest[at + 1..];
                 pending = self.end_run(count, first, block, line, pending, out)?;
                 let to = size - rest.len();
                 let from = to - at - 1;

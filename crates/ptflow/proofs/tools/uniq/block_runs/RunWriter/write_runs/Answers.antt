@@ -3,38 +3,58 @@
 use Rattle.ptflow.proofs
 use proofs.Common.{IsLine, refl, arith, take_rest, line_if_not_found, uniq_job, common_steps, rules}
 use proofs.Passes.Exits.{on_err}
-use proofs.UniqLemmas.Runs.{runs_loop_starts, runs_loop_few, runs_loop_left, runs_loop_more, runs_loop_next}
+use proofs.UniqLemmas.Runs.{runs_loop_starts, runs_loop_few, runs_loop_left, runs_loop_next}
 use proofs.UniqLemmas.Runs.{runs_loop_failed, runs_loop_repeats, running_done, running_unended, runs_loop_passed}
 use Rattle.ptflow.proofs.tools.uniq.block_runs.RunWriter.write_runs.Given as given
 use Rattle.ptflow.proofs.tools.uniq.block_runs.RunWriter.write_runs.Goals as goal
-use Rattle.ptflow.proofs.tools.uniq.block_runs.RunWriter.write_runs.Goals.{In_default}
+use Rattle.ptflow.proofs.tools.uniq.block_runs.RunWriter.write_runs.Goals.{In_default, After-left-1}
+use proofs.Common.{◌+◌, ◌<◌, length, take, ap, length-append, length-drop}
+use Rattle.ptflow.specs.Private.Uniq.BlockRuns.{repeated}
+use proofs.UniqLemmas.Runs.{RunsInvariant}
 
 pub lines-init : goal.lines-init
 lines-init g c = search (rules, runs_loop_starts)
 
+-- after a line with the key of the run, and those that repeat it
+after : (g : given.Over) (c : After-left-1 g)
+    → RunsInvariant (uniq_job c.args.self.now.job.now) c.args.first.now c.args.block.now
+    c.skip_repeats-repeats.result.1.now c.args.carried (c.lines.count + (1 + c.skip_repeats-repeats.result.0))
+    c.lines.line c.lines.pending c.lines.run_key.now c.args.out.now c.lines.out
+after g c = runs_loop_repeats c.lines.invariant (rw c.args.self.now.ends at c.in-Some.ensures) c.key-next.ensures
+    c.eq.ensures c.if-eq.true _ c.skip_repeats-repeats.ensures
+
 pub overflow_add-count : goal.overflow_add-count
-overflow_add-count g c = search (rules, runs_loop_few)
+overflow_add-count g c = omega (arith, runs_loop_few (after g c), c.requires.few)
 
 pub overflow_add-count-then-eq : goal.overflow_add-count-then-eq
-overflow_add-count-then-eq g c = search (rules, runs_loop_few)
+overflow_add-count-then-eq g c = omega (arith, runs_loop_few (after g c), c.requires.few)
 
-pub lines-preserved-then-repeats : goal.lines-preserved-then-repeats
-lines-preserved-then-repeats g c =
-    rw take_rest (runs_loop_repeats c.lines.invariant (rw c.args.self.now.ends at c.in-Some.ensures.end)
-    (c.in-Some.ensures.repeats c.if-repeats.true c.args.first.now))
+pub lines-smaller-then-eq : goal.lines-smaller-then-eq
+lines-smaller-then-eq g c =
+    let bytes = c.lines.rest.now in
+    let copies = ap length c.skip_repeats-repeats.ensures in
+    let found : c.in-Some.at < length bytes = omega (arith, c.in-Some.ensures) in
+    omega (
+      arith,
+      found,
+      copies,
+      length-drop (c.in-Some.at + 1) bytes,
+      length-append (repeated c.skip_repeats-repeats.result.0 (take (c.in-Some.at + 1) bytes))
+          c.skip_repeats-repeats.result.1.now,
+    )
 
 pub lines-preserved-then-eq : goal.lines-preserved-then-eq
-lines-preserved-then-eq g c = grind (arith, common_steps, runs_loop_more)
+lines-preserved-then-eq g c = after g c
 
 pub returns-in_err-pending-clause-halts : goal.returns-in_err-pending-clause-halts
 returns-in_err-pending-clause-halts g c =
     on_err _
-    (runs_loop_failed c.lines.invariant (rw c.args.self.now.ends at c.in-Some.ensures.end) c.key-next.ensures c.eq.ensures
+    (runs_loop_failed c.lines.invariant (rw c.args.self.now.ends at c.in-Some.ensures) c.key-next.ensures c.eq.ensures
     c.if-eq.false c.in_err-pending.ensures.wrote c.in_err-pending.ensures.fault)
 
 pub lines-preserved : goal.lines-preserved
 lines-preserved g c =
-    rw take_rest (runs_loop_next c.lines.invariant (rw c.args.self.now.ends at c.in-Some.ensures.end) c.key-next.ensures
+    rw take_rest (runs_loop_next c.lines.invariant (rw c.args.self.now.ends at c.in-Some.ensures) c.key-next.ensures
     c.eq.ensures c.if-eq.false c.in_ok-pending.ensures.waits refl refl)
 
 pub overflow_sub-len : goal.overflow_sub-len
