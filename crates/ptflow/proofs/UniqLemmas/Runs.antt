@@ -420,8 +420,8 @@ module _ {job : Uniq} {first block : List ℕ} {start : ℕ} {line : Option Span
 pub runs_loop_repeats : {job : Uniq} {first block rest : List ℕ} {start count : ℕ} {line : Option Span} {pending : Span}
     {run_key : List ℕ} {was is : Output}
     → RunsInvariant job first block rest start count line pending run_key was is → {at : ℕ}
-    → IsFirstByte (is_byte job.terminator) rest (Some at) → {next : List ℕ} {same : Bool} → next ≡ key job (take at rest)
-    → same ≡ bytes_eq run_key next → same ≡ true → (n : ℕ) {left : List ℕ}
+    → IsFirstByte (is_byte job.terminator) rest (Some at) → {next : List ℕ} {same : Bool}
+    → next ≡ key job (take at rest) → same ≡ bytes_eq run_key next → same ≡ true → (n : ℕ) {left : List ℕ}
     → drop (at + 1) rest ≡ repeated n (take (at + 1) rest) ++ left
     → RunsInvariant job first block left start (count + (1 + n)) line pending run_key was is
 runs_loop_repeats {job} {first} {block} {rest} {start} {count} {line} {pending} {run_key} {was} {is} so_far {at} found

@@ -6,7 +6,8 @@ ghost use Rattle.ptlines.specs.Text.{complete_lines};
 ghost use Rattle.ptlangs.specs.Jobs.{uniq_job};
 ghost use Rattle.ptflow.specs.Private.Passes.LineLoop.{IsLinesLength, ProcessLinesPre};
 ghost use Rattle.ptflow.specs.Private.Uniq.RunsFrom.{has_output, count_prefix, run_of, run_text};
-ghost use Rattle.ptflow.specs.Private.Uniq.BlockRuns.{RunsWritten, RunsFailed, EndRunPre, IsPending, first_of, repeated, span_of};
+ghost use Rattle.ptflow.specs.Private.Uniq.BlockRuns.{RunsWritten, RunsFailed, EndRunPre, IsPending, first_of};
+ghost use Rattle.ptflow.specs.Private.Uniq.BlockRuns.{repeated, span_of};
 
 use crate::simd::compare::same_short_start;
 use crate::tools::uniq::line_key::key;
@@ -61,8 +62,9 @@ pub(crate) struct LastRun {
     pub len: usize,
 }
 
-// Skips the lines that repeat the line at the start of `bytes`, which has this size with its terminator. Returns how many
-// there are, and the bytes after them. Lines of more than 16 bytes are not skipped, and neither are the last ones.
+// Skips the lines that repeat the line at the start of `bytes`, which has this size with its terminator: if it has at
+// most 16 bytes, one comparison of 16 bytes each finds them. Returns how many there are, and the bytes after them. It may
+// return fewer than there are; the last of them are not found, for example.
 fn skip_repeats(bytes: &[u8], size: usize) -> (u64, &[u8])
     requires { (0 < size) × (size ≤ length bytes.now) }
     ensures { drop size bytes.now ≡ repeated result.0 (take size bytes.now) ++ result.1.now }

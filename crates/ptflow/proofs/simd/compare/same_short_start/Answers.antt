@@ -1,7 +1,7 @@
 -- The first lane that differs is the lowest bit of the mask, so all lanes before it are equal.
 use Rattle.ptflow.proofs
-use proofs.Common.{◌≡◌, ◌≤◌, ℕ, Bool, true, not, cond, zero, suc, List, [], ◌∷◌, length, take, map, refl, ◌∙◌, ◌%◌, arith, leb, eqb}
-use proofs.Common.{nat_tests, prefix_len, mask_l, mask_l-mod, zip2, length-zip2, tops_compared, w8}
+use proofs.Common.{◌≡◌, ◌≤◌, ℕ, Bool, true, not, cond, zero, suc, List, [], ◌∷◌, length, take, map, refl, ◌∙◌, ◌%◌}
+use proofs.Common.{arith, leb, eqb, nat_tests, prefix_len, mask_l, mask_l-mod, zip2, length-zip2, tops_compared, w8}
 use proofs.Common.{take-take, length-take-le, top}
 use Rattle.std.proofs.lemmas.List.{map-id}
 use Rattle.std.proofs.lemmas.Simd.{first_set_mask_l}

@@ -12,9 +12,9 @@ none g c = search (rules, not_found)
 
 pub returns-then-is_none-clause-continues : goal.returns-then-is_none-clause-continues
 returns-then-is_none-clause-continues g c =
-    steps_written (steps_none (uniq_job c.args.self.now.by.job.now) (current_run_of c.args.self.now.run c.args.store.now))
-    (push_nothing c.args.out.now) (none g (goal.at.returns-then-is_none-clause-continues g c).Then-is_none)
-    (λ clean. clean)
+    steps_written (steps_none (uniq_job c.args.self.now.by.job.now)
+    (current_run_of c.args.self.now.run c.args.store.now)) (push_nothing c.args.out.now)
+    (none g (goal.at.returns-then-is_none-clause-continues g c).Then-is_none) (λ clean. clean)
 
 pub returns-then-is_none-clause-passed : goal.returns-then-is_none-clause-passed
 returns-then-is_none-clause-passed g c = search (rules, none)
