@@ -13,13 +13,14 @@ use proofs.Common.{span_of, IsSpan, IsPending, sym, ◌∙◌, swap, is_some, kn
 use proofs.Common.{uniq_tool, IsLineFilter, first_line, current_run_of, count_of, rules, ◌⊎◌, inl, inr, ⊎_elim, filter}
 use proofs.Common.{AllByRecursion, cases_Bool, the_lines_of_parts, lines-unlines, lines_are, BeginsWith, EndsWith}
 use proofs.Common.{HasGroupedKeys, UniqOfParts, UniqByKey}
+use proofs.Common.{line_before_terminator, take_with_terminator}
 use proofs.Passes.Exits.{wrote_then, split_of, ended_next}
 use Rattle.ptlines.proofs.Consume.{length_range}
-use Rattle.ptflow.specs.Private.Uniq.BlockRuns.{EndRunPre, IsLineSpan, first_of}
+use Rattle.ptflow.specs.Private.Uniq.BlockRuns.{EndRunPre, IsLineSpan, first_of, repeated}
 use Rattle.ptflow.specs.Private.Uniq.RunsFrom.{count_prefix, run_text}
 use Rattle.ptflow.specs.declared.tools.uniq.block_runs.Span.{Span}
 use Rattle.ptflow.specs.declared.tools.uniq.CurrentRun.{CurrentRun}
-use Rattle.std.specs.Prelude.{◌≢◌}
+use Rattle.std.specs.Prelude.{◌≢◌, zero, suc}
 
 some_lines : (n : ℕ) → nat_lt 0 (n + 1) ≡ true
 some_lines n = grind (arith, nat_tests)
@@ -380,6 +381,59 @@ uniq_line_tool job run start none = record {
   slots = refl;
   some = omega arith;
 }
+
+-- ---- lines that repeat a line of the run
+
+line_ends : (end : ℕ) (l more : List ℕ) → IsLine end l
+    → IsFirstByte (is_byte end) ((l ++ end ∷ []) ++ more) (Some (length l))
+line_ends end l more whole = grind (arith, common_steps)
+
+front_taken : (end : ℕ) (l more : List ℕ) → (take (length l) ((l ++ end ∷ []) ++ more) ≡ l)
+    × (drop (length l + 1) ((l ++ end ∷ []) ++ more) ≡ more)
+front_taken end l more = grind (arith, common_steps)
+
+module _ {job : Uniq} {first block : List ℕ} {start : ℕ} {line : Option Span} {pending : Span} {run_key : List ℕ}
+    {was is : Output} (l : List ℕ) (whole : IsLine job.terminator l) (key_is : run_key ≡ key job l) where
+  counted_once : (more : List ℕ) {count : ℕ}
+      → RunsInvariant job first block ((l ++ job.terminator ∷ []) ++ more) start count line pending run_key was is
+      → RunsInvariant job first block more start (count + 1) line pending run_key was is
+  counted_once more {count} so_far =
+      let (taken, left) = front_taken job.terminator l more in
+      let same : true ≡ bytes_eq run_key (key job l) = grind (arith, bytes_eq-Decides) in
+      subst (λ rest. RunsInvariant job first block rest start (count + 1) line pending run_key was is) left
+      (runs_loop_more so_far (line_ends job.terminator l more whole) {next = key job l} (ap (key job) (sym taken)) same
+      refl)
+
+  pub runs_loop_again : (n : ℕ) (rest : List ℕ) {count : ℕ}
+      → RunsInvariant job first block (repeated n (l ++ job.terminator ∷ []) ++ rest) start count line pending run_key
+      was is → RunsInvariant job first block rest start (count + n) line pending run_key was is
+  runs_loop_again zero rest {count} so_far =
+      subst (λ n. RunsInvariant job first block rest start n line pending run_key was is) (omega arith) so_far
+  runs_loop_again (suc n) rest {count} so_far =
+      let bytes = l ++ job.terminator ∷ [] in
+      subst (λ n. RunsInvariant job first block rest start n line pending run_key was is) (omega arith)
+      (runs_loop_again n rest (counted_once (repeated n bytes ++ rest)
+      (subst (λ all. RunsInvariant job first block all start count line pending run_key was is)
+      (append_assoc bytes (repeated n bytes) rest) so_far)))
+
+-- a line with the key of the run, and lines that repeat it
+pub runs_loop_repeats : {job : Uniq} {first block rest : List ℕ} {start count : ℕ} {line : Option Span} {pending : Span}
+    {run_key : List ℕ} {was is : Output}
+    → RunsInvariant job first block rest start count line pending run_key was is → {at : ℕ}
+    → IsFirstByte (is_byte job.terminator) rest (Some at) → {next : List ℕ} {same : Bool}
+    → next ≡ key job (take at rest) → same ≡ bytes_eq run_key next → same ≡ true → (n : ℕ) {left : List ℕ}
+    → drop (at + 1) rest ≡ repeated n (take (at + 1) rest) ++ left
+    → RunsInvariant job first block left start (count + (1 + n)) line pending run_key was is
+runs_loop_repeats {job} {first} {block} {rest} {start} {count} {line} {pending} {run_key} {was} {is} so_far {at} found
+    key_is tested is_true n {left} copies =
+    let l = take at rest in
+    let split : drop (at + 1) rest ≡ repeated n (l ++ job.terminator ∷ []) ++ left =
+    rw (take_with_terminator job.terminator rest at found) at copies in
+    let own : run_key ≡ key job l = grind (arith, bytes_eq-Decides) in
+    subst (λ n. RunsInvariant job first block left start n line pending run_key was is) (omega arith)
+    (runs_loop_again l (line_before_terminator job.terminator rest at found) own n left
+    (subst (λ all. RunsInvariant job first block all start (count + 1) line pending run_key was is) split
+    (runs_loop_more so_far found key_is tested is_true)))
 
 -- a block has no complete line
 pub not_found : (end : ℕ) (block : List ℕ) (r : Option ℕ) → IsFirstByte (is_byte end) block r → is_some r ≡ false
