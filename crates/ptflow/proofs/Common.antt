@@ -90,7 +90,7 @@ pub use Rattle.ptflow.specs.Private.Vectors.ByteSets.{table_has}
 pub use Rattle.ptflow.specs.Private.Vectors.Shift.{IsMappedTo, range_delta, shift_by_ranges, stretch_delta}
 pub use Rattle.ptflow.specs.Private.Vectors.FindNth.{IsNth}
 pub use Rattle.ptflow.specs.Private.Vectors.Compress.{IsCompressTable, IsCompressRow, select_by, true_indices}
-pub use Rattle.ptflow.specs.Private.Cut.CutFrom.{ExtendsCut, CutPost, HasTerminators, IsCutPart, IsSameLine}
+pub use Rattle.ptflow.specs.Private.Cut.CutFrom.{ExtendsCut, CutPost, IsTerminatorMask, IsCutPart, IsSameLine}
 pub use Rattle.ptflow.specs.Private.Cut.CutFrom.{CopyLinesPost, selected_bytes, cut_fields_from, cut_bytes_from}
 pub use Rattle.ptflow.specs.Private.Cut.CutFrom.{cut_list_from, cut_lines_from}
 pub use Rattle.ptflow.specs.Private.Cut.FieldOffsets.{IsFieldOffset, fields, prefixed_fields}

@@ -6,7 +6,8 @@ use proofs.Common.{Some, List, [], ◌∷◌, length, map, take, drop, get_or, r
 use proofs.Common.{length-drop, count_ones, count_by, prefix_len, mask_l, chunk, take-add, take-take, length-take-le}
 use proofs.Common.{get_or-le-sum_by, sum_by-cons, sum_by-append, sum_by-take-le, trailing_mask_l, ones-mask_l}
 use proofs.Common.{get_or-chunk, length-chunk, IsFirstByte, NoneBefore, Passes, is_byte, line_before_terminator}
-use proofs.Common.{line_if_not_found, Nowhere, None, option_map, nowhere_trans, IsLine, byte_ne, IsNth, HasTerminators}
+use proofs.Common.{line_if_not_found, Nowhere, None, option_map, nowhere_trans, IsLine, byte_ne, IsNth}
+use proofs.Common.{IsTerminatorMask}
 use proofs.Common.{count_by_more_yes, common_steps, rules}
 use Rattle.std.proofs.lemmas.List.{get_or-drop, drop-map}
 use Rattle.std.proofs.Common.{pow-suc, mul_comm, div-one}
@@ -200,7 +201,7 @@ pub record NextTerminator (d : ℕ) (block : List ℕ) (from n bit start : ℕ) 
   pub first : IsFirstByte (is_byte d) (drop start block) (Some (from + bit - start))
   pub counted : count_by (is_byte d) (take (from + bit + 1) block) ≡ count_by (is_byte d) (take from block) + (n + 1)
 
-module _ {d : ℕ} {block : List ℕ} {from all marked : ℕ} (n start : ℕ) (h : HasTerminators d block from all)
+module _ {d : ℕ} {block : List ℕ} {from all marked : ℕ} (n start : ℕ) (h : IsTerminatorMask d block from all)
     (some : n < count_ones all)
     (bits : marked ≡ mask_l (without n (map (is_byte d) (chunk from 64 block))))
     (ends : count_by (is_byte d) (take start block) ≡ count_by (is_byte d) (take from block) + n) where

@@ -22,7 +22,8 @@ run_lines-requires-clause-tool g c = cut_line_tool (cut_job c.new.result.by.job.
 
 pub returns-then-job : goal.returns-then-job
 returns-then-job g c =
-    pass_set _ (rw c.new.ensures at c.run_lines.ensures) c.set_ending.ensures.set (ends _) (sym c.has_failed.ensures ∙ c.if-has_failed.false)
+    pass_set _ (rw c.new.ensures at c.run_lines.ensures) c.set_ending.ensures.set (ends _)
+    (sym c.has_failed.ensures ∙ c.if-has_failed.false)
 
 pub returns : goal.returns
 returns g c =
