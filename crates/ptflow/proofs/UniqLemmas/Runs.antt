@@ -397,24 +397,16 @@ module _ {job : Uniq} {first block : List ℕ} {start : ℕ} {line : Option Span
   counted_once : (more : List ℕ) {count : ℕ}
       → RunsInvariant job first block ((l ++ job.terminator ∷ []) ++ more) start count line pending run_key was is
       → RunsInvariant job first block more start (count + 1) line pending run_key was is
-  counted_once more {count} so_far =
-      let (taken, left) = front_taken job.terminator l more in
-      let same : true ≡ bytes_eq run_key (key job l) = grind (arith, bytes_eq-Decides) in
-      subst (λ rest. RunsInvariant job first block rest start (count + 1) line pending run_key was is) left
-      (runs_loop_more so_far (line_ends job.terminator l more whole) {next = key job l} (ap (key job) (sym taken)) same
-      refl)
+  counted_once more so_far = grind (arith, common_steps, front_taken, bytes_eq-Decides, runs_loop_more, line_ends)
 
   pub runs_loop_again : (n : ℕ) (rest : List ℕ) {count : ℕ}
       → RunsInvariant job first block (repeated n (l ++ job.terminator ∷ []) ++ rest) start count line pending run_key
       was is → RunsInvariant job first block rest start (count + n) line pending run_key was is
-  runs_loop_again zero rest {count} so_far =
-      subst (λ n. RunsInvariant job first block rest start n line pending run_key was is) (omega arith) so_far
+  runs_loop_again zero rest so_far = grind arith
   runs_loop_again (suc n) rest {count} so_far =
       let bytes = l ++ job.terminator ∷ [] in
-      subst (λ n. RunsInvariant job first block rest start n line pending run_key was is) (omega arith)
-      (runs_loop_again n rest (counted_once (repeated n bytes ++ rest)
-      (subst (λ all. RunsInvariant job first block all start count line pending run_key was is)
-      (append_assoc bytes (repeated n bytes) rest) so_far)))
+      let once = counted_once (repeated n bytes ++ rest) (rw (append_assoc bytes (repeated n bytes) rest) at so_far) in
+      grind (arith, runs_loop_again n rest once)
 
 -- a line with the key of the run, and lines that repeat it
 pub runs_loop_repeats : {job : Uniq} {first block rest : List ℕ} {start count : ℕ} {line : Option Span} {pending : Span}
@@ -424,16 +416,12 @@ pub runs_loop_repeats : {job : Uniq} {first block rest : List ℕ} {start count 
     → next ≡ key job (take at rest) → same ≡ bytes_eq run_key next → same ≡ true → (n : ℕ) {left : List ℕ}
     → drop (at + 1) rest ≡ repeated n (take (at + 1) rest) ++ left
     → RunsInvariant job first block left start (count + (1 + n)) line pending run_key was is
-runs_loop_repeats {job} {first} {block} {rest} {start} {count} {line} {pending} {run_key} {was} {is} so_far {at} found
-    key_is tested is_true n {left} copies =
-    let l = take at rest in
-    let split : drop (at + 1) rest ≡ repeated n (l ++ job.terminator ∷ []) ++ left =
-    rw (take_with_terminator job.terminator rest at found) at copies in
-    let own : run_key ≡ key job l = grind (arith, bytes_eq-Decides) in
-    subst (λ n. RunsInvariant job first block left start n line pending run_key was is) (omega arith)
-    (runs_loop_again l (line_before_terminator job.terminator rest at found) own n left
-    (subst (λ all. RunsInvariant job first block all start (count + 1) line pending run_key was is) split
-    (runs_loop_more so_far found key_is tested is_true)))
+runs_loop_repeats {job} {rest = rest} {run_key = run_key} so_far {at} found key_is tested is_true n {left} copies =
+    let own : run_key ≡ key job (take at rest) = grind (arith, bytes_eq-Decides) in
+    let split : drop (at + 1) rest ≡ repeated n (take at rest ++ job.terminator ∷ []) ++ left =
+    grind (arith, take_with_terminator) in
+    let again = runs_loop_again (take at rest) (line_before_terminator job.terminator rest at found) own n left in
+    grind (arith, again (rw split at (runs_loop_more so_far found key_is tested is_true)))
 
 -- a block has no complete line
 pub not_found : (end : ℕ) (block : List ℕ) (r : Option ℕ) → IsFirstByte (is_byte end) block r → is_some r ≡ false

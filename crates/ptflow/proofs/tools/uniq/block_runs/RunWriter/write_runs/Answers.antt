@@ -1,16 +1,14 @@
 -- A line with the key of the current run adds to its count. Any other line ends it and starts the next one, and the
 -- output of the run that ended is pushed or deferred. Each case preserves `RunsInvariant`.
 use Rattle.ptflow.proofs
-use proofs.Common.{IsLine, refl, arith, take_rest, line_if_not_found, uniq_job, common_steps, rules}
+use proofs.Common.{◌+◌, IsLine, length, refl, ap, arith, length-append, length-drop, take_rest, line_if_not_found}
+use proofs.Common.{uniq_job, common_steps, rules}
 use proofs.Passes.Exits.{on_err}
-use proofs.UniqLemmas.Runs.{runs_loop_starts, runs_loop_few, runs_loop_left, runs_loop_next}
+use proofs.UniqLemmas.Runs.{RunsInvariant, runs_loop_starts, runs_loop_few, runs_loop_left, runs_loop_next}
 use proofs.UniqLemmas.Runs.{runs_loop_failed, runs_loop_repeats, running_done, running_unended, runs_loop_passed}
 use Rattle.ptflow.proofs.tools.uniq.block_runs.RunWriter.write_runs.Given as given
 use Rattle.ptflow.proofs.tools.uniq.block_runs.RunWriter.write_runs.Goals as goal
 use Rattle.ptflow.proofs.tools.uniq.block_runs.RunWriter.write_runs.Goals.{In_default, After-left-1}
-use proofs.Common.{◌+◌, ◌<◌, length, take, ap, length-append, length-drop}
-use Rattle.ptflow.specs.Private.Uniq.BlockRuns.{repeated}
-use proofs.UniqLemmas.Runs.{RunsInvariant}
 
 pub lines-init : goal.lines-init
 lines-init g c = search (rules, runs_loop_starts)
@@ -31,17 +29,8 @@ overflow_add-count-then-eq g c = omega (arith, runs_loop_few (after g c), c.requ
 
 pub lines-smaller-then-eq : goal.lines-smaller-then-eq
 lines-smaller-then-eq g c =
-    let bytes = c.lines.rest.now in
     let copies = ap length c.skip_repeats-repeats.ensures in
-    let found : c.in-Some.at < length bytes = omega (arith, c.in-Some.ensures) in
-    omega (
-      arith,
-      found,
-      copies,
-      length-drop (c.in-Some.at + 1) bytes,
-      length-append (repeated c.skip_repeats-repeats.result.0 (take (c.in-Some.at + 1) bytes))
-          c.skip_repeats-repeats.result.1.now,
-    )
+    grind (arith, copies, length-append, length-drop)
 
 pub lines-preserved-then-eq : goal.lines-preserved-then-eq
 lines-preserved-then-eq g c = after g c
@@ -80,6 +69,9 @@ returns-clause-passed g c = (
   runs_loop_passed c.lines.invariant (none_left g (goal.at.returns-clause-passed g c).In_default)
       c.push.ensures.pushed.wrote,
 )
+
+pub overflow_add-at : goal.overflow_add-at
+overflow_add-at g c = grind (arith, common_steps)
 
 pub overflow_sub-from : goal.overflow_sub-from
 overflow_sub-from g c = grind (arith, common_steps)
