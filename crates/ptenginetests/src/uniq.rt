@@ -38,8 +38,8 @@ const COUNTS: UniqJob = UniqJob {
     zero: false,
 };
 
-// Lines that repeat the line before them: of 15, 16 and 17 bytes with their newline, empty, and one that a line begins
-// with.
+// Lines that repeat the line before them: of 15, 16 and 17 bytes with their newline, empty ones, and one with which a
+// longer line begins.
 const REPEATS: &[u8] = b"abcdefghijklmn
 abcdefghijklmn
 abcdefghijklmn

@@ -6,7 +6,7 @@ pub mod Fields
 use Rattle.ptmerge.proofs
 use proofs.Common.{cond, ◌*◌, Err, flat_map-append, Cmp, MergeFault, IsReadyToContinue, AdvanceOkPost, MergePost}
 use proofs.Common.{merge_state, both, lines_of, Memory, HaveEqualKeys, HasOnlyLeastKey}
-use proofs.Common.{◌⊎◌, MergeRunPre, AdvancePre, push_nothing, if◌then◌else◌, inl, inr, ◌==◌}
+use proofs.Common.{◌⊎◌, MergeRunPre, AdvancePre, push_nothing, inl, inr, ◌==◌}
 use proofs.Common.{nat_tests, length_push, nil_from_length}
 use Rattle.ptmerge.specs.JoinGroup.{IsInItsSlot, IsCopiedToGroup, ReadGroupLineOkPost, ReadGroupLinePost, IsGroup}
 use Rattle.ptmerge.specs.JoinGroup.{JoinStepPre, JoinLinePre, group_end_slot, group_first_slot}

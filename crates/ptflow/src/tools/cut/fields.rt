@@ -127,6 +127,7 @@ pub(crate) struct FieldCut<'a, A: Allocator> {
 }
 
 impl<'a, A: Allocator> FieldCut<'a, A> {
+    // The selection of a job, and an empty buffer.
     pub(crate) fn new(job: &'a CutJob<A>, terminator: u8) -> Self
         requires by_fields { job.now.fields ≡ true }
         requires ends { terminator ≡ (cut_job job.now).terminator }

@@ -62,24 +62,24 @@ pub(crate) struct LastRun {
     pub len: usize,
 }
 
-// Skips the lines that repeat the line at the start of `bytes`, which has this size with its terminator: if it has at
-// most 16 bytes, one comparison of 16 bytes each finds them. Returns how many there are, and the bytes after them. It may
-// return fewer than there are; the last of them are not found, for example.
-fn skip_repeats(bytes: &[u8], size: usize) -> (u64, &[u8])
-    requires { (0 < size) × (size ≤ length bytes.now) }
-    ensures { drop size bytes.now ≡ repeated result.0 (take size bytes.now) ++ result.1.now }
+// Skips the lines that repeat the line at the start of `bytes`, which has `len` bytes with its terminator. Returns how
+// many there are, and the bytes after them. A line of at most 16 bytes takes one comparison; repeats of a longer line are
+// not found, nor those that start among the last 15 bytes.
+fn skip_repeats(bytes: &[u8], len: usize) -> (u64, &[u8])
+    requires { (0 < len) × (len ≤ length bytes.now) }
+    ensures { drop len bytes.now ≡ repeated result.0 (take len bytes.now) ++ result.1.now }
 {
     let mut count = 0;
-    let mut rest = &bytes[size..];
-    while same_short_start(bytes, rest, size) {
+    let mut rest = &bytes[len..];
+    while same_short_start(bytes, rest, len) {
         count += 1;
-        rest = &rest[size..];
+        rest = &rest[len..];
     }
     (count, rest)
 }
 
 // Writes runs, by the options of a job.
-#[derive(Clone, Copy)]
+#[derive(Drop)]
 pub(crate) struct RunWriter<'a> {
     pub job: &'a UniqJob,
     pub terminator: u8,

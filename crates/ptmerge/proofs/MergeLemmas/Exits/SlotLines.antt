@@ -91,10 +91,6 @@ lines_read_more {end} {old} {now} {new} {ls} c e =
       terminator = grind arith;
     }
 
-pub lines_read_eof : {end : ℕ} {old now new : Reader} {ls : List (List ℕ)} → LinesRead end old now ls
-    → AdvanceOk now new [] → IsDone new → LinesRead end old new ls
-lines_read_eof = grind (arith, advance_ok_trans)
-
 -- the list `all` continues the lines `ls`
 pub record Continues (now : Reader) (ls all : List (List ℕ)) : Type 0 where
   pub more : List (List ℕ)

@@ -33,7 +33,7 @@ same_front xs ys count long also_long few says =
 
 pub returns-clause-same : goal.returns-clause-same
 returns-clause-same c same =
-    let few = c.if-count-gt16.false in
-    let front = same_front (take 16 c.args.a.now) (take 16 c.args.b.now) c.args.count
+    let few = c.if-len-gt16.false in
+    let front = same_front (take 16 c.args.a.now) (take 16 c.args.b.now) c.args.len
     (length-take-le 16 c.args.a.now c.if-a-lt16.false) (length-take-le 16 c.args.b.now c.if-b-lt16.false) few same in
-    cc (take-take c.args.count 16 c.args.a.now few, take-take c.args.count 16 c.args.b.now few)
+    cc (take-take c.args.len 16 c.args.a.now few, take-take c.args.len 16 c.args.b.now few)

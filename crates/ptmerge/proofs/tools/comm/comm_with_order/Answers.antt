@@ -1,4 +1,5 @@
--- Each iteration preserves the invariant by one lemma of `CommLemmas`, and each exit has the postconditions by another.
+-- Each iteration preserves the invariant by one lemma of `CommLemmas`, and each exit has the postconditions by one of
+-- `CommLemmas` or `MergeLemmas`.
 use Rattle.std.proofs.Common.{rules}
 use Rattle.ptmerge.proofs
 use proofs.Common.{refl, ◌∙◌, comm_job}

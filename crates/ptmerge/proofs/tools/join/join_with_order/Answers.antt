@@ -1,5 +1,5 @@
--- Each iteration preserves the invariant by one lemma of `JoinLemmas`, and each exit has the
--- postconditions by another.
+-- Each iteration preserves the invariant by one lemma of `JoinLemmas`, and each exit has the postconditions by one of
+-- `JoinLemmas` or `MergeLemmas`.
 use Rattle.std.proofs.lemmas.Grind.{common_steps}
 use Rattle.std.proofs.Common.{rules}
 use Rattle.ptmerge.proofs

@@ -6,7 +6,7 @@ use proofs.tools.uniq.block_runs.skip_repeats.Given as goal
 
 abbrev pub invariant-loop-count : goal.invariant-loop-count
 invariant-loop-count l = record {
-  copies : drop l.size l.bytes ≡ repeated l.count (take l.size l.bytes) ++ l.rest;
+  copies : drop l.len l.bytes ≡ repeated l.count (take l.len l.bytes) ++ l.rest;
   few : l.count + length l.rest ≤ length l.bytes;
 }
 

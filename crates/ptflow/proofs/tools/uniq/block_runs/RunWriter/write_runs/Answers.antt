@@ -1,5 +1,5 @@
--- A line with the key of the current run adds to its count. Any other line ends it and starts the next one, and the
--- output of the run that ended is pushed or deferred. Each case preserves `RunsInvariant`.
+-- A line with the key of the current run adds to its count, and so do copies of it. Any other line ends it and starts
+-- the next one, and the output of the run that ended is pushed or deferred. Each case preserves `RunsInvariant`.
 use Rattle.ptflow.proofs
 use proofs.Common.{◌+◌, IsLine, length, refl, ap, arith, length-append, length-drop, take_rest, line_if_not_found}
 use proofs.Common.{uniq_job, common_steps, rules}
