@@ -38,6 +38,52 @@ const COUNTS: UniqJob = UniqJob {
     zero: false,
 };
 
+// Lines that repeat the line before them: of 15, 16 and 17 bytes with their newline, empty ones, and one with which a
+// longer line begins.
+const REPEATS: &[u8] = b"abcdefghijklmn
+abcdefghijklmn
+abcdefghijklmn
+abcdefghijklmn
+abcdefghijklmno
+abcdefghijklmno
+abcdefghijklmno
+abcdefghijklmnop
+abcdefghijklmnop
+abcdefghijklmnop
+abcdefghijklmnop
+
+
+
+
+
+a
+a
+a
+a
+ab
+a
+a
+a
+a
+a
+";
+
+const RUNS_OF_REPEATS: &[u8] = b"4 abcdefghijklmn
+3 abcdefghijklmno
+4 abcdefghijklmnop
+5 
+4 a
+1 ab
+5 a
+";
+
+const WHOLE: UniqJob = UniqJob {
+    show: Show::Counts,
+    fields: 0,
+    chars: 0,
+    zero: false,
+};
+
 const ALL: UniqJob = UniqJob {
     show: Show::All,
     fields: 0,
@@ -89,5 +135,17 @@ fn runs_of_a_reader(rt: HostRuntime) {
     // The allocation of each of the two slots fails.
     for passing in 0..2u64 {
         check_unread(&rt, rt.alloc(), passing);
+    }
+}
+
+#[test]
+fn repeated_short_lines(rt: HostRuntime) {
+    let mut case = NO_FAILURE;
+    case.text = REPEATS;
+    for size in [1, 20, usize::MAX] {
+        case.size = size;
+        let job = Job::Uniq(&WHOLE);
+        let kept = check_run(&rt, rt.alloc(), (job, &case), Ok(()), RUNS_OF_REPEATS);
+        assert_same(&rt, &kept, &(2, 0));
     }
 }

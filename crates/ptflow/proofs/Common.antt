@@ -14,18 +14,18 @@ pub use Rattle.std.proofs.lemmas.Bool.Decides.{nat_tests}
 pub use Rattle.std.proofs.lemmas.Grind.{and_numeral, common_steps, get_or_after_one}
 pub use Rattle.std.proofs.lemmas.List.{append-nil, append_cancel_right, drop-append-le, drop-drop, drop-set-lt}
 pub use Rattle.std.proofs.lemmas.List.{drop-take, drop_all, drop_at, drop_more, ext_get_or, get_or-map}
-pub use Rattle.std.proofs.lemmas.List.{get_or-set_other, get_or-set_same, get_or_append_left, get_or_at, get_or_default}
+pub use Rattle.std.proofs.lemmas.List.{get_or-set_other, get_or-set_same, get_or_append_left, get_or_default}
 pub use Rattle.std.proofs.lemmas.List.{get_or_past, get_or_push, length-map, length-set, length-take-le, map-append}
 pub use Rattle.std.proofs.lemmas.List.{nil_from_length, set-append_right, set-get_or, take-append-le, take-map}
 pub use Rattle.std.proofs.lemmas.List.{take-set, take-take, take_all, take_at, take_more, take_more_set, take_rest}
 pub use Rattle.std.proofs.lemmas.List.Concat.{flat_map-append}
-pub use Rattle.std.proofs.lemmas.List.Elements.{All-from_get_or, All-set, filter-append}
+pub use Rattle.std.proofs.lemmas.List.Elements.{All-from_get_or, filter-append}
 pub use Rattle.std.proofs.lemmas.List.Folds.{drop_split, list_any_at}
 pub use Rattle.std.proofs.lemmas.List.FromFn.{get_or-enumerate_from, get_or-range_with_len, length-enumerate_from}
 pub use Rattle.std.proofs.lemmas.List.FromFn.{length-map-range_with_len, length-range_with_len}
 pub use Rattle.std.proofs.lemmas.List.Splits.{length-slice_split}
 pub use Rattle.std.proofs.lemmas.List.Sums.{count_by-le-length, count_by_more_no, count_by_more_yes, get_or-le-sum_by}
-pub use Rattle.std.proofs.lemmas.List.Sums.{sum_by-append, sum_by-cons, sum_by-set, sum_by-take-le}
+pub use Rattle.std.proofs.lemmas.List.Sums.{sum_by-append, sum_by-cons, sum_by-take-le}
 pub use Rattle.std.proofs.lemmas.Nat.{and_mask, mod-mul-add, ones-le, pow_pos}
 pub use Rattle.std.proofs.lemmas.Result.{err_from_is_err_and}
 pub use Rattle.std.proofs.lemmas.Simd.{Each1-from_get_or, SwzOk, SwzOk-from_below, bit_mask_l, bitmask_splat}
@@ -59,7 +59,7 @@ pub use Rattle.ptlines.proofs.Lag.{bounded_lag_after}
 pub use Rattle.ptlines.proofs.TextLaws.{complete_lines_cons, complete_lines_none, complete_lines_of_unlines}
 pub use Rattle.ptlines.proofs.TextLaws.{lines-unlines, lines_are, lines_cons, lines_of_last, lines_of_unlines, byte_ne}
 pub use Rattle.ptlines.proofs.TextLaws.{byte_eq, unlines-append, unlines_push, the_complete_lines, the_lines}
-pub use Rattle.ptlines.specs.ReadLine.{FillReadErr, FillPost, FillLine}
+pub use Rattle.ptlines.specs.ReadLine.{FillPost, FillLine}
 pub use Rattle.ptlines.specs.Received.{IsConsistent, IsPrefix, Received, known_lines}
 pub use Rattle.ptlines.specs.Lag.{LaggedInput, ProcessLag}
 pub use Rattle.ptlines.specs.Outputs.{Output, PushEffect}
@@ -79,7 +79,7 @@ pub use Rattle.ptlines.proofs.Calls.{CallProgress, DecidedIfReadFailed, reads_no
 pub use Rattle.ptlines.proofs.Calls.{call_set, call_without_slots}
 pub use Rattle.ptflow.specs.PasteCall.{PastePre, PastePost, IsReadable, paste_end, paste_engine, update_at}
 pub use Rattle.ptflow.specs.PasteText.{columns, delimiter, every_kth, join_with_cycle, row_count, is_row_known}
-pub use Rattle.ptflow.specs.PasteText.{known_rows, paste, paste_decided, row_at, rows, paste_serial_decided}
+pub use Rattle.ptflow.specs.PasteText.{paste, paste_decided, row_at, rows, paste_serial_decided}
 pub use Rattle.ptflow.specs.PasteText.{paste_serial_tool, rows_text, uses_of}
 pub use Rattle.ptflow.specs.ToolSpec.{ToolSpec}
 pub use Rattle.ptflow.specs.TrOutput.{squeeze, squeeze_after, is_not_repeat, tr, tr_decided, tr_tool, translation}
@@ -90,7 +90,7 @@ pub use Rattle.ptflow.specs.Private.Vectors.ByteSets.{table_has}
 pub use Rattle.ptflow.specs.Private.Vectors.Shift.{IsMappedTo, range_delta, shift_by_ranges, stretch_delta}
 pub use Rattle.ptflow.specs.Private.Vectors.FindNth.{IsNth}
 pub use Rattle.ptflow.specs.Private.Vectors.Compress.{IsCompressTable, IsCompressRow, select_by, true_indices}
-pub use Rattle.ptflow.specs.Private.Cut.CutFrom.{ExtendsCut, CutPost, HasTerminators, IsCutPart, IsSameLine}
+pub use Rattle.ptflow.specs.Private.Cut.CutFrom.{ExtendsCut, CutPost, IsTerminatorMask, IsCutPart, IsSameLine}
 pub use Rattle.ptflow.specs.Private.Cut.CutFrom.{CopyLinesPost, selected_bytes, cut_fields_from, cut_bytes_from}
 pub use Rattle.ptflow.specs.Private.Cut.CutFrom.{cut_list_from, cut_lines_from}
 pub use Rattle.ptflow.specs.Private.Cut.FieldOffsets.{IsFieldOffset, fields, prefixed_fields}

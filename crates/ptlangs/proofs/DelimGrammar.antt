@@ -1,9 +1,9 @@
 -- The lists of `paste`: each escape is one case of the grammar, so `delim_list` agrees with the grammar in both
 -- directions. The fault of a list is the first one found from left to right, and is never an allocation failure.
 use Rattle.ptlangs.proofs
-use proofs.Common.{Bool, Err, List, None, Ok, Option, Result, Some, [], and_then, ap, append-nil, arith, cond}
-use proofs.Common.{cond_both, cons_ok, delim_list, eqb, eqb-true, length, refl, result_err, subst, sym, true, ℕ, ◌++◌}
-use proofs.Common.{◌<◌, ◌∙◌, ◌∷◌, ◌≡◌}
+use proofs.Common.{Bool, Err, List, Ok, Option, Result, Some, [], and_then, append-nil, arith, cond}
+use proofs.Common.{cond_both, cons_ok, delim_list, eqb-true, length, refl, result_err, subst, ℕ, ◌++◌}
+use proofs.Common.{◌<◌, ◌∷◌, ◌≡◌}
 use proofs.ListElements.{reads_first}
 use Rattle.ptlangs.specs.DelimLists.{Backslash, DelimListMatchesGrammar, IsDelim, IsDelimList, Last, More, Newline}
 use Rattle.ptlangs.specs.DelimLists.{Nothing, Plain, Tab, backslash, delim_list_fault, delims, escape}
@@ -15,8 +15,7 @@ delims_of_some = grind arith
 -- ---- from the grammar to `delim_list`
 
 element_is_read : (e rest : List ℕ) (d : Option ℕ) → IsDelim e d → delim_list (e ++ rest) ≡ cons_ok d (delims rest)
-element_is_read e [] d (Plain b h) = rw h refl
-element_is_read e (c ∷ more) d (Plain b h) = rw h refl
+element_is_read e rest d (Plain b h) = grind arith
 element_is_read e rest d Newline = refl
 element_is_read e rest d Tab = refl
 element_is_read e rest d Backslash = refl
@@ -26,7 +25,7 @@ is_some : (bs : List ℕ) (ds : List (Option ℕ)) → delim_list bs ≡ Ok ds �
 is_some = grind arith
 
 accepts : (bs : List ℕ) (ds : List (Option ℕ)) → IsDelimList bs ds → delim_list bs ≡ Ok ds
-accepts bs ds (Last e d is) = ap delim_list (sym (append-nil e)) ∙ element_is_read e [] d is
+accepts bs ds (Last e d is) = grind (arith, append-nil, element_is_read e [] d is)
 accepts bs ds (More e rest d others is list) = grind (arith, element_is_read, is_some, accepts rest others list)
 
 -- ---- from `delim_list` to the grammar
@@ -34,29 +33,19 @@ accepts bs ds (More e rest d others is list) = grind (arith, element_is_read, is
 abbrev Spells : ℕ → Option ℕ → Result (Option ℕ) DelimFault → Type 0
 Spells c d r = r ≡ Ok d → IsDelim (backslash ∷ c ∷ []) d
 
-spelled_by : (c b : ℕ) (d e : Option ℕ) → eqb c b ≡ true → IsDelim (backslash ∷ b ∷ []) e → Spells c d (Ok e)
-spelled_by = grind arith
-
 escape_is_spelled : (c : ℕ) (d : Option ℕ) → Spells c d (escape c)
-escape_is_spelled c d =
-    cond_both _ _ _ (Spells c d) (λ t. spelled_by c 110 d _ t Newline)
-    (λ n. cond_both _ _ _ (Spells c d) (λ t. spelled_by c 116 d _ t Tab)
-    (λ n. cond_both _ _ _ (Spells c d) (λ t. spelled_by c backslash d _ t Backslash)
-    (λ n. cond_both _ _ _ (Spells c d) (λ t. spelled_by c 48 d None t Nothing) (λ n h. cc))))
+escape_is_spelled c d = grind (arith, eqb-true, Newline, Tab, Backslash, Nothing)
 
 -- an element, and after it either nothing or a list
 more_delims : (e rest : List ℕ) (d : Option ℕ) (ds : List (Option ℕ)) → IsDelim e d → delims rest ≡ Ok ds
     → ((xs : List (Option ℕ)) → delim_list rest ≡ Ok xs → IsDelimList rest xs) → IsDelimList (e ++ rest) (d ∷ ds)
-more_delims e [] d [] is h list = rw append-nil (Last e d is)
+more_delims e [] d [] is h list = grind (arith, append-nil, Last)
 more_delims e [] d (x ∷ xs) is h list = cc
-more_delims e (b ∷ bs) d ds is h list = More e _ d ds is (list ds h)
+more_delims e (b ∷ bs) d ds is h list = grind (arith, More)
 
 list_is_spelled : (bs : List ℕ) (ds : List (Option ℕ)) → delim_list bs ≡ Ok ds → IsDelimList bs ds
 list_is_spelled [] ds h = cc
-list_is_spelled (b ∷ []) ds h =
-    cond_both _ _ _ (λ (r : Result _ DelimFault). r ≡ Ok ds → IsDelimList (b ∷ []) ds)
-    (λ t e. cc)
-    (λ n e. let one : Some b ∷ [] ≡ ds = cc in subst (IsDelimList _) one (Last _ _ (Plain b n))) h
+list_is_spelled (b ∷ []) ds h = grind (arith, Last, Plain)
 list_is_spelled (b ∷ c ∷ more) ds h =
     cond_both _ _ _ (λ (r : Result _ DelimFault). r ≡ Ok ds
     → IsDelimList (b ∷ c ∷ more) ds)
@@ -111,8 +100,7 @@ delims_fault (b ∷ c ∷ more) = grind (
 )
 
 delim_fault : (bs : List ℕ) → IsOfText (delim_list bs)
-delim_fault [] = refl
-delim_fault (b ∷ bs) = delims_fault (b ∷ bs)
+delim_fault bs = grind (arith, delims_fault bs)
 
 module _ (text left : List ℕ) (so_far : result_err (delim_list text) ≡ result_err (delim_list left)) where
   pub left_fault : (e : DelimFault) → delim_list left ≡ Err e → result_err (delim_list text) ≡ delim_list_fault e

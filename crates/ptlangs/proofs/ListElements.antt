@@ -11,7 +11,7 @@ use Rattle.ptlangs.proofs
 use proofs.Common.{Bool, Err, Interval, IsValidInterval, List, None, Ok, Option, Result, Some, [], and_then, ap, arith}
 use proofs.Common.{common_steps, cond, cond_both, cons_ok, digits_value_after, drop, element_field, element_interval}
 use proofs.Common.{elements, eqb, eqb-true, false, get_or, is_ascii_digit, is_dash, is_err, is_list_separator, length}
-use proofs.Common.{length-drop, ltb-true, map, max_u64, not, refl, result_err, result_ok, rules, subst, suc, sym, take}
+use proofs.Common.{length-drop, ltb-true, map, max_u64, not, refl, result_err, result_ok, rules, subst, suc, take}
 use proofs.Common.{take_all, true, value, ℕ, ◌*◌, ◌++◌, ◌+◌, ◌-◌, ◌<◌, ◌||◌, ◌∙◌, ◌∷◌, ◌≡◌, ◌≤◌}
 use Rattle.ptlangs.specs.CutLists.{AreSeparated, AreSortedFrom, CutListMatchesGrammar, From, FromTo, IsIntervalElement}
 use Rattle.ptlangs.specs.CutLists.{One, SpellsInterval, UpTo, checked_interval, cut_list, cut_list_fault}
@@ -22,16 +22,16 @@ use Rattle.ptlangs.specs.OutLists.{SecondFileField, SpellsField, field_of, out_l
 use Rattle.ptlangs.specs.declared.outlist.File.TheVariants.{First, Second}
 use Rattle.ptlangs.specs.declared.outlist.File.{File}
 use Rattle.ptlangs.specs.declared.outlist.OutFault.{OutFault}
-use Rattle.ptlangs.specs.declared.outlist.OutField.TheVariants.{Field, Join}
+use Rattle.ptlangs.specs.declared.outlist.OutField.TheVariants.{Field}
 use Rattle.ptlangs.specs.declared.outlist.OutField.{OutField}
 use Rattle.ptlangs.specs.declared.ranges.ListFault.{ListFault}
-use Rattle.std.proofs.Common.{inl, inr, leb, max, ◌&&◌}
+use Rattle.std.proofs.Common.{leb, max, ◌&&◌}
 use Rattle.std.proofs.lemmas.Bool.{and_parts, cases_Bool, ltb-false, not-false}
 use Rattle.std.proofs.lemmas.List.Elements.{All-cons}
 use Rattle.std.proofs.lemmas.List.Sorted.{list_any-IsPermutation}
 use Rattle.std.proofs.lemmas.List.Splits.{join_with_byte-slice_split, length-slice_split, slice_split_at}
 use Rattle.std.proofs.lemmas.List.Splits.{slice_split_first, slice_split_none}
-use Rattle.std.proofs.lemmas.List.Sums.{AllPass-from_list_all, fails_before_first}
+use Rattle.std.proofs.lemmas.List.Sums.{fails_before_first}
 use Rattle.std.specs.Char.{digit_value}
 use Rattle.std.specs.List.Sorted.{IsNonDecreasingBy, IsPermutation}
 use Rattle.std.specs.List.{All, filter_map, find, join_with_byte, onto_first, position, slice_split}
@@ -145,25 +145,16 @@ module _ {A E : Type 0} (read : List ℕ → Result A E) (Spells : List ℕ → 
 
   module _ (a : Accepts) where
     from_grammar : (bs : List ℕ) (xs : List A) → IsListOf Spells bs xs → traverse read (elements bs) ≡ Ok xs
-    from_grammar bs xs (Last e x says) =
-        rw (slice_split_none is_list_separator e (a.whole e x says), a.from e x says) refl
+    from_grammar bs xs (Last e x says) = grind (arith, slice_split_none)
     from_grammar bs xs (More e s others x xs' says sep list) =
-        cc (
-          slice_split_at is_list_separator e s others (a.whole e x says) sep,
-          a.from e x says,
-          from_grammar others xs' list,
-        )
+        grind (arith, slice_split_at, from_grammar others xs' list)
 
     reads_parts : (bs : List ℕ) (parts : List (List ℕ)) (xs : List A) → IsSplit is_list_separator bs parts
         → traverse read parts ≡ Ok xs → IsListOf Spells bs xs
-    reads_parts bs parts xs (Whole ys) h =
-        let f = reads_first _ (Ok []) xs h in
-        let one : f.head ∷ [] ≡ xs = cc in
-        subst (IsListOf Spells ys) one (Last ys f.head (a.to ys f.head f.read))
+    reads_parts bs parts xs (Whole ys) h = grind (arith, reads_first, Last)
     reads_parts bs parts xs (Cut e s ys rest cut split) h =
         let f = reads_first _ _ xs h in
-        subst (IsListOf Spells _) f.is
-        (More e s ys f.head f.tail (a.to e f.head f.read) cut (reads_parts ys rest f.tail split f.rest))
+        grind (arith, More, reads_parts ys rest f.tail split)
 
     pub matches_grammar : (bs : List ℕ) (xs : List A) → (IsListOf Spells bs xs → traverse read (elements bs) ≡ Ok xs)
         × (traverse read (elements bs) ≡ Ok xs → IsListOf Spells bs xs)
@@ -198,7 +189,7 @@ digit_no_dash : (b : ℕ) → is_ascii_digit b ≡ true → is_dash b ≡ false
 digit_no_dash b h = grind arith
 
 bound_is_one_part : (m : List ℕ) → is_bound m ≡ true → slice_split is_dash m ≡ m ∷ []
-bound_is_one_part = grind (arith, common_steps, slice_split_none, digit_no_dash, AllPass-from_list_all)
+bound_is_one_part = grind (arith, common_steps, slice_split_none, digit_no_dash)
 
 bounds_rejected : (n m : List ℕ) → is_bound m ≡ false → interval_of_bounds n m ≡ None
 bounds_rejected = grind arith
@@ -209,11 +200,15 @@ rejected = grind arith
 
 -- the part after the first dash is the upper bound; if it is not a bound, the element is rejected
 parts_after_dash : (n m : List ℕ) → interval_of_parts (n ∷ slice_split is_dash m) ≡ interval_of_bounds n m
-parts_after_dash n m = elim (cases_Bool _) [
-  | inl e ↦ ap (λ parts. interval_of_parts (n ∷ parts)) (bound_is_one_part m e)
-  | inr e ↦ rejected n m _ (omega (arith, length-slice_split is_dash m))
-      (join_with_byte-slice_split 45 m) e ∙ sym (bounds_rejected n m e)
-]
+parts_after_dash n m = grind (
+  arith,
+  cases_Bool (is_bound m),
+  bound_is_one_part,
+  rejected,
+  length-slice_split is_dash m,
+  join_with_byte-slice_split 45 m,
+  bounds_rejected,
+)
 
 twice : {X : Type 0} (b : Bool) (x y : X) → cond b x y ≡ cond ((b && b) && true) x y
 twice = grind arith
@@ -275,8 +270,7 @@ in_order (x ∷ xs) proper up =
 pub selection_is_kept : (bs : List ℕ) (listed sorted kept : List Interval) → cut_list bs ≡ Ok listed
     → IsPermutation listed sorted → is_selected kept ≡ is_selected sorted → selection bs ≡ Ok (is_selected kept)
 selection_is_kept bs listed sorted kept e p same =
-    let moved : is_selected listed ≡ is_selected sorted =
-    λ i n. list_any-IsPermutation (λ (r : Interval). leb r.first n && leb n r.last) listed sorted p i in
+    let moved : is_selected listed ≡ is_selected sorted = grind (arith, list_any-IsPermutation) in
     search rules
 
 -- ---- from the grammar to `cut_list`
@@ -291,7 +285,7 @@ bounds_at_dash = grind (arith, common_steps, slice_split_at, digits_fail, digit_
 
 accepts_interval : (bs : List ℕ) (r : Interval) → SpellsInterval bs r → IsValidInterval r → element_interval bs ≡ Ok r
 accepts_interval bs r (One n h) valid = grind (arith, common_steps, bound_is_one_part, checked_ok)
-accepts_interval bs r (FromTo n m h k) valid = bounds_at_dash n m h ∙ rw (h, k) (grind (arith, checked_ok))
+accepts_interval bs r (FromTo n m h k) valid = search (rules, bounds_at_dash, checked_ok)
 accepts_interval bs r (UpTo [] h) valid = cc
 accepts_interval bs r (UpTo (c ∷ m) h) valid =
     ap checked_interval (parts_after_dash [] (c ∷ m)) ∙ rw h (checked_ok r valid)
@@ -307,26 +301,10 @@ unbroken_interval bs r (From n h) = grind (arith, unbroken_append, unbroken_numb
 
 spelled_one : (bs : List ℕ) (r : Interval)
     → cond (is_number bs) (Some (record { first = value bs; last = value bs })) None ≡ Some r → SpellsInterval bs r
-spelled_one bs r e =
-    let (number, is) = some_since _ r e in
-    subst (SpellsInterval bs) is (One bs number)
+spelled_one = grind (arith, some_since, One)
 
 spelled_ends : (n m : List ℕ) (r : Interval) → interval_of_bounds n m ≡ Some r → SpellsInterval (n ++ 45 ∷ m) r
-spelled_ends [] [] r e = cc
-spelled_ends [] (c ∷ m) r e =
-    let (bounds, is) = some_since _ r e in
-    subst (SpellsInterval _) is
-    (UpTo _ (let (digits, _) = and_parts _ true bounds in digits))
-spelled_ends (b ∷ n) [] r e =
-    let (bounds, is) = some_since _ r e in
-    let (number, _) = and_parts _ true bounds in
-    let (digits, _) = and_parts _ true number in
-    subst (SpellsInterval _) is (From (b ∷ n) digits)
-spelled_ends (b ∷ n) (c ∷ m) r e =
-    let (bounds, is) = some_since _ r e in
-    let (both, _) = and_parts _ true bounds in
-    let (first, last) = and_parts _ _ both in
-    subst (SpellsInterval _) is (FromTo (b ∷ n) _ first last)
+spelled_ends = grind (arith, some_since, and_parts, UpTo, From, FromTo)
 
 three_parts : (n m bs : List ℕ) (rest : List (List ℕ)) → IsSplit is_dash bs rest
     → interval_of_parts (n ∷ m ∷ rest) ≡ None
@@ -349,7 +327,7 @@ reads_interval (b ∷ bs) r h =
 
 pub accepts_cut_lists : CutListMatchesGrammar
 accepts_cut_lists = matches_grammar element_interval IsIntervalElement (record {
-  from = λ e r (spells, valid). accepts_interval e r spells valid;
+  from = search (rules, accepts_interval);
   to = reads_interval;
   whole = λ e r (spells, _). unbroken_interval e r spells;
 })
@@ -374,9 +352,6 @@ AreSeparated-more : (low : ℕ) (kept : List Interval) (r s : Interval) → r.la
     → AreSeparated low (kept ++ r ∷ []) → AreSeparated low ((kept ++ r ∷ []) ++ s ∷ [])
 AreSeparated-more low [] r s gap proper separated = grind arith
 AreSeparated-more low (k ∷ kept) r s gap proper separated = grind (arith, AreSeparated-more (k.last + 1) kept)
-
-abbrev holds : ℕ → Interval → Bool
-holds n r = leb r.first n && leb n r.last
 
 InOrder-lower : (low high : ℕ) (rest : List Interval) → low ≤ high → AreSortedFrom high rest → AreSortedFrom low rest
 InOrder-lower low high [] h ordered = tt
@@ -439,9 +414,7 @@ spelled_field = grind arith
 
 reads_field : (e : List ℕ) (f : OutField) → Spelled e f (element_field e)
 reads_field [] f = λ h. cc
-reads_field (b ∷ []) f = cond_both _ _ _ (Spelled _ f)
-    (λ t h. let is : Join ≡ f = cc in rw (eqb-true b 48 t) (subst (IsFieldElement _) is (JoinField, tt)))
-    (λ t h. cc)
+reads_field (b ∷ []) f = grind (arith, eqb-true, JoinField)
 reads_field (b ∷ c ∷ n) f =
     cond_both (not (eqb c 46)) _ _ (Spelled _ f) (λ t h. cc)
     (λ point. cond_both (eqb b 49) _ _ (Spelled _ f)
@@ -453,7 +426,7 @@ reads_field (b ∷ c ∷ n) f =
 
 pub accepts_out_lists : OutListMatchesGrammar
 accepts_out_lists = matches_grammar element_field IsFieldElement (record {
-  from = λ e f (spells, valid). accepts_field e f spells valid;
+  from = search (rules, accepts_field);
   to = reads_field;
   whole = λ e f (spells, _). unbroken_field e f spells;
 })

@@ -19,7 +19,7 @@ use proofs.Common.{refl, replicate, result_map_both, rules, segments_of, sequenc
 use proofs.Common.{suc, sym, take, take_all, true, zero, ℕ, ◌++◌, ◌+◌, ◌-◌, ◌<◌, ◌||◌, ◌∙◌, ◌∷◌, ◌≡◌, ◌≢◌, ◌≤◌}
 use proofs.ListElements.{append_ok as onto, append_ok-nil, cons_ok-append_ok, reads_first}
 use Rattle.ptlangs.specs.TrClasses.{all_bytes, class_bytes, span}
-use Rattle.ptlangs.specs.TrParsing.{class_of, classes_match, marked_members, members_from}
+use Rattle.ptlangs.specs.TrParsing.{classes_match, marked_members, members_from}
 use Rattle.ptlangs.specs.TrPlan.{are_paired, class_offsets, has_byte, has_other_case_at, last_position, members}
 use Rattle.ptlangs.specs.TrPlan.{next_index_or, padded_to, segment}
 use Rattle.ptlangs.specs.declared.faults.SetFaultKind.TheVariants.{ClassPlace}
@@ -33,10 +33,9 @@ use Rattle.std.proofs.lemmas.List.Folds.{list_any-append, list_any_at}
 use Rattle.std.proofs.lemmas.List.FromFn.{get_or-map-range_with_len, get_or-range_with_len, length-map-range_with_len}
 use Rattle.std.proofs.lemmas.List.FromFn.{length-range_with_len}
 use Rattle.std.proofs.lemmas.List.{drop-map, drop-replicate, get_or-replicate, get_or_default, length-map}
-use Rattle.std.proofs.lemmas.List.{length-replicate, length-set, map-id, same_lists, take-append-drop, take-map}
+use Rattle.std.proofs.lemmas.List.{length-replicate, length-set, same_lists, take-append-drop, take-map}
 use Rattle.std.proofs.lemmas.Map.Views.{any-filter_same}
 use Rattle.std.proofs.lemmas.Option.{slice_get-get_or, slice_get_cases, slice_get_past, slice_get_within}
-use Rattle.std.proofs.lemmas.List.{get_or-take}
 use Rattle.std.proofs.lemmas.List.Sums.{length-filter}
 use Rattle.std.specs.List.{last_or}
 use Rattle.std.specs.Option.{option_and_then}
@@ -155,9 +154,7 @@ member_bytes-members = grind (arith, member_bytes-plain)
 
 pub member_bytes-array : (n : ℕ) (ps : List Segment) → member_bytes (marked_array n ps) ≡ array n ps
 member_bytes-array n [] = refl
-member_bytes-array n (p ∷ ps) =
-    map-append _ _ _
-    ∙ (λ i. member_bytes-members (class_of p) (members n p) i ++ member_bytes-array n ps i)
+member_bytes-array n (p ∷ ps) = grind (arith, map-append, member_bytes-members, member_bytes-array n ps)
 
 pub length-marked : (n : ℕ) (x : Segment) → length (marked_members n x) ≡ length (members n x)
 length-marked n x = grind (arith, length-map, member_bytes-members)
@@ -297,10 +294,7 @@ paired-arrays = grind (arith, class_offsets-are, paired_from)
 pub paired-plain : (n : ℕ) (bytes : List ℕ) (seconds : List Segment)
     → are_paired [] (class_offsets n 0 seconds) ≡ all_paired (plain_members bytes) (marked_array n seconds)
 paired-plain n bytes seconds =
-    let none = sym (search (rules, offsets))
-    ∙ offsets-plain 0 bytes [] in
-    (λ i. are_paired (sym none i) (class_offsets-are n seconds 0 i))
-    ∙ paired_from (plain_members bytes) _ 0
+    grind (arith, offsets-plain 0 bytes [], class_offsets-are, paired_from (plain_members bytes), append-nil)
 
 -- the entries of a table of all bytes
 length-table : {X : Type 0} (f : ℕ → X) → length (map f all_bytes) ≡ 256
@@ -343,13 +337,9 @@ pub contents-push : (old : Contents) (bytes : List ℕ) (b more : ℕ) → b < 2
     → record { has = set old.has b true; length = old.length + (1 + more) }
     ≡ contents_of (bytes ++ b ∷ replicate more b)
 contents-push old bytes b more h e =
-    let after = bytes ++ b ∷ replicate more b in
     let table =
-    set-table _ _ b true h (has_byte-same b bytes _)
-    (λ k n. has_byte-other b k bytes (suc more) n) in
-    let counted : length bytes + (1 + more) ≡ length after =
-    omega (arith, length-append bytes (b ∷ replicate more b), length-replicate more b) in
-    rw (e, table, counted) refl
+    set-table _ _ b true h (has_byte-same b bytes (replicate more b)) (λ k n. has_byte-other b k bytes (suc more) n) in
+    grind (arith, table, length-append, length-replicate)
 
 pub contents-new : record { has = replicate 256 false; length = 0 } ≡ contents_of []
 contents-new = rw none_contained refl
@@ -373,7 +363,7 @@ others_below bytes n = filter (λ b. not (has_byte b bytes)) (take n all_bytes)
 pub others_below-more : (bytes : List ℕ) (n : ℕ) (t : Bool) → n < 256 → has_byte n bytes ≡ t
     → others_below bytes (n + 1) ≡ others_below bytes n ++ cond t [] (n ∷ [])
 others_below-more bytes n t low e = filter_more _ all_bytes n 0 (omega (arith, length-all))
-    ∙ rw (get_or-all n 0 low, e) (ap (λ xs. others_below bytes n ++ xs) (grind arith))
+    ∙ rw (get_or-all n 0 low, e) (grind arith)
 
 pub others_below-all : (bytes : List ℕ) {n : ℕ} → n ≡ 256 → others_below bytes n ≡ complement_of bytes
 others_below-all bytes e = grind (arith, take_all, length-all)
@@ -534,7 +524,7 @@ takes_next : (o : Option ℕ) (n : ℕ) (to : List Member) (t : Member) (after :
 takes_next o zero [] t after e = absurd (cc)
 takes_next o zero (x ∷ to) t after e = grind arith
 takes_next o (suc n) [] t after e = absurd (cc)
-takes_next o (suc n) (x ∷ to) t after e = let next = takes_next (Some x.byte) n to t after e in search rules
+takes_next o (suc n) (x ∷ to) t after e = grind (arith, takes_next (Some x.byte) n to t after)
 
 -- no byte of the second array is left
 ended : (n : ℕ) (to : List Member) → AllOk (drop n to) ≡ [] → length to ≤ n
@@ -616,10 +606,7 @@ plain-passed : (bytes : List ℕ) (rest : List Member) (after : List (Result Mem
     → AllOk rest ≡ AllOk (plain_members bytes) ++ after
     → (more : List Member) × (after ≡ AllOk more) × (all_paired [] rest ≡ all_paired [] more)
 plain-passed [] rest after e = (rest, sym e, refl)
-plain-passed (b ∷ bytes) rest after e =
-    let (next, is, left) = split_ok rest _ _ e in
-    let (more, end, decides) = plain-passed bytes next after (sym left) in
-    search rules
+plain-passed (b ∷ bytes) rest after e = grind (arith, split_ok rest, plain-passed bytes)
 
 module _ {from to : List Member} {old : Images} (p : IsPassing from to old) where
   pub passing-next : (second : Bytes) (t : Member) → bytes_left old.second ≡ Ok t ∷ bytes_left second

@@ -5,7 +5,7 @@ pub use Rattle.std.proofs.Common.{length-take, map, max, min, not, refl, rules, 
 pub use Rattle.std.proofs.Common.{true, w8, zero, ℕ, ◌%◌, ◌*◌, ◌++◌, ◌+◌, ◌-◌, ◌<◌, ◌==◌, ◌^◌}
 pub use Rattle.std.proofs.Common.{◌∙◌, ◌∷◌, ◌≡◌, ◌≢◌, ◌≤◌, ◌⊎◌}
 pub use Rattle.std.proofs.Math.Seq.{take-add, take-append-add}
-pub use Rattle.std.proofs.lemmas.Bool.{eq-eqb, eqb-false, eqb-true, false≢true}
+pub use Rattle.std.proofs.lemmas.Bool.{eq-eqb, eqb-false, eqb-true}
 pub use Rattle.std.proofs.lemmas.Bool.Decides.{nat_tests}
 pub use Rattle.std.proofs.lemmas.Grind.{common_steps}
 pub use Rattle.std.proofs.lemmas.List.{append-nil, drop-drop, drop-take, drop_all}

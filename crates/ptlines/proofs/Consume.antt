@@ -1,6 +1,6 @@
 -- Consuming bytes from the block moves its start, so what is consumed and what is still buffered are the two parts of
 -- what was buffered.
-use Rattle.ptlines.proofs.Common.{◌≡◌, ℕ, ◌+◌, ◌-◌, ◌≤◌, List, length, take, drop, sym, ◌∙◌, ap, arith, slice_range}
+use Rattle.ptlines.proofs.Common.{◌≡◌, ℕ, ◌+◌, ◌-◌, ◌≤◌, List, length, take, drop, sym, arith, slice_range}
 use Rattle.ptlines.proofs.Common.{drop-drop, drop-take, Reader, IsSound, ReaderAdvance, common_steps}
 use Rattle.ptlines.proofs.KnownBytes.{prepend_known-append}
 
@@ -13,8 +13,7 @@ range_take b s e n fits = grind (arith, common_steps)
 pub range_drop : (b : List ℕ) (s e n : ℕ) → s + n ≤ e → slice_range b (s + n) e ≡ drop n (slice_range b s e)
 range_drop b s e n fits =
     let whole : n + (e - (s + n)) ≡ e - s = omega arith in
-    sym (ap (λ k. drop n (take k (drop s b))) (sym whole) ∙ drop-take n (e - (s + n)) (drop s b)
-    ∙ ap (λ l. take (e - (s + n)) l) (drop-drop n s b))
+    sym (grind (arith, drop-take, drop-drop))
 
 pub advance_take : (old new : Reader) (n : ℕ) → n ≤ length old.buffered → new.buffered ≡ drop n old.buffered
     → new.left ≡ old.left → new.pulled ≡ old.pulled → new.refused ≡ old.refused → new.terminator ≡ old.terminator

@@ -21,7 +21,7 @@ unfolding known_length
 buffer_lag_bytes None mid is buffered waits bytes first second all few = (
   buffered ++ bytes,
   cc,
-  omega (arith, length-append buffered bytes),
+  grind (arith, length-append),
 )
 buffer_lag_bytes (Some t) mid is buffered waits bytes first second all few = (
   first.front ++ second.front,

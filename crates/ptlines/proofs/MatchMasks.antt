@@ -1,9 +1,9 @@
 -- The number of trailing zeros of a match mask is the index of the first match, and a mask of zero means that there is
 -- none. Masks of adjacent chunks are combined by shifting and adding.
 use Rattle.ptlines.proofs.Common.{◌≡◌, ℕ, ◌+◌, ◌*◌, ◌^◌, ◌%◌, ◌<◌, ◌≤◌, Bool, not, List, [], ◌∷◌, ◌++◌, rules}
-use Rattle.ptlines.proofs.Common.{Option, Some, length, take, drop, map, refl, sym, ◌∙◌, ap, subst, arith, bit_or}
+use Rattle.ptlines.proofs.Common.{Option, Some, length, map, refl, sym, ◌∙◌, ap, subst, arith, bit_or}
 use Rattle.ptlines.proofs.Common.{take-add, drop-drop, length-map, none_from_empty_mask, trailing_mask_l}
-use Rattle.ptlines.proofs.Common.{run_in_chunk_fails, run_in_chunk_stops, length-chunk, mask_l-lt, false≢true}
+use Rattle.ptlines.proofs.Common.{run_in_chunk_fails, run_in_chunk_stops, length-chunk, mask_l-lt}
 use Rattle.ptlines.proofs.Common.{prefix_len, mask_l, chunk, Nowhere, NoneBefore, Passes, IsFirst}
 use Rattle.std.proofs.Math.Nat.{pow-succ', mul_assoc}
 use Rattle.std.proofs.lemmas.Grind.{or_before_shift, common_steps}
@@ -12,7 +12,7 @@ use lib.Count.{count_trailing_zeros}
 pub none_if_zero_mask_at : (test : ℕ → Bool) (hay : List ℕ) (i n : ℕ) → i + n ≤ length hay
     → mask_l (map test (chunk i n hay)) ≡ 0 → Nowhere (Passes test hay) i (i + n)
 none_if_zero_mask_at test hay i n room none k low high passes =
-    false≢true (sym (none_from_empty_mask test hay i n 0 room none k low high) ∙ passes)
+    grind (arith, none_from_empty_mask)
 
 -- if the mask is not zero, the first match lies within the list
 prefix_len_lt : (test : ℕ → Bool) (xs : List ℕ) → 0 < mask_l (map test xs)
@@ -26,20 +26,7 @@ pub first_at_lowest_bit_of_chunk : (test : ℕ → Bool) (hay : List ℕ) (i n :
     → NoneBefore (Passes test hay) i (i + n) (i + count_trailing_zeros 64 (mask_l (map test (chunk i n hay))))
     × Passes test hay (i + count_trailing_zeros 64 (mask_l (map test (chunk i n hay))))
 first_at_lowest_bit_of_chunk test hay i n few room some =
-    let v = chunk i n hay in
-    let at = count_trailing_zeros 64 (mask_l (map test v)) in
-    let long : length v ≡ n = length-chunk i n hay room in
-    let counted : at ≡ prefix_len (λ x. not (test x)) v = trailing_mask_l test 64 v (omega (arith, long, few)) some in
-    let near : at < n = grind (arith, prefix_len_lt) in (
-      record {
-        low = omega arith;
-        high = omega (arith, near);
-        before =
-            λ k low high passes. false≢true (sym (run_in_chunk_fails test hay i n at 0 room counted k low high)
-            ∙ passes);
-      },
-      run_in_chunk_stops test hay i n at 0 room counted near,
-    )
+    grind (arith, length-chunk, trailing_mask_l, prefix_len_lt, run_in_chunk_fails, run_in_chunk_stops)
 
 -- ---- the same facts for a number that equals the mask
 
@@ -76,8 +63,7 @@ mask_append (f ∷ front) back =
     )
 
 chunk_append : {X : Type 0} (i m n : ℕ) (xs : List X) → chunk i (m + n) xs ≡ chunk i m xs ++ chunk (i + m) n xs
-chunk_append {X} i m n xs = take-add m n (drop i xs)
-    ∙ ap (λ l. take m (drop i xs) ++ take n l) (drop-drop m i xs)
+chunk_append {X} i m n xs = grind (arith, take-add, drop-drop)
 
 -- the mask of 16 + n bytes is the mask of the first 16 plus 2^16 times that of the next n
 mask_16_append : (test : ℕ → Bool) (hay : List ℕ) (i n : ℕ) → i + 16 ≤ length hay
@@ -135,7 +121,7 @@ module _ (test : ℕ → Bool) (hay : List ℕ) where
       → far * 65536 % 18446744073709551616 ≡ mask_l (map test (chunk 0 64 hay))
   mask_64 near far room is none rest =
       let all : mask_l (map test (chunk 0 64 hay)) ≡ mask_l (map test (chunk 0 16 hay))
-      + 65536 * mask_l (map test (chunk 16 48 hay)) = mask_16_append test hay 0 48 (omega (arith, room)) in
+      + 65536 * mask_l (map test (chunk 16 48 hay)) = grind (arith, mask_16_append) in
       let flags = map test (chunk 16 48 hay) in
       let few : far < 2 ^ 48 = subst (λ m. m < 2 ^ 48) (sym rest)
       (subst (λ n. mask_l flags < 2 ^ n)

@@ -1,6 +1,6 @@
 -- The effects of pushes compose: two pushes are one push of the concatenation, and after a failed write nothing changes
 -- any more.
-use Rattle.ptlines.proofs.Common.{◌≡◌, ℕ, true, false, List, [], ◌++◌, Option, sym, ◌∙◌, ap, arith, append_assoc}
+use Rattle.ptlines.proofs.Common.{◌≡◌, ℕ, true, false, List, [], ◌++◌, Option, arith}
 use Rattle.ptlines.proofs.Common.{Result, Ok, Err, OnOk, OnErr, append_known, Output, with_written_out}
 use Rattle.ptlines.proofs.Common.{with_direct_write, IsKnownPrefix, PushEffect, PushPost, OutputErr, rules}
 use Rattle.ptlines.proofs.Common.{common_steps}
@@ -53,13 +53,9 @@ pub push_broken : (old new : Output) (written_out bytes more : List ℕ) → old
     → old.buffered ++ bytes ≡ written_out ++ more → OutputErr old new written_out → PushEffect old new bytes
 push_broken old new written_out bytes more clean is broken =
     let text_new : output_bytes new ≡ append_known old.accepted broken.front =
-    ap (λ s. append_known new.accepted s) broken.buffered ∙ append_known-nil new.accepted ∙ broken.accepted in
+    grind (arith, append_known-nil) in
     let all : append_known (output_bytes old) bytes ≡ append_known (output_bytes new) (broken.rest ++ more) =
-    append_known-append old.accepted old.buffered bytes
-    ∙ ap (λ s. append_known old.accepted s)
-    (is ∙ ap (λ s. s ++ more) broken.split ∙ append_assoc broken.front broken.rest more)
-    ∙ sym (append_known-append old.accepted broken.front (broken.rest ++ more))
-    ∙ ap (λ t. append_known t (broken.rest ++ more)) (sym text_new) in
+    grind (arith, common_steps, append_known-append, broken.split, broken.front, broken.rest) in
     grind arith
 
 -- the result of a direct write with an empty block

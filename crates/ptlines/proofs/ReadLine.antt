@@ -8,7 +8,7 @@ use Rattle.ptlines.proofs.Common.{IsFirst, IsFirstByte, Passes, is_byte, slice_r
 use Rattle.ptlines.proofs.KnownBytes.{prepend_known-append}
 use Rattle.ptlines.proofs.SlotTotals.{total_bytes_set}
 use Rattle.ptlines.proofs.LineSearch.{IsLine-append, line_before_terminator, take_with_terminator, advance_ok_take}
-use Rattle.ptlines.proofs.Consume.{length_range, rest_of_range}
+use Rattle.ptlines.proofs.Consume.{rest_of_range}
 
 pub advance_trans : (a b c : Reader) (xs ys : List ℕ) → ReaderAdvance a b xs → ReaderAdvance b c ys
     → ReaderAdvance a c (xs ++ ys)
@@ -65,15 +65,8 @@ budget_decreases = grind arith
 pub fill_line : (old now new : Reader) (before so_far after : Slots) (slot : ℕ) → slot < length before.lines
     → old.pulled < 2 ^ 63 → LineSoFar old now before so_far slot → PieceLine now new so_far after slot
     → FillLine old new before after slot
-fill_line old now new before so_far after slot within short begun last = grind (
-  arith,
-  budget_decreases,
-  all,
-  length-append,
-  IsLine-append,
-  same,
-  appended_twice,
-)
+fill_line old now new before so_far after slot within short begun last =
+    grind (arith, budget_decreases, all, length-append, IsLine-append, same, appended_twice)
   where
     same : now.terminator ≡ old.terminator
     same = begun.advance_ok.reads.terminator
@@ -83,7 +76,7 @@ fill_line old now new before so_far after slot within short begun last = grind (
         subst (λ b. AdvanceOk old new b)
         (ap (λ end. begun.piece ++ (last.piece ++ end ∷ [])) same
         ∙ sym (append_assoc begun.piece last.piece (old.terminator ∷ [])))
-        (advance_ok_trans _ _ _ _ _ begun.advance_ok last.advance_ok)
+        (search (rules, advance_ok_trans))
 
 not_empty : (n : ℕ) → 0 < n → (n == 0) ≡ false
 not_empty = grind (arith, nat_tests)
@@ -122,12 +115,10 @@ module _ (n : ℕ) (old new : Reader) (block front : List ℕ) (start end size :
   fill_short_line = grind (
     arith,
     common_steps,
-    length_range,
     first_in_block,
     rest_of_range,
     take_with_terminator,
     advance_ok_take,
     line_before_terminator,
     budget_decreases,
-    length-append,
   )

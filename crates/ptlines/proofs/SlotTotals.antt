@@ -67,10 +67,7 @@ pub slot_lines-swap : (slots : List SlotBuffer) (a b : ℕ) → a < length slots
     → slot_lines (swap slots a b) ≡ swap (slot_lines slots) a b
 slot_lines-swap [] a b a_in b_in = refl
 slot_lines-swap (s ∷ more) a b a_in b_in =
-    let slots : List SlotBuffer = s ∷ more in
-    map-set line_of (set slots a (get_or slots b s)) b (get_or slots a s)
-    ∙ (λ i. set (map-set line_of slots a (get_or slots b s) i) b (sym (get_or-map line_of slots a s s.line a_in) i))
-    ∙ (grind (arith, common_steps))
+    grind (arith, map-set, get_or-map)
 
 -- the invariant after an exchange
 pub counted_after_swap : (slots : List SlotBuffer) (a b : ℕ) {byte_count peak : ℕ} → a < length slots → b < length slots
@@ -91,13 +88,13 @@ counted_after_swap slots a b {byte_count} {peak} a_in b_in counted =
 module _ (slots after : List SlotBuffer) (slot : ℕ) (had new : SlotBuffer) (d : SlotBuffer)
     (within : slot < length slots) (is : after ≡ set slots slot new) (was : had ≡ get_or slots slot d) where
   low : slot < length (slot_lines slots)
-  low = omega (arith, within, length-map slots line_of)
+  low = grind (arith, length-map)
 
   line_was : had.line ≡ get_or (slot_lines slots) slot []
   line_was = grind (arith, common_steps)
 
   lines_are : slot_lines after ≡ set (slot_lines slots) slot new.line
-  lines_are = ap slot_lines is ∙ map-set line_of slots slot new
+  lines_are = grind (arith, map-set)
 
   lengths_after_set : length new.line ≤ 2 ^ 63 → LengthsAreBounded (slot_lines slots)
       → LengthsAreBounded (slot_lines after)
@@ -137,11 +134,7 @@ module _ (slots : List SlotBuffer) (slot : ℕ) {byte_count before : ℕ} (had :
         total = total;
         below_peak = less;
         lines = search (rules, lengths_after_set);
-        buffers = buffers_after_set slots after slot had new had within refl was room peak (omega (
-          arith,
-          total,
-          less,
-        ))
+        buffers = buffers_after_set slots after slot had new had within refl was room peak (grind arith)
             (grind arith);
       }
 
@@ -183,8 +176,7 @@ module _ (slots : List SlotBuffer) {peak : ℕ} {denied : Bool} {now : Slots} (s
       → byte_count ≡ total_bytes (slot_lines (set slots slot new)) → peak_now ≡ max peak byte_count
       → store_of (set slots slot new) peak_now denied ≡ with_line now slot bytes
   store_after_set new {bytes} new_is counts peak_is =
-      let lines = map-set line_of slots slot new ∙ ap (set (slot_lines slots) slot) new_is in
-      cc
+      grind (arith, map-set)
 
 -- the invariant after an empty slot was added
 pub counted_after_add : (slots : List SlotBuffer) {after : List SlotBuffer} {byte_count peak : ℕ}
@@ -266,9 +258,7 @@ pub copy_lines : (lines cleared after : List (List ℕ)) (from to : ℕ) → fro
     → cleared ≡ set lines to [] → after ≡ set cleared to (get_or cleared to [] ++ get_or cleared from [])
     → after ≡ set lines to (get_or lines from [])
 copy_lines lines cleared after from to differ to_in cleared_is after_is =
-    let empty : get_or cleared to [] ≡ [] = search rules in
-    let source : get_or cleared from [] ≡ get_or lines from [] = search rules in
-    after_is ∙ (cc) ∙ set-set lines to [] (get_or lines from [])
+    search (rules, set-set)
 
 -- the total after that copy
 pub copy_total : (lines cleared after : List (List ℕ)) (from to byte_count size : ℕ) (v : List ℕ) → from ≢ to

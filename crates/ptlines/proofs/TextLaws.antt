@@ -137,10 +137,10 @@ unlines-lines end (b ∷ c ∷ bytes) = put (b == end) refl (unlines-lines end (
         ≡ (b ∷ c ∷ bytes) ++ end ∷ []))
     put true e (inl h) = grind (arith, eqb-true)
     put true e (inr (n, u, h)) =
-        inr ((λ z. cc), (λ x. u (tail_ends end b c bytes x)), rw (eqb-true b end e) (ap (λ xs. end ∷ xs) h))
+        inr ((λ z. cc), (λ x. u (tail_ends end b c bytes x)), grind (arith, eqb-true))
     put false e (inl h) = grind (arith, unlines_onto)
     put false e (inr (n, u, h)) =
-        inr ((λ z. cc), (λ x. u (tail_ends end b c bytes x)), unlines_onto end b c bytes ∙ ap (λ xs. b ∷ xs) h)
+        inr ((λ z. cc), (λ x. u (tail_ends end b c bytes x)), grind (arith, unlines_onto))
 
 pub the_lines : LinesAreUnique
 the_lines = grind (arith, lines_are, unlines-lines, lines-only)

@@ -2,17 +2,16 @@
 -- So each step of the merge extends the output by the entries of its key, and the loop invariant of the merge carries
 -- over.
 use Rattle.ptmerge.proofs
-use proofs.Common.{◌≡◌, ℕ, ◌<◌, List, [], ◌∷◌, ◌++◌, Ok, Err, refl, sym, arith, Comm, Output, PushEffect, Reader, Slots}
-use proofs.Common.{line, unlines, Side, First, Second, Sorted, Ended, Lines, MergeTool, entries_by_key, AdvanceOkPost}
-use proofs.Common.{AdvancePre, MergeState, MergePost, merge_state, Cmp, Key, both, with_side, HaveEqualKeys}
-use proofs.Common.{HasOnlyLeastKey, IsDisorderDecided, ClearFourSlotsPost, suc, append-nil, Bool, MergeRunPre}
+use proofs.Common.{◌≡◌, ℕ, ◌<◌, List, [], ◌∷◌, ◌++◌, refl, sym, arith, Comm, Output, PushEffect, Reader, Slots}
+use proofs.Common.{line, unlines, Side, First, Second, Sorted, Lines, MergeTool, entries_by_key, AdvanceOkPost}
+use proofs.Common.{AdvancePre, MergeState, merge_state, Cmp, Key, both, with_side, HaveEqualKeys}
+use proofs.Common.{HasOnlyLeastKey, suc, append-nil, Bool, MergeRunPre}
 use proofs.MergeLemmas.{BetweenSteps, between_next, advance_pre, reads_less, EndsIfFails}
 use proofs.MergeLemmas.{LoopInvariant, advance_ok, goes_merging, passing_now, runs_on, read_facts_current}
 use proofs.MergeLemmas.{iteration_fails, alone, wrote_alone, alone_breaks, reads_ahead, place_is, wrote_and_sent}
-use proofs.MergeLemmas.{ends_well, ends_fallen, open_merge, IsKeyOrder}
+use proofs.MergeLemmas.{open_merge, IsKeyOrder}
 use proofs.MergeLemmas.{same_bytes, AllWritten, MergeInvariant, line_is_least_run, lag_invariant_starts}
 use proofs.MergeLemmas.{write_least_run, all_keys, at_current_line, state_by_side, IsOpenMerge, IsLineByLine}
-use Rattle.ptmerge.specs.declared.faults.MergeFault.TheVariants as faults
 use Rattle.std.proofs.Common.{rules}
 use Rattle.ptmerge.specs.Comm.{comm_with, entries, column_entries, tab_if_shown}
 
@@ -34,9 +33,9 @@ abbrev tabs_of : Comm → Side → List ℕ
 tabs_of job First = []
 tabs_of job Second = tab_if_shown job.hide1 ++ []
 
-module _ (job : Comm) (x : List ℕ) where
-  entries_both : (n k : ℕ) → entries job x (suc n) (suc k) ≡ entries job x 1 1 ++ entries job x n k
-  entries_both = grind (arith, no_entries, one_more_entry)
+entries_both : (job : Comm) (x : List ℕ) (n k : ℕ)
+    → entries job x (suc n) (suc k) ≡ entries job x 1 1 ++ entries job x n k
+entries_both = grind (arith, no_entries, one_more_entry)
 
 module _ (job : Comm) (cmp : Cmp) (key : Side → Key) where
   is_line_by_line : IsLineByLine (comm_with job cmp key)
@@ -76,6 +75,7 @@ module _ {job : Comm} {cmp : Cmp} {key : Side → Key} {old now : MergeState} {o
   open t use {
     opened as w,
     whole_line_keys,
+    loop_invariant,
     loop_invariant.{ls, p, b, sides, merge_invariant, cursors as lines_before},
     between,
   }
@@ -106,13 +106,12 @@ module _ {job : Comm} {cmp : Cmp} {key : Side → Key} {old now : MergeState} {o
         opened = w;
         whole_line_keys = whole_line_keys;
         loop_invariant = rw (← place_is s one two one2 two2 h.continues.others)
-            (runs_on lines_before s step.status_is h.came
-            (wrote_alone lines_before step between.clean merge_invariant wrote_line).0);
+            (runs_on lines_before s step.status_is h.came (wrote_alone loop_invariant between.clean step wrote_line).0);
         between = between_next between s h.continues;
       }
 
       pub alone_fails : EndsIfFails tool old now s (both one two s) new
-      alone_fails = alone_breaks lines_before step between.clean merge_invariant wrote_line
+      alone_fails = search (rules, alone_breaks, wrote_line)
 
   module _ (step : HaveEqualKeys cmp key (both one two) now.store) where
     -- after the first input advanced: the second one is still at the line
@@ -138,7 +137,7 @@ module _ {job : Comm} {cmp : Cmp} {key : Side → Key} {old now : MergeState} {o
         let x = head First in
         write_least_run w.o (key First x) both_written (both (x ∷ []) (head Second ∷ []))
         (elim [ First ↦ line_is_least_run w.o h1.bound refl | Second ↦ line_is_least_run w.o h2.bound (sym step.same) ])
-        (elim [ First ↦ h1.all | Second ↦ h2.all ]) (w.alone.none (key First x))
+        (grind arith) (w.alone.none (key First x))
         (λ r c. entries_both job (key First x) _ _) between.clean merge_invariant wrote
 
     module _ {mid : Output} {tabs : List ℕ} (led : tabs ≡ tab_if_shown job.hide1 ++ tab_if_shown job.hide2)
@@ -156,7 +155,7 @@ module _ {job : Comm} {cmp : Cmp} {key : Side → Key} {old now : MergeState} {o
       module _ {one2 two2 : Sorted} {reader : Reader} {after : Slots}
           (h : Advances First one2 two2 reader after mid) {new : Output} (written_out : PushEffect mid new []) where
         wrote_line_out : MergeInvariant tool b both_written old.out new
-        wrote_line_out = (wrote_both (wrote_and_sent _ _ _ _ h.continues.clean wrote_pair written_out)).0
+        wrote_line_out = (wrote_both (search (rules, wrote_and_sent, wrote_pair))).0
 
         pub second_fails : EndsIfFails tool old (state_by_side (both reader (now.reader Second)) new after) Second two2
             new
@@ -176,17 +175,6 @@ module _ {job : Comm} {cmp : Cmp} {key : Side → Key} {old now : MergeState} {o
               opened = w;
               whole_line_keys = whole_line_keys;
               loop_invariant = rw k.continues.others (runs_on g Second step.second came
-                  (goes_merging lines_before First step.first h.came wrote_line_out));
-              between = between_next (between_next between First h.continues) Second k.continues;
+                  (search (rules, goes_merging, wrote_line_out)));
+              between = grind (arith, between_next, between);
             }
-
-  -- ---- the end
-
-  module _ {after : Slots} (clear : ClearFourSlotsPost now.store after) where
-    pub eof : ((side : Side) → (both one two side).status ≡ Ended)
-        → MergePost tool old (state_by_side now.reader now.out after) (Ok tt)
-    eof step = ends_well lines_before merge_invariant between.clean clear step
-
-    pub disordered : {s : Side} {n : ℕ} → IsDisorderDecided cmp key (both one two) now.store s n
-        → MergePost tool old (state_by_side now.reader now.out after) (Err (faults.Disorder s n))
-    disordered = search (rules, ends_fallen, lines_before)

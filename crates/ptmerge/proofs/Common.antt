@@ -7,33 +7,27 @@ pub use Rattle.std.proofs.lemmas.Bool.Decides.{nat_tests}
 pub use Rattle.std.proofs.lemmas.Cmp.{tied_itself}
 pub use Rattle.std.proofs.lemmas.List.{append-nil, drop_more, length-set, length_push, nil_from_length}
 pub use Rattle.std.proofs.lemmas.List.Concat.{flat_map-append}
-pub use Rattle.std.proofs.lemmas.List.Elements.{filter-append}
 pub use Rattle.std.specs.Cmp.Lexicographic.{bytes_decides}
 pub use Rattle.std.specs.List.{last_or, range_with_len, slice_split}
 pub use Rattle.std.specs.Ordering.{is_eq, is_gt, is_le, is_lt}
-pub use Rattle.std.specs.Prelude.{IfSome, MatchOption, bytes_eq, filter, flat_map, if◌then◌else◌, is_some, nat_lt}
+pub use Rattle.std.specs.Prelude.{MatchOption, bytes_eq, filter, flat_map, if◌then◌else◌, is_some, nat_lt}
 pub use Rattle.std.specs.Prelude.{option_map, position, remove, unwrap_or}
-pub use Rattle.std.specs.declared.cmp.Ordering.{Ordering}
 pub use Rattle.std.specs.declared.cmp.Ordering.TheVariants.{Equal, Greater, Less}
 pub use Rattle.ptlangs.specs.Jobs.{Comm, Join, comm_job, terminator, join_job}
-pub use Rattle.ptlines.proofs.Received.{received_with}
 pub use Rattle.ptlines.proofs.ReadLine.{advance_ok_trans, line_of_with_line, advance_trans}
 pub use Rattle.ptlines.proofs.Push.{push_nothing, push_trans}
-pub use Rattle.ptlines.specs.Calls.{CallOutcome, AllPushed, with_input}
-pub use Rattle.ptlines.proofs.Calls.{reads_nothing}
-pub use Rattle.ptlines.proofs.TextLaws.{unlines-append, unlines_push}
-pub use Rattle.ptlines.specs.ReadLine.{FillLine}
+pub use Rattle.ptlines.proofs.TextLaws.{unlines-append}
 pub use Rattle.ptlines.specs.Received.{IsConsistent, IsPrefix, Received, known_lines}
 pub use Rattle.ptlines.specs.Outputs.{Output, PushPost, PushEffect}
-pub use Rattle.ptlines.specs.Readers.{AdvanceOk, IsDone, IsSound, Reader, ReaderAdvance, budget}
+pub use Rattle.ptlines.specs.Readers.{Reader, budget}
 pub use Rattle.ptlines.specs.Slots.{Slots, line, total_bytes, with_new_slot, with_denied, with_line}
 pub use Rattle.ptlines.specs.Text.{AreLines, IsLine, complete_lines, lines, max_length, unlines, is_blank}
 pub use Rattle.ptmerge.specs.JoinGroup.{ClearGroupPost, CopyToGroupPost, group}
-pub use Rattle.ptmerge.specs.Join.{output_separator, entry, join_fields, max_over_keys, max_group_bytes}
-pub use Rattle.ptmerge.specs.Join.{max_group_lines, other_fields, pair_entries}
+pub use Rattle.ptmerge.specs.Join.{output_separator, entry, join_fields}
+pub use Rattle.ptmerge.specs.Join.{other_fields, pair_entries}
 pub use Rattle.ptmerge.specs.JoinFields.{is_separator, entry_with_list, remaining_fields, is_single_spaced, with_prefix}
-pub use Rattle.ptmerge.specs.MergeSpec.{FirstDisorder, Lines, MergeTool, entries_by_key, disorder, earlier_disorder}
-pub use Rattle.ptmerge.specs.MergeSpec.{distinct_keys, entries_of_key, first_disorder, insert_key, is_below, is_decided}
+pub use Rattle.ptmerge.specs.MergeSpec.{FirstDisorder, Lines, MergeTool, entries_by_key, disorder}
+pub use Rattle.ptmerge.specs.MergeSpec.{distinct_keys, entries_of_key, first_disorder}
 pub use Rattle.ptmerge.specs.MergeSpec.{keys, lines_of, merged_entries, sorted_prefixes, sorted_prefix, is_up_to}
 pub use Rattle.ptmerge.specs.MergeSpec.{lines_with_key}
 pub use Rattle.ptmerge.specs.WriteAndAdvance.{IsReadyToContinue, AdvanceOkPost, WriteFaultPost, AdvancePre}
@@ -42,8 +36,7 @@ pub use Rattle.ptmerge.specs.MergeCall.{merge_end, disordered_line, HasNoLine, I
 pub use Rattle.ptmerge.specs.Orders.{Cmp, Key, byte_cmp, line_cmp}
 pub use Rattle.ptmerge.specs.Cursor.{NextOkPost, HasSlots, same_key_at, status_at}
 pub use Rattle.ptmerge.specs.Sides.{both, other, with_side}
-pub use Rattle.ptmerge.specs.MergeSteps.{HaveEqualKeys, PrecedesInput, HasOnlyLeastKey, IsDisorderDecided}
-pub use Rattle.ptmerge.specs.MergeSlots.{EnsureFourSlotsPost, EnsureFourSlotsErrPost, ClearFourSlotsPost}
+pub use Rattle.ptmerge.specs.MergeSteps.{HaveEqualKeys, PrecedesInput, HasOnlyLeastKey}
 pub use Rattle.ptmerge.specs.declared.faults.MergeFault.{MergeFault}
 pub use Rattle.ptmerge.specs.declared.faults.MergeFault.TheVariants.{Memory, Write}
 pub use Rattle.ptmerge.specs.declared.merging.cursor.Sorted.{Sorted}

@@ -4,27 +4,19 @@
 pub mod Group
 pub mod Fields
 use Rattle.ptmerge.proofs
-use proofs.Common.{NextOkPost, ◌≡◌, ℕ, Bool, true, false, cond, List, [], ◌∷◌, ◌++◌, map, refl, ap, sym, ◌∙◌, ◌+◌, ◌*◌}
-use proofs.Common.{◌≤◌, ◌<◌, Ok, Err, length, arith, append-nil, flat_map-append, Join, Side, First, Second}
-use proofs.Common.{pair_entries, Lines, entries_by_key, Cmp, Key, Output, PushEffect, Reader, Slots, line, unlines}
-use proofs.Common.{MergeFault, Sorted, Head, Ended, IsReadyToContinue, AdvanceOkPost, MergeState, MergePost}
-use proofs.Common.{merge_state, both, with_side, lines_of, Memory, HaveEqualKeys, HasOnlyLeastKey, IsDisorderDecided}
-use proofs.Common.{ClearFourSlotsPost, ◌⊎◌, MergeRunPre, AdvancePre, push_nothing, if◌then◌else◌, max_group_bytes}
-use proofs.Common.{max_group_lines, inl, inr, ClearGroupPost, group, ⊎_elim, ◌-◌, ◌==◌, push_trans, nat_tests}
-use proofs.Common.{length_push, unlines-append, append_assoc, merged_entries, nil_from_length, length-set}
+use proofs.Common.{cond, ◌*◌, Err, flat_map-append, Cmp, MergeFault, IsReadyToContinue, AdvanceOkPost, MergePost}
+use proofs.Common.{merge_state, both, lines_of, Memory, HaveEqualKeys, HasOnlyLeastKey}
+use proofs.Common.{◌⊎◌, MergeRunPre, AdvancePre, push_nothing, inl, inr, ◌==◌}
+use proofs.Common.{nat_tests, length_push, nil_from_length}
 use Rattle.ptmerge.specs.JoinGroup.{IsInItsSlot, IsCopiedToGroup, ReadGroupLineOkPost, ReadGroupLinePost, IsGroup}
 use Rattle.ptmerge.specs.JoinGroup.{JoinStepPre, JoinLinePre, group_end_slot, group_first_slot}
 use proofs.MergeLemmas.{BetweenSteps, between_next, advance_pre, reads_less, open_merge, alone, wrote_alone}
-use proofs.MergeLemmas.{alone_breaks, IsAbove, reads_ahead, place_is, LoopInvariant, CursorsInvariant, EndsIfFails}
-use proofs.MergeLemmas.{Extends, input_split_of, extends, extends_on, total_within, runs_on, n, ends_well, ends_fallen}
-use proofs.MergeLemmas.{valid_cursors_kept, wrote_and_sent, others_stay}
-use proofs.MergeLemmas.{IsLineByLine, at_current_line, IsOpenMerge as OpenMerge, ComeFirst, exit_is_merge_post}
-use proofs.MergeLemmas.{continues, both_begun, all_keys, AtLeast, same_bound, bounds_change, IsKeyOrder}
-use proofs.MergeLemmas.{same_bytes, EachKey-at, low_slot, Continues}
+use proofs.MergeLemmas.{alone_breaks, reads_ahead, place_is, LoopInvariant, Extends, input_split_of}
+use proofs.MergeLemmas.{extends, extends_on, runs_on, valid_cursors_kept, wrote_and_sent}
+use proofs.MergeLemmas.{others_stay, IsLineByLine, IsOpenMerge as OpenMerge, exit_is_merge_post, continues}
+use proofs.MergeLemmas.{same_bound, bounds_change, IsKeyOrder, EachKey-at, Continues}
 use Rattle.ptmerge.specs.declared.tools.join.JoinPhase.{JoinPhase}
-use Rattle.ptmerge.specs.declared.faults.MergeFault.TheVariants as faults
 use Rattle.ptmerge.specs.declared.tools.join.JoinPhase.TheVariants as phases
-use Rattle.std.proofs.Common.{rules}
 use Rattle.ptmerge.specs.Join.{unpaired_entries1, unpaired_entry, join_with, join_entries, join_key}
 use Group.*
 
@@ -35,7 +27,7 @@ cond_of_empty = grind arith
 
 module _ (job : Join) (cmp : Cmp) (key : Side → Key) where
   first_alone : (k : List ℕ) (g : Lines) → join_entries job k g [] ≡ unpaired_entries1 job k g
-  first_alone k [] = cond_of_empty job.unpaired2 ∙ sym (cond_of_empty job.unpaired1)
+  first_alone k [] = grind (arith, cond_of_empty)
   first_alone k (a ∷ g) = refl
 
   is_line_by_line : IsLineByLine (join_with job cmp key)
@@ -45,14 +37,19 @@ module _ (job : Join) (cmp : Cmp) (key : Side → Key) where
     second = λ k x g. grind arith;
   }
 
+  some_pairs : job.pairs ≡ true → (k : List ℕ) (f g : Lines) → 0 < length f → 0 < length g
+      → 0 < length (pair_entries job k f g)
+  some_pairs keeps k (a ∷ f) (b ∷ g) some1 some2 = rw keeps (omega arith)
+  some_pairs keeps k f g some1 some2 = absurd (omega arith)
+
   pub join_pairs : IsPairTool (join_with job cmp key) (pair_entries job)
   join_pairs = record {
     none = λ k g. cond_of_empty job.pairs;
     more = λ k f g c.
         let each = λ (a : List ℕ). map (pair_of job k a) c in
         grind (arith, flat_map-append each f g);
-    whole = λ k a b f g. refl;
-    written = λ keeps k a b f g. rw keeps (omega arith);
+    whole = grind arith;
+    written = some_pairs;
     unwritten = λ none k f g. rw none;
     largest = λ keeps g ls within. rw keeps (omega (arith, within));
   }
@@ -119,7 +116,7 @@ pub record IsOpenMerge (job : Join) (cmp : Cmp) (key : Side → Key) (old : Merg
 pub opened : (job : Join) {cmp : Cmp} {key : Side → Key} {first second : Reader} {out : Output} {store : Slots}
     → IsKeyOrder cmp → ((side : Side) (x : List ℕ) → key side x ≡ join_key job side x)
     → MergeRunPre job.terminator first second out store → IsOpenMerge job cmp key (merge_state first second out store)
-opened job {cmp} {key} o keys begins = grind (arith, open_merge, begins, is_line_by_line job cmp key)
+opened job {cmp} {key} o keys begins = grind (arith, open_merge, is_line_by_line)
 
 -- the call
 abbrev pub join_call_of : {job : Join} {cmp : Cmp} {key : Side → Key} {old : MergeState} → IsOpenMerge job cmp key old
@@ -178,10 +175,10 @@ module _ {job : Join} {cmp : Cmp} {key : Side → Key} {old : MergeState} {phase
     between : LoopInvariant t.opened.w now (both one two) × (end ≡ 4)
     between = rw is at t.phased
 
-    r : LoopInvariant t.opened.w now (both one two)
-    r = between.0
+    pub loop_invariant : LoopInvariant t.opened.w now (both one two)
+    loop_invariant = between.0
 
-    open r use {cursors as lines_before}
+    open loop_invariant use {cursors as lines_before, ls, p, b, sides, merge_invariant}
 
     -- a step for an unpaired line
     module _ {s : Side} (step : HasOnlyLeastKey cmp key (both one two) now.store s) {new : Output}
@@ -189,31 +186,31 @@ module _ {job : Join} {cmp : Cmp} {key : Side → Key} {old : MergeState} {phase
         (unpaired_entry job s (head_of now (both one two) s)))) where
       wrote_unpaired : PushEffect now.out new (unlines (now.reader s).terminator
           (entries_by_key (join_with job cmp key) all_keys (alone s (head_of now (both one two) s))))
-      wrote_unpaired = rw (entries_alone job cmp key s _ (t.opened.keys s _)) pushed
+      wrote_unpaired = grind (arith, entries_alone)
 
       pub alone_continues : {one2 two2 : Sorted} {reader : Reader} {after : Slots}
           → AdvanceOkPost key cmp s one two one2 two2 (now.reader s) reader now.store after new
           → IterationInvariant job cmp key old phase (state_after_read now s reader new after) one2 two2 end
       alone_continues h =
-          let (m, _) = wrote_alone lines_before step t.clean r.merge_invariant wrote_unpaired in
+          let (m, _) = wrote_alone loop_invariant t.clean step wrote_unpaired in
           iteration_continues {next = phase} s h.continues
           (rw is (runs_on lines_before s step.status_is h.came m, between.1))
 
       pub alone_fails : EndsIfFails (join_with job cmp key) old now s (both one two s) new
-      alone_fails = alone_breaks lines_before step t.clean r.merge_invariant wrote_unpaired
+      alone_fails = alone_breaks loop_invariant t.clean step wrote_unpaired
 
     -- both inputs have the same key, and a group of it begins
     pub group_opens : HaveEqualKeys cmp key (both one two) now.store
         → IterationInvariant job cmp key old phases.ReadGroup now one two end
     group_opens step =
         let k = key First (head_of now (both one two) First) in
-        let bounds : (side : Side) → r.b side ≡ AtLeast
+        let bounds : (side : Side) → b side ≡ AtLeast
         k = elim [
-          | First ↦ (at_current_line (r.sides First) step.first).bound
-          | Second ↦ rw step.same (at_current_line (r.sides Second) step.second).bound
+          | First ↦ (at_current_line (sides First) step.first).bound
+          | Second ↦ rw step.same (at_current_line (sides Second) step.second).bound
         ] in
-        let none : (side : Side) → r.p side ≡ r.p side ++ both [] []
-        side = elim [ First ↦ sym (append-nil (r.p First)) | Second ↦ sym (append-nil (r.p Second)) ] in
+        let none : (side : Side) → p side ≡ p side ++ both [] []
+        side = search rules in
         record {
           opened = t.opened;
           phased = record {
@@ -222,13 +219,13 @@ module _ {job : Join} {cmp : Cmp} {key : Side → Key} {old : MergeState} {phase
             kept = [];
             copied = sym (cond_of_empty _);
             q = record {
-              ls = r.ls;
-              p = r.p;
-              d = r.b;
+              ls = ls;
+              p = p;
+              d = b;
               mid = now.out;
-              sides = λ side. rw (← none side) (r.sides side);
+              sides = λ side. rw (← none side) (sides side);
               within = record {
-                merge_invariant = bounds_change (λ side. rw (bounds side) same_bound) r.merge_invariant;
+                merge_invariant = bounds_change (λ side. rw (bounds side) same_bound) merge_invariant;
                 clean = t.clean;
                 own = elim [ First ↦ tt | Second ↦ tt ];
                 later = λ side. rw (bounds side) same_bound;
@@ -244,16 +241,6 @@ module _ {job : Join} {cmp : Cmp} {key : Side → Key} {old : MergeState} {phase
           };
           between = t.between;
         }
-
-    -- the end of the loop
-    module _ {after : Slots} (clear : ClearFourSlotsPost now.store after) where
-      pub eof : ((side : Side) → (both one two side).status ≡ Ended)
-          → MergePost (join_with job cmp key) old (record now { store = after }) (Ok tt)
-      eof step = ends_well lines_before r.merge_invariant t.clean clear step
-
-      pub disordered : {s : Side} {n : ℕ} → IsDisorderDecided cmp key (both one two) now.store s n
-          → MergePost (join_with job cmp key) old (record now { store = after }) (Err (faults.Disorder s n))
-      disordered step = ends_fallen lines_before r.merge_invariant t.clean clear step
 
   -- ---- reading the group
 
@@ -497,12 +484,8 @@ module _ {job : Join} {cmp : Cmp} {key : Side → Key} {old : MergeState} {phase
           (push_trans _ _ _ _ _ t.clean state.q.wrote
           (rw ((state.q.sides First).lines_read.terminator, state.head.is, group_pairs_are z) at pushed))
 
-      pairs_begin : OutputStartsWith (join_with job cmp key) (with_added_line now (both one two) First state.g)
-          state.q.d state.k (pair_entries job state.k (state.g First ++ z) (state.g Second))
-      pairs_begin = starts call (within_more state.head) state.some state.above
-
       pub pair_fails : EndsIfFails (join_with job cmp key) old now First one new
-      pair_fails = group_breaks state.head pairs_begin wrote_more
+      pair_fails = group_breaks state.head (starts call (within_more state.head) state.some state.above) wrote_more
 
       module _ {one2 two2 : Sorted} {reader : Reader} {after : Slots}
           (h : AdvanceOkPost key cmp First one two one2 two2 (now.reader First) reader now.store after new) where

@@ -3,21 +3,14 @@
 -- a disorder is reported, and a fault of a write or read ends it with a prefix of the output.
 pub mod Exits
 use Rattle.ptmerge.proofs
-use proofs.Common.{AdvancePre, IsReadyToContinue, ◌≡◌, inl, inr, ℕ, ◌+◌, ◌≤◌, true, false, List, [], ◌∷◌, Option, Some}
-use proofs.Common.{None, Err, length, refl, sym, ◌∙◌, arith, is_le, append-nil, Output, PushEffect, Reader}
-use proofs.Common.{ReaderAdvance, IsDone, IsSound, Slots, line, with_line, unlines, IsLine, push_nothing, MergeFault}
-use proofs.Common.{Side, First, Second, Sorted, CursorStatus, Head, Ended, Disorder, Lines, MergeTool, FirstDisorder}
-use proofs.Common.{entries_by_key, earlier_disorder, first_disorder, MergeState, MergePost, Cmp, Key, NextOkPost}
-use proofs.Common.{HasSlots, with_side, other, PrecedesInput, IsDisorderDecided, ap, ◌⊎◌, max, total_bytes, max_length}
-use proofs.Common.{Write, MergeRunPre, merge_state, WriteFaultPost, both, budget, push_trans, cond, Ordering, is_eq}
-use proofs.Common.{is_gt, CopyToGroupPost, same_key_at, status_at, ◌<◌, Result, ClearFourSlotsPost, Ok, CallOutcome}
-use proofs.Common.{AllPushed, Received, both_sides, reads_nothing, merge_engine, merge_end, IsErrAnd, HasOnlyLeastKey}
+use proofs.Common.{AdvancePre, IsReadyToContinue, PrecedesInput, MergeRunPre, WriteFaultPost, budget}
+use proofs.Common.{CopyToGroupPost, Ok, IsErrAnd, HasOnlyLeastKey}
 use Rattle.ptmerge.specs.declared.faults.MergeFault.TheVariants as faults
-use Rattle.std.proofs.Common.{rules}
-use Rattle.std.proofs.lemmas.Grind.{common_steps}
 use Rattle.ptmerge.specs.Cursor.{NextErrPost, initial_cursor, base_slot}
 use Rattle.ptmerge.specs.MergeSteps.{StartErrPost, StartFirstPost, MergeInputs, IsReaderOf, IsReportable}
 use Rattle.ptmerge.specs.MergeSteps.{AreValidCursors, StartOkPost, merge_inputs, previous_key}
+use Rattle.ptmerge.specs.MergeSteps.{IsDisorderDecided}
+use Rattle.ptlines.specs.Calls.{AllPushed}
 pub use Exits.*
 
 -- ---- keys that may follow
@@ -36,9 +29,9 @@ current_key_is_above cmp o key x Head cursor store now ls p b before line_is =
     let above : Above cmp x head = is_greater (cmp head x) before in
     let below = above_at_most cmp o x head above in
     rw line_is.bound (
-      λ r c. EachKey-weaker _ _ (λ k h. above_up cmp o x head k above h) _ _ c,
+      λ r c. Each-weaker _ _ (λ k h. above_up cmp o x head k above h) _ c,
       record {
-        may_follow = λ r c. EachKey-weaker _ _ (λ k h. at_most_trans cmp o x head k below h) _ _ c;
+        may_follow = λ r c. Each-weaker _ _ (λ k h. at_most_trans cmp o x head k below h) _ c;
         under = λ k h. at_most_trans cmp o k x head h below;
       },
     )
@@ -91,13 +84,9 @@ module _ (cmp : Cmp) (o : IsKeyOrder cmp) where
       → MatchesStatus cmp key status cursor store now ls p b → (f : Side → Option FirstDisorder) → f s ≡ Some d
       → MayDisorder cmp b (f (other s))
       → earlier_disorder cmp (f First) (f Second) ≡ Some (record { file = s; first_disorder = d })
-  named_is = grind (arith, above_up, is_greater, not_below, greater_flips)
+  named_is = grind arith
 
 -- ---- a failed read
-
--- a reader with buffered bytes is not at its end
-pub buffered_not_done : {r : Reader} → 0 < length r.buffered → ¬ IsDone r
-buffered_not_done some done = absurd (omega (arith, some, ap length done.buffered))
 
 -- a write failed, or reading the next line did
 abbrev pub AdvanceErrPost : Side → Sorted → Reader → Reader → Slots → Slots → Output → MergeFault → Type 0
@@ -124,16 +113,6 @@ failed_advance : (s : Side) (cursor : Sorted) (was is : Reader) (before after : 
     (fault : MergeFault) → IsSound was → AdvanceErrPost s cursor was is before after out fault
     → FailedAdvance cursor was is before after
 failed_advance = search rules
-
--- how the call ends
-advance_ends : {tool : MergeTool} {old : MergeState} (w : IsOpenMerge tool old) (now : MergeState) (s : Side)
-    (cursor : Sorted) (new : Reader) (after : Slots) (out : Output) (came : Side → Received) (pushed : List ℕ)
-    (fault : MergeFault) → ((side : Side) → (now.reader side).failed ≡ (old.reader side).failed)
-    → now.store.denied ≡ false → AdvanceErrPost s cursor (now.reader s) new now.store after out fault
-    → CallOutcome both_sides (merge_engine tool) old (state_by_side (with_side s new now.reader) out after) came pushed
-    (merge_end (Err fault))
-advance_ends w now s cursor new after out came pushed fault none_failed denied =
-    grind (arith, w.unfailed, put_same, none_failed, side_case, put_other, buffered_not_done)
 
 -- the input `s` is to advance, and all its lines are processed
 pub record IsAdvancing (tool : MergeTool) (old now : MergeState) (s : Side) (cursor : Sorted) (ls p : Side → Lines)
@@ -165,7 +144,7 @@ module _ {tool : MergeTool} {old : MergeState} (w : IsOpenMerge tool old) {now :
       (λ all holds. omega (arith, peak_line a.keeps s cursor a.slots f.piece all holds)) (a.order new f.piece f.line)
       (put_each (λ side (r : Reader). r.failed ≡ true → IsFailedRead r (ls side) (p side)) s new _
       (grind (arith, f, none_failed_yet s, w.unfailed s)) (λ side fail. cc (none_failed_yet side, w.unfailed side)))
-      (Err fault) (advance_ends w now s cursor new after out _ _ fault none_failed_yet a.keeps.denied e)
+      (Err fault) (grind (arith, w.unfailed, put_same, none_failed_yet, side_case, put_other, e))
 
 -- ---- between two steps
 
@@ -227,94 +206,6 @@ module _ {tool : MergeTool} {old : MergeState} {w : IsOpenMerge tool old} {reade
         slots = (a.sides s).slots;
       }) lag
 
-  -- the current line of the input `s`, whose key precedes everything in the other input, is written
-  module _ {s : Side} (step : HasOnlyLeastKey cmp key cursor store s) {is new : Output}
-      (clean : is.write_failed ≡ false) (m : MergeInvariant tool b p old.out is)
-      (wrote : PushEffect is new (unlines (reader s).terminator (entries_by_key tool all_keys
-      (alone s (line store (cursor s).current_slot))))) where
-    pub wrote_alone : MergeInvariant tool b (with_side s (ls s) p) old.out new
-        × AllWritten tool b (with_side s (ls s) p) old.out new
-    wrote_alone =
-        let x = line store (cursor s).current_slot in
-        let h = at_current_line (a.sides s) step.status_is in
-        let (above, later) =
-        current_key_is_above _ w.o _ _ _ _ _ _ _ _ _ step.before (a.sides (other s)).status_is in
-        let none = lines_with_key-above tool w.o (key (other s)) (key s x) in
-        write_least_run w.o (key s x) (with_side s (ls s) p) (alone s x)
-        (side_case _ s (simp put_same (line_is_least_run w.o h.bound refl)) (simp put_other (record {
-          -- no line of the other input has the key, and only greater keys follow
-          own = tt;
-          may_follow = λ r c. c;
-          later = later;
-        })))
-        (side_case _ s (simp put_same h.all) (simp (put_other, append-nil))) (w.alone.none (key s x))
-        (λ r c. grind (arith, w.alone, none (r (other s)) (above (r (other s)) (c (other s))))) clean m
-        (rw (a.sides s).lines_read.terminator at wrote)
-
-    pub alone_breaks : EndsIfFails tool old (state_by_side reader new store) s (cursor s) new
-    alone_breaks = iteration_fails s step.status_is wrote_alone.1 (put_same s (ls s) p)
-        (rw (put_other s (ls s) p) (read_facts_current (other s)))
-
-  -- an input is out of order, and no key that may follow is up to its last key
-  stops_at : {s : Side} {n : ℕ} → IsDisorderDecided cmp key cursor store s n → IsExactStop tool b (Some (s, n))
-  stops_at {s} {n} dec l r c f =
-      let d : FirstDisorder = record { last_key = previous_key key cursor store s; line = n } in
-      let disordered : b s ≡ AfterDisorder d = rw dec.status_is at (a.sides s).status_is in
-      let st = (a.sides (other s)).status_is in
-      let (above, _) = current_key_is_above _ w.o _ d.last_key _ _ _ _ _ _ _
-      (grind (arith, greater_flips, is_greater, dec.named)) st in
-      rw (named_is _ w.o _ s d _ _ _ _ _ _ _ dec.named st (λ side. first_disorder cmp (key side) (l side))
-      (rw disordered at (f s)) (f (other s))) (
-        none_wanted tool (λ k. is_le (cmp k d.last_key)) r
-            (side_case _ s (rw (rw disordered at (c s)) tt)
-            (EachKey-weaker _ _ (λ k h. ap is_le h) _ _ (above _ (c (other s))))),
-        refl,
-      )
-
-  -- the slots are emptied at the end
-  module _ {out : Output} (m : MergeInvariant tool b p old.out out) (clean : out.write_failed ≡ false) {after : Slots}
-      (clear : ClearFourSlotsPost store after) where
-    abbrev last : MergeState
-    last = state_by_side reader out after
-
-    pushed_all : {found : Option (Side × ℕ)} → (found ≡ None → (side : Side) → IsDone (reader side))
-        → IsExactStop tool b found → AllPushed both_sides (merge_engine tool) old last
-        (given w last read_facts_current) (output_of tool p) found
-    pushed_all ended stop =
-        let exact = exact_output w last read_facts_current m stop in
-        record {
-          out = λ texts agree. (exact texts agree).0;
-          disorder = λ texts agree. (exact texts agree).1;
-          ended = λ none side read. ended none side;
-          fault = λ side read. (a.sides side).lines_read.advance_ok.fault;
-          short = λ side read. (a.sides side).lines_read.advance_ok.short ((w.sound side).long (w.readable side));
-          unfailed = λ side read. none_failed side;
-          clean = clean;
-          not_denied = clear.denied ∙ a.keeps.denied;
-          empty = omega (arith, (has_lines_total store.lines (λ side. max_length (ls side)) 0 a.keeps.lines).is);
-        }
-
-    concludes : (result : Result (Unit {0}) MergeFault) → CallOutcome both_sides (merge_engine tool) old last
-        (given w last read_facts_current) (output_of tool p) (merge_end result)
-        → MergePost tool old last result
-    concludes result ends = exit_is_merge_post w _ read_facts_current
-        (lag_invariant_starts w.o m clean (push_nothing out)) (fits_emptied a.keeps after clear.peak clear.slots)
-        (both_begun begun)
-        (λ side fail. cc (none_failed side, w.unfailed side)) result ends
-
-    pub ends_well : ((side : Side) → (cursor side).status ≡ Ended) → MergePost tool old last (Ok tt)
-    ends_well step =
-        let e : (side : Side) → (b side ≡ NothingMore) × IsDone (reader side) =
-        λ side. rw (step side) at (a.sides side).status_is in
-        concludes (Ok tt) (pushed_all (λ none side. (e side).1) (grind (arith, e)))
-
-    pub ends_fallen : {s : Side} {n : ℕ} → IsDisorderDecided cmp key cursor store s n
-        → MergePost tool old last (Err (faults.Disorder s n))
-    ends_fallen {s} {n} step = concludes (Err (faults.Disorder s n)) (record {
-      named = refl;
-      pushed_all = pushed_all (λ none. cc) (stops_at step);
-    })
-
   -- an input advances
   module _ (s : Side) (head : (cursor s).status ≡ Head) {next : Sorted} {new : Reader} {after : Slots}
       (comes : NextOkPost (key s) cmp (cursor s) next (reader s) new store after) where
@@ -337,6 +228,99 @@ module _ {tool : MergeTool} {old : MergeState} {w : IsOpenMerge tool old} {reade
     pub runs_on : {out : Output} → MergeInvariant tool b (with_side s (ls s) p) old.out out
         → LoopInvariant w (state_by_side (with_side s new reader) out after) (with_side s next cursor)
     runs_on = search (rules, advance_ok, goes_merging)
+
+module _ {tool : MergeTool} {old : MergeState} {w : IsOpenMerge tool old} {now : MergeState} {cursor : Side → Sorted}
+    (loop : LoopInvariant w now cursor) (clean : now.out.write_failed ≡ false) where
+  open tool use {cmp, key}
+  open loop use {ls, p, b, cursors as a, sides, merge_invariant as m}
+
+  -- the current line of the input `s`, whose key precedes everything in the other input, is written
+  module _ {s : Side} (step : HasOnlyLeastKey cmp key cursor now.store s) {new : Output}
+      (wrote : PushEffect now.out new (unlines (now.reader s).terminator (entries_by_key tool all_keys
+      (alone s (line now.store (cursor s).current_slot))))) where
+    pub wrote_alone : MergeInvariant tool b (with_side s (ls s) p) old.out new
+        × AllWritten tool b (with_side s (ls s) p) old.out new
+    wrote_alone =
+        let x = line now.store (cursor s).current_slot in
+        let h = at_current_line (sides s) step.status_is in
+        let (above, later) =
+        current_key_is_above _ w.o _ _ _ _ _ _ _ _ _ step.before (sides (other s)).status_is in
+        let none = lines_with_key-above tool w.o (key (other s)) (key s x) in
+        write_least_run w.o (key s x) (with_side s (ls s) p) (alone s x)
+        (side_case _ s (simp put_same (line_is_least_run w.o h.bound refl)) (simp put_other (record {
+          -- no line of the other input has the key, and only greater keys follow
+          own = tt;
+          may_follow = λ r c. c;
+          own_under = later.under _ (self_at_most _ w.o _);
+          under = λ j u. u;
+          later = later;
+        })))
+        (side_case _ s (simp put_same h.all) (simp (put_other, append-nil))) (w.alone.none (key s x))
+        (λ r c. grind (arith, w.alone, none (r (other s)) (above (r (other s)) (c (other s))))) clean m
+        (rw (sides s).lines_read.terminator at wrote)
+
+    pub alone_breaks : EndsIfFails tool old now s (cursor s) new
+    alone_breaks = iteration_fails a s step.status_is wrote_alone.1 (put_same s (ls s) p)
+        (rw (put_other s (ls s) p) (read_facts_current a (other s)))
+
+  -- an input is out of order, and no key that may follow is up to its last key
+  stops_at : {s : Side} {n : ℕ} → IsDisorderDecided cmp key cursor now.store s n → IsExactStop tool b (Some (s, n))
+  stops_at {s} {n} dec l r c f =
+      let d : FirstDisorder = record { last_key = previous_key key cursor now.store s; line = n } in
+      let disordered : b s ≡ AfterDisorder d = rw dec.status_is at (sides s).status_is in
+      let st = (sides (other s)).status_is in
+      let (above, _) = current_key_is_above _ w.o _ d.last_key _ _ _ _ _ _ _
+      (grind (arith, greater_flips, is_greater, dec.named)) st in
+      rw (named_is _ w.o _ s d _ _ _ _ _ _ _ dec.named st (λ side. first_disorder cmp (key side) (l side))
+      (rw disordered at (f s)) (f (other s))) (
+        none_wanted tool (λ k. is_le (cmp k d.last_key)) r
+            (side_case _ s (rw (rw disordered at (c s)) tt)
+            (Each-weaker _ _ (λ k h. ap is_le h) _ (above _ (c (other s))))),
+        refl,
+      )
+
+  -- the slots are emptied at the end
+  module _ {after : Slots} (clear : ClearFourSlotsPost now.store after) where
+    abbrev last : MergeState
+    last = record now { store = after }
+
+    pushed_all : {found : Option (Side × ℕ)} → (found ≡ None → (side : Side) → IsDone (now.reader side))
+        → IsExactStop tool b found → AllPushed both_sides (merge_engine tool) old last
+        (given w last (read_facts_current a)) (output_of tool p) found
+    pushed_all ended stop =
+        let exact = exact_output w last (read_facts_current a) m stop in
+        record {
+          out = λ texts agree. (exact texts agree).0;
+          disorder = λ texts agree. (exact texts agree).1;
+          ended = λ none side read. ended none side;
+          fault = λ side read. (sides side).lines_read.advance_ok.fault;
+          short = λ side read. (sides side).lines_read.advance_ok.short ((w.sound side).long (w.readable side));
+          unfailed = λ side read. none_failed a side;
+          clean = clean;
+          not_denied = clear.denied ∙ a.keeps.denied;
+          empty = omega (arith, (has_lines_total now.store.lines (λ side. max_length (ls side)) 0 a.keeps.lines).is);
+        }
+
+    concludes : (result : Result (Unit {0}) MergeFault) → CallOutcome both_sides (merge_engine tool) old last
+        (given w last (read_facts_current a)) (output_of tool p) (merge_end result)
+        → MergePost tool old last result
+    concludes result ends = exit_is_merge_post w _ (read_facts_current a)
+        (lag_invariant_starts w.o m clean (push_nothing now.out)) (fits_emptied a.keeps after clear.peak clear.slots)
+        (both_begun (begun a))
+        (λ side fail. cc (none_failed a side, w.unfailed side)) result ends
+
+    pub ends_well : ((side : Side) → (cursor side).status ≡ Ended) → MergePost tool old last (Ok tt)
+    ends_well step =
+        let e : (side : Side) → (b side ≡ NothingMore) × IsDone (now.reader side) =
+        λ side. rw (step side) at (sides side).status_is in
+        concludes (Ok tt) (pushed_all (λ none side. (e side).1) (grind (arith, e)))
+
+    pub ends_fallen : {s : Side} {n : ℕ} → IsDisorderDecided cmp key cursor now.store s n
+        → MergePost tool old last (Err (faults.Disorder s n))
+    ends_fallen {s} {n} step = concludes (Err (faults.Disorder s n)) (record {
+      named = refl;
+      pushed_all = pushed_all (λ none. cc) (stops_at step);
+    })
 
 -- ---- after one input advanced
 
@@ -468,23 +452,6 @@ module _ {tool : MergeTool} {old : MergeState} (w : IsOpenMerge tool old) where
   unread : (side : Side) → ReadFactsOf tool old old.reader no_lines no_lines (λ t. NoBound) side (old.reader side) []
   unread side = grind (arith, none_read, reads_nothing, w.sound side, sorted_up_to_none)
 
-  -- the first read of an input failed
-  first_read_fails : (s : Side) (now : MergeState) {ls : Side → Lines} {b : Side → Bound}
-      → ((side : Side) → ReadFactsOf tool old now.reader ls no_lines b side (now.reader side) []) → ls s ≡ []
-      → ((r : Reader) (piece : List ℕ) → IsLine (now.reader s).terminator piece
-      → FirstReads terminator old.reader now.reader (with_side s r now.reader) ls (with_side s piece (λ side. [])))
-      → GroupStore tool old.store now.store ls [] → MergeInvariant tool b no_lines old.out old.out
-      → EndsIfFails tool old now s (initial_cursor s) old.out
-  first_read_fails s now {ls} facts none order kept m =
-      advance_fails w {now = now} {cursor = initial_cursor s} (record {
-        facts = facts;
-        all = sym none;
-        order = order;
-        kept = [];
-        keeps = kept;
-        slots = fresh_slots s;
-      }) (lag_invariant_starts w.o m w.writable (push_nothing old.out))
-
   -- the merge could not start
   abbrev StartErr : Reader → Reader → Slots → MergeFault → Type 0
   StartErr new1 new2 after fault =
@@ -495,13 +462,27 @@ module _ {tool : MergeTool} {old : MergeState} (w : IsOpenMerge tool old) where
         → MergePost tool old (state_by_side (both new1 new2) old.out after) (Err fault)
     start_fault (inl u) = rw u.memory (merge_without_slots w refl u.unread u.slots)
     start_fault (inr (inl f)) =
-        rw f.unread (first_read_fails First (state_by_side old.reader old.out f.made) unread refl
-        (λ r piece free. grind (arith, one_line_at_most, free, w.terminator First))
-        (store_starts w.fits f.four w.allowed w.empty) (merge_invariant_starts tool old.out) _ _ _
+        rw f.unread (advance_fails w {now = state_by_side old.reader old.out f.made} {cursor = initial_cursor First}
+        (record {
+          facts = unread;
+          all = refl;
+          order = λ r piece free. grind (arith, one_line_at_most, free, w.terminator First);
+          kept = [];
+          keeps = store_starts w.fits f.four w.allowed w.empty;
+          slots = fresh_slots First;
+        }) (lag_invariant_starts w.o (merge_invariant_starts tool old.out) w.writable (push_nothing old.out)) _ _ _
         (inr (w.writable, f.fails)))
     start_fault (inr (inr f)) =
         let s = f.begins in
         let g = began s in
-        first_read_fails Second (state_by_side (both new1 (old.reader Second)) old.out s.mid)
-        (elim [ First ↦ g.side_invariant.facts | Second ↦ unread Second ]) refl (λ r piece free. grind (arith, g))
-        (half_store s) (half_invariant s) _ _ _ (inr (w.writable, s.later))
+        advance_fails w {now = state_by_side (both new1 (old.reader Second)) old.out s.mid}
+        {s = Second} {cursor = initial_cursor Second} {ls = both g.now_ls []} {p = no_lines}
+        {b = both g.bound NoBound} (record {
+          facts = elim [ First ↦ g.side_invariant.facts | Second ↦ unread Second ];
+          all = refl;
+          order = λ r piece free. grind (arith, g);
+          kept = [];
+          keeps = half_store s;
+          slots = fresh_slots Second;
+        }) (lag_invariant_starts w.o (half_invariant s) w.writable (push_nothing old.out)) _ _ _
+        (inr (w.writable, s.later))

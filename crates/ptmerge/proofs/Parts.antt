@@ -14,14 +14,15 @@ use proofs.MergeLemmas.Exits.Invariant.{IsDisorderFrom, after_from, disorder_aft
 use proofs.MergeLemmas.Exits.Invariant.{sorted_from_start, sorted_from_none, is_disordered, sorted_after}
 use proofs.MergeLemmas.Exits.Invariant.{sorted_prefix_is, IsDownwardClosed, all_keys, all_wanted}
 use proofs.MergeLemmas.Exits.Invariant.{by_keys_kept, downward_splits, up_to_from, Each, Each-weaker, EachKey}
-use proofs.MergeLemmas.Exits.Invariant.{Each-all, EachKey-weaker, Each-parts, IsKeyOrder, AtMost}
+use proofs.MergeLemmas.Exits.Invariant.{Each-all, Each-parts, IsKeyOrder, AtMost}
 use proofs.MergeLemmas.Exits.Invariant.{at_most_trans, greater_flips, line_order}
-use Rattle.std.proofs.lemmas.List.Elements.{All-filter, All-from_recursion, recursion_from_All}
+use Rattle.std.proofs.lemmas.List.Elements.{All-filter, recursion_from_All}
 use Rattle.std.proofs.lemmas.List.Sorted.{IsPermutation-refl, IsPermutation-trans, IsPermutation-append_left}
 use Rattle.std.proofs.lemmas.List.Sorted.{IsPermutation-append_right, IsPermutation-append_comm}
 use Rattle.std.specs.List.Sorted.{IsPermutation}
 use Rattle.ptlines.proofs.TextLaws.{lines-unlines, lines_are}
 use Rattle.std.proofs.Common.{rules}
+use Rattle.std.proofs.lemmas.Grind.{common_steps}
 use Rattle.ptlines.proofs.PartLaws.{the_lines_of_parts}
 use Rattle.ptmerge.specs.Parts.{CommByKey, IsSplittableByKey, IsConcatOfParts, JoinByKey, CommOfParts, JoinOfParts}
 use Rattle.ptmerge.specs.Parts.{text_of_part, output_lines}
@@ -81,7 +82,7 @@ module _ (cmp : Cmp) (o : IsKeyOrder cmp) (key : Key) where
       × (without_line_number (disorder_after cmp key last n (xs ++ ys))
       ≡ without_line_number (disorder_after cmp key None 0 ys))
   appended last n [] [] e h b = grind arith
-  appended last n [] (y ∷ ys) e (here, _) b = rw here (refl, uncounted (Some (key y)) (n + 1) 1 ys)
+  appended last n [] (y ∷ ys) e (here, _) b = grind (arith, uncounted)
   appended last n (x ∷ xs) ys (here, more) h (below, below_all) =
       let ih = appended (Some (key x)) (n + 1) xs ys more below below_all in grind arith
 
@@ -104,7 +105,7 @@ module _ (cmp : Cmp) (o : IsKeyOrder cmp) (key : Key) where
       → IsDisorderFrom cmp k (first_disorder cmp key ys)
   from_below k [] e = tt
   from_below k (y ∷ ys) (here, _) =
-      rw (first_disorder_is cmp key (y ∷ ys)) (rw here at (after_from cmp o key k 0 (y ∷ ys)).1)
+      rw (first_disorder_is cmp key (y ∷ ys)) (grind (arith, after_from))
 
   kept_after : (p : List ℕ → Bool) (last from : Option (List ℕ)) (xs : Lines)
       → ((k : List ℕ) → is_disordered cmp last k ≡ false → is_disordered cmp from k ≡ false)
@@ -118,8 +119,7 @@ module _ (cmp : Cmp) (o : IsKeyOrder cmp) (key : Key) where
   -- a sublist of a sorted list is sorted
   in_order_kept : (p : List ℕ → Bool) (xs : Lines) → first_disorder cmp key xs ≡ None
       → first_disorder cmp key (filter p xs) ≡ None
-  in_order_kept p xs e =
-      (sorted_from_start cmp key _ (kept_after p None None xs (λ k g. g) (sorted_from_none cmp key xs e))).1
+  in_order_kept p xs e = grind (arith, sorted_from_start, kept_after, sorted_from_none)
 
 module _ (tool : MergeTool) (o : IsKeyOrder tool.cmp) where
   open tool use {cmp, key}
@@ -138,27 +138,26 @@ module _ (tool : MergeTool) (o : IsKeyOrder tool.cmp) where
       (low : (side : Side) → EachKey (λ k. p k ≡ true) (key side) (a side))
       (high : (side : Side) → EachKey (λ k. p k ≡ false) (key side) (b side)) where
     at_most_high : (side : Side) (k : List ℕ) → p k ≡ true → EachKey (AtMost cmp k) (key side) (b side)
-    at_most_high side k h = EachKey-weaker _ _ (λ l g. grind (arith, down l k)) _
-        _ (high side)
+    at_most_high side k h = Each-weaker _ _ (λ l g. grind (arith, down l k)) _ (high side)
 
     both_go_on : (side : Side)
         → (sorted_prefix cmp (key side) (a side ++ b side) ≡ a side ++ sorted_prefix cmp (key side) (b side))
         × (without_line_number (first_disorder cmp (key side) (a side ++ b side))
         ≡ without_line_number (first_disorder cmp (key side) (b side)))
     both_go_on side = together cmp o (key side) (a side) (b side) (none_disordered a in_order side)
-        (EachKey-weaker _ _ (at_most_high side) _ _ (low side))
+        (Each-weaker _ _ (at_most_high side) _ (low side))
 
     -- the same keys are wanted
     same_wanted : (k : List ℕ)
         → is_up_to cmp (disorder tool (λ side. a side ++ b side)) k ≡ is_up_to cmp (disorder tool b) k
-    same_wanted = grind (arith, both_go_on First, both_go_on Second)
+    same_wanted = grind (arith, both_go_on)
 
     -- The entries of the appended lists are those of the first lists, followed by those of the second.
     entries_together : merged_entries tool (λ side. a side ++ b side) ≡ merged_entries tool a ++ merged_entries tool b
     entries_together =
         let w = is_up_to cmp (disorder tool b) in
-        let first_wanted = λ (side : Side). EachKey-weaker _ _
-        (λ k h. search (rules, from_below, at_most_high, up_to_from)) _ _ (low side) in
+        let first_wanted = λ (side : Side).
+        Each-weaker _ _ (λ k h. search (rules, from_below, at_most_high, up_to_from)) _ (low side) in
         let all : Side → Lines = λ side. a side ++ sorted_prefixes tool b side in
         let parts = λ (side : Side). kept_parts p (key side) (a side) (sorted_prefixes tool b side) (low side)
         (each_ordered cmp o (key side) (λ k. p k ≡ false) (b side) (high side)) in
@@ -236,8 +235,7 @@ lines_of_each end f ks (e ∷ es) = search (rules, the_lines_of_parts, lines_of_
 lines_dealt : (end : ℕ) (q : List ℕ → Bool) (bytes : List ℕ)
     → lines end (unlines end (filter q (lines end bytes))) ≡ filter q (lines end bytes)
 lines_dealt end q bytes = lines-unlines end (filter q (lines end bytes))
-    (recursion_from_All (IsLine end) _ (All-filter q (IsLine end) _ (All-from_recursion (IsLine end) _
-    (lines_are end bytes))))
+    (recursion_from_All (IsLine end) _ (All-filter q (IsLine end) _ (grind (arith, common_steps, lines_are))))
 
 pub split_by_key : (tool : MergeTool) → IsKeyOrder tool.cmp → IsSplittableByKey tool
 split_by_key tool o inputs part_of parts in_order below = simp (whole, of_part)

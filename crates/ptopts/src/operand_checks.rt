@@ -2,7 +2,7 @@
 //! twice. `command` calls `check_operands`; `command` and `inputs` call `is_standard` to find the operands that
 //! mean standard input.
 
-ghost use Rattle.std.specs.Prelude.{◌≡◌};
+ghost use Rattle.std.specs.Prelude.{◌≡◌, length};
 ghost use Rattle.std.specs.List.{list_all};
 ghost use Rattle.ptopts.specs.Faults as faults;
 ghost use Rattle.ptopts.specs.Faults.{operands_fault};
@@ -23,7 +23,7 @@ impl<'a, A: Allocator> ParsedArgs<'a, A> {
     pub(crate) fn check_operands(&self, tool: Tool) -> Result<(), UseFault<'a>>
         ensures { CheckPost result (operands_fault tool (options_of self.now) (operands_of self.now)) }
     {
-        if !self.has_valid_count(tool, self.operands.len()) {
+        if !self.has_valid_count(tool) {
             return Err(UseFault::Operands);
         }
         if tool.syntax().stdin_once && all_standard(self.operands) {
@@ -32,21 +32,23 @@ impl<'a, A: Allocator> ParsedArgs<'a, A> {
         Ok(())
     }
 
-    /// Whether the tool accepts this number of operands.
-    fn has_valid_count(&self, tool: Tool, count: usize) -> bool
-        ensures { result ≡ faults.has_valid_count tool (options_of self.now) count }
+    /// Whether the tool accepts the number of operands.
+    fn has_valid_count(&self, tool: Tool) -> bool
+        ensures { result ≡ faults.has_valid_count tool (options_of self.now) (length (operands_of self.now)) }
     {
         let syntax = tool.syntax();
-        syntax.min_operands <= count && count <= syntax.max_operands && self.fits_form(tool, count)
+        let count = self.operands.len();
+        syntax.min_operands <= count && count <= syntax.max_operands && self.fits_form(tool)
     }
 
-    /// Whether `tr` accepts this number of strings with these options; true for the other tools.
-    fn fits_form(&self, tool: Tool, count: usize) -> bool
-        ensures { result ≡ faults.fits_form tool (options_of self.now) count }
+    /// Whether `tr` accepts the number of its strings with these options; true for the other tools.
+    fn fits_form(&self, tool: Tool) -> bool
+        ensures { result ≡ faults.fits_form tool (options_of self.now) (length (operands_of self.now)) }
     {
         if tool != Tool::Tr {
             return true;
         }
+        let count = self.operands.len();
         match (self.has(b'd'), self.has(b's')) {
             (true, false) => count == 1,
             (false, true) => true,

@@ -12,7 +12,7 @@ pub use Rattle.ptlines.specs.Readers.{HasReadCause, IsDone, IsSound, Reader, no_
 pub use Rattle.ptlines.specs.Received.{HasReceived, IsConsistent, IsPrefix, Received, empty_input}
 pub use Rattle.ptlines.specs.Sinks.{SinkState, WriteOutOk}
 pub use Rattle.ptlines.specs.Slots.{Slots, total_bytes}
-pub use Rattle.ptmerge.specs.MergeSpec.{MergeTool, decided_output}
+pub use Rattle.ptmerge.specs.MergeSpec.{MergeTool}
 pub use Rattle.ptmerge.specs.declared.key_order.Side.TheVariants.{First, Second}
 pub use Rattle.ptopts.specs.Commands.{Command, Job, RunComm, RunCut, RunJoin, RunPaste, RunTr, RunUniq, command_of_args}
 pub use Rattle.ptopts.specs.Commands.{file_names, order_from}
@@ -24,7 +24,7 @@ pub use Rattle.ptrun.specs.Driver.{AreSoundAt, EndRunPost, FinishPost, HasIndexB
 pub use Rattle.ptrun.specs.Driver.{RunInputsEnd, RunInputsPost, result_message, result_status}
 pub use Rattle.ptrun.specs.Files.{AreInputsConsistent, AreReadToEnd, HasReadFailed, HaveReceived, InputBytes, IsTooLong}
 pub use Rattle.ptrun.specs.Files.{ReceivedInputs, is_reader_unopened, is_unopened}
-pub use Rattle.ptrun.specs.Joint.{JointTool, bytes_of, disorder_status, disorder_text, has_unopened, joint_spec}
+pub use Rattle.ptrun.specs.Joint.{JointTool, bytes_of, has_unopened, joint_spec}
 pub use Rattle.ptrun.specs.Joint.{one_input_tool, only_operand, operand, paste_rows_tool, received_in, two_input_tool}
 pub use Rattle.ptrun.specs.Lag.{BoundedLagAs, HasBoundedLag, IsPushedUpToBlock, IsWrittenUpToBlock, LagOfAny, LagOfLast}
 pub use Rattle.ptrun.specs.MessageWrites.{HasSaid, SayPost, line_of, texts}
@@ -47,7 +47,7 @@ pub use Rattle.std.proofs.lemmas.Grind.{common_steps}
 pub use Rattle.std.proofs.lemmas.List.{append-nil, get_or-map, get_or_default, length-map, length-take-le, map-append}
 pub use Rattle.std.proofs.lemmas.List.{take_all, take_more}
 pub use Rattle.std.proofs.lemmas.List.Concat.{flat_map-append}
-pub use Rattle.std.proofs.lemmas.List.Elements.{All-cons, All-map, All-nil, filter_map-append}
+pub use Rattle.std.proofs.lemmas.List.Elements.{All-map, filter_map-append}
 pub use Rattle.std.proofs.lemmas.List.Folds.{Any-from_list_any, list_any-append}
 pub use Rattle.std.proofs.lemmas.Result.{err_from_is_err_and}
 pub use Rattle.std.specs.Borrow.{Bor}

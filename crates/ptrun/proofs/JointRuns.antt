@@ -8,18 +8,18 @@
 -- If an operand could not be opened, nothing but messages is required. Otherwise what the engine of such a tool has
 -- done at the positions of its operands is what processing the inputs has to do.
 use Rattle.ptrun.proofs
-use proofs.Common.{All-cons, All-nil, AllPushed, AllWritten, AreInputsConsistent, AreReadToEnd, Bool, BoundedLag}
-use proofs.Common.{CallOutcome, Completion, Disorder, Err, First, FlowFault, HasIndexBelow, HasReadFailed, HasReceived}
-use proofs.Common.{HaveReceived, InputBytes, IsDone, IsPrefix, IsTooLong, JointTool, List, Memory, MergeTool, None, Ok}
+use proofs.Common.{AllPushed, AllWritten, AreInputsConsistent, AreReadToEnd, Bool, BoundedLag}
+use proofs.Common.{CallOutcome, Completion, Disorder, Err, First, FlowFault, HasIndexBelow, HasReadFailed}
+use proofs.Common.{HaveReceived, InputBytes, IsDone, IsTooLong, JointTool, List, Memory, MergeTool, None, Ok}
 use proofs.Common.{Option, Output, PassPost, PassPre, Paste, Read, Reader, Received, ReceivedInputs, Result}
 use proofs.Common.{RunInputsEnd, RunInputsPost, Second, SinkState, Slots, Some, ToolSpec, Write, [], ap, arith}
-use proofs.Common.{bytes_of, call_state, cases_eq, common_steps, cond, decided_output, disorder_status, disorder_text}
+use proofs.Common.{bytes_of, call_state, cases_eq, common_steps, cond}
 use proofs.Common.{drop, ended_operands, eqb-true, eqb_tells, false, false≢true, get_or, get_or_default, has_unopened}
 use proofs.Common.{inl, inr, is_in, is_reader_unopened, is_unopened, joint_spec, length, length-append, length-set}
 use proofs.Common.{list_any, list_any-append, nat_tests, no_reader, not, one_input_tool, only_input, operand}
-use proofs.Common.{option_map, or-false, pass_end, pass_engine, paste_rows_tool, positions, reader_at, received_in}
-use proofs.Common.{refl, result_message, result_status, rules, set, slice_get, subst, suc, sym, take, take-append-drop}
-use proofs.Common.{true, two_input_tool, unopened_messages, zero, ℕ, ⊎_elim, ◌&&◌, ◌++◌, ◌+◌, ◌-◌, ◌<◌, ◌==◌, ◌^◌, ◌||◌}
+use proofs.Common.{option_map, pass_end, pass_engine, paste_rows_tool, positions, reader_at, received_in}
+use proofs.Common.{refl, result_status, rules, set, slice_get, subst, suc, sym, take, take-append-drop}
+use proofs.Common.{true, two_input_tool, unopened_messages, zero, ℕ, ⊎_elim, ◌&&◌, ◌++◌, ◌+◌, ◌-◌, ◌<◌, ◌==◌, ◌^◌}
 use proofs.Common.{◌∙◌, ◌∷◌, ◌≡◌, ◌≤◌, ◌⊎◌}
 use proofs.MessageWrites.{said_nothing}
 use proofs.OperandInputs.{any_same, at_set, by_position, consistent_bytes, each_listed, fresh_all, is_in-same}
@@ -119,18 +119,13 @@ module _ {I : Type 0} {names : InputNames I} (engine : EngineSpec I) (position :
       (run_state new is store) (end_at position end)
   placed_call = record {
     given = given;
-    came = each by (λ q. HasReceived (reader_at old q) (reader_at new q) (given q)) (λ i read. subst
-        (λ g. HasReceived (reader_at old (position i)) (reader_at new (position i)) g)
-        (sym (by.placed_at call.given i)) (call.came i read));
+    came = grind arith;
     untouched = others;
     pushed = call.pushed;
     wrote = call.wrote;
     ends = ends end call.ends;
-    is_prefix = λ texts a. call.is_prefix (λ i. texts (position i)) (placed_agree texts a);
-    decided_is_written = each by (λ q. (reader_at new q).failed ≡ true → is.write_failed ≡ false
-        → IsPrefix (engine.decided (λ i. given (position i))) call.pushed) (λ i read failed fine.
-        subst (λ g. IsPrefix (engine.decided g) call.pushed) (sym given_is)
-        (call.decided_is_written i read failed fine));
+    is_prefix = grind arith;
+    decided_is_written = grind (arith, common_steps, given_is);
     bounded_lag = each by (λ q. was.write_failed ≡ false → BoundedLag {I = Unit {0}}
         (λ came. engine.decided (λ j. with_input (inputs_at positions) q (came tt) given (position j)))
         (λ u. given q) was is call.pushed) (λ i read fine.
@@ -139,9 +134,9 @@ module _ {I : Type 0} {names : InputNames I} (engine : EngineSpec I) (position :
         (λ u. g) was is call.pushed) (sym (by.placed_at call.given i))
         (subst (λ (f : (Unit {0} → Received) → List ℕ). BoundedLag f (λ u. call.given i) was is call.pushed)
         (placed_decided i) (call.bounded_lag i read fine)));
-    peak = λ texts a. call.peak (λ i. texts (position i)) (placed_agree texts a);
-    slots = λ texts a. call.slots (λ i. texts (position i)) (placed_agree texts a);
-    added = λ fine. record { least = (call.added fine).least; all = λ allowed. omega arith };
+    peak = grind arith;
+    slots = grind arith;
+    added = grind arith;
     unread = λ fine none. absurd (omega arith);
     unchanged_if_failed = λ fault. cc;
   }
@@ -156,7 +151,7 @@ only_operand_of positions d one = grind (arith, eqb-true)
 one_placed : (p : ℕ) → Placement only_input (λ u. p) (p ∷ [])
 one_placed p = record {
   listed = λ u read. is_in-same [] p;
-  name_at = λ q named. (tt, refl, eqb-true p q (sym (or-false (p == q)) ∙ named));
+  name_at = λ q named. grind arith;
   same = λ u v. same_here p;
   placed = λ f q. f tt;
   placed_at = λ f u. refl;
@@ -197,7 +192,7 @@ module _ {j : JointTool} {positions : List ℕ} {old : List Reader} {was : Outpu
           result_is = refl;
           call = placed_call (pass_engine t) (λ u. p) (one_placed p) old (set old p new)
               (λ q other. get_or-set_other old p q new no_reader
-              (λ same. false≢true (sym other ∙ ap (is_in (p ∷ [])) same ∙ is_in-same [] p))) ready.writable
+              (λ same. false≢true (grind arith))) ready.writable
               (λ few. (tt, refl, new_here.eof))
               (rw here (rw (get_or_default old p e no_reader (only_operand_within d)) at pass).call);
           same = λ f g same. ap t.decided (same p (is_in-same [] p));
@@ -241,7 +236,7 @@ module _ (job : Paste) {positions : List ℕ} {old : List Reader} {was : Output}
     result_is = completes result;
     call = placed_call (paste_engine job positions) (λ p. p) in_place old new k.untouched ready.writable
         (λ few. let first = cell_in positions 0 (omega arith) in let q = get_or positions 0 0 in
-        (q, first, (fresh_all old ready.fresh q (cell_open q first)).eof)) k;
+        (q, first, grind (arith, fresh_all, cell_open))) k;
     same = decided_same job positions;
   }
 
@@ -259,7 +254,7 @@ AcceptsTwo positions =
 pub two_of : (positions : List ℕ) (d : ℕ) → AcceptsTwo positions
     → TwoPositions positions (get_or positions 0 d) (get_or positions 1 d)
 two_of (p ∷ q ∷ []) d accepts_operands = grind arith
-two_of positions d accepts_operands = absurd (grind (arith, nat_tests, accepts_operands))
+two_of positions d accepts_operands = grind (arith, nat_tests)
 
 pub length_two : (positions : List ℕ) → AcceptsTwo positions → length positions ≡ 2
 length_two positions accepts_operands = search (rules, two_of)
@@ -286,14 +281,10 @@ module _ (t : MergeTool) {old : List Reader} {was : Output} {before : Slots} {p 
   not_same : (a b : ℕ) → (a ≡ b → ⊥) → (a == b) ≡ false
   not_same a b differs = grind (arith, eqb_tells)
 
-  abbrev IsSide : ℕ → Type 0
-  IsSide k = (side : Side) × (true ≡ true) × (operand two side ≡ k)
-
   two_placed : Placement both_sides (operand two) two
   two_placed = record {
     listed = λ side read. side_named side;
-    name_at = each_listed IsSide two (All-cons IsSide p (q ∷ []) (First, refl, refl)
-        (All-cons IsSide q [] (Second, refl, refl) (All-nil IsSide)));
+    name_at = grind arith;
     same = same;
     placed = λ f. update_at p (f First) (λ k. f Second);
     placed_at = placed_at;
@@ -310,15 +301,10 @@ module _ (t : MergeTool) {old : List Reader} {was : Output} {before : Slots} {p 
       placed_at f First = put_here p (f First) (λ k. f Second)
       placed_at f Second = put_other p q (f First) (λ k. f Second) apart
 
-  -- what holds of both readers, by side
-  by_side : (readers : List Reader) (side : Side)
-      → both (reader_at readers p) (reader_at readers q) side ≡ reader_at readers (operand two side)
-  by_side readers First = refl
-  by_side readers Second = refl
-
-  position_is : (side : Side) → both p q side ≡ operand two side
-  position_is First = refl
-  position_is Second = refl
+  -- what holds of both positions, by side
+  by_side : {X : Type 0} (f : ℕ → X) (side : Side) → both (f p) (f q) side ≡ f (operand two side)
+  by_side f First = refl
+  by_side f Second = refl
 
   pub two_inputs_post : {new : List Reader} {is : Output} {store : Slots} {result : Result (Unit {0}) MergeFault}
       → ((k : ℕ) → (p ≡ k → ⊥) → (q ≡ k → ⊥) → reader_at new k ≡ reader_at old k)
@@ -327,19 +313,19 @@ module _ (t : MergeTool) {old : List Reader} {was : Output} {before : Slots} {p 
       → JointPost (two_input_tool t) two old new was is before store (merge_completion (both p q) result)
   two_inputs_post {new} {is} {store} {result} others post = record {
     end = end_at (operand two) (merge_end result);
-    result_is = λ i. result_of_end (end_at (λ side. position_is side i) (merge_end result));
+    result_is = λ i. result_of_end (end_at (λ side. by_side (λ k. k) side i) (merge_end result));
     call = placed_call (merge_engine t) (operand two) two_placed old new (λ k other. others k
-        (λ same. false≢true (sym other ∙ ap (is_in two) (sym same) ∙ side_named First))
-        (λ same. false≢true (sym other ∙ ap (is_in two) (sym same) ∙ side_named Second))) ready.writable
+        (λ same. false≢true (grind arith))
+        (λ same. false≢true (grind arith))) ready.writable
         (λ few. (First, refl, (new_at First).eof))
         (subst (λ (rs : Side → Reader). CallPost both_sides (merge_engine t) (call_state rs was before)
         (call_state (λ side. reader_at new (operand two side)) is store) (merge_end result))
-        (λ i side. by_side old side i)
+        (λ i side. by_side (reader_at old) side i)
         (subst (λ (rs : Side → Reader). CallPost both_sides (merge_engine t)
         (call_state (both (reader_at old p) (reader_at old q)) was before) (call_state rs is store) (merge_end result))
-        (λ i side. by_side new side i)
+        (λ i side. by_side (reader_at new) side i)
         post.call));
-    same = λ f g same. ap (decided_output t) (λ i side. same (operand two side) (side_named side) i);
+    same = λ f g same. search (rules, same, side_named);
   }
 
 -- ---- two readers of a list that was split between them
@@ -363,10 +349,7 @@ module _ {inputs : List Reader} (front back : List Reader) {low high : ℕ} (spl
   module _ (x y : Reader) where
     set_both : set (set inputs low x) high y ≡ set front low x ++ set back 0 y
     set_both =
-        ap (λ l. set (set l low x) high y) split
-        ∙ ap (λ l. set l high y) (set-append_left front back low x (omega (arith, size, below)))
-        ∙ set-append_right (set front low x) back high high y (length-set front low x ∙ size) (omega arith)
-        ∙ ap (λ n. set front low x ++ set back n y) none_left
+        grind (arith, set-append_left, set-append_right, length-set, none_left)
 
     pub split_readers : (d e : Reader)
         → SplitReaders inputs (set front low x ++ set back 0 y) low high (get_or front low d) (get_or back 0 e) x y
@@ -388,7 +371,7 @@ first_at [] p there = absurd (false≢true there)
 first_at (q ∷ positions) p there = ⊎_elim (λ same. (0, omega arith, ap (λ n. Some n) same.1, refl))
     (λ other.
     let f = first_at positions p (search rules) in
-    (suc f.0, omega (arith, f.1), f.2, ap (λ b. b || is_in (take f.0 positions) p) other.0 ∙ f.3))
+    (suc f.0, omega arith, f.2, grind arith))
     (eqb_tells q p)
 
 -- ---- the inputs received, as a list
@@ -409,12 +392,6 @@ at_received given n (r ∷ readers) (suc q) m is = at_received given (n + 1) rea
 abbrev completion_of : Option (ℕ × ℕ) → Completion
 completion_of None = AllWritten
 completion_of (Some found) = Disorder found.0 found.1
-
-ends_with : (word : List ℕ) (names : List (List ℕ)) (found : Option (ℕ × ℕ))
-    → (result_message word names (Ok (completion_of found)) ≡ disorder_text word names found)
-    × (result_status (Ok (completion_of found)) ≡ disorder_status found)
-ends_with word names None = (refl, refl)
-ends_with word names (Some found) = (refl, refl)
 
 module _ (word : List ℕ) {t : JointTool} (names : List (List ℕ)) {positions : List ℕ} {old new : List Reader}
     {was is : Output} (messages_old : SinkState) {before store : Slots} {result : Result Completion FlowFault}
@@ -517,18 +494,9 @@ module _ (word : List ℕ) {t : JointTool} (names : List (List ℕ)) {positions 
   all_pushed found e below = record {
     operands_done = length positions;
     within = omega arith;
-    ends = (
-      record {
-        all = refl;
-        out = λ w agrees. rw (complete w agrees) (e.out (bytes_of w) (agree w agrees));
-        no_write_failed = e.clean;
-        not_denied = e.not_denied;
-        read = λ q. ⊎_elim (none_failed e.unfailed q) (none_long e.short q);
-      },
-      λ w agrees. rw (complete w agrees, e.disorder (bytes_of w) (agree w agrees)) (ends_with word names found),
-    );
+    ends = grind (arith, complete, e.out, agree, e.clean, e.not_denied, e.unfailed, none_long, e.short, e.disorder);
     position = below;
-    names_failed_read = grind (arith, none_failed);
+    names_failed_read = grind arith;
     ended = ended_if_written found e.ended;
   }
 
@@ -540,11 +508,7 @@ module _ (word : List ℕ) {t : JointTool} (names : List (List ℕ)) {positions 
   ending (ReadFault p) e =
       let f = first_at positions p e.named in
       let cause : HasReadFailed old new p ⊎ IsTooLong (at received p) =
-      ⊎_elim (λ broke. inl (open_at p e.named, e.unfailed, broke.0))
-      (λ long. let first = fresh p (open_at p e.named) in
-      inr
-      (rw (at_listed p e.named)
-      (omega (arith, long.0, (k.came p e.named).count, ap length first.buffered, first.pulled)))) e.cause in
+      grind (arith, open_at, fresh, at_listed) in
       record {
         operands_done = f.0;
         within = f.1;
@@ -555,8 +519,8 @@ module _ (word : List ℕ) {t : JointTool} (names : List (List ℕ)) {positions 
             (cases_eq q p);
         ended = none_ended;
       }
-  ending WriteFault e = grind (arith, none_ended)
-  ending MemoryFault e = grind (arith, none_failed, none_ended)
+  ending WriteFault e = grind arith
+  ending MemoryFault e = grind (arith, none_failed)
 
   -- memory ran out, so something was left
   left_by : (end : CallEnd ℕ)

@@ -204,10 +204,6 @@ pub record OperandStep (order : List Input) (i p n : ℕ) : Type 0 where
   pub next : take (i + 1) (positions order) ≡ take i (positions order) ++ p ∷ []
   pub split : take i (positions order) ++ p ∷ drop (i + 1) (positions order) ≡ positions order
 
-pub operand_low : {p n : ℕ} (order : List Input) (i : ℕ) (d : Input) → All (λ q. q < n) (positions order)
-    → i < length order → p ≡ position (get_or order i d) → p < n
-operand_low {n = n} order i d in_range within is = grind (arith, position_in_range)
-
 pub only_within : {p n : ℕ} → p < n → All (λ q. q < n) (p ∷ [])
 only_within low zero d within = low
 only_within low (suc k) d within = absurd (omega (arith, within))
@@ -215,7 +211,7 @@ only_within low (suc k) d within = absurd (omega (arith, within))
 pub operand_step : {p n : ℕ} (order : List Input) (i : ℕ) (d : Input) → All (λ q. q < n) (positions order)
     → i < length order → p ≡ position (get_or order i d) → OperandStep order i p n
 operand_step {p} {n} order i d in_range within is = record {
-  low = operand_low order i d in_range within is;
+  low = grind (arith, position_in_range);
   next = next;
   split = sym (append_assoc (take i (positions order)) (p ∷ []) (drop (i + 1) (positions order)))
       ∙ ap (λ l. l ++ drop (i + 1) (positions order)) (sym next) ∙ take-append-drop (i + 1) (positions order);
@@ -319,10 +315,6 @@ pub unopened_received : (old now : Reader) (o : Option Received) → HasReceived
 unopened_received old now None (unopened, same) = unopened
 unopened_received old now (Some g) (opened, received) = opened
 
-pub none_of : (v : Option (List ℕ)) → is_none v ≡ true → v ≡ None
-none_of None is = refl
-none_of (Some b) is = absurd (false≢true is)
-
 -- ---- the input of an operand
 
 -- the bytes of an input, consistent with what was received from it
@@ -425,9 +417,9 @@ earlier_map m r n P Q follows = by_kind m.sequential
   where
     by_kind : (kind : Option ToolSpec) → BoundedLagAs m r n P kind → BoundedLagAs m r n Q kind
     by_kind None k = λ position came named is. let (lagged, holds) = k position came named is in
-        (lagged, follows (m.decided (set r position (Some lagged.earlier))) holds)
+        (lagged, grind arith)
     by_kind (Some t) k = λ done last is. let (lagged, holds) = k done last is in
-        (lagged, follows (decided_in_order t (done ++ lagged.earlier ∷ [])) holds)
+        (lagged, grind arith)
 
 -- bytes that were pushed before any write failed were sent on
 pub sends_now : (was mid : Output) (pushed bytes : List ℕ) → PushEffect was mid pushed → mid.write_failed ≡ false
@@ -450,7 +442,7 @@ sends_after was mid is pushed bytes wrote clean s = by_known was.accepted refl
     }
     by_known (Some known) is_known = record {
       written_out = wrote.kept.front ++ s.written_out;
-      accepted = rw (s.accepted, wrote.kept.is) (append_known-append was.accepted wrote.kept.front s.written_out);
+      accepted = grind (arith, append_known-append);
       most =
           grind (
             arith,

@@ -11,7 +11,7 @@ use proofs.Common.{EndRunPost, Err, File, FinishPost, FlowFault, HasCause, HasRe
 use proofs.Common.{InputsPre, IsAtEnd, IsConsistent, IsPrefix, IsRun, IsTooLong, IsWrittenUpToBlock, Job, List, Memory}
 use proofs.Common.{MergeTool as TwoInputs, None, Ok, Option, Output, PushEffect, Read, Reader, Received, ReceivedInputs}
 use proofs.Common.{Result, RunComm, RunCut, RunInputsEnd, RunInputsPost, RunJoin, RunPaste, RunTr, RunUniq, SinkState}
-use proofs.Common.{Slots, Some, Standard, Write, [], ap, append-nil, append_assoc, append_known, arith, cases_Bool}
+use proofs.Common.{Slots, Some, Standard, Write, [], ap, append-nil, append_known, arith, cases_Bool}
 use proofs.Common.{command_of_args, command_spec, command_view, common_steps, cond, ended_operands, eqb_tells, false}
 use proofs.Common.{false≢true, fault_view, is_memory_fault, is_none, is_reader_unopened, is_unopened, length}
 use proofs.Common.{length-append, map, message_only, messages, nat_tests, position, positions, prepend_known}
@@ -68,15 +68,13 @@ reached_of was new pushed empty w = by_known was.accepted refl
       whole = λ clean none.
           let same = ap length (some_same (rw (w.kept.is, is, empty) at (w.whole clean))) in
           nil_from_length (new.buffered ++ w.beginning.front)
-          (grind (arith, ap length none, same, ap length split, length-append));
+          (grind (arith, split, length-append));
       unknown = λ none. cc;
     }
       where
         split : pushed ≡ w.kept.front ++ (new.buffered ++ w.beginning.front)
         split = append_cancel_left t pushed (w.kept.front ++ (new.buffered ++ w.beginning.front))
-            (some_same (rw (w.kept.is, is, empty, append-nil t) at w.beginning.is)
-            ∙ append_assoc (t ++ w.kept.front) new.buffered w.beginning.front
-            ∙ append_assoc t w.kept.front (new.buffered ++ w.beginning.front))
+            (grind (arith, common_steps, some_same, append-nil))
 
 -- ---- the bytes of the readers are consistent with the bytes received
 
@@ -86,8 +84,7 @@ bytes_consistent_at old new None None fresh k bytes = tt
 bytes_consistent_at old new None (Some b) fresh (unopened, same) (opened, left, short) = cc
 bytes_consistent_at old new (Some g) None fresh (opened, received) unopened = cc
 bytes_consistent_at old new (Some g) (Some b) fresh (opened, received) (_, left, short) =
-    by_left new.left (sym left ∙ received.moved)
-    (received.end (λ eof. absurd (false≢true (sym (fresh opened).eof ∙ eof))))
+    grind (arith, by_left, false≢true)
   where
     by_left : (left : Option (List ℕ)) → Some b ≡ prepend_known g.bytes left → (new.eof ≡ true → IsAtEnd left)
         → IsConsistent g b
@@ -120,11 +117,8 @@ exact_of_run m old new before o fresh k w bytes none fine not_denied = by_fault 
     by_fault : (fault : Option FlowFault) → RunEnd m k.received old new k.written k.message o k.operands_done fault
         → IsExact m w before o
     by_fault None (complete, says) = record {
-      out = k.output ∙ ap (λ l. append_known before.out.accepted l) (complete.out w agrees);
-      messages = λ all_said. k.has_said.accepted ∙ ap (λ l. append_known before.messages.accepted l)
-          (sym (append-nil k.has_said.front)
-          ∙ ap (λ l. k.has_said.front ++ l) (sym (k.has_said.whole all_said)) ∙ sym k.has_said.split
-          ∙ (let (message, status) = says w agrees in message));
+      out = grind (arith, agrees);
+      messages = grind (arith, append-nil, agrees);
       status_is = let (message, status) = says w agrees in status;
       bounded = k.bounded w agrees;
     }
@@ -268,7 +262,7 @@ module _ {m : CommandSpec} {old new : List Reader} {was is : Output}
     flushed = grind (arith, f);
     flushes = grind (arith, flushed_once);
     message = k.message ++ last_message;
-    has_said = said_trans nothing_said (said_trans k.has_said last.has_said);
+    has_said = search (rules, said_trans);
     operands_done = k.operands_done;
     fault = fault_of final_result;
     ends = ends_as final_result refl (grind (arith, f, cases_Bool is'.write_failed));

@@ -2,26 +2,26 @@
 -- operand whose input was read by an earlier one receives nothing more. An operand that fails leaves a prefix of the
 -- output, with all that was decided by then.
 use Rattle.ptrun.proofs
-use proofs.Common.{All, AllPushed, AllWritten, AreInputsConsistent, Bool, BoundedLag, CallOutcome, CallState}
+use proofs.Common.{All, AllPushed, AllWritten, AreInputsConsistent, BoundedLag, CallOutcome, CallState}
 use proofs.Common.{Completion, DecidesAll, Err, FlowFault, HasCause, HasIndexBelow, HasReadCause, HasReadFailed}
 use proofs.Common.{HasReceived, HasSaid, HaveReceived, InputBytes, IsConsistent, IsDone, IsPrefix, IsPushedUpToBlock}
 use proofs.Common.{IsSound, IsTooLong, List, Memory, None, Ok, OperandPost, Output, PassPost, PushEffect, Read, Reader}
 use proofs.Common.{Received, ReceivedInputs, Result, RunInputsPost, SinkState, Slots, Some, ToolSpec, Unopened, Write}
-use proofs.Common.{[], ap, append-nil, append_assoc, arith, call_state, cases_Bool, cases_eq, cases_lt, common_steps}
-use proofs.Common.{cond, decided_in_order, empty_input, false, false≢true, flat_map, flat_map-append, get_or, inl, inr}
-use proofs.Common.{is_in, is_reader_unopened, is_unopened, length, length-append, length-map, length-set, list_any, map}
+use proofs.Common.{[], ap, append-nil, append_assoc, arith, call_state, cases_Bool, cases_lt, common_steps}
+use proofs.Common.{cond, decided_in_order, empty_input, false, false≢true, flat_map, flat_map-append, get_or}
+use proofs.Common.{is_in, is_reader_unopened, length, length-append, length-map, length-set, list_any, map}
 use proofs.Common.{map-append, max, name_of, only_input, pass_end, pass_engine, push_nothing, push_trans, reader_at}
-use proofs.Common.{refl, result_message, result_status, rules, sequential_spec, set, subst, sym, take, take_all}
+use proofs.Common.{refl, rules, sequential_spec, set, subst, sym, take, take_all}
 use proofs.Common.{total_bytes, true, unopened_message, unopened_messages, up_to_unended, ℕ, ⊎_elim, ◌++◌, ◌+◌, ◌<◌}
 use proofs.Common.{◌∙◌, ◌∷◌, ◌≡◌, ◌≢◌, ◌≤◌, ◌⊎◌}
 use proofs.MessageWrites.{said_nothing}
-use proofs.OperandInputs.{IsAtEof, IsEndedAt, OpenedInput, all_earlier, any_before, any_now, any_same, by_position}
+use proofs.OperandInputs.{IsAtEof, IsEndedAt, OpenedInput, all_earlier, any_before, any_now, by_position}
 use proofs.OperandInputs.{completion_with, consistent_before, consistent_bytes, decided_inputs, ended_at}
 use proofs.OperandInputs.{ended_gives_nothing, fresh_all, holds_more, is_in-other, is_in-same, last_earlier}
-use proofs.OperandInputs.{least_bytes, least_consistent, maximum-append, never_long, none_of, none_received, not_long}
+use proofs.OperandInputs.{least_bytes, least_consistent, maximum-append, none_received}
 use proofs.OperandInputs.{not_more, nothing_read, nth_here, opened_inputs_none, opened_inputs_some, opened_receives}
 use proofs.OperandInputs.{received_at, received_of, receives_trans, said_more, sends_after, sends_now, some_same}
-use proofs.OperandInputs.{still_unopened, unopened_agrees, unopened_same}
+use proofs.OperandInputs.{still_unopened}
 use Rattle.ptrun.specs.Driver.{OperandPre, fault_at, operand_completion}
 use Rattle.ptrun.specs.Files.{IsNewOrUnopened, at, input_of_operand, inputs_of_operands, opened_inputs, opened_values}
 use Rattle.ptrun.specs.Operands.{sequential_bound, sequential_decided, sequential_output, sequential_slots}
@@ -46,20 +46,10 @@ pub record OperandsDone (word : List ℕ) (t : ToolSpec) (names : List (List ℕ
   pub clean : is.write_failed ≡ false
   pub not_denied : store.denied ≡ false
   pub empty : total_bytes store.lines ≡ 0
-  pub peak : (w : InputBytes) → AreInputsConsistent inputs_read w
-      → store.peak ≤ max before.peak (sequential_bound t w done)
-  pub slots : (w : InputBytes) → AreInputsConsistent inputs_read w
-      → length store.lines ≤ max (length before.lines) (sequential_slots t w done)
+  pub bounds : (w : InputBytes) → AreInputsConsistent inputs_read w
+      → (store.peak ≤ max before.peak (sequential_bound t w done))
+      × (length store.lines ≤ max (length before.lines) (sequential_slots t w done))
   pub room : (q : ℕ) → is_in done q ≡ true → is_reader_unopened old q ≡ false → t.slots ≤ length store.lines
-
--- such a state, along equalities of its parts
-pub done_as : {word : List ℕ} {t : ToolSpec} {names : List (List ℕ)} {old now now' : List Reader} {was is is' : Output}
-    {messages_old messages_new messages_new' : SinkState} {before store store' : Slots}
-    {done done' : List ℕ} {so_far so_far' : Completion} → now' ≡ now → store' ≡ store → is' ≡ is
-    → messages_new' ≡ messages_new → so_far' ≡ so_far → done' ≡ done
-    → OperandsDone word t names old now was is messages_old messages_new before store done so_far
-    → OperandsDone word t names old now' was is' messages_old messages_new' before store' done' so_far'
-done_as inputs kept out messages far positions k = grind arith
 
 ok_of : (p : ℕ) {all : Completion} (passed : Result (Unit {0}) FlowFault) → operand_completion p passed ≡ Ok all
     → passed ≡ Ok tt
@@ -95,8 +85,7 @@ module _ {word : List ℕ} {t : ToolSpec} {names : List (List ℕ)} {old : List 
     clean = clean;
     not_denied = not_denied;
     empty = empty;
-    peak = λ w agrees. omega arith;
-    slots = λ w agrees. omega arith;
+    bounds = λ w agrees. (omega arith, omega arith);
     room = λ q seen. absurd (false≢true seen);
   }
 
@@ -106,16 +95,12 @@ module _ {word : List ℕ} {t : ToolSpec} {names : List (List ℕ)} {old : List 
     was_unopened : (q : ℕ) → is_reader_unopened old q ≡ (reader_at now q).refused
     was_unopened q = grind (arith, still_unopened)
 
-    not_failed_now : (q : ℕ) → is_reader_unopened old q ≡ false → (reader_at old q).failed ≡ false
-        → (reader_at now q).failed ≡ false
-    not_failed_now q opened not_failed_before = grind (arith, k.at_eof q, k.unread q)
-
     ended_now : (q : ℕ) → is_in done q ≡ true → IsEndedAt (at k.inputs_read q)
     ended_now q seen = grind (arith, ended_at)
 
     can_read_now : (q : ℕ) → is_reader_unopened old q ≡ false
         → ((reader_at now q).buffered ≡ []) × ((reader_at now q).fault ≡ None)
-    can_read_now q opened = grind (arith, k.at_eof q, k.unread q, fresh_all old fresh q)
+    can_read_now q opened = grind (arith, fresh_all)
 
     -- ---- all operands are done
 
@@ -132,8 +117,7 @@ module _ {word : List ℕ} {t : ToolSpec} {names : List (List ℕ)} {old : List 
       message = unopened_messages word names (is_reader_unopened old) done;
       has_said = k.has_said;
       names =
-          λ w agrees. rw (take-length done) (unopened_same word names (is_reader_unopened old) (is_unopened w) done
-          (unopened_agrees old now k.inputs_read w k.came agrees));
+          grind (arith, take-length);
       ends = (
         record {
           all = refl;
@@ -142,62 +126,35 @@ module _ {word : List ℕ} {t : ToolSpec} {names : List (List ℕ)} {old : List 
           not_denied = k.not_denied;
           read = λ q. ⊎_elim (none q) (short q);
         },
-        λ w agrees. let same = any_same (is_reader_unopened old) (is_unopened w) done
-            (unopened_agrees old now k.inputs_read w k.came agrees) in
-            let (message, status, position) = ends_with (list_any (is_unopened w) done) in
-            rw (k.so_far_is, same) (message, status),
+        grind arith,
       );
-      position = let (message, status, position) = ends_with (list_any (is_reader_unopened old) done) in
-          rw k.so_far_is position;
-      untouched = λ q other. k.unread q (rw all_taken at other);
-      ended = λ q named opened. (k.at_eof q (rw (take-length done) at named) (was_unopened q ∙ opened)).done;
+      position = grind arith;
+      untouched = grind (arith, all_taken);
+      ended = grind (arith, take-length, was_unopened);
       left = λ memory. cc;
-      is_prefix = λ w agrees. record { rest = []; is = sym (k.out w agrees) ∙ sym (append-nil k.pushed) };
+      is_prefix = grind (arith, append-nil);
       names_failed_read = λ q failed clean. absurd (none q failed);
       decided_is_written = λ q failed clean. absurd (none q failed);
-      bounded_lag = rw all_taken
-          (all_earlier t (opened_inputs empty_input k.inputs_read done)
-          (λ decided. IsPushedUpToBlock decided was is k.pushed)
-          (record {
-            begins = processing;
-            buffering = sends_now was is k.pushed (sequential_decided t k.inputs_read done)
-                k.wrote k.clean processing;
-          }));
-      peak = k.peak;
-      slots = k.slots;
+      bounded_lag = search (rules, all_taken, all_earlier, processing, sends_now);
+      peak = λ w agrees. (k.bounds w agrees).0;
+      slots = λ w agrees. (k.bounds w agrees).1;
     }
       where
         all_taken : take (length done + 1) done ≡ done
         all_taken = take_all (length done + 1) done (omega arith)
 
         none : (q : ℕ) → HasReadFailed old now q → ⊥
-        none q failed = grind (arith, not_failed_now)
+        none q failed = grind arith
 
         short : (q : ℕ) → IsTooLong (at k.inputs_read q) → ⊥
-        short q long = grind (
-          arith,
-          not_long,
-          never_long,
-          fresh_all old fresh q,
-          k.came q,
-          k.at_eof q,
-          k.unreceived q,
-          was_unopened,
-        )
-
-        ends_with : (b : Bool)
-            → (result_message word names (Ok (completion_with b)) ≡ [])
-            × (result_status (Ok (completion_with b)) ≡ cond b 1 0)
-            × HasIndexBelow (length old) (Ok (completion_with b))
-        ends_with true = (refl, refl, tt)
-        ends_with false = (refl, refl, tt)
+        short q long = grind (arith, fresh_all old fresh q)
 
         -- all output that they decided was pushed
         processing : IsPrefix (sequential_decided t k.inputs_read done) k.pushed
         processing =
             let all = decided_inputs t law k.inputs_read [] done [] ended_now
             ∙ append-nil (sequential_output t (least_bytes k.inputs_read) done)
-            ∙ sym (k.out (least_bytes k.inputs_read) (least_consistent k.inputs_read)) in
+            ∙ sym (grind (arith, least_consistent)) in
             let none = append-nil (opened_inputs empty_input k.inputs_read done) in
             record {
               rest = [];
@@ -234,30 +191,34 @@ module _ {word : List ℕ} {t : ToolSpec} {names : List (List ℕ)} {old : List 
         unreceived = grind (arith, not_more);
         pushed = k.pushed;
         wrote = k.wrote;
-        out = λ w agrees. rw (nothing w agrees) (k.out w agrees);
-        has_said = said_more word names (is_reader_unopened old) done p k.has_said (rw old_unopened says);
+        out = grind (arith, nothing);
+        has_said = grind (arith, said_more, old_unopened);
         so_far_is = grind (arith, any_now, old_unopened);
         clean = k.clean;
         not_denied = k.not_denied;
         empty = k.empty;
-        peak = λ w agrees. rw (nothing w agrees) (k.peak w agrees);
-        slots = λ w agrees. rw (nothing w agrees) (k.slots w agrees);
-        room = holds_more (λ q. is_reader_unopened old q ≡ false → t.slots ≤ length store.lines) done p k.room
-            (grind (arith, old_unopened));
+        bounds = grind (arith, nothing);
+        room = grind (arith, common_steps);
       }
         where
           old_unopened : (reader_at old p).refused ≡ true
-          old_unopened = grind (arith, was_unopened, here)
+          old_unopened = grind (arith, here)
 
           nothing : (w : InputBytes) → AreInputsConsistent k.inputs_read w
               → opened_inputs [] w (done ++ p ∷ []) ≡ opened_inputs [] w done
-          nothing w agrees = grind (arith, opened_inputs_none, none_of, unopened_agrees, old_unopened)
+          nothing w agrees = grind (arith, opened_inputs_none, old_unopened)
 
     -- ---- an operand that was opened
 
-    module _ {is' : Output} {store' : Slots} {p : ℕ} {new : Reader} {result : Result (Unit {0}) FlowFault}
+    module _ {is' : Output} {store' : Slots} {p : ℕ} {now' : List Reader} {result : Result Completion FlowFault}
         (within : p < length old) (d : Reader) (open_here : (get_or now p d).refused ≡ false)
-        (sound : IsSound (get_or now p d)) (e : PassPost t (reader_at now p) new is is' store store' result) where
+        (sound : IsSound (get_or now p d)) (o : OperandPost t p now now' is is' store store' result) where
+      abbrev new : Reader
+      new = o.reader
+
+      abbrev e : PassPost t (reader_at now p) new is is' store store' o.pass_result
+      e = o.pass
+
       abbrev was_here : CallState (Unit {0})
       was_here = call_state (λ u. reader_at now p) is store
 
@@ -268,8 +229,8 @@ module _ {word : List ℕ} {t : ToolSpec} {names : List (List ℕ)} {old : List 
       given_here = e.call.given tt
 
       abbrev EndedAs : Result (Unit {0}) FlowFault → Type 0
-      EndedAs result = CallOutcome only_input (pass_engine t) was_here is_here e.call.given e.call.pushed
-          (pass_end result)
+      EndedAs passed = CallOutcome only_input (pass_engine t) was_here is_here e.call.given e.call.pushed
+          (pass_end passed)
 
       came_here : HasReceived (reader_at now p) new given_here
       came_here = e.call.came tt refl
@@ -278,7 +239,7 @@ module _ {word : List ℕ} {t : ToolSpec} {names : List (List ℕ)} {old : List 
       not_failed_before = grind (arith, here, ready_here)
 
       old_open : is_reader_unopened old p ≡ false
-      old_open = was_unopened p ∙ rw (here within d) at open_here
+      old_open = grind (arith, was_unopened, here)
 
       -- what its input had received before
       abbrev y : OpenedInput (reader_at old p) (reader_at now p) (at k.inputs_read p)
@@ -293,14 +254,11 @@ module _ {word : List ℕ} {t : ToolSpec} {names : List (List ℕ)} {old : List 
       abbrev inputs_read' : ReceivedInputs
       inputs_read' = set k.inputs_read p (Some (given_now y.given))
 
-      abbrev now' : List Reader
-      now' = set now p new
-
       reader_here : reader_at now' p ≡ new
       reader_here = search rules
 
       reader_other : (q : ℕ) → p ≢ q → reader_at now' q ≡ reader_at now q
-      reader_other q differs = search rules
+      reader_other q differs = rw o.inputs (search rules)
 
       read_here : at inputs_read' p ≡ Some (given_now y.given)
       read_here = search rules
@@ -309,20 +267,10 @@ module _ {word : List ℕ} {t : ToolSpec} {names : List (List ℕ)} {old : List 
       read_other q differs = search rules
 
       receives_here : HasReceived (reader_at old p) new (given_now y.given)
-      receives_here = receives_trans (reader_at old p) (reader_at now p) new y.given given_here y.received came_here
-          buffered
+      receives_here = grind (arith, common_steps, receives_trans, y.received, came_here, buffered)
 
       received' : HaveReceived old now' inputs_read'
-      received' = grind (
-        arith,
-        by_position,
-        reader_here,
-        read_here,
-        old_open,
-        receives_here,
-        reader_other,
-        read_other,
-      )
+      received' = grind (arith, reader_here, read_here, receives_here, reader_other, read_other)
 
       still : y.given.eof ≡ true → (given_here.bytes ≡ []) × (given_here.eof ≡ true)
       still eof = grind (arith, ended_gives_nothing, came_here, buffered)
@@ -343,16 +291,7 @@ module _ {word : List ℕ} {t : ToolSpec} {names : List (List ℕ)} {old : List 
 
       -- the bytes are consistent with what was received before
       back : (w : InputBytes) → AreInputsConsistent inputs_read' w → AreInputsConsistent k.inputs_read w
-      back w agrees = grind (
-        arith,
-        here,
-        consistent_bytes,
-        read_here,
-        by_position,
-        consistent_before,
-        still,
-        read_other,
-      )
+      back w agrees = grind (arith, read_here, consistent_before, still, read_other)
 
       -- the bytes that are left for the operand, consistent with what this call received
       record OperandFinds (w : InputBytes) : Type 0 where
@@ -385,20 +324,21 @@ module _ {word : List ℕ} {t : ToolSpec} {names : List (List ℕ)} {old : List 
           × (length store'.lines ≤ max (length before.lines) (sequential_slots t w (done ++ p ∷ more)))
       bounds_here w more agrees =
           let f = operand_finds w agrees in
+          let bounds = k.bounds w (back w agrees) in
           rw (opened_inputs_some [] w done p more f.bytes f.are, map-append, map-append) (
-            omega (arith, maximum-append, e.call.peak (λ u. f.bytes) (λ u read. f.agree), k.peak w (back w agrees)),
-            omega (arith, maximum-append, e.call.slots (λ u. f.bytes) (λ u read. f.agree), k.slots w (back w agrees)),
+            omega (arith, maximum-append, e.call.peak (λ u. f.bytes) (λ u read. f.agree), bounds.0),
+            omega (arith, maximum-append, e.call.slots (λ u. f.bytes) (λ u read. f.agree), bounds.1),
           )
 
       -- it was read to its end
-      passed_ok : result ≡ Ok tt
+      pub done_operand : {all : Completion} → result ≡ Ok all
           → OperandsDone word t names old now' was is' messages_old messages_new before store' (done ++ p ∷ []) so_far
-      passed_ok ok = record {
+      done_operand ok = record {
         inputs_read = inputs_read';
-        same_length = length-set now p new ∙ k.same_length;
-        long = length-set k.inputs_read p (Some (given_now y.given)) ∙ k.long;
+        same_length = grind (arith, length-set);
+        long = grind (arith, length-set);
         came = received';
-        at_eof = grind (arith, by_position, reader_here, at_eof, reader_other, is_in-other);
+        at_eof = grind (arith, reader_here, at_eof, reader_other, is_in-other);
         unread = grind (arith, not_more, reader_other);
         unreceived = grind (arith, not_more, read_other);
         pushed = k.pushed ++ e.call.pushed;
@@ -408,18 +348,17 @@ module _ {word : List ℕ} {t : ToolSpec} {names : List (List ℕ)} {old : List 
             ++ (end.out (λ u. f.bytes) (λ u read. f.agree) ∙ sym (append-nil (t.text f.bytes))) i)
             ∙ sym (out_here w [] f);
         has_said =
-            said_more word names (is_reader_unopened old) done p k.has_said (rw old_open (said_nothing messages_new));
+            grind (arith, said_more, old_open, said_nothing);
         so_far_is = grind (arith, any_before, old_open);
         clean = end.clean;
         not_denied = end.not_denied;
         empty = end.empty;
-        peak = λ w agrees. (bounds_here w [] agrees).0;
-        slots = λ w agrees. (bounds_here w [] agrees).1;
-        room = λ q seen opened. omega (arith, (e.call.added k.clean).all end.not_denied);
+        bounds = λ w agrees. bounds_here w [] agrees;
+        room = grind arith;
       }
         where
           end : AllPushed only_input (pass_engine t) was_here is_here e.call.given e.call.pushed None
-          end = subst EndedAs ok e.call.ends
+          end = subst EndedAs (ok_of p o.pass_result (sym o.result_is ∙ ok)) e.call.ends
 
           at_eof : IsAtEof new
           at_eof = record {
@@ -458,14 +397,9 @@ module _ {word : List ℕ} {t : ToolSpec} {names : List (List ℕ)} {old : List 
       ended_still : (q : ℕ) → is_in done q ≡ true → (reader_at now' q).refused ≡ false → IsDone (reader_at now' q)
       ended_still = grind (arith, by_position, reader_here, old_open, reader_other, was_unopened)
 
-      memory_is : (fault : FlowFault) → fault_at p fault ≡ Memory → fault ≡ Memory
-      memory_is (Read position) is = cc
-      memory_is Write is = is
-      memory_is Memory is = refl
-
       -- If no slot was missing, a line is left. A slot was missing only if no operand was read before: then its input
       -- is unread.
-      input_left : result ≡ Err Memory → IsDone new → ⊥
+      input_left : o.pass_result ≡ Err Memory → IsDone new → ⊥
       input_left memory ended = ⊎_elim
           (λ few.
           let unread = (e.call.unread k.clean few).readers tt refl in
@@ -512,7 +446,7 @@ module _ {word : List ℕ} {t : ToolSpec} {names : List (List ℕ)} {old : List 
             ≡ k.pushed ++ t.decided earlier
         decided_here = search (rules, decided_all, decided_open)
 
-        stopped : (more : List ℕ) (fault : FlowFault) → result ≡ Err fault
+        stopped : (more : List ℕ) (fault : FlowFault) → o.pass_result ≡ Err fault
             → RunInputsPost (sequential_spec word t names (done ++ p ∷ more)) old now' was is' messages_old messages_new
             before store' (Err (fault_at p fault))
         stopped more fault is_err = record {
@@ -525,35 +459,26 @@ module _ {word : List ℕ} {t : ToolSpec} {names : List (List ℕ)} {old : List 
           message = unopened_messages word names (is_reader_unopened old) done;
           has_said = k.has_said;
           names =
-              λ w agrees. rw (take-append_seam done (p ∷ more))
-              (unopened_same word names (is_reader_unopened old) (is_unopened w) done
-              (unopened_agrees old now' inputs_read' w received' agrees));
+              grind (arith, take-append_seam, received');
           ends = cause_of more fault end;
           position = index_within fault;
-          untouched = λ q other. let (differs, before) =
-              not_more done p q (rw (take-append-add done (p ∷ more) 1) at other) in reader_other q differs
-              ∙ k.unread q before;
-          ended = λ q named. ended_still q (rw (take-append_seam done (p ∷ more)) at named);
-          left = λ memory. let same : fault_at p fault ≡ Memory = cc in inl (
-            p,
-            rw (take-append-add done (p ∷ more) 1) (is_in-same done p),
-            rw reader_here (came_here.refused ∙ sym (was_unopened p) ∙ old_open),
-            rw reader_here (input_left (is_err ∙ ap (λ f. Err f) (memory_is fault same))),
-          );
+          untouched = grind (arith, not_more, take-append-add, reader_other);
+          ended = grind (arith, ended_still, take-append_seam);
+          left = grind (arith, take-append-add, is_in-same, reader_here, came_here.refused, old_open, input_left);
           is_prefix = λ w agrees. let f = operand_finds w agrees in let b = e.call.is_prefix (λ u. f.bytes)
               (λ u read. f.agree) in let rest =
               flat_map t.text (later w more) in record {
                 rest = b.rest ++ rest;
                 is = out_here w more f ∙ (λ i. sym (k.out w (back w agrees)) i ++ (b.is i ++ rest))
                     ∙ ap (λ l. k.pushed ++ l) (append_assoc e.call.pushed b.rest rest)
-                    ∙ sym (append_assoc k.pushed e.call.pushed (b.rest ++ rest));
+                    ∙ sym (grind (arith, common_steps));
               };
           decided_is_written = λ q failed clean. let here = fails_here q failed in let after =
               opened_values (inputs_of_operands empty_input inputs_read' (done ++ p ∷ []) more) in
               begins_after (t.decided given_here) (ap (λ l. flat_map t.decided (up_to_unended l))
-              (opened_inputs_some empty_input inputs_read' done p more given_here input_given)
+              (grind (arith, opened_inputs_some, input_given))
               ∙ decided_all (given_here ∷ after) ∙ ap (λ l. k.pushed ++ l)
-              (decided_open given_here after (inr (came_here.eof ∙ (failing fault end here).0))))
+              (grind (arith, decided_open, failing, end)))
               (e.call.decided_is_written tt refl here clean);
           bounded_lag =
               rw (
@@ -561,12 +486,9 @@ module _ {word : List ℕ} {t : ToolSpec} {names : List (List ℕ)} {old : List 
                 opened_inputs_some empty_input inputs_read' done p [] given_here input_given,
               )
               (last_earlier t (opened_inputs empty_input inputs_read' done) given_here (one_keeps.processing.before tt)
-              (λ bytes. IsPushedUpToBlock bytes was is' (k.pushed ++ e.call.pushed)) (record {
-                begins = begins_after (t.decided earlier) decided_here one_keeps.processing.begins;
-                buffering =
-                    rw decided_here
-                    (sends_after was is is' k.pushed (t.decided earlier) k.wrote k.clean one_keeps.buffering);
-              }));
+              (λ bytes. IsPushedUpToBlock bytes was is' (k.pushed ++ e.call.pushed))
+              (search
+              (rules, begins_after, decided_here, sends_after, k.wrote, one_keeps.processing, one_keeps.buffering)));
           names_failed_read = grind (arith, failing fault end, fails_here, position_of);
           peak = λ w agrees. (bounds_here w more agrees).0;
           slots = λ w agrees. (bounds_here w more agrees).1;
@@ -576,7 +498,7 @@ module _ {word : List ℕ} {t : ToolSpec} {names : List (List ℕ)} {old : List 
             end = grind arith
 
             position_of : (q : ℕ) → HasReadFailed old now' q → p ≡ q
-            position_of q failed = grind (arith, reader_other, not_failed_now, cases_eq p q)
+            position_of q failed = grind (arith, reader_other)
 
             fails_here : (q : ℕ) → HasReadFailed old now' q → new.failed ≡ true
             fails_here q failed = grind (arith, position_of, reader_here)
@@ -586,15 +508,7 @@ module _ {word : List ℕ} {t : ToolSpec} {names : List (List ℕ)} {old : List 
             index_within Write = tt
             index_within Memory = tt
 
-    module _ {is' : Output} {store' : Slots} {p : ℕ} {after : List Reader} {result : Result Completion FlowFault}
-        (within : p < length old) (d : Reader) (open_here : (get_or now p d).refused ≡ false)
-        (sound : IsSound (get_or now p d)) (call : OperandPost t p now after is is' store store' result) where
-      pub done_operand : {all : Completion} → result ≡ Ok all
-          → OperandsDone word t names old after was is' messages_old messages_new before store' (done ++ p ∷ []) so_far
-      done_operand ok = grind (arith, passed_ok, ok_of)
-
-      pub done_stopped : DecidesAll t → (more : List ℕ) {fault : FlowFault} → result ≡ Err fault
-          → RunInputsPost (sequential_spec word t names (done ++ p ∷ more)) old after was is' messages_old messages_new
-          before store' (Err fault)
-      done_stopped law more is_err = let f = err_of call.pass_result (sym call.result_is ∙ is_err) in
-          grind (arith, stopped)
+        pub done_stopped : (more : List ℕ) {fault : FlowFault} → result ≡ Err fault
+            → RunInputsPost (sequential_spec word t names (done ++ p ∷ more)) old now' was is' messages_old messages_new
+            before store' (Err fault)
+        done_stopped more is_err = let f = err_of o.pass_result (sym o.result_is ∙ is_err) in grind (arith, stopped)

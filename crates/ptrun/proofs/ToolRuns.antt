@@ -4,8 +4,8 @@ use Rattle.ptrun.proofs
 use proofs.Common.{All, Bool, Completion, DecidesAll, FlowFault, HasSaid, InputsPre, IsRun, List, OneByOne}
 use proofs.Common.{OperandPost, Output, PassPost, Reader, Result, RunInputsPost, SinkState, Slots, Together, ToolInRun}
 use proofs.Common.{ToolSpec, [], append-nil, arith, common_steps, false, false≢true, get_or, is_reader_unopened}
-use proofs.Common.{is_unopened, joint_spec, length, list_any, map, only_operand, reads_together, refl, sequential_spec}
-use proofs.Common.{set, sinks, spec_of_tool, sym, total_bytes, true, unopened_messages, ℕ, ◌∙◌, ◌∷◌, ◌≡◌, ◌≤◌}
+use proofs.Common.{is_unopened, joint_spec, list_any, map, only_operand, reads_together, refl}
+use proofs.Common.{sequential_spec, set, sinks, spec_of_tool, sym, total_bytes, true, unopened_messages, ℕ, ◌∙◌, ◌≡◌}
 use proofs.JointRuns.{joint_post, none_unopened}
 use proofs.OperandInputs.{any_same, fresh_all, nothing_read, received_of, unopened_agrees, unopened_same}
 use proofs.RunEnds.{unread}
@@ -18,9 +18,13 @@ abbrev pub one_tool : ToolInRun → ToolSpec
 one_tool (OneByOne t law) = t
 one_tool (Together t) = record { text = λ i. []; decided = λ g. []; size = λ i. 0; slots = 0; end = 10 }
 
-pub decides_all : (s : ToolInRun) → DecidesAll (one_tool s)
+abbrev pub decides_all : (s : ToolInRun) → DecidesAll (one_tool s)
 decides_all (OneByOne t law) = law
 decides_all (Together t) = λ bytes. refl
+
+pub read_in_turn : (s : ToolInRun) → reads_together s ≡ false → s ≡ OneByOne (one_tool s) (decides_all s)
+read_in_turn (OneByOne t law) in_turn = refl
+read_in_turn (Together t) in_turn = cc
 
 module _ (word : List ℕ) (names : List (List ℕ)) (positions : List ℕ) where
   -- ---- a file could not be opened
@@ -94,22 +98,9 @@ module _ (word : List ℕ) (names : List (List ℕ)) (positions : List ℕ) wher
           before store result
           → RunInputsPost (spec_of_tool word s names positions) old new was is messages_old messages_new before store
           result
-      sequential_post (OneByOne t law) in_turn post = post
-      sequential_post (Together t) in_turn post = absurd (false≢true (sym in_turn))
+      sequential_post s in_turn post = rw (read_in_turn s in_turn) post
 
 -- ---- one operand
-
-pub operand_pre : (s : ToolInRun) {operands : List ℕ} {inputs : List Reader} (out : Output) {store : Slots}
-    → reads_together s ≡ false → OperandPre operands inputs store → RunOnPre s operands inputs out store
-operand_pre (OneByOne t law) out in_turn ready = ready
-operand_pre (Together t) out in_turn ready = absurd (false≢true (sym in_turn))
-
-pub operand_post : (s : ToolInRun) {p : ℕ} {old new : List Reader} {was is : Output} {before store : Slots}
-    {result : Result Completion FlowFault}
-    → reads_together s ≡ false → RunOnPost s (p ∷ []) old new was is before store result
-    → OperandPost (one_tool s) p old new was is before store result
-operand_post (OneByOne t law) in_turn post = post
-operand_post (Together t) in_turn post = absurd (false≢true (sym in_turn))
 
 -- a pass over the reader of the only operand
 pub operand_passed : {t : ToolSpec} {operands : List ℕ} {old : List Reader} {new : Reader} {was is : Output}

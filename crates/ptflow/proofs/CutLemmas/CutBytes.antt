@@ -7,9 +7,9 @@ use proofs.Common.{IsFirstByte, is_byte, unlines, lines, IsLine, complete_lines,
 use proofs.Common.{unlines-append, line_before_terminator, select_from, cut_line, cut, cut_decided, cut_lines_from}
 use proofs.Common.{cut_bytes_from, cut_list_from, IsPrefix, Cut, Interval, ExtendsCut, CutPost, selected_bytes}
 use proofs.Common.{is_selected, drop-drop, zero, suc, ◌<◌, true, cond, set, ◌&&◌, get_or, length-append, sym}
-use proofs.Common.{◌∙◌, w8, All, nat_le, range_with_len, nat_tests, take-add, Each1}
-use proofs.Common.{Each1-from_get_or, swz_l, pick_l-range_with_len, take-map, take-take, take-append-le, take_all}
-use proofs.Common.{length-take-le, append-nil, All-set, length-range_with_len, cases_eq, put_chunk, length-drop}
+use proofs.Common.{◌∙◌, w8, All, nat_le, range_with_len, nat_tests, take-add}
+use proofs.Common.{swz_l, pick_l-range_with_len, take-map, take-take, take-append-le, take_all}
+use proofs.Common.{length-take-le, append-nil, length-range_with_len, cases_eq, put_chunk, length-drop}
 use proofs.Common.{length-swz_l, slice_get, take_more_set, min, drop_all, drop_more, AreSeparated}
 use Rattle.ptflow.specs.declared.tools.cut.bytes.Line.{Line}
 use proofs.Passes.Exits.{split_of, LineSplit, line_split}
@@ -18,8 +18,9 @@ use proofs.Vectors.Lanes.{stored_more}
 use mir.Val.{bool_byte}
 use Rattle.ptflow.specs.Private.Cut.ShortLines.{selected_indices, selected_after, IsPieceShuffle}
 use Rattle.ptflow.specs.declared.tools.cut.shuffle.PieceShuffle.{PieceShuffle}
-use proofs.Vectors.Compress.{selected_stored, shuffle_result}
+use proofs.Vectors.Compress.{row_lanes, selected_stored, shuffle_result}
 use lib.Seq.{take-nil}
+use Rattle.std.proofs.lemmas.List.{drop_min, length-take}
 
 -- ---- what intervals select
 
@@ -55,7 +56,7 @@ select_none test n [] out = refl
 select_none test n (x ∷ xs) out = grind (arith, select_none test (n + 1) xs (grind arith))
 
 pub select_past : {X : Type 0} (r : Interval) (n : ℕ) (xs : List X) → r.last < n → select_from (is_within r) n xs ≡ []
-select_past r n xs past = select_none (is_within r) n xs (λ k low high. above r k (omega arith))
+select_past r n xs past = grind (arith, select_none, above)
 
 -- the items of the first interval, and then those of the others
 pub select_first : {X : Type 0} (r : Interval) (rs : List Interval) (n : ℕ) (xs : List X) → AreSeparated (r.last + 1) rs
@@ -68,7 +69,7 @@ select_first r rs n (x ∷ xs) apart =
 pub select_skip : {X : Type 0} (test : ℕ → Bool) (n count : ℕ) (xs : List X)
     → ((k : ℕ) → n ≤ k → k < n + count → test k ≡ false)
     → select_from test n xs ≡ select_from test (n + count) (drop count xs)
-select_skip test n zero xs out = let same : n + 0 ≡ n = omega arith in rw same refl
+select_skip test n zero xs out = grind arith
 select_skip test n (suc count) [] out = refl
 select_skip test n (suc count) (x ∷ xs) out = grind (arith, select_skip test (n + 1) count xs (grind arith))
 
@@ -84,8 +85,8 @@ select_slice r n (x ∷ xs) (suc i) (suc j) is js = grind (arith, select_slice r
 
 -- the rest of the first bytes from an index on
 pub rest_of : (from to : ℕ) (bytes : List ℕ) → drop from (take to bytes) ≡ take (to - from) (drop from bytes)
-rest_of zero to bytes = let whole : to - 0 ≡ to = omega arith in cc
-rest_of (suc n) zero bytes = let none : 0 - suc n ≡ 0 = omega arith in cc
+rest_of zero to bytes = grind arith
+rest_of (suc n) zero bytes = grind arith
 rest_of (suc n) (suc to) [] = sym (take-nil (suc to - suc n))
 rest_of (suc n) (suc to) (b ∷ bytes) = grind (arith, common_steps, rest_of n to bytes)
 
@@ -93,13 +94,7 @@ rest_of (suc n) (suc to) (b ∷ bytes) = grind (arith, common_steps, rest_of n t
 slice_is : (r : Interval) (before count : ℕ) (bytes : List ℕ) → count ≤ length bytes → r.last < before + count
     → take ((r.last - before) - (r.first - (before + 1))) (drop (r.first - (before + 1)) bytes)
     ≡ select_from (is_within r) (before + 1) (take count bytes)
-slice_is r before count bytes within short = grind (arith, common_steps, r, select_slice, rest_of, take-take)
-
-drop_min : (i : ℕ) (xs : List ℕ) → drop (min i (length xs)) xs ≡ drop i xs
-drop_min zero xs = let least : min 0 (length xs) ≡ 0 = omega arith in cc
-drop_min (suc i) [] = let least : min (suc i) 0 ≡ 0 = omega arith in cc
-drop_min (suc i) (x ∷ xs) = let least : min (suc i) (suc (length xs))
-    ≡ suc (min i (length xs)) = omega arith in cc (drop_min i xs)
+slice_is r before count bytes within short = grind (arith, select_slice, rest_of, take-take)
 
 -- the rest of the piece, if the interval reaches its end
 rest_is : (r : Interval) (before count : ℕ) (bytes : List ℕ) → count ≤ length bytes → before + count ≤ r.last
@@ -128,7 +123,7 @@ module _ {all : List Interval} {before count : ℕ} (bytes : List ℕ) {was : Li
 
   -- all intervals were processed
   pub copied_done : length all ≤ i → is ≡ was ++ select_from (is_selected all) (before + 1) piece
-  copied_done past = grind (arith, common_steps, select_none, piece, drop_all, append-nil)
+  copied_done past = grind (arith, select_none, drop_all, append-nil)
 
   module _ (within : i < length all) where
     abbrev r : Interval
@@ -138,7 +133,7 @@ module _ {all : List Interval} {before count : ℕ} (bytes : List ℕ) {was : Li
     rs = drop (i + 1) all
 
     apart : AreSeparated k.low (r ∷ rs)
-    apart = rw (drop_more all i (record { first = 0; last = 0 }) within) at k.apart
+    apart = grind (arith, drop_more)
 
     next : (is ++ select_from (is_within r) (before + 1) piece) ++ select_from (is_selected rs) (before + 1) piece
         ≡ was ++ select_from (is_selected all) (before + 1) piece
@@ -150,13 +145,7 @@ module _ {all : List Interval} {before count : ℕ} (bytes : List ℕ) {was : Li
           → is' ≡ is ++ take (count - from) (drop from bytes)
           → is' ≡ was ++ select_from (is_selected all) (before + 1) piece
       copied_ends {from} from_is reaches copied =
-          cc (
-            rest_is r before count bytes in_bytes reaches,
-            select_none (is_selected rs) (before + 1) piece
-                (grind (arith, not_selected, apart, piece_long)),
-            append-nil is',
-            next,
-          )
+          grind (arith, rest_is, select_none, not_selected, apart, piece_long, append-nil, next)
 
       -- it ends before
       pub copied_more : {from to : ℕ} → from ≡ r.first - (before + 1) → to ≡ r.last - before → r.last < before + count
@@ -173,7 +162,7 @@ module _ (end : ℕ) (selected : ℕ → Bool) where
   -- at offset 0, the rest is a text of its own
   pub rest_of_all : (ls : List (List ℕ)) → cut_lines_from end selected 0 ls ≡ cut_text ls
   rest_of_all [] = refl
-  rest_of_all (line ∷ ls) = simp (append_assoc, end, cut_text)
+  rest_of_all (line ∷ ls) = simp (append_assoc, cut_text)
 
   pub rest_line : (line_offset : ℕ) (line rest : List ℕ) → IsLine end line
       → cut_bytes_from end selected line_offset (line ++ end ∷ rest)
@@ -195,7 +184,7 @@ module _ (end : ℕ) (selected : ℕ → Bool) where
   pub rest_piece : (line_offset : ℕ) (piece rest : List ℕ) → IsLine end piece
       → cut_bytes_from end selected line_offset (piece ++ rest) ≡ select_from selected (line_offset + 1) piece
       ++ cut_bytes_from end selected (line_offset + length piece) rest
-  rest_piece line_offset [] rest whole = let same : line_offset + 0 ≡ line_offset = omega arith in cc
+  rest_piece line_offset [] rest whole = grind arith
   rest_piece line_offset (b ∷ piece) rest whole =
       grind (arith, rest_piece (line_offset + 1) piece rest whole.1, byte_ne, rest_onto, select_onto)
 
@@ -253,7 +242,6 @@ pub line_cut : {end : ℕ} {list : List Interval} {block : List ℕ} {was now ne
     → is ≡ new ++ (selected_bytes list block now count ++ end ∷ []) → next.start ≡ now.start + count + 1
     → next.line_offset ≡ 0 → next.at ≤ now.at + count + 1 → CutPost end list block was old next is
 line_cut {end} {list} {block} {was} {now} {next} {old} {new} count post first is start none near =
-    let left : now.start + (count + 1) ≡ next.start = omega (arith, start) in
     grind (arith, common_steps, cut_next, line_on, drop-drop)
 
 module _ (job : Cut) (by_bytes : job.fields ≡ false) where
@@ -266,10 +254,10 @@ module _ (job : Cut) (by_bytes : job.fields ≡ false) where
     where
       one_each : (xs : List (List ℕ)) → flat_map (cut_line job) xs ≡ map (select_from job.selected 1) xs
       one_each [] = refl
-      one_each (x ∷ xs) = rw by_bytes (ap (◌∷◌ (select_from job.selected 1 x)) (one_each xs))
+      one_each (x ∷ xs) = cc (by_bytes, one_each xs)
 
   pub rest_is_cut : (bytes : List ℕ) → cut_bytes_from end job.selected 0 bytes ≡ cut job bytes
-  rest_is_cut bytes = simp (rest_of_all, end, made_is)
+  rest_is_cut bytes = simp (rest_of_all, made_is)
 
   -- the output that was pushed for these bytes begins with the output for their complete lines
   pub rest_is_decided : (given pushed : List ℕ) (now : ℕ)
@@ -281,11 +269,7 @@ module _ (job : Cut) (by_bytes : job.fields ≡ false) where
       let ls = complete_lines end given in
       -- with one terminator more, the piece is a line too
       let all_lines : lines end (given ++ end ∷ []) ≡ ls ++ p.piece ∷ [] =
-      cc (
-        append_assoc (unlines end ls) p.piece (end ∷ []),
-        lines_of_unlines end ls (p.piece ++ end ∷ []) p.whole,
-        lines_cons end p.piece [] p.line,
-      ) in
+      grind (arith, common_steps, lines_of_unlines, lines_cons) in
       record {
         rest = select_from job.selected 1 p.piece;
         is = grind (arith, common_steps, rest_line, rest_of_all, unlines-append, made_is);
@@ -296,18 +280,10 @@ module _ (job : Cut) (by_bytes : job.fields ≡ false) where
 -- The shuffles of `cut`. A row has the selected indices in order, so a shuffle moves the selected bytes of 16 bytes to
 -- the front; the counts are how many of them a piece of each length has. A line is cut piece by piece.
 
-last_low : (r : Interval) {limit index : ℕ} → nat_le r.last limit ≡ true → limit < index → r.last < index
-last_low r low later = grind (arith, nat_tests)
-
-length-take-le' : {X : Type 0} (n : ℕ) (xs : List X) → length (take n xs) ≤ n
-length-take-le' zero xs = omega arith
-length-take-le' (suc n) [] = omega arith
-length-take-le' (suc n) (x ∷ xs) = omega (arith, length-take-le' n xs)
-
 module _ (selected : ℕ → Bool) where
   pub select_append : {X : Type 0} (n : ℕ) (xs ys : List X)
       → select_from selected n (xs ++ ys) ≡ select_from selected n xs ++ select_from selected (n + length xs) ys
-  select_append n [] ys = let same : n ≡ n + 0 = omega arith in cc
+  select_append n [] ys = grind arith
   select_append n (x ∷ xs) ys = grind (arith, select_append (n + 1) xs ys)
 
   map_select : (f : ℕ → ℕ) (n : ℕ) (xs : List ℕ) → map f (select_from selected n xs) ≡ select_from selected n (map f xs)
@@ -319,7 +295,7 @@ module _ (selected : ℕ → Bool) where
   few_selected n (x ∷ xs) = grind (arith, few_selected (n + 1) xs)
 
   range_parts : (a n m : ℕ) → range_with_len a (n + m) ≡ range_with_len a n ++ range_with_len (a + n) m
-  range_parts a zero m = let same : a + 0 ≡ a = omega arith in let none : 0 + m ≡ m = omega arith in cc
+  range_parts a zero m = grind arith
   range_parts a (suc n) m =
       let next : suc n + m ≡ suc (n + m) = omega arith in
       let there : a + 1 + n ≡ a + suc n = omega arith in
@@ -329,9 +305,6 @@ module _ (selected : ℕ → Bool) where
   picked_parts : (n m : ℕ) → selected_indices selected (n + m) ≡ selected_indices selected n
       ++ select_from selected (1 + n) (range_with_len n m)
   picked_parts n m = grind (arith, common_steps, range_parts, select_append, length-range_with_len)
-
-  few_indices : (n : ℕ) → length (selected_indices selected n) ≤ n
-  few_indices n = omega (arith, few_selected 1 (range_with_len 0 n), length-range_with_len 0 n)
 
   -- ---- the row and the counts, index by index
 
@@ -352,17 +325,7 @@ module _ (selected : ℕ → Bool) where
       → PickBegun index count row counts → one ≡ bool_byte (selected (index + 1))
       → after ≡ set counts (index + 1) (count + one) → PickBegun (index + 1) (count + one) (set row count index) after
   shuffle_next {index} {count} {row} {counts} {after} {one} low begun told after_is =
-      grind (
-        arith,
-        common_steps,
-        All-set,
-        length-set,
-        stored_more,
-        one_index,
-        get_or-set_same,
-        get_or-set_other,
-        cases_eq,
-      )
+      grind (arith, common_steps, length-set, stored_more, one_index, get_or-set_same, get_or-set_other, cases_eq)
 
   -- no byte of a line after its first `start` bytes is selected
   pub none_later : {X : Type 0} {max_len start count : ℕ} (xs : List X)
@@ -370,9 +333,7 @@ module _ (selected : ℕ → Bool) where
       → count ≤ length xs → select_from selected 1 (take start xs) ≡ select_from selected 1 (take count xs)
   none_later {start} {count} xs past later upto within =
       let whole : start + (count - start) ≡ count = omega arith in
-      let none : select_from selected (1 + length (take start xs)) (take (count - start) (drop start xs)) ≡ [] =
-      grind (arith, common_steps, select_none, length-take-le', length-take-le) in
-      grind (arith, common_steps, append-nil, select_append, take-add)
+      grind (arith, select_none, length-take, append-nil, select_append, take-add)
 
   -- ---- the bytes of a line that the row moves to the front
 
@@ -395,22 +356,10 @@ module _ (selected : ℕ → Bool) where
     pub pick_line : {count : ℕ} (v : List ℕ) → count ≤ 16 → length v ≡ 16
         → take (get_or piece.counts count 0) (swz_l w8 16 v 0 piece.row) ≡ select_from selected 1 (take count v)
     pick_line {count} v short long =
-        let lanes = Each1-from_get_or (λ index. index < 16) piece.row 0 (λ i low. is.lanes i 0 low) in
-        grind (
-          arith,
-          common_steps,
-          shuffle_result,
-          take-map,
-          prefix_indices,
-          map_select,
-          pick_l-range_with_len,
-        )
+        grind (arith, shuffle_result, row_lanes, take-map, prefix_indices, map_select, pick_l-range_with_len)
 
     pub shuffle_few : (count : ℕ) → count ≤ 16 → get_or piece.counts count 0 ≤ count
-    shuffle_few count short = omega (arith, is.counts count short, few_indices count)
-
-    pub shuffle_lanes : Each1 (λ index. index < 16) piece.row
-    shuffle_lanes = Each1-from_get_or (λ index. index < 16) _ 0 (λ i low. is.lanes i 0 low)
+    shuffle_few count short = grind (arith, few_selected, length-range_with_len)
 
 -- positions after the last interval are not selected
 pub none_after : (all : List Interval) (low n : ℕ) {last : Interval} {index : ℕ} → AreSeparated low all
@@ -421,7 +370,7 @@ none_after (one ∷ []) low zero separated few is later = grind (arith, above)
 none_after (one ∷ two ∷ more) low zero separated few is later = absurd (omega arith)
 none_after (one ∷ more) low (suc n) {last} {index} separated few is later =
     let (none, less) = none_after more (one.last + 1) n separated.2 (omega (arith, few)) is later in
-    (cc (none, above one index (omega (arith, less))), omega (arith, separated, less))
+    grind (arith, above)
 
 -- ---- a line, piece by piece
 
@@ -461,4 +410,4 @@ piece_copied selected start m at bytes was into {piece} {size} is counted short 
 -- the selected bytes of a complete line, and the terminator
 pub line_ended : (end b : ℕ) (bytes was into : List ℕ) → end < length into → take end into ≡ was ++ bytes
     → take (end + 1) (set into end b) ≡ was ++ (bytes ++ b ∷ [])
-line_ended end b bytes was into room put = cc (take_more_set into end b room, append_assoc was bytes (b ∷ []))
+line_ended end b bytes was into room put = grind (arith, common_steps, take_more_set)

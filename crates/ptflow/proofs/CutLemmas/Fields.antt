@@ -5,13 +5,13 @@
 -- lines is the output for each, one after the other.
 use Rattle.ptflow.proofs
 use proofs.Common.{common_steps, ◌≡◌, ℕ, zero, suc, ◌+◌, ◌<◌, ◌==◌, ◌-◌, ◌≤◌, Bool, true, false, List, [], ◌∷◌}
-use proofs.Common.{◌++◌, length, take, drop, refl, sym, ◌∙◌, ap, arith, join_with_byte, append-nil}
+use proofs.Common.{◌++◌, length, take, drop, refl, sym, ap, arith, join_with_byte, append-nil}
 use proofs.Common.{take-take, take-add, take_all, drop_all, drop-drop, length-drop, length-take-le, take-append-drop}
-use proofs.Common.{flat_map-append, length-slice_split, count_by, is_byte, byte_eq, eqb-true, fields, prefixed_fields}
-use proofs.Common.{IsFieldOffset, IsNth, get_or, length-append, drop_more, drop-append-le, nil_from_length, Cut}
+use proofs.Common.{flat_map-append, length-slice_split, count_by, is_byte, byte_eq, fields, prefixed_fields}
+use proofs.Common.{IsFieldOffset, IsNth, get_or, length-append, drop-append-le, nil_from_length, Cut}
 use proofs.Common.{cut_fields, is_selected, AreSeparated, Interval, select_from, IsFieldCursor, IsNextSlice}
 use proofs.Common.{output_from_cursor, min, Option, None, Some, is_some, flat_map, list_any, list_any_at, IsFirstByte}
-use proofs.Common.{line_if_not_found, unlines, IsLine, byte_ne, is_field_delimiter, cut_line, cut_lines, cut_tool}
+use proofs.Common.{line_if_not_found, unlines, IsLine, is_field_delimiter, cut_line, cut_lines, cut_tool}
 use proofs.Common.{cut_fields_from, IsPrefix, IsLineFilter, ◌⊎◌, inl, inr, get_or-take, unwrap_or, complete_lines}
 use proofs.Common.{AreLines, line_before_terminator, complete_lines_cons, the_lines, the_complete_lines, CopyLinesPost}
 use proofs.Common.{the_lines_of_parts, CutOfParts, rules}
@@ -48,7 +48,7 @@ module _ (d : ℕ) where
 
     -- after the last field
     pub offset_end : {n : ℕ} → count_by (is_byte d) line < n → IsFieldOffset d n line (length line + 1)
-    offset_end {n} lt = grind (arith, common_steps, length-slice_split, take_all, prefixed_of_fields, drop_all)
+    offset_end {n} lt = grind (arith, length-slice_split, take_all, prefixed_of_fields, drop_all)
 
     -- after the delimiter that comes after n - 1 others
     pub offset_after_nth : {n : ℕ} (at : ℕ) → 0 < n → IsNth (is_byte d) 0 (n - 1) line at
@@ -56,10 +56,8 @@ module _ (d : ℕ) where
     offset_after_nth {n} at some (within, passes, before) =
         let xs = take at line in
         let ys = drop (at + 1) line in
-        let one : at + 1 ≡ suc at = omega arith in
-        let long : length xs ≡ at = length-take-le at line (omega arith) in
-        let here : drop at line ≡ d ∷ ys = grind (arith, common_steps, eqb-true) in
-        let number : length (fields d xs) ≡ n = omega (arith, length-slice_split (is_byte d) xs, before) in
+        let here : drop at line ≡ d ∷ ys = grind (arith, common_steps) in
+        let number : length (fields d xs) ≡ n = omega (arith, length-slice_split (is_byte d) xs) in
         let split : fields d line ≡ fields d xs ++ fields d ys = cc (take-append-drop at line, fields-append xs ys) in
         grind (arith, common_steps, prefixed_of_fields)
 
@@ -69,7 +67,7 @@ module _ (d : ℕ) where
 
       -- after the line no field is left
       pub none_left : length line < at → drop n (fields d line) ≡ []
-      none_left past = none (drop n (fields d line)) (sym o.back ∙ drop_all at (d ∷ line) (omega arith))
+      none_left past = grind (arith, none, drop_all)
         where
           none : (fs : List (List ℕ)) → prefixed_fields d fs ≡ [] → fs ≡ []
           none [] is = refl
@@ -79,12 +77,12 @@ module _ (d : ℕ) where
       pub offset_add : at ≤ length line → {k size : ℕ} → IsFieldOffset d k (drop at line) size
           → IsFieldOffset d (n + k) line (at + size)
       offset_add fits {k} {size} next =
-          grind (arith, common_steps, length-drop, take-add, rest_at, prefixed_fields-append, drop-drop)
+          grind (arith, common_steps, length-drop, take-add, rest_at, drop-drop)
 
 -- a slice of a line
 pub slice_of : (from size : ℕ) {to : ℕ} (bytes : List ℕ) → from + size ≤ to
     → take size (drop from (take to bytes)) ≡ take size (drop from bytes)
-slice_of from size {to} bytes le = grind (arith, common_steps, rest_of, take-take)
+slice_of from size {to} bytes le = grind (arith, rest_of, take-take)
 
 -- ---- the selected fields of a line, in one pass
 
@@ -92,13 +90,12 @@ slice_of from size {to} bytes le = grind (arith, common_steps, rest_of, take-tak
 module _ (cursor : FieldCursor) (none : cursor.passed ≡ 0) where
   pub cursor_starts : (d : ℕ) (line : List ℕ) → cursor.at ≡ 0 → AreSeparated 0 cursor.left.now
       → IsFieldCursor d line cursor
-  cursor_starts d line start apart =
-      record { offset = rw (none, start) (offset_start d line); apart = rw none apart }
+  cursor_starts d line start apart = grind (arith, offset_start)
 
   -- all selected fields of a line are left, by the list of a job
   pub selected_remaining : (job : Cut) {d : ℕ} (line : List ℕ) → d ≡ job.delimiter
       → is_selected cursor.left.now ≡ job.selected → cut_fields job line ≡ output_from_cursor d line cursor
-  selected_remaining job {d} line same selected = grind (arith, common_steps, join_prefixed)
+  selected_remaining job {d} line same selected = grind (arith, join_prefixed)
 
 module _ (d : ℕ) (line : List ℕ) (cursor : FieldCursor) where
   abbrev all : List Interval
@@ -111,12 +108,11 @@ module _ (d : ℕ) (line : List ℕ) (cursor : FieldCursor) where
 
   -- no interval is left
   pub no_interval : length all ≡ 0 → output_from_cursor d line cursor ≡ []
-  no_interval none = none_selected
-      (select_none (is_selected all) _ _ (λ k low high. ap (λ rs. is_selected rs k) (nil_from_length all none)))
+  no_interval none = grind (arith, select_none, nil_from_length)
 
   -- the line ends before the cursor
   pub no_field : IsFieldCursor d line cursor → length line < cursor.at → output_from_cursor d line cursor ≡ []
-  no_field w past = none_selected (cc (none_left d line w.offset past))
+  no_field w past = grind (arith, none_selected, none_left)
 
   module _ (w : IsFieldCursor d line cursor) (fits : cursor.at ≤ length line) (within : 0 < length all) where
     -- the next interval, and those after it
@@ -137,7 +133,7 @@ module _ (d : ℕ) (line : List ℕ) (cursor : FieldCursor) where
     size = r.last - r.first + 1
 
     these : all ≡ r ∷ rs
-    these = drop_more all 0 (record { first = 0; last = 0 }) within
+    these = grind arith
 
     apart : AreSeparated (cursor.passed + min cursor.passed 1) (r ∷ rs)
     apart = rw these at w.apart
@@ -162,7 +158,7 @@ module _ (d : ℕ) (line : List ℕ) (cursor : FieldCursor) where
       ends_before past = none_selected (cc (
         these,
         select_skip (is_selected (r ∷ rs)) (cursor.passed + 1) skip here
-            (grind (arith, not_selected, not_past, apart)),
+            (grind (arith, not_selected)),
         left,
         none_left d line starts past,
       ))
@@ -172,23 +168,23 @@ module _ (d : ℕ) (line : List ℕ) (cursor : FieldCursor) where
         rest = drop from line
 
         sep_fits : min cursor.passed 1 ≤ from
-        sep_fits = omega (arith, not_past)
+        sep_fits = omega arith
 
         -- the start of the interval, with or without the delimiter before it
         sep_drop : drop (from - min cursor.passed 1) line ≡ drop (1 - min cursor.passed 1) (d ∷ rest)
-        sep_drop = by_sep (min cursor.passed 1) from (omega arith) sep_fits (rest_at d line starts begun)
+        sep_drop = grind (arith, by_sep, rest_at, starts)
           where
             by_sep : (sep n : ℕ) → sep ≤ 1 → sep ≤ n → drop n (d ∷ line) ≡ d ∷ drop n line
                 → drop (n - sep) line ≡ drop (1 - sep) (d ∷ drop n line)
-            by_sep zero n one fits split = let same : n - 0 ≡ n = omega arith in rw same refl
+            by_sep zero n one fits split = grind arith
             by_sep (suc zero) zero one fits split = absurd (omega arith)
-            by_sep (suc zero) (suc n) one fits split = let same : suc n - 1 ≡ n = omega arith in cc
+            by_sep (suc zero) (suc n) one fits split = grind arith
             by_sep (suc (suc sep)) n one fits split = absurd (omega arith)
 
         module _ {at : ℕ} (later : from ≤ at) (p : IsFieldOffset d size rest (at - from)) where
           ends : IsFieldOffset d r.last line at
           ends =
-              let is : from + (at - from) ≡ at = omega (arith, later) in
+              let is : from + (at - from) ≡ at = omega arith in
               let last : cursor.passed + skip + size ≡ r.last = omega (arith, not_past, apart.1) in
               rw (is, last) at (offset_add d line starts begun p)
 
@@ -200,17 +196,18 @@ module _ (d : ℕ) (line : List ℕ) (cursor : FieldCursor) where
               ++ select_from (is_selected rs) (r.last + 1) (drop r.last (fields d line))
           selected =
               let b = r.last + 1 - (cursor.passed + 1) in
-              let many : b - skip ≡ size = omega (arith, not_past, apart.1) in
               let count : (cursor.passed + 1) + (skip + size) ≡ r.last + 1 = omega (arith, not_past, apart.1) in
-              let all_of : cursor.passed + (skip + size) ≡ r.last = omega (arith, not_past, apart.1) in
-              cc (
-                select_first r rs (cursor.passed + 1) here apart.2,
-                select_slice r (cursor.passed + 1) here skip b (omega arith) refl,
+              grind (
+                arith,
+                not_past,
+                select_first,
+                select_slice,
                 left,
-                starts.later begun,
-                select_skip (is_selected rs) (cursor.passed + 1) (skip + size) here
-                    (grind (arith, not_selected, apart)),
-                drop-drop (skip + size) _ (fields d line),
+                starts.later,
+                select_skip,
+                not_selected,
+                apart,
+                drop-drop,
               )
 
           -- the slice, and then the output that is left
@@ -218,35 +215,29 @@ module _ (d : ℕ) (line : List ℕ) (cursor : FieldCursor) where
               ≡ take ((at - 1) - (from - min cursor.passed 1)) (drop (from - min cursor.passed 1) line)
               ++ prefixed_fields d (select_from (is_selected rs) (r.last + 1) (drop r.last (fields d line)))
           output =
-              let sep = min cursor.passed 1 in
-              let slice = take (at - from) (d ∷ rest) in
-              let others = select_from (is_selected rs) (r.last + 1) (drop r.last (fields d line)) in
-              let long : length slice ≡ at - from = length-take-le (at - from) (d ∷ rest) (omega (arith, p.fits)) in
-              let size_is : at - from - (1 - sep) ≡ at - 1 - (from - sep) = omega (arith, some, sep_fits) in
-              cc (
+              grind (
+                arith,
+                length-take-le,
+                some,
+                sep_fits,
                 these,
                 selected,
-                prefixed_fields-append d (take size (fields d rest)) others,
-                p.front,
-                drop-append-le (1 - sep) slice (prefixed_fields d others) (omega (arith, long, some)),
-                rest_of (1 - sep) (at - from) (d ∷ rest),
+                prefixed_fields-append,
+                drop-append-le,
+                rest_of,
                 sep_drop,
-                size_is,
               )
-
-          one : min r.last 1 ≡ 1
-          one = omega (arith, not_past, in_order)
 
           pub next_slice : (next : FieldCursor) → next.left.now ≡ rs → next.passed ≡ r.last → next.at ≡ at
               → IsNextSlice d line cursor (from - min cursor.passed 1) (at - 1) next
-          next_slice next left_is passed_is at_is = grind (arith, common_steps, output, one, ends, some, these, apart)
+          next_slice next left_is passed_is at_is = grind (arith, output, ends)
 
 -- ---- the output of a line is not longer than the line
 
 few_prefixed : (d : ℕ) (test : ℕ → Bool) (n : ℕ) (fs : List (List ℕ))
     → length (prefixed_fields d (select_from test n fs)) ≤ length (prefixed_fields d fs)
 few_prefixed d test n [] = omega arith
-few_prefixed d test n (f ∷ fs) = grind (arith, common_steps, few_prefixed d test (n + 1) fs, length-append)
+few_prefixed d test n (f ∷ fs) = grind (arith, common_steps, few_prefixed d test (n + 1) fs)
 
 pub output_is_short : (job : Cut) (line : List ℕ) → length (cut_fields job line) ≤ length line
 output_is_short job line =
@@ -279,13 +270,13 @@ output_is_near start end was now out part rest copied room place =
 
 pub none_of : (d : ℕ) (line : List ℕ) → IsLine d line → list_any (λ b. b == d) line ≡ false
 none_of d [] free = refl
-none_of d (b ∷ line) free = grind (arith, none_of d line, byte_ne)
+none_of d (b ∷ line) free = grind (arith, none_of d line)
 
 -- the delimiter is in a line, by a search
 pub found : (d : ℕ) (line : List ℕ) (r : Option ℕ) → IsFirstByte (is_byte d) line r
     → list_any (λ b. b == d) line ≡ is_some r
 found d line None first = none_of d line (line_if_not_found d line first)
-found d line (Some at) first = grind (arith, common_steps, list_any_at)
+found d line (Some at) first = grind (arith, list_any_at)
 
 -- the output for a line that is cut by fields
 module _ (job : Cut) (by_fields : job.fields ≡ true) (line : List ℕ) where
@@ -296,12 +287,12 @@ module _ (job : Cut) (by_fields : job.fields ≡ true) (line : List ℕ) where
   of_line none keeps = grind arith
 
   pub of_none : list_any (is_field_delimiter job) line ≡ false → job.only ≡ true → cut_line job line ≡ []
-  of_none none only = rw (by_fields, none, only) refl
+  of_none none only = grind arith
 
 module _ (job : Cut) (line : List ℕ) where
   pub line_written : (bytes : List ℕ) → cut_line job line ≡ bytes ∷ [] → cut_lines job (line ∷ []) ≡ bytes
       ++ job.terminator ∷ []
-  line_written bytes is = grind (arith, common_steps, append-nil)
+  line_written bytes is = grind (arith, append-nil)
 
   pub line_dropped : cut_line job line ≡ [] → cut_lines job (line ∷ []) ≡ []
   line_dropped is = cc
@@ -313,7 +304,7 @@ module _ (job : Cut) where
   -- all output that was pushed is decided
   cut_sure : (ls : List (List ℕ)) (pushed : List ℕ) → cut_lines job (ls ++ []) ≡ pushed ++ cut_lines job []
       → IsPrefix (cut_lines job ls) pushed
-  cut_sure ls pushed on = grind (arith, common_steps, append-nil, cut_lines)
+  cut_sure ls pushed on = grind (arith, append-nil, cut_lines)
 
   pub cut_line_tool : {S : Type 0} (start : S) → job.fields ≡ true
       → IsLineFilter {S = S} {X = Unit {0}} {E = ℕ} (cut_tool job) (λ room store. tt) (cut_fields_from job)
@@ -371,7 +362,7 @@ module _ (job : Cut) (by_fields : job.fields ≡ true) {end : ℕ} (same : end �
     is_ended = grind (arith, common_steps)
 
     texts : unlines end front ≡ take size bytes
-    texts = cc (is_ended, text_of_ended end (take (size - 1) bytes))
+    texts = grind (arith, is_ended, text_of_ended)
 
     lines_are : complete_lines end bytes ≡ front ++ complete_lines end (drop size bytes)
     lines_are =
@@ -386,8 +377,8 @@ module _ (job : Cut) (by_fields : job.fields ≡ true) {end : ℕ} (same : end �
     free_up_to {n} le = rw (take-take n up_to bytes le) at (free_prefix job.delimiter n (take up_to bytes) free)
 
     are_free : ((size ≡ to + 1) ⊎ (size ≤ up_to)) → AreLines job.delimiter front
-    are_free (inl one) = grind (arith, common_steps, complete_lines_cons, line_before_terminator, free_up_to)
-    are_free (inr le) = free_lines _ end (take size bytes) (free_up_to le)
+    are_free (inl one) = grind (arith, common_steps, complete_lines_cons, line_before_terminator)
+    are_free (inr le) = search (rules, free_lines, free_up_to)
 
     pub puts_kept : {old new : List ℕ} → job.only ≡ false → new ≡ old ++ take size bytes
         → CopyLinesPost job end bytes size old new
@@ -399,7 +390,7 @@ module _ (job : Cut) (by_fields : job.fields ≡ true) {end : ℕ} (same : end �
 -- before the first delimiter there is none
 pub free_before : (d : ℕ) (bytes : List ℕ) (r : Option ℕ) → IsFirstByte (is_byte d) bytes r
     → IsLine d (take (unwrap_or r (length bytes)) bytes)
-free_before d bytes None none = grind (arith, common_steps, take_all, line_if_not_found)
+free_before d bytes None none = grind (arith, take_all, line_if_not_found)
 free_before d bytes (Some at) first = line_before_terminator d bytes at first
 
 -- the first delimiter of some bytes is the first one of the first line if it is in that line
@@ -407,8 +398,8 @@ pub first_within : (d : ℕ) (bytes : List ℕ) (r : Option ℕ) (to : ℕ) → 
     → unwrap_or r (length bytes) < to → to ≤ length bytes
     → IsFirstByte (is_byte d) (take to bytes) (Some (unwrap_or r (length bytes)))
 first_within d bytes None to none lt le = absurd (omega arith)
-first_within d bytes (Some at) to first lt le = grind (arith, common_steps, length-take-le, get_or-take)
+first_within d bytes (Some at) to first lt le = grind (arith, common_steps, get_or-take)
 
 -- a text that is cut after a line
 pub cut_of_parts : CutOfParts
-cut_of_parts job a b whole = grind (arith, common_steps, the_lines_of_parts, cut_lines-append)
+cut_of_parts job a b whole = grind (arith, common_steps, the_lines_of_parts)

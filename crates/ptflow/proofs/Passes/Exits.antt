@@ -4,19 +4,20 @@
 -- prefix of the output for each consistent input, and decided output is written.
 use Rattle.ptflow.proofs
 use proofs.Common.{◌≡◌, ℕ, ◌≤◌, ◌<◌, ◌^◌, true, false, List, [], ◌++◌, length, None, Result, Ok, Err, max, arith, Slots}
-use proofs.Common.{append_assoc, common_steps, append-nil, false_from_ne_true, Reader, ReaderAdvance, AdvanceOk, IsDone}
+use proofs.Common.{append_assoc, common_steps, append-nil, Reader, ReaderAdvance, AdvanceOk, IsDone}
 use proofs.Common.{IsSound, HasReadCause, Received, IsPrefix, IsConsistent, Output, PushEffect, total_bytes, push_trans}
 use proofs.Common.{received_with, advance_trans, push_nothing, ToolSpec, PassPre, PassPost, only_input, pass_end, Read}
 use proofs.Common.{pass_engine, CallState, call_state, CallOutcome, AddedSlots, CallProgress, DecidedIfReadFailed, take}
 use proofs.Common.{call_ends, call_on_failed_output, call_set, call_without_slots, ProcessLag, bounded_lag_after, Write}
-use proofs.Common.{FlowFault, Memory, rules, drop, advance_ok_take, Bool, refl, sym, subst, push_past_failure}
-use proofs.Common.{OnErr, err_from_is_err_and, ◌+◌, ◌-◌, take_all, advance_ok_trans, inl, inr, zero, suc, ◌∷◌, unlines}
-use proofs.Common.{length-append, take-append-drop, false≢true, lines, IsLine, AreLines, max_length, max_line_length}
+use proofs.Common.{FlowFault, Memory, rules, drop, advance_ok_take, Bool, refl, push_past_failure}
+use proofs.Common.{OnErr, err_from_is_err_and, ◌+◌, ◌-◌, take_all, inl, inr, zero, suc, ◌∷◌, unlines}
+use proofs.Common.{take-append-drop, false≢true, lines, IsLine, AreLines, max_length, max_line_length}
 use proofs.Common.{known_lines, LaggedInput, FillLine, lines_of_unlines, lines_of_last, lines_cons, lines-unlines, ◌==◌}
 use proofs.Common.{complete_lines_of_unlines, AreReceivedLines, cond, ap, Some, eqb-true, eqb-false, complete_lines}
 use proofs.Common.{onto_first_if_any, complete_lines_none, complete_lines_cons, take_at, IsFirstByte, is_byte}
 use proofs.Common.{line_before_terminator, drop_at_terminator}
 use Rattle.std.specs.Prelude.{IsErrAnd}
+use Rattle.std.proofs.lemmas.Bool.{cases_Bool}
 use Rattle.ptlines.specs.Outputs.{PushPost}
 use Rattle.ptflow.specs.Private.Passes.BlockLoop.{IsBlockFilter}
 use Rattle.ptflow.specs.Private.Passes.StepOutput.{OutputPart}
@@ -38,12 +39,6 @@ stays_at_eof now new bytes done reads = grind (arith, common_steps)
 pub may_follow : (now new : Reader) (bytes rest : List ℕ) → ReaderAdvance now new bytes → (IsDone new → rest ≡ [])
     → IsDone now → bytes ++ rest ≡ []
 may_follow now new bytes rest reads may done = grind (arith, common_steps)
-
--- the first bytes of a block were consumed
-pub advance_past : {now shown new : Reader} {block : List ℕ} (count : ℕ) → AdvanceOk now shown []
-    → shown.buffered ≡ block → count ≤ length block → new ≡ record shown { buffered = drop count shown.buffered }
-    → AdvanceOk now new (take count block)
-advance_past {shown} count advance_ok buffered fits consumed = grind (arith, common_steps, advance_ok_take)
 
 abbrev state : Reader → Output → Slots → CallState (Unit {0})
 state reader out store = call_state (λ u. reader) out store
@@ -86,11 +81,6 @@ pub record StoreBounds (tool : ToolSpec) (before store : Slots) (given : Receive
   pub peak : (input : List ℕ) → IsConsistent given input → store.peak ≤ max before.peak (tool.size input)
   pub size : length store.lines ≡ max (length before.lines) tool.slots
 
--- the store is unchanged
-pub store_unchanged : {tool : ToolSpec} {store : Slots} {given : Received} → tool.slots ≡ 0
-    → StoreBounds tool store store given
-store_unchanged none = record { peak = λ input a. omega arith; size = omega (arith, none) }
-
 -- `?` returns that a write failed
 pub by_write : {A : Type 0} {tool : ToolSpec} {old new : Reader} {was is : Output} {before store : Slots}
     {result : Result (Unit {0}) FlowFault}
@@ -106,7 +96,7 @@ pass_unchanged = grind (arith, call_on_failed_output)
 -- the terminator of the reader was set before the call
 module _ (old : Reader) {set : Reader} {end : ℕ} where
   pub ready_set : {store : Slots} → PassPre old store → set ≡ record old { terminator = end } → PassPre set store
-  ready_set ready same = grind (arith, common_steps)
+  ready_set ready same = grind arith
 
   pub pass_set : {tool : ToolSpec} {new : Reader} {was is : Output} {before store : Slots}
       {result : Result (Unit {0}) FlowFault} → PassPost tool set new was is before store result
@@ -148,13 +138,10 @@ module _ {X : Type 0} {rest_from : X → List ℕ → List ℕ} {start now : X} 
   received = received_with (midway.given ++ piece) new
 
   advanced : ReaderAdvance old new (midway.given ++ piece)
-  advanced = advance_trans _ _ _ _ _ midway.reached.advance_ok.reads p.reads
+  advanced = search (rules, advance_trans)
 
   never_failed : old.failed ≡ false
-  never_failed = grind (arith, common_steps)
-
-  same_failed : new.failed ≡ reader.failed → new.failed ≡ old.failed
-  same_failed same = cc
+  never_failed = grind arith
 
   text_of : {input : List ℕ} (consistent : IsConsistent received input)
       → tool.text input ≡ midway.pushed ++ rest_from now (piece ++ (new.buffered ++ consistent.rest))
@@ -170,9 +157,9 @@ module _ {X : Type 0} {rest_from : X → List ℕ → List ℕ} {start now : X} 
       reads = λ u read. advanced;
       untouched = λ u unread. cc;
       never_failed = λ u read. never_failed;
-      writable = grind (arith, common_steps, false_from_ne_true);
+      writable = grind (arith, common_steps);
       wrote = search (rules, push_trans);
-      is_prefix = grind (arith, common_steps, text_of, append_assoc);
+      is_prefix = grind (arith, text_of, append_assoc);
       bounded_lag = search (rules, bounded_lag_after);
       peak = grind arith;
       slots = λ texts a. omega arith;
@@ -187,7 +174,7 @@ module _ {X : Type 0} {rest_from : X → List ℕ → List ℕ} {start now : X} 
         (λ u. midway.given ++ piece) (midway.pushed ++ bytes) (pass_end result)
         → ((index : ℕ) → result ≡ Err (Read index) → index ≡ 0) → PassPost tool old new was is' before store result
     pass result ends decided only = record {
-      call = call_ends only_input (pass_engine tool) _ _ _ progress (pass_end result) ends decided;
+      call = search (rules, call_ends, progress);
       only = only;
       keeps_store = p.keeps_store;
       stays_done = λ done. stays_at_eof _ _ _ done advanced;
@@ -197,49 +184,46 @@ module _ {X : Type 0} {rest_from : X → List ℕ → List ℕ} {start now : X} 
     pub pass_write : is'.write_failed ≡ true → new.failed ≡ reader.failed → store.denied ≡ false
         → PassPost tool old new was is' before store (Err Write)
     pass_write fault same not_denied = pass (Err Write)
-        (grind (arith, same_failed)) tt
+        (grind arith) tt
         (λ index is. cc)
 
   pub nothing_more : (rest : List ℕ) → (new.eof ≡ true → rest ≡ [])
       → IsPrefix [] (rest_from now (piece ++ (new.buffered ++ rest)))
-  nothing_more rest may = grind (arith, common_steps)
+  nothing_more rest may = grind arith
 
   -- a read failed
   pub pass_read : HasReadCause reader new → store.denied ≡ false
       → (new.buffered ≡ [] → new.eof ≡ false → IsPrefix (tool.decided received) midway.pushed)
       → PassPost tool old new was is before store (Err (Read 0))
   pass_read cause not_denied decided = pass (push_nothing is) nothing_more (Err (Read 0))
-      (grind (arith, never_failed))
-      (search (rules, same_failed, never_failed))
+      (grind arith)
+      (search rules)
       (λ index is. cc)
 
   -- the store could not grow
   pub pass_memory : new.failed ≡ reader.failed → store.denied ≡ true → 0 < length new.buffered
       → PassPost tool old new was is before store (Err Memory)
   pass_memory same denied left = pass (push_nothing is) nothing_more (Err Memory)
-      (grind (arith, same_failed))
+      (grind arith)
       tt (λ index is. cc)
 
   -- the end of the input was reached
   module _ {is' : Output} (wrote : PushEffect is is' (rest_from now [])) (done : IsDone new) (none : piece ≡ [])
       (same : new.failed ≡ reader.failed) (not_denied : store.denied ≡ false) where
-    nothing_left : (rest : List ℕ) → (new.eof ≡ true → rest ≡ []) → piece ++ (new.buffered ++ rest) ≡ []
-    nothing_left rest whole = λ i. none i ++ (done.buffered i ++ whole done.eof i)
-
     all_of_it : (rest : List ℕ) → (new.eof ≡ true → rest ≡ [])
         → IsPrefix (rest_from now []) (rest_from now (piece ++ (new.buffered ++ rest)))
-    all_of_it rest whole = grind (arith, common_steps, nothing_left, append-nil)
+    all_of_it rest whole = grind (arith, append-nil)
 
     -- and the output that is due there was pushed
     pub pass_done : is'.write_failed ≡ false → new.fault ≡ None → new.pulled < 2 ^ 63 → total_bytes store.lines ≡ 0
         → PassPost tool old new was is' before store (Ok tt)
     pass_done clean fault short empty = pass wrote all_of_it (Ok tt)
-        (search (rules, same_failed))
+        (search rules)
         tt (λ index is. cc)
 
     -- and a write failed there
     pub pass_unended : is'.write_failed ≡ true → PassPost tool old new was is' before store (Err Write)
-    pass_unended fault = pass_write wrote all_of_it fault same not_denied
+    pass_unended fault = search (rules, pass_write, all_of_it)
 
 -- ---- pushes
 
@@ -248,12 +232,10 @@ module _ {X : Type 0} {rest_from : X → List ℕ → List ℕ} {start now : X} 
 
 -- one push after another, even after a fault
 pub wrote_then : (a b c : Output) {xs ys : List ℕ} → PushEffect a b xs → PushEffect b c ys → PushEffect a c (xs ++ ys)
-wrote_then a b c {xs} {ys} p q = by_fault b.write_failed refl
-  where
-    by_fault : (fault : Bool) → b.write_failed ≡ fault → PushEffect a c (xs ++ ys)
-    by_fault false clean = push_trans a b c xs ys clean p q
-    by_fault true fault =
-        subst (λ o. PushEffect a o (xs ++ ys)) (sym (q.stays fault)) (push_past_failure a b xs ys fault p)
+wrote_then a b c {xs} {ys} p q = elim (cases_Bool b.write_failed) [
+  | inl fault ↦ rw (q.stays fault) (push_past_failure a b xs ys fault p)
+  | inr clean ↦ push_trans a b c xs ys clean p q
+]
 
 pub push_then : {E : Type 0} {a b c : Output} {xs ys : List ℕ} {r : Result (Unit {0}) E} → PushEffect a b xs
     → PushPost b c ys r → PushPost a c (xs ++ ys) r
@@ -262,7 +244,7 @@ push_then p q = record { wrote = wrote_then _ _ _ p q.wrote; clean = q.clean; fa
 -- a push failed, and so did the call
 pub push_failed : {E : Type 0} {a b : Output} {xs : List ℕ} {r : Result (Unit {0}) E} {e : E} → r ≡ Err e
     → PushEffect a b xs → b.write_failed ≡ true → PushPost a b xs r
-push_failed = grind (arith, common_steps)
+push_failed = grind arith
 
 pub record WrittenPrefix (whole rest : List ℕ) (was is : Output) : Type 0 where
   pub pushed : List ℕ
@@ -300,12 +282,11 @@ returned_err r (_, is_err) = err_from_is_err_and r is_err
 -- output yet is in the reader's buffer.
 
 -- a counter is at most the number of bytes that were processed
-module _ {reader shown : Reader} {block : List ℕ} (advance_ok : AdvanceOk reader shown [])
-    (buffered : shown.buffered ≡ block) (sound : IsSound reader) {counted : ℕ}
-    (few : counted ≤ reader.pulled - length reader.buffered) where
-  pub counted_more : {new : Reader} {more : ℕ} → new ≡ record shown { buffered = drop (length block) shown.buffered }
-      → more ≤ counted + length block → more ≤ new.pulled - length new.buffered
-  counted_more consumed least = grind (arith, common_steps)
+pub counted_more : {reader shown new : Reader} {block : List ℕ} {counted more : ℕ} → AdvanceOk reader shown []
+    → shown.buffered ≡ block → IsSound reader → counted ≤ reader.pulled - length reader.buffered
+    → new ≡ record shown { buffered = drop (length block) shown.buffered } → more ≤ counted + length block
+    → more ≤ new.pulled - length new.buffered
+counted_more = grind (arith, common_steps)
 
 -- The state between two blocks. The configuration of the tool is unchanged.
 pub record BlockLoopState {X : Type 0} (rest_from : X → List ℕ → List ℕ) (IsUnchanged : X → X → Type 0) (start now : X)
@@ -350,11 +331,11 @@ module _ {X : Type 0} {rest_from : X → List ℕ → List ℕ} {IsUnchanged : X
       given = run.given ++ block;
       pushed = run.pushed ++ part.pushed;
       reached = record {
-        advance_ok = grind (arith, common_steps, advance_ok_trans, take_all, advance_past);
+        advance_ok = grind (arith, common_steps, take_all, advance_ok_take);
         wrote = search (rules, push_trans);
         clean = part.clean;
       };
-      on = grind (arith, common_steps, append_assoc);
+      on = grind (arith, append_assoc);
       holds = λ same. unchanged (run.holds same);
     }
 
@@ -366,7 +347,7 @@ module _ {X : Type 0} {rest_from : X → List ℕ → List ℕ} {IsUnchanged : X
         (ready : PassPre old store) (sound : IsSound reader) {new : Reader} (reads : ReaderAdvance reader new [])
         (is_sound : IsSound new) where
       decided_so : IsPrefix (tool.decided (record { bytes = run.given; eof = false })) run.pushed
-      decided_so = grind (arith, common_steps)
+      decided_so = grind arith
 
       -- the output that was pushed before this block
       pub ending : PassEnding tool midway new store store []
@@ -375,7 +356,7 @@ module _ {X : Type 0} {rest_from : X → List ℕ → List ℕ} {IsUnchanged : X
         ready = ready;
         sound = sound;
         reads = reads;
-        stored = store_unchanged block_filter.slots;
+        stored = search rules;
         keeps_store = λ none. refl;
         processing = record {
           before = λ u. record {
@@ -391,7 +372,7 @@ module _ {X : Type 0} {rest_from : X → List ℕ → List ℕ} {IsUnchanged : X
 
       pub block_read : HasReadCause reader new → PassPost tool old new was is store store (Err (Read 0))
       block_read cause = pass_read ending cause ready.not_denied
-          (search (rules, decided_so))
+          (search rules)
 
 -- ---- lines that were read
 
@@ -430,7 +411,7 @@ line_split end (b ∷ bytes) =
 -- the complete lines come before those of the continuation
 pub complete_prefix : (end : ℕ) (bytes rest : List ℕ)
     → lines end (bytes ++ rest) ≡ complete_lines end bytes ++ lines end ((line_split end bytes).piece ++ rest)
-complete_prefix = grind (arith, common_steps, line_split, append_assoc, lines_of_unlines)
+complete_prefix = grind (arith, line_split, append_assoc, lines_of_unlines)
 
 -- the bytes before the first terminator, and those after it
 module _ (end : ℕ) (bytes : List ℕ) (at : ℕ) (first : IsFirstByte (is_byte end) bytes (Some at)) where
@@ -460,14 +441,14 @@ module _ (end : ℕ) where
   taken_more {rest} size texts taken =
       let front = take size rest in record {
         front = taken.front ++ front;
-        split = grind (arith, common_steps, take-append-drop, append_assoc);
-        texts = grind (arith, common_steps, append_assoc);
+        split = grind (arith, common_steps, append_assoc);
+        texts = grind (arith, append_assoc);
       }
 
   -- no complete line is left
   pub taken_all : {block rest : List ℕ} → IsLine end rest → TakenLines end block rest
       → take (length block - length rest) block ≡ unlines end (complete_lines end block)
-  taken_all = grind (arith, common_steps, length-append, take_at, complete_lines_none, append-nil)
+  taken_all = grind (arith, common_steps, take_at, complete_lines_none, append-nil)
 
 longest_prefix : (end : ℕ) (ls : List (List ℕ)) (piece rest : List ℕ) → AreLines end ls → IsLine end piece
     → max (max_length ls) (length piece) ≤ max_length (lines end (unlines end ls ++ (piece ++ rest)))
@@ -490,22 +471,22 @@ module _ (end : ℕ) (now : Reader) (given : List ℕ) (ls : List (List ℕ))
 
   -- for every continuation
   pub lines_on : (rest : List ℕ) → (IsDone now → rest ≡ []) → lines end (given ++ rest) ≡ ls ++ lines end rest
-  lines_on rest may = grind (arith, common_steps, lines_of_unlines, append-nil)
+  lines_on rest may = grind (arith, lines_of_unlines, append-nil)
 
   pub received_longest : (input : List ℕ) → IsConsistent (received_with given now) input
       → max_length ls ≤ max_line_length end input
-  received_longest input consistent = grind (arith, common_steps, append_assoc, lines_on, max_length-append)
+  received_longest input consistent = grind (arith, append_assoc, lines_on, max_length-append)
 
   -- the first part of a line was read
   module _ (new : Reader) (piece : List ℕ) (reads : ReaderAdvance now new piece) (free : IsLine end piece) where
     pub piece_longest : (input : List ℕ) → IsConsistent (received_with (given ++ piece) new) input
         → max (max_length ls) (length piece) ≤ max_line_length end input
     piece_longest input consistent =
-        grind (arith, common_steps, append_assoc, longest_prefix, free, eof_gives_nothing, append-nil)
+        grind (arith, common_steps, append_assoc, longest_prefix, free, append-nil)
 
     -- and the read of its rest failed
     pub whole_before : new.buffered ≡ [] → new.eof ≡ false → known_lines end (received_with (given ++ piece) new) ≡ ls
-    whole_before empty going = search (rules, complete_lines_of_unlines, free, stays_at_eof)
+    whole_before empty going = search (rules, complete_lines_of_unlines)
 
   -- one line was read
   module _ (new : Reader) (before after : Slots) (slot : ℕ) (next_line : FillLine now new before after slot)
@@ -516,7 +497,7 @@ module _ (end : ℕ) (now : Reader) (given : List ℕ) (ls : List (List ℕ))
     -- its bytes are a line for every continuation
     pub line_prefix : (rest : List ℕ) → (IsDone new → rest ≡ [])
         → lines end ((next_line.line ++ next_line.terminator) ++ rest) ≡ next_line.line ∷ lines end rest
-    line_prefix rest may = grind (arith, common_steps, append_assoc, lines_cons, free, append-nil, lines_of_last)
+    line_prefix rest may = grind (arith, append_assoc, lines_cons, free, append-nil, lines_of_last)
 
     pub lines_more : AreReceivedLines end new (given ++ (next_line.line ++ next_line.terminator))
         (ls ++ next_line.line ∷ [])
@@ -557,17 +538,11 @@ module _ {end : ℕ} {now new : Reader} {given : List ℕ} {ls : List (List ℕ)
       before = record {
         earlier = record { bytes = given ++ take n line; eof = false };
         last = drop n line ++ behind;
-        split =
-            cc (
-              append_assoc given piece new.buffered,
-              take-append-drop n line,
-              append_assoc (take n line) (drop n line) behind,
-              append_assoc given (take n line) (drop n line ++ behind),
-            );
-        short = grind (arith, common_steps, length-append);
+        split = grind (arith, append_assoc, take-append-drop n line);
+        short = grind (arith, common_steps);
         eof = λ never. absurd (false≢true never);
       };
-      whole = grind (arith, common_steps, complete_lines_of_unlines, line_take);
+      whole = grind (arith, complete_lines_of_unlines, line_take);
     }
     | inr (same, done) ↦ let none = eof_gives_nothing _ _ _ done reads in record {
       before = record {

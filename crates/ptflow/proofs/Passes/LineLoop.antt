@@ -3,9 +3,9 @@
 -- `Exits`. At most one line is in each slot of the tool, and nothing in the others, so the store holds at most `width`
 -- times the maximum length of these lines.
 use Rattle.ptflow.proofs
-use proofs.Common.{◌≡◌, ℕ, zero, suc, ◌+◌, ◌-◌, ◌*◌, ◌<◌, ◌≤◌, false, List, [], ◌∷◌, length, take, drop, set, get_or}
-use proofs.Common.{max, refl, sym, ◌∙◌, ap, subst, arith, inl, inr, take-append-drop, common_steps, drop_more}
-use proofs.Common.{length-set, drop-set-lt, sum_by-cons, sum_by-append, get_or-le-sum_by, Slots, total_bytes, with_line}
+use proofs.Common.{◌≡◌, ℕ, zero, suc, ◌+◌, ◌-◌, ◌*◌, ◌<◌, ◌≤◌, false, List, [], ◌∷◌, length, drop, set, get_or}
+use proofs.Common.{max, refl, ◌∙◌, ap, arith, inl, inr, common_steps}
+use proofs.Common.{length-set, drop-set-lt, sum_by-cons, get_or-le-sum_by, Slots, total_bytes, with_line}
 use proofs.Common.{AddedSlots, IsSwapped, SlotsCleared, Bool, ◌^◌, true, ◌++◌, Ok, Err, append_assoc, length-append}
 use proofs.Common.{nil_from_length, get_or-set_same, lines, complete_lines, IsLine, max_length, max_line_length}
 use proofs.Common.{Received, known_lines, IsPrefix, IsConsistent, Output, PushEffect, Reader, ReaderAdvance, AdvanceOk}
@@ -20,6 +20,7 @@ use proofs.Passes.Exits.{PassEnding, nothing_more, pass_unslotted, pass_read, pa
 use proofs.Passes.Exits.{pass_unended}
 use Rattle.ptflow.specs.Private.Passes.LineLoop.{RunLinesPre}
 use Rattle.std.proofs.lemmas.List.Edits.{swap_is}
+use Rattle.std.proofs.lemmas.List.Sums.{sum_by-drop_more, sum_by-take-drop}
 
 -- ---- the slots
 
@@ -31,33 +32,23 @@ pub record SlotBounds (width most : ℕ) (before store : Slots) : Type 0 where
   pub others : total_bytes (drop width store.lines) ≡ 0
   pub peak : store.peak ≤ max before.peak (width * most)
 
-total_split : (width : ℕ) (ls : List (List ℕ))
-    → total_bytes ls ≡ total_bytes (take width ls) + total_bytes (drop width ls)
-total_split width ls = cc (take-append-drop width ls, sum_by-append length (take width ls) (drop width ls))
-
-prefix_total : (width most : ℕ) (ls : List (List ℕ)) → ((k : ℕ) → k < width → length (get_or ls k []) ≤ most)
-    → total_bytes (take width ls) ≤ width * most
-prefix_total zero most ls short = omega arith
-prefix_total (suc width) most [] short = omega arith
-prefix_total (suc width) most (l ∷ ls) short =
-    let more : suc width * most ≡ most + width * most = omega arith in
-    rw more
-    (omega (
-      arith,
-      sum_by-cons length l (take width ls),
-      short 0 (omega arith),
-      prefix_total width most ls (λ k low. short (suc k) (omega arith)),
-    ))
-
 -- the total of slots with bounded lines is bounded
 pub bounded_total : (width most : ℕ) (ls : List (List ℕ)) → ((k : ℕ) → k < width → length (get_or ls k []) ≤ most)
     → total_bytes (drop width ls) ≡ 0 → total_bytes ls ≤ width * most
-bounded_total width most ls short others = omega (arith, total_split width ls, prefix_total width most ls short, others)
+bounded_total zero most ls short others = omega (arith, others)
+bounded_total (suc width) most [] short others = omega arith
+bounded_total (suc width) most (l ∷ ls) short others =
+    omega (
+      arith,
+      sum_by-cons length l ls,
+      short 0 (omega arith),
+      bounded_total width most ls (λ k low. short (suc k) (omega arith)) others,
+    )
 
 pub bounds_start : {width : ℕ} {before store : Slots} → AddedSlots before store width → store.denied ≡ false
     → total_bytes store.lines ≡ 0 → store.peak ≡ before.peak → SlotBounds width 0 before store
 bounds_start {width} {store} adds denied empty peak =
-    grind (arith, common_steps, get_or-le-sum_by, total_split width store.lines)
+    grind (arith, common_steps, get_or-le-sum_by, sum_by-take-drop length store.lines width)
 
 pub bounds_weaker : {width most : ℕ} (more : ℕ) {before store : Slots} → SlotBounds width most before store
     → most ≤ more → SlotBounds width more before store
@@ -69,21 +60,12 @@ pub bounds_line : {width most : ℕ} {before store : Slots} (new : Slots) (slot 
     → SlotBounds width most before new
 bounds_line {width} {most} {store} new slot bytes bounds within fits is = record {
   denied = cc;
-  size = same_length ∙ bounds.size;
+  size = grind (arith, length-set);
   short = short;
   others = others;
-  peak =
-      omega (
-        arith,
-        ap (λ s. s.peak) is,
-        ap (λ s. total_bytes s.lines) is,
-        bounded_total width most new.lines short others,
-      );
+  peak = grind (arith, bounded_total, short, others);
 }
   where
-    same_length : length new.lines ≡ length store.lines
-    same_length = cc (length-set store.lines slot bytes)
-
     short : (i : ℕ) → i < width → length (get_or new.lines i []) ≤ most
     short i low = grind (arith, common_steps)
 
@@ -98,18 +80,11 @@ swapped_room = grind (arith, swap_is, length-set)
 pub bounds_swapped : {width most : ℕ} {before store : Slots} (new : Slots) → 0 < width
     → SlotBounds width most before store → IsSwapped width store new → SlotBounds width most before new
 bounds_swapped {width} {most} {before} {store} new some bounds either = elim either [
-  | inl same ↦ subst (SlotBounds width most before) (sym same) bounds
+  | inl same ↦ grind arith
   | inr is ↦
       let room : width ≤ length store.lines = omega (arith, bounds.size) in
-      let swapped = swap_is store.lines 0 (width - 1) [] (omega arith) (omega arith) in
-      let same : new.lines ≡ set (set store.lines 0 last) (width - 1) first = cc in
-      record {
-        denied = cc;
-        size = cc (same, bounds_both.size);
-        short = λ i low. rw same (bounds_both.short i low);
-        others = cc (same, bounds_both.others);
-        peak = omega (arith, ap (λ s. s.peak) is, bounds.peak);
-      }
+      let same : new.lines ≡ set (set store.lines 0 last) (width - 1) first = grind (arith, swap_is) in
+      search (rules, bounds_both, same)
 ]
   where
     first : List ℕ
@@ -132,21 +107,16 @@ bounds_cleared {width} {most} {store} {new} bounds some last cleared = (
   record {
     denied = cc;
     size = cleared.size ∙ bounds.size;
-    short =
-        grind (arith, common_steps);
-    others = omega (arith, none, total_split width new.lines);
-    peak = omega (arith, bounded_total width most store.lines bounds.short bounds.others);
+    short = grind (arith, common_steps);
+    others = omega (arith, none, sum_by-take-drop length new.lines width);
+    peak = search (rules, bounded_total);
   },
   none,
 )
   where
     none : total_bytes new.lines ≡ 0
     none =
-        let one : width - 1 + 1 ≡ width = omega arith in
-        let more = drop_more store.lines (width - 1) [] (omega arith) in
-        let behind = ap total_bytes more ∙ sum_by-cons length (get_or store.lines (width - 1) [])
-        (drop (width - 1 + 1) store.lines) in
-        omega (arith, behind, ap length last, ap (λ n. total_bytes (drop n store.lines)) one)
+        grind (arith, sum_by-drop_more length store.lines (width - 1) [])
 
 -- ---- the lines
 
@@ -222,9 +192,8 @@ module _ {S X E : Type 0} {tool : ToolSpec} {state : S → Slots → X} {rest_fr
         → PassPost tool old old was was before store (Err Memory)
     run_unslotted {store} begins adds few same denied =
         let nothing : Received = record { bytes = []; eof = false } in
-        pass_unslotted tool was begins.ready begins.sound begins.clean (rw line_filter.slots adds)
-        (rw line_filter.slots few) same denied begins.ends
-        (rw none_written at (line_filter.decided store nothing [] (state start store) (λ more. refl)))
+        let decided = line_filter.decided store nothing [] (state start store) (λ more. refl) in
+        grind (arith, pass_unslotted, none_written)
 
     module _ {now : X} {reader : Reader} {is : Output} {store : Slots}
         (run : Run old reader was is before store now) where
@@ -333,15 +302,13 @@ module _ {S X E : Type 0} {tool : ToolSpec} {state : S → Slots → X} {rest_fr
       keeps_last : {after : Slots} (bytes : List ℕ) → after ≡ with_line store (width - 1) bytes
           → SlotBounds width (max (max_length run.ls) (length bytes)) before after
       keeps_last bytes told =
-          let most = max (max_length run.ls) (length bytes) in
-          bounds_line _ (width - 1) bytes (bounds_weaker most run.keeps (omega arith)) (omega arith)
-          (omega arith) told
+          bounds_line _ (width - 1) bytes (grind (arith, bounds_weaker)) (omega arith) (omega arith) told
 
       same_bounds : SlotBounds width (max (max_length run.ls) 0) before store
-      same_bounds = bounds_weaker (max (max_length run.ls) 0) run.keeps (omega arith)
+      same_bounds = grind (arith, bounds_weaker)
 
       same_end : reader.terminator ≡ end
-      same_end = run.reached.advance_ok.reads.terminator ∙ run.terminator
+      same_end = grind arith
 
       free : (piece : List ℕ) → IsLine reader.terminator piece → IsLine end piece
       free piece whole = rw same_end at whole
@@ -371,11 +338,11 @@ module _ {S X E : Type 0} {tool : ToolSpec} {state : S → Slots → X} {rest_fr
             (whole : IsLine reader.terminator piece) (is_sound : IsSound new) where
           stored : {after : Slots} → SlotBounds width (max (max_length run.ls) (length piece)) before after
               → StoreBounds tool before after (received piece new)
-          stored bounds = kept (received piece new) bounds (piece_longest _ _ _ _ run.came _ _ reads (free _ whole))
+          stored bounds = search (rules, kept, piece_longest, free)
 
           piece_ending : {after : Slots} → StoreBounds tool before after (received piece new)
               → PassEnding tool midway new before after piece
-          piece_ending bounded = ending reads bounded (works_piece reads (free _ whole) is_sound)
+          piece_ending bounded = search (rules, ending, works_piece, free)
 
         -- and then a read failed
         pub run_read : {new : Reader} {after : Slots} → IsSound new → FillReadErr reader new store after (width - 1)
@@ -399,7 +366,7 @@ module _ {S X E : Type 0} {tool : ToolSpec} {state : S → Slots → X} {rest_fr
 
         -- nothing more was read
         ended_here : PassEnding tool midway reader before store []
-        ended_here = piece_ending (reads_nothing reader) tt sound (stored (reads_nothing reader) tt sound same_bounds)
+        ended_here = search (rules, piece_ending, reads_nothing, stored, same_bounds)
 
         -- a write failed at the lines of the block
         pub run_block_halts : {block : List ℕ} → block ≡ reader.buffered → {is' : Output}
@@ -426,7 +393,7 @@ module _ {S X E : Type 0} {tool : ToolSpec} {state : S → Slots → X} {rest_fr
 
       same_state : {after : Slots} (bytes : List ℕ) → after ≡ with_line store (width - 1) bytes
           → state now after ≡ state now store
-      same_state bytes told = cc (line_filter.stays now store bytes (run_room run))
+      same_state bytes told = grind (arith, run_room)
 
       -- the number of lines with no output yet is unchanged
       pub filled_count : IsSound old → IsSound reader → {after : Slots} (bytes : List ℕ)
@@ -445,7 +412,7 @@ module _ {S X E : Type 0} {tool : ToolSpec} {state : S → Slots → X} {rest_fr
             (lines_more _ _ _ _ run.came _ _ _ _ next_line (cc))
             (bounds_swapped after' line_filter.some
             (bounds_weaker most (keeps_last run next_line.line next_line.stored) (omega arith)) swapped)
-            (grind (arith, same_state, stored, filled))
+            (grind (arith, same_state, filled))
 
         -- a write failed
         pub run_line_halts : PassPre old before → IsSound reader → IsSound new → {is' : Output}

@@ -3,23 +3,20 @@
 -- terminators of these lines are replaced by the cycle (the delimiters of the row, and a last entry that keeps the
 -- terminator), they become the row. So bytes with count * n terminators, the last at the end, become `count` rows.
 use Rattle.ptflow.proofs
-use proofs.Common.{eq-eqb, ne_eqb, option_to_list, slice_index_or, Bool, List, None, Some, [], ap, append_assoc, arith}
-use proofs.Common.{drop, false, get_or, get_or-take, inl, length, length-append, length-drop, map, refl, set, suc, sym}
-use proofs.Common.{take, take-append-drop, true, zero, ℕ, ◌%◌, ◌*◌, ◌++◌, ◌+◌, ◌-◌, ◌<◌, ◌||◌, ◌∙◌, ◌∷◌, ◌≡◌, ◌≢◌, ◌≤◌}
+use proofs.Common.{eq-eqb, ne_eqb, option_to_list, slice_index_or, Bool, List, None, [], ap, append_assoc, arith, drop}
+use proofs.Common.{false, get_or, get_or-take, inl, inr, length, length-append, length-drop, map, refl, set, suc, take}
+use proofs.Common.{take-append-drop, true, zero, ℕ, ◌%◌, ◌*◌, ◌++◌, ◌+◌, ◌-◌, ◌<◌, ◌||◌, ◌∙◌, ◌∷◌, ◌≡◌, ◌≢◌, ◌≤◌}
 use proofs.Common.{mod-eq_of_lt, nat_tests, common_steps, append-nil, length-set, length-take-le, nil_from_length}
-use proofs.Common.{take-append-le, take-take, mod-mul-add, length-chunk, take_more_put_chunk, count_by, chunk}
-use proofs.Common.{put_chunk, IsFirstByte, is_byte, push_nothing, advance_ok_take, line_before_terminator}
-use proofs.Common.{take_with_terminator, lines_are, byte_eq, unlines-append, the_lines, Output, PushEffect, IsDone}
-use proofs.Common.{IsSound, Reader, reader_at, line, AreLines, EndsWithByte, lines, unlines, columns, join_with_cycle}
-use proofs.Common.{rows, uses_of, IsWholeRows, IsSharedCycle, cycle_byte, with_replacements, RowShape, BegunText}
-use proofs.Common.{after_cell, cells_text, LinesTaken, IsConsumed, BufferedRowsPre, AreConsumed, RowsTaken}
-use proofs.Common.{IsFieldCopied, CopyColumnsPost, CopyRowsPost, RowsWritten, take-append-add, rules}
-use Rattle.memchr.specs.Find.{IsFirst, Passes}
-use Rattle.ptlines.proofs.CopyFacts.{copied_prefix}
+use proofs.Common.{take-append-le, take-take, mod-mul-add, take_more_put_chunk, count_by, put_chunk, is_byte}
+use proofs.Common.{advance_ok_take, line_before_terminator, take_with_terminator, lines_are, unlines-append, the_lines}
+use proofs.Common.{Output, PushEffect, IsDone, IsSound, Reader, reader_at, line, AreLines, EndsWithByte, lines, unlines}
+use proofs.Common.{columns, join_with_cycle, rows, uses_of, IsWholeRows, IsSharedCycle, cycle_byte, with_replacements}
+use proofs.Common.{RowShape, BegunText, after_cell, cells_text, IsConsumed, BufferedRowsPre, AreConsumed, IsFieldCopied}
+use proofs.Common.{CopyColumnsPost, RowsWritten, take-append-add, rules, sym}
 use borrow.Rule.Slice.PartMut.{mid_of, put_mid}
-use Rattle.ptflow.specs.Private.Paste.BufferedRows.{LineCopied}
-use proofs.PasteLemmas.Rows.{cells_text-push, rows_taken_trans, row_taken, taken_by, taken_eof, rows_taken_none}
-use proofs.PasteLemmas.Rows.{row_text, IsNextReader, next_reader, fill_starts, fill_next, FieldTaken, taken_from_one}
+use proofs.PasteLemmas.Rows.{cells_text-push, taken_by, rows_taken_none}
+use proofs.PasteLemmas.Rows.{row_text, IsNextReader, next_reader, fill_next, FieldTaken, taken_from_one}
+use proofs.Passes.Exits.{lines_none}
 use proofs.Vectors.FindNth.{none_counted}
 use proofs.PasteLemmas.Grid.{Column, for_each_cell_unique, top_of, grid_step, grid_none, after_row, columns_same}
 use proofs.PasteLemmas.Grid.{uses_more, last_use, update_here, lines_of_input}
@@ -27,19 +24,9 @@ use proofs.PasteLemmas.Replaced.{counted, replaced-append, replaced_line}
 use Rattle.ptflow.specs.declared.simd.replace.Cycle.{Cycle}
 
 sound_after_consume : {b r : Reader} → IsSound b → IsConsumed b r → IsSound r
-sound_after_consume {b} s step = grind (arith, common_steps)
+sound_after_consume s step = grind (arith, common_steps)
 
 -- ---- one column
-
--- A line that is complete in a buffer was consumed.
-taken_buffered : {end : ℕ} {b r : Reader} (at : ℕ) → b.fault ≡ None → IsSound r
-    → IsFirstByte (is_byte end) b.buffered (Some at) → r ≡ record b { buffered = drop (at + 1) b.buffered }
-    → LinesTaken end b r 1 (take at b.buffered ∷ [])
-taken_buffered {end} {b} {r} at clean sound first step =
-    let (found, here) = first in
-    taken_by (advance_ok_take b r (at + 1) clean (omega arith) step) clean sound (record {
-      so_far = search (rules, take_with_terminator, append-nil, line_before_terminator);
-    }) (inl refl) (λ none. cc)
 
 -- The field was copied from a buffer.
 field_in_buffer : (end : ℕ) {b r : Reader} (before after : List ℕ) (has : Bool) → b.fault ≡ None → IsSound b
@@ -51,7 +38,10 @@ field_in_buffer end {b} {r} before after true clean sound p =
       take p.at b.buffered,
       p.is,
       (
-        taken_buffered p.at clean (sound_after_consume sound consumed) p.found p.consumed,
+        taken_by (advance_ok_take b r (p.at + 1) clean (omega arith) p.consumed) clean
+            (sound_after_consume sound consumed) (record {
+              so_far = search (rules, take_with_terminator, line_before_terminator);
+            }) (inl refl) (λ none. cc),
         grind (arith, common_steps),
       ),
       consumed,
@@ -60,7 +50,12 @@ field_in_buffer end {b} before after false clean sound p =
     let done : IsDone b = grind arith in (
       [],
       cc (append-nil before),
-      rw p.same (taken_eof (advance_ok_take b b 0 clean (omega arith) refl) done clean sound, refl, omega arith),
+      rw p.same (
+        taken_by (advance_ok_take b b 0 clean (omega arith) refl) clean sound (lines_none end b)
+            (inr (done, omega arith)) (λ none. cc),
+        refl,
+        omega arith,
+      ),
       rw p.same (record { size = 0; is = refl }),
     )
 
@@ -69,11 +64,7 @@ consumed_none = record { count = refl; buffered = λ p. record { size = 0; is = 
 
 -- Some bytes were consumed, and then more.
 both_consumed : {a b c : Reader} → IsConsumed a b → IsConsumed b c → IsConsumed a c
-both_consumed {a} p q = grind (arith, common_steps)
-
-pub consumed_more : {old now : List Reader} {input : ℕ} {b r : Reader} → AreConsumed old now → input < length now
-    → b ≡ reader_at now input → IsConsumed b r → AreConsumed old (set now input r)
-consumed_more = search (rules, both_consumed)
+both_consumed p q = grind (arith, common_steps)
 
 pub consumed_trans : {a b c : List Reader} → AreConsumed a b → AreConsumed b c → AreConsumed a c
 consumed_trans p q = grind (arith, both_consumed)
@@ -102,27 +93,12 @@ prefix_is_kept at end now old written low fits is =
     )
 
 -- A vector was stored at `at`.
-vector_stored : (at k n : ℕ) (was lanes : List ℕ) → length lanes ≡ n → n ≤ k → at + k ≡ length was
+pub vector_stored : (at k n : ℕ) (was lanes : List ℕ) → length lanes ≡ n → n ≤ k → at + k ≡ length was
     → take (at + n) (put_mid at k was (put_chunk 0 (mid_of at k was) lanes)) ≡ take at was ++ lanes
 vector_stored at k n was lanes long room all =
     let mid = mid_of at k was in
     let size = length-take-le k (drop at was) (omega (arith, length-drop at was)) in
-    grind (arith, common_steps, length-take-le, take-append-add, take-append-le, take_more_put_chunk)
-
--- A vector was stored at `at`, and the line that it begins with was consumed.
-pub vector_line : (at k n : ℕ) (was : List ℕ) {end count : ℕ} {old new : Reader} {bytes : List ℕ}
-    → bytes ≡ old.buffered → n ≤ length bytes → n ≤ k → at + k ≡ length was
-    → IsFirst (Passes (is_byte end) bytes) 0 (0 + n) (Some count)
-    → new ≡ record old { buffered = drop (count + 1) old.buffered }
-    → LineCopied end old new (take at was)
-    (take (at + count) (put_mid at k was (put_chunk 0 (mid_of at k was) (chunk 0 n bytes))))
-vector_line at k n was {count = count} {bytes = bytes} same long room all first consumed = record {
-  at = count;
-  found = search rules;
-  consumed = consumed;
-  is = rw (sym same) (copied_prefix at count n was _ bytes (omega arith) (omega arith)
-      (vector_stored at k n was (chunk 0 n bytes) (length-chunk 0 n bytes (omega arith)) room all));
-}
+    grind (arith, common_steps, take-append-add, take_more_put_chunk)
 
 -- ---- the columns of a row
 
@@ -136,7 +112,7 @@ after_other row c index other at = rw (ne_eqb (c + 1) (length row.cells) other, 
 
 module _ {row : RowShape} where
   pub columns_start : {begun : BegunText} → CopyColumnsPost row begun begun
-  columns_start {begun} = search rules
+  columns_start = search rules
 
   module _ {begun now : BegunText} (s : CopyColumnsPost row begun now) (ready : BufferedRowsPre row begun.readers)
       (low : now.count < length row.cells) (unread r : Reader)
@@ -150,18 +126,14 @@ module _ {row : RowShape} where
     x : IsNextReader row now.readers now.count b
     x = next_reader (still_readable s.consumed ready) low unread
 
-    -- The row after one more column.
-    abbrev pub with_column : List ℕ → BegunText
-    with_column next = record {
-      readers = set now.readers input r;
-      count = now.count + 1;
-      any_line = now.any_line || has;
-      text = next;
-    }
-
     -- One more column was copied, and the byte after it.
     pub columns_more : {next byte : List ℕ} → IsFieldCopied row.terminator b r now.text copied has
-        → next ≡ copied ++ byte → byte ≡ after_cell row now.count → CopyColumnsPost row begun (with_column next)
+        → next ≡ copied ++ byte → byte ≡ after_cell row now.count → CopyColumnsPost row begun (record {
+          readers = set now.readers input r;
+          count = now.count + 1;
+          any_line = now.any_line || has;
+          text = next;
+        })
     columns_more field_is stored after =
         let (field, is, taken, consumed) = field_in_buffer row.terminator now.text copied has x.clean sound field_is in
         record {
@@ -169,38 +141,13 @@ module _ {row : RowShape} where
           is =
               let text = cells_text row begun.count s.fields in
               let end = after_cell row now.count in
-              grind (arith, common_steps, cells_text-push, append_assoc);
+              grind (arith, cells_text-push, append_assoc);
           consumed = grind (arith, common_steps);
           width = omega (arith, length-append s.fields (field ∷ []));
           filled = λ from front given.
               rw (append_assoc front s.fields (field ∷ [])) at
               (fill_next (s.filled from front given) x r field has taken);
         }
-
-  -- The first columns of a row were copied after whole rows.
-  pub rows_and_begun : {old now new : List Reader} {n at to : ℕ} {any_line : Bool} (into next : List ℕ)
-      → RowsTaken row old now (take at into) → AreConsumed old now
-      → (p : CopyColumnsPost row (record { readers = now; count = 0; any_line = false; text = take at into })
-      (record { readers = new; count = n; any_line = any_line; text = take to next }))
-      → at ≤ to → at ≤ length into
-      → CopyRowsPost row old (take at next)
-      (record { readers = new; count = n; any_line = any_line; text = drop at (take to next) })
-  rows_and_begun {now = now} {at = at} {to} into next rows consumed p further fits = record {
-    mid = now;
-    rows = rw (prefix_is_kept at to next into (cells_text row 0 p.fields) further fits p.is) rows;
-    fields = p.fields;
-    filled = p.filled now [] fill_starts;
-    is = grind (arith, common_steps);
-    consumed = consumed_trans consumed p.consumed;
-  }
-
-  -- All columns of a row were copied.
-  pub rows_more : {old now : List Reader} {copied : List ℕ} {next : BegunText} → RowsTaken row old now copied
-      → BufferedRowsPre row now
-      → (p : CopyColumnsPost row (record { readers = now; count = 0; any_line = false; text = copied }) next)
-      → next.count ≡ length row.cells → next.any_line ≡ true → RowsTaken row old next.readers next.text
-  rows_more rows ready p all some = rw p.is (rows_taken_trans rows
-      (row_taken (rw all at (p.filled _ [] fill_starts)) some))
 
 -- ---- complete rows are known by the number of terminators
 
@@ -210,7 +157,6 @@ ends_of_lines end [] are_lines = refl
 ends_of_lines end (line ∷ ls) (free, are_lines) = grind (
   arith,
   common_steps,
-  byte_eq,
   none_counted,
   ends_of_lines end
       ls are_lines,
@@ -227,19 +173,16 @@ pub whole_rows_counted : (end n count : ℕ) (bytes : List ℕ)
 whole_rows_counted end n count bytes last counted =
     let ((are_lines, text), only) = the_lines end bytes in
     let is : unlines end (lines end bytes) ≡ bytes =
-    grind (arith, text, ends_with end bytes) in
+    grind (arith, ends_with end bytes) in
     record {
       count = count;
       ls = lines end bytes;
       is = sym is;
       are_lines = lines_are end bytes;
-      long = search (rules, ends_of_lines, lines_are);
+      long = search (rules, ends_of_lines);
     }
 
 -- ---- the text of rows
-
-are_parts : (end n : ℕ) (ls : List (List ℕ)) → AreLines end ls → AreLines end (take n ls) × AreLines end (drop n ls)
-are_parts = grind (arith, common_steps)
 
 module _ {row : RowShape} {cycle : Cycle} (t : IsSharedCycle row cycle) where
   abbrev n : ℕ
@@ -261,7 +204,7 @@ module _ {row : RowShape} {cycle : Cycle} (t : IsSharedCycle row cycle) where
       let byte = ap (λ m. get_or cycle.unrolled m 0 ∷ []) index ∙ t.bytes c low in
       let number : k * n + c + 1 ≡ k * n + (c + 1) = omega arith in
       let more = ap (λ m. all_replaced m rest) number ∙ row_replaced k (c + 1) ls are_lines (omega arith) in
-      grind (arith, common_steps, append_assoc, replaced_line)
+      grind (arith, append_assoc, replaced_line)
 
 -- ---- the grid of one input
 
@@ -288,12 +231,12 @@ module _ (cells : List ℕ) (input : ℕ) (same : (c : ℕ) → c < length cells
       let ins = lines_of_input input ls in
       let here = update_here input ls (λ q. []) in
       cc (
-        grid_step cells ins 0 some (grind (arith, common_steps)),
+        grid_step cells ins 0 some (grind arith),
         for_each_cell_unique (top_of cells ins) cells (take n ls) [] (length-take-le n ls long)
             (λ c low. rw (same c low) (rw (here input refl, uses_before_column c (omega arith))
             (get_or-take n ls c [] low))),
         columns_same cells (after_row cells ins) (lines_of_input input (drop n ls))
-            (λ q used. grind (arith, nat_tests, uses_all, uses_none q)),
+            (λ q used. grind (arith, uses_all)),
       )
 
 module _ {row : RowShape} {cycle : Cycle} (t : IsSharedCycle row cycle) where
@@ -313,7 +256,7 @@ module _ {row : RowShape} {cycle : Cycle} (t : IsSharedCycle row cycle) where
       let n = length row.cells in
       let first = take n ls in
       let rest = drop n ls in
-      let (whole_first, whole_rest) = are_parts end n ls are_lines in
+      let (whole_first, whole_rest) : AreLines end first × AreLines end rest = grind (arith, common_steps) in
       let first_long = length-take-le n ls (omega arith) in
       let start : k * n ≡ k * n + 0 = omega arith in
       let next : k * n + count_by (is_byte end) (unlines end first) ≡ (k + 1) * n =
@@ -346,50 +289,43 @@ module _ {row : RowShape} {cycle : Cycle} (t : IsSharedCycle row cycle) {old : L
   same : (c : ℕ) → c < length row.cells → get_or row.cells c 0 ≡ shared
   same c low = t.same c 0 low
 
-  lines_taken_here : LinesTaken end b r (rs.count * length row.cells) rs.ls
-  lines_taken_here = taken_by (advance_ok_take b r count x.clean within step) x.clean
-      (sound_after_consume sound (record { size = count; is = step })) (record { so_far = inl (rs.is, rs.are_lines) })
-      (inl rs.long) (λ none. absurd (omega (
-        arith,
-        length-take-le count b.buffered within,
-        ap length rs.is,
-        ap (λ l. length (unlines end l)) (nil_from_length rs.ls (rs.long ∙ none)),
-      )))
-
-  rows_of_input : RowsTaken row old (set old shared r)
-      (with_replacements end (cycle_byte cycle) 0 (take count b.buffered))
-  rows_of_input = record {
-    taken_rows = rows_of t rs.ls;
-    ls = lines_of_input shared rs.ls;
-    first_rows = record {
-      lines_taken = taken_from_one old (λ q. length (rows_of t rs.ls) * uses_of row.cells q) x.within
-          (rw (
-            (rows_replaced t 0 rs.count rs.ls rs.are_lines rs.long).0,
-            uses_all row.cells shared same,
-            ← x.is_read,
-          ) lines_taken_here)
-          (λ q differ. rw (uses_none row.cells shared same q differ) (omega arith));
-      are = refl;
-      count = length-set old shared r;
-    };
-    least = grind (arith, common_steps);
-    is =
-        let start : 0 ≡ 0 * length row.cells = omega arith in
-        (λ i. with_replacements end (cycle_byte cycle) (start i) (rs.is i))
-        ∙ (rows_replaced t 0 rs.count rs.ls rs.are_lines rs.long).1;
-  }
-
   -- The rows in the buffer, by the bytes that were copied and pushed.
   pub copied_rows : {written : List ℕ}
       → written ≡ with_replacements cycle.terminator (cycle_byte cycle) 0 (take count b.buffered)
       → {out pushed : Output} → PushEffect out pushed written → RowsWritten row old (set old shared r) out pushed
   copied_rows {written} copied wrote = record {
     written = written;
-    rows = rw (copied, t.terminator) rows_of_input;
+    rows = rw (copied, t.terminator) (record {
+      taken_rows = rows_of t rs.ls;
+      ls = lines_of_input shared rs.ls;
+      first_rows = record {
+        lines_taken = taken_from_one old (λ q. length (rows_of t rs.ls) * uses_of row.cells q) x.within
+            (rw (
+              (rows_replaced t 0 rs.count rs.ls rs.are_lines rs.long).0,
+              uses_all row.cells shared same,
+              ← x.is_read,
+            ) (taken_by (advance_ok_take b r count x.clean within step) x.clean
+            (sound_after_consume sound (record { size = count; is = step }))
+            (record { so_far = inl (rs.is, rs.are_lines) }) (inl rs.long) (λ none. absurd (omega (
+              arith,
+              length-take-le count b.buffered within,
+              ap length rs.is,
+              ap (λ l. length (unlines end l)) (nil_from_length rs.ls (rs.long ∙ none)),
+            )))))
+            (λ q differ. rw (uses_none row.cells shared same q differ) (omega arith));
+        are = refl;
+        count = length-set old shared r;
+      };
+      least = grind (arith, common_steps);
+      is =
+          let start : 0 ≡ 0 * length row.cells = omega arith in
+          (λ i. with_replacements end (cycle_byte cycle) (start i) (rs.is i))
+          ∙ (rows_replaced t 0 rs.count rs.ls rs.are_lines rs.long).1;
+    });
     consumed = search rules;
     wrote = wrote;
   }
 
 -- Nothing is in the buffer, or the columns share no reader.
 pub no_rows_written : {row : RowShape} {old : List Reader} {out : Output} → RowsWritten row old old out out
-no_rows_written = search (rules, rows_taken_none, push_nothing)
+no_rows_written = search (rules, rows_taken_none)

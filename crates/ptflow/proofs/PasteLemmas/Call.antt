@@ -5,28 +5,25 @@
 -- the next row, and perhaps a part of a line.
 use Rattle.ptflow.proofs
 use proofs.Common.{Bool, Err, List, Ok, Result, [], ap, append_assoc, arith, cond, drop, false, get_or, inl, inr}
-use proofs.Common.{length, length-append, max, refl, sym, take, true, ℕ, ⊎_elim, ◌*◌, ◌++◌, ◌+◌, ◌<◌, ◌==◌, ◌^◌, ◌∙◌}
-use proofs.Common.{◌∷◌, ◌≡◌, ◌≤◌, ◌⊎◌, cases_eq, ne_eqb, nat_tests, common_steps, append-nil, drop_at, take_all, top}
-use proofs.Common.{Paste, received_with, advance_trans, push_nothing, push_trans, bounded_lag_after, IsPrefix, Received}
-use proofs.Common.{known_lines, Output, PushEffect, HasReadCause, IsDone, Reader, ReaderAdvance, reader_at, Slots}
-use proofs.Common.{total_bytes, with_denied, with_line, AddedSlots, IsLine, lines, max_length, max_line_length, cut}
-use proofs.Common.{CallPost, CallOutcome, CallState, call_state, CallEnd, AreAllConsistent, inputs_at, is_in}
-use proofs.Common.{CallProgress, DecidedIfReadFailed, reads_nothing, call_ends, call_set, call_without_slots, PastePre}
-use proofs.Common.{PastePost, IsReadable, paste_end, paste_engine, update_at, columns, paste, paste_decided, rows}
-use proofs.Common.{rows_text, uses_of, SetTerminatorsPost, SlotsBound, RowFailed, RowFilled, ClearSlotsPost}
-use proofs.Common.{is_write_fault, RowShape, BegunText, job_shape, AreReceivedLines, LinesTaken, BufferedRowsPre}
-use proofs.Common.{AreConsumed, AreFirstRows, RowsTaken, CopyRowsPost, RowsWritten, FlowFault, Memory, Read, Write}
-use proofs.Common.{RowAmid, slots_text}
-use proofs.PasteLemmas.Rows.{slots_bound_start, slots_kept_by_lines, slots_bound_line, cells_total, sum_of_zeros}
-use proofs.PasteLemmas.Rows.{no_rows, rows_on, first_rows_trans, filled_row_is_first, filled_row_text, lines_trans}
-use proofs.PasteLemmas.Rows.{taken_at_most, taken_more, nothing_taken, amid_text}
+use proofs.Common.{length, length-append, refl, sym, take, true, ℕ, ⊎_elim, ◌*◌, ◌++◌, ◌+◌, ◌<◌, ◌==◌, ◌∙◌, ◌∷◌, ◌≡◌}
+use proofs.Common.{◌≤◌, ◌⊎◌, cases_eq, ne_eqb, nat_tests, append-nil, drop_at, take_all, top, Paste, received_with}
+use proofs.Common.{advance_trans, push_trans, bounded_lag_after, IsPrefix, Received, known_lines, Output, PushEffect}
+use proofs.Common.{HasReadCause, IsDone, Reader, ReaderAdvance, reader_at, Slots, with_denied, with_line, AddedSlots}
+use proofs.Common.{IsLine, lines, max_length, max_line_length, cut, CallPost, CallOutcome, CallState, call_state}
+use proofs.Common.{CallEnd, AreAllConsistent, inputs_at, is_in, CallProgress, DecidedIfReadFailed, reads_nothing}
+use proofs.Common.{call_ends, call_set, call_without_slots, PastePre, PastePost, IsReadable, paste_end, paste_engine}
+use proofs.Common.{update_at, columns, paste, paste_decided, rows, rows_text, uses_of, SetTerminatorsPost, SlotsBound}
+use proofs.Common.{RowFailed, RowFilled, ClearSlotsPost, is_write_fault, RowShape, BegunText, job_shape}
+use proofs.Common.{AreReceivedLines, LinesTaken, BufferedRowsPre, AreConsumed, RowsTaken, RowsWritten, FlowFault}
+use proofs.Common.{Memory, Read, Write, RowAmid, slots_text, cells_text}
+use proofs.PasteLemmas.Rows.{line_le_max_length, slots_bound_line, cells_total, sum_of_zeros, rows_on, rows_taken_none}
+use proofs.PasteLemmas.Rows.{rows_taken_trans, row_taken, taken_at_most, taken_more, nothing_taken, amid_text}
 use proofs.PasteLemmas.Grid.{Column, columns_same, last_use, uses_before_lt, uses_before, rows_text-append, is_in_used}
-use proofs.PasteLemmas.Grid.{not_in, used_is_in, consistent_itself}
-use proofs.PasteLemmas.Lag.{EarlierPart, LagsAt, ended_more, lags_here, decided_is_prefix, earlier_now, complete_few}
-use proofs.PasteLemmas.Lag.{earlier_before, earlier_lines, begins_earlier, no_lines}
+use proofs.PasteLemmas.Grid.{not_in, used_is_in}
+use proofs.PasteLemmas.Lag.{EarlierPart, ended_more, lags_here, decided_is_prefix, complete_few}
+use proofs.PasteLemmas.Lag.{earlier_lines, begins_earlier}
 use proofs.PasteLemmas.BufferedRows.{still_pulled}
-use proofs.Passes.Exits.{max_length-append, lines_on, lines_are_given, piece_longest, may_follow}
-use Rattle.ptlines.specs.Received.{empty_input}
+use proofs.Passes.Exits.{max_length-append, lines_on, lines_are_given, piece_longest, eof_gives_nothing}
 use Rattle.ptlines.specs.Calls.{InputNames, EngineSpec}
 use Rattle.std.specs.Prelude.{IsErrAnd}
 
@@ -43,88 +40,17 @@ row_job row = record { serial = false; delimiters = row.delims; terminator = row
 pub of_rows : {row same : RowShape} {old new : CallState ℕ} {end : CallEnd ℕ} → row ≡ same
     → CallPost (inputs_at row.cells) (paste_engine (row_job row) row.cells) old new end
     → CallPost (inputs_at same.cells) (paste_engine (row_job same) same.cells) old new end
-of_rows {old = old} {new} {end} is post = grind (arith, common_steps)
+of_rows is post = grind arith
 
 -- ---- the rows of all that was received, if some rows were taken
 
 -- The known lines of all received bytes, if `ls` were received first.
 whole_lines_after : {end : ℕ} {now : Reader} {given : List ℕ} {ls : Column} → AreReceivedLines end now given ls
-    → (rest : List ℕ) (eof : Bool) → (IsDone now → record { bytes = rest; eof = eof } ≡ empty_input)
+    → (rest : List ℕ) (eof : Bool) → (IsDone now → (rest ≡ []) × (eof ≡ true))
     → known_lines end (record { bytes = given ++ rest; eof = eof }) ≡ ls ++ known_lines end
     (record { bytes = rest; eof = eof })
-whole_lines_after {end} {now} {given} {ls} k rest true may =
-    lines_on end now given ls k rest (λ done. ap (λ g. g.bytes) (may done))
-whole_lines_after {end} {now} {given} {ls} k rest false may = grind (arith, ended_more)
-
--- The bytes that each reader gave after the rows.
-pub record ReadMore (now new : List Reader) : Type 0 where
-  pub extra : ℕ → List ℕ
-  pub reads : (p : ℕ) → ReaderAdvance (reader_at now p) (reader_at new p) (extra p)
-
--- A whole input.
-abbrev whole : List ℕ → Received
-whole bytes = record { bytes = bytes; eof = true }
-
-module _ (job : Paste) {cells : List ℕ} {set now : List Reader} {ls : ℕ → Column}
-    {taken_rows : List (List (List ℕ))} (g : AreFirstRows (job_shape job cells) set now ls taken_rows) where
-  rows_after : (given rest : ℕ → Received)
-      → ((p : ℕ) → 0 < uses_of cells p
-      → given p ≡ record { bytes = (g.lines_taken p).bytes ++ (rest p).bytes; eof = (rest p).eof })
-      → ((p : ℕ) → 0 < uses_of cells p → IsDone (reader_at now p) → rest p ≡ empty_input)
-      → rows (columns cells (λ p. known_lines job.terminator (given p)))
-      ≡ taken_rows ++ rows (columns cells (λ p. known_lines job.terminator (rest p)))
-  rows_after given rest is may =
-      ap rows (columns_same cells (λ p. known_lines job.terminator (given p))
-      (λ p. ls p ++ known_lines job.terminator (rest p)) (λ p some. ap (known_lines job.terminator) (is p some)
-      ∙ whole_lines_after (g.lines_taken p).came (rest p).bytes (rest p).eof (may p some)))
-      ∙ rows_on g (λ p. known_lines job.terminator (rest p))
-      (grind (arith, common_steps))
-
-  module _ {new : List Reader} (r : ReadMore now new) where
-    abbrev pub given_by : ℕ → Received
-    given_by p = received_with ((g.lines_taken p).bytes ++ r.extra p) (reader_at new p)
-
-    module _ (texts : ℕ → List ℕ) (a : AreAllConsistent (inputs_at cells) given_by texts) where
-      -- The possible continuation of each input after the rows.
-      abbrev later : ℕ → List ℕ
-      later p = drop (length (g.lines_taken p).bytes) (texts p)
-
-      later_is : (p : ℕ) (some : 0 < uses_of cells p) → (texts p ≡ (g.lines_taken p).bytes ++ later p)
-          × (later p ≡ r.extra p ++ ((reader_at new p).buffered ++ (a p (used_is_in cells p some)).rest))
-      later_is p some =
-          let given = (g.lines_taken p).bytes in
-          let more = r.extra p ++ ((reader_at new p).buffered ++ (a p (used_is_in cells p some)).rest) in
-          let is : texts p ≡ given ++ more = simp append_assoc at (a p (used_is_in cells p some)).is in
-          let later = ap (drop (length given)) is ∙ drop_at given more _ refl in
-          (is ∙ ap (◌++◌ given) (sym later), later)
-
-      rows_by : rows (columns cells (λ p. lines job.terminator (texts p)))
-          ≡ taken_rows ++ rows (columns cells (λ p. lines job.terminator (later p)))
-      rows_by = rows_after (λ p. whole (texts p)) (λ p. whole (later p)) (λ p some. ap whole (later_is p some).0)
-          (grind (arith, common_steps, later_is, may_follow, used_is_in))
-
-      begins_by : IsPrefix (rows_text job taken_rows) (paste job cells texts)
-      begins_by = grind (arith, common_steps, rows_by, rows_text-append)
-
-    abbrev later_rows : List (List (List ℕ))
-    later_rows = rows (columns cells (λ p. known_lines job.terminator (received_with (r.extra p) (reader_at new p))))
-
-    rows_whole : rows (columns cells (λ p. known_lines job.terminator (given_by p))) ≡ taken_rows ++ later_rows
-    rows_whole = rows_after given_by (λ p. received_with (r.extra p) (reader_at new p))
-        (grind (arith, common_steps))
-        (grind (arith, common_steps))
-
-    abbrev pub EarlierBy : ℕ → Type 0
-    EarlierBy p = EarlierPart job.terminator ((length taken_rows + 1) * uses_of cells p) (given_by p)
-
-    -- Without the last bytes of this input alone, no more output is determined than was pushed.
-    lags_by : (p : ℕ) → 0 < uses_of cells p → EarlierBy p → LagsAt job cells given_by (rows_text job taken_rows) p
-    lags_by = lags_here job cells given_by taken_rows later_rows rows_whole
-
-    begins_by_earlier : (p : ℕ) (some : 0 < uses_of cells p) (cut : EarlierBy p) → cut.front ≡ (given_by p).bytes
-        → (given_by p).eof ≡ false
-        → IsPrefix (paste_decided job cells given_by) (rows_text job taken_rows)
-    begins_by_earlier = decided_is_prefix job cells given_by taken_rows later_rows rows_whole
+whole_lines_after {end} {now} {given} {ls} k rest true may = lines_on end now given ls k rest (λ done. (may done).0)
+whole_lines_after k rest false may = grind (arith, ended_more)
 
 -- ---- after the terminators of the readers were set
 
@@ -145,7 +71,7 @@ module _ {job : Paste} {cells : List ℕ} {old set : List Reader} {was : Output}
   set_readable = grind (arith, readable)
 
   never_failed : (p : ℕ) → is_in cells p ≡ true → (reader_at set p).failed ≡ false
-  never_failed p named = grind (arith, is_in_used, readable, set_readable)
+  never_failed p named = grind (arith, is_in_used, readable)
 
   -- A call from there on is the whole call.
   since_set : {new : CallState ℕ} {end : CallEnd ℕ}
@@ -161,44 +87,37 @@ module _ {job : Paste} {cells : List ℕ} {old set : List Reader} {was : Output}
       → result ≡ Err Memory → PastePost job cells old set was was first store result
   paste_without_slots adds same denied missing is =
       rw (is, paste_end) (since_set (call_without_slots _ _ _ _ s.writable refl
-      (grind (arith, common_steps, is_in_used))
+      (grind (arith, is_in_used))
       (λ p other. refl) (λ p named. (s.are_set p).sound (is_in_used cells p named)) never_failed denied same
       adds.least missing (λ texts. omega arith) (λ p named. let some = is_in_used cells p named in
       begins_earlier job cells (λ q. received_with [] (reader_at set q)) []
-      (rows (columns cells (λ q. known_lines job.terminator (received_with [] (reader_at set q))))) refl p some
-      (grind (arith, common_steps)))))
+      (rows (columns cells (λ q. known_lines job.terminator (received_with [] (reader_at set q))))) refl refl p some
+      (grind arith))))
 
 -- ---- rows that were taken
 
--- The rows `taken_rows` were taken and pushed; `ls` are their lines, by input.
+-- A bound on the slots, by lines of each input.
+abbrev Kept : List ℕ → Slots → (ℕ → Column) → Slots → Type 0
+Kept cells first ls stored = (top : ℕ → ℕ) → ((p : ℕ) → 0 < uses_of cells p → max_length (ls p) ≤ top p)
+    → SlotsBound cells top first stored
+
+kept_now : {cells : List ℕ} {first stored : Slots} (ls : ℕ → Column) → Kept cells first ls stored
+    → SlotsBound cells (λ p. max_length (ls p)) first stored
+kept_now ls kept = kept _ (λ p some. omega arith)
+
+-- Rows were taken, and their text `written` was pushed.
 pub record PasteInvariant (job : Paste) (cells : List ℕ) (old set now : List Reader) (was is : Output)
     (first store : Slots) : Type 0 where
   pub starts : HasStarted job cells old set was first
-  pub ls : ℕ → Column
-  pub taken_rows : List (List (List ℕ))
-  pub first_rows : AreFirstRows (job_shape job cells) set now ls taken_rows
-  pub wrote : PushEffect was is (rows_text job taken_rows)
+  pub written : List ℕ
+  pub rows : RowsTaken (job_shape job cells) set now written
+  pub wrote : PushEffect was is written
   pub clean : is.write_failed ≡ false
-  pub kept : (top : ℕ → ℕ) → ((p : ℕ) → 0 < uses_of cells p → max_length (ls p) ≤ top p)
-      → SlotsBound cells top first store
+  pub kept : Kept cells first rows.ls store
 
 -- The same, by the shape of the rows.
 abbrev pub RowsInvariant : RowShape → List Reader → List Reader → List Reader → Output → Output → Slots → Slots → Type 0
 RowsInvariant row = PasteInvariant (row_job row) row.cells
-
-pub invariant_starts : {job : Paste} {cells : List ℕ} {old set : List Reader} {was : Output} {first store : Slots}
-    → HasStarted job cells old set was first
-    → AddedSlots first store (length cells) → store.denied ≡ false → total_bytes store.lines ≡ 0
-    → store.peak ≡ first.peak → PasteInvariant job cells old set set was was first store
-invariant_starts {was = was} starts adds allowed empty peak = record {
-  starts = starts;
-  ls = λ p. [];
-  taken_rows = [];
-  first_rows = no_rows;
-  wrote = push_nothing was;
-  clean = starts.writable;
-  kept = λ top high. slots_bound_start adds allowed empty peak;
-}
 
 -- After whole rows the first `n` columns of a row took their lines, and then perhaps a reader gave a part of a line.
 record RowPart (job : Paste) (cells : List ℕ) (mid new : List Reader) : Type 0 where
@@ -227,12 +146,6 @@ whole_columns {new = new} n {taken} lines_taken = record {
   left = λ p none. refl;
 }
 
-abbrev read_more : {job : Paste} {cells : List ℕ} {mid new : List Reader} → RowPart job cells mid new → ReadMore mid new
-read_more q = record {
-  extra = λ p. (q.lines_taken p).bytes ++ q.part p;
-  reads = λ p. advance_trans _ _ _ _ _ (q.lines_taken p).reads (q.reads p);
-}
-
 module _ {job : Paste} {cells : List ℕ} {old set now : List Reader} {was is : Output} {first store : Slots}
     (s : PasteInvariant job cells old set now was is first store) where
   abbrev shape : RowShape
@@ -244,8 +157,8 @@ module _ {job : Paste} {cells : List ℕ} {old set now : List Reader} {was is : 
 
   -- The lines that were taken from each reader so far.
   abbrev so_far : (p : ℕ) → LinesTaken job.terminator (reader_at set p) (reader_at now p)
-      (length s.taken_rows * uses_of cells p) (s.ls p)
-  so_far = s.first_rows.lines_taken
+      (length s.rows.taken_rows * uses_of cells p) (s.rows.ls p)
+  so_far = s.rows.first_rows.lines_taken
 
   -- The readers are still readable.
   pub now_readable : BufferedRowsPre shape now
@@ -255,54 +168,34 @@ module _ {job : Paste} {cells : List ℕ} {old set now : List Reader} {was is : 
     same_end = λ p some. (so_far p).reads.terminator ∙ r.same_end p some;
   }
 
-  now_short : (p : ℕ) → 0 < uses_of cells p → (reader_at now p).pulled < 2 ^ 63
-  now_short p some = (so_far p).short
-      (((s.starts.are_set p).sound some).long ((set_readable s.starts).unfailed p some))
-
   now_buffered : (p : ℕ) → 0 < uses_of cells p → length (reader_at now p).buffered ≤ 8192
-  now_buffered p some = grind (arith, common_steps)
+  now_buffered p some = grind arith
 
   -- Each column has a slot.
   pub invariant_slots : length cells ≤ length store.lines
-  invariant_slots = let k = s.kept (λ p. max_length (s.ls p)) (λ p some. omega arith) in omega arith
-
-  -- A bound on the slots, if further lines were taken.
-  abbrev Kept : (ℕ → Column) → Slots → Type 0
-  Kept ls stored = (top : ℕ → ℕ) → ((p : ℕ) → 0 < uses_of cells p → max_length (s.ls p ++ ls p) ≤ top p)
-      → SlotsBound cells top first stored
-
-  still_kept : (ls : ℕ → Column) → Kept ls store
-  still_kept ls top high = s.kept top (λ p some. omega (arith, high p some, max_length-append (s.ls p) (ls p)))
+  invariant_slots = let k = kept_now _ s.kept in omega arith
 
   -- More rows were taken and pushed.
-  invariant_after : {new : List Reader} {ls : ℕ → Column} {more : List (List (List ℕ))}
-      → AreFirstRows shape now new ls more → {buffered : Slots} → Kept ls buffered
-      → {is' : Output} → PushEffect is is' (rows_text job more) → is'.write_failed ≡ false
-      → PasteInvariant job cells old set new was is' first buffered
-  invariant_after {ls = ls} {more} g kept wrote clean = record {
+  invariant_after : {new : List Reader} {written : List ℕ} (g : RowsTaken shape now new written) → {stored : Slots}
+      → Kept cells first (λ p. s.rows.ls p ++ g.ls p) stored → {is' : Output} → PushEffect is is' written
+      → is'.write_failed ≡ false → PasteInvariant job cells old set new was is' first stored
+  invariant_after {written = written} g kept wrote clean = record {
     starts = s.starts;
-    ls = λ p. s.ls p ++ ls p;
-    taken_rows = s.taken_rows ++ more;
-    first_rows = first_rows_trans s.first_rows g;
-    wrote = rw (rows_text-append job.terminator job.delimiters s.taken_rows more)
-        (push_trans _ _ _ _ _ s.clean s.wrote wrote);
+    written = s.written ++ written;
+    rows = rows_taken_trans s.rows g;
+    wrote = push_trans _ _ _ _ _ s.clean s.wrote wrote;
     clean = clean;
     kept = kept;
   }
-
-  abbrev no_more : AreFirstRows shape now now (λ p. []) []
-  no_more = no_rows
-
-  -- Buffered output was written out.
-  pub invariant_sent : {written_out : Output} → PushEffect is written_out [] → written_out.write_failed ≡ false
-      → PasteInvariant job cells old set now was written_out first store
-  invariant_sent = invariant_after no_more (still_kept (λ p. []))
 
   -- Rows from the buffers.
   pub invariant_rows : {new : List Reader} {written : List ℕ} → RowsTaken shape now new written
       → {is' : Output} → PushEffect is is' written → is'.write_failed ≡ false
       → PasteInvariant job cells old set new was is' first store
-  invariant_rows p wrote clean = invariant_after p.first_rows (still_kept p.ls) (rw p.is at wrote) clean
+  invariant_rows g = invariant_after g (λ top high. s.kept top (grind (arith, max_length-append)))
+
+  abbrev no_more : RowsTaken shape now now []
+  no_more = rows_taken_none
 
   pub invariant_written : {new : List Reader} {is' : Output} → RowsWritten shape now new is is'
       → is'.write_failed ≡ false → PasteInvariant job cells old set new was is' first store
@@ -311,77 +204,87 @@ module _ {job : Paste} {cells : List ℕ} {old set now : List Reader} {was is : 
   -- ---- at an exit
 
   -- Rows were taken and pushed, and then a part of a row was read.
-  module _ {mid new : List Reader} {ls : ℕ → Column} {more : List (List (List ℕ))}
-      (g : AreFirstRows shape now mid ls more) (q : RowPart job cells mid new) where
-    abbrev all_taken : (p : ℕ) → LinesTaken job.terminator (reader_at now p) (reader_at q.last p)
-        (length more * uses_of cells p + uses_of (take q.n cells) p) (ls p ++ q.taken p)
-    all_taken p = taken_more refl (g.lines_taken p) (q.lines_taken p)
+  module _ {mid new : List Reader} {written : List ℕ} (g : RowsTaken shape now mid written)
+      (q : RowPart job cells mid new) where
+    abbrev all_rows : RowsTaken shape set mid (s.written ++ written)
+    all_rows = rows_taken_trans s.rows g
 
-    abbrev read_on : ReadMore now new
-    read_on = record {
-      extra = λ p. (g.lines_taken p).bytes ++ (read_more q).extra p;
-      reads = λ p. advance_trans _ _ _ _ _ (g.lines_taken p).reads ((read_more q).reads p);
-    }
+    -- All lines that were taken, and all bytes that were given.
+    abbrev all_lines : ℕ → Column
+    all_lines p = all_rows.ls p ++ q.taken p
+
+    abbrev all_taken : (p : ℕ) → LinesTaken job.terminator (reader_at set p) (reader_at q.last p)
+        (length all_rows.taken_rows * uses_of cells p + uses_of (take q.n cells) p) (all_lines p)
+    all_taken p = taken_more refl (all_rows.first_rows.lines_taken p) (q.lines_taken p)
+
+    abbrev bytes : ℕ → List ℕ
+    bytes p = (all_taken p).bytes ++ q.part p
 
     abbrev given : ℕ → Received
-    given = given_by job s.first_rows read_on
+    given p = received_with (bytes p) (reader_at new p)
 
-    -- All lines that were taken, and their bytes.
-    abbrev all_lines : ℕ → Column
-    all_lines p = s.ls p ++ (ls p ++ q.taken p)
+    -- The rows of any continuation of what was given.
+    rows_after : (full : ℕ → Received) → AreAllConsistent (inputs_at cells) given (λ p. (full p).bytes)
+        → ((p : ℕ) → (reader_at new p).eof ≡ true → (full p).eof ≡ true) → (later : List (List (List ℕ)))
+        × (rows (columns cells (λ p. known_lines job.terminator (full p))) ≡ all_rows.taken_rows ++ later)
+    rows_after full on ends =
+        let front = λ (p : ℕ). (all_rows.first_rows.lines_taken p).bytes in
+        let rest : ℕ → List ℕ = λ p. drop (length (front p)) (full p).bytes in
+        let rest_is : (p : ℕ) → 0 < uses_of cells p → ((full p).bytes ≡ front p ++ rest p)
+        × (IsDone (reader_at mid p) → (rest p ≡ []) × ((full p).eof ≡ true)) = λ p some.
+        let k = on p (used_is_in cells p some) in
+        let extra = (q.lines_taken p).bytes ++ q.part p in
+        let more = extra ++ ((reader_at new p).buffered ++ k.rest) in
+        let is : (full p).bytes ≡ front p ++ more = k.is ∙ simp append_assoc in
+        let same : rest p ≡ more = ap (drop (length (front p))) is ∙ drop_at (front p) more _ refl in
+        rw same (
+          is,
+          λ done.
+              let (none, empty, ended) = eof_gives_nothing _ (reader_at new p) extra done
+              (advance_trans _ _ _ _ _ (q.lines_taken p).reads (q.reads p)) in
+              ((λ i. none i ++ (empty i ++ k.whole ended i)), ends p ended),
+        ) in
+        let later : ℕ → Column = λ p. known_lines job.terminator (record { bytes = rest p; eof = (full p).eof }) in (
+          rows (columns cells later),
+          ap rows (columns_same cells (λ p. known_lines job.terminator (full p)) (λ p. all_rows.ls p ++ later p)
+              (λ p some.
+              let (is, may) = rest_is p some in
+              ap (λ b. known_lines job.terminator (record { bytes = b; eof = (full p).eof })) is
+              ∙ whole_lines_after (all_rows.first_rows.lines_taken p).came (rest p) (full p).eof may))
+              ∙ rows_on all_rows.first_rows later (grind arith),
+        )
 
-    abbrev line_bytes : ℕ → List ℕ
-    line_bytes p = (so_far p).bytes ++ (all_taken p).bytes
-
-    lines_to : (p : ℕ) → AreReceivedLines job.terminator (reader_at q.last p) (line_bytes p) (all_lines p)
-    lines_to p = lines_trans (so_far p).came (all_taken p).reads (all_taken p).came
-
-    given_is : (p : ℕ) → (so_far p).bytes ++ read_on.extra p ≡ line_bytes p ++ q.part p
-    given_is p = simp append_assoc
-
-    failed_last : (p : ℕ) → (reader_at q.last p).failed ≡ (reader_at set p).failed
-    failed_last p = (all_taken p).failed ∙ (so_far p).failed
+    rows_given : (later : List (List (List ℕ)))
+        × (rows (columns cells (λ p. known_lines job.terminator (given p))) ≡ s.rows.taken_rows ++ later)
+    rows_given =
+        let (later, is) = rows_after given
+        (λ p named. record { rest = []; is = sym (append-nil (given p).bytes); whole = λ ended. refl })
+        (λ p ended. ended) in
+        (g.taken_rows ++ later, is ∙ append_assoc s.rows.taken_rows g.taken_rows later)
 
     abbrev Cut : ℕ → Type 0
-    Cut = EarlierBy job s.first_rows read_on
+    Cut p = EarlierPart job.terminator ((length s.rows.taken_rows + 1) * uses_of cells p) (given p)
 
     -- An input without its last line, if it gave no more lines than one more row takes.
     cut_line : (p : ℕ) → 0 < uses_of cells p → reader_at new p ≡ reader_at q.last p → q.part p ≡ []
-        → length more * uses_of cells p + uses_of (take q.n cells) p ≤ uses_of cells p → Cut p
+        → length g.taken_rows * uses_of cells p + uses_of (take q.n cells) p ≤ uses_of cells p → Cut p
     cut_line p some same none few = earlier_lines (reader_at new p) _
-        (rw same ((all_taken p).buffered (now_buffered p some))) (omega arith) (rw (
-          given_is p,
+        (rw same ((all_taken p).buffered ((s.starts.are_set p).sound some).buffered)) (omega arith) (rw (
           none,
-          append-nil (line_bytes p),
-          lines_are_given _ _ _ _ (lines_to p),
+          append-nil (all_taken p).bytes,
+          lines_are_given _ _ _ _ (all_taken p).came,
         ) (omega (
           arith,
-          length-append (s.ls p) (ls p ++ q.taken p),
-          taken_at_most (so_far p),
           taken_at_most (all_taken p),
+          ap (λ (n : ℕ). n * uses_of cells p) (length-append s.rows.taken_rows g.taken_rows),
         )))
 
-    -- A fact of all texts that are consistent with what was received.
-    abbrev ForTexts : ((ℕ → List ℕ) → Type 0) → Type 0
-    ForTexts P = (texts : ℕ → List ℕ) → AreAllConsistent (inputs_at cells) given texts → P texts
-
-    -- A bound on the slots, if the lines and the part of a line are no longer than that.
+    -- A bound on the slots, by the lines and the part of a line.
     abbrev Bound : Slots → Type 0
-    Bound stored = (top : ℕ → ℕ) → ((p : ℕ) → 0 < uses_of cells p
-        → max (max_length (all_lines p)) (length (q.part p)) ≤ top p) → SlotsBound cells top first stored
-
-    bound_for : {stored : Slots} → Bound stored
-        → ForTexts (λ texts. SlotsBound cells (λ p. max_line_length job.terminator (texts p)) first stored)
-    bound_for bound texts a = bound (λ p. max_line_length job.terminator (texts p)) (λ p some.
-        piece_longest _ _ _ _ (lines_to p) _ _ (q.reads p) (q.is_line p) _
-        (rw (given_is p) at (a p (used_is_in cells p some))))
-
-    bound_now : {stored : Slots} → Bound stored
-        → SlotsBound cells (λ p. max_line_length job.terminator (given p).bytes) first stored
-    bound_now bound = bound_for bound (λ p. (given p).bytes) (λ p named. consistent_itself (given p))
+    Bound = Kept cells first (λ p. all_lines p ++ q.part p ∷ [])
 
     -- Perhaps the store could not grow.
-    module _ {is' : Output} (wrote : PushEffect is is' (rows_text job more)) {after stored : Slots}
+    module _ {is' : Output} (wrote : PushEffect is is' written) {after stored : Slots}
         (same : (after ≡ stored) ⊎ (after ≡ with_denied stored)) (bound : Bound stored)
         (cut : (p : ℕ) → 0 < uses_of cells p → Cut p) where
       abbrev begin : CallState ℕ
@@ -390,112 +293,120 @@ module _ {job : Paste} {cells : List ℕ} {old set now : List Reader} {was is : 
       abbrev end : CallState ℕ
       end = call_state (reader_at new) is' after
 
-      abbrev bytes : ℕ → List ℕ
-      bytes p = (so_far p).bytes ++ read_on.extra p
-
       abbrev pushed : List ℕ
-      pushed = rows_text job s.taken_rows ++ rows_text job more
-
-      progress : CallProgress (inputs_at cells) (paste_engine job cells) begin end bytes pushed
-      progress = let (size, peak) : (length after.lines ≡ length stored.lines) × (after.peak ≡ stored.peak) =
-          grind (arith, same) in let now_bound = bound_now bound in record {
-            reads = λ p named. advance_trans _ _ _ _ _ (so_far p).reads (read_on.reads p);
-            untouched = λ p other. let none = not_in cells p other in
-                q.left p none ∙ (all_taken p).none (rw none (omega (arith, uses_before cells q.n p)))
-                ∙ (so_far p).none (rw none (omega arith));
-            never_failed = never_failed s.starts;
-            writable = s.starts.writable;
-            wrote = push_trans _ _ _ _ _ s.clean s.wrote wrote;
-            is_prefix = λ texts a. rw (rows_text-append job.terminator job.delimiters s.taken_rows more) at
-                (begins_by job (first_rows_trans s.first_rows g) (read_more q) texts (λ p named.
-                rw (append_assoc (so_far p).bytes (g.lines_taken p).bytes ((read_more q).extra p)) (a p named)));
-            bounded_lag = λ p named. let some = is_in_used cells p named in
-                bounded_lag_after (λ g'. paste_decided job cells (update_at p (g' tt) given)) (λ u. given p) _ _ _
-                (lags_by job s.first_rows read_on p some (cut p some)) s.wrote s.clean _ _ wrote;
-            peak = λ texts a. omega (arith, (bound_for bound texts a).peak);
-            slots = λ texts a. omega (arith, now_bound.adds.most);
-            least = omega (arith, now_bound.adds.least);
-            room = omega (arith, now_bound.adds.all now_bound.denied);
-          }
+      pushed = s.written ++ written
 
       exit : (result : Result (Unit {0}) FlowFault)
           → CallOutcome (inputs_at cells) (paste_engine job cells) begin end given pushed (paste_end result)
           → DecidedIfReadFailed (inputs_at cells) (paste_engine job cells) begin end bytes pushed (paste_end result)
           → Ends new is' after result
       exit result ends decided =
+          let (size, peak) : (length after.lines ≡ length stored.lines) × (after.peak ≡ stored.peak) =
+          grind arith in
+          let now_bound = kept_now _ bound in
+          let progress : CallProgress (inputs_at cells) (paste_engine job cells) begin end bytes pushed = record {
+            reads = λ p named. advance_trans _ _ _ _ _ (all_taken p).reads (q.reads p);
+            untouched = λ p other. let none = not_in cells p other in
+                q.left p none ∙ (all_taken p).none (rw none (omega (arith, uses_before cells q.n p)));
+            never_failed = never_failed s.starts;
+            writable = s.starts.writable;
+            wrote = push_trans _ _ _ _ _ s.clean s.wrote wrote;
+            is_prefix = λ texts a.
+                let (later, is) = rows_after (λ p. record { bytes = texts p; eof = true }) a (λ p ended. refl) in
+                record {
+                  rest = rows_text job later;
+                  is = cc (all_rows.is, rows_text-append job.terminator job.delimiters all_rows.taken_rows later);
+                };
+            bounded_lag = λ p named. let some = is_in_used cells p named in
+                bounded_lag_after (λ g'. paste_decided job cells (update_at p (g' tt) given)) (λ u. given p) _ _ _
+                (lags_here job cells given s.rows.taken_rows rows_given.0 s.rows.is rows_given.1 p some (cut p some))
+                s.wrote s.clean _ _ wrote;
+            peak = λ texts a.
+                let k = bound (λ p. max_line_length job.terminator (texts p)) (λ p some. omega (
+                  arith,
+                  max_length-append (all_lines p) (q.part p ∷ []),
+                  piece_longest _ _ _ _ (all_taken p).came _ _ (q.reads p) (q.is_line p) _
+                      (a p (used_is_in cells p some)),
+                )) in
+                omega arith;
+            slots = λ texts a. omega arith;
+            least = omega arith;
+            room = omega arith;
+          } in
           since_set s.starts (call_ends _ _ _ _ _ progress (paste_end result) ends decided)
 
     -- A write failed.
-    write_exit : {is' : Output} → PushEffect is is' (rows_text job more) → is'.write_failed ≡ true → {after : Slots}
+    write_exit : {is' : Output} → PushEffect is is' written → is'.write_failed ≡ true → {after : Slots}
         → Bound after → ((p : ℕ) → 0 < uses_of cells p → Cut p)
         → ((p : ℕ) → (reader_at new p).failed ≡ (reader_at q.last p).failed)
         → Ends new is' after (Err Write)
     write_exit wrote fault bound cut same = exit wrote (inl refl) bound cut (Err Write) (record {
       write_failed = fault;
-      unfailed = λ p named. same p ∙ failed_last p;
-      not_denied = (bound_now bound).denied;
+      unfailed = λ p named. same p ∙ (all_taken p).failed;
+      not_denied = (kept_now _ bound).denied;
     }) tt
 
   -- A write of rows from the buffers failed, after the first columns of the next row were copied.
-  taken_write_failed : {mid new : List Reader} {copied : List ℕ} → RowsTaken shape now mid copied
+  pub rows_write_failed : {mid new : List Reader} {copied : List ℕ} → RowsTaken shape now mid copied
       → (n : ℕ) {taken : ℕ → Column}
       → ((p : ℕ) → LinesTaken job.terminator (reader_at mid p) (reader_at new p) (uses_of (take n cells) p) (taken p))
       → AreConsumed now new → {is' : Output} → PushEffect is is' copied → is'.write_failed ≡ true
       → Ends new is' store (Err Write)
-  taken_write_failed rows n {taken} b consumed wrote fault =
-      let q = whole_columns n b in
-      write_exit rows.first_rows q (rw rows.is at wrote) fault
-      (λ top high. still_kept (λ p. rows.ls p ++ taken p) top (λ p some. omega (arith, high p some)))
-      (λ p some. earlier_before (so_far p).came ((read_on rows.first_rows q).reads p) (still_pulled consumed p)
-      (now_buffered p some) (omega (arith, taken_at_most (so_far p)))) (λ p. refl)
-
-  -- A write of the rows of one input failed.
-  pub paste_shared_write_failed : {new : List Reader} {is' : Output}
-      → RowsWritten shape now new is is' → is'.write_failed ≡ true
-      → Ends new is' store (Err Write)
-  paste_shared_write_failed p fault =
-      taken_write_failed p.rows 0 (λ q. nothing_taken refl) p.consumed p.wrote fault
-
-  -- A write of rows of several inputs failed.
-  pub paste_rows_write_failed : {copied : List ℕ} {begun : BegunText} {is' : Output}
-      → CopyRowsPost shape now copied begun → PushEffect is is' copied → is'.write_failed ≡ true
-      → Ends begun.readers is' store (Err Write)
-  paste_rows_write_failed {begun = begun} p wrote fault =
-      taken_write_failed p.rows begun.count p.filled.consumed.lines_taken p.consumed wrote fault
+  rows_write_failed {new = new} rows n b consumed wrote fault =
+      write_exit rows (whole_columns n b) wrote fault (λ top high. s.kept top
+      (grind (arith, max_length-append)))
+      -- Without the bytes that came from the buffers.
+      (λ p some.
+      let given = (so_far p).bytes in
+      let more = (rows.first_rows.lines_taken p).bytes ++ (b p).bytes in
+      let reads = advance_trans _ _ _ _ _ (rows.first_rows.lines_taken p).reads (b p).reads in
+      record {
+        front = given;
+        last = more ++ (reader_at new p).buffered;
+        split = simp (append_assoc, append-nil);
+        short = omega (
+          arith,
+          length-append more (reader_at new p).buffered,
+          still_pulled consumed p,
+          now_buffered p some,
+        );
+        few = omega (
+          arith,
+          taken_at_most (so_far p),
+          rw (append-nil given) at (complete_few (so_far p).came (reads_nothing (reader_at now p)) tt),
+        );
+      }) (λ p. refl)
 
   -- The first n columns of a row were filled, and not from the buffers alone.
   row_kept : {n : ℕ} {begun : BegunText} {after : Slots} (a : RowAmid shape n now store begun after) → n ≤ length cells
-      → Kept a.filled.input_lines after
+      → Kept cells first (λ p. s.rows.ls p ++ a.filled.input_lines p) after
   row_kept a few top high =
-      slots_kept_by_lines a.slots few a.filled.consumed first top (still_kept a.filled.input_lines top high)
-      (grind (arith, common_steps, max_length-append))
+      a.slots.kept first top (s.kept top (grind (arith, max_length-append)))
+      (grind (arith, max_length-append, line_le_max_length, uses_before_lt))
 
   -- A row was filled.
   module _ {begun : BegunText} {after : Slots} (a : RowAmid shape (length cells) now store begun after) where
     pub row_slots : length cells ≤ length after.lines
-    row_slots = omega (arith, a.slots.same, invariant_slots)
+    row_slots = omega (arith, invariant_slots)
 
     -- Some column has a line, and the row was pushed.
     module _ (some : begun.any_line ≡ true) {is' : Output}
         (wrote : PushEffect is is' (begun.text ++ slots_text shape begun.count after)) where
-      row_first : AreFirstRows shape now begun.readers a.filled.input_lines (a.fields ∷ [])
-      row_first = filled_row_is_first a.filled some
-
-      row_wrote : PushEffect is is' (rows_text job (a.fields ∷ []))
-      row_wrote = rw (amid_text a row_slots, filled_row_text a.filled some) at wrote
+      row_wrote : PushEffect is is' (cells_text shape 0 a.fields)
+      row_wrote = rw (amid_text a row_slots) at wrote
 
       pub invariant_more : is'.write_failed ≡ false
           → PasteInvariant job cells old set begun.readers was is' first after
-      invariant_more = invariant_after row_first (row_kept a (omega arith)) row_wrote
+      invariant_more = invariant_after (row_taken a.filled some) (row_kept a (omega arith)) row_wrote
 
       pub paste_row_write_failed : is'.write_failed ≡ true → Ends begun.readers is' after (Err Write)
       paste_row_write_failed fault =
-          let ls = a.filled.input_lines in
+          let g = row_taken a.filled some in
           let q = whole_columns 0 (λ (p : ℕ). nothing_taken {end = job.terminator} {r = reader_at begun.readers p} refl)
           in
-          write_exit row_first q row_wrote fault
-          (λ top high. row_kept a (omega arith) top (grind (arith, common_steps)))
-          (λ p some. cut_line row_first q p some refl refl (omega arith)) (λ p. refl)
+          write_exit g q row_wrote fault
+          (λ top high. row_kept a (omega arith) top (grind (arith, max_length-append)))
+          (λ p some. cut_line g q p some refl refl (omega arith)) (λ p. refl)
 
     -- No column has a line.
     module _ (none : begun.any_line ≡ false) where
@@ -505,44 +416,39 @@ module _ {job : Paste} {cells : List ℕ} {old set now : List Reader} {was is : 
       done_by : (p : ℕ) → 0 < uses_of cells p → IsDone (reader_at begun.readers p)
       done_by p some =
           let all = ap (λ l. uses_of l p) (take_all (length cells) cells (omega arith)) in
-          grind (arith, a.filled.none none p, (at_end.lines_taken p).enough)
+          grind arith
 
-      nothing_by : (p : ℕ) → (read_on no_more at_end).extra p ≡ []
-      nothing_by p =
-          let t = all_taken no_more at_end p in
-          cc (
-            no_lines job.terminator t.bytes
-                (omega (arith, ap length (lines_are_given _ _ _ _ t.came), ap length (a.filled.none none p))),
-            append-nil (at_end.lines_taken p).bytes,
-          )
-
-      out_is : ForTexts no_more at_end (λ texts. rows_text job s.taken_rows ++ [] ≡ paste job cells texts)
+      out_is : (texts : ℕ → List ℕ) → AreAllConsistent (inputs_at cells) (given no_more at_end) texts
+          → s.written ++ [] ≡ paste job cells texts
       out_is texts input =
           cc (
-            append-nil (rows_text job s.taken_rows),
-            s.first_rows.are,
-            columns_same cells (λ p. lines job.terminator (texts p)) s.ls (λ p some.
+            append-nil s.written,
+            columns_same cells (λ p. lines job.terminator (texts p)) s.rows.ls (λ p some.
                 let k = input p (used_is_in cells p some) in
                 let done = done_by p some in
-                ap (lines job.terminator) (k.is ∙ (λ i. (((so_far p).bytes ++ nothing_by p i) ++ done.buffered i)
-                ++ k.whole done.eof i) ∙ simp append-nil) ∙ lines_are_given _ _ _ _ (so_far p).came),
+                let t = all_taken no_more at_end p in
+                ap (lines job.terminator) (k.is ∙ (λ i. ((t.bytes ++ []) ++ done.buffered i)
+                ++ k.whole done.eof i) ∙ simp append-nil) ∙ lines_are_given _ _ _ _ t.came
+                ∙ (λ i. (s.rows.ls p ++ []) ++ a.filled.none none p i) ∙ simp append-nil),
           )
 
       pub paste_done : {is' : Output} {cleared : Slots} → ClearSlotsPost cells after cleared → PushEffect is is' []
           → is'.write_failed ≡ false → Ends begun.readers is' cleared (Ok tt)
       paste_done {cleared = cleared} e wrote clean =
           let bound : Bound no_more at_end cleared =
-          λ top high. e.kept first top (row_kept a (omega arith) top (λ p some. omega (arith, high p some))) in
-          let now_bound = bound_now no_more at_end bound in
+          λ top high. e.kept first top (row_kept a (omega arith) top (grind (arith, max_length-append))) in
+          let now_bound = kept_now _ bound in
+          let unfailed = λ (p : ℕ) (named : is_in cells p ≡ true).
+          (set_readable s.starts).unfailed p (is_in_used cells p named) in
           exit no_more at_end wrote (inl refl) bound (λ p some. cut_line no_more at_end p some refl refl
           (omega (arith, uses_before cells (length cells) p))) (Ok tt) (record {
             out = out_is;
             disorder = λ texts input. refl;
             ended = λ none p named. done_by p (is_in_used cells p named);
-            fault = λ p named.
-                (all_taken no_more at_end p).fault ∙ now_readable.unfailed p (is_in_used cells p named);
-            short = λ p named. (all_taken no_more at_end p).short (now_short p (is_in_used cells p named));
-            unfailed = λ p named. failed_last no_more at_end p;
+            fault = λ p named. (all_taken no_more at_end p).fault ∙ unfailed p named;
+            short = λ p named. (all_taken no_more at_end p).short
+                (((s.starts.are_set p).sound (is_in_used cells p named)).long (unfailed p named));
+            unfailed = λ p named. (all_taken no_more at_end p).failed;
             clean = clean;
             not_denied = now_bound.denied;
             empty = omega (
@@ -558,7 +464,8 @@ module _ {job : Paste} {cells : List ℕ} {old set now : List Reader} {was is : 
       (b : RowFailed CellFailed shape now new store after) (piece : List ℕ)
       (piece_reads : ReaderAdvance (reader_at b.begun.readers (get_or cells b.column 0))
       (reader_at new (get_or cells b.column 0)) piece)
-      (free : IsLine (reader_at b.begun.readers (get_or cells b.column 0)).terminator piece) where
+      (free : IsLine (reader_at b.begun.readers (get_or cells b.column 0)).terminator piece) {is' : Output}
+      (wrote : PushEffect is is' []) where
     abbrev here : ℕ
     here = get_or cells b.column 0
 
@@ -569,11 +476,9 @@ module _ {job : Paste} {cells : List ℕ} {old set now : List Reader} {was is : 
     abbrev part_to : ℕ → List ℕ
     part_to p = cond (p == here) piece []
 
-    reads_to : (p : ℕ) → ReaderAdvance (reader_at b.begun.readers p) (reader_at new p) (part_to p)
-    reads_to p = grind (arith, nat_tests, b.others, reads_nothing)
-
-    is_line_to : (p : ℕ) → IsLine job.terminator (part_to p)
-    is_line_to p = grind (arith, nat_tests, b.amid.filled.consumed, now_readable, here_used)
+    part_is : (p : ℕ) → ReaderAdvance (reader_at b.begun.readers p) (reader_at new p) (part_to p)
+        × IsLine job.terminator (part_to p)
+    part_is p = grind (arith, nat_tests, reads_nothing, here_used)
 
     abbrev row_to : RowPart job cells now new
     row_to = record {
@@ -582,33 +487,37 @@ module _ {job : Paste} {cells : List ℕ} {old set now : List Reader} {was is : 
       taken = b.amid.filled.input_lines;
       lines_taken = b.amid.filled.consumed.lines_taken;
       part = part_to;
-      reads = reads_to;
-      is_line = is_line_to;
+      reads = λ p. (part_is p).0;
+      is_line = λ p. (part_is p).1;
       left = λ p none. b.others p (λ same. absurd (omega (arith, here_used, ap (uses_of cells) same)));
     }
 
     bound_to : Bound no_more row_to b.buffered
-    bound_to top high = row_kept b.amid (omega (arith, b.within)) top (λ p some. omega (arith, high p some))
+    bound_to top high = row_kept b.amid (omega arith) top (grind (arith, max_length-append))
 
     bound_with_piece : Bound no_more row_to (with_line b.buffered b.column piece)
     bound_with_piece top high = slots_bound_line (bound_to top high) b.column piece b.within
-        (grind (arith, nat_tests, high here here_used))
+        (grind (arith, max_length-append, high here here_used))
 
     failed_to : (reader_at new here).failed ≡ (reader_at b.begun.readers here).failed
         → (p : ℕ) → (reader_at new p).failed ≡ (reader_at b.begun.readers p).failed
-    failed_to same p = grind (arith, b.others p, cases_eq p here)
+    failed_to same p = grind arith
 
     -- That reader is the one that limits the rows.
     abbrev cut_here : Cut no_more row_to here
-    cut_here = earlier_now (reader_at new here) _ (b.few (now_buffered here here_used))
-        (rw (given_is no_more row_to here) (omega (
-          arith,
-          complete_few (lines_to no_more row_to here) (reads_to here) (is_line_to here),
-          length-append (s.ls here) (b.amid.filled.input_lines here),
-          taken_at_most (so_far here),
-          taken_at_most (row_to.lines_taken here),
-          uses_before_lt cells b.column b.within,
-        )))
+    cut_here = record {
+      front = bytes no_more row_to here;
+      last = (reader_at new here).buffered;
+      split = refl;
+      short = omega (arith, b.few (now_buffered here here_used));
+      few = omega (
+        arith,
+        complete_few (all_taken no_more row_to here).came (part_is here).0 (part_is here).1,
+        ap (λ (n : ℕ). n * uses_of cells here) (length-append s.rows.taken_rows []),
+        taken_at_most (all_taken no_more row_to here),
+        uses_before_lt cells b.column b.within,
+      );
+    }
 
     cut_to : (p : ℕ) → 0 < uses_of cells p → Cut no_more row_to p
     cut_to p some = ⊎_elim
@@ -618,51 +527,48 @@ module _ {job : Paste} {cells : List ℕ} {old set now : List Reader} {was is : 
         (cases_eq p here)
 
     -- The buffered output could not be written.
-    paste_send_failed : {is' : Output} → PushEffect is is' [] → is'.write_failed ≡ true → after ≡ b.buffered
-        → (reader_at new here).failed ≡ (reader_at b.begun.readers here).failed
-        → Ends new is' after (Err Write)
-    paste_send_failed wrote fault stored same =
+    paste_send_failed : is'.write_failed ≡ true → after ≡ b.buffered
+        → (reader_at new here).failed ≡ (reader_at b.begun.readers here).failed → Ends new is' after (Err Write)
+    paste_send_failed fault stored same =
         rw stored (write_exit no_more row_to wrote fault bound_to cut_to (failed_to same))
 
     -- A growth of a slot failed. That reader has bytes left.
-    paste_memory_failed : {is' : Output} → PushEffect is is' [] → is'.write_failed ≡ false
-        → after ≡ with_denied (with_line b.buffered b.column piece)
+    paste_memory_failed : is'.write_failed ≡ false → after ≡ with_denied (with_line b.buffered b.column piece)
         → (reader_at new here).failed ≡ (reader_at b.begun.readers here).failed
         → 0 < length (reader_at new here).buffered
         → Ends new is' after (Err Memory)
-    paste_memory_failed wrote clean stored same left =
+    paste_memory_failed clean stored same left =
         exit no_more row_to wrote (inr stored) bound_with_piece cut_to (Err Memory) (record {
           denied = cc stored;
-          unfailed = λ p named. failed_to same p ∙ failed_last no_more row_to p;
+          unfailed = λ p named. failed_to same p ∙ (all_taken no_more row_to p).failed;
           clean = clean;
-          left = grind (arith, common_steps, used_is_in, here_used);
+          left = grind (arith, used_is_in, here_used);
         }) tt
 
     -- The read failed.
-    paste_read_failed : {is' : Output} → PushEffect is is' [] → is'.write_failed ≡ false
-        → after ≡ with_line b.buffered b.column piece
+    paste_read_failed : is'.write_failed ≡ false → after ≡ with_line b.buffered b.column piece
         → HasReadCause (reader_at b.begun.readers here) (reader_at new here)
         → Ends new is' after (Err (Read here))
-    paste_read_failed wrote clean stored cause =
+    paste_read_failed clean stored cause =
         exit no_more row_to wrote (inl stored) bound_with_piece cut_to (Err (Read here)) (record {
           named = used_is_in cells here here_used;
           unfailed = never_failed s.starts here (used_is_in cells here here_used);
-          cause = ⊎_elim inl (grind (arith, common_steps)) cause;
-          others = λ q named differ. cc (b.others q differ, failed_last no_more row_to q);
+          cause = ⊎_elim inl (grind arith) cause;
+          others = λ q named differ. cc (b.others q differ, (all_taken no_more row_to q).failed);
           clean = clean;
-          not_denied = cc ((bound_now no_more row_to bound_with_piece).denied);
+          not_denied = cc ((kept_now _ bound_with_piece).denied);
         }) (λ p named failed. ⊎_elim decided_here
-        (λ (long, same). cc (failed_to same p, failed_last no_more row_to p, never_failed s.starts p named)) cause)
+        (λ (long, same). cc (failed_to same p, (all_taken no_more row_to p).failed, never_failed s.starts p named))
+        cause)
       where
         -- Nothing is buffered, so all that was given decided the rows that were pushed.
         decided_here : ((reader_at new here).failed ≡ true) × ((reader_at new here).buffered ≡ [])
             × ((reader_at new here).eof ≡ false)
-            → IsPrefix (paste_decided job cells (given no_more row_to)) (rows_text job s.taken_rows ++ [])
+            → IsPrefix (paste_decided job cells (given no_more row_to)) (s.written ++ [])
         decided_here (failed, empty, going) =
-            let r = read_on no_more row_to in
-            let bytes = (so_far here).bytes ++ r.extra here in
-            rw (append-nil (rows_text job s.taken_rows)) (begins_by_earlier job s.first_rows r here here_used cut_here
-            (cc (append-nil bytes)) going)
+            let (later, is) = rows_given no_more row_to in
+            rw (append-nil s.written) (decided_is_prefix job cells (given no_more row_to) s.rows.taken_rows later
+            s.rows.is is here here_used cut_here (cc (append-nil (bytes no_more row_to here))) going)
 
   -- A row could not be filled, for each fault.
   pub paste_fill_failed : (new : List Reader) {after : Slots} (into : List ℕ) {is' : Output} (e : FlowFault)

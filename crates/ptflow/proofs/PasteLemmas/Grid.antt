@@ -5,12 +5,12 @@
 use Rattle.ptflow.proofs
 use proofs.Common.{slice_index_or, Bool, List, Option, [], ap, arith, cond, drop, false, get_or, inl, inr, length}
 use proofs.Common.{length-append, length-drop, map, max, refl, suc, sym, take, true, zero, ℕ, ⊎_elim, ◌%◌, ◌*◌, ◌++◌}
-use proofs.Common.{◌+◌, ◌-◌, ◌<◌, ◌==◌, ◌∙◌, ◌∷◌, ◌≡◌, ◌≢◌, ◌≤◌, ◌⊎◌, add-mod_left, mod-eq_of_lt, cases_lt, eq-eqb}
-use proofs.Common.{ne_eqb, nat_tests, get_or_after_one, append-nil, ext_get_or, get_or-map, nil_from_length}
+use proofs.Common.{◌+◌, ◌-◌, ◌<◌, ◌==◌, ◌∙◌, ◌∷◌, ◌≡◌, ◌≤◌, ◌⊎◌, add-mod_left, mod-eq_of_lt, cases_lt, eq-eqb}
+use proofs.Common.{get_or_after_one, append-nil, ext_get_or, get_or-map, nil_from_length}
 use proofs.Common.{get_or-enumerate_from, length-enumerate_from, sum_by-cons, sum_by-take-le, map-map, enumerate_from}
 use proofs.Common.{range_with_len, fold, the_lines_of_parts, lines, unlines, select_from, cut, IsRowSplit, PasteOfParts}
 use proofs.Common.{update_at, columns, every_kth, join_with_cycle, row_count, is_row_known, row_at, rows, uses_of}
-use proofs.Common.{common_steps, subst, Paste, IsConsistent, Received, is_in, paste_decided, leb}
+use proofs.Common.{common_steps, subst, Paste, Received, is_in, paste_decided, leb}
 use Rattle.std.proofs.lemmas.List.Sums.{sum_by_more}
 
 abbrev pub Column : Type 0
@@ -41,7 +41,7 @@ module _ {k j : ℕ} (low : j < k) where
       let more = chosen (n + 1) b xs (omega arith) in
       ⊎_elim
       (λ less. grind arith)
-      (grind (arith, common_steps))
+      (grind arith)
       (cases_lt n j)
 
   -- A column is its first line, if there is one, and the rest.
@@ -123,7 +123,7 @@ length-for_each_cell f cells = grind (arith, common_steps, length-enumerate_from
 
 get_or-for_each_cell : {Y : Type 0} (f : ℕ → ℕ → Y) (cells : List ℕ) (c : ℕ) (d : Y) → c < length cells
     → get_or (for_each_cell f cells) c d ≡ f c (get_or cells c 0)
-get_or-for_each_cell {Y} f cells c d low = let same : 0 + c ≡ c =
+get_or-for_each_cell f cells c d low = let same : 0 + c ≡ c =
     omega arith in cc (
       get_or-map (λ cell. f cell.0 cell.1) (enumerate_from 0 cells) c (0, 0) d
           (omega (arith, length-enumerate_from 0 cells)),
@@ -136,7 +136,7 @@ pub for_each_cell_unique : {Y : Type 0} (f : ℕ → ℕ → Y) (cells : List �
     → ys ≡ for_each_cell f cells
 for_each_cell_unique f cells ys d long same =
     ext_get_or d ys (for_each_cell f cells) (cc (length-for_each_cell f cells))
-    (grind (arith, common_steps, get_or-for_each_cell))
+    (grind (arith, get_or-for_each_cell))
 
 pub for_each_cell_same : {Y : Type 0} (f g : ℕ → ℕ → Y) (cells : List ℕ) → ((c : ℕ) → c < length cells
     → f c (get_or cells c 0) ≡ g c (get_or cells c 0)) → for_each_cell f cells ≡ for_each_cell g cells
@@ -155,7 +155,7 @@ last_use (x ∷ cells) p some =
     (λ more.
     let (c, low, is, count) = last_use cells p more in
     (suc c, omega arith, is, grind (arith, common_steps)))
-    (grind (arith, common_steps))
+    (grind arith)
     (cases_lt 0 (uses_of cells p))
 
 module _ (cells : List ℕ) where
@@ -169,7 +169,7 @@ module _ (cells : List ℕ) where
   pub uses_before_lt : (c : ℕ) → c < length cells → uses_of (take c cells) (get_or cells c 0) < uses_of cells
       (get_or cells c 0)
   uses_before_lt c low =
-      grind (arith, nat_tests, uses_more c (get_or cells c 0) low, uses_before (c + 1) (get_or cells c 0))
+      grind (arith, uses_more c (get_or cells c 0) low, uses_before (c + 1) (get_or cells c 0))
 
   -- ---- one row of a grid
 
@@ -233,49 +233,32 @@ module _ (cells : List ℕ) where
   some_cell f zero high = inr (λ c low. absurd (omega arith))
   some_cell f (suc n) high = ⊎_elim
       (λ here. inl (n, omega arith, here))
-      (λ past. ⊎_elim inl (grind (arith, common_steps)) (some_cell f n (omega arith)))
+      (λ past. ⊎_elim inl (grind arith) (some_cell f n (omega arith)))
       (cases_lt (uses_of (take n cells) (get_or cells n 0)) (length (f (get_or cells n 0))))
 
   -- n rows take all lines of an input; more lines follow only if it has all the lines that n rows take.
-  abbrev pub TakesAll : ℕ → (ℕ → Column) → (ℕ → Column) → Type 0
-  TakesAll n ins more = (p : ℕ) → 0 < uses_of cells p → (length (ins p) ≡ n * uses_of cells p) ⊎ ((more p ≡ [])
-      × (length (ins p) ≤ n * uses_of cells p))
-
-  module _ (n : ℕ) (ins more : ℕ → Column) (all : TakesAll (suc n) ins more) where
-    -- The first row is that of `ins`.
-    top_same : (c : ℕ) → c < length cells
-        → top_of (λ p. ins p ++ more p) c (get_or cells c 0) ≡ top_of ins c (get_or cells c 0)
-    top_same c low = grind (arith, common_steps, uses_before_lt c low)
-
-    rest_same : (p : ℕ) → 0 < uses_of cells p → drop (uses_of cells p) (ins p ++ more p) ≡ after_row ins p ++ more p
-    rest_same p some = grind (arith, common_steps, all p)
-
-    rest_takes : TakesAll n (after_row ins) more
-    rest_takes = grind (arith, common_steps)
-
-    -- If no column has a line, no input continues.
-    none_follows : ((c : ℕ) → c < length cells → length (ins (get_or cells c 0)) ≤ uses_of (take c cells)
-        (get_or cells c 0)) → (p : ℕ) → 0 < uses_of cells p → more p ≡ []
-    none_follows short p some =
-        let (c, low, is, count) = last_use cells p some in
-        let few = rw is at (short c low) in
-        grind arith
-
-  pub rows-append : (n : ℕ) (ins more : ℕ → Column) → TakesAll n ins more
+  pub rows-append : (n : ℕ) (ins more : ℕ → Column) → ((p : ℕ) → 0 < uses_of cells p
+      → (length (ins p) ≡ n * uses_of cells p) ⊎ ((more p ≡ []) × (length (ins p) ≤ n * uses_of cells p)))
       → rows (columns cells (λ p. ins p ++ more p)) ≡ rows (columns cells ins) ++ rows (columns cells more)
   rows-append zero ins more all =
       let none : (p : ℕ) → 0 < uses_of cells p → ins p ≡ [] = λ p some.
       nil_from_length (ins p) (grind arith) in
-      grind (arith, common_steps, columns_same, grid_none)
+      grind (arith, columns_same, grid_none)
   rows-append (suc n) ins more all = ⊎_elim
       (λ (c, low, some). let p = get_or cells c 0 in cc (
         grid_step (λ q. ins q ++ more q) c low (omega (arith, length-append (ins p) (more p))),
         grid_step ins c low some,
-        for_each_cell_same (top_of (λ q. ins q ++ more q)) (top_of ins) cells (top_same n ins more all),
-        columns_same (after_row (λ q. ins q ++ more q)) (λ q. after_row ins q ++ more q) (rest_same n ins more all),
-        rows-append n (after_row ins) more (rest_takes n ins more all),
+        for_each_cell_same (top_of (λ q. ins q ++ more q)) (top_of ins) cells
+            (λ d within. grind (arith, common_steps, uses_before_lt d within)),
+        columns_same (after_row (λ q. ins q ++ more q)) (λ q. after_row ins q ++ more q)
+            (λ q used. grind (arith, common_steps)),
+        rows-append n (after_row ins) more (grind (arith, common_steps)),
       ))
-      (λ short. let over = none_follows n ins more all short in cc (
+      -- If no column has a line, no input continues.
+      (λ short. let over : (p : ℕ) → 0 < uses_of cells p → more p ≡ [] = λ p some.
+      let (c, low, is, count) = last_use cells p some in
+      let few = rw is at (short c low) in
+      grind arith in cc (
         columns_same (λ p. ins p ++ more p) ins (λ p some. cc (over p some, append-nil (ins p))),
         append-nil (rows (columns cells ins)),
         grid_none more over,
@@ -307,9 +290,6 @@ is_row_unknown (col ∷ cols) (e ∷ eof) r (suc c) low within going few = grind
 
 pub update_here : {X : Type 0} (input : ℕ) (x : X) (f : ℕ → X) (q : ℕ) → q ≡ input → update_at input x f q ≡ x
 update_here input x f q same = ap (λ t. cond t x (f q)) (eq-eqb q input same)
-
-pub update_there : {X : Type 0} (input : ℕ) (x : X) (f : ℕ → X) (q : ℕ) → q ≢ input → update_at input x f q ≡ f q
-update_there input x f q differ = ap (λ t. cond t x (f q)) (ne_eqb q input differ)
 
 -- `ls` for this input, and no lines for all others.
 abbrev pub lines_of_input : ℕ → Column → ℕ → Column
@@ -365,10 +345,6 @@ map_same : {X : Type 0} (f g : ℕ → X) (cells : List ℕ) → ((p : ℕ) → 
 map_same f g [] same = refl
 map_same f g (c ∷ cells) same = λ i.
     same c (grind arith) i ∷ map_same f g cells (λ p named. same p (grind arith)) i
-
--- The received bytes may be the whole input.
-pub consistent_itself : (given : Received) → IsConsistent given given.bytes
-consistent_itself given = grind (arith, common_steps)
 
 module _ (job : Paste) (cells : List ℕ) where
   pub decided_same : (f g : ℕ → Received) → ((p : ℕ) → is_in cells p ≡ true → f p ≡ g p)

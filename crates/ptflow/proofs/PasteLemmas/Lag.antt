@@ -7,13 +7,12 @@ use proofs.Common.{◌<◌, ◌∙◌, ◌∷◌, ◌≡◌, ◌≢◌, ◌≤�
 use proofs.Common.{get_or-map, get_or_append_left, get_or-range_with_len, length-map-range_with_len}
 use proofs.Common.{length-range_with_len, Paste, line, range_with_len, received_with, complete_lines_cons}
 use proofs.Common.{complete_lines_of_unlines, Reader, IsPrefix, Received, known_lines, ProcessLag, ReaderAdvance}
-use proofs.Common.{AreLines, IsLine, complete_lines, lines, unlines, reads_nothing, update_at, columns, every_kth}
-use proofs.Common.{row_count, is_row_known, row_at, paste_decided, rows, rows_text, uses_of, AreReceivedLines}
-use proofs.Common.{nil_from_length}
+use proofs.Common.{AreLines, IsLine, complete_lines, lines, unlines, update_at, columns, every_kth, row_count}
+use proofs.Common.{is_row_known, row_at, paste_decided, rows, rows_text, uses_of, AreReceivedLines, nil_from_length}
 use proofs.CutLemmas.CutBytes.{select_append}
-use proofs.PasteLemmas.Grid.{Column, column_of, uses_before_lt, column_at, length-columns, every_kth_short}
+use proofs.PasteLemmas.Grid.{Column, column_of, column_at, length-columns, every_kth_short}
 use proofs.PasteLemmas.Grid.{is_row_unknown, update_here, last_use, row_is}
-use proofs.Passes.Exits.{complete_prefix, line_split, eof_gives_nothing}
+use proofs.Passes.Exits.{complete_prefix, line_split}
 
 -- ---- one input without its last bytes
 
@@ -26,25 +25,13 @@ pub record EarlierPart (end most : ℕ) (came : Received) : Type 0 where
   pub short : length last ≤ 16384
   pub few : length (complete_lines end front) < most
 
--- Without the bytes that are still in the buffer.
-abbrev pub earlier_now : {end most : ℕ} (reader : Reader) (given : List ℕ) → length reader.buffered ≤ 8192
-    → length (complete_lines end given) < most → EarlierPart end most (received_with given reader)
-earlier_now reader given buffered few = record {
-  front = given;
-  last = reader.buffered;
-  split = refl;
-  short = omega arith;
-  few = few;
-}
-
 -- The complete lines of what was received and a part of the next line.
 pub complete_few : {end : ℕ} {now new : Reader} {given piece : List ℕ} {ls : Column} → AreReceivedLines end now given ls
     → ReaderAdvance now new piece → IsLine end piece → length (complete_lines end (given ++ piece)) ≤ length ls
-complete_few {end} {given = given} {piece} {ls} k reads free = grind (
+complete_few k reads free = grind (
   arith,
   common_steps,
   complete_lines_of_unlines,
-  eof_gives_nothing,
   append-nil,
   complete_prefix,
   length-append,
@@ -108,20 +95,8 @@ whole_lines_prefix end false bytes front last is =
     let split = line_split end front in
     let ls = complete_lines end front in (
       complete_lines end (split.piece ++ last),
-      grind (arith, common_steps, append_assoc, ended_more),
+      grind (arith, append_assoc, ended_more),
     )
-
--- Without the last bytes that were given, if these came from the buffer.
-pub earlier_before : {end most : ℕ} {now new : Reader} {given more : List ℕ} {ls : Column}
-    → AreReceivedLines end now given ls → ReaderAdvance now new more → new.pulled ≡ now.pulled
-    → length now.buffered ≤ 8192 → length ls < most → EarlierPart end most (received_with (given ++ more) new)
-earlier_before {now = now} {new} {given} {more} came reads still buffered few = record {
-  front = given;
-  last = more ++ new.buffered;
-  split = append_assoc given more new.buffered;
-  short = omega (arith, length-append more new.buffered);
-  few = omega (arith, few, rw (append-nil given) at (complete_few came (reads_nothing now) tt));
-}
 
 -- ---- the rows that are determined come first
 
@@ -157,11 +132,6 @@ every_kth_more = grind (arith, common_steps, select_append)
 
 -- ---- the lag
 
--- Without the last bytes of this input alone, no more output is determined than was pushed.
-abbrev pub LagsAt : Paste → List ℕ → (ℕ → Received) → List ℕ → ℕ → Type 0
-LagsAt job cells came pushed input = ProcessLag {I = Unit {0}} (λ g. paste_decided job cells
-    (update_at input (g tt) came)) (λ u. came input) pushed
-
 module _ (job : Paste) (cells : List ℕ) (came : ℕ → Received) where
   abbrev known_of : (ℕ → Received) → ℕ → Column
   known_of given p = known_lines job.terminator (given p)
@@ -169,14 +139,11 @@ module _ (job : Paste) (cells : List ℕ) (came : ℕ → Received) where
   abbrev grid : (ℕ → Received) → List Column
   grid given = columns cells (known_of given)
 
-  update_same : (here : ℕ) (x : Received) → x ≡ came here → update_at here x came ≡ came
-  update_same = grind (arith, update_here)
-
   -- The rows that were taken, if the input `here` without its last bytes has fewer lines than one more row takes. That
   -- input is then not known to end, so each row that is determined has all its lines of that input, and is a row of the
   -- whole grid.
-  module _ (taken_rows more : List (List (List ℕ))) (all : rows (grid came) ≡ taken_rows ++ more) (here : ℕ)
-      (named : 0 < uses_of cells here)
+  module _ (taken_rows more : List (List (List ℕ))) {pushed : List ℕ} (text : pushed ≡ rows_text job taken_rows)
+      (all : rows (grid came) ≡ taken_rows ++ more) (here : ℕ) (named : 0 < uses_of cells here)
       (cut : EarlierPart job.terminator ((length taken_rows + 1) * uses_of cells here) (came here)) where
     abbrev front : Received
     front = record { bytes = cut.front; eof = false }
@@ -195,20 +162,7 @@ module _ (job : Paste) (cells : List ℕ) (came : ℕ → Received) where
         is_row_unknown (grid earlier) ends r c (omega (arith, length-columns cells (known_of earlier)))
         (grind (arith, common_steps))
         (grind (arith, common_steps))
-        (grind (arith, common_steps, column_at))
-
-    -- The last column of the input has no line in the next row.
-    next_unknown : is_row_known (grid earlier) ends (length taken_rows) ≡ false
-    next_unknown =
-        let (c, low, is, count) = last_use cells here named in
-        unknown (length taken_rows) c low is (grind (
-          arith,
-          common_steps,
-          every_kth_short,
-          uses_before_lt,
-          taken_rows,
-          known_of,
-        ))
+        (grind (arith, column_at))
 
     -- The line of a column in a row of the whole grid.
     abbrev cell : ℕ → ℕ → ℕ → List ℕ
@@ -222,12 +176,8 @@ module _ (job : Paste) (cells : List ℕ) (came : ℕ → Received) where
         cut.split in
         let is_front = update_here here front came (get_or cells c 0) is in
         grind (arith, unknown r c low is, every_kth_more))
-        (λ other. grind (arith, common_steps))
+        (λ other. grind arith)
         (cases_eq (get_or cells c 0) here)
-
-    row_same : (r : ℕ) → is_row_known (grid earlier) ends r ≡ true → row_at (grid earlier) r ≡ row_at (grid came) r
-    row_same r known = row_is cells (known_of earlier) r (cell r) (cell_same r known)
-        ∙ sym (row_is cells (known_of came) r (cell r) (λ c low. refl))
 
     taken_at : (r : ℕ) → r < length taken_rows → row_at (grid came) r ≡ get_or taken_rows r []
     taken_at r less =
@@ -245,17 +195,25 @@ module _ (job : Paste) (cells : List ℕ) (came : ℕ → Received) where
           get_or_append_left taken_rows more [] r less,
         )
 
-    pub begins_earlier : IsPrefix (paste_decided job cells earlier) (rows_text job taken_rows)
+    pub begins_earlier : IsPrefix (paste_decided job cells earlier) pushed
     begins_earlier =
+        -- The last column of the input has no line in the next row.
+        let (c, low, is_here, count) = last_use cells here named in
+        let next_unknown = unknown (length taken_rows) c low is_here
+        (grind (arith, every_kth_short)) in
         let (rest, is) = known_first (is_row_known (grid earlier) ends) (known_down (grid earlier) ends)
-        (row_at (grid earlier)) taken_rows next_unknown (λ r known less. row_same r known ∙ taken_at r less) 0
+        (row_at (grid earlier)) taken_rows next_unknown (λ r known less.
+        row_is cells (known_of earlier) r (cell r) (cell_same r known)
+        ∙ sym (row_is cells (known_of came) r (cell r) (λ c low. refl)) ∙ taken_at r less) 0
         (row_count (grid earlier)) (omega arith) in
         record {
           rest = rows_text job rest;
           is = grind (arith, common_steps);
         }
 
-    pub lags_here : LagsAt job cells came (rows_text job taken_rows) here
+    -- Without the last bytes of this input alone, no more output is determined than was pushed.
+    pub lags_here : ProcessLag {I = Unit {0}} (λ g. paste_decided job cells (update_at here (g tt) came))
+        (λ u. came here) pushed
     lags_here = record {
       before = λ u. record {
         earlier = front;
@@ -269,5 +227,5 @@ module _ (job : Paste) (cells : List ℕ) (came : ℕ → Received) where
 
     -- The input has not given more than that.
     pub decided_is_prefix : cut.front ≡ (came here).bytes → (came here).eof ≡ false
-        → IsPrefix (paste_decided job cells came) (rows_text job taken_rows)
+        → IsPrefix (paste_decided job cells came) pushed
     decided_is_prefix same going = grind (arith, begins_earlier)

@@ -4,13 +4,12 @@ use Rattle.ptflow.proofs
 use proofs.Common.{slice_index_or, ◌≡◌, ◌≢◌, ℕ, zero, suc, ◌+◌, ◌-◌, ◌%◌, ◌^◌, ◌==◌, ◌<◌, ◌≤◌, Bool, cond, List, []}
 use proofs.Common.{◌∷◌, ◌++◌, length, map, take, drop, get_or, slice_set, refl, sym, ◌∙◌, ap, arith, bit_and, count_by}
 use proofs.Common.{count_ones, mask_l, chunk, mod-add-mod, mod-eq_of_lt, take-add, take_at, take-append-drop}
-use proofs.Common.{take-set-lt, eq-eqb, set-append_right, drop_more, take_more_set, length-set, common_steps}
-use proofs.Common.{sum_by-append, is_byte, byte_eq, byte_ne, IsLine, IsNth, length-take-le, length-chunk}
-use proofs.Common.{length-put_chunk, take_more_put_chunk, put_chunk, ones-mask_l, with_replacements, cycle_byte}
-use proofs.Common.{IsReplacedTo, true, false, Option, append_assoc, onto_first, append-nil, append_cancel_right, lines}
-use proofs.Common.{complete_lines, IsPrefix, Paste, delimiter, join_with_cycle, paste_serial_decided, row_rest}
-use proofs.Common.{option_to_list, None, Some, IsFirstByte, line_before_terminator, mod-lt, serial_rest}
-use proofs.Common.{take_with_terminator}
+use proofs.Common.{take-set-lt, eq-eqb, set-append_right, drop_more, take_more_set, length-set, common_steps, is_byte}
+use proofs.Common.{byte_eq, byte_ne, IsLine, IsNth, length-take-le, length-chunk, length-put_chunk, take_more_put_chunk}
+use proofs.Common.{put_chunk, ones-mask_l, with_replacements, cycle_byte, IsReplacedTo, true, false, Option}
+use proofs.Common.{append_assoc, onto_first, append-nil, append_cancel_right, lines, complete_lines, IsPrefix, Paste}
+use proofs.Common.{delimiter, join_with_cycle, paste_serial_decided, row_rest, option_to_list, None, Some, IsFirstByte}
+use proofs.Common.{line_before_terminator, mod-lt, serial_rest, take_with_terminator}
 use lib.Count.{count_trailing_zeros}
 use proofs.Vectors.FindNth.{after_set, cleared, without, none_counted}
 use Rattle.ptflow.specs.declared.simd.replace.Cycle.{Cycle}
@@ -191,7 +190,7 @@ module _ {end : ℕ} {byte : ℕ → ℕ} where
       pub replace_next : {rest put : ℕ} {to' : List ℕ} → marked < 2 ^ 64 → put ≡ byte (first + n)
           → rest ≡ bit_and marked ((marked + (2 ^ 64 - 1)) % 2 ^ 64) → to' ≡ slice_set to (at + bit) put
           → ReplaceInvariant end byte first at from was (n + 1) rest to'
-      replace_next {rest} {put} {to'} small put_is rest_is to_is =
+      replace_next {rest} {put} small put_is rest_is to_is =
           let next : suc n ≡ n + 1 = omega arith in
           record {
             room = r.room;
@@ -247,7 +246,7 @@ module _ {cycle : Cycle} {first index at : ℕ} {from to to' : List ℕ} (long :
     pub replaced_terminator : {next v : ℕ} → get_or from at 0 ≡ cycle.terminator → v ∷ [] ≡ cycle_byte cycle index
         → next ≡ (index + 1) % cycle.len → to' ≡ slice_set (slice_set to at (get_or from at 0)) at v
         → IsReplacedTo cycle first next (at + 1) from to'
-    replaced_terminator {next} {v} is_end is later set =
+    replaced_terminator is_end is later set =
         let x = get_or from at 0 in
         let test = eq-eqb x _ is_end in
         let one = one_byte at from room in
@@ -261,7 +260,7 @@ module _ {cycle : Cycle} {first index at : ℕ} {from to to' : List ℕ} (long :
         let test = byte_ne _ x other in
         let one = one_byte at from room in
         let number : index + ends_in cycle (take 1 (drop at from)) ≡ index =
-        grind (arith, common_steps) in
+        grind arith in
         replaced_more 1 (omega arith) (cc (mod-eq_of_lt less))
         (cc (take_more_set to at x (omega arith)))
 
@@ -297,7 +296,6 @@ module _ (end : ℕ) (delims : List (Option ℕ)) where
     arith,
     common_steps,
     row_next,
-    row_byte,
     row_rest_on (number + 1) bytes more some,
     row_rest_on number bytes more some,
   )
@@ -305,7 +303,7 @@ module _ (end : ℕ) (delims : List (Option ℕ)) where
   -- Only the index of the delimiter matters.
   row_rest_mod : (m n : ℕ) → m % length delims ≡ n % length delims → (bytes : List ℕ)
       → row_rest end delims m bytes ≡ row_rest end delims n bytes
-  row_rest_mod m n same bytes = grind (arith, common_steps, joined_mod)
+  row_rest_mod m n same bytes = grind (arith, joined_mod)
     where
       joined_mod : (m n : ℕ) → m % length delims ≡ n % length delims → (ls : List (List ℕ))
           → join_with_cycle delims m ls ≡ join_with_cycle delims n ls
@@ -337,14 +335,12 @@ copied_more {format} {index} {next} {xs = xs} {ys} {before} p q =
     grind (arith, common_steps) in
     record {
       is = cc (
-        p.is,
-        q.is,
         replaced-append end (delimiter delims) index xs ys,
         replaced_mod end (λ k. option_to_list (slice_index_or delims k None)) len next number same ys,
         append_assoc before (with_replacements end (delimiter delims) index xs)
             (with_replacements end (delimiter delims) number ys),
       );
-      later = grind (arith, common_steps, mod-add-mod);
+      later = grind (arith, mod-add-mod);
     }
 
 -- A line and its delimiter were copied.
@@ -357,7 +353,7 @@ line_copied {format} index {next} {at} rest before first next_is line_is text_is
     let head = take at rest in
     let free = line_before_terminator end rest at first in
     let one : count_by (is_byte end) (head ++ end ∷ []) ≡ 1 =
-    grind (arith, common_steps, sum_by-append, counted, none_counted) in
+    grind (arith, common_steps, counted, none_counted) in
     rw (take_with_terminator end rest at first) (grind (arith, common_steps, replaced_line, append-nil, append_assoc))
 
 -- A piece was copied, and at least one byte follows.
@@ -366,7 +362,7 @@ pub copied_on : {format : SerialFormat} {index : ℕ} {bytes before : List ℕ} 
     → before ++ row_rest format.terminator format.delims.now index (bytes ++ more)
     ≡ after ++ row_rest format.terminator format.delims.now next more
 copied_on more some p =
-    grind (arith, common_steps, mod-eq_of_lt, mod-lt, row_rest_on, row_rest_mod, append_assoc)
+    grind (arith, mod-eq_of_lt, mod-lt, row_rest_on, row_rest_mod, append_assoc)
 
 -- The output for the received bytes begins with their complete lines.
 pub serial_is_decided : (job : Paste) (format now : SerialFormat) → format.terminator ≡ job.terminator
@@ -379,7 +375,7 @@ serial_is_decided job format now ends are same given pushed cell on =
     let ls = complete_lines end given in
     let text = join_with_cycle delims 0 (lines end (given ++ [])) in
     let is : text ≡ pushed = append_cancel_right text pushed (end ∷ [])
-    (grind (arith, common_steps)) in
+    (grind arith) in
     let b = joined_begins end delims 0 ls (lines end ((line_split end given).piece ++ [])) in
     rw (← ends, ← are) (grind (arith, common_steps, complete_prefix, append-nil))
   where

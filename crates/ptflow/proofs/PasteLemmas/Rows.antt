@@ -7,19 +7,18 @@
 use Rattle.ptflow.proofs
 use proofs.Common.{slice_index_or, Bool, Err, List, None, Ok, [], ap, arith, cond, drop, false, get_or, get_or-take}
 use proofs.Common.{inl, length, length-append, map, refl, set, suc, take, take-append-drop, true, zero, ℕ, ◌*◌, ◌++◌}
-use proofs.Common.{◌+◌, ◌<◌, ◌==◌, ◌||◌, ◌∙◌, ◌∷◌, ◌≡◌, ◌≢◌, ◌≤◌, ◌⊎◌, cases_eq, eq-eqb, ne_eqb, nat_tests}
-use proofs.Common.{common_steps, append-nil, drop-set-lt, ext_get_or, get_or-set_other, get_or-set_same}
-use proofs.Common.{get_or_append_left, get_or_default, get_or_push, length-set, length-take-le, take-take, take_all}
-use proofs.Common.{sum_by-append, sum_by-cons, sum_by, top, advance_trans, lines_of_unlines, unlines-append}
-use proofs.Common.{FillReadErr, FillPost, FillLine, AdvanceOk, IsDone, IsSound, Reader, ReaderAdvance, budget}
-use proofs.Common.{no_reader, reader_at, Slots, line, total_bytes, with_line, AddedSlots, AreLines, max_length, unlines}
-use proofs.Common.{columns, join_with_cycle, rows, uses_of, SetTerminatorsPost, FillCellPost, SlotsBound, SlotsKept}
-use proofs.Common.{RowAmid, RowFailed, RowFilled, RowShape, BegunText, CellsFilled, CellsTaken, after_cell, cells_text}
-use proofs.Common.{slots_text, AreReceivedLines, LinesTaken, BufferedRowsPre, AreFirstRows, RowsTaken, CopyColumnsPost}
-use proofs.Common.{CopyRowsPost, FlowFault, Memory, Read, Write, rules}
+use proofs.Common.{◌+◌, ◌<◌, ◌==◌, ◌||◌, ◌∙◌, ◌∷◌, ◌≡◌, ◌≢◌, ◌≤◌, ◌⊎◌, eq-eqb, common_steps, append-nil, drop-set-lt}
+use proofs.Common.{ext_get_or, get_or-set_other, get_or-set_same, get_or_append_left, get_or_default, get_or_push}
+use proofs.Common.{length-set, length-take-le, take-take, take_all, sum_by-append, sum_by-cons, sum_by, top}
+use proofs.Common.{advance_trans, lines_of_unlines, unlines-append, FillPost, AdvanceOk, IsDone, IsSound, Reader}
+use proofs.Common.{ReaderAdvance, budget, no_reader, reader_at, Slots, line, total_bytes, with_line, AddedSlots}
+use proofs.Common.{AreLines, max_length, unlines, columns, join_with_cycle, rows, uses_of, SetTerminatorsPost}
+use proofs.Common.{FillCellPost, SlotsBound, SlotsKept, RowAmid, RowFilled, RowShape, BegunText, CellsFilled}
+use proofs.Common.{CellsTaken, after_cell, cells_text, slots_text, AreReceivedLines, LinesTaken, BufferedRowsPre}
+use proofs.Common.{AreFirstRows, RowsTaken, CopyColumnsPost, CopyRowsPost, FlowFault, Memory, Read, Write, rules}
 use proofs.Passes.Exits.{lines_none, lines_are_given, lines_more, eof_gives_nothing}
 use proofs.PasteLemmas.Grid.{Column, for_each_cell_unique, grid_step, grid_none, after_row, rows-append, uses_before_lt}
-use proofs.PasteLemmas.Grid.{lines_of_input, uses_more, update_here}
+use proofs.PasteLemmas.Grid.{lines_of_input, uses_more, update_here, top_of}
 use Rattle.std.proofs.Math.Bool.{or-true, or-false}
 
 AreLines-append : (end : ℕ) (xs ys : List (List ℕ)) → AreLines end xs → AreLines end ys → AreLines end (xs ++ ys)
@@ -29,7 +28,7 @@ AreLines-append end (x ∷ xs) ys (line, more) q = (line, AreLines-append end xs
 -- A reader at the end of its input gives no lines.
 none_received : {end : ℕ} {b c : Reader} {bytes : List ℕ} {ls : List (List ℕ)} → IsDone b → ReaderAdvance b c bytes
     → AreReceivedLines end c bytes ls → ls ≡ []
-none_received {end} {b} {c} {bytes} {ls} done reads k =
+none_received done reads k =
     let (none, empty, eof) = eof_gives_nothing _ _ _ done reads in
     cc (lines_are_given _ _ _ _ k)
 
@@ -52,7 +51,7 @@ nothing_taken = grind arith
 
 abbrev pub taken_more : {end : ℕ} {a b c : Reader} {k m n : ℕ} {xs ys : List (List ℕ)} → k ≡ m + n
     → LinesTaken end a b m xs → LinesTaken end b c n ys → LinesTaken end a c k (xs ++ ys)
-taken_more {end} {a} {b} {c} {k} {m} {n} {xs} {ys} all p q = record {
+taken_more all p q = record {
   bytes = p.bytes ++ q.bytes;
   reads = advance_trans _ _ _ _ _ p.reads q.reads;
   failed = q.failed ∙ p.failed;
@@ -69,18 +68,6 @@ pub taken_by : {end n : ℕ} {b c : Reader} {bytes : List ℕ} {ls : List (List 
     → IsSound c → AreReceivedLines end c bytes ls → (length ls ≡ n) ⊎ (IsDone c × (length ls ≤ n)) → (n ≡ 0 → c ≡ b)
     → LinesTaken end b c n ls
 taken_by = grind arith
-
--- A line was read into a slot.
-pub taken_line : {end : ℕ} {b c : Reader} {before after : Slots} {slot : ℕ} (e : FillLine b c before after slot)
-    → b.terminator ≡ end → b.fault ≡ None → IsSound c
-    → LinesTaken end b c 1 (e.line ∷ [])
-taken_line {end} {b} {c} {before} {after} {slot} e same clean sound = taken_by e.advance_ok clean sound
-    (lines_more end b [] [] (lines_none end b) c before after slot e same) (inl refl) (λ none. cc)
-
--- No line was left.
-pub taken_eof : {end : ℕ} {b c : Reader} → AdvanceOk b c [] → IsDone c → b.fault ≡ None → IsSound c
-    → LinesTaken end b c 1 []
-taken_eof advance_ok done clean sound = search rules
 
 -- ---- the text of a row, column by column
 
@@ -103,7 +90,6 @@ module _ (row : RowShape) where
   row_text c (x ∷ y ∷ more) all some = grind (
     arith,
     common_steps,
-    ne_eqb,
     row_text (c + 1) (y ∷ more) (omega arith)
         (omega arith),
   )
@@ -117,65 +103,52 @@ module _ {row : RowShape} where
       → ((input : ℕ) → 0 < uses_of row.cells input → IsDone (reader_at new input) → more input ≡ [])
       → rows (columns row.cells (λ input. ls input ++ more input)) ≡ taken_rows ++ rows (columns row.cells more)
   rows_on {ls = ls} {taken_rows} t more may = cc (
-    rows-append row.cells (length taken_rows) ls more
-        (λ input some. grind (arith, may input some)),
-    t.are,
-  )
+      rows-append row.cells (length taken_rows) ls more
+      (λ input some. grind arith))
 
-  -- Rows are taken, and then more.
-  abbrev pub first_rows_trans : {a b c : List Reader} {ks ls : ℕ → Column} {xs ys : List (List (List ℕ))}
-      → AreFirstRows row a b ks xs → AreFirstRows row b c ls ys
-      → AreFirstRows row a c (λ input. ks input ++ ls input) (xs ++ ys)
-  first_rows_trans {a} {b} {c} {ks} {ls} {xs} {ys} p q = record {
-    lines_taken = λ input. taken_more
-        (ap (λ (n : ℕ). n * uses_of row.cells input) (length-append xs ys) ∙ omega arith)
-        (p.lines_taken input) (q.lines_taken input);
-    are = cc (rows_on p ls (λ input some done. none_at_eof (q.lines_taken input) done), q.are);
-    count = q.count ∙ p.count;
-  }
-
-  pub no_rows : {old : List Reader} → AreFirstRows row old old (λ p. []) []
-  no_rows = record {
-    lines_taken = λ p. nothing_taken (omega arith);
-    are = grid_none row.cells (λ p. []) (λ p some. refl);
-    count = refl;
-  }
-
-  pub rows_taken_none : {old : List Reader} → RowsTaken row old old []
+  abbrev pub rows_taken_none : {old : List Reader} → RowsTaken row old old []
   rows_taken_none = record {
     ls = λ p. [];
     taken_rows = [];
-    first_rows = no_rows;
+    first_rows = record {
+      lines_taken = λ p. nothing_taken (omega arith);
+      are = grid_none row.cells (λ p. []) (λ p some. refl);
+      count = refl;
+    };
     least = omega arith;
     is = refl;
   }
 
   -- Rows are taken, and then more.
-  pub rows_taken_trans : {a b c : List Reader} {xs ys : List ℕ} → RowsTaken row a b xs → RowsTaken row b c ys
+  abbrev pub rows_taken_trans : {a b c : List Reader} {xs ys : List ℕ} → RowsTaken row a b xs → RowsTaken row b c ys
       → RowsTaken row a c (xs ++ ys)
   rows_taken_trans p q = record {
     ls = λ input. p.ls input ++ q.ls input;
     taken_rows = p.taken_rows ++ q.taken_rows;
-    first_rows = first_rows_trans p.first_rows q.first_rows;
+    first_rows = record {
+      lines_taken = λ input. taken_more
+          (ap (λ (n : ℕ). n * uses_of row.cells input) (length-append p.taken_rows q.taken_rows) ∙ omega arith)
+          (p.first_rows.lines_taken input) (q.first_rows.lines_taken input);
+      are = cc (
+        rows_on p.first_rows q.ls (λ input some done. none_at_eof (q.first_rows.lines_taken input) done),
+        q.first_rows.are,
+      );
+      count = q.first_rows.count ∙ p.first_rows.count;
+    };
     least = omega arith;
     is = grind (arith, common_steps);
   }
 
 module _ {row : RowShape} {old new : List Reader} {fields : List (List ℕ)}
     {any_line : Bool} (r : CellsFilled row (length row.cells) old new fields any_line) (some : any_line ≡ true) where
-  lines_taken_by_row : (p : ℕ)
-      → LinesTaken row.terminator (reader_at old p) (reader_at new p) (1 * uses_of row.cells p) (r.input_lines p)
-  lines_taken_by_row p = grind (arith, common_steps)
-
   -- A filled row in which some column has a line is the next row.
   pub filled_row_is_first : AreFirstRows row old new r.input_lines (fields ∷ [])
   filled_row_is_first =
       let (c, low, first) = r.some some in
-      let field = λ (c p : ℕ). slice_index_or (r.input_lines p) (uses_of (take c row.cells) p) [] in
-      let row_is =
-      for_each_cell_unique field row.cells fields [] r.consumed.width r.consumed.fields_taken in
+      let row_is = for_each_cell_unique (top_of row.cells r.input_lines) row.cells fields [] r.consumed.width
+      r.consumed.fields_taken in
       record {
-        lines_taken = lines_taken_by_row;
+        lines_taken = λ p. grind (arith, common_steps);
         are = cc (
           grid_step row.cells r.input_lines c low (omega arith),
           grid_none row.cells (after_row row.cells r.input_lines)
@@ -188,7 +161,7 @@ module _ {row : RowShape} {old new : List Reader} {fields : List (List ℕ)}
       ≡ unlines row.terminator (map (join_with_cycle row.delims 0) (fields ∷ []))
   filled_row_text = search (rules, row_text)
 
-  pub row_taken : RowsTaken row old new (cells_text row 0 fields)
+  abbrev pub row_taken : RowsTaken row old new (cells_text row 0 fields)
   row_taken = record {
     ls = r.input_lines;
     taken_rows = fields ∷ [];
@@ -246,13 +219,9 @@ slots_bound_line {cells} {top} {before} {store} k column bytes within fits = rec
     lines : List (List ℕ)
     lines = set store.lines column bytes
 
-    size : length lines ≡ length store.lines
-    size = length-set store.lines column bytes
-
     short : (c : ℕ) → c < length cells → length (get_or lines c []) ≤ top (get_or cells c 0)
     short c low = grind (
       arith,
-      k.short c low,
       get_or-set_same store.lines column bytes [],
       get_or-set_other store.lines column c bytes [],
     )
@@ -262,13 +231,10 @@ slots_bound_line {cells} {top} {before} {store} k column bytes within fits = rec
 
 -- ---- the slots of a row that is being filled
 
-line_le_max_length : (ls : List (List ℕ)) (j : ℕ) → length (get_or ls j []) ≤ max_length ls
+pub line_le_max_length : (ls : List (List ℕ)) (j : ℕ) → length (get_or ls j []) ≤ max_length ls
 line_le_max_length [] j = omega arith
 line_le_max_length (line ∷ ls) zero = omega arith
 line_le_max_length (line ∷ ls) (suc j) = omega (arith, line_le_max_length ls j)
-
-pub slots_kept_start : {cells : List ℕ} {fields : List (List ℕ)} {store : Slots} → SlotsKept cells fields store store
-slots_kept_start = search rules
 
 module _ {cells : List ℕ} {fields : List (List ℕ)} {before store : Slots} (s : SlotsKept cells fields before store)
   where
@@ -285,29 +251,7 @@ module _ {cells : List ℕ} {fields : List (List ℕ)} {before store : Slots} (s
           (grind (arith, common_steps));
     }
 
--- The bound on the slots, by the lines that the readers gave.
-pub slots_kept_by_lines : {row : RowShape} {n : ℕ} {old new : List Reader} {fields : List (List ℕ)}
-    {input_lines : ℕ → List (List ℕ)} {before store : Slots} → SlotsKept row.cells fields before store
-    → n ≤ length row.cells → CellsTaken row n old new fields input_lines → (first : Slots) (top : ℕ → ℕ)
-    → SlotsBound row.cells top first before
-    → ((input : ℕ) → 0 < uses_of row.cells input → max_length (input_lines input) ≤ top input)
-    → SlotsBound row.cells top first store
-slots_kept_by_lines = grind (arith, line_le_max_length, uses_before_lt)
-
 -- ---- readers by their indices
-
-pub at_same : (readers : List Reader) (input : ℕ) (r : Reader) → input < length readers
-    → reader_at (set readers input r) input ≡ r
-at_same readers input r low = get_or-set_same readers input r no_reader low
-
-pub at_other : (readers : List Reader) (input other : ℕ) (r : Reader) → other ≢ input
-    → reader_at (set readers input r) other ≡ reader_at readers other
-at_other readers input other r differ = search rules
-
--- A fact of each reader, after one of them was set.
-pub each_reader : (P : ℕ → Reader → Type 0) (readers : List Reader) {input : ℕ} {r : Reader} → input < length readers
-    → P input r → ((q : ℕ) → q ≢ input → P q (reader_at readers q)) → (q : ℕ) → P q (reader_at (set readers input r) q)
-each_reader = grind (arith, at_same, at_other)
 
 -- The reader that an index expression read.
 pub at_index : (readers : List Reader) (input : ℕ) (r : Reader) → input < length readers
@@ -342,7 +286,7 @@ pub set_terminator_more : (end : ℕ) (cells : List ℕ) (i : ℕ) (old now : Li
     → get_or cells i 0 < length now → SetTerminatorsPost end (take i cells) old now
     → r ≡ record (reader_at now (get_or cells i 0)) { terminator = end } → IsSound r
     → SetTerminatorsPost end (take (i + 1) cells) old (set now (get_or cells i 0) r)
-set_terminator_more = grind (arith, common_steps, nat_tests, uses_more)
+set_terminator_more = grind (arith, common_steps)
 
 -- ---- the lines of a row
 
@@ -351,7 +295,7 @@ pub taken_from_one : {end : ℕ} (now : List Reader) {input : ℕ} {r : Reader} 
     → input < length now → LinesTaken end (reader_at now input) r (most input) ls
     → ((q : ℕ) → q ≢ input → most q ≡ 0) → (q : ℕ)
     → LinesTaken end (reader_at now q) (reader_at (set now input r) q) (most q) (lines_of_input input ls q)
-taken_from_one {end} now {input} {ls = ls} most within t none = search rules
+taken_from_one now most within t none = search rules
 
 module _ {row : RowShape} {n : ℕ} {old now : List Reader} {fields : List (List ℕ)} {input_lines : ℕ → List (List ℕ)}
     (t : CellsTaken row n old now fields input_lines) (low : n < length row.cells)
@@ -371,7 +315,7 @@ module _ {row : RowShape} {n : ℕ} {old now : List Reader} {fields : List (List
   taken_next : (q : ℕ) → LinesTaken row.terminator (reader_at now q) (reader_at (set now input r) q)
       (cond (input == q) 1 0) (more_lines q)
   taken_next = taken_from_one now (λ q. cond (input == q) 1 0) within (rw (eq-eqb input input refl) lines_taken)
-      (grind (arith, common_steps))
+      (grind arith)
 
   -- The line of a column before this one does not change.
   earlier_cell : (c : ℕ) → c < n → let p = get_or cells c 0 in let j = uses_of (take c cells) p in
@@ -388,7 +332,7 @@ module _ {row : RowShape} {n : ℕ} {old now : List Reader} {fields : List (List
   cells_taken_more = record {
     lines_taken = λ q. taken_more (uses_more cells n q low) (t.lines_taken q) (taken_next q);
     width = omega (arith, length-append fields (field ∷ []));
-    fields_taken = search (rules, cases_eq, get_or_push, update_here, get_or_append_left, earlier_cell);
+    fields_taken = search (rules, get_or_push, get_or_append_left, earlier_cell);
     count = length-set now input r ∙ t.count;
   }
 
@@ -411,8 +355,15 @@ FieldTaken end b r field false = LinesTaken end b r 1 [] × (field ≡ []) × (b
 field_in_slot : (end : ℕ) (b r : Reader) (before after : Slots) (slot : ℕ) (has : Bool) → b.fault ≡ None
     → b.terminator ≡ end → IsSound r → FillPost b r before after slot (Ok has)
     → (field : List ℕ) × (after ≡ with_line before slot field) × FieldTaken end b r field has
-field_in_slot end b r before after slot true clean same sound e =
-    (e.line, e.stored, (taken_line e same clean sound, e.less))
+field_in_slot end b r before after slot true clean same sound e = (
+  e.line,
+  e.stored,
+  (
+    taken_by e.advance_ok clean sound
+        (lines_more end b [] [] (lines_none end b) r before after slot e same) (inl refl) (λ none. cc),
+    e.less,
+  ),
+)
 field_in_slot end b r before after slot false clean same sound (advance_ok, done, kept) = search rules
 
 module _ {row : RowShape} {n : ℕ} {old now : List Reader} {fields : List (List ℕ)} {any_line : Bool}
@@ -430,7 +381,7 @@ module _ {row : RowShape} {n : ℕ} {old now : List Reader} {fields : List (List
     fill_next field true (t, fewer) =
         let lines_taken = rw x.is_read at t in
         let all : length (f.input_lines p) ≡ uses_of (take n row.cells) p =
-        grind (arith, none_at_eof lines_taken) in
+        grind arith in
         let here = update_here p (field ∷ []) (λ q. []) p refl in
         let less : sum_by budget (set now p r) < sum_by budget old = omega (arith, all_budgets) in
         rw or-true (record {
@@ -466,7 +417,7 @@ module _ {row : RowShape} where
   -- All fields were copied from the buffers, and then the row was moved.
   pub amid_starts : {old : List Reader} {copied : List ℕ} {begun moved : BegunText} {store : Slots}
       (p : CopyRowsPost row old copied begun) → moved ≡ begun → RowAmid row moved.count p.mid store moved store
-  amid_starts {begun = begun} {store = store} p same = grind (arith, common_steps)
+  amid_starts p same = grind (arith, common_steps)
 
   module _ {n : ℕ} {from : List Reader} {first store : Slots} {now : BegunText} (a : RowAmid row n from first now store)
       {b : Reader} (x : IsNextReader row now.readers n b) where
@@ -488,25 +439,22 @@ module _ {row : RowShape} where
         })
 
     -- The step for the next column failed.
-    abbrev fill_failed : {CellFailed : Reader → Reader → Slots → Slots → ℕ → Type 0} (after : Slots) (r : Reader)
-        → CellFailed b r store after n → (length b.buffered ≤ 8192 → length r.buffered ≤ 8192)
-        → RowFailed CellFailed row from (set now.readers (get_or row.cells n 0) r) first after
-    fill_failed after r failure few = record {
-      column = n;
-      within = x.low;
-      begun = now;
-      buffered = store;
-      amid = a;
-      failure = search rules;
-      others = search rules;
-      few = search rules;
-    }
-
     pub amid_failed : (r : Reader) (after : Slots) (into : List ℕ) (e : FlowFault)
         → FillCellPost (get_or row.cells n 0) n b r store after (Err e)
         → RowFilled row from first (set now.readers (get_or row.cells n 0) r) after into (Err e)
-    amid_failed r after into (Read input) (p, sound, named) =
-        (fill_failed {CellFailed = FillReadErr} after r p (λ few. sound.buffered), named)
+    amid_failed r after into (Read input) (p, sound, named) = (
+      record {
+        column = n;
+        within = x.low;
+        begun = now;
+        buffered = store;
+        amid = a;
+        failure = search rules;
+        others = search rules;
+        few = search rules;
+      },
+      named,
+    )
     amid_failed r after into Write (same, kept, going) = search rules
     amid_failed r after into Memory (p, sound) = search rules
 
@@ -519,16 +467,14 @@ module _ {row : RowShape} where
   amid_columns : {from : List Reader} {first store : Slots} {now next : BegunText}
       → RowAmid row now.count from first now store → CopyColumnsPost row now next
       → RowAmid row next.count from first next store
-  amid_columns {from} {now = now} {next = next} a p =
-      let all = a.fields ++ p.fields in
-      record {
-        fields = all;
-        filled = p.filled from a.fields a.filled;
-        within = omega arith;
-        is = search (rules, take_all, cells_text-append, length-append);
-        held = λ c over under. absurd (omega arith);
-        slots = slots_kept_more a.slots p.fields;
-      }
+  amid_columns a p = record {
+    fields = a.fields ++ p.fields;
+    filled = p.filled _ a.fields a.filled;
+    within = omega arith;
+    is = search (rules, take_all, cells_text-append, length-append);
+    held = λ c over under. absurd (omega arith);
+    slots = slots_kept_more a.slots p.fields;
+  }
 
   -- The field in a slot was copied, and then more fields from the buffers.
   pub amid_resumed : {n : ℕ} {from : List Reader} {first store : Slots} {now middle next : BegunText}
@@ -555,11 +501,7 @@ module _ {row : RowShape} where
 
 -- ---- the readers, after a line was read
 
-after_fill : (b r : Reader) (before after : Slots) (slot : ℕ) (has : Bool) → FillPost b r before after slot (Ok has)
-    → (r.fault ≡ None) × (r.terminator ≡ b.terminator)
-after_fill = grind arith
-
 pub readable_after : {row : RowShape} {now : List Reader} {n : ℕ} {b : Reader} → IsNextReader row now n b → (r : Reader)
     → BufferedRowsPre row now → (before after : Slots) (slot : ℕ) (has : Bool)
     → FillPost b r before after slot (Ok has) → BufferedRowsPre row (set now (get_or row.cells n 0) r)
-readable_after = search (rules, after_fill)
+readable_after = search rules

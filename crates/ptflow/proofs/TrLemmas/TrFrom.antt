@@ -70,7 +70,7 @@ module _ (t : Tables) where
   pub block_on : (last : Option ℕ) {after : Option ℕ} (block : List ℕ) {written : List ℕ} (rest : List ℕ)
       → written ≡ tr_from t last block → after ≡ option_or (slice_get written (length written - 1)) last
       → tr_from t last (block ++ rest) ≡ written ++ tr_from t after rest
-  block_on last block {written} rest made end = cc (front_on last block rest, last_is last written)
+  block_on = grind (arith, front_on, last_is)
 
   -- the output for a block: bytes are deleted, then translated, then squeezed
   pub passes_make : (last : Option ℕ) (block : List ℕ) {kept mapped written : List ℕ}
@@ -135,7 +135,7 @@ tr_of_parts tables a b apart =
     cc (front_on tables None a b, from_two_parts (squeezes tables) (tr tables a) (translation tables b) apart)
 
 pub tr_of_any_parts : TrOfAnyParts
-tr_of_any_parts tables a b none = tr_of_parts tables a b (λ byte ends begins. none byte)
+tr_of_any_parts = grind (arith, tr_of_parts)
 
 -- ---- the last output byte
 
@@ -145,7 +145,7 @@ last_after o (y ∷ front) x = last_after (Some y) front x
 
 -- the last item of a list is unique
 pub same_last : {X : Type 0} (x y : X) (xs : List X) → EndsWith x xs → EndsWith y xs → Some x ≡ Some y
-same_last x y xs (front, ends) (others, other_ends) = cc (last_after None front x, last_after None others y)
+same_last x y xs (front, ends) (others, other_ends) = grind (arith, common_steps, last_after)
 
 -- one byte that is not deleted and whose image is not squeezed
 one_byte : (tables : Tables) (last : Option ℕ) (byte : ℕ) → deletes tables byte ≡ false
@@ -198,6 +198,6 @@ pub same_from : (p q : ℕ → Bool) → ((b : ℕ) → b < 256 → p b ≡ q b)
     → ((k : ℕ) → Fits w8 (get_or bytes k 0)) → squeeze_from p last bytes ≡ squeeze_from q last bytes
 same_from p q same None [] fit = refl
 same_from p q same None (b ∷ bytes) fit = ap (◌∷◌ b) (same_after p q same b bytes (bytes_fit bytes (λ k. fit (suc k))))
-same_from p q same (Some last) bytes fit = same_after p q same last bytes (bytes_fit bytes fit)
+same_from p q same (Some last) bytes fit = grind (arith, same_after, bytes_fit)
 
 pub ruleset tr_laws = (tr_of_any_parts, tr_of_parts, tr_after_byte, tr_meets_twice)

@@ -1,28 +1,28 @@
 -- The runs of lines, from the first line on, and in a block line by line. A run that is continued by the first of some
--- lines is one of their runs with a larger count. A line either has the key of the run before it, and adds to its
--- count, or ends it. Output that is contiguous in the block is deferred, so the pushed bytes and the deferred ones
--- together are the output so far.
+-- lines is one of their runs with a larger count. A line either has the key of the run before it, and adds to its count
+-- with its copies, or ends it. Output that is contiguous in the block is deferred, so the pushed bytes and the deferred
+-- ones together are the output so far.
 use Rattle.ptflow.proofs
 use proofs.Common.{◌≡◌, ℕ, ◌+◌, ◌&&◌, Bool, true, false, cond, List, [], ◌∷◌, ◌++◌, refl, ap, arith, common_steps}
-use proofs.Common.{nat_lt, nat_tests, append-nil, bytes_eq-Decides, IsPrefix, Uniq, Run, key, is_same, cons_run, runs}
+use proofs.Common.{nat_lt, append-nil, bytes_eq-Decides, IsPrefix, Uniq, Run, key, is_same, cons_run, runs}
 use proofs.Common.{output_of, init, run_of, current_run, runs_from, runs_after, run_output, ◌-◌, ◌<◌, ◌≤◌, Some, None}
 use proofs.Common.{Option, length, take, drop, subst, append_assoc, length-append, bytes_eq, slice_range, drop_split}
 use proofs.Common.{length-drop, take_at, drop_at, IsFirstByte, is_byte, Output, PushEffect, unlines, complete_lines}
-use proofs.Common.{IsLine, push_nothing, unlines_push, complete_lines_none, has_output, RunsWritten, RunsFailed}
+use proofs.Common.{IsLine, unlines_push, complete_lines_none, has_output, RunsWritten, RunsFailed}
 use proofs.Common.{span_of, IsSpan, IsPending, sym, ◌∙◌, swap, is_some, known_lines, Slots, line, line_if_not_found}
 use proofs.Common.{uniq_tool, IsLineFilter, first_line, current_run_of, count_of, rules, ◌⊎◌, inl, inr, ⊎_elim, filter}
 use proofs.Common.{AllByRecursion, cases_Bool, the_lines_of_parts, lines-unlines, lines_are, BeginsWith, EndsWith}
 use proofs.Common.{HasGroupedKeys, UniqOfParts, UniqByKey}
+use proofs.Common.{line_before_terminator, take_with_terminator}
 use proofs.Passes.Exits.{wrote_then, split_of, ended_next}
-use Rattle.ptlines.proofs.Consume.{length_range}
-use Rattle.ptflow.specs.Private.Uniq.BlockRuns.{EndRunPre, IsLineSpan, first_of}
+use Rattle.ptflow.specs.Private.Uniq.BlockRuns.{EndRunPre, IsLineSpan, first_of, repeated}
 use Rattle.ptflow.specs.Private.Uniq.RunsFrom.{count_prefix, run_text}
 use Rattle.ptflow.specs.declared.tools.uniq.block_runs.Span.{Span}
 use Rattle.ptflow.specs.declared.tools.uniq.CurrentRun.{CurrentRun}
-use Rattle.std.specs.Prelude.{◌≢◌}
+use Rattle.std.specs.Prelude.{◌≢◌, zero, suc}
 
 some_lines : (n : ℕ) → nat_lt 0 (n + 1) ≡ true
-some_lines n = grind (arith, nat_tests)
+some_lines n = grind arith
 
 module _ (job : Uniq) where
   -- The first run, and that run with one more line of its key before it.
@@ -37,7 +37,7 @@ module _ (job : Uniq) where
 
   first_more : {line : List ℕ} {n : ℕ} (l : List ℕ) {ls : List (List ℕ)} (t : Bool) → is_same job line l ≡ t
       → First line (n + 1) ls → First line n (l ∷ ls)
-  first_more l true e f = grind (arith, common_steps)
+  first_more l true e f = grind arith
   first_more {line} {n} l {ls} false e f = record {
     count = n;
     more = runs_from job (run_of l 1) ls;
@@ -63,7 +63,7 @@ module _ (job : Uniq) where
   pub runs_after_more : (run : Run) (line : List ℕ) (more : List (List ℕ))
       → (nat_lt 0 run.count && is_same job run.line line) ≡ true
       → runs_after job run (line ∷ more) ≡ runs_after job (run_of run.line (run.count + 1)) more
-  runs_after_more run line more advance_ok = grind (arith, some_lines run.count)
+  runs_after_more run line more advance_ok = grind arith
 
   pub runs_after_next : (run : Run) (line : List ℕ) (more : List (List ℕ))
       → (nat_lt 0 run.count && is_same job run.line line) ≡ false
@@ -128,11 +128,11 @@ module _ {end : ℕ} {block rest : List ℕ} {front : List (List ℕ)} (lies : B
   passed_is = omega (arith, front_size)
 
   front_drop : drop (length block - length rest) block ≡ rest
-  front_drop = grind (arith, common_steps, passed_is, drop_at)
+  front_drop = grind (arith, passed_is, drop_at)
 
   module _ (at : ℕ) (first : IsFirstByte (is_byte end) rest (Some at)) where
     front_more : BlockPrefix end block (drop (at + 1) rest) (front ++ take at rest ∷ [])
-    front_more = grind (arith, common_steps, ended_next, append_assoc, split_of, unlines_push)
+    front_more = grind (arith, ended_next, append_assoc, split_of, unlines_push)
 
     -- the next line
     module _ (from to : ℕ) (from_is : from ≡ to - at - 1)
@@ -141,7 +141,7 @@ module _ {end : ℕ} {block rest : List ℕ} {front : List (List ℕ)} (lies : B
       starts = omega (arith, front_size, length-drop (at + 1) rest)
 
       next_is : slice_range block from (to - 1) ≡ take at rest
-      next_is = grind (arith, common_steps, starts, front_drop)
+      next_is = grind (arith, starts, front_drop)
 
 -- ---- deferred output
 
@@ -151,7 +151,6 @@ span_join : {block : List ℕ} {a b : Span} → IsSpan block a → IsSpan block 
 span_join {block} {a} {b} fits next touch =
     let front = span_of block a in
     let back = span_of block b in
-    let long : b.to - a.from ≡ length (front ++ back) = grind (arith, length-append, length_range) in
     let split : drop a.from block ≡ (front ++ back) ++ drop b.to block =
     grind (arith, common_steps, drop_split) in
     grind (arith, common_steps)
@@ -170,7 +169,7 @@ module _ (job : Uniq) (first : List ℕ) (count : ℕ) {block : List ℕ} {line 
   pub pending_joined : {out : Output} → pending.to ≡ l.from → count_prefix job.show count ≡ []
       → IsPending (span_of block pending ++ run_text job (run_of (first_of first block line) count)) block
       (record { from = pending.from; to = l.to }) out out
-  pending_joined = search (rules, line_in, push_nothing, span_join, due_is)
+  pending_joined = search (rules, span_join, due_is)
 
 module _ {bytes block : List ℕ} {pending : Span} {was is : Output} (waits : IsPending bytes block pending was is)
     (more : List ℕ) {is' : Output} where
@@ -179,7 +178,7 @@ module _ {bytes block : List ℕ} {pending : Span} {was is : Output} (waits : Is
   pending_then {now} next = record {
     pushed = waits.pushed ++ next.pushed;
     wrote = wrote_then _ _ _ waits.wrote next.wrote;
-    all = grind (arith, common_steps, append_assoc);
+    all = grind (arith, append_assoc);
     span = next.span;
   }
 
@@ -197,7 +196,7 @@ pub record RunSteps (job : Uniq) (before after : Run) (ls : List (List ℕ)) (pa
   pub some : 0 < before.count + length ls → 0 < after.count
 
 pub steps_none : (job : Uniq) (run : Run) → RunSteps job run run [] []
-steps_none job run = grind (arith, common_steps)
+steps_none job run = grind arith
 
 module _ {job : Uniq} {before after : Run} {ls : List (List ℕ)} {passed : List Run}
     (steps : RunSteps job before after ls passed) where
@@ -209,12 +208,12 @@ module _ {job : Uniq} {before after : Run} {ls : List (List ℕ)} {passed : List
     -- one line more, of the current run
     pub steps_more : (nat_lt 0 after.count && is_same job after.line line) ≡ true
         → RunSteps job before (run_of after.line (after.count + 1)) (ls ++ line ∷ []) passed
-    steps_more same = grind (arith, common_steps, one_more, runs_after_more, steps, length-append)
+    steps_more same = grind (arith, common_steps, one_more, steps, length-append)
 
     -- one that ends it
     pub steps_next : (nat_lt 0 after.count && is_same job after.line line) ≡ false
         → RunSteps job before (run_of line 1) (ls ++ line ∷ []) (passed ++ current_run after)
-    steps_next other = grind (arith, common_steps, one_more, runs_after_next, append_assoc, length-append)
+    steps_next other = grind (arith, common_steps, one_more, runs_after_next, append_assoc)
 
   module _ {was is : Output} (wrote : PushEffect was is (output_of job passed)) where
     pub steps_written : {all : List (List ℕ)} → all ≡ ls → (was.write_failed ≡ false → is.write_failed ≡ false)
@@ -224,8 +223,8 @@ module _ {job : Uniq} {before after : Run} {ls : List (List ℕ)} {passed : List
       wrote = wrote;
       clean = clean;
       on = λ more. cc (steps.on more);
-      count = grind (arith, steps);
-      some = grind (arith, steps);
+      count = grind arith;
+      some = grind arith;
     }
 
     -- a write failed before these lines
@@ -237,7 +236,7 @@ module _ {job : Uniq} {before after : Run} {ls : List (List ℕ)} {passed : List
       fault = fault;
       is_prefix = λ more. (
         runs_after job after (later ++ more),
-        grind (arith, common_steps, steps),
+        grind (arith, common_steps),
       );
     }
 
@@ -282,7 +281,7 @@ module _ {job : Uniq} {first block rest : List ℕ} {start count : ℕ} {line : 
       (key_is : next ≡ key job (take at rest)) (tested : same ≡ bytes_eq run_key next) where
     test : {answer : Bool} → same ≡ answer
         → (nat_lt 0 count && is_same job (first_of first block line) (take at rest)) ≡ answer
-    test answered = grind (arith, common_steps)
+    test answered = grind arith
 
     pub runs_loop_more : same ≡ true
         → RunsInvariant job first block (drop (at + 1) rest) start (count + 1) line pending run_key was is
@@ -337,7 +336,7 @@ module _ {job : Uniq} {first block rest : List ℕ} {start count : ℕ} {line : 
   -- no complete line is left
   module _ (none : IsLine job.terminator rest) {is' : Output} (wrote : PushEffect is is' (span_of block pending)) where
     all_lines : complete_lines job.terminator block ≡ so_far.front
-    all_lines = grind (arith, common_steps, complete_lines_none, append-nil)
+    all_lines = grind (arith, complete_lines_none, append-nil)
 
     all_wrote : PushEffect was is' (output_of job so_far.passed)
     all_wrote = rw so_far.waits.all at (wrote_then _ _ _ so_far.waits.wrote wrote)
@@ -349,11 +348,11 @@ module _ {job : Uniq} {first block rest : List ℕ} {start count : ℕ} {line : 
 
     pub running_unended : is'.write_failed ≡ true
         → RunsFailed job (run_of first start) (complete_lines job.terminator block) was is'
-    running_unended fault = search (rules, steps_failed, steps, all_wrote, all_lines)
+    running_unended fault = search (rules, steps_failed, all_wrote)
 
     pub runs_loop_passed : take (length block - length rest) block
         ≡ unlines job.terminator (complete_lines job.terminator block)
-    runs_loop_passed = grind (arith, common_steps, all_lines, passed_is, take_at)
+    runs_loop_passed = grind (arith, all_lines, passed_is, take_at)
 
 -- ---- the current run
 
@@ -381,10 +380,51 @@ uniq_line_tool job run start none = record {
   some = omega arith;
 }
 
+-- ---- lines that repeat a line of the run
+
+line_ends : (end : ℕ) (l more : List ℕ) → IsLine end l
+    → IsFirstByte (is_byte end) ((l ++ end ∷ []) ++ more) (Some (length l))
+line_ends end l more whole = grind (arith, common_steps)
+
+front_taken : (end : ℕ) (l more : List ℕ) → (take (length l) ((l ++ end ∷ []) ++ more) ≡ l)
+    × (drop (length l + 1) ((l ++ end ∷ []) ++ more) ≡ more)
+front_taken end l more = grind (arith, common_steps)
+
+module _ {job : Uniq} {first block : List ℕ} {start : ℕ} {line : Option Span} {pending : Span} {run_key : List ℕ}
+    {was is : Output} (l : List ℕ) (whole : IsLine job.terminator l) (key_is : run_key ≡ key job l) where
+  counted_once : (more : List ℕ) {count : ℕ}
+      → RunsInvariant job first block ((l ++ job.terminator ∷ []) ++ more) start count line pending run_key was is
+      → RunsInvariant job first block more start (count + 1) line pending run_key was is
+  counted_once more so_far = grind (arith, common_steps, bytes_eq-Decides, runs_loop_more, line_ends)
+
+  pub runs_loop_again : (n : ℕ) (rest : List ℕ) {count : ℕ}
+      → RunsInvariant job first block (repeated n (l ++ job.terminator ∷ []) ++ rest) start count line pending run_key
+      was is → RunsInvariant job first block rest start (count + n) line pending run_key was is
+  runs_loop_again zero rest so_far = grind arith
+  runs_loop_again (suc n) rest {count} so_far =
+      let bytes = l ++ job.terminator ∷ [] in
+      let once = counted_once (repeated n bytes ++ rest) (rw (append_assoc bytes (repeated n bytes) rest) at so_far) in
+      grind (arith, runs_loop_again n rest once)
+
+-- a line with the key of the run, and lines that repeat it
+pub runs_loop_repeats : {job : Uniq} {first block rest : List ℕ} {start count : ℕ} {line : Option Span} {pending : Span}
+    {run_key : List ℕ} {was is : Output}
+    → RunsInvariant job first block rest start count line pending run_key was is → {at : ℕ}
+    → IsFirstByte (is_byte job.terminator) rest (Some at) → {next : List ℕ} {same : Bool}
+    → next ≡ key job (take at rest) → same ≡ bytes_eq run_key next → same ≡ true → (n : ℕ) {left : List ℕ}
+    → drop (at + 1) rest ≡ repeated n (take (at + 1) rest) ++ left
+    → RunsInvariant job first block left start (count + (1 + n)) line pending run_key was is
+runs_loop_repeats {job} {rest = rest} {run_key = run_key} so_far {at} found key_is tested is_true n {left} copies =
+    let own : run_key ≡ key job (take at rest) = grind (arith, bytes_eq-Decides) in
+    let split : drop (at + 1) rest ≡ repeated n (take at rest ++ job.terminator ∷ []) ++ left =
+    grind (arith, take_with_terminator) in
+    let again = runs_loop_again (take at rest) (line_before_terminator job.terminator rest at found) own n left in
+    grind (arith, again (rw split at (runs_loop_more so_far found key_is tested is_true)))
+
 -- a block has no complete line
 pub not_found : (end : ℕ) (block : List ℕ) (r : Option ℕ) → IsFirstByte (is_byte end) block r → is_some r ≡ false
     → complete_lines end block ≡ []
-not_found end block None none said = grind (arith, common_steps, complete_lines_none, line_if_not_found)
+not_found end block None none said = grind (arith, complete_lines_none, line_if_not_found)
 not_found end block (Some at) first said = cc
 
 -- ---- inputs in parts
@@ -419,11 +459,9 @@ module _ (job : Uniq) where
       → runs job (xs ++ ys) ≡ runs job xs ++ runs job ys
   runs-append [] ys change = refl
   runs-append (x ∷ []) [] change = refl
-  runs-append (x ∷ []) (y ∷ ys) change = grind (arith, onto_is, other_key)
+  runs-append (x ∷ []) (y ∷ ys) change = grind (arith, other_key)
   runs-append (x ∷ z ∷ xs) ys change = grind (
     arith,
-    onto_is,
-    onto_front,
     runs-append (z ∷ xs) ys (λ last first
         (front, ends) begins. change last first (x ∷ front, ap (λ l. x ∷ l) ends) begins),
   )
@@ -460,7 +498,7 @@ module _ (job : Uniq) (taken : List ℕ → Bool) where
   -- a line of the part before a run of its key
   onto_same : (x : List ℕ) (r : Run) (rs : List Run) → line_taken x ≡ true → key job x ≡ key job r.line
       → cons_run job x (filter run_taken (r ∷ rs)) ≡ filter run_taken (cons_run job x (r ∷ rs))
-  onto_same = grind (arith, common_steps)
+  onto_same = grind arith
 
   -- a line before runs of other keys
   onto_other : (x : List ℕ) (rs : List Run) → AllByRecursion (λ run. key job x ≢ key job run.line) rs
@@ -484,7 +522,6 @@ module _ (job : Uniq) (taken : List ℕ → Bool) where
           → cons_run job x (filter run_taken (runs job ls)) ≡ filter run_taken (cons_run job x (runs job ls))
       kept is (inl (next, (later, begins), same)) =
           let (count, more, onto) = onto_is job next (runs job later) in
-          let first : runs job ls ≡ run_of next count ∷ more = cc in
           cc (onto_same x (run_of next count) more is same)
       kept is (inr others) = onto_apart x (runs job ls) is (all_runs (λ other. key job x ≢ key job other) ls others)
 

@@ -5,13 +5,13 @@
 use Rattle.ptflow.proofs
 use proofs.Common.{common_steps, ◌≡◌, ℕ, zero, suc, ◌+◌, ◌*◌, ◌^◌, ◌/◌, ◌%◌, ◌<◌, ◌≤◌, Bool, true, false, cond, List, ℤ}
 use proofs.Common.{[], ◌∷◌, ◌++◌, map, length, take, drop, set, get_or, length-drop, drop-cons, append_assoc, add-one}
-use proofs.Common.{refl, sym, ◌∙◌, ap, arith, w8, All, nat_eq, nat_le, range_with_len, mask_l, put_chunk, chunk, pick_l}
+use proofs.Common.{refl, sym, ◌∙◌, ap, arith, w8, All, nat_eq, range_with_len, mask_l, put_chunk, chunk, pick_l}
 use proofs.Common.{Each1, take_more_put_chunk, bit_mask_l, mask_l-lt, Each1-from_get_or, swz_l, ones-mask_l_cons, ◌&&◌}
 use proofs.Common.{pick_l-range_with_len, take-map, take-append-le, drop-append-le, length-take-le, take-append-add}
-use proofs.Common.{length-range_with_len, get_or-range_with_len, and_numeral, nat_tests, pow-succ', select_by, not, eqb}
+use proofs.Common.{length-range_with_len, get_or-range_with_len, and_numeral, pow-succ', select_by, not, eqb}
 use proofs.Common.{true_indices, IsCompressRow, IsCompressTable, filter, append-nil, take-append-drop, take-add, zip2}
 use proofs.Common.{drop-drop, drop_all, length-chunk, mask_l-mod, length-zip2, bit_and, top, cast_unsigned, mask_of}
-use proofs.Common.{is_not_repeat, keep_flags, kept_bytes, FilterPre, bit_or, ◌-◌}
+use proofs.Common.{is_not_repeat, keep_flags, kept_bytes, FilterPre, bit_or, ◌-◌, rules}
 use proofs.Vectors.Lanes.{lanes_of, tops_of_lanes}
 use Rattle.std.specs.Prelude.{slice_index_or, count_ones}
 use Rattle.ptlines.proofs.MatchMasks.{mask_append}
@@ -63,27 +63,20 @@ length-flags_of : (n m : ℕ) → length (flags_of n m) ≡ n
 length-flags_of zero m = refl
 length-flags_of (suc n) m = ap suc (length-flags_of n (m / 2))
 
-lowest : (m : ℕ) → cond (nat_eq (m % 2) 1) 1 0 ≡ m % 2
-lowest m = grind (arith, nat_tests)
-
 mask_of_flags : (n m : ℕ) → m < 2 ^ n → mask_l (flags_of n m) ≡ m
 mask_of_flags zero m low = omega arith
-mask_of_flags (suc n) m low = grind (arith, common_steps, lowest, mask_of_flags n (m / 2), pow-succ')
+mask_of_flags (suc n) m low = grind (arith, mask_of_flags n (m / 2))
 
 -- ---- lanes by their indices
-
-low_index : {j : ℕ} → j < 16 → nat_le 128 j ≡ false
-low_index low = grind (arith, nat_tests)
 
 -- lanes at indices below 16
 pub shuffle_result : (v : List ℕ) (i : ℕ) (row : List ℕ) → i + length row ≤ 16 → Each1 (λ place. place < 16) row
     → swz_l w8 16 v i row ≡ pick_l 0 v row
 shuffle_result v i [] room lanes = refl
-shuffle_result v i (j ∷ js) room (low, lanes) = grind (arith, common_steps, low_index, shuffle_result v (suc i) js)
+shuffle_result v i (j ∷ js) room (low, lanes) = grind (arith, shuffle_result v (suc i) js)
 
-pub row_lanes : {flags : List Bool} {indices : List ℕ} → IsCompressRow flags indices
-    → Each1 (λ place. place < 16) indices
-row_lanes {indices} is = Each1-from_get_or (λ place. place < 16) indices 0 (λ i low. is.lanes i 0 low)
+pub row_lanes : (row : List ℕ) → All (λ index. index < 16) row → Each1 (λ index. index < 16) row
+row_lanes row lanes = Each1-from_get_or (λ index. index < 16) row 0 (λ i low. lanes i 0 low)
 
 -- the row of a mask
 pub row_of_mask : (rows : List (List ℕ)) (mask : ℕ) → IsCompressTable rows → mask < 256
@@ -110,7 +103,6 @@ row_selects {flags} {row} v room is =
 pub selected_stored : (at n : ℕ) (into lanes : List ℕ) → length lanes ≡ 16 → n ≤ 16 → at + 16 ≤ length into
     → take (at + n) (put_chunk at into lanes) ≡ take at into ++ take n lanes
 selected_stored at n into lanes long few room =
-    let front : length (take at into) ≡ at = length-take-le at into (omega arith) in
     grind (
       arith,
       common_steps,
@@ -134,13 +126,12 @@ next_place : (flags : List Bool) {place : ℕ} → length flags ≡ 8 → place 
     ++ cond (get_or flags place false) (place ∷ []) []
 next_place flags {place} long low =
     let indices = range_with_len 0 8 in
-    let flag = get_or flags place false in
     let front = take place flags in
     let here : 0 + place ≡ place = omega arith in
     let behind : drop (length front) indices ≡ place ∷ drop (place + 1) indices =
     cc (
-      length-take-le place flags (omega (arith, long)),
-      drop-cons indices place 0 (omega (arith, length-range_with_len 0 8)),
+      length-take-le place flags (omega arith),
+      drop-cons indices place 0 (omega arith),
       get_or-range_with_len 0 8 place 0 low,
       add-one place,
     ) in
@@ -163,7 +154,7 @@ pub mask_below : (flags : List Bool) → length flags ≡ 8 → mask_l flags < 2
 mask_below flags long = rw long at (mask_l-lt flags)
 
 halves : (front back : List Bool) → length front ≡ 8 → mask_l (front ++ back) ≡ mask_l front + 256 * mask_l back
-halves front back long = cc (mask_append front back, long)
+halves front back long = cc (mask_append front back)
 
 pub low_half : (front back : List Bool) → length front ≡ 8 → bit_and (mask_l (front ++ back)) 255 ≡ mask_l front
 low_half front back long = omega (arith, and_numeral, halves, mask_below)
@@ -178,7 +169,6 @@ select_rotated : (flags : List Bool) (v turned : List ℕ) → length flags ≡ 
 select_rotated flags v turned long lanes is =
     cc (
       select_by_prefix flags turned,
-      long,
       drop-append-le 8 v v (omega (arith, lanes)),
       take-append-le 8 (drop 8 v) v (omega (arith, length-drop 8 v, lanes)),
       select_by_prefix flags (drop 8 v),
@@ -188,19 +178,19 @@ pub select_by_halves : (front back : List Bool) (before v turned : List ℕ) →
     → length v ≡ 16 → take 8 turned ≡ chunk 8 8 (v ++ v)
     → (before ++ select_by front v) ++ select_by back turned ≡ before ++ select_by (front ++ back) v
 select_by_halves front back before v turned few others lanes is =
-    grind (arith, common_steps, append_assoc, select_by, select_rotated, select_by_append)
+    grind (arith, append_assoc, select_by, select_rotated, select_by_append)
 
 -- ---- bytes that a filter keeps
 
 chunk_parts : (at n m : ℕ) (from : List ℕ) → chunk at (n + m) from ≡ chunk at n from ++ chunk (at + n) m from
-chunk_parts at n m from = cc (take-add n m (drop at from), drop-drop n at from)
+chunk_parts at n m from = simp (take-add, drop-drop)
 
 module _ (f : ℕ → ℕ → Bool) (before bytes : List ℕ) (paired : length bytes ≤ length before) where
   -- a flag for each of 16 bytes
   pub pairs_long : (at : ℕ) → at + 16 ≤ length bytes → length (zip2 f (chunk at 16 before) (chunk at 16 bytes)) ≡ 16
   pairs_long at room =
       let long = length-chunk at 16 before (omega arith) in
-      length-zip2 f (chunk at 16 before) (chunk at 16 bytes) (long ∙ sym (length-chunk at 16 bytes room)) ∙ long
+      search (rules, length-zip2, length-chunk)
 
 none_set : {a b c d : ℕ} → bit_or (bit_or (bit_or a b) c) d ≡ 0 → (a ≡ 0) × (b ≡ 0) × (c ≡ 0) × (d ≡ 0)
 none_set {a} {b} {c} {d} none = omega (arith, le_or_l, le_or_r)
@@ -255,7 +245,7 @@ module _ (test : ℕ → Bool) where
   all_kept [] [] same all = refl
   all_kept [] (b ∷ bytes) same all = absurd (omega arith)
   all_kept (a ∷ before) [] same all = absurd (omega arith)
-  all_kept (a ∷ before) (b ∷ bytes) same all = grind (arith, pow-succ' 2 (length bytes), all_kept before bytes)
+  all_kept (a ∷ before) (b ∷ bytes) same all = grind (arith, all_kept before bytes)
 
   module _ (before bytes : List ℕ) where
     -- the bytes kept of `n` from index `at` on
@@ -274,13 +264,10 @@ module _ (test : ℕ → Bool) where
     abbrev pub equal_at : ℕ → List Bool
     equal_at k = zip2 eqb (chunk k 16 before) (chunk k 16 bytes)
 
-    pub select_kept_at : (k : ℕ) (t : List ℕ) → t ++ select_by (flags_at k) (chunk k 16 bytes) ≡ t ++ kept_at k 16
-    select_kept_at k t = ap (λ l. t ++ l) (select_kept (chunk k 16 before) (chunk k 16 bytes))
-
     -- no byte is left
     pub filter_done : {into : List ℕ} {at count : ℕ} {whole : List ℕ} → FilterInvariant into at count whole
         → length bytes ≤ at → take count into ≡ whole
-    filter_done {into} {at} {count} k past = grind (arith, common_steps, append-nil, drop_all, kept_nil)
+    filter_done {into} {at} {count} k past = grind (arith, append-nil, drop_all, kept_nil)
 
     module _ (paired : length bytes ≤ length before) where
       same_length : (at n : ℕ) → at + n ≤ length bytes → length (chunk at n before) ≡ length (chunk at n bytes)
@@ -290,15 +277,14 @@ module _ (test : ℕ → Bool) where
       kept_full : (k : ℕ) {mask : ℕ} → k + 16 ≤ length bytes → mask ≡ mask_l (flags_at k) → 65535 ≤ mask
           → kept_at k 16 ≡ chunk k 16 bytes
       kept_full k {mask} room is full =
-          let long : 2 ^ 16 ≡ 2 ^ length (chunk k 16 bytes) =
-          ap (λ (n : ℕ). 2 ^ n) (sym (length-chunk k 16 bytes room)) in
+          let long : 2 ^ 16 ≡ 2 ^ length (chunk k 16 bytes) = search (rules, length-chunk) in
           let flags_long = pairs_long (λ a b. is_not_repeat test (a, b)) before bytes paired k room in
           let low : mask_l (flags_at k) < 2 ^ 16 = rw flags_long at (mask_l-lt (flags_at k)) in
-          all_kept (chunk k 16 before) (chunk k 16 bytes) (same_length k 16 room) (omega (arith, is, low, long))
+          all_kept (chunk k 16 before) (chunk k 16 bytes) (same_length k 16 room) (omega arith)
 
       -- two pieces, one after another
       kept_two : (at n m : ℕ) → at + n + m ≤ length bytes → kept_at at (n + m) ≡ kept_at at n ++ kept_at (at + n) m
-      kept_two at n m room = grind (arith, common_steps, chunk_parts, kept_append, same_length)
+      kept_two at n m room = grind (arith, chunk_parts, kept_append, same_length)
 
       module _ (at : ℕ) (room : at + 64 ≤ length bytes) where
         four : kept_at at 64 ≡ ((kept_at at 16 ++ kept_at (at + 16) 16) ++ kept_at (at + 32) 16) ++ kept_at (at + 48) 16
@@ -306,10 +292,11 @@ module _ (test : ℕ → Bool) where
             cc (kept_two at 48 16 (omega arith), kept_two at 32 16 (omega arith), kept_two at 16 16 (omega arith))
 
         -- the bytes kept of four vectors, appended one after another
-        pub kept_in_four : (t : List ℕ) {a b c d : List ℕ} → a ≡ t ++ kept_at at 16
-            → b ≡ a ++ kept_at (at + 16) 16 → c ≡ b ++ kept_at (at + 32) 16 → d ≡ c ++ kept_at (at + 48) 16
-            → d ≡ t ++ kept_at at 64
-        kept_in_four t ea eb ec ed = grind (arith, common_steps, kept_at, append_four, four)
+        pub kept_in_four : (t : List ℕ) {a b c d : List ℕ} → a ≡ t ++ select_by (flags_at at) (chunk at 16 bytes)
+            → b ≡ a ++ select_by (flags_at (at + 16)) (chunk (at + 16) 16 bytes)
+            → c ≡ b ++ select_by (flags_at (at + 32)) (chunk (at + 32) 16 bytes)
+            → d ≡ c ++ select_by (flags_at (at + 48)) (chunk (at + 48) 16 bytes) → d ≡ t ++ kept_at at 64
+        kept_in_four t ea eb ec ed = grind (arith, append_four, four, select_kept)
 
         whole : kept_at at 16 ≡ chunk at 16 bytes → kept_at (at + 16) 16 ≡ chunk (at + 16) 16 bytes
             → kept_at (at + 32) 16 ≡ chunk (at + 32) 16 bytes → kept_at (at + 48) 16 ≡ chunk (at + 48) 16 bytes
@@ -361,7 +348,7 @@ removed_lanes : (test : ℕ → Bool) (before bytes : List ℕ)
     ≡ lanes_of (zip2 (λ a b. eqb a b && test b) before bytes)
 removed_lanes test [] bytes = refl
 removed_lanes test (a ∷ before) [] = refl
-removed_lanes test (a ∷ before) (b ∷ bytes) = grind (arith, common_steps, removed_lanes test before bytes)
+removed_lanes test (a ∷ before) (b ∷ bytes) = grind (arith, removed_lanes test before bytes)
 
 -- the mask of the flags that are not set, and those that are, are all
 not_mask : (flags : List Bool) → mask_l (map not flags) + mask_l flags + 1 ≡ 2 ^ length flags
@@ -373,7 +360,7 @@ not_removed : (test : ℕ → Bool) (before bytes : List ℕ)
     → map not (zip2 (λ a b. eqb a b && test b) before bytes) ≡ keep_flags test before bytes
 not_removed test [] bytes = refl
 not_removed test (a ∷ before) [] = refl
-not_removed test (a ∷ before) (b ∷ bytes) = grind (arith, common_steps, not_removed test before bytes)
+not_removed test (a ∷ before) (b ∷ bytes) = grind (arith, not_removed test before bytes)
 
 module _ (test : ℕ → Bool) (before bytes : List ℕ) (paired : length bytes ≤ length before) (at : ℕ)
     (room : at + 16 ≤ length bytes) {lanes : List ℤ} (is : lanes ≡ mask_of test (chunk at 16 bytes))
@@ -387,15 +374,10 @@ module _ (test : ℕ → Bool) (before bytes : List ℕ) (paired : length bytes 
         (map (cast_unsigned w8) lanes))) % 2 ^ 64
 
     long : length removed ≡ 16
-    long = pairs_long (λ a b. eqb a b && test b) before bytes paired at room
+    long = search (rules, pairs_long)
 
     mask_is : mask ≡ mask_l removed
-    mask_is = cc (
-      is,
-      removed_lanes test (chunk at 16 before) (chunk at 16 bytes),
-      tops_of_lanes removed,
-      mask_l-mod removed 64 (omega (arith, long)),
-    )
+    mask_is = search (rules, is, removed_lanes, tops_of_lanes, mask_l-mod, long)
 
     pub removed_small : mask < 65536
     removed_small = grind (arith, long, mask_l-lt, mask_is)

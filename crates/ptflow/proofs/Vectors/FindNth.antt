@@ -6,8 +6,9 @@ use proofs.Common.{Some, List, [], ◌∷◌, length, map, take, drop, get_or, r
 use proofs.Common.{length-drop, count_ones, count_by, prefix_len, mask_l, chunk, take-add, take-take, length-take-le}
 use proofs.Common.{get_or-le-sum_by, sum_by-cons, sum_by-append, sum_by-take-le, trailing_mask_l, ones-mask_l}
 use proofs.Common.{get_or-chunk, length-chunk, IsFirstByte, NoneBefore, Passes, is_byte, line_before_terminator}
-use proofs.Common.{line_if_not_found, Nowhere, None, option_map, nowhere_trans, IsLine, byte_ne, IsNth, HasTerminators}
-use proofs.Common.{count_by_more_yes, common_steps}
+use proofs.Common.{line_if_not_found, Nowhere, None, option_map, nowhere_trans, IsLine, byte_ne, IsNth}
+use proofs.Common.{IsTerminatorMask}
+use proofs.Common.{count_by_more_yes, common_steps, rules}
 use Rattle.std.proofs.lemmas.List.{get_or-drop, drop-map}
 use Rattle.std.proofs.Common.{pow-suc, mul_comm, div-one}
 use Rattle.std.proofs.Math.Nat.{div-div-eq-div-mul, zero-div}
@@ -75,7 +76,7 @@ module _ {X : Type 0} (p : X → Bool) (d : X) where
   behind : (xs : List X) (n : ℕ) → n < count_by p xs → IsNth p d n xs (prefix_len not (without n (map p xs)))
   behind [] n lt = absurd (omega arith)
   behind (x ∷ xs) n lt =
-      by_test (λ m less. behind xs m less) (p x) refl n (omega (arith, sum_by-cons (λ b. cond (p b) 1 0) x xs))
+      by_test (λ m less. behind xs m less) (p x) refl n (search (rules, sum_by-cons))
     where
       by_test : ((m : ℕ) → m < count_by p xs → IsNth p d m xs (prefix_len not (without m (map p xs)))) → (t : Bool)
           → p x ≡ t → (n : ℕ) → n < cond t 1 0 + count_by p xs
@@ -83,11 +84,11 @@ module _ {X : Type 0} (p : X → Bool) (d : X) where
       by_test more true e zero lt = (omega arith, e, refl)
       by_test more true e (suc m) lt =
           let next : prefix_len not (without (suc m) (true ∷ map p xs)) ≡ suc (prefix_len not (without m (map p xs))) =
-          ap (prefix_len not) (without_set m (map p xs)) ∙ omega arith in
+          grind (arith, without_set) in
           one_more x xs (prefix_len not (without m (map p xs))) (suc m) m e next (omega arith) (more m (omega arith))
       by_test more false e n lt =
           let next : prefix_len not (without n (false ∷ map p xs)) ≡ suc (prefix_len not (without n (map p xs))) =
-          ap (prefix_len not) (without_clear n (map p xs)) ∙ omega arith in
+          grind (arith, without_clear) in
           one_more x xs (prefix_len not (without n (map p xs))) n n e next (omega arith) (more n (omega arith))
 
 -- the lowest set bit, after n bits were cleared
@@ -102,8 +103,7 @@ shifted (suc n) [] = zero-div (2 ^ suc n)
 shifted (suc n) (b ∷ bits) =
     let half : (b : Bool) → (cond b 1 0 + 2 * mask_l bits) / 2 ≡ mask_l bits =
     grind arith in
-    ap (λ k. mask_l (b ∷ bits) / k) (pow-suc 2 n ∙ mul_comm (2 ^ n) 2)
-    ∙ sym (div-div-eq-div-mul (mask_l (b ∷ bits)) 2 (2 ^ n)) ∙ ap (λ x. x / 2 ^ n) (half b) ∙ shifted n bits
+    grind (arith, half, pow-suc, mul_comm, div-div-eq-div-mul, shifted n bits)
 
 -- the mask of the first bytes, without those before an index
 pub mask_from : (p : ℕ → Bool) (size from : ℕ) (bytes : List ℕ) {mask : ℕ} → mask ≡ mask_l (map p (take size bytes))
@@ -155,14 +155,8 @@ module _ (p : ℕ → Bool) (bytes : List ℕ) where
 
   -- no item before the first one passes
   pub first_is : (at : ℕ) → IsNth p 0 0 bytes at → NoneBefore (Passes p bytes) 0 (length bytes) at × Passes p bytes at
-  first_is at (within, passes, none) = (
-    record {
-      low = omega arith;
-      high = within;
-      before = λ k low near passes. grind (arith, common_steps, near, get_or-take, get_or-le-sum_by, length-take-le);
-    },
-    passes,
-  )
+  first_is at (within, passes, none) =
+      (grind (arith, near, get_or-take, get_or-le-sum_by, length-take-le), passes)
 
 -- ---- by the first match
 
@@ -198,18 +192,7 @@ module _ (p : ℕ → Bool) (bytes : List ℕ) (start end : ℕ) (fits : end < l
       × Passes p (drop start bytes) (end - start)
   next_is =
       let whole : start + (end - start) ≡ end = omega (arith, in_order) in
-      first_is p (drop start bytes) (end - start) (
-        grind (arith, common_steps, in_order),
-        grind (arith, common_steps),
-        omega (
-          arith,
-          same,
-          ap (λ n. count_by p (take n bytes)) whole,
-          ap (count_by p) (take-add start (end - start) bytes),
-          sum_by-append
-              (λ b. cond (p b) 1 0) (take start bytes) (take (end - start) (drop start bytes)),
-        ),
-      )
+      grind (arith, common_steps, first_is, in_order, take-add, sum_by-append)
 
 -- the next terminator among 64 bytes, after n of them, where the line starts at `start`
 pub record NextTerminator (d : ℕ) (block : List ℕ) (from n bit start : ℕ) : Type 0 where
@@ -218,7 +201,7 @@ pub record NextTerminator (d : ℕ) (block : List ℕ) (from n bit start : ℕ) 
   pub first : IsFirstByte (is_byte d) (drop start block) (Some (from + bit - start))
   pub counted : count_by (is_byte d) (take (from + bit + 1) block) ≡ count_by (is_byte d) (take from block) + (n + 1)
 
-module _ {d : ℕ} {block : List ℕ} {from all marked : ℕ} (n start : ℕ) (h : HasTerminators d block from all)
+module _ {d : ℕ} {block : List ℕ} {from all marked : ℕ} (n start : ℕ) (h : IsTerminatorMask d block from all)
     (some : n < count_ones all)
     (bits : marked ≡ mask_l (without n (map (is_byte d) (chunk from 64 block))))
     (ends : count_by (is_byte d) (take start block) ≡ count_by (is_byte d) (take from block) + n) where

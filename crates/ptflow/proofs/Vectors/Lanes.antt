@@ -8,16 +8,16 @@ use proofs.Common.{common_steps, ◌≡◌, ℕ, ◌+◌, ◌<◌, ◌≤◌, �
 use proofs.Common.{length, get_or, replicate, cond, refl, sym, ◌∙◌, ap, arith, w8, Fits, sum_by, zero, suc, slice_get}
 use proofs.Common.{option_map, sel_l, zip2, top, Each1, take-add, false≢true, map-append, tops_compared, zip2_splat}
 use proofs.Common.{zip2_of_maps, splat_is_map, Each1-from_get_or, shift_at, stretch_delta, pos, negsuc, filter, mask_of}
-use proofs.Common.{cast_unsigned, true, set, take_more_set, take-set, take_more, append-nil, add-one, sum_by-append}
-use proofs.Common.{sum_by-cons, range_delta, shift_by_ranges, ◌*◌, ◌/◌, ◌^◌, ◌&&◌, ◌||◌, leb, ltb, eqb, ◌≢◌, ⊎_elim}
+use proofs.Common.{cast_unsigned, true, set, take_more_set, take-set, append-nil, add-one, sum_by-append}
+use proofs.Common.{sum_by-cons, range_delta, shift_by_ranges, ◌*◌, ◌/◌, ◌^◌, ◌&&◌, ◌||◌, ltb, eqb, ◌≢◌, ⊎_elim}
 use proofs.Common.{get_or-drop, ◌-◌, bit_or, bit_and, cast_signed, bit_at, from_bool, swz_l, SwzOk, SwzOk-from_below}
-use proofs.Common.{map-map, and_mask, lt-ltb, le-ltb, cases_eq, cases_lt, nat_tests, pow_pos, length-map, set-get_or}
+use proofs.Common.{map-map, and_mask, lt-ltb, le-ltb, cases_eq, cases_lt, pow_pos, length-map, set-get_or}
 use proofs.Common.{get_or-set_same, table_has, set_has, IsSetOf, All, not, length-set, get_or-chunk, get_or-map, chunk}
-use proofs.Common.{ext_get_or, get_or-set_other, get_or_default, get_or_past, inl, inr, ◌⊎◌, min, rules}
+use proofs.Common.{ext_get_or, get_or_default, get_or_past, inl, inr, ◌⊎◌, min, rules}
 use Rattle.std.specs.Prelude.{is_some}
 use Rattle.ptflow.specs.declared.simd.shift.ShiftRange.{ShiftRange}
 use Rattle.ptlangs.specs.declared.tr.shifts.Stretch.{Stretch}
-use Rattle.std.proofs.lemmas.Nat.Bits.{and_pow, bit_at-lt, bit_at_set_same, bit_at_set_other}
+use Rattle.std.proofs.lemmas.Nat.Bits.{and_pow, bit_at_set_same, bit_at_set_other}
 use Rattle.std.specs.Int.Bits.{or_zero_r}
 use Rattle.ptflow.specs.declared.simd.byte_set.ByteSet.{ByteSet}
 use Rattle.std.proofs.lemmas.Simd.{Each1-get_or, get_or-sel_l, length-sel_l}
@@ -54,7 +54,7 @@ added_lanes f g v ex ey = zip2_of_maps (λ a b. (a + b) % 256) f g v ex ey
 pub mapped_more : (map_byte : ℕ → ℕ) (at next n : ℕ) (from to new : List ℕ) → next ≡ at + n
     → take at to ≡ map map_byte (take at from) → take (at + n) new ≡ take at to ++ map map_byte (take n (drop at from))
     → take next new ≡ map map_byte (take next from)
-mapped_more map_byte at next n from to new is begun more = grind (arith, common_steps, map-append, take-add)
+mapped_more map_byte at next n from to new is begun more = grind (arith, map-append, take-add)
 
 -- two functions that agree on bytes map lists of bytes to the same list
 pub bytes_same : {X : Type 0} (f g : ℕ → X) → ((b : ℕ) → b < 256 → f b ≡ g b) → (v : List ℕ) → Each1 (Fits w8) v
@@ -65,7 +65,7 @@ bytes_same f g same (b ∷ v) (first, others) = λ i. same b first.fits i ∷ by
 pub filter_same : (p q : ℕ → Bool) → ((b : ℕ) → b < 256 → p b ≡ q b) → (v : List ℕ) → Each1 (Fits w8) v
     → filter p v ≡ filter q v
 filter_same p q same [] fit = refl
-filter_same p q same (b ∷ v) (first, others) = grind (arith, common_steps, filter_same p q same v others, first, same)
+filter_same p q same (b ∷ v) (first, others) = grind (arith, filter_same p q same v others)
 
 pub bytes_fit : (v : List ℕ) → ((k : ℕ) → Fits w8 (get_or v k 0)) → Each1 (Fits w8) v
 bytes_fit v fit = Each1-from_get_or (Fits w8) v 0 (λ k _. fit k)
@@ -96,7 +96,7 @@ stretch_taken (s ∷ ss) (suc i) b = search (rules, stretch_taken ss i b, sum_by
 
 range_added : (ranges : List ShiftRange) (last : ShiftRange) (b : ℕ)
     → range_sum (ranges ++ last ∷ []) b ≡ range_sum ranges b + range_delta last b
-range_added ranges last b = omega (arith, range_sum, range_delta, sum_by-append)
+range_added ranges last b = omega (arith, sum_by-append)
 
 -- one range more adds what its stretch adds
 pub one_stretch_more : (ranges : List ShiftRange) (ss : List Stretch) (i : ℕ) (range : ShiftRange) (b : ℕ)
@@ -104,7 +104,7 @@ pub one_stretch_more : (ranges : List ShiftRange) (ss : List Stretch) (i : ℕ) 
     → range_delta range b ≡ stretch_delta (stretch_at ss i) b
     → range_sum (take (i + 1) (set ranges i range)) b ≡ stretch_sum (take (i + 1) ss) b
 one_stretch_more ranges ss i range b room before is =
-    grind (arith, common_steps, take_more_set, range_added, add-one, stretch_taken)
+    grind (arith, common_steps, range_added, add-one, stretch_taken)
 
 -- all stretches are among the first n
 pub all_stretches : (n : ℕ) (ss : List Stretch) → is_some (stretch_at ss n) ≡ false → length ss ≤ n
@@ -119,7 +119,7 @@ pub one_range_more : (ranges : List ShiftRange) (i : ℕ) (default : ShiftRange)
     → zip2 (λ a b. (a + b) % 256) images deltas ≡ map (shift_by_ranges (take (i + 1) ranges)) v
 one_range_more ranges i default v room before is =
     added_lanes (shift_by_ranges (take i ranges)) (range_delta (get_or ranges i default)) v before is
-    ∙ grind (arith, common_steps, take_more, range_added)
+    ∙ grind (arith, common_steps)
 
 -- ---- masks of lanes
 
@@ -129,11 +129,11 @@ lanes_of flags = map (λ t. cond t 255 0) flags
 
 pub lanes_of_mask : (test : ℕ → Bool) (v : List ℕ) → map (cast_unsigned w8) (mask_of test v) ≡ lanes_of (map test v)
 lanes_of_mask test [] = refl
-lanes_of_mask test (b ∷ v) = grind (arith, common_steps, lanes_of_mask test v)
+lanes_of_mask test (b ∷ v) = grind (arith, lanes_of_mask test v)
 
 pub tops_of_lanes : (fs : List Bool) → map (top 7) (lanes_of fs) ≡ fs
 tops_of_lanes [] = refl
-tops_of_lanes (f ∷ fs) = grind (arith, common_steps, tops_of_lanes fs)
+tops_of_lanes (f ∷ fs) = grind (arith, tops_of_lanes fs)
 
 -- ---- bytes that are stored if they pass a test
 
@@ -141,7 +141,7 @@ tops_of_lanes (f ∷ fs) = grind (arith, common_steps, tops_of_lanes fs)
 pub stored_more : (flag : Bool) (row : List ℕ) (count place : ℕ) → count < length row
     → take (count + cond flag 1 0) (set row count place) ≡ take count row ++ cond flag (place ∷ []) []
 stored_more true row count place room = take_more_set row count place room
-stored_more false row count place room = grind (arith, common_steps, take-set, append-nil)
+stored_more false row count place room = grind (arith, take-set, append-nil)
 
 -- ---- membership tests of a byte set
 
@@ -157,15 +157,11 @@ module _ (half : ℕ → ℕ) (small : (b : ℕ) → b < 256 → half b < 16) wh
   nibbles_ok v is long fit =
       rw is (SwzOk-from_below w8 16 1 16 0 (map half v) refl (omega (arith, length-map v half)) (halves_small v fit))
 
-  lane : (table : List ℕ) (i : ℕ) {j : ℕ} → i < 16 → j < 16
-      → cond (leb 128 j) 0 (get_or table (16 * (i / 16) + j) 0) ≡ get_or table j 0
-  lane table i {j} li lj = grind arith
-
   looked_up_from : (table v : List ℕ) (i : ℕ) → i + length v ≤ 16 → Each1 (Fits w8) v
       → swz_l w8 16 table i (map half v) ≡ map (λ b. get_or table (half b) 0) v
   looked_up_from table [] i few fit = refl
   looked_up_from table (b ∷ v) i few (first, others) =
-      grind (arith, common_steps, lane, small, looked_up_from table v (suc i))
+      grind (arith, looked_up_from table v (suc i))
 
   pub looked_up : (table : List ℕ) {js : List ℕ} (v : List ℕ) → js ≡ map half v → length v ≡ 16 → Each1 (Fits w8) v
       → swz_l w8 16 table 0 js ≡ map (λ b. get_or table (half b) 0) v
@@ -197,20 +193,7 @@ bit_of {half} small = grind arith
 
 -- either this bit of an entry is set, or the result is zero
 all_or_none : (row k : ℕ) → eqb (bit_and row (2 ^ k)) (2 ^ k) ≡ eqb (bit_at row k) 1
-all_or_none row k = cc (and_pow row k, times (bit_at row k) (2 ^ k) (bit_at-lt row k) (pow_pos k))
-  where
-    times : (x p : ℕ) → x < 2 → 0 < p → eqb (x * p) p ≡ eqb x 1
-    times zero p few some = grind (arith, nat_tests)
-    times (suc zero) p few some = grind (arith, nat_tests)
-    times (suc (suc x)) p few some = absurd (omega arith)
-
-table_row : (set : ByteSet) (low : Bool) (n : ℕ)
-    → cond low (get_or set.low n 0) (get_or set.high n 0) ≡ get_or (cond low set.low set.high) n 0
-table_row set true n = refl
-table_row set false n = refl
-
-as_mask : (t : Bool) → cast_signed w8 (cond t 255 0) ≡ cond t (negsuc 0) (pos 0)
-as_mask t = grind arith
+all_or_none row k = grind (arith, and_pow, pow_pos)
 
 byte_tested : (set : ByteSet) (b : ℕ) → b < 256
     → cast_signed w8
@@ -218,7 +201,7 @@ byte_tested : (set : ByteSet) (b : ℕ) → b < 256
     (eqb (bit_and (cond (ltb b 128) (get_or set.low (b % 16) 0) (get_or set.high (b % 16) 0))
     (get_or bits_in_order (b / 16) 0)) (get_or bits_in_order (b / 16) 0)) 255 0)
     ≡ cond (set_has set b) (negsuc 0) (pos 0)
-byte_tested set b byte = grind (arith, bit_of, high_small, all_or_none, table_row, as_mask)
+byte_tested set b byte = grind (arith, bit_of, all_or_none)
 
 pub tested : (set : ByteSet) (v : List ℕ) {low high bit : List ℕ} → length v ≡ 16 → Each1 (Fits w8) v
     → low ≡ map (λ b. get_or set.low (b % 16) 0) v → high ≡ map (λ b. get_or set.high (b % 16) 0) v
@@ -245,9 +228,7 @@ flags_set table n x = set table (n % 16) (bit_or (get_or table (n % 16) 0) (x * 
 
 module _ (table : List ℕ) {n : ℕ} (long : length table ≡ 16) (within : n < 128) where
   unset : flags_set table n 0 ≡ table
-  unset =
-      let nothing : 0 * 2 ^ (n / 16) % 256 ≡ 0 = omega arith in
-      cc (or_zero_r (get_or table (n % 16) 0), set-get_or table (n % 16) 0)
+  unset = grind (arith, or_zero_r, set-get_or)
 
   same_bit : n / 16 % 8 ≡ n / 16
   same_bit = omega arith
@@ -289,11 +270,11 @@ pub set_of_nibbles : (set : ByteSet) (flags : List Bool) (n : ℕ) → 128 ≤ n
     → ((b : ℕ) → b < 128 → table_has set.low b ≡ (ltb b n && get_or flags b false))
     → ((b : ℕ) → b < 128 → table_has set.high b ≡ (ltb b n && get_or (drop 128 flags) b false)) → IsSetOf set flags
 set_of_nibbles set flags n all low high b byte = ⊎_elim
-    (grind (arith, lt-ltb))
+    (grind arith)
     (λ more.
-    let entry : b % 16 ≡ (b - 128) % 16 = omega (arith, more) in
-    let bit : b / 16 % 8 ≡ (b - 128) / 16 % 8 = omega (arith, more) in
-    let place : 128 + (b - 128) ≡ b = omega (arith, more) in
+    let entry : b % 16 ≡ (b - 128) % 16 = omega arith in
+    let bit : b / 16 % 8 ≡ (b - 128) / 16 % 8 = omega arith in
+    let place : 128 + (b - 128) ≡ b = omega arith in
     cc (
       le-ltb b 128 more,
       high (b - 128) (omega arith),
@@ -312,7 +293,7 @@ pub record IsFilledTo (n : ℕ) (f : ℕ → List ℕ) (index : ℕ) (kept : Lis
 pub filled_next : {n : ℕ} {f : ℕ → List ℕ} {index : ℕ} {kept : List (List ℕ)} {v : List ℕ} → IsFilledTo n f index kept
     → index < n → v ≡ f index → length (f index) ≡ 16 → IsFilledTo n f (index + 1) (set kept index v)
 filled_next {f = f} {index} {kept} {v} filled room is size =
-    grind (arith, common_steps, length-set, get_or-set_same, get_or-set_other, cases_eq)
+    grind (arith, common_steps, length-set, get_or-set_same, cases_eq)
 
 module _ (rows : List ℕ) (found : List (List ℕ)) (count : ℕ) where
   abbrev pub odd : ℕ → ℕ
@@ -333,7 +314,7 @@ module _ (rows : List ℕ) (found : List (List ℕ)) (count : ℕ) where
     bits_long = length-map rows (λ row. not (eqb (bit_and row 1) 0)) ∙ long
 
     pub halved_long : (i : ℕ) → 2 * i < count → length (halved i) ≡ 16
-    halved_long i within = simp (first_long, second_long, length-sel_l, odd, bits_long)
+    halved_long i within = simp (first_long, second_long, length-sel_l, bits_long)
 
     pub halved_is : (i : ℕ) {second : ℕ} → second ≡ odd i
         → sel_l (map (top 7) (zip2 (λ a b. cond (not (eqb a b)) 255 0) (zip2 bit_and rows (replicate 16 1))
@@ -341,12 +322,12 @@ module _ (rows : List ℕ) (found : List (List ℕ)) (count : ℕ) where
     halved_is i is =
         let bits = tests_are (λ a b. not (eqb a b)) (λ row. bit_and row 1) rows 0 long
         (zip2_splat bit_and rows 16 1 long) in
-        cc (bits, is)
+        cc is
 
     pub halved_lane : (lane : ℕ) → lane < 16 → get_or rows lane 0 < count
         → get_or (halved (get_or rows lane 0 / 2)) lane 0 ≡ lane_of found rows lane
     halved_lane lane low within =
-        grind (arith, common_steps, get_or-sel_l, get_or-map, and_mask, bits_long, first_long, second_long)
+        grind (arith, common_steps, get_or-sel_l)
 
 pub shifted_lane : (rows : List ℕ) (lane : ℕ) → length rows ≡ 16 → lane < 16
     → get_or (zip2 (λ a b. a / 2 ^ b) rows (replicate 16 1)) lane 0 ≡ get_or rows lane 0 / 2
@@ -391,7 +372,7 @@ module _ (first n : ℕ) (table : List (List ℕ)) (within : first + 16 * n ≤ 
     entry : (b : ℕ) → b < 256
         → cond (ltb (offset b / 16) n) (get_or (get_or table (offset b / 16) []) (offset b % 16) 0) b
         ≡ image_from first table b
-    entry b byte = grind (arith, common_steps, lt-ltb, le-ltb, offset, get_or_default, get_or_past, cases_lt)
+    entry b byte = grind (arith, get_or_default, get_or_past)
 
     module _ (v : List ℕ) (long : length v ≡ 16) (fit : Each1 (Fits w8) v) {offsets rows : List ℕ} (found : List ℕ)
         (found_in_rows : List (List ℕ)) (offsets_are : offsets ≡ map offset v)
@@ -406,25 +387,16 @@ module _ (first n : ℕ) (table : List (List ℕ)) (within : first + 16 * n ≤ 
             ≡ get_or (get_or table (offset (get_or v lane 0) / 16) []) (offset (get_or v lane 0) % 16) 0
         found_lane lane low inside =
             let b = get_or v lane 0 in
-            let row : get_or rows lane 0 ≡ offset b / 16 =
-            ap (λ l. get_or l lane 0) rows_are ∙ get_or-map (λ b. offset b / 16) v lane 0 0 (omega arith) in
-            let is : get_or offsets lane 0 ≡ offset b =
-            ap (λ l. get_or l lane 0) offsets_are ∙ get_or-map offset v lane 0 0 (omega arith) in
-            let offsets_long : length offsets ≡ 16 = ap length offsets_are ∙ length-map v offset ∙ long in
-            selected lane low (omega (arith, inside)) ∙ ap (λ k. get_or (get_or found_in_rows k []) lane 0) row
-            ∙ ap (λ l. get_or l lane 0) (looked_up (offset b / 16) inside)
-            ∙ get_or-map (λ o. get_or (get_or table (offset b / 16) []) (o % 16) 0) offsets lane 0 0 (omega arith)
-            ∙ ap (λ o. get_or (get_or table (offset b / 16) []) (o % 16) 0) is
+            let is : get_or offsets lane 0 ≡ offset b = grind (arith, get_or-map) in
+            grind (arith, length-map, get_or-map)
 
         pub images_of : {flags : List Bool} → flags ≡ map (λ b. ltb (offset b / 16) n) v
             → sel_l flags found v ≡ map (image_from first table) v
         images_of {flags} flags_are =
-            let flags_long : length flags ≡ 16 = ap length flags_are
-            ∙ length-map v (λ b. ltb (offset b / 16) n) ∙ long in
+            let flags_long : length flags ≡ 16 = grind (arith, length-map) in
             let sizes = length-sel_l flags found v (omega arith) (omega arith) in
             ext_get_or 0 (sel_l flags found v) (map (image_from first table) v)
-            (sizes ∙ flags_long ∙ sym (length-map v (image_from first table) ∙ long)) (λ lane low.
-            let few : lane < 16 = omega (arith, low) in
+            (grind (arith, length-map)) (λ lane low.
             let b = get_or v lane 0 in
             let byte = (Each1-get_or (Fits w8) v lane 0 (omega arith) fit).fits in
             let image = get_or-map (image_from first table) v lane 0 0 (omega arith) in
@@ -432,7 +404,4 @@ module _ (first n : ℕ) (table : List (List ℕ)) (within : first + 16 * n ≤ 
             ∙ ap (λ flag. cond flag (get_or found lane 0) b)
             (ap (λ l. get_or l lane false) flags_are
             ∙ get_or-map (λ b. ltb (offset b / 16) n) v lane 0 false (omega arith))
-            ∙ ⊎_elim
-            (λ inside. cc (lt-ltb (offset b / 16) n inside, found_lane lane few inside, entry b byte, image))
-            (λ past. cc (le-ltb (offset b / 16) n past, entry b byte, image))
-            (cases_lt (offset b / 16) n))
+            ∙ grind (arith, found_lane, entry))

@@ -15,7 +15,7 @@ use crate::block_loop::run_blocks;
 use crate::faults::FlowFault;
 use crate::line_loop::run_lines;
 use crate::tools::cut::bytes::ByteCut;
-use crate::tools::cut::fields::{FieldCut, FieldSelection};
+use crate::tools::cut::fields::FieldCut;
 use ptlangs::jobs::CutJob;
 use ptlines::{LineReader, Out, Sink, Source, Store};
 use std::alloc::Allocator;
@@ -47,9 +47,7 @@ pub fn cut<A: Allocator + Copy, B: Allocator + Copy, S: Source, R: Source, W: Si
     reader.set_ending(job.zero);
     let terminator = reader.terminator();
     if job.fields {
-        let by = FieldSelection { job, terminator };
-        let buffer = [0; 8192 + 16];
-        return run_lines(&mut FieldCut { by, buffer }, 1, reader, store, out);
+        return run_lines(&mut FieldCut::new(job, terminator), 1, reader, store, out);
     }
     run_blocks(&mut ByteCut::new(job, terminator), reader, out)
 }

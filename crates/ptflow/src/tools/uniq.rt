@@ -16,7 +16,7 @@ mod line_key;
 
 use crate::faults::FlowFault;
 use crate::line_loop::{LineFilter, run_lines};
-use crate::tools::uniq::block_runs::{LastRun, write_run, write_runs};
+use crate::tools::uniq::block_runs::{LastRun, RunWriter};
 use crate::tools::uniq::line_key::key;
 use arrayvec::ArrayVec;
 use ptlangs::jobs::UniqJob;
@@ -32,37 +32,37 @@ pub(crate) struct CurrentRun {
     pub bytes: ArrayVec<u8, 8192>,
 }
 
-// Makes the last run of the lines of a block the current one, and copies its first line if that is in the block.
-fn set_current_run(run: &mut CurrentRun, last: LastRun, block: &[u8])
-    requires span { IfSome last.line (λ line. (line.from < line.to) × (line.to ≤ length block.now)) }
-    requires few { length block.now ≤ 8192 }
-    ensures { (store : Slots) → current_run_of run.new store
-        ≡ run_of (first_of (first_line run.old store) block.now last.line) last.count }
-{
-    run.count = last.count;
-    if let Some(line) = last.line {
-        run.is_copied = true;
-        run.bytes.clear();
-        let first = &block[line.from..line.to - 1];
-        let _ = run.bytes.try_extend_from_slice(first);
+impl CurrentRun {
+    // Becomes the last run of the lines of a block, and copies its first line if that is in the block.
+    fn set_to_last(&mut self, last: LastRun, block: &[u8])
+        requires span { IfSome last.line (λ line. (line.from < line.to) × (line.to ≤ length block.now)) }
+        requires few { length block.now ≤ 8192 }
+        ensures { (store : Slots) → current_run_of self.new store
+            ≡ run_of (first_of (first_line self.old store) block.now last.line) last.count }
+    {
+        self.count = last.count;
+        if let Some(line) = last.line {
+            self.is_copied = true;
+            self.bytes.clear();
+            let first = &block[line.from..line.to - 1];
+            let _ = self.bytes.try_extend_from_slice(first);
+        }
     }
 }
 
-// The job, the terminator, and the current run.
+// What writes runs, and the current run.
 #[derive(Drop)]
 pub(crate) struct LineUniq<'a> {
-    pub job: &'a UniqJob,
-    pub terminator: u8,
+    pub by: RunWriter<'a>,
     pub run: CurrentRun,
-    ghost ends: { terminator ≡ (uniq_job job.now).terminator },
 }
 
 impl LineUniq<'_> {
     // Checks whether `line` belongs to the current run, which begins with `first`.
     fn is_same_run(&self, first: &[u8], line: &[u8]) -> bool
-        ensures { result ≡ (nat_lt 0 self.now.run.count && is_same (uniq_job self.now.job.now) first.now line.now) }
+        ensures { result ≡ (nat_lt 0 self.now.run.count && is_same (uniq_job self.now.by.job.now) first.now line.now) }
     {
-        self.run.count > 0 && key(self.job, first) == key(self.job, line)
+        self.run.count > 0 && key(self.by.job, first) == key(self.by.job, line)
     }
 
     // The first line of the current run.
@@ -87,7 +87,7 @@ impl<'a> LineFilter for LineUniq<'a> {
 
     ghost Job = { Uniq };
 
-    ghost job = { λ t. uniq_job t.job.now };
+    ghost job = { λ t. uniq_job t.by.job.now };
 
     ghost tool = { uniq_tool };
 
@@ -113,7 +113,8 @@ impl<'a> LineFilter for LineUniq<'a> {
             self.run.count += 1;
             return Ok(());
         }
-        write_run(self, self.run.count, self.first_line(store), out)?;
+        self.by
+            .write_run(self.run.count, self.first_line(store), out)?;
         store.swap(0, 1);
         self.run.count = 1;
         self.run.is_copied = false;
@@ -127,11 +128,13 @@ impl<'a> LineFilter for LineUniq<'a> {
         store: &Store<A>,
         out: &mut Out<W>,
     ) -> Result<usize, WriteFault> {
-        if find_byte(self.terminator, block).is_none() {
+        if find_byte(self.by.terminator, block).is_none() {
             return Ok(0);
         }
-        let last = write_runs(self, self.first_line(store), block, out)?;
-        set_current_run(&mut self.run, last, block);
+        let last = self
+            .by
+            .write_runs(self.run.count, self.first_line(store), block, out)?;
+        self.run.set_to_last(last, block);
         Ok(last.len)
     }
 
@@ -140,7 +143,8 @@ impl<'a> LineFilter for LineUniq<'a> {
         store: &mut Store<A>,
         out: &mut Out<W>,
     ) -> Result<(), WriteFault> {
-        write_run(self, self.run.count, self.first_line(store), out)?;
+        self.by
+            .write_run(self.run.count, self.first_line(store), out)?;
         store.clear(0);
         Ok(())
     }
@@ -171,9 +175,9 @@ pub fn uniq<A: Allocator + Copy, S: Source, R: Source, W: Sink>(
         return Err(FlowFault::Write);
     }
     reader.set_ending(job.zero);
+    let terminator = reader.terminator();
     let mut tool = LineUniq {
-        job,
-        terminator: reader.terminator(),
+        by: RunWriter { job, terminator },
         run: CurrentRun {
             count: 0,
             is_copied: false,

@@ -318,10 +318,7 @@ blank_lanes (b ∷ v) (suc n) long = grind (arith, blank_lanes v n (omega (arith
 pub blank_mask : (bytes : List ℕ) (at n : ℕ) → at + n ≤ length bytes → n ≤ 64
     → mask_l (map (top 7) (zip2 bit_or (equal_lanes (chunk at n bytes) n 32)
     (equal_lanes (chunk at n bytes) n 9))) % 2 ^ 64 ≡ mask_l (map is_blank (chunk at n bytes))
-blank_mask bytes at n within few =
-    let v = chunk at n bytes in
-    let long = length-chunk at n bytes within in
-    rw (blank_lanes v n long) (mask_l-mod _ 64 (omega (arith, length-map v is_blank, long, few)))
+blank_mask bytes at n within few = search (rules, length-chunk, blank_lanes, mask_l-mod, length-map)
 
 -- a blank among single spaces is a space
 pub space_is : (blank : Bool) (b : ℕ) (v : List ℕ) → is_blank b ≡ true → is_single_spaced blank (b ∷ v) ≡ true
@@ -430,10 +427,10 @@ halves : (b : Bool) (x : ℕ) → ((bit b + 2 * x) / 2 ≡ x) × ((bit b + 2 * x
 halves = grind arith
 
 or_bits : (b c : Bool) (x y : ℕ) → bit_or (bit b + 2 * x) (bit c + 2 * y) ≡ bit (b || c) + 2 * bit_or x y
-or_bits b c x y = grind (arith, halves b x, halves c y, or_step (bit b + 2 * x) (bit c + 2 * y))
+or_bits b c x y = grind (arith, halves, or_step)
 
 and_bits : (b c : Bool) (x y : ℕ) → bit_and (bit b + 2 * x) (bit c + 2 * y) ≡ bit (b && c) + 2 * bit_and x y
-and_bits b c x y = grind (arith, halves b x, halves c y, and_step (bit b + 2 * x) (bit c + 2 * y))
+and_bits b c x y = grind (arith, halves, and_step)
 
 -- ---- masks of the first and of the last bytes
 
@@ -518,9 +515,8 @@ pub with_end : (bytes : List ℕ) (any tabs : ℕ) → length bytes < 64 → any
     × (tabs ≡ mask_l (map (is_byte 9) (bytes ++ 32 ∷ [])))
 with_end bytes any tabs short any_is tabs_is =
     let low : any < 2 ^ length bytes =
-    omega (arith, mask_l-lt (map is_blank bytes), ap (λ (n : ℕ). 2 ^ n) (length-map bytes is_blank)) in (
-      ap (bit_or any) (power_fits bytes short) ∙ or_shifted_r 1 (length bytes) any low
-          ∙ omega (arith, end_bit is_blank bytes),
+    grind (arith, mask_l-lt, length-map) in (
+      grind (arith, power_fits, or_shifted_r, end_bit),
       omega (arith, end_bit (is_byte 9) bytes),
     )
   where
@@ -785,7 +781,7 @@ module _ {line : List ℕ} {passed words : ℕ} (short : length line < 64) (left
           within = w.high;
           mask = cc (after_is, and_run bits);
           fields = cc (drop-drop 1 passed (join_fields None line));
-          spaced = λ s. (false, (w.spaced (left.spaced s).0 (left.spaced s).1).0);
+          spaced = search rules;
         }
 
     -- the span of the first of them

@@ -2,33 +2,33 @@
 -- all inputs, since lesser keys are complete and the pairs of the group are written in their final order. Once both
 -- inputs are past the key, the group is complete, and counts as processed.
 use Rattle.ptmerge.proofs
-use proofs.Common.{◌≡◌, ⊎_elim, ℕ, ◌+◌, ◌-◌, ◌≤◌, ◌<◌, suc, true, false, length-drop, List, [], ◌∷◌, ◌++◌, length}
-use proofs.Common.{map, drop, get_or, set, max, refl, ap, ◌∙◌, arith, append_assoc, length-append}
-use proofs.Common.{length-set, drop_more, Slots, line, total_bytes, with_line, with_denied, unlines, max_length, Join}
-use proofs.Common.{ClearGroupPost, group, CopyToGroupPost, entry, join_fields, pair_entries, max_over_keys}
-use proofs.Common.{max_group_bytes, max_group_lines, Lines, lines_with_key, Reader, Side, First, Second, Sorted, Key}
-use proofs.Common.{with_side, MergeTool, ◌&&◌, Bool, Some, sym, subst, bytes_eq, bytes_decides, append-nil}
-use proofs.Common.{Output, PushEffect, push_trans, unlines-append, CursorStatus, Head, Ended, Disorder, entries_by_key}
-use proofs.Common.{entries_of_key, MergeState, NextOkPost, other, PrecedesInput, disorder, merged_entries}
-use proofs.Common.{sorted_prefixes, is_up_to, line_of_with_line}
+pub use proofs.Common.{◌≡◌, ⊎_elim, ℕ, ◌+◌, ◌-◌, ◌≤◌, ◌<◌, suc, true, false, length-drop, List, [], ◌∷◌, ◌++◌, length}
+pub use proofs.Common.{map, drop, get_or, set, max, refl, ap, ◌∙◌, arith, append_assoc, length-append, length-set}
+pub use proofs.Common.{drop_more, Slots, line, total_bytes, with_line, with_denied, unlines, max_length, Join}
+pub use proofs.Common.{ClearGroupPost, group, CopyToGroupPost, entry, join_fields, pair_entries}
+pub use proofs.Common.{Lines, lines_with_key, Reader, Side, First, Second, Sorted}
+pub use proofs.Common.{Key, with_side, MergeTool, ◌&&◌, Bool, Some, sym, subst, bytes_eq, bytes_decides, append-nil}
+pub use proofs.Common.{Output, PushEffect, push_trans, unlines-append, CursorStatus, Head, Ended, Disorder}
+pub use proofs.Common.{entries_by_key, MergeState, NextOkPost, other, PrecedesInput, disorder}
+pub use proofs.Common.{merged_entries, sorted_prefixes, is_up_to, line_of_with_line}
 use proofs.JoinLemmas.Fields.{partial_starts}
-use proofs.MergeLemmas.{line_other, HasLines, GroupStore, AllExtend, HasRoom, total_within, side_extends}
-use proofs.MergeLemmas.{group_store_next, put_each, put_same, low_slot}
-use proofs.MergeLemmas.{put_both, put_other, side_case, EachKey, same_bytes, Bound, AtLeast, MayFollow, IsUnder}
-use proofs.MergeLemmas.{MergeInvariant, IsFuture, MayCome, all_keys, splits_step, all_wanted, written_is_wanted}
-use proofs.MergeLemmas.{LagInvariant, IsLater, EachKey-append, EachKey-weaker, at_most-same, front_first, front_is}
-use proofs.MergeLemmas.{later_entries, lines_with_key-above, AtMost, least_or_above, self_at_most, equal_is}
-use proofs.MergeLemmas.{SideAfterNext}
-use proofs.MergeLemmas.{at_current_line, IsAtCurrentLine, MatchesStatus, side_invariant_kept}
-use proofs.MergeLemmas.{read_facts_after_line, both_begun, IsOpenMerge, ReadFactsOf, SidesInvariant}
-use proofs.MergeLemmas.{IsAbove, current_key_is_above, next_at, sides_next, EndsIfFails, advance_fails}
+pub use proofs.MergeLemmas.{total_within, low_slot, same_bytes, AtLeast, all_keys, at_current_line, both_begun, IsAbove}
+pub use proofs.MergeLemmas.{EndsIfFails}
+use proofs.MergeLemmas.{line_other, HasLines, GroupStore, AllExtend, HasRoom, side_extends, group_store_next, put_each}
+use proofs.MergeLemmas.{put_same, put_both, put_other, side_case, EachKey, Bound, MayFollow, IsUnder, MergeInvariant}
+use proofs.MergeLemmas.{IsFuture, MayCome, write_least_run, all_wanted, written_is_wanted, LagInvariant, IsLater}
+use proofs.MergeLemmas.{EachKey-append, at_most-same, front_is, later_entries, lines_with_key-above, Each-weaker}
+use proofs.MergeLemmas.{AtMost, least_or_above, self_at_most, equal_is, SideAfterNext, IsAtCurrentLine, MatchesStatus}
+use proofs.MergeLemmas.{side_invariant_kept, read_facts_after_line, IsOpenMerge, ReadFactsOf, SidesInvariant}
+use proofs.MergeLemmas.{current_key_is_above, next_at, sides_next, advance_fails}
 use Rattle.std.proofs.Math.ListN.{get_or-append}
 use Rattle.std.proofs.lemmas.Grind.{common_steps}
-use Rattle.std.proofs.Common.{rules}
+pub use Rattle.std.proofs.Common.{rules}
 use Rattle.std.proofs.lemmas.List.{drop-append-le, drop-set-add, set_at, take_at, take_more}
 use Rattle.std.proofs.lemmas.List.Sums.{sum_by-append, sum_by-cons, sum_by_push}
 use Rattle.ptlines.proofs.SlotTotals.{total_bytes_set}
 use Rattle.ptmerge.specs.JoinGroup.{EnsureSlotPost, CopyToGroupErrPost, is_head}
+pub use Rattle.ptmerge.specs.Join.{max_over_keys, max_group_bytes, max_group_lines}
 
 -- ---- the slots of a group
 
@@ -77,13 +77,13 @@ clears_more a s t slot from within c is =
     let back : 4 + (slot - 4) ≡ slot = omega arith in
     let all = total_bytes_set s.lines slot [] (omega arith) in
     let at : get_or rest (slot - 4) [] ≡ line a slot = grind (arith, common_steps, back) in
-    let d : drop 4 (set s.lines slot []) ≡ set rest (slot - 4) [] = cc (back, drop-set-add 4 s.lines (slot - 4) []) in
+    let d : drop 4 (set s.lines slot []) ≡ set rest (slot - 4) [] = grind (arith, drop-set-add) in
     let here = total_bytes_set rest (slot - 4) [] (omega (arith, length-drop 4 s.lines)) in
     let grows = ap total_bytes (group_more a 4 slot from within) ∙ sum_by_push length (group a 4 slot) (line a slot) in
     rw is (record {
       slots = length-set s.lines slot [] ∙ c.slots;
       others = λ i far. grind (arith, line_other);
-      emptied = omega (arith, here, ap total_bytes d, ap length at, grows);
+      emptied = grind (arith, d);
       less = omega (arith, all);
       peak = omega (arith, all);
       denied = c.denied;
@@ -168,19 +168,19 @@ module _ {tool : MergeTool} {before store : Slots} {ls : Side → Lines} {g : Li
 
   module _ {made : Slots} {to : ℕ} (w : EnsuredSlot store made to) where
     made_same : (i : ℕ) → i < 4 → line made i ≡ line store i
-    made_same i low = cc (get_or-append store.lines w.more [] i (omega (arith, low)))
+    made_same i low = grind (arith, get_or-append)
 
     module _ (y : List ℕ) (at : to ≡ 4 + length g) (within : to < length made.lines)
         (largest : (all : Side → Lines) → AllExtend ls all → HasRoom tool (g ++ y ∷ []) all) where
       first_same : (i : ℕ) → i < 4 → get_or (set made.lines to y) i [] ≡ get_or store.lines i []
-      first_same i low = line_other made to i y (λ e. absurd (omega (arith, at))) ∙ made_same i low
+      first_same i low = grind (arith, line_other, made_same)
 
       by_tail : (t : Lines) → total_bytes t ≡ 0 → length g + 1 ≤ length (g ++ t)
           → drop 4 (set made.lines to y) ≡ set (g ++ t) (length g) y
           → GroupStore tool before (with_line made to y) ls (g ++ y ∷ [])
-      by_tail [] none some is = absurd (omega (arith, some, length-append g []))
+      by_tail [] none some is = grind (arith, length-append)
       by_tail (z ∷ t) none some is =
-          let four : 4 ≤ length (set made.lines to y) = omega (arith, k.four, w.slots, length-set made.lines to y) in
+          let four : 4 ≤ length (set made.lines to y) = grind (arith, length-set) in
           let split : drop 4 (set made.lines to y) ≡ (g ++ y ∷ []) ++ t = grind (arith, common_steps, set_at, is) in
           let lines = same_lines store.lines (set made.lines to y) (λ side. max_length (ls side)) (total_bytes g)
           (total_bytes (g ++ y ∷ [])) k.lines four first_same (grind (arith, common_steps, split, none)) in
@@ -190,16 +190,7 @@ module _ {tool : MergeTool} {before store : Slots} {ls : Side → Lines} {g : Li
             empty = omega (arith, none, sum_by-cons length z t);
             lines = lines;
             room = largest;
-            fits = λ all more. omega (
-              arith,
-              k.fits all more,
-              total_within tool (g ++ y ∷ []) (set made.lines to y) lines more (largest all more),
-              largest all more,
-              w.slots,
-              w.peak,
-              length-set made.lines to y,
-              length-append g (y ∷ []),
-            );
+            fits = λ all more. search (rules, k.fits, total_within, largest, length-set, length-append);
             four = four;
             denied = w.denied ∙ k.denied;
           }
@@ -227,7 +218,7 @@ module _ {tool : MergeTool} {before store : Slots} {ls : Side → Lines} {g : Li
   kept_line = grind (arith, common_steps)
 
   pub group_is : {end : ℕ} → end ≡ 4 + length g → group store 4 end ≡ g
-  group_is at = rw k.split (take_at g k.tail _ (omega (arith, at)))
+  group_is at = grind (arith, take_at)
 
   pub end_within : {end : ℕ} → end ≡ 4 + length g → end ≤ length store.lines
   end_within = grind (arith, length-append)
@@ -243,11 +234,6 @@ pub ruleset pair_steps = (partial_starts, pairs_text)
 
 -- After a fault within a group, the output of all lesser keys is complete, and the output of the group's key is a
 -- prefix.
-
--- a property of k holds for the keys of all lines of its group
-pub all_own_keys : (P : List ℕ → Type 0) (key : Key) (k : List ℕ) (g : Lines) → P k → EachKey (λ x. x ≡ k) key g
-    → EachKey P key g
-all_own_keys P key k g h = EachKey-weaker _ P (λ x same. subst P (sym same) h) _ g
 
 -- the lines `p` are processed, the lines `g` are the group of the key `k`, and `d` bounds the lines that may follow
 pub record OutputInGroup (tool : MergeTool) (was mid : Output) (p g : Side → Lines) (d : Side → Bound)
@@ -300,8 +286,7 @@ module _ {tool : MergeTool} {old : MergeState} (w : IsOpenMerge tool old) {mid :
 
     -- the entries of all lesser keys come first
     front_is_first : entries_by_key tool is_wanted p ≡ front
-    front_is_first = all_wanted tool is_wanted p (λ side. EachKey-weaker _ _
-        wanted _ _ (m.merge_invariant.under First side))
+    front_is_first = all_wanted tool is_wanted p (λ side. Each-weaker _ _ wanted _ (m.merge_invariant.under First side))
 
     pub group_comes_first : {extra : Lines} → OutputStartsWith tool g d k extra → (rest : Lines)
         × (merged_entries tool all ≡ (front ++ extra) ++ rest)
@@ -327,11 +312,7 @@ module _ {tool : MergeTool} {old : MergeState} (w : IsOpenMerge tool old) {mid :
   passed_keys : (of side : Side) → EachKey (λ x. AtMost cmp x k) (key side) (p side ++ g side)
   passed_keys of side =
       EachKey-append _ (key side) _ _ (m.merge_invariant.under of side)
-      (all_own_keys (λ x. AtMost cmp x k) (key side) k (g side) (self_at_most cmp o k) (m.own side))
-
-  passed_under : (of side : Side) → EachKey (IsUnder cmp (d of)) (key side) (p side ++ g side)
-  passed_under of side =
-      EachKey-weaker _ _ (m.later of).under _ _ (passed_keys of side)
+      (Each-weaker _ _ (λ x is. rw is (self_at_most cmp o k)) _ (m.own side))
 
   pub group_written : {is : Output} {extra : Lines} → OutputStartsWith tool g d k extra
       → PushEffect mid is (unlines terminator extra)
@@ -347,7 +328,7 @@ module _ {tool : MergeTool} {old : MergeState} (w : IsOpenMerge tool old) {mid :
     more = wrote;
     all = sym (unlines-append terminator front extra);
     split = λ side. refl;
-    under = passed_under;
+    under = λ of side. Each-weaker _ _ (m.later of).under _ (passed_keys of side);
     under_bound = passed_keys;
     may_follow = rest_not_less;
     first = λ all seen. group_comes_first all seen begins;
@@ -359,8 +340,9 @@ module _ {tool : MergeTool} {old : MergeState} (w : IsOpenMerge tool old) {mid :
 pub record IsPairTool (tool : MergeTool) (pairs : List ℕ → Lines → Lines → Lines) : Type 0 where
   pub none : (k : List ℕ) (g : Lines) → pairs k [] g ≡ []
   pub more : (k : List ℕ) (f g c : Lines) → pairs k (f ++ g) c ≡ pairs k f c ++ pairs k g c
-  pub whole : (k a b : List ℕ) (f g : Lines) → tool.entries k (a ∷ f) (b ∷ g) ≡ pairs k (a ∷ f) (b ∷ g)
-  pub written : tool.keeps_groups ≡ true → (k a b : List ℕ) (f g : Lines) → 0 < length (pairs k (a ∷ f) (b ∷ g))
+  pub whole : (k : List ℕ) (f g : Lines) → 0 < length f → 0 < length g → tool.entries k f g ≡ pairs k f g
+  pub written : tool.keeps_groups ≡ true → (k : List ℕ) (f g : Lines) → 0 < length f → 0 < length g
+      → 0 < length (pairs k f g)
   pub unwritten : tool.keeps_groups ≡ false → (k : List ℕ) (f g : Lines) → pairs k f g ≡ []
   pub largest : tool.keeps_groups ≡ true → (g : Lines) (ls : Side → Lines) → InLargest (tool.key Second) g (ls Second)
       → HasRoom tool g ls
@@ -398,13 +380,13 @@ module _ (call : JoinCall) {mid : Output} {p g : Side → Lines} {d : Side → B
 
   -- no key that follows is less
   none_less : (r : Side → Lines) → MayCome tool d r → (side : Side) → EachKey (AtMost cmp k) (key side) (r side)
-  none_less r c side = (m.later side).may_follow (r side) (c side)
+  none_less = grind arith
 
   -- the pairs of a group come first, for all lines of its key that the first input still has
   starts_pairs : (f c s : Lines) → 0 < length s → (rest : Lines) × (entries k (f ++ c) s ≡ pairs k f s ++ rest)
   starts_pairs [] c s some = (entries k c s, rw (laws.none k s) refl)
-  starts_pairs (a ∷ f) c [] some = absurd (omega (arith, some))
-  starts_pairs (a ∷ f) c (b ∷ s) some = (pairs k c (b ∷ s), laws.whole k a b (f ++ c) s ∙ laws.more k (a ∷ f) c (b ∷ s))
+  starts_pairs (a ∷ f) c s some =
+      (pairs k c s, grind arith)
 
   pub starts_none : OutputStartsWith tool g d k []
   starts_none = record { rest = λ w r c wanted. (entries_by_key tool w (λ side. g side ++ r side), refl) }
@@ -421,60 +403,41 @@ module _ (call : JoinCall) {mid : Output} {p g : Side → Lines} {d : Side → B
         );
   }
 
-  some_entries : tool.keeps_groups ≡ true → (f s : Lines) → 0 < length f → 0 < length s → 0 < length (entries k f s)
-  some_entries keeps (a ∷ f) (b ∷ s) some1 some2 = rw (laws.whole k a b f s) (laws.written keeps k a b f s)
-  some_entries keeps f s some1 some2 = absurd (omega arith)
-
   -- the entries of a group of lines of both inputs
   pub has_entries : tool.keeps_groups ≡ true → ((side : Side) → 0 < length (g side)) → HasEntries tool g d k
   has_entries keeps some w r c wanted =
       let f = g First ++ lines_with_key (key First) (r First) k in
       let s = g Second ++ lines_with_key (key Second) (r Second) k in
-      let own = some_entries keeps f s
-      (omega (arith, some First, length-append (g First) (lines_with_key (key First) (r First) k)))
-      (omega (arith, some Second, length-append (g Second) (lines_with_key (key Second) (r Second) k))) in
+      let some_first : 0 < length f = grind (arith, length-append, lines_with_key) in
+      let some_second : 0 < length s = grind (arith, length-append, lines_with_key) in
       let rest = later_entries tool o w k (call.w.alone.none k) r in
-      rw (front_is tool o w k (call.w.alone.none k) g r m.own (none_less r c), wanted)
-      (omega (arith, own, length-append (entries k f s) rest))
-
-  own_entries : (f s : Lines) → 0 < length f → 0 < length s → entries k f s ≡ pairs k f s
-  own_entries (a ∷ f) (b ∷ s) some1 some2 = laws.whole k a b f s
-  own_entries f s some1 some2 = absurd (omega arith)
+      rw (
+        front_is tool o w k (call.w.alone.none k) g r m.own (none_less r c),
+        wanted,
+        laws.whole k f s some_first some_second,
+      ) (grind (arith, keeps, length-append))
 
   -- a group is complete if only greater keys follow
   pub closes : {is : Output} → ((side : Side) → 0 < length (g side))
       → ((side : Side) → IsAbove cmp (key side) k (d side))
       → PushEffect mid is (unlines call.terminator (pairs k (g First) (g Second)))
       → MergeInvariant tool d (λ side. p side ++ g side) call.old.out is
-  closes {is} some above wrote =
-      record {
-        splits = splits_step tool (λ side. AtLeast k) d p g m.merge_invariant.splits
-            (rest_not_less call.w m) splits_off;
-        under = passed_under call.w m;
-        wrote = rw (all, unlines-append call.terminator (entries_by_key tool all_keys p) (pairs k (g First) (g Second)))
-            (push_trans _ _ _ _ _ m.clean m.merge_invariant.wrote wrote);
-      }
+  closes some above wrote = (write_least_run o k _ g (λ side. record {
+    own = m.own side;
+    may_follow = rest_not_less call.w m side;
+    own_under = self_at_most cmp o k;
+    under = (m.later side).under;
+    later = m.later side;
+  }) (λ side. refl) (call.w.alone.none k)
+      (λ r c.
+      let none = λ (side : Side). lines_with_key-above tool o (key side) k (r side) (above side (r side) (c side)) in
+      simp (none First, none Second, call.w.alone.none k, append-nil)) m.clean m.merge_invariant (rw output_is wrote)).0
     where
       -- the output of the group alone
-      alone_is : entries_by_key tool all_keys g ≡ entries k (g First) (g Second)
-      alone_is = simp append-nil at (front_is tool o all_keys k (call.w.alone.none k) g (λ side. []) m.own (λ side. tt))
-
-      splits_off : (w : List ℕ → Bool) (r : Side → Lines) → MayCome tool d r
-          → entries_by_key tool w (λ side. g side ++ r side) ≡ entries_by_key tool w g ++ entries_by_key tool w r
-      splits_off w r c =
-          let none = λ (side : Side). lines_with_key-above tool o (key side) k (r side)
-          (above side (r side) (c side)) in
-          let nothing : entries_of_key tool r k ≡ [] = (λ i. entries k (none First i) (none Second i))
-          ∙ call.w.alone.none k in
-          front_first tool o w k (call.w.alone.none k) g r m.own (none_less r c)
-          (simp (none First, none Second, nothing, append-nil))
-
-      all : entries_by_key tool all_keys (λ side. p side ++ g side) ≡ entries_by_key tool all_keys p
-          ++ pairs k (g First) (g Second)
-      all =
-          let split = m.merge_invariant.splits all_keys g
-          (λ side. all_own_keys (AtMost cmp k) (key side) k (g side) (self_at_most cmp o k) (m.own side)) in
-          cc (split, alone_is, own_entries (g First) (g Second) (some First) (some Second))
+      output_is : entries_by_key tool all_keys g ≡ pairs k (g First) (g Second)
+      output_is =
+          simp append-nil at (front_is tool o all_keys k (call.w.alone.none k) g (λ side. []) m.own (λ side. tt))
+          ∙ laws.whole k (g First) (g Second) (some First) (some Second)
 
 -- ---- the lines of a group
 
@@ -559,8 +522,7 @@ module _ {call : JoinCall} {now : MergeState} {cursor : Side → Sorted} {end : 
   with_head = at_head.all ∙ append_assoc (q.p s) (g s) (x ∷ [])
 
   pub own_more : (side : Side) → EachKey (λ z. z ≡ k) (key side) (added side)
-  own_more = put_each (λ side (l : Lines). EachKey (λ z. z ≡ k) (key side) l) s (g s ++ x ∷ []) g
-      (EachKey-append _ (key s) _ _ (q.within.own s) (l.is, tt)) q.within.own
+  own_more = grind (arith, common_steps, put_each, q.within.own, l.is)
 
   pub within_more : OutputInGroup tool old.out q.mid q.p added q.d k
   within_more = assumption (own_more, q.within)
@@ -603,7 +565,7 @@ module _ {call : JoinCall} {now : MergeState} {cursor : Side → Sorted} {end : 
 
     -- whether the next line has the key of the group, too
     pub continues_key : next.same ≡ true → (next.status ≡ Head) × (key s (line after next.current_slot) ≡ k)
-    continues_key same = has_key next.status k (key s (line after next.current_slot)) (sym says ∙ same)
+    continues_key same = grind (arith, has_key, says)
 
     pub leaves_key : next.same ≡ false → next.status ≡ Head → ¬ (key s (line after next.current_slot) ≡ k)
     leaves_key same head is = cc (says, same_bytes (refl {a = k}))
@@ -629,13 +591,12 @@ module _ {call : JoinCall} {now : MergeState} {cursor : Side → Sorted} {end : 
                 (with_side s next cursor) after (with_side s n.now_ls q.ls) f (with_side s n.bound q.d))
                 (λ i side. put_both (λ side (l m : Lines). l ≡ q.p side ++ m) s (q.ls s) (λ side. q.p side ++ g side)
                 (g s ++ x ∷ []) g with_head refl side i) (sides_next o q.sides s l.head comes);
-            within = record {
-              merge_invariant = q.within.merge_invariant;
-              clean = q.within.clean;
-              own = own_more;
-              later = put_each (λ side. IsLater cmp (key side) (AtLeast k)) s n.bound q.d (rw l.is at n.later)
-                  q.within.later;
-            };
+            within = assumption (
+              q.within,
+              own_more,
+              put_each (λ side. IsLater cmp (key side) (AtLeast k)) s n.bound q.d
+                  (rw l.is at n.later) q.within.later,
+            );
             keeps = group_store_next s (cursor s) (q.sides s).slots q.keeps n;
             wrote = wrote;
             at = q.at;

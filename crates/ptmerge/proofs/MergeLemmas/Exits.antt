@@ -3,30 +3,23 @@
 pub mod Invariant
 pub mod SlotLines
 use Rattle.ptmerge.proofs
-use proofs.Common.{◌≡◌, ◌⊎◌, ⊎_elim, inl, inr, ℕ, ◌≤◌, false, List, [], ◌∷◌, ◌++◌, Option, Some, None, length, map}
-use proofs.Common.{refl, sym, ◌∙◌, ap, arith, append_assoc, length-append, last_or, append-nil, Received, known_lines}
-use proofs.Common.{Reader, unlines, IsLine, AreLines, received_with, unlines_push, Lines, first_disorder, is_below}
-use proofs.Common.{sorted_prefix, Cmp, Key, Bool, filter-append, filter, IsPrefix, unlines-append, Side, First, Second}
-use proofs.Common.{MergeTool, entries_by_key, disorder, earlier_disorder, is_decided, other, with_side, FirstDisorder}
-use proofs.Common.{with_input, both_sides, subst, not, ◌+◌, ◌<◌, true, cond, nat_tests, length_push, FillLine, IsDone}
-use proofs.Common.{IsSound, Slots, line, with_line, max_length, line_of_with_line, Sorted, CursorStatus, Head, Ended}
-use proofs.Common.{Disorder, status_at, same_key_at, NextOkPost, Result, Err, max, Output, ReaderAdvance, Memory, lines}
-use proofs.Common.{advance_trans, push_trans, MergeFault, Write, lines_of, merged_entries, MergeState, MergePost}
-use proofs.Common.{HasNoLine, reads_nothing, EnsureFourSlotsErrPost, ◌*◌, option_map, CallOutcome, merge_state, both}
-use proofs.Common.{terminator, total_bytes, merge_engine, merge_end, disordered_line, HasSlots, length-set}
+pub use proofs.Common.{⊎_elim, inl, IsPrefix, both_sides, nat_tests, length_push, line_of_with_line}
+pub use proofs.Common.{CursorStatus, Head, Ended, Disorder, status_at, same_key_at, NextOkPost, Result, Err, Memory}
+pub use proofs.Common.{advance_trans, MergeFault, Write, lines_of, MergeState, MergePost}
+pub use proofs.Common.{merge_state, terminator, merge_engine, merge_end}
 use Rattle.ptlines.proofs.LineSearch.{IsLine-append}
-use Rattle.ptmerge.specs.MergeSpec.{MergeDisorder, decided_output, decided_entries, lines_decide_disorder, merge_output}
+use Rattle.ptmerge.specs.MergeSpec.{decided_output, decided_entries, lines_decide_disorder, merge_output}
 use Rattle.ptmerge.specs.MergeSpec.{disorder_is_decided}
 use Rattle.ptlines.proofs.Calls.{call_ends, call_set, call_without_slots, given_before, given_by, CallProgress}
 use Rattle.ptlines.proofs.Calls.{DecidedIfReadFailed, call_on_failed_output}
-use Rattle.ptlines.proofs.MaxLength.{max_length-append}
-use Rattle.std.proofs.Common.{rules}
-use Rattle.std.proofs.lemmas.Grind.{common_steps}
 use Rattle.std.proofs.lemmas.List.{append_cancel_right, map-append}
 use Rattle.ptlines.proofs.Lag.{bounded_lag_after}
 use Rattle.ptlines.specs.Calls.{CallEnd, ReadFault, AreAllConsistent}
 use Rattle.ptlines.proofs.TextLaws.{complete_lines_of_unlines, the_lines}
 use Rattle.ptlines.specs.Lag.{LaggedInput, ProcessLag}
+pub use Rattle.ptlines.specs.Calls.{CallOutcome, with_input}
+pub use Rattle.ptlines.proofs.Calls.{reads_nothing}
+pub use Rattle.ptmerge.specs.MergeSlots.{EnsureFourSlotsErrPost}
 pub use Invariant.*
 pub use SlotLines.*
 
@@ -54,7 +47,7 @@ module _ (cmp : Cmp) (o : IsKeyOrder cmp) (key : Key) where
   from_key : (k : List ℕ) (ls : Lines) → IsSortedFrom cmp key (Some k) ls → EachKey (AtMost cmp k) key ls
   from_key k [] r = tt
   from_key k (x ∷ ls) (here, more) =
-      (here, EachKey-weaker _ _ (λ y h. at_most_trans cmp o k (key x) y here h) _ _ (from_key (key x) ls more))
+      (here, Each-weaker _ _ (λ y h. at_most_trans cmp o k (key x) y here h) _ (from_key (key x) ls more))
 
   -- no later key is below the last one
   none_below : (xs ys : Lines) → IsSortedFrom cmp key None (xs ++ ys)
@@ -64,7 +57,7 @@ module _ (cmp : Cmp) (o : IsKeyOrder cmp) (key : Key) where
     where
       by : (l : Option (List ℕ)) → IsSortedFrom cmp key l ys → EachKey (λ k. is_below cmp k l ≡ false) key ys
       by None h = Each-all _ (λ k. refl) (map key ys)
-      by (Some x) h = EachKey-weaker _ _ (λ k a. not_below cmp o k x a) _ _ (from_key x ys h)
+      by (Some x) h = Each-weaker _ _ (λ k a. not_below cmp o k x a) _ (from_key x ys h)
 
 -- ---- the bytes received
 
@@ -186,7 +179,7 @@ module _ (tool : MergeTool) (o : IsKeyOrder tool.cmp) (eof : Side → Bool) (ls 
       let is : entries_by_key tool all_keys p ≡ entries_by_key tool dec p ++ rest = downward_splits tool o all_keys
       dec down p in
       let none = λ (side : Side) (l : Lines) (e : EachKey _ (tool.key side) l). kept_none dec (tool.key side) l
-      (EachKey-weaker _ _ undecided _ _ e) in
+      (Each-weaker _ _ undecided _ e) in
       -- the lists differ only in lines that are left out
       let kept = λ (side : Side). (let d = differ side in
       simp (filter-append, none side d.rest d.none_rest, none side d.tail d.none_tail, append-nil) at
@@ -215,19 +208,15 @@ module _ (tool : MergeTool) (o : IsKeyOrder tool.cmp) (eof : Side → Bool) (ls 
 front_has : (P : List ℕ → Type 0) (key : Key) (xs ys : Lines) → EachKey P key (xs ++ ys) → EachKey P key xs
 front_has P key xs ys e = let (front, _) = Each-parts P (map key xs) (map key ys) (rw map-append at e) in front
 
--- the sorted prefix of the lines `ls` is `q`, whose last lines are `tail`, and then lines that may follow
-pub record LinesToCome (tool : MergeTool) (side : Side) (ls q tail : Lines) (bound : Bound) : Type 0 where
-  pub rest : Lines
-  pub is : sorted_prefix tool.cmp (tool.key side) ls ≡ q ++ rest
-  pub may_follow : MayFollow tool.cmp (tool.key side) bound (tail ++ rest)
-
--- `q` are the processed lines; the output for `p` is complete, and the rest of `q` follows it
-module _ (tool : MergeTool) (o : IsKeyOrder tool.cmp) (given : Side → Received) (p q tail : Side → Lines)
-    (bound : Side → Bound) (split : (side : Side) → q side ≡ p side ++ tail side)
-    (under : (of side : Side) → EachKey (IsUnder tool.cmp (bound of)) (tool.key side) (q side))
-    (future : (side : Side) → LinesToCome tool side (known_lines tool.terminator (given side)) (q side) (tail side)
-    (bound side)) where
+-- `q` are the processed lines; the output for the first of them is complete, and the rest of `q` follows it
+module _ {tool : MergeTool} (o : IsKeyOrder tool.cmp) (given : Side → Received) {b : Side → Bound} {q : Side → Lines}
+    {was is : Output} {done : Lines} (lag : LagInvariant tool b q was is done) (seen : (side : Side)
+    → IsFuture tool.cmp (tool.key side) (known_lines tool.terminator (given side)) (q side) (b side)) where
   open tool use {cmp, terminator}
+
+  -- the lines whose output is not complete, and then lines that may follow
+  abbrev to_come : Side → Lines
+  to_come side = lag.tail side ++ (seen side).rest
 
   module _ (of : Side) (point : LagPoint tool.terminator (given of) (q of)) where
     abbrev whole : Lines
@@ -239,21 +228,21 @@ module _ (tool : MergeTool) (o : IsKeyOrder tool.cmp) (given : Side → Received
 
     in_order : IsSortedFrom cmp (tool.key of) None (whole ++ point.rest)
     in_order = rw (← point.split) (sorted_from_parts cmp (tool.key of) None (q of)
-        (future of).rest (rw (← (future of).is, sorted_prefix_is) (sorted_from_after cmp (tool.key of) None _))).0
+        (seen of).rest (rw (← (seen of).is, sorted_prefix_is) (sorted_from_after cmp (tool.key of) None _))).0
 
     ordered : (sorted_prefix cmp (tool.key of) whole ≡ whole) × (first_disorder cmp (tool.key of) whole ≡ None)
     ordered = grind (arith, sorted_from_parts, in_order, sorted_from_start)
 
     -- no line that follows is below that key
-    above : (side : Side) → EachKey (λ k. is_below cmp k last ≡ false) (tool.key side) (tail side ++ (future side).rest)
+    above : (side : Side) → EachKey (λ k. is_below cmp k last ≡ false) (tool.key side) (to_come side)
     above side =
-        past_none cmp o (tool.key of) _ (bound side) whole _ (front_has _ (tool.key of) whole point.rest
-        (rw point.split at (under side of))) (future side).may_follow
+        past_none cmp o (tool.key of) _ (lag.bound side) whole _ (front_has _ (tool.key of) whole point.rest
+        (rw point.split at (lag.under_bound side of))) (lag.may_follow side _ (seen side).may_follow)
 
     -- the lines of an input are the processed ones, except for lines that are not below that key
     abbrev Differs : Side → Received → Type 0
     Differs side g =
-        Differ tool last (tool.key side) (sorted_prefix cmp (tool.key side) (known_lines terminator g)) (p side)
+        Differ tool last (tool.key side) (sorted_prefix cmp (tool.key side) (known_lines terminator g)) (lag.front side)
 
     mine : Differs of point.before.earlier
     mine = grind (arith, none_below, front_has, ordered, in_order, above of)
@@ -261,43 +250,47 @@ module _ (tool : MergeTool) (o : IsKeyOrder tool.cmp) (given : Side → Received
     others : (side : Side) → Differs side (given side)
     others side = record {
       rest = [];
-      tail = tail side ++ (future side).rest;
-      same = grind (arith, append-nil, (future side).is, split side, append_assoc);
+      tail = to_come side;
+      same = grind (arith, append-nil, (seen side).is, lag.split side, append_assoc);
       none_rest = tt;
       none_tail = above side;
     }
 
-    abbrev mix : Side → Received
-    mix = with_side of point.before.earlier given
+    -- this input as it was then, with the other one
+    module _ (mix : Side → Received) (own : mix of ≡ point.before.earlier) where
+      whole_now : known_lines terminator (mix of) ≡ whole
+      whole_now = rw own point.whole_is
 
-    going : (mix of).eof ≡ false
-    going = rw (put_same of point.before.earlier given) point.going
+      -- the output that this part decides was pushed
+      decided_at : mix (other of) ≡ given (other of) → IsPrefix (decided_output tool mix) (output_of tool lag.front)
+      decided_at rest = decided_of_passed tool o (λ side. (mix side).eof) (λ side. known_lines terminator (mix side)) of
+          (rw own point.going) (rw whole_now ordered.1) lag.front (rw whole_now
+          (side_case (λ side. Differs side (mix side)) of (rw own mine) (rw rest (others (other of)))))
 
-    whole_now : known_lines terminator (mix of) ≡ whole
-    whole_now = rw (put_same of point.before.earlier given) point.whole_is
-
-    -- the output that this part decides was pushed
-    pub decided_at : IsPrefix (decided_output tool (with_input both_sides of point.before.earlier given))
-        (output_of tool p)
-    decided_at = subst (λ (m : Side → Received). IsPrefix (decided_output tool m)
-        (output_of tool p)) (λ i side. with_side_is of point.before.earlier given side i)
-        (decided_of_passed tool o (λ side. (mix side).eof) (λ side. known_lines terminator (mix side)) of going
-        (rw whole_now ordered.1) p (rw whole_now (put_each Differs of point.before.earlier given mine others)))
+      pub decided_by : mix (other of) ≡ given (other of) → IsPrefix (decided_output tool mix) (unlines terminator done)
+      decided_by rest = let begins = decided_at rest in search (rules, begins, append_assoc, lag.all)
 
     pub lag_bound : ProcessLag {I = Unit {0}} (λ came. decided_output tool (with_input both_sides of (came tt) given))
-        (λ u. given of) (output_of tool p)
-    lag_bound = record { before = λ u. point.before; begins = decided_at }
+        (λ u. given of) (output_of tool lag.front)
+    lag_bound = record {
+      before = λ u. point.before;
+      begins = decided_at (with_input both_sides of point.before.earlier given) (grind arith) (grind arith);
+    }
 
     -- no disorder was decided
-    pub unsettled : EachKey (λ k. IsDisorderFrom cmp k (first_disorder cmp (tool.key (other of))
-        (known_lines terminator (given (other of))))) (tool.key of) (q of)
-        → (before : LaggedInput (given of)) × (disorder_is_decided tool (with_side of before.earlier given) ≡ false)
-    unsettled up = (
-      point.before,
-      not_settled tool o (λ side. (mix side).eof) (λ side. known_lines terminator (mix side)) of going
-          (rw whole_now ordered.1) (rw (put_other, whole_now)
-          (front_has _ (tool.key of) whole point.rest (rw point.split at up))),
-    )
+    pub unsettled : (before : LaggedInput (given of))
+        × (disorder_is_decided tool (with_side of before.earlier given) ≡ false)
+    unsettled =
+        let up = Each-weaker _ (λ k. IsDisorderFrom cmp k (first_disorder cmp (tool.key (other of))
+        (known_lines terminator (given (other of)))))
+        (λ k u. grind (arith, at_most_trans, (seen (other of)).may_disorder)) _ (lag.under (other of) of) in
+        let mix = with_side of point.before.earlier given in
+        let own = put_same of point.before.earlier given in (
+          point.before,
+          not_settled tool o (λ side. (mix side).eof) (λ side. known_lines terminator (mix side)) of
+              (rw own point.going) (rw (whole_now mix own) ordered.1) (rw (put_other, whole_now mix own)
+              (search (rules, front_has, whole))),
+        )
 
 -- ---- the cursor of one input
 
@@ -391,7 +384,7 @@ status_after_next = grind (arith, nat_tests)
 from_next : {cmp : Cmp} (o : IsKeyOrder cmp) (key : Key) (last : Option (List ℕ)) (x : List ℕ)
     → is_disordered cmp last (key x) ≡ false → IsLater cmp key (bound_after last) (AtLeast (key x))
 from_next o key None x h = record { may_follow = λ r c. tt; under = λ k u. absurd u }
-from_next {cmp} o key (Some j) x h = search (rules, EachKey-weaker, at_most_trans)
+from_next {cmp} o key (Some j) x h = search (rules, Each-weaker, at_most_trans)
 
 module _ (tool : MergeTool) (o : IsKeyOrder tool.cmp) (s : Side) (old now new : Reader) (cursor next : Sorted)
     (before after : Slots) (ls : Lines) (slots : HasSlots s cursor) (four : 4 ≤ length before.lines) where
@@ -465,7 +458,7 @@ module _ (tool : MergeTool) (o : IsKeyOrder tool.cmp) (s : Side) (old now new : 
       (at_line e.next_line e.sound lines_read number same last sorted_up_to is _ refl)
   next_invariant {last} lines_read number sorted_up_to is (inr e) =
       rw e.cursor (at_next last [] [] (next_cursor Ended cursor.number false) NothingMore
-      (simp append-nil (lines_read_eof lines_read e.advance_ok e.done)) (inl e.done) e.sound (refl, refl)
+      (search (rules, lines_read)) (inl e.done) e.sound (refl, refl)
       (inl (append-nil ls)) (simp append-nil number) (grind (arith, common_steps, sorted_up_to)) (λ ended. e.done)
       (refl, e.done)
       (record { may_follow = λ r none. rw none (may_follow_none cmp own (bound_after last)); under = λ k u. tt })
@@ -600,18 +593,6 @@ module _ {tool : MergeTool} {old : MergeState} (w : IsOpenMerge tool old) (new :
       )
 
   module _ {done : Lines} (lag : LagInvariant tool b p old.out new.out done) where
-    open lag use {front, tail, bound, bytes}
-
-    come_first : (texts : Side → List ℕ) → AreAllConsistent both_sides given texts
-        → (rest : Lines) × (merged_entries tool (lines_of tool texts) ≡ done ++ rest)
-    come_first texts agree = lag.first _ (input_split_of (lines_of tool texts) (continues texts agree))
-
-    future : (side : Side) → LinesToCome tool side (known_lines tool.terminator (given side)) (p side) (tail side)
-        (bound side)
-    future side =
-        let s = whole_input_split side in
-        record { rest = s.rest; is = s.is; may_follow = lag.may_follow side s.rest s.may_follow }
-
     -- everything is decided once the last line of an input is processed
     decided : (side : Side) → IsFailedRead (new.reader side) (ls side) (p side)
         → IsPrefix (decided_output tool given) (unlines tool.terminator done)
@@ -630,10 +611,7 @@ module _ {tool : MergeTool} {old : MergeState} (w : IsOpenMerge tool old) (new :
           rest = [];
           split = sym (append-nil (p side));
         } in
-        let begins = subst (λ (all : Side → Received). IsPrefix (decided_output tool all)
-        (output_of tool front)) (λ i t. with_own side given t i)
-        (decided_at tool w.o given front _ tail _ lag.split lag.under_bound future side point) in
-        search (rules, begins, append_assoc)
+        decided_by w.o given lag whole_input_split side point given refl refl
 
     progress : Fits tool old.store now ls piece new.store
         → CallProgress both_sides (merge_engine tool) old new took (unlines tool.terminator done)
@@ -643,11 +621,12 @@ module _ {tool : MergeTool} {old : MergeState} (w : IsOpenMerge tool old) (new :
       never_failed = λ side read. w.unfailed side;
       writable = w.writable;
       wrote = rw lag.all at (push_trans _ _ _ _ _ lag.clean lag.wrote lag.more);
-      is_prefix = λ texts agree. (let come = come_first texts agree in search (rules, unlines-append));
+      is_prefix = λ texts agree.
+          let come = lag.first _ (input_split_of (lines_of tool texts) (continues texts agree)) in
+          search (rules, unlines-append);
       -- everything was written that was decided two blocks of an input earlier
-      bounded_lag = λ of read. rw lag.all at (bounded_lag_after _ _ old.out lag.mid (output_of tool front)
-          (lag_bound tool w.o given front _ tail _ lag.split lag.under_bound future of (backs of)) lag.wrote lag.clean
-          new.out bytes lag.more);
+      bounded_lag = λ of read. rw lag.all at (bounded_lag_after _ _ old.out lag.mid _
+          (lag_bound w.o given lag whole_input_split of (backs of)) lag.wrote lag.clean new.out lag.bytes lag.more);
       peak = λ texts agree. (fits (lines_of tool texts) (input_lines texts agree)).0;
       slots = λ texts agree. (fits (lines_of tool texts) (input_lines texts agree)).1;
       least = omega (arith, has);
@@ -667,14 +646,9 @@ module _ {tool : MergeTool} {old : MergeState} (w : IsOpenMerge tool old) (new :
         → MergePost tool old new result
     unfolding call_ends
     exit_is_merge_post fits order failed result ends = record {
-      call = call_ends both_sides (merge_engine tool) old new took (progress fits) (merge_end result) ends
-          (by (merge_end result));
+      call = grind (arith, call_ends, progress, by);
       -- no disorder was decided two blocks of an input earlier
-      stops_at_disorder = λ of clean_then.
-          let f = first_disorder cmp (key (other of)) (known_lines tool.terminator (given (other of))) in
-          unsettled tool w.o given front _ tail _ lag.split lag.under_bound future of (backs of)
-          (EachKey-weaker _ _ (λ k u. grind (arith, at_most_trans, (whole_input_split (other of)).may_disorder)) _ _
-          (lag.under (other of) of));
+      stops_at_disorder = λ of clean_then. unsettled w.o given lag whole_input_split of (backs of);
       first_reads = λ clean_then. record {
         second_unread = λ none. ⊎_elim (λ begun. absurd (has_line First begun none))
             (λ same. same ∙ (λ i. record (old.reader Second) { terminator = w.terminator Second i })) order.first;
@@ -697,12 +671,13 @@ module _ {tool : MergeTool} {old : MergeState} (w : IsOpenMerge tool old) (new :
 
 -- the terminator of both readers was set
 pub merge_set : {tool : MergeTool} {first second set1 set2 : Reader} {out : Output} {store : Slots} {new : MergeState}
-    → (zero : Bool) → tool.terminator ≡ terminator zero → out.write_failed ≡ false
-    → set1 ≡ record first { terminator = cond zero 0 10 } → set2 ≡ record second { terminator = cond zero 0 10 }
+    → (zero_byte : Bool) → tool.terminator ≡ terminator zero_byte → out.write_failed ≡ false
+    → set1 ≡ record first { terminator = cond zero_byte 0 10 }
+    → set2 ≡ record second { terminator = cond zero_byte 0 10 }
     → {result : Result (Unit {0}) MergeFault} → MergePost tool (merge_state set1 set2 out store) new result
     → MergePost tool (merge_state first second out store) new result
 unfolding call_set
-merge_set {tool} {first} {second} {set1} {set2} {new = new} zero end clean is1 is2 m =
+merge_set {tool} {first} {second} {set1} {set2} {new = new} zero_byte end clean is1 is2 m =
     let is : (side : Side) → both set1 set2 side ≡ record (both first second side) { terminator = tool.terminator } =
     λ side. grind (arith, end, is1, is2) in record {
       call = call_set both_sides _ _ _ new clean refl refl (λ side read. is side) (λ side none. cc) m.call;
@@ -722,11 +697,11 @@ pub merge_without_slots : {tool : MergeTool} {old : MergeState} → IsOpenMerge 
 unfolding call_without_slots
 merge_without_slots {tool} {old} w {new} same_output unread slots =
     let set : (side : Side) → new.reader side ≡ record (old.reader side) { terminator = tool.terminator } =
-    λ side. unread side ∙ (λ i. record (old.reader side) { terminator = w.terminator side i }) in
-    let none : Side → Lines = λ side. [] in
-    let future : (side : Side)
-    → LinesToCome tool side (known_lines tool.terminator (given_before old side)) [] [] NoBound =
-    λ side. record { rest = _; is = refl; may_follow = tt } in
+    search rules in
+    let lag = lag_invariant_starts w.o (merge_invariant_starts tool old.out) w.writable (push_nothing old.out) in
+    let seen : (side : Side)
+    → IsFuture tool.cmp (tool.key side) (known_lines tool.terminator (given_before old side)) [] NoBound =
+    λ side. record { rest = _; is = refl; may_follow = tt; may_disorder = tt } in
     -- nothing is received
     let point : (side : Side) → LagPoint tool.terminator (given_before old side) [] =
     λ side. record {
@@ -748,9 +723,8 @@ merge_without_slots {tool} {old} w {new} same_output unread slots =
           (λ side none. cc) (λ side read. w.sound side) (λ side read. w.unfailed side) slots.denied slots.peak
           slots.least
           slots.few (λ texts. omega (arith, w.fits (lines_of tool texts)))
-          (λ side read. decided_at tool w.o (given_before old) none none none (λ t. NoBound) (λ t. refl) (λ of t. tt)
-          future side (point side));
-      stops_at_disorder = λ side clean. unsettled tool w.o (given_before old) none none none (λ t. NoBound)
-          (λ t. refl) (λ of t. tt) future side (point side) tt;
+          (λ side read. decided_by w.o (given_before old) lag seen side (point side)
+          (with_input both_sides side (point side).before.earlier (given_before old)) (grind arith) (grind arith));
+      stops_at_disorder = λ side clean. unsettled w.o (given_before old) lag seen side (point side);
       first_reads = search (rules, set);
     }

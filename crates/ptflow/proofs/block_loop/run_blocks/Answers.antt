@@ -68,11 +68,7 @@ reading-preserved g c =
     let b = c.block.follows.holds-at-none in
     let run = written_out g (goal.at.reading-preserved g c).In_ok-write_out_before_blocking in
     let (refilled, shown, ended) = (rw c.in-Ok.is at b.shows) run.reached.advance_ok.fault in
-    let e = c.in_ok-process_block-in-Ok.ensures in
-    record {
-      run = block_taken run refilled shown c.consume.ensures.consumed e.continues (e.holds c.args.tool.now);
-      counted = counted_more refilled shown b.was_sound c.reading.invariant.counted c.consume.ensures.consumed e.counts;
-    }
+    record { run = grind (arith, block_taken); counted = grind (arith, counted_more) }
 
 pub reading-smaller : goal.reading-smaller
 reading-smaller g c = grind (arith, common_steps)

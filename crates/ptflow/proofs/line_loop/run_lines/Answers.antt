@@ -31,14 +31,14 @@ line_taken g c =
     (c.in-Ok-true.ensures.fills r.reached.advance_ok.fault) in
     let took = c.in_ok-process_line-in-Ok-true.ensures in
     run_line c.requires.tool r e {next = g.T.LineFilter.model c.process_line.new.self c.process_line.new.store}
-    (rw c.reading.invariant.same_job at took.continues) took.swapped
+    (grind arith) took.swapped
 
 pub returns-in_err-ensure_slots : goal.returns-in_err-ensure_slots
 returns-in_err-ensure_slots g c =
     let (_, is_err, is_fault) = returned_err c.from_residual.result c.from_residual.ensures in
     let adds = rw c.requires.slots at c.ensure_slots.ensures.adds in
     rw (is_err, is_fault, c.in_err-ensure_slots.ensures.err)
-    (run_unslotted c.requires.tool c.requires.begins adds (rw c.requires.slots at c.in_err-ensure_slots.ensures.few)
+    (run_unslotted c.requires.tool c.requires.begins adds (grind arith)
     c.ensure_slots.ensures.same_peak c.in_err-ensure_slots.ensures.denied)
 
 pub reading-init : goal.reading-init
@@ -65,7 +65,7 @@ returns-in_err-process_line-in-Ok-true g c =
     (c.in-Ok-true.ensures.fills r.reached.advance_ok.fault) in
     rw c.in_err-process_line-in-Ok-true.ensures.same (by_write c.from_residual-in_err-process_line-in-Ok-true.ensures
     (run_line_halts c.requires.tool r e c.requires.begins.ready c.fill.ensures.was_sound c.fill.ensures.is_sound
-    (rw c.reading.invariant.same_job at c.in_err-process_line-in-Ok-true.ensures.halts)))
+    (grind arith)))
 
 pub returns-in_err-finish-in-Ok-false : goal.returns-in_err-finish-in-Ok-false
 returns-in_err-finish-in-Ok-false g c =
@@ -90,20 +90,15 @@ returns-in-Ok-false g c =
 pub returns-in-Err-Read : goal.returns-in-Err-Read
 returns-in-Err-Read g c =
     let r = written_out g (goal.at.returns-in-Err-Read g c).In_ok-write_out_before_blocking in
-    run_read c.requires.tool r c.requires.begins.ready c.fill.ensures.was_sound c.fill.ensures.is_sound
-    (rw (c.in-Err-Read.field-0-is, c.requires.slots) at (c.in-Err-Read.ensures.fills r.reached.advance_ok.fault))
+    run_read c.requires.tool r c.requires.begins.ready c.fill.ensures.was_sound c.fill.ensures.is_sound (grind arith)
 
 pub returns-in-Err-Memory : goal.returns-in-Err-Memory
 returns-in-Err-Memory g c =
     let r = written_out g (goal.at.returns-in-Err-Memory g c).In_ok-write_out_before_blocking in
-    run_memory c.requires.tool r c.requires.begins.ready c.fill.ensures.was_sound c.fill.ensures.is_sound
-    (rw (c.in-Err-Memory.field-0-is, c.requires.slots) at (c.in-Err-Memory.ensures.fills r.reached.advance_ok.fault))
+    run_memory c.requires.tool r c.requires.begins.ready c.fill.ensures.was_sound c.fill.ensures.is_sound (grind arith)
 
 pub reading-smaller : goal.reading-smaller
-reading-smaller g c =
-    let e = filled_line c.requires.slots c.in-Ok-true.field-0-test
-    (c.in-Ok-true.ensures.fills c.reading.invariant.run.reached.advance_ok.fault) in
-    grind (arith, common_steps)
+reading-smaller g c = grind (arith, common_steps, filled_line)
 
 pub process_lines-requires-clause-room : goal.process_lines-requires-clause-room
 process_lines-requires-clause-room g c = search (rules, swapped_room, same_room, run_room)
@@ -124,7 +119,7 @@ returns-in_err-passed g c =
     let same = c.process_line.ensures.same_job ∙ c.reading.invariant.same_job in
     by_write c.from_residual-in_err-passed.ensures
     (run_block_halts c.requires.tool v c.requires.begins.ready c.fill.ensures.is_sound c.buffered.ensures.buffered
-    (rw same at c.in_err-passed.ensures.halts))
+    (grind arith))
 
 pub reading-preserved : goal.reading-preserved
 reading-preserved g c =
@@ -132,6 +127,5 @@ reading-preserved g c =
     let same = c.process_line.ensures.same_job ∙ c.reading.invariant.same_job in
     let rest = c.in_ok-passed.ensures in record {
       same_job = c.process_lines.ensures.same_job ∙ same;
-      run = run_block c.requires.tool v c.buffered.ensures.buffered (rw same at rest.passed) c.consume.ensures.consumed
-          {next = g.T.LineFilter.model c.process_lines.new.self c.process_line.new.store} (rw same at rest.continues);
+      run = grind (arith, run_block);
     }

@@ -50,7 +50,7 @@ selected_bytes list block line count =
     select_from (is_selected list) (line.line_offset + 1) (take count (drop line.start block))
 
 -- `mask` is the match mask of the terminators among the 64 bytes at index `from`; 16 bytes follow them.
-pub record HasTerminators (end : ℕ) (block : List ℕ) (from mask : ℕ) : Type 0 where
+pub record IsTerminatorMask (end : ℕ) (block : List ℕ) (from mask : ℕ) : Type 0 where
   pub within : from + 80 ≤ length block
   pub most : length block ≤ 8192
   pub is : mask ≡ mask_l (map (is_byte end) (chunk from 64 block))

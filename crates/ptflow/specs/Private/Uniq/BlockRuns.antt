@@ -1,6 +1,6 @@
 -- The runs of the lines of a block: their output that was pushed, and that which is deferred.
 use Rattle.std.specs.Prelude.{◌≡◌, ℕ, ◌-◌, ◌≤◌, ◌<◌, List, [], ◌∷◌, ◌++◌, Option, None, Some, IfSome, length}
-use Rattle.std.specs.Prelude.{slice_range}
+use Rattle.std.specs.Prelude.{slice_range, zero, suc}
 use Rattle.ptlines.specs.Outputs.{Output, PushEffect}
 use Rattle.ptlangs.specs.Jobs.{Uniq}
 use Rattle.ptflow.specs.Uniqs.{Run, output_of}
@@ -15,6 +15,11 @@ RunsWritten job before after ls was is = LinesWritten (runs_after job) (output_o
 -- a write failed at these lines
 abbrev pub RunsFailed : Uniq → Run → List (List ℕ) → Output → Output → Type 0
 RunsFailed job before ls was is = LinesFailed (runs_after job) (output_of job) before ls was is
+
+-- these bytes, `n` times
+abbrev pub repeated : ℕ → List ℕ → List ℕ
+repeated zero bytes = []
+repeated (suc n) bytes = bytes ++ repeated n bytes
 
 -- the bytes of a range
 abbrev pub span_of : List ℕ → Span → List ℕ

@@ -3,7 +3,7 @@
 ghost use Rattle.std.specs.Prelude.{◌≡◌, ◌<◌, ◌≤◌, ◌+◌, ◌*◌, ◌++◌, ◌∷◌, ℕ, List, [], length, take, drop};
 ghost use Rattle.ptlangs.specs.CutLists.{AreSeparated, is_selected};
 ghost use Rattle.ptflow.specs.Private.Cut.CutFrom.{cut_list_from, selected_bytes, IsCutPart, ExtendsCut};
-ghost use Rattle.ptflow.specs.Private.Cut.CutFrom.{HasTerminators, IsLineAt, IsSameLine, CutPost};
+ghost use Rattle.ptflow.specs.Private.Cut.CutFrom.{IsTerminatorMask, IsLineAt, IsSameLine, CutPost};
 ghost use Rattle.ptflow.specs.Private.Passes.BlockLoop.{HasRoom};
 ghost use Rattle.ptflow.specs.Private.Cut.ShortLines.{AreLineShuffles, AreSeparated-prop};
 ghost use Rattle.ptflow.specs.Cuts.{select_from};
@@ -140,7 +140,7 @@ impl Selection<'_> {
     // in registers.
     #[inline(never)]
     fn cut_chunk(&self, block: &[u8], from: usize, mask: u64, line: Line, into: &mut OutBuf) -> Line
-        requires ends { HasTerminators self.now.terminator block.now from mask }
+        requires ends { IsTerminatorMask self.now.terminator block.now from mask }
         requires line { IsLineAt self.now.terminator block.now from line }
         ensures on { CutPost self.now.terminator self.now.selected.now block.now line (take line.at into.old) result
             (take result.at into.new) }

@@ -110,11 +110,11 @@ fn write_fields<A: Allocator + Copy, W: Sink>(
     Ok(())
 }
 
-/// A job that selects fields, and the terminator.
+// A job that selects fields, and the terminator.
 #[derive(Drop)]
-pub(crate) struct FieldSelection<'a, A: Allocator> {
-    pub job: &'a CutJob<A>,
-    pub terminator: u8,
+struct FieldSelection<'a, A: Allocator> {
+    job: &'a CutJob<A>,
+    terminator: u8,
     ghost by_fields: { job.now.fields ≡ true },
     ghost ends: { terminator ≡ (cut_job job.now).terminator },
 }
@@ -122,8 +122,22 @@ pub(crate) struct FieldSelection<'a, A: Allocator> {
 /// The selection, and a buffer for the output of the lines of a block.
 #[derive(Drop)]
 pub(crate) struct FieldCut<'a, A: Allocator> {
-    pub by: FieldSelection<'a, A>,
-    pub buffer: OutBuf,
+    by: FieldSelection<'a, A>,
+    buffer: OutBuf,
+}
+
+impl<'a, A: Allocator> FieldCut<'a, A> {
+    // The selection of a job, and an empty buffer.
+    pub(crate) fn new(job: &'a CutJob<A>, terminator: u8) -> Self
+        requires by_fields { job.now.fields ≡ true }
+        requires ends { terminator ≡ (cut_job job.now).terminator }
+        ensures { result.by.job.now ≡ job.now }
+    {
+        FieldCut {
+            by: FieldSelection { job, terminator },
+            buffer: [0; 8192 + 16],
+        }
+    }
 }
 
 // Pushes the output of a line, which is given without its terminator.

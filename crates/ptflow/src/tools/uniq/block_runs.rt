@@ -1,14 +1,15 @@
 //! The runs of the lines of a block: counts and writes them. `uniq` uses it.
 
-ghost use Rattle.std.specs.Prelude.{◌≡◌, ◌<◌, ◌≤◌, ◌++◌, length, true, IfOk, IfSome, OnErr};
+ghost use Rattle.std.specs.Prelude.{◌≡◌, ◌<◌, ◌≤◌, ◌++◌, length, take, drop, true, IfOk, IfSome, OnErr};
 ghost use Rattle.ptlines.specs.Outputs.{PushEffect, PushPost};
 ghost use Rattle.ptlines.specs.Text.{complete_lines};
 ghost use Rattle.ptlangs.specs.Jobs.{uniq_job};
 ghost use Rattle.ptflow.specs.Private.Passes.LineLoop.{IsLinesLength, ProcessLinesPre};
 ghost use Rattle.ptflow.specs.Private.Uniq.RunsFrom.{has_output, count_prefix, run_of, run_text};
-ghost use Rattle.ptflow.specs.Private.Uniq.BlockRuns.{RunsWritten, RunsFailed, EndRunPre, IsPending, first_of, span_of};
+ghost use Rattle.ptflow.specs.Private.Uniq.BlockRuns.{RunsWritten, RunsFailed, EndRunPre, IsPending, first_of};
+ghost use Rattle.ptflow.specs.Private.Uniq.BlockRuns.{repeated, span_of};
 
-use crate::tools::uniq::LineUniq;
+use crate::simd::compare::same_short_start;
 use crate::tools::uniq::line_key::key;
 use itoa::Buffer;
 use ptlangs::jobs::{Show, UniqJob};
@@ -45,67 +46,11 @@ fn flush_with_count<W: Sink>(
     }
 }
 
-// Pushes the output of a run of `count` lines, of which `first` is the first.
-pub(crate) fn write_run<W: Sink>(
-    by: &LineUniq,
-    count: u64,
-    first: &[u8],
-    out: &mut Out<W>,
-) -> Result<(), WriteFault>
-    ensures { PushPost out.old out.new (run_text (uniq_job by.now.job.now) (run_of first.now count)) result }
-{
-    let show = by.job.show;
-    if !has_output(show, count) {
-        return out.push(b"");
-    }
-    flush_with_count(show, count, b"", out)?;
-    out.push_line(b"", first, &[by.terminator])
-}
-
 // A range of a block: the index of its first byte, and the index after its last one.
 #[derive(Clone, Copy)]
 pub(crate) struct Span {
     pub from: usize,
     pub to: usize,
-}
-
-// Ends a run of `count` lines, whose first line is `first` or, if `line` is given, this range of the block. Extends the
-// deferred output by the line if the two are contiguous in the block; otherwise pushes the deferred output first.
-// Returns the range of the deferred output.
-#[inline(always)]
-fn end_run<W: Sink>(
-    by: &LineUniq,
-    count: u64,
-    first: &[u8],
-    block: &[u8],
-    line: Option<Span>,
-    pending: Span,
-    out: &mut Out<W>,
-) -> Result<Span, WriteFault>
-    requires { EndRunPre (uniq_job by.now.job.now).terminator block.now line pending }
-    ensures waits { IfOk result (λ now. IsPending (span_of block.now pending
-        ++ run_text (uniq_job by.now.job.now) (run_of (first_of first.now block.now line) count))
-        block.now now out.old out.new) }
-    ensures wrote { OnErr result (PushEffect out.old out.new (span_of block.now pending
-        ++ run_text (uniq_job by.now.job.now) (run_of (first_of first.now block.now line) count))) }
-    ensures fault { OnErr result (out.new.write_failed ≡ true) }
-{
-    let show = by.job.show;
-    let Some(line) = line else {
-        write_run(by, count, first, out)?;
-        return Ok(pending);
-    };
-    if !has_output(show, count) {
-        return Ok(pending);
-    }
-    if show != Show::Counts && pending.to == line.from {
-        return Ok(Span {
-            from: pending.from,
-            to: line.to,
-        });
-    }
-    flush_with_count(show, count, &block[pending.from..pending.to], out)?;
-    Ok(line)
 }
 
 // The last run of the lines of a block: how many lines it has, its first line with the terminator, unless that was read
@@ -117,48 +62,134 @@ pub(crate) struct LastRun {
     pub len: usize,
 }
 
-// Pushes the output of the runs of the lines that end in the block, except for the last run. `first` is the first line
-// of the current run before the block. Out of line, to keep the loop's values in registers.
-#[inline(never)]
-pub(crate) fn write_runs<W: Sink>(
-    by: &LineUniq,
-    first: &[u8],
-    block: &[u8],
-    out: &mut Out<W>,
-) -> Result<LastRun, WriteFault>
-    requires { ProcessLinesPre by.now.run.count block.now }
-    ensures continues { IfOk result (λ last. RunsWritten (uniq_job by.now.job.now) (run_of first.now by.now.run.count)
-        (run_of (first_of first.now block.now last.line) last.count)
-        (complete_lines (uniq_job by.now.job.now).terminator block.now) out.old out.new) }
-    ensures halts { OnErr result
-        (RunsFailed (uniq_job by.now.job.now) (run_of first.now by.now.run.count)
-        (complete_lines (uniq_job by.now.job.now).terminator block.now) out.old out.new) }
-    ensures span { IfOk result
-        (λ last. IfSome last.line (λ line. (line.from < line.to) × (line.to ≤ length block.now))) }
-    ensures passed { IfOk result (λ last. IsLinesLength (uniq_job by.now.job.now).terminator block.now last.len) }
+// Skips the lines that repeat the line at the start of `bytes`, which has `len` bytes with its terminator. Returns how
+// many there are, and the bytes after them. A line of at most 16 bytes takes one comparison; repeats of a longer line are
+// not found, nor those that start among the last 15 bytes.
+fn skip_repeats(bytes: &[u8], len: usize) -> (u64, &[u8])
+    requires { (0 < len) × (len ≤ length bytes.now) }
+    ensures { drop len bytes.now ≡ repeated result.0 (take len bytes.now) ++ result.1.now }
 {
-    let (job, terminator) = (by.job, by.terminator);
-    let size = block.len();
-    let mut count = by.run.count;
-    let mut line = None;
-    let mut pending = Span { from: 0, to: 0 };
-    let mut run_key = key(job, first);
-    let mut rest = block;
-    'lines: while let Some(at) = find_byte(terminator, rest) {
-        let next = key(job, &rest[..at]);
-        rest = &rest[at + 1..];
-        if run_key == next {
-            count += 1;
-        } else {
-            pending = end_run(by, count, first, block, line, pending, out)?;
-            let to = size - rest.len();
-            let from = to - at - 1;
-            line = Some(Span { from, to });
-            run_key = next;
-            count = 1;
-        }
+    let mut count = 0;
+    let mut rest = &bytes[len..];
+    while same_short_start(bytes, rest, len) {
+        count += 1;
+        rest = &rest[len..];
     }
-    out.push(&block[pending.from..pending.to])?;
-    let len = size - rest.len();
-    Ok(LastRun { count, line, len })
+    (count, rest)
+}
+
+// Writes runs, by the options of a job.
+#[derive(Drop)]
+pub(crate) struct RunWriter<'a> {
+    pub job: &'a UniqJob,
+    pub terminator: u8,
+    ghost ends: { terminator ≡ (uniq_job job.now).terminator },
+}
+
+impl RunWriter<'_> {
+    // Pushes the output of a run of `count` lines, of which `first` is the first.
+    pub(crate) fn write_run<W: Sink>(
+        &self,
+        count: u64,
+        first: &[u8],
+        out: &mut Out<W>,
+    ) -> Result<(), WriteFault>
+        ensures { PushPost out.old out.new (run_text (uniq_job self.now.job.now) (run_of first.now count)) result }
+    {
+        let show = self.job.show;
+        if !has_output(show, count) {
+            return out.push(b"");
+        }
+        flush_with_count(show, count, b"", out)?;
+        out.push_line(b"", first, &[self.terminator])
+    }
+
+    // Ends a run of `count` lines, whose first line is `first` or, if `line` is given, this range of the block. Extends
+    // the deferred output by the line if the two are contiguous in the block; otherwise pushes the deferred output
+    // first. Returns the range of the deferred output.
+    #[inline(always)]
+    fn end_run<W: Sink>(
+        &self,
+        count: u64,
+        first: &[u8],
+        block: &[u8],
+        line: Option<Span>,
+        pending: Span,
+        out: &mut Out<W>,
+    ) -> Result<Span, WriteFault>
+        requires { EndRunPre (uniq_job self.now.job.now).terminator block.now line pending }
+        ensures waits { IfOk result (λ now. IsPending (span_of block.now pending
+            ++ run_text (uniq_job self.now.job.now) (run_of (first_of first.now block.now line) count))
+            block.now now out.old out.new) }
+        ensures wrote { OnErr result (PushEffect out.old out.new (span_of block.now pending
+            ++ run_text (uniq_job self.now.job.now) (run_of (first_of first.now block.now line) count))) }
+        ensures fault { OnErr result (out.new.write_failed ≡ true) }
+    {
+        let show = self.job.show;
+        let Some(line) = line else {
+            self.write_run(count, first, out)?;
+            return Ok(pending);
+        };
+        if !has_output(show, count) {
+            return Ok(pending);
+        }
+        if show != Show::Counts && pending.to == line.from {
+            return Ok(Span {
+                from: pending.from,
+                to: line.to,
+            });
+        }
+        flush_with_count(show, count, &block[pending.from..pending.to], out)?;
+        Ok(line)
+    }
+
+    // Pushes the output of the runs of the lines that end in the block, except for the last run. The current run has
+    // `carried` lines before the block, of which `first` is the first. Out of line, to keep the loop's values in
+    // registers.
+    #[inline(never)]
+    pub(crate) fn write_runs<W: Sink>(
+        &self,
+        carried: u64,
+        first: &[u8],
+        block: &[u8],
+        out: &mut Out<W>,
+    ) -> Result<LastRun, WriteFault>
+        requires { ProcessLinesPre carried block.now }
+        ensures continues { IfOk result (λ last. RunsWritten (uniq_job self.now.job.now) (run_of first.now carried)
+            (run_of (first_of first.now block.now last.line) last.count)
+            (complete_lines (uniq_job self.now.job.now).terminator block.now) out.old out.new) }
+        ensures halts { OnErr result
+            (RunsFailed (uniq_job self.now.job.now) (run_of first.now carried)
+            (complete_lines (uniq_job self.now.job.now).terminator block.now) out.old out.new) }
+        ensures span { IfOk result
+            (λ last. IfSome last.line (λ line. (line.from < line.to) × (line.to ≤ length block.now))) }
+        ensures passed { IfOk result (λ last. IsLinesLength (uniq_job self.now.job.now).terminator block.now last.len) }
+    {
+        let (job, terminator) = (self.job, self.terminator);
+        let size = block.len();
+        let mut count = carried;
+        let mut line = None;
+        let mut pending = Span { from: 0, to: 0 };
+        let mut run_key = key(job, first);
+        let mut rest = block;
+        'lines: while let Some(at) = find_byte(terminator, rest) {
+            let next = key(job, &rest[..at]);
+            if run_key == next {
+                let (repeats, left) = skip_repeats(rest, at + 1);
+                count += 1 + repeats;
+                rest = left;
+            } else {
+                rest = &rest[at + 1..];
+                pending = self.end_run(count, first, block, line, pending, out)?;
+                let to = size - rest.len();
+                let from = to - at - 1;
+                line = Some(Span { from, to });
+                run_key = next;
+                count = 1;
+            }
+        }
+        out.push(&block[pending.from..pending.to])?;
+        let len = size - rest.len();
+        Ok(LastRun { count, line, len })
+    }
 }

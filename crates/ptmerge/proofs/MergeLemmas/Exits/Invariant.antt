@@ -2,22 +2,25 @@
 -- key than a processed line. So the output for the processed lines is a prefix of the output for all inputs that begin
 -- with the lines read so far.
 use Rattle.ptmerge.proofs
-use proofs.Common.{◌≡◌, ◌⊎◌, inr, ℕ, List, Bool, true, false, refl, ◌∙◌, ap, arith, bytes_eq, Ordering, Less, Equal}
-use proofs.Common.{Greater, is_eq, is_gt, is_le, bytes_decides, tied_itself, Cmp, byte_cmp, line_cmp, ◌<◌, length}
-use proofs.Common.{get_or, suc, zero, [], ◌∷◌, ◌++◌, cond, map, append_assoc, append-nil, filter, flat_map, Side, First}
-use proofs.Common.{Second, Lines, MergeTool, insert_key, distinct_keys, keys, lines_with_key, entries_of_key}
-use proofs.Common.{entries_by_key, Key, ◌+◌, Option, Some, None, nat_lt, unwrap_or, if◌then◌else◌, last_or}
-use proofs.Common.{sorted_prefix, first_disorder, FirstDisorder, ◌&&◌, not, sym, flat_map-append, earlier_disorder}
-use proofs.Common.{is_up_to, subst, is_lt, Output, PushEffect, unlines, push_trans, push_nothing, unlines-append}
-use proofs.Common.{filter-append, disorder, is_below, is_decided, merged_entries, option_map, with_side}
-use proofs.Common.{disordered_line}
+pub use proofs.Common.{◌≡◌, ◌⊎◌, inr, ℕ, List, Bool, true, false, refl, ◌∙◌, ap, arith, bytes_eq, Less, Equal}
+pub use proofs.Common.{Greater, is_eq, is_gt, is_le, bytes_decides, tied_itself, Cmp, byte_cmp, line_cmp, ◌<◌, length}
+pub use proofs.Common.{get_or, suc, zero, [], ◌∷◌, ◌++◌, cond, map, append_assoc, append-nil, filter, flat_map, Side}
+pub use proofs.Common.{First, Second, Lines, MergeTool, distinct_keys, keys, lines_with_key, entries_of_key}
+pub use proofs.Common.{entries_by_key, Key, ◌+◌, Option, Some, None, nat_lt, unwrap_or, if◌then◌else◌, last_or}
+pub use proofs.Common.{sorted_prefix, first_disorder, FirstDisorder, ◌&&◌, not, sym, flat_map-append}
+pub use proofs.Common.{is_up_to, subst, is_lt, Output, PushEffect, unlines, push_trans, push_nothing, unlines-append}
+pub use proofs.Common.{disorder, merged_entries, option_map, with_side}
+pub use proofs.Common.{disordered_line}
 use Rattle.std.specs.Cmp.{IsTotalOrder}
 use Rattle.ptmerge.specs.OrderLaws.{reversed_same_bytes, byte_cmp_equal}
-use Rattle.std.proofs.Common.{rules}
-use Rattle.std.proofs.lemmas.Grind.{common_steps}
+pub use Rattle.std.proofs.Common.{rules}
+pub use Rattle.std.proofs.lemmas.Grind.{common_steps}
 use proofs.MergeLemmas.Exits.SlotLines.{put_each}
-use Rattle.ptmerge.specs.MergeSpec.{MergeDisorder, is_past}
+pub use Rattle.ptmerge.specs.MergeSpec.{MergeDisorder, is_past}
 use Rattle.std.proofs.lemmas.Cmp.{back_total, nat_list_cmp_total, upto}
+pub use Rattle.std.proofs.lemmas.List.Elements.{filter-append}
+pub use Rattle.std.specs.declared.cmp.Ordering.{Ordering}
+pub use Rattle.ptmerge.specs.MergeSpec.{earlier_disorder, insert_key, is_below, is_decided}
 
 -- ---- keys in order
 
@@ -51,7 +54,7 @@ module _ (cmp : Cmp) (o : IsKeyOrder cmp) where
   self_at_most a = ap is_gt (tied_itself o.total a)
 
   pub equal_is : (a b : List ℕ) → is_eq (cmp a b) ≡ bytes_eq a b
-  equal_is a b = grind (arith, not_same a b, tied_itself o.total a, o.exact a b, bytes_decides a b)
+  equal_is a b = grind (arith, not_same, tied_itself, bytes_decides)
 
   pub at_most_trans : (a b c : List ℕ) → AtMost cmp a b → AtMost cmp b c → AtMost cmp a c
   at_most_trans a b c p q = upto o.total a b c p q
@@ -109,10 +112,6 @@ EachKey-at P key [] i low e = absurd (omega (arith, low))
 EachKey-at P key (x ∷ xs) zero low (here, _) = here
 EachKey-at P key (x ∷ xs) (suc i) low (_, more) = EachKey-at P key xs i (omega (arith, low)) more
 
-pub EachKey-weaker : (P Q : List ℕ → Type 0) → ((x : List ℕ) → P x → Q x) → (key : Key) (xs : Lines) → EachKey P key xs
-    → EachKey Q key xs
-EachKey-weaker P Q f key xs e = Each-weaker P Q f _ e
-
 pub Each-all : (P : List ℕ → Type 0) → ((x : List ℕ) → P x) → (xs : Lines) → Each P xs
 Each-all P f [] = tt
 Each-all P f (x ∷ xs) = (f x, Each-all P f xs)
@@ -156,13 +155,13 @@ module _ (tool : MergeTool) (o : IsKeyOrder tool.cmp) where
   pub at_most-same : (key : Key) (k : List ℕ) (f r : Lines) → EachKey (λ x. x ≡ k) key f → EachKey (AtMost cmp k) key r
       → EachKey (AtMost cmp k) key (f ++ r)
   at_most-same key k f r e h =
-      EachKey-append _ key f r (EachKey-weaker _ _ (λ x is. rw is (self_at_most cmp o k)) _ f e) h
+      EachKey-append _ key f r (Each-weaker _ _ (λ x is. rw is (self_at_most cmp o k)) _ e) h
 
   -- no line with a greater key has the key
   pub lines_with_key-above : (key : Key) (k : List ℕ) (r : Lines) → EachKey (Above cmp k) key r
       → lines_with_key key r k ≡ []
   lines_with_key-above key k r a =
-      kept_none (λ y. bytes_eq y k) key r (EachKey-weaker _ _ (λ y g. above_not_same cmp o k y g) _ _ a)
+      kept_none (λ y. bytes_eq y k) key r (Each-weaker _ _ (λ y g. above_not_same cmp o k y g) _ a)
 
 -- ---- lines in order
 
@@ -227,7 +226,7 @@ none_disordered cmp key last n (x ∷ ls) e = grind (arith, none_disordered cmp 
 -- lines without a disorder are in order
 pub sorted_from_none : (cmp : Cmp) (key : Key) (ls : Lines) → first_disorder cmp key ls ≡ None
     → IsSortedFrom cmp key None ls
-sorted_from_none cmp key ls e = none_disordered cmp key None 0 ls (sym (first_disorder_is cmp key ls) ∙ e)
+sorted_from_none cmp key ls e = grind (arith, none_disordered, first_disorder_is)
 
 -- lines in order, up to a last key
 pub record IsSortedUpTo (cmp : Cmp) (key : Key) (q : Lines) (last : Option (List ℕ)) : Type 0 where
@@ -250,7 +249,7 @@ after_from cmp o key k n (x ∷ w) =
     let ih = after_from cmp o key (key x) (n + 1) w in
     let (more, _) = ih in
     let weaker : is_gt _ ≡ false → EachKey (AtMost cmp k) key _ =
-    λ h. EachKey-weaker _ _ (λ y a. at_most_trans cmp o k (key x) y h a) _ _ more in
+    λ h. Each-weaker _ _ (λ y a. at_most_trans cmp o k (key x) y h a) _ more in
     grind (arith, weaker, at_most_trans, self_at_most cmp o k)
 
 -- The lines that may follow in an input: any lines; lines with keys of at least k; none, since the input is out of
@@ -370,8 +369,7 @@ module _ (p : List ℕ → Bool) where
     insert_kept k [] a = refl
     insert_kept k (x ∷ xs) (above, more) =
         let least : cmp k x ≡ Less → insert_key cmp k (filter p xs) ≡ k ∷ filter p xs =
-        λ e. insert_least cmp o k (filter p xs)
-        (each_kept _ xs (Each-weaker _ _ (λ y g. above_trans cmp o k x y (ap is_gt e) g) xs above)) in
+        grind (arith, insert_least, each_kept, Each-weaker, above_trans) in
         let same : cmp k x ≡ Equal → p k ≡ p x = λ e. ap p (o.exact k x e) in
         grind (arith, insert_kept k xs more, least, same)
 
@@ -416,8 +414,7 @@ module _ (p : List ℕ → Bool) where
         each_of [] = refl
         each_of (d ∷ ds) =
             let same : p d ≡ true → entries_of_key tool part d ≡ entries_of_key tool ls d =
-            λ h i. entries d (with_key_kept (key First) d (ls First) h i)
-            (with_key_kept (key Second) d (ls Second) h i) in
+            grind (arith, with_key_kept) in
             grind (arith, each_of ds, same)
 
 -- ---- the least key comes first
@@ -469,7 +466,7 @@ module _ (tool : MergeTool) where
       ++ entries_by_key tool (λ k. w k && not (p k)) ls
   downward_splits o w p down ls =
       let ks = distinct_keys cmp (keys tool ls) in
-      ap (flat_map (entries_of_key tool ls)) (downward_first cmp o w p down ks (ascends_distinct cmp o (keys tool ls)))
+      ap (flat_map (entries_of_key tool ls)) (grind (arith, downward_first, ascends_distinct))
       ∙ flat_map-append (entries_of_key tool ls) (filter (λ k. w k && p k) ks) (filter (λ k. w k && not (p k)) ks)
 
   -- lines of the least key, followed by lines with no lesser keys
@@ -500,23 +497,6 @@ module _ (tool : MergeTool) where
         ∙ (λ i. entries_by_key tool w (λ side. (s side).other i)) ∙ by_keys_kept (λ x. not (p x)) tool o r w in
         downward_splits o w p (grind (arith, at_most_trans, greater_flips)) ls ∙ (λ i. first i ++ rest i)
 
-    pub front_first : (f r : Side → Lines) → ((side : Side) → EachKey (λ x. x ≡ k) (key side) (f side))
-        → ((side : Side) → EachKey (AtMost cmp k) (key side) (r side))
-        → tool.entries k (f First ++ lines_with_key (key First) (r First) k)
-        (f Second ++ lines_with_key (key Second) (r Second) k) ≡ tool.entries k (f First) (f Second)
-        ++ entries_of_key tool r k
-        → entries_by_key tool w (λ side. f side ++ r side) ≡ entries_by_key tool w f ++ entries_by_key tool w r
-    front_first f r own above law =
-        let alone = simp append-nil at (front_is f (λ side. []) own (λ side. tt)) in
-        let rest = front_is (λ side. []) r (λ side. tt) above in
-        grind (
-          arith,
-          alone,
-          rest,
-          front_is f r own above,
-          append_assoc (tool.entries k (f First) (f Second)) (entries_of_key tool r k) (later_entries r),
-        )
-
   -- the lines that may follow in both inputs
   abbrev pub MayCome : (Side → Bound) → (Side → Lines) → Type 0
   MayCome b r = (side : Side) → MayFollow cmp (key side) (b side) (r side)
@@ -525,22 +505,6 @@ module _ (tool : MergeTool) where
   abbrev pub Splits : (Side → Bound) → (Side → Lines) → Type 0
   Splits b p = (w : List ℕ → Bool) (r : Side → Lines) → MayCome b r
       → entries_by_key tool w (λ side. p side ++ r side) ≡ entries_by_key tool w p ++ entries_by_key tool w r
-
-  -- lines are processed whose entries precede those of all lines that may follow
-  pub splits_step : (b d : Side → Bound) (p f : Side → Lines) → Splits b p
-      → ((side : Side) (r : Lines) → MayFollow cmp (key side) (d side) r
-      → MayFollow cmp (key side) (b side) (f side ++ r)) → ((w : List ℕ → Bool) (r : Side → Lines) → MayCome d r
-      → entries_by_key tool w (λ side. f side ++ r side) ≡ entries_by_key tool w f ++ entries_by_key tool w r)
-      → Splits d (λ side. p side ++ f side)
-  splits_step b d p f s u front w r c =
-      let none = λ (side : Side). rw append-nil at (u side [] (may_follow_none cmp (key side) (d side))) in
-      (λ i. entries_by_key tool w (λ side. append_assoc (p side) (f side) (r side) i))
-      ∙ cc (
-        s w (λ side. f side ++ r side) (λ side. u side (r side) (c side)),
-        s w f none,
-        front w r c,
-        append_assoc (entries_by_key tool w p) (entries_by_key tool w f) (entries_by_key tool w r),
-      )
 
 -- ---- the bytes written
 
@@ -625,45 +589,62 @@ lag_invariant_starts {tool} o {b} {p} {mid = mid} m clean more = record {
   first = λ all s. (_, input_split o m s);
 }
 
--- the lines `f` of one key, processed by one input, precede all lines that may follow in it
-pub record IsLeastKeyRun (cmp : Cmp) (key : Key) (b : Bound) (k : List ℕ) (f : Lines) : Type 0 where
+-- the lines `f` of one key, processed by one input, may follow at the bound `b`, and precede all lines that may follow
+-- at the bound `d`
+pub record IsLeastKeyRun (cmp : Cmp) (key : Key) (b d : Bound) (k : List ℕ) (f : Lines) : Type 0 where
   pub own : EachKey (λ y. y ≡ k) key f
-  pub may_follow : (r : Lines) → MayFollow cmp key b r → MayFollow cmp key b (f ++ r)
-  pub later : IsLater cmp key (AtLeast k) b
+  pub may_follow : (r : Lines) → MayFollow cmp key d r → MayFollow cmp key b (f ++ r)
+  pub own_under : IsUnder cmp b k
+  pub under : (j : List ℕ) → IsUnder cmp b j → IsUnder cmp d j
+  pub later : IsLater cmp key (AtLeast k) d
 
 -- the current line, or no line
 pub line_is_least_run : {cmp : Cmp} (o : IsKeyOrder cmp) {key : Key} {b : Bound} {k x : List ℕ} → b ≡ AtLeast (key x)
-    → key x ≡ k → IsLeastKeyRun cmp key b k (x ∷ [])
+    → key x ≡ k → IsLeastKeyRun cmp key b b k (x ∷ [])
 line_is_least_run = grind (arith, self_at_most)
 
 -- such lines are processed
 pub write_least_run : {tool : MergeTool} (o : IsKeyOrder tool.cmp) (k : List ℕ) (q f : Side → Lines)
-    {b : Side → Bound} {p : Side → Lines} {was is new : Output}
-    → ((side : Side) → IsLeastKeyRun tool.cmp (tool.key side) (b side) k (f side))
+    {b d : Side → Bound} {p : Side → Lines} {was is new : Output}
+    → ((side : Side) → IsLeastKeyRun tool.cmp (tool.key side) (b side) (d side) k (f side))
     → ((side : Side) → q side ≡ p side ++ f side) → tool.entries k [] [] ≡ []
-    → ((r : Side → Lines) → MayCome tool b r → tool.entries k (f First ++ lines_with_key (tool.key First) (r First) k)
+    → ((r : Side → Lines) → MayCome tool d r → tool.entries k (f First ++ lines_with_key (tool.key First) (r First) k)
     (f Second ++ lines_with_key (tool.key Second) (r Second) k) ≡ tool.entries k (f First) (f Second) ++ entries_of_key
     tool r k)
     → is.write_failed ≡ false → MergeInvariant tool b p was is
-    → PushEffect is new (output_of tool f) → MergeInvariant tool b q was new
-    × AllWritten tool b q was new
-write_least_run {tool} o k q f {b} {p} {was} {is} {new} front all none law clean m wrote =
+    → PushEffect is new (output_of tool f) → MergeInvariant tool d q was new
+    × AllWritten tool d q was new
+write_least_run {tool} o k q f {b} {d} {p} {was} {is} {new} front all none law clean m wrote =
     let nothing =
     λ (side : Side). rw append-nil at
-    ((front side).may_follow [] (may_follow_none tool.cmp (tool.key side) (b side))) in
+    ((front side).may_follow [] (may_follow_none tool.cmp (tool.key side) (d side))) in
     let texts = ap (unlines tool.terminator) (m.splits all_keys f nothing)
     ∙ unlines-append _ (entries_by_key tool all_keys p) (entries_by_key tool all_keys f) in
     let under : (of side : Side) → EachKey (IsUnder tool.cmp (b of)) (tool.key side) (p side ++ f side) =
     λ of side. EachKey-append _ (tool.key side) _ _ (m.under of side)
-    (EachKey-weaker _ _ (λ y e. rw e ((front of).later.under k (self_at_most _ o k))) _ _ (front side).own) in
-    let now : MergeInvariant tool b (λ side. p side ++ f side) was new = record {
-      splits = splits_step tool b b p f m.splits (λ side. (front side).may_follow)
-          (λ w r c. front_first tool o w k none f r (λ side. (front side).own)
-          (λ side. (front side).later.may_follow (r side) (c side)) (law r c));
-      under = under;
+    (Each-weaker _ _ (λ y e. rw e (front of).own_under) _ (front side).own) in
+    let now : MergeInvariant tool d (λ side. p side ++ f side) was new = record {
+      splits = λ w r c.
+          let own = λ (side : Side). (front side).own in
+          let above = λ (side : Side). (front side).later.may_follow (r side) (c side) in
+          let alone = simp append-nil at (front_is tool o w k none f (λ side. []) own (λ side. tt)) in
+          let rest = front_is tool o w k none (λ side. []) r (λ side. tt) above in
+          (λ i. entries_by_key tool w (λ side. append_assoc (p side) (f side) (r side) i)) ∙ grind (
+            arith,
+            m.splits w (λ side. f side ++ r side) (λ side. (front side).may_follow (r side) (c side)),
+            m.splits w f nothing,
+            alone,
+            rest,
+            front_is tool o w k none f r own above,
+            law r c,
+            append_assoc (tool.entries k (f First) (f Second)) (entries_of_key tool r k)
+                (later_entries tool o w k none r),
+            append_assoc (entries_by_key tool w p) (entries_by_key tool w f) (entries_by_key tool w r),
+          );
+      under = λ of side. Each-weaker _ _ (front of).under _ (under of side);
       wrote = rw texts (push_trans _ _ _ _ _ clean m.wrote wrote);
     } in
-    subst (λ (l : Side → Lines). MergeInvariant tool b l was new × AllWritten tool b l was new)
+    subst (λ (l : Side → Lines). MergeInvariant tool d l was new × AllWritten tool d l was new)
     (λ i side. sym (all side) i) (
       now,
       record {
@@ -677,7 +658,7 @@ write_least_run {tool} o k q f {b} {p} {was} {is} {new} front all none law clean
         more = wrote;
         all = sym texts;
         split = λ side. refl;
-        under = under;
+        under = now.under;
         under_bound = under;
         may_follow = λ side. (front side).may_follow;
         first = λ l s. (_, input_split o now s);
@@ -690,7 +671,7 @@ pub bounds_change : {tool : MergeTool} {b d : Side → Bound} {p : Side → Line
     → MergeInvariant tool d p was is
 bounds_change later m = record {
   splits = λ w r c. m.splits w r (λ side. (later side).may_follow (r side) (c side));
-  under = λ of side. EachKey-weaker _ _ (later of).under _ _ (m.under of side);
+  under = λ of side. Each-weaker _ _ (later of).under _ (m.under of side);
   wrote = m.wrote;
 }
 
@@ -699,7 +680,7 @@ pub bound_changes : {tool : MergeTool} {b : Side → Bound} {p : Side → Lines}
     → MergeInvariant tool b p was is → IsLater tool.cmp (tool.key s) (b s) d
     → MergeInvariant tool (with_side s d b) p was is
 bound_changes {tool} {b} s {d} m later = bounds_change
-    (put_each (λ side. IsLater tool.cmp (tool.key side) (b side)) s d b later (λ side. same_bound)) m
+    (grind (arith, put_each, same_bound)) m
 
 -- the merge is at its end: the disorder is the one found, if any, and no line that may follow changes the output
 abbrev pub IsExactStop : MergeTool → (Side → Bound) → Option (Side × ℕ) → Type 0
@@ -725,7 +706,7 @@ module _ (cmp : Cmp) (o : IsKeyOrder cmp) where
   coming_under : (key : Key) (b : Bound) (x : List ℕ) (r : Lines) → IsUnder cmp b x → MayFollow cmp key b r
       → EachKey (AtMost cmp x) key r
   coming_under key NoBound x r u c = absurd u
-  coming_under key (AtLeast l) x r u c = EachKey-weaker _ _ (λ k h. at_most_trans cmp o x l k u h) _ _ c
+  coming_under key (AtLeast l) x r u c = Each-weaker _ _ (λ k h. at_most_trans cmp o x l k u h) _ c
   coming_under key (AfterDisorder d) x r u c = rw c tt
   coming_under key NothingMore x r u c = rw c tt
 
@@ -736,7 +717,7 @@ module _ (cmp : Cmp) (o : IsKeyOrder cmp) where
     where
       by : (l : Option (List ℕ)) → last_or None (map key p) ≡ l → EachKey (λ k. is_below cmp k l ≡ false) other_key r
       by None e = Each-all _ (λ k. refl) _
-      by (Some x) e = EachKey-weaker _ _ (λ k h. not_below k x h) _ _
+      by (Some x) e = Each-weaker _ _ (λ k h. not_below k x h) _
           (coming_under other_key b x r (last_has key (IsUnder cmp b) None p x e (λ y bad. cc) u) c)
 
   downward_up_to : (d : Option MergeDisorder) → IsDownwardClosed cmp (is_up_to cmp d)

@@ -1,19 +1,24 @@
 -- Lines in the slots of a store. A slot changes only if its own input reads, so two lines of each input, none longer
 -- than its longest line, bound the bytes stored.
 use Rattle.ptmerge.proofs
-use proofs.Common.{◌≡◌, ◌⊎◌, ℕ, ◌+◌, ◌<◌, ◌≤◌, true, false, List, [], ◌∷◌, ◌++◌, length, max, refl, ◌∙◌, arith}
-use proofs.Common.{append_assoc, length-append, append-nil, FillLine, Received, IsConsistent, known_lines, Reader}
-use proofs.Common.{ReaderAdvance, AdvanceOk, IsDone, Slots, unlines, lines, complete_lines, IsLine, AreLines}
-use proofs.Common.{max_length, received_with, advance_ok_trans, unlines_push, IsSound, HasNoLine, IsFirstLineAndBlock}
-use proofs.Common.{◌≢◌, zero, suc, ◌*◌, get_or, set, line, total_bytes, with_new_slot, with_line, Side, First, Second}
-use proofs.Common.{Sorted, HasSlots, EnsureFourSlotsPost, ClearFourSlotsPost, Bool, both, with_side, other, with_input}
-use proofs.Common.{both_sides, length-set, Lines, MergeTool, drop, sym}
-use Rattle.ptlines.proofs.MaxLength.{max_length-append, piece_le_max_length}
-use Rattle.std.proofs.Common.{rules}
-use Rattle.std.proofs.lemmas.Grind.{common_steps}
+pub use proofs.Common.{◌≡◌, ◌⊎◌, ℕ, ◌+◌, ◌<◌, ◌≤◌, true, false, List, [], ◌∷◌, ◌++◌, length, max, refl, ◌∙◌, arith}
+pub use proofs.Common.{append_assoc, length-append, append-nil, Received, IsConsistent, known_lines, Reader}
+pub use proofs.Common.{Slots, unlines, lines, complete_lines, IsLine, AreLines}
+pub use proofs.Common.{max_length, advance_ok_trans, HasNoLine}
+pub use proofs.Common.{IsFirstLineAndBlock, ◌≢◌, zero, suc, ◌*◌, get_or, set, line, total_bytes, with_new_slot}
+pub use proofs.Common.{with_line, Side, First, Second, Sorted, HasSlots, Bool}
+pub use proofs.Common.{both, with_side, other, length-set, Lines, MergeTool, drop, sym}
+pub use Rattle.ptlines.proofs.MaxLength.{max_length-append, piece_le_max_length}
+pub use Rattle.std.proofs.Common.{rules}
+pub use Rattle.std.proofs.lemmas.Grind.{common_steps}
 use Rattle.ptlines.proofs.TextLaws.{AreLines_push, complete_lines_cons, complete_lines_none, lines_of_last}
 use Rattle.ptlines.proofs.TextLaws.{lines_of_unlines}
 use Rattle.std.proofs.lemmas.List.{drop-set-lt}
+pub use Rattle.ptlines.proofs.Received.{received_with}
+pub use Rattle.ptlines.proofs.TextLaws.{unlines_push}
+pub use Rattle.ptlines.specs.ReadLine.{FillLine}
+pub use Rattle.ptlines.specs.Readers.{AdvanceOk, IsDone, IsSound, ReaderAdvance}
+pub use Rattle.ptmerge.specs.MergeSlots.{EnsureFourSlotsPost, ClearFourSlotsPost}
 
 -- ---- lines that were read
 
@@ -83,12 +88,8 @@ lines_read_more {end} {old} {now} {new} {ls} c e =
         length-append,
       );
       advance_ok = advance_ok_trans old now new c.given _ c.advance_ok e.advance_ok;
-      terminator = e.advance_ok.reads.terminator ∙ c.terminator;
+      terminator = grind arith;
     }
-
-pub lines_read_eof : {end : ℕ} {old now new : Reader} {ls : List (List ℕ)} → LinesRead end old now ls
-    → AdvanceOk now new [] → IsDone new → LinesRead end old new ls
-lines_read_eof = grind (arith, advance_ok_trans)
 
 -- the list `all` continues the lines `ls`
 pub record Continues (now : Reader) (ls all : List (List ℕ)) : Type 0 where
@@ -181,14 +182,6 @@ put_same = grind arith
 
 pub put_other : {X : Type 0} (s : Side) (x : X) (f : Side → X) → with_side s x f (other s) ≡ f (other s)
 put_other = grind arith
-
--- a side that is changed as an input
-pub with_side_is : {X : Type 0} (s : Side) (x : X) (f : Side → X) (side : Side)
-    → with_side s x f side ≡ with_input both_sides s x f side
-with_side_is = grind arith
-
-pub with_own : {X : Type 0} (s : Side) (f : Side → X) (side : Side) → with_input both_sides s (f s) f side ≡ f side
-with_own = grind (arith, with_side_is, put_each)
 
 -- a property of one side and of the other
 pub side_case : (Q : Side → Type 0) (s : Side) → Q s → Q (other s) → (side : Side) → Q side
@@ -324,13 +317,7 @@ group_store_line {tool} {store = store} {ls = ls} {now} {g} s cursor slots x k u
       empty = k.empty;
       lines = inside;
       room = λ all more. k.room all (on all more);
-      fits = λ all more. omega (
-        arith,
-        k.fits all (on all more),
-        size,
-        total_within tool g _ inside more
-            (k.room all (on all more)),
-      );
+      fits = λ all more. grind (arith, more, total_within);
       four = omega (arith, size);
       denied = k.denied;
     })

@@ -1,18 +1,20 @@
 -- Each iteration processes one more operand. If one fails, the run stops there, and the operands after it are
 -- unchanged.
 use Rattle.ptrun.proofs
-use proofs.Common.{Standard, arith, drop, err_from_is_err_and, length, positions, scaled_Fits, sym, ◌+◌, ◌<◌, ◌∙◌}
-use proofs.OperandInputs.{names_counted, only_within, operand_low, operand_step, position_in_range, positions_end}
-use proofs.Sequential.{done_all, done_as, done_nothing, done_operand, done_stopped, done_unopened, operand_ready}
-use proofs.ToolRuns.{decides_all, operand_post, operand_pre, sequential_post}
+use proofs.Common.{Standard, arith, drop, err_from_is_err_and, length, positions, scaled_Fits, sym, ◌+◌, ◌∙◌}
+use proofs.OperandInputs.{OperandStep, names_counted, only_within, operand_step, position_in_range, positions_end}
+use proofs.Sequential.{done_all, done_nothing, done_operand, done_stopped, done_unopened, operand_ready}
+use proofs.ToolRuns.{decides_all, read_in_turn, sequential_post}
 use Rattle.ptrun.proofs.driver.run_one_by_one.Given as given
 use Rattle.ptrun.proofs.driver.run_one_by_one.Goals.{After-position_of-position, then-is_refused}
 use Rattle.ptrun.proofs.driver.run_one_by_one.Goals.{else-is_refused+in_ok-run_on}
 use Rattle.ptrun.proofs.driver.run_one_by_one.Goals as goal
 
--- The position of the operand is that of an input.
-low : (g : given.Over) (c : After-position_of-position g) → c.position_of-position.result < length c.args.inputs.now
-low g c = operand_low c.args.order.now c.loop-input.input-index Standard c.requires.ready.given.in_range
+-- The operand of this iteration.
+turn : (g : given.Over) (c : After-position_of-position g)
+    → OperandStep c.args.order.now c.loop-input.input-index c.position_of-position.result (length c.args.inputs.now)
+turn g c =
+    operand_step c.args.order.now c.loop-input.input-index Standard c.requires.ready.given.in_range
     c.loop-input-test.true c.position_of-position.ensures
 
 pub loop-input-init : goal.loop-input-init
@@ -23,17 +25,15 @@ loop-input-init g c =
 pub run_on-requires-clause-within : goal.run_on-requires-clause-within
 run_on-requires-clause-within g c = only_within (omega (
   arith,
-  low g (goal.at.run_on-requires-clause-within g c).After-position_of-position,
+  (turn g (goal.at.run_on-requires-clause-within g c).After-position_of-position).low,
   c.loop-input.auto.inputs,
 ))
 
 pub run_on-requires-clause-ready : goal.run_on-requires-clause-ready
 run_on-requires-clause-ready g c =
     let s = g.T.Tool.tool c.args.tool.now in
-    let turn = operand_step c.args.order.now c.loop-input.input-index _ c.requires.ready.given.in_range
-    c.loop-input-test.true
-    c.position_of-position.ensures in
-    operand_pre s c.loop-input.out c.requires.in_turn
+    let turn = turn g (goal.at.run_on-requires-clause-ready g c).After-position_of-position in
+    rw (read_in_turn s c.requires.in_turn)
     (operand_ready c.requires.ready.given.fresh c.loop-input.invariant turn.low c.index-inputs-position.result
     (sym c.is_refused.ensures.refused ∙ c.if-is_refused.false))
 
@@ -42,22 +42,19 @@ loop-input-preserved g c =
     let s = g.T.Tool.tool c.args.tool.now in
     let k = c.loop-input.invariant in
     let d = c.index-inputs-position.result in
-    let turn = operand_step c.args.order.now c.loop-input.input-index _ c.requires.ready.given.in_range
-    c.loop-input-test.true
-    c.position_of-position.ensures in
+    let turn = turn g (goal.at.loop-input-preserved g c).After-position_of-position in
     elim c.if-is_refused.branch [
       | then-is_refused w ↦
-          done_as w.inputs-is w.store-is w.out-is w.messages-is w.done-is turn.next
+          simp (w.inputs-is, w.store-is, w.out-is, w.messages-is, w.done-is, turn.next)
           (done_unopened c.requires.ready.given.fresh k turn.low d (sym c.is_refused.ensures.refused
           ∙ w.if-is_refused.true)
           (rw (w.name.ensures, w.name_at.ensures) at w.say_unopened.ensures))
       | else-is_refused+in_ok-run_on w ↦
-          done_as w.inputs-is w.store-is w.out-is w.messages-is w.done-is turn.next
+          simp (w.inputs-is, w.store-is, w.out-is, w.messages-is, w.done-is, turn.next)
           (done_operand c.requires.ready.given.fresh k turn.low d (sym c.is_refused.ensures.refused
           ∙ w.if-is_refused.false)
           c.is_refused.ensures.sound
-          (operand_post s c.requires.in_turn
-          w.run_on.ensures) w.in_ok-run_on.was)
+          (rw (read_in_turn s c.requires.in_turn) at w.run_on.ensures) w.in_ok-run_on.was)
     ]
 
 pub returns-in_err-run_on : goal.returns-in_err-run_on
@@ -65,13 +62,13 @@ returns-in_err-run_on g c =
     let s = g.T.Tool.tool c.args.tool.now in
     let i = c.loop-input.input-index in
     let in_turn = c.requires.in_turn in
-    let turn = operand_step c.args.order.now i _ c.requires.ready.given.in_range c.loop-input-test.true
-    c.position_of-position.ensures in
+    let turn = turn g (goal.at.returns-in_err-run_on g c).After-position_of-position in
     let e = err_from_is_err_and c.from_residual.result c.from_residual.ensures.1 in
-    rw (e.1, e.2) (sequential_post _ _ _ s in_turn
+    rw (e.1, e.2)
+    (sequential_post _ _ _ s in_turn
     (rw turn.split at (done_stopped c.requires.ready.given.fresh c.loop-input.invariant turn.low
     c.index-inputs-position.result (sym c.is_refused.ensures.refused ∙ c.if-is_refused.false)
-    c.is_refused.ensures.sound (operand_post s in_turn c.run_on.ensures) (decides_all s)
+    c.is_refused.ensures.sound (rw (read_in_turn s in_turn) at c.run_on.ensures) (decides_all s)
     (drop (i + 1) (positions c.args.order.now)) c.in_err-run_on.was)))
 
 pub returns : goal.returns
@@ -83,17 +80,18 @@ returns g c =
 
 pub bounds-inputs-position : goal.bounds-inputs-position
 bounds-inputs-position g c =
-    omega (arith, low g (goal.at.bounds-inputs-position g c).After-position_of-position, c.loop-input.auto.inputs)
+    let low = (turn g (goal.at.bounds-inputs-position g c).After-position_of-position).low in
+    omega (arith, low, c.loop-input.auto.inputs)
 
 pub offset_bounds-inputs-position : goal.offset_bounds-inputs-position
 offset_bounds-inputs-position g c =
-    let low_now = low g (goal.at.offset_bounds-inputs-position g c).After-position_of-position in
+    let low = (turn g (goal.at.offset_bounds-inputs-position g c).After-position_of-position).low in
     search (scaled_Fits, arith)
 
 pub name_at-requires : goal.name_at-requires
 name_at-requires g c = omega (
   arith,
-  low g (goal.at.name_at-requires g c).After-position_of-position,
+  (turn g (goal.at.name_at-requires g c).After-position_of-position).low,
   names_counted c.args.names.now (length c.args.inputs.now) c.requires.ready.given.named,
 )
 

@@ -1,8 +1,8 @@
 -- If no byte is equal to the one that it is compared with, or the four masks are full, all 64 bytes are kept. Otherwise
 -- each of the four vectors appends those of its bytes that are kept.
 use Rattle.ptflow.proofs
-use proofs.Common.{ℕ, ◌+◌, ◌++◌, ◌∙◌, ap, sym, arith, take, set_has, is_not_repeat}
-use proofs.Vectors.Compress.{all_kept_in_four, flags_at, kept_in_four, none_equal_in_four, pairs_long, select_kept_at}
+use proofs.Common.{◌+◌, ◌++◌, ◌∙◌, ap, sym, arith, take, set_has, is_not_repeat}
+use proofs.Vectors.Compress.{all_kept_in_four, flags_at, kept_in_four, none_equal_in_four, pairs_long}
 use proofs.simd.filter.filter64.Goals as goal
 
 pub returns-then-same_ab-same16-eq0-clause-kept : goal.returns-then-same_ab-same16-eq0-clause-kept
@@ -28,12 +28,8 @@ returns-clause-kept c =
     let pairs = c.args.pairs in
     let flags = flags_at test pairs.before.now pairs.bytes.now in
     let long = pairs_long (λ a b. is_not_repeat test (a, b)) pairs.before.now pairs.bytes.now pairs.paired in
-    let kept = λ (k : ℕ). select_kept_at test pairs.before.now pairs.bytes.now k in
     kept_in_four test pairs.before.now pairs.bytes.now pairs.paired at c.requires.lanes _
-    (c.compress16-first.ensures.packed (flags at) (long at (omega arith)) c.keep16-keep_a.ensures ∙ kept at _)
-    (c.compress16-second.ensures.packed (flags (at + 16)) (long (at + 16) (omega arith)) c.keep16-keep_b.ensures
-    ∙ kept (at + 16) _)
-    (c.compress16-third.ensures.packed (flags (at + 32)) (long (at + 32) (omega arith)) c.keep16-keep_c.ensures
-    ∙ kept (at + 32) _)
-    (c.compress16.ensures.packed (flags (at + 48)) (long (at + 48) (omega arith)) c.keep16-keep_d.ensures
-    ∙ kept (at + 48) _)
+    (c.compress16-first.ensures.packed (flags at) (long at (omega arith)) c.keep16-keep_a.ensures)
+    (c.compress16-second.ensures.packed (flags (at + 16)) (long (at + 16) (omega arith)) c.keep16-keep_b.ensures)
+    (c.compress16-third.ensures.packed (flags (at + 32)) (long (at + 32) (omega arith)) c.keep16-keep_c.ensures)
+    (c.compress16.ensures.packed (flags (at + 48)) (long (at + 48) (omega arith)) c.keep16-keep_d.ensures)

@@ -18,21 +18,22 @@ returns-then-has_failed g c = pass_unchanged (cut_tool (cut_job c.args.job.now))
     (sym c.has_failed.ensures ∙ c.if-has_failed.true)
 
 pub run_lines-requires-clause-tool : goal.run_lines-requires-clause-tool
-run_lines-requires-clause-tool g c = cut_line_tool (cut_job c.args.job.now) _ c.if-job.true
+run_lines-requires-clause-tool g c = cut_line_tool (cut_job c.new.result.by.job.now) _ c.new.result.by.by_fields
 
 pub returns-then-job : goal.returns-then-job
 returns-then-job g c =
-    pass_set _ c.run_lines.ensures c.set_ending.ensures.set (ends _) (sym c.has_failed.ensures ∙ c.if-has_failed.false)
+    pass_set _ (rw c.new.ensures at c.run_lines.ensures) c.set_ending.ensures.set (ends _)
+    (sym c.has_failed.ensures ∙ c.if-has_failed.false)
 
 pub returns : goal.returns
 returns g c =
     let job = cut_job c.args.job.now in
-    let by = c.new.result.by in
+    let by = c.new-2.result.by in
     let end : by.terminator ≡ job.terminator =
-    c.new.ensures.terminator ∙ c.terminator-terminator.ensures
+    c.new-2.ensures.terminator ∙ c.terminator-terminator.ensures
     ∙ ap (λ (r : Reader). r.terminator) c.set_ending.ensures.set ∙ ends _ in
-    let list = c.new.ensures.selected in
-    let start = c.new.ensures.start in
+    let list = c.new-2.ensures.selected in
+    let start = c.new-2.ensures.start in
     let ready = ready_set _ c.requires c.set_ending.ensures.set in
     let pass = c.run_blocks.ensures (cut_tool job)
     (record {

@@ -2,14 +2,13 @@
 -- again. If that row has no line, all readers are at the end of their inputs.
 use Rattle.ptflow.proofs
 use proofs.Common.{sym, ap, subst, arith, length, paste_job, job_shape, RowShape, RowAmid, begun_in, shape_of, Write}
-use proofs.Common.{length-take-le, call_on_failed_output, push_nothing}
+use proofs.Common.{length-take-le, call_on_failed_output, push_nothing, refl, [], ◌∙◌}
 use Rattle.std.proofs.lemmas.Bool.{not-false, not-true}
-use proofs.PasteLemmas.Call.{by_fault, of_rows, row_job, paste_without_slots, paste_rows_write_failed, paste_done}
-use proofs.PasteLemmas.Call.{paste_shared_write_failed, paste_fill_failed, paste_row_write_failed, HasStarted}
-use proofs.PasteLemmas.Call.{invariant_starts, invariant_rows, invariant_written, invariant_sent, row_slots}
-use proofs.PasteLemmas.Call.{invariant_slots, invariant_more, now_readable, RowsInvariant}
+use proofs.PasteLemmas.Call.{by_fault, of_rows, row_job, paste_without_slots, rows_write_failed, paste_done}
+use proofs.PasteLemmas.Call.{paste_fill_failed, paste_row_write_failed, HasStarted, invariant_rows, invariant_written}
+use proofs.PasteLemmas.Call.{row_slots, invariant_slots, invariant_more, now_readable, RowsInvariant}
 use proofs.PasteLemmas.BufferedRows.{still_readable}
-use proofs.PasteLemmas.Rows.{amid_starts}
+use proofs.PasteLemmas.Rows.{amid_starts, nothing_taken, rows_taken_none, slots_bound_start}
 use Rattle.ptflow.proofs.tools.paste.paste.Goals.{After-ensure_slots, After-fill_row, In_ok-filled}
 use Rattle.ptflow.proofs.tools.paste.paste.Given as given
 use Rattle.ptflow.proofs.tools.paste.paste.Goals as goal
@@ -43,17 +42,26 @@ pub rows-init : goal.rows-init
 rows-init g c =
     let row : RowShape → Type 0 = λ r. RowsInvariant r c.args.readers.now c.set_terminators.new.readers
     c.set_terminators.new.readers c.args.out.now c.args.out.now c.args.store.now c.ensure_slots.new.store in
-    subst row (sym c.row_format-row.ensures) (invariant_starts (starts g (goal.at.rows-init g c).After-ensure_slots)
-    c.ensure_slots.ensures.adds c.in_ok-ensure_slots.ensures.allowed (cc) c.ensure_slots.ensures.same_peak)
+    let start = starts g (goal.at.rows-init g c).After-ensure_slots in
+    subst row (sym c.row_format-row.ensures) (record {
+      starts = start;
+      written = [];
+      rows = rows_taken_none;
+      wrote = push_nothing _;
+      clean = start.writable;
+      kept = λ top high. slots_bound_start c.ensure_slots.ensures.adds c.in_ok-ensure_slots.ensures.allowed
+          (c.ensure_slots.ensures.same_total ∙ c.requires.empty) c.ensure_slots.ensures.same_peak;
+    })
 
 pub write_shared_rows-requires-clause-readable : goal.write_shared_rows-requires-clause-readable
 write_shared_rows-requires-clause-readable g c = now_readable c.rows.invariant
 
 pub returns-in_err-write_shared_rows : goal.returns-in_err-write_shared_rows
-returns-in_err-write_shared_rows g c = of_rows c.row_format-row.ensures
-    (by_fault c.from_residual-in_err-write_shared_rows.result Write
-    c.from_residual-in_err-write_shared_rows.ensures (paste_shared_write_failed c.rows.invariant
-    c.write_shared_rows.ensures.rows c.in_err-write_shared_rows.ensures.fault))
+returns-in_err-write_shared_rows g c =
+    let p = c.write_shared_rows.ensures.rows in
+    of_rows c.row_format-row.ensures (by_fault c.from_residual-in_err-write_shared_rows.result Write
+    c.from_residual-in_err-write_shared_rows.ensures (rows_write_failed c.rows.invariant p.rows 0
+    (λ input. nothing_taken refl) p.consumed p.wrote c.in_err-write_shared_rows.ensures.fault))
 
 pub copy_rows-copied-requires : goal.copy_rows-copied-requires
 copy_rows-copied-requires g c = now_readable (invariant_written c.rows.invariant
@@ -63,10 +71,12 @@ pub slice_bounds-push-end : goal.slice_bounds-push-end
 slice_bounds-push-end g c = sym (length-take-le _ c.copy_rows-copied.new.into (omega arith))
 
 pub returns-in_err-push : goal.returns-in_err-push
-returns-in_err-push g c = of_rows c.row_format-row.ensures (by_fault c.from_residual-in_err-push.result Write
-    c.from_residual-in_err-push.ensures (paste_rows_write_failed (invariant_written c.rows.invariant
-    c.write_shared_rows.ensures.rows c.in_ok-write_shared_rows.ensures.clean) c.copy_rows-copied.ensures.rows
-    c.push.ensures.pushed.wrote c.in_err-push.ensures.pushed.fault))
+returns-in_err-push g c =
+    let p = c.copy_rows-copied.ensures.rows in
+    of_rows c.row_format-row.ensures (by_fault c.from_residual-in_err-push.result Write
+    c.from_residual-in_err-push.ensures (rows_write_failed (invariant_written c.rows.invariant
+    c.write_shared_rows.ensures.rows c.in_ok-write_shared_rows.ensures.clean) p.rows _ p.filled.consumed.lines_taken
+    p.consumed c.push.ensures.pushed.wrote c.in_err-push.ensures.pushed.fault))
 
 pub fill_row-requires-clause-readable : goal.fill_row-requires-clause-readable
 fill_row-requires-clause-readable g c = still_readable c.copy_rows-copied.ensures.rows.consumed
@@ -110,9 +120,10 @@ module _ (g : given.Over) (c : In_ok-filled g) where
   -- The invariant before the row was written.
   sent : RowsInvariant shape c.args.readers.now c.set_terminators.new.readers c.copy_rows-copied.ensures.rows.mid
       c.args.out.now c.fill_row.new.out c.args.store.now c.rows.store
-  sent = invariant_sent (invariant_rows (invariant_written c.rows.invariant c.write_shared_rows.ensures.rows
+  sent = invariant_rows (invariant_rows (invariant_written c.rows.invariant c.write_shared_rows.ensures.rows
       c.in_ok-write_shared_rows.ensures.clean) c.copy_rows-copied.ensures.rows.rows c.push.ensures.pushed.wrote
-      c.in_ok-push.ensures.pushed.clean) c.in_ok-filled.ensures.wrote c.in_ok-filled.ensures.write_failed
+      c.in_ok-push.ensures.pushed.clean) rows_taken_none c.in_ok-filled.ensures.wrote
+      c.in_ok-filled.ensures.write_failed
 
 pub clear_slots-requires : goal.clear_slots-requires
 clear_slots-requires g c =

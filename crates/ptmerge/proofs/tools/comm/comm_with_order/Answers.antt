@@ -1,9 +1,11 @@
--- Each iteration preserves the invariant by one lemma of `CommLemmas`, and each exit has the postconditions by another.
+-- Each iteration preserves the invariant by one lemma of `CommLemmas`, and each exit has the postconditions by one of
+-- `CommLemmas` or `MergeLemmas`.
 use Rattle.std.proofs.Common.{rules}
 use Rattle.ptmerge.proofs
 use proofs.Common.{refl, ◌∙◌, comm_job}
-use proofs.MergeLemmas.{advance_pre, err_is, start_fault, start_ok, between_starts, reads_less}
-use proofs.CommLemmas.{alone_continues, alone_fails, eof, disordered, pair_decreases, pair_continues}
+use proofs.MergeLemmas.{advance_pre, err_is, start_fault, start_ok, between_starts, reads_less, ends_well}
+use proofs.MergeLemmas.{ends_fallen}
+use proofs.CommLemmas.{alone_continues, alone_fails, pair_decreases, pair_continues}
 use proofs.CommLemmas.{pair_fails, second_advance_pre, second_fails, opened}
 use Rattle.ptmerge.proofs.tools.comm.comm_with_order.Goals as goal
 
@@ -46,34 +48,25 @@ write_out_and_advance-requires-clause-status_is g c = rw c.write_head-in-Both.en
 
 pub steps-preserved-in-Continue-branch-2 : goal.steps-preserved-in-Continue-branch-2
 steps-preserved-in-Continue-branch-2 g c =
-    let i = c.steps.invariant in
     let p = c.write_head.ensures in
-    rw p.order (record {
-      iteration = alone_continues i.iteration c.in-First.ensures refl p.wrote
-          c.in_ok-write_head-in-First.ensures.advances;
-      order = i.order;
-    })
+    rw p.order (assumption (alone_continues c.steps.invariant.iteration c.in-First.ensures refl p.wrote
+    c.in_ok-write_head-in-First.ensures.advances))
 
 pub steps-preserved-in-Continue-branch-3 : goal.steps-preserved-in-Continue-branch-3
 steps-preserved-in-Continue-branch-3 g c =
-    let i = c.steps.invariant in
     let p = c.write_head-in-Second.ensures in
-    rw p.order (record {
-      iteration = alone_continues i.iteration c.in-Second.ensures c.tabs-tabs2.ensures p.wrote
-          c.in_ok-write_head-in-Second.ensures.advances;
-      order = i.order;
-    })
+    rw p.order (assumption (alone_continues c.steps.invariant.iteration c.in-Second.ensures c.tabs-tabs2.ensures
+    p.wrote c.in_ok-write_head-in-Second.ensures.advances))
 
 pub steps-preserved : goal.steps-preserved
 steps-preserved g c =
-    let i = c.steps.invariant in
     let p = c.write_head-in-Both.ensures in
     let q = c.write_out_and_advance.ensures in
     rw (q.order ∙ p.order) (record {
-      iteration = pair_continues i.iteration c.in-Both.ensures c.tabs-tabs3.ensures p.wrote
-          c.in_ok-write_head-in-Both.ensures.advances q.written_out
-          (rw p.order at c.in_ok-write_out_and_advance-in-Both.ensures.advances);
-      order = i.order;
+      iteration = pair_continues c.steps.invariant.iteration c.in-Both.ensures
+          c.tabs-tabs3.ensures p.wrote c.in_ok-write_head-in-Both.ensures.advances q.written_out (rw p.order at
+          c.in_ok-write_out_and_advance-in-Both.ensures.advances);
+      order = c.steps.invariant.order;
     })
 
 pub steps-smaller-in-Continue-branch-2 : goal.steps-smaller-in-Continue-branch-2
@@ -116,9 +109,12 @@ returns-in_err-write_out_and_advance-in-Both g c =
 
 pub returns-in-End : goal.returns-in-End
 returns-in-End g c =
-    rw (← c.steps.invariant.order) (eof c.steps.invariant.iteration c.clear_four_slots.ensures c.in-End.ensures)
+    let i = c.steps.invariant in
+    rw (← i.order)
+    (ends_well i.iteration.loop_invariant i.iteration.between.clean c.clear_four_slots.ensures c.in-End.ensures)
 
 pub returns-in-Stop : goal.returns-in-Stop
 returns-in-Stop g c =
-    rw (← c.steps.invariant.order)
-    (disordered c.steps.invariant.iteration c.clear_four_slots-in-Stop.ensures c.in-Stop.ensures)
+    let i = c.steps.invariant in
+    rw (← i.order) (ends_fallen i.iteration.loop_invariant i.iteration.between.clean c.clear_four_slots-in-Stop.ensures
+    c.in-Stop.ensures)

@@ -1,13 +1,13 @@
--- Each iteration preserves the invariant by one lemma of `JoinLemmas`, and each exit has the
--- postconditions by another.
+-- Each iteration preserves the invariant by one lemma of `JoinLemmas`, and each exit has the postconditions by one of
+-- `JoinLemmas` or `MergeLemmas`.
 use Rattle.std.proofs.lemmas.Grind.{common_steps}
 use Rattle.std.proofs.Common.{rules}
 use Rattle.ptmerge.proofs
 use proofs.Common.{refl, sym, ◌∙◌, join_job, arith}
 use proofs.JoinLemmas.{read_group_pre, read_group_fails, read_group_continues, group_closed, group_there}
 use proofs.JoinLemmas.{write_pairs_group, write_pairs_pre, pair_fails, write_pairs_next, write_pairs_continues}
-use proofs.JoinLemmas.{alone_continues, alone_fails, eof, disordered, measure_decreases, opened, group_opens}
-use proofs.MergeLemmas.{advance_pre, err_is, start_fault, start_ok, between_starts}
+use proofs.JoinLemmas.{alone_continues, alone_fails, loop_invariant, measure_decreases, opened, group_opens}
+use proofs.MergeLemmas.{advance_pre, err_is, start_fault, start_ok, between_starts, ends_well, ends_fallen}
 use Rattle.ptmerge.specs.declared.key_order.Side.TheVariants as sides
 use Rattle.ptmerge.specs.declared.tools.join.JoinPhase.TheVariants as phases
 use Rattle.ptmerge.proofs.tools.join.join_with_order.Goals as goal
@@ -43,23 +43,18 @@ write_unpaired-requires-in-Second-clause-status_is g c =
 
 pub steps-preserved-in-Continue-branch-2 : goal.steps-preserved-in-Continue-branch-2
 steps-preserved-in-Continue-branch-2 g c =
-    let i = c.steps.invariant in
     let p = c.write_unpaired.ensures in
     rw p.order (record {
-      iteration = alone_continues i.iteration c.in-BetweenGroups.is c.in-First.ensures
+      iteration = alone_continues c.steps.invariant.iteration c.in-BetweenGroups.is c.in-First.ensures
           p.wrote c.in_ok-write_unpaired-in-First.ensures.advances;
-      order = i.order;
+      order = c.steps.invariant.order;
     })
 
 pub steps-preserved-in-Continue-branch-3 : goal.steps-preserved-in-Continue-branch-3
 steps-preserved-in-Continue-branch-3 g c =
-    let i = c.steps.invariant in
     let p = c.write_unpaired-in-Second.ensures in
-    rw p.order (record {
-      iteration = alone_continues i.iteration c.in-BetweenGroups.is c.in-Second.ensures
-          p.wrote c.in_ok-write_unpaired-in-Second.ensures.advances;
-      order = i.order;
-    })
+    rw p.order (assumption (alone_continues c.steps.invariant.iteration c.in-BetweenGroups.is c.in-Second.ensures
+    p.wrote c.in_ok-write_unpaired-in-Second.ensures.advances))
 
 pub steps-smaller-in-Continue-branch-2 : goal.steps-smaller-in-Continue-branch-2
 steps-smaller-in-Continue-branch-2 g c = search (rules, measure_decreases)
@@ -82,20 +77,20 @@ returns-in_err-write_unpaired-in-Second g c =
     _ _ _ c.in_err-write_unpaired-in-Second.ensures.advances)
 
 pub steps-preserved-in-Both : goal.steps-preserved-in-Both
-steps-preserved-in-Both g c = record {
-  iteration = group_opens c.steps.invariant.iteration c.in-BetweenGroups.is c.in-Both.ensures;
-  order = c.steps.invariant.order;
-}
+steps-preserved-in-Both g c =
+    assumption (group_opens c.steps.invariant.iteration c.in-BetweenGroups.is c.in-Both.ensures)
 
 pub returns-in-End : goal.returns-in-End
 returns-in-End g c =
     let i = c.steps.invariant in
-    rw (← i.order) (eof i.iteration c.in-BetweenGroups.is c.clear_four_slots.ensures c.in-End.ensures)
+    rw (← i.order) (ends_well (loop_invariant i.iteration c.in-BetweenGroups.is) i.iteration.clean
+    c.clear_four_slots.ensures c.in-End.ensures)
 
 pub returns-in-Stop : goal.returns-in-Stop
 returns-in-Stop g c =
     let i = c.steps.invariant in
-    rw (← i.order) (disordered i.iteration c.in-BetweenGroups.is c.clear_four_slots-in-Stop.ensures c.in-Stop.ensures)
+    rw (← i.order) (ends_fallen (loop_invariant i.iteration c.in-BetweenGroups.is) i.iteration.clean
+    c.clear_four_slots-in-Stop.ensures c.in-Stop.ensures)
 
 pub read_group_line-requires-clause-group : goal.read_group_line-requires-clause-group
 read_group_line-requires-clause-group g c = read_group_in c.steps.invariant.iteration c.in-ReadGroup.is
@@ -111,24 +106,19 @@ returns-in_err-end-in-ReadGroup g c =
 
 pub steps-preserved-then-not-has_same_key : goal.steps-preserved-then-not-has_same_key
 steps-preserved-then-not-has_same_key g c =
-    let i = c.steps.invariant in
     let p = c.read_group_line.ensures in
     let ok = c.in_ok-end-in-ReadGroup.ensures in
-    rw p.order (record {
-      iteration = write_pairs_next i.iteration c.in-ReadGroup.is p.written_out ok.reads_line ok.continues
-          (sym c.has_same_key.ensures ∙ c.if-not-has_same_key.true);
-      order = i.order;
-    })
+    rw p.order (assumption (write_pairs_next c.steps.invariant.iteration c.in-ReadGroup.is p.written_out ok.reads_line
+    ok.continues (sym c.has_same_key.ensures ∙ c.if-not-has_same_key.true)))
 
 pub steps-preserved-else-not-has_same_key : goal.steps-preserved-else-not-has_same_key
 steps-preserved-else-not-has_same_key g c =
-    let i = c.steps.invariant in
     let p = c.read_group_line.ensures in
     let ok = c.in_ok-end-in-ReadGroup.ensures in
     rw p.order (record {
-      iteration = read_group_continues i.iteration c.in-ReadGroup.is p.written_out ok.reads_line ok.continues
-          (sym c.has_same_key.ensures ∙ c.if-not-has_same_key.false);
-      order = i.order;
+      iteration = read_group_continues c.steps.invariant.iteration c.in-ReadGroup.is p.written_out
+          ok.reads_line ok.continues (sym c.has_same_key.ensures ∙ c.if-not-has_same_key.false);
+      order = c.steps.invariant.order;
     })
 
 pub steps-smaller-else-not-has_same_key : goal.steps-smaller-else-not-has_same_key
@@ -168,28 +158,17 @@ clear_group-requires g c = group_there c.steps.invariant.iteration c.in-WritePai
 
 pub steps-preserved-then-not-has_same_key-2 : goal.steps-preserved-then-not-has_same_key-2
 steps-preserved-then-not-has_same_key-2 g c =
-    let i = c.steps.invariant in
     let p = c.write_pairs.ensures in
-    let continues =
-    group_closed i.iteration c.in-WritePairs.is p.wrote
-    c.in_ok-write_pairs-in-WritePairs.ensures.advances in
-    rw p.order (record {
-      iteration = continues c.clear_group.ensures
-          (sym c.has_same_key-in-WritePairs.ensures ∙ c.if-not-has_same_key-2.true);
-      order = i.order;
-    })
+    rw p.order (assumption (group_closed c.steps.invariant.iteration c.in-WritePairs.is p.wrote
+    c.in_ok-write_pairs-in-WritePairs.ensures.advances c.clear_group.ensures
+    (sym c.has_same_key-in-WritePairs.ensures ∙ c.if-not-has_same_key-2.true)))
 
 pub steps-preserved : goal.steps-preserved
 steps-preserved g c =
-    let i = c.steps.invariant in
     let p = c.write_pairs.ensures in
-    let continues = write_pairs_continues i.iteration c.in-WritePairs.is p.wrote
-    c.in_ok-write_pairs-in-WritePairs.ensures.advances in
-    rw p.order (record {
-      iteration = continues (sym c.has_same_key-in-WritePairs.ensures ∙
-          c.if-not-has_same_key-2.false);
-      order = i.order;
-    })
+    rw p.order (assumption (write_pairs_continues c.steps.invariant.iteration c.in-WritePairs.is p.wrote
+    c.in_ok-write_pairs-in-WritePairs.ensures.advances
+    (sym c.has_same_key-in-WritePairs.ensures ∙ c.if-not-has_same_key-2.false)))
 
 pub steps-smaller-in-Both : goal.steps-smaller-in-Both
 steps-smaller-in-Both g c = grind (arith, common_steps)

@@ -2,7 +2,7 @@
 -- cases are the same merge.
 use Rattle.ptrun.proofs
 use proofs.Common.{arith, length, scaled_Fits, sym, ℕ, ◌<◌, ◌≡◌, ◌≤◌}
-use proofs.JointRuns.{split_readers, were}
+use proofs.JointRuns.{split_readers}
 use Rattle.ptrun.proofs.merge.MergeJob.merge_at.Goals as goal
 
 -- the other position is the lower one

@@ -12,7 +12,7 @@ swizzle c =
     let row = slice_index_or c.args.self.now.rows keep [] in
     let is : IsCompressRow (flags_of 8 keep) row =
     row_of_mask c.args.self.now.rows keep c.args.self.now.is_table (omega arith) in
-    SwzOk-from_below w8 16 1 16 0 row refl (omega arith) (row_lanes is)
+    SwzOk-from_below w8 16 1 16 0 row refl (omega arith) (row_lanes row is.lanes)
 
 pub returns-clause-packed : goal.returns-clause-packed
 returns-clause-packed c flags long masked =

@@ -1,9 +1,9 @@
 -- Each step copies one more row. The loop ends at a row that is not complete.
 use Rattle.std.proofs.Math.Bool.{not-not}
 use Rattle.ptflow.proofs
-use proofs.Common.{◌∙◌, ap, not, [], sym, arith, rules}
-use proofs.PasteLemmas.Rows.{fill_starts, rows_taken_none}
-use proofs.PasteLemmas.BufferedRows.{consumed_none, consumed_trans, still_readable, rows_and_begun, rows_more}
+use proofs.Common.{◌≡◌, ◌∙◌, ap, not, [], sym, arith, rules, length, common_steps, cells_text}
+use proofs.PasteLemmas.Rows.{fill_starts, rows_taken_none, rows_taken_trans, row_taken}
+use proofs.PasteLemmas.BufferedRows.{consumed_none, consumed_trans, still_readable, prefix_is_kept}
 use Rattle.ptflow.proofs.tools.paste.buffered_rows.copy_rows.Goals as goal
 
 pub rows-init : goal.rows-init
@@ -15,9 +15,17 @@ copy_columns-begun-requires-clause-readable g c = still_readable
 
 pub returns-then-begun-row-clause-rows : goal.returns-then-begun-row-clause-rows
 returns-then-begun-row-clause-rows g c =
-    rows_and_begun _ _ c.rows.invariant.rows c.rows.invariant.consumed
-    c.copy_columns-begun.ensures.cells
-    c.copy_columns-begun.ensures.within.1 (omega arith)
+    let p = c.copy_columns-begun.ensures.cells in
+    let kept = prefix_is_kept c.rows.end c.copy_columns-begun.result.end c.copy_columns-begun.new.into c.rows.into
+    (cells_text _ 0 p.fields) c.copy_columns-begun.ensures.within.1 (omega arith) p.is in
+    record {
+      mid = c.rows.readers;
+      rows = rw kept c.rows.invariant.rows;
+      fields = p.fields;
+      filled = p.filled c.rows.readers [] fill_starts;
+      is = grind (arith, common_steps);
+      consumed = consumed_trans c.rows.invariant.consumed p.consumed;
+    }
 
 pub rows-smaller : goal.rows-smaller
 rows-smaller g c = (c.copy_columns-begun.ensures.cells.filled _ [] fill_starts).less
@@ -26,10 +34,10 @@ rows-smaller g c = (c.copy_columns-begun.ensures.cells.filled _ [] fill_starts).
 pub rows-preserved : goal.rows-preserved
 rows-preserved g c =
     let p = c.copy_columns-begun.ensures.cells in
+    let all : c.copy_columns-begun.result.count ≡ length c.args.row.cells.now = omega arith in
     record {
-      rows = rows_more c.rows.invariant.rows (still_readable c.rows.invariant.consumed c.requires) p
-          (omega arith)
-          (sym (not-not _) ∙ ap not c.if-not-begun.false);
+      rows = rw p.is (rows_taken_trans c.rows.invariant.rows
+          (row_taken (rw all at (p.filled _ [] fill_starts)) (sym (not-not _) ∙ ap not c.if-not-begun.false)));
       consumed = consumed_trans c.rows.invariant.consumed p.consumed;
       size_bound = c.copy_columns-begun.result.size_bound;
       buffer_size = omega arith;

@@ -11,12 +11,12 @@ use Rattle.ptflow.proofs.tools.uniq.LineUniqLineFilter.process_line.Goals.{After
 
 -- whether the line belongs to the run
 test : (g : given.Over) (c : After-is_same_run g)
-    → (nat_lt 0 c.args.self.now.run.count && is_same (uniq_job c.args.self.now.job.now)
+    → (nat_lt 0 c.args.self.now.run.count && is_same (uniq_job c.args.self.now.by.job.now)
     (first_line c.args.self.now.run c.args.store.now) (line c.args.store.now 1)) ≡ c.is_same_run.result
 test g c = search rules
 
 before : (g : given.Over) (c : After-is_same_run g) → let run = current_run_of c.args.self.now.run c.args.store.now in
-    RunSteps (uniq_job c.args.self.now.job.now) run run [] []
+    RunSteps (uniq_job c.args.self.now.by.job.now) run run [] []
 before g c = search (rules, steps_none)
 
 pub returns-then-is_same_run-clause-continues : goal.returns-then-is_same_run-clause-continues
@@ -34,7 +34,7 @@ pub returns-clause-continues : goal.returns-clause-continues
 returns-clause-continues g c =
     let at = (goal.at.returns-clause-continues g c).After-is_same_run in
     let next = line c.args.store.now 1 in
-    subst (λ l. RunsWritten (uniq_job c.args.self.now.job.now) (current_run_of c.args.self.now.run c.args.store.now)
+    subst (λ l. RunsWritten (uniq_job c.args.self.now.by.job.now) (current_run_of c.args.self.now.run c.args.store.now)
     (run_of l 1) (next ∷ []) c.args.out.now c.write_run.new.out)
     (sym (swapped_first c.args.store.now (omega arith) c.swap.ensures))
     (steps_written (steps_next (before g at) next (cc (test g at)))

@@ -35,8 +35,7 @@ paired c bytes to e h =
           others_below-more bytes b false (omega arith)
           (is_kept c.args.first.now bytes b c.from.result true c.from.ensures
           (omega arith) w.if-first-from.true e) in
-          paired_same _ to (ap plain_members more
-          ∙ map-append _ before _) w.self-is
+          paired_same _ to (grind (arith, plain_members, map-append)) w.self-is
           (w.in_ok-push.ensures _ to (c.loop-byte.invariant bytes to e h))
       | else-first-from w ↦
           let more =

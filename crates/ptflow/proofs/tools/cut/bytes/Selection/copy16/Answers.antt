@@ -2,7 +2,8 @@
 use Rattle.ptflow.proofs
 use proofs.Common.{◌*◌, refl, arith, w8, SwzOk-from_below, is_selected}
 use Rattle.ptflow.specs.Private.Cut.ShortLines.{piece_at}
-use proofs.CutLemmas.CutBytes.{piece_copied, shuffle_few, shuffle_lanes}
+use proofs.CutLemmas.CutBytes.{piece_copied, shuffle_few}
+use proofs.Vectors.Compress.{row_lanes}
 use proofs.tools.cut.bytes.Selection.copy16.Goals as goal
 
 pub swizzle : goal.swizzle
@@ -10,7 +11,7 @@ swizzle c =
     let by = c.args.self.now in
     let is = by.are_shuffles.pieces c.args.index (omega arith) in
     SwzOk-from_below w8 16 1 16 0 (piece_at _ c.args.index).row refl (omega arith)
-    (shuffle_lanes _ is)
+    (row_lanes _ is.lanes)
 
 pub returns-clause-copied : goal.returns-clause-copied
 returns-clause-copied c = λ was before.

@@ -43,7 +43,7 @@ last_copied : (end : ℕ) (delims : List (Option ℕ)) (number last : ℕ) (more
     ≡ take (at + size) (set into at last) ++ row_rest end delims number (cond t (end ∷ more) more)
 last_copied end delims number last more into {at} {size} low true is none =
     let same : at + size ≡ at = omega arith in cc (take-set into at last, eqb-true last end is)
-last_copied end delims number last more into {at} {size} low false is one =
+last_copied end delims number last more into {at} low false is one =
     cc (
       take_more_set into at last low,
       row_byte end delims number last more is,

@@ -7,7 +7,7 @@ use Rattle.ptflow.specs.Private.Uniq.RunsFrom.{count_prefix}
 use Rattle.ptflow.specs.Private.Uniq.BlockRuns.{first_of}
 use proofs.Passes.Exits.{on_err}
 use proofs.UniqLemmas.Runs.{due_is, pending_joined, current_run_is}
-use proofs.tools.uniq.block_runs.end_run.Goals as goal
+use proofs.tools.uniq.block_runs.RunWriter.end_run.Goals as goal
 use Rattle.ptlangs.specs.contracts.jobs.Show.{the_type}
 use Rattle.ptlangs.specs.declared.jobs.Show.{Show}
 use Rattle.ptlangs.specs.declared.jobs.Show.TheVariants.{All, Counts, Repeated, Single}
@@ -21,7 +21,7 @@ no_count Single differs count = refl
 
 pub returns-then-not-has_output-clause-waits : goal.returns-then-not-has_output-clause-waits
 returns-then-not-has_output-clause-waits g c =
-    let job = uniq_job c.args.by.now.job.now in
+    let job = uniq_job c.args.self.now.job.now in
     let none : has_output job.show c.args.count ≡ false = sym c.has_output.ensures ∙ c.if-not-has_output.true in
     record {
       pushed = [];
@@ -33,14 +33,14 @@ returns-then-not-has_output-clause-waits g c =
 
 pub returns-then-pending-line-clause-waits : goal.returns-then-pending-line-clause-waits
 returns-then-pending-line-clause-waits g c =
-    let job = uniq_job c.args.by.now.job.now in
+    let job = uniq_job c.args.self.now.job.now in
     pending_joined job _ _ c.requires c.in-Some.is
     (sym c.has_output.ensures ∙ c.if-not-has_output.false) c.if-pending-line.true
     (no_count job.show c.if-ne.ensures _)
 
 pub returns-in_err-flush_with_count-clause-wrote : goal.returns-in_err-flush_with_count-clause-wrote
 returns-in_err-flush_with_count-clause-wrote g c =
-    let job = uniq_job c.args.by.now.job.now in
+    let job = uniq_job c.args.self.now.job.now in
     let block = c.args.block.now in
     let line = span_of block c.in-Some.line in
     on_err c.from_residual-in_err-flush_with_count.result

@@ -3,11 +3,11 @@
 use Rattle.ptflow.proofs
 use proofs.Common.{length, uniq_job}
 use proofs.UniqLemmas.Runs.{RunsInvariant}
-use proofs.tools.uniq.block_runs.write_runs.Given as goal
+use proofs.tools.uniq.block_runs.RunWriter.write_runs.Given as goal
 
 abbrev pub invariant-lines : goal.invariant-lines
 invariant-lines g l =
-    RunsInvariant (uniq_job l.job) l.fn.first l.block l.rest l.by.run.count l.count l.line l.pending l.run_key l.fn.out
+    RunsInvariant (uniq_job l.job) l.fn.first l.block l.rest l.carried l.count l.line l.pending l.run_key l.fn.out
     l.out
 
 abbrev pub decreases-lines : goal.decreases-lines

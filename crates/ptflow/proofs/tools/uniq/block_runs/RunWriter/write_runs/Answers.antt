@@ -1,0 +1,86 @@
+-- A line with the key of the current run adds to its count, and so do copies of it. Any other line ends it and starts
+-- the next one, and the output of the run that ended is pushed or deferred. Each case preserves `RunsInvariant`.
+use Rattle.ptflow.proofs
+use proofs.Common.{◌+◌, IsLine, length, refl, ap, arith, length-append, length-drop, take_rest, line_if_not_found}
+use proofs.Common.{uniq_job, common_steps, rules}
+use proofs.Passes.Exits.{on_err}
+use proofs.UniqLemmas.Runs.{RunsInvariant, runs_loop_starts, runs_loop_few, runs_loop_left, runs_loop_next}
+use proofs.UniqLemmas.Runs.{runs_loop_failed, runs_loop_repeats, running_done, running_unended, runs_loop_passed}
+use Rattle.ptflow.proofs.tools.uniq.block_runs.RunWriter.write_runs.Given as given
+use Rattle.ptflow.proofs.tools.uniq.block_runs.RunWriter.write_runs.Goals as goal
+use Rattle.ptflow.proofs.tools.uniq.block_runs.RunWriter.write_runs.Goals.{In_default, After-left-1}
+
+pub lines-init : goal.lines-init
+lines-init g c = search (rules, runs_loop_starts)
+
+-- after a line with the key of the run, and those that repeat it
+after : (g : given.Over) (c : After-left-1 g)
+    → RunsInvariant (uniq_job c.args.self.now.job.now) c.args.first.now c.args.block.now
+    c.skip_repeats-repeats.result.1.now c.args.carried (c.lines.count + (1 + c.skip_repeats-repeats.result.0))
+    c.lines.line c.lines.pending c.lines.run_key.now c.args.out.now c.lines.out
+after g c = runs_loop_repeats c.lines.invariant (rw c.args.self.now.ends at c.in-Some.ensures) c.key-next.ensures
+    c.eq.ensures c.if-eq.true _ c.skip_repeats-repeats.ensures
+
+pub overflow_add-count : goal.overflow_add-count
+overflow_add-count g c = omega (arith, runs_loop_few (after g c), c.requires.few)
+
+pub overflow_add-count-then-eq : goal.overflow_add-count-then-eq
+overflow_add-count-then-eq g c = omega (arith, runs_loop_few (after g c), c.requires.few)
+
+pub lines-smaller-then-eq : goal.lines-smaller-then-eq
+lines-smaller-then-eq g c =
+    let copies = ap length c.skip_repeats-repeats.ensures in
+    grind (arith, copies, length-append, length-drop)
+
+pub lines-preserved-then-eq : goal.lines-preserved-then-eq
+lines-preserved-then-eq g c = after g c
+
+pub returns-in_err-pending-clause-halts : goal.returns-in_err-pending-clause-halts
+returns-in_err-pending-clause-halts g c =
+    on_err _
+    (runs_loop_failed c.lines.invariant (rw c.args.self.now.ends at c.in-Some.ensures) c.key-next.ensures c.eq.ensures
+    c.if-eq.false c.in_err-pending.ensures.wrote c.in_err-pending.ensures.fault)
+
+pub lines-preserved : goal.lines-preserved
+lines-preserved g c =
+    rw take_rest (runs_loop_next c.lines.invariant (rw c.args.self.now.ends at c.in-Some.ensures) c.key-next.ensures
+    c.eq.ensures c.if-eq.false c.in_ok-pending.ensures.waits refl refl)
+
+pub overflow_sub-len : goal.overflow_sub-len
+overflow_sub-len g c = search (rules, runs_loop_left)
+
+none_left : (g : given.Over) (c : In_default g) → IsLine (uniq_job c.args.self.now.job.now).terminator c.lines.rest.now
+none_left g c = search (rules, line_if_not_found)
+
+pub returns-in_err-push-clause-halts : goal.returns-in_err-push-clause-halts
+returns-in_err-push-clause-halts g c =
+    on_err _ (running_unended c.lines.invariant
+    (none_left g (goal.at.returns-in_err-push-clause-halts g c).In_default)
+    c.push.ensures.pushed.wrote c.in_err-push.ensures.pushed.fault)
+
+pub returns-clause-continues : goal.returns-clause-continues
+returns-clause-continues g c =
+    running_done c.lines.invariant (none_left g (goal.at.returns-clause-continues g c).In_default)
+    c.push.ensures.pushed.wrote c.in_ok-push.ensures.pushed.clean
+
+pub returns-clause-passed : goal.returns-clause-passed
+returns-clause-passed g c = (
+  omega arith,
+  runs_loop_passed c.lines.invariant (none_left g (goal.at.returns-clause-passed g c).In_default)
+      c.push.ensures.pushed.wrote,
+)
+
+pub overflow_add-at : goal.overflow_add-at
+overflow_add-at g c = grind (arith, common_steps)
+
+pub overflow_sub-from : goal.overflow_sub-from
+overflow_sub-from g c = grind (arith, common_steps)
+
+pub overflow_sub-from-else-eq : goal.overflow_sub-from-else-eq
+overflow_sub-from-else-eq g c = grind (arith, common_steps)
+
+pub overflow_sub-to : goal.overflow_sub-to
+overflow_sub-to g c = grind (arith, common_steps)
+
+pub overflow_add-rest : goal.overflow_add-rest
+overflow_add-rest g c = grind (arith, common_steps)
