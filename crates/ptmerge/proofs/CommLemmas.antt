@@ -20,10 +20,6 @@ use Rattle.ptmerge.specs.Comm.{comm_with, entries, column_entries, tab_if_shown}
 no_entries : (hidden : Bool) (tabs line : List ℕ) → column_entries hidden tabs 0 line ≡ []
 no_entries = grind arith
 
-one_more_entry : (hidden : Bool) (tabs line : List ℕ) (n : ℕ)
-    → column_entries hidden tabs (suc n) line ≡ column_entries hidden tabs 1 line ++ column_entries hidden tabs n line
-one_more_entry = grind arith
-
 -- whether the column of a line of one input alone is hidden
 abbrev hidden_of : Comm → Side → Bool
 hidden_of job First = job.hide1

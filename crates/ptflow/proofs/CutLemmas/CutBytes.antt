@@ -4,23 +4,23 @@ use Rattle.ptflow.proofs
 use proofs.Common.{◌≡◌, ℕ, ◌+◌, ◌-◌, ◌≤◌, ◌^◌, Bool, false, List, [], ◌∷◌, ◌++◌, map, length, take, drop, Some, refl}
 use proofs.Common.{ap, arith, append_assoc, common_steps, onto_first, flat_map, mask_l, chunk, length-chunk, chunk-drop}
 use proofs.Common.{IsFirstByte, is_byte, unlines, lines, IsLine, complete_lines, lines_cons, byte_ne, lines_of_unlines}
-use proofs.Common.{unlines-append, line_before_terminator, select_from, cut_line, cut, cut_decided, cut_lines_from}
+use proofs.Common.{line_before_terminator, select_from, cut_line, cut, cut_decided, cut_lines_from}
 use proofs.Common.{cut_bytes_from, cut_list_from, IsPrefix, Cut, Interval, ExtendsCut, CutPost, selected_bytes}
-use proofs.Common.{is_selected, drop-drop, zero, suc, ◌<◌, true, cond, set, ◌&&◌, get_or, length-append, sym}
-use proofs.Common.{◌∙◌, w8, All, nat_le, range_with_len, nat_tests, take-add}
+use proofs.Common.{is_selected, zero, suc, ◌<◌, true, cond, set, ◌&&◌, get_or, length-append, sym}
+use proofs.Common.{◌∙◌, w8, All, nat_le, range_with_len, take-add}
 use proofs.Common.{swz_l, pick_l-range_with_len, take-map, take-take, take-append-le, take_all}
 use proofs.Common.{length-take-le, append-nil, length-range_with_len, cases_eq, put_chunk, length-drop}
-use proofs.Common.{length-swz_l, slice_get, take_more_set, min, drop_all, drop_more, AreSeparated}
+use proofs.Common.{length-swz_l, slice_get, min, drop_all, drop_more, AreSeparated}
 use Rattle.ptflow.specs.declared.tools.cut.bytes.Line.{Line}
 use proofs.Passes.Exits.{split_of, LineSplit, line_split}
-use Rattle.std.proofs.Common.{get_or-set_same, get_or-set_other, length-set}
+use Rattle.std.proofs.Common.{get_or-set_same, length-set}
 use proofs.Vectors.Lanes.{stored_more}
 use mir.Val.{bool_byte}
 use Rattle.ptflow.specs.Private.Cut.ShortLines.{selected_indices, selected_after, IsPieceShuffle}
 use Rattle.ptflow.specs.declared.tools.cut.shuffle.PieceShuffle.{PieceShuffle}
 use proofs.Vectors.Compress.{row_lanes, selected_stored, shuffle_result}
 use lib.Seq.{take-nil}
-use Rattle.std.proofs.lemmas.List.{drop_min, length-take}
+use Rattle.std.proofs.lemmas.List.{length-take}
 
 -- ---- what intervals select
 
@@ -175,10 +175,6 @@ module _ (end : ℕ) (selected : ℕ → Bool) where
       ++ cut_lines_from end selected (line_offset + 1) ls
   rest_onto line_offset b [] = grind arith
   rest_onto line_offset b (line ∷ ls) = grind arith
-
-  select_onto : (n b : ℕ) (xs : List ℕ)
-      → select_from selected n (b ∷ []) ++ select_from selected (n + 1) xs ≡ select_from selected n (b ∷ xs)
-  select_onto n b xs = grind arith
 
   -- a piece of a line
   pub rest_piece : (line_offset : ℕ) (piece rest : List ℕ) → IsLine end piece
@@ -393,9 +389,18 @@ piece_copied selected start m at bytes was into {piece} {size} is counted short 
     let few = shuffle_few (selected_after selected start) is m short in
     let front : length (take start bytes) ≡ start = length-take-le start bytes (omega arith) in
     let first : start + 1 ≡ 1 + length (take start bytes) = omega arith in
-    cc (selected_stored at (get_or piece.counts m 0) into (swz_l w8 16 v 0 piece.row) (length-swz_l w8 16 v 0 piece.row
-          ∙ is.long) (omega (arith, few)) room, pick_line (selected_after selected start) is v short long, take-take m 16 (drop start bytes) short, select_later selected start 1 (take m (drop start bytes)), first, take-add start m bytes, select_append selected 1 (take start bytes) (take m (drop start bytes)), append_assoc was (select_from selected 1 (take start bytes))
-          (select_from selected (1 + length (take start bytes)) (take m (drop start bytes))))
+    cc (
+      selected_stored at (get_or piece.counts m 0) into (swz_l w8 16 v 0 piece.row) (length-swz_l w8 16 v 0 piece.row
+          ∙ is.long) (omega (arith, few)) room,
+      pick_line (selected_after selected start) is v short long,
+      take-take m 16 (drop start bytes) short,
+      select_later selected start 1 (take m (drop start bytes)),
+      first,
+      take-add start m bytes,
+      select_append selected 1 (take start bytes) (take m (drop start bytes)),
+      append_assoc was (select_from selected 1 (take start bytes))
+          (select_from selected (1 + length (take start bytes)) (take m (drop start bytes))),
+    )
 
 -- the selected bytes of a complete line, and the terminator
 pub line_ended : (end b : ℕ) (bytes was into : List ℕ) → end < length into → take end into ≡ was ++ bytes

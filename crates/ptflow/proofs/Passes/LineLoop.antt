@@ -5,9 +5,9 @@
 use Rattle.ptflow.proofs
 use proofs.Common.{◌≡◌, ℕ, zero, suc, ◌+◌, ◌-◌, ◌*◌, ◌<◌, ◌≤◌, false, List, [], ◌∷◌, length, drop, set, get_or}
 use proofs.Common.{max, refl, ◌∙◌, ap, arith, inl, inr, common_steps}
-use proofs.Common.{length-set, drop-set-lt, sum_by-cons, get_or-le-sum_by, Slots, total_bytes, with_line}
+use proofs.Common.{length-set, drop-set-lt, sum_by-cons, Slots, total_bytes, with_line}
 use proofs.Common.{AddedSlots, IsSwapped, SlotsCleared, Bool, ◌^◌, true, ◌++◌, Ok, Err, append_assoc, length-append}
-use proofs.Common.{nil_from_length, get_or-set_same, lines, complete_lines, IsLine, max_length, max_line_length}
+use proofs.Common.{nil_from_length, lines, complete_lines, IsLine, max_length, max_line_length}
 use proofs.Common.{Received, known_lines, IsPrefix, IsConsistent, Output, PushEffect, Reader, ReaderAdvance, AdvanceOk}
 use Rattle.ptlines.specs.ReadLine.{FillReadErr, FillMemoryErr}
 use proofs.Common.{IsDone, IsSound, advance_ok_take, unlines, line, FillPost, FillLine, advance_ok_trans, push_trans}
@@ -15,7 +15,7 @@ use proofs.Common.{ToolSpec, PassPre, PassPost, AreReceivedLines, LinesWritten, 
 use proofs.Common.{IsLineFilter, Read, Write, Memory, received_with, reads_nothing, rules}
 use proofs.Passes.Exits.{line_split, complete_prefix, max_length-append, lines_none, lines_few, lines_on, lines_more}
 use proofs.Passes.Exits.{lines_block, line_prefix, received_longest, piece_longest, whole_before, before_line}
-use proofs.Passes.Exits.{after_line, Progress, progress_none, progress_flushed, PassState, LaggedOutput, StoreBounds}
+use proofs.Passes.Exits.{after_line, Progress, progress_flushed, PassState, LaggedOutput, StoreBounds}
 use proofs.Passes.Exits.{PassEnding, nothing_more, pass_unslotted, pass_read, pass_memory, pass_write, pass_done}
 use proofs.Passes.Exits.{pass_unended}
 use Rattle.ptflow.specs.Private.Passes.LineLoop.{RunLinesPre}
@@ -303,9 +303,6 @@ module _ {S X E : Type 0} {tool : ToolSpec} {state : S → Slots → X} {rest_fr
           → SlotBounds width (max (max_length run.ls) (length bytes)) before after
       keeps_last bytes told =
           bounds_line _ (width - 1) bytes (grind arith) (omega arith) (omega arith) told
-
-      same_bounds : SlotBounds width (max (max_length run.ls) 0) before store
-      same_bounds = grind arith
 
       same_end : reader.terminator ≡ end
       same_end = grind arith

@@ -1,7 +1,7 @@
 -- The output of `tr` for the rest of a text, and for a text that is cut anywhere. A byte is kept or removed by the last
 -- output byte alone, so that byte is the only state, from block to block and within a block.
 use Rattle.ptflow.proofs
-use proofs.Common.{common_steps, ◌≡◌, ℕ, ◌-◌, ◌&&◌, not, eqb, Bool, true, false, cond, List, [], ◌∷◌, ◌++◌, Option}
+use proofs.Common.{common_steps, ◌≡◌, ℕ, ◌-◌, ◌&&◌, not, eqb, Bool, true, false, List, [], ◌∷◌, ◌++◌, Option}
 use proofs.Common.{None, Some, map, length, refl, ap, arith, filter, slice_get, last_or, option_eq, option_or}
 use proofs.Common.{append-nil, map-append, filter-append, IsPrefix, Tables, deletes, image, squeezes, is_not_repeat}
 use proofs.Common.{squeeze_after, translation, tr, tr_decided, squeeze_from, tr_from, eq-eqb, eqb-true, squeeze}
@@ -10,17 +10,6 @@ use proofs.Common.{TrOfAnyParts, TrOfParts, TrAfterByte, TrMeetsTwice, and_right
 use proofs.Vectors.Lanes.{bytes_fit}
 
 module _ (squeezed : ℕ → Bool) where
-  pub after_one_byte : (last b : ℕ) (bytes : List ℕ)
-      → squeeze_after squeezed last (b ∷ bytes)
-      ≡ cond (is_not_repeat squeezed (last, b)) (b ∷ squeeze_after squeezed b bytes) (squeeze_after squeezed b bytes)
-  after_one_byte = grind arith
-
-  pub from_one : (last : Option ℕ) (b : ℕ) (bytes : List ℕ)
-      → squeeze_from squeezed last (b ∷ bytes)
-      ≡ cond (not (option_eq eqb last (Some b) && squeezed b)) (b ∷ squeeze_after squeezed b bytes)
-      (squeeze_after squeezed b bytes)
-  from_one = grind arith
-
   -- a byte that is removed is equal to the last one
   repeats : (last b : ℕ) → is_not_repeat squeezed (last, b) ≡ false → last ≡ b
   repeats last b h = grind arith
@@ -142,10 +131,6 @@ tr_of_any_parts = grind (arith, tr_of_parts)
 last_after : {X : Type 0} (o : Option X) (front : List X) (x : X) → last_or o (front ++ x ∷ []) ≡ Some x
 last_after o [] x = refl
 last_after o (y ∷ front) x = last_after (Some y) front x
-
--- the last item of a list is unique
-pub same_last : {X : Type 0} (x y : X) (xs : List X) → EndsWith x xs → EndsWith y xs → Some x ≡ Some y
-same_last x y xs (front, ends) (others, other_ends) = grind (arith, common_steps)
 
 -- one byte that is not deleted and whose image is not squeezed
 one_byte : (tables : Tables) (last : Option ℕ) (byte : ℕ) → deletes tables byte ≡ false

@@ -10,7 +10,7 @@ use proofs.Common.{line_if_not_found, Nowhere, None, option_map, nowhere_trans, 
 use proofs.Common.{IsTerminatorMask}
 use proofs.Common.{count_by_more_yes, common_steps, rules}
 use Rattle.std.proofs.lemmas.List.{get_or-drop, drop-map}
-use Rattle.std.proofs.Common.{pow-suc, mul_comm, div-one}
+use Rattle.std.proofs.Common.{pow-suc, div-one}
 use Rattle.std.proofs.Math.Nat.{div-div-eq-div-mul, zero-div}
 use proofs.Vectors.Lanes.{map-id}
 use lib.Bits.{bit_and, and_step, and_self, and_zero_l}

@@ -4,14 +4,14 @@
 -- after a field are the bytes after it.
 use Rattle.ptmerge.proofs
 use proofs.Common.{◌≡◌, ⊎_elim, false, ℕ, List, ◌++◌, Result, Ok, Err, IsErrAnd, true, Output, PushPost, PushEffect}
-use proofs.Common.{push_trans, ◌∷◌, refl, append_assoc, arith, push_nothing, drop_more, length-drop, length-append, suc}
+use proofs.Common.{push_trans, ◌∷◌, refl, append_assoc, arith, length-drop, length-append, suc}
 use proofs.Common.{◌+◌, ◌-◌, ◌≤◌, Bool, [], Option, None, Some, length, drop, get_or, sym, ap, zero, ◌<◌, ◌==◌, cond}
 use proofs.Common.{position, MatchOption, filter, is_some, slice_split, nat_tests, is_blank, Lines}
 use proofs.Common.{is_separator, entry_with_list, remaining_fields, map, remove, unwrap_or, append-nil, flat_map-append}
 use proofs.Common.{Join, output_separator, entry, join_fields, other_fields, is_single_spaced, with_prefix, ◌^◌, eqb}
 use proofs.Common.{◌≢◌, ◌*◌, not, ◌&&◌, ◌∙◌}
-use Rattle.std.proofs.lemmas.Bool.{cases_Bool, false_from_ne_true, eqb-true}
-use Rattle.ptlines.proofs.Push.{push_after_failure, push_past_failure}
+use Rattle.std.proofs.lemmas.Bool.{cases_Bool, eqb-true}
+use Rattle.ptlines.proofs.Push.{push_past_failure}
 use Rattle.std.specs.List.{flat_map, slice_range, prefix_len, join_with_byte, onto_first}
 use Rattle.std.proofs.Common.{rules, ◌/◌, bit_and, bit_or, replicate, take, ◌%◌, ◌||◌}
 use Rattle.std.proofs.lemmas.Grind.{common_steps}
@@ -23,8 +23,7 @@ use Rattle.ptmerge.specs.declared.key_order.Span.{Span}
 use Rattle.std.proofs.lemmas.Simd.{length-chunk, mask_l-mod, mask_l-lt, trailing_mask_l}
 use Rattle.std.specs.Simd.Lanes.{chunk, mask_l, top, zip2}
 use Rattle.memchr.specs.Find.{is_byte, IsFirstByte}
-use Rattle.std.proofs.Math.Nat.{div-div-eq-div-mul, mod-eq_of_lt, mul-lt-mul_of_pos_right, mul_assoc, one-le-pow}
-use Rattle.std.proofs.Math.Nat.{two-pow-succ}
+use Rattle.std.proofs.Math.Nat.{div-div-eq-div-mul, mul-lt-mul_of_pos_right, mul_assoc, one-le-pow}
 use Rattle.std.proofs.Math.Pow.{pow-add, pow-lt, pow_mono}
 use lib.Bits.{and_step, or_step, or_zero_l, or_zero_r, and_zero_l, or_shifted_r, and_mod, and_le_l, and_self, or_self}
 use lib.Count.{count_trailing_zeros}

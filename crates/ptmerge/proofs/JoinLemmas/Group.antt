@@ -18,13 +18,12 @@ use proofs.MergeLemmas.{line_other, HasLines, GroupStore, AllExtend, HasRoom, si
 use proofs.MergeLemmas.{put_same, put_both, put_other, side_case, EachKey, Bound, MayFollow, IsUnder, MergeInvariant}
 use proofs.MergeLemmas.{IsFuture, MayCome, write_least_run, all_wanted, written_is_wanted, LagInvariant, IsLater}
 use proofs.MergeLemmas.{EachKey-append, at_most-same, front_is, later_entries, lines_with_key-above, Each-weaker}
-use proofs.MergeLemmas.{AtMost, least_or_above, self_at_most, equal_is, SideAfterNext, IsAtCurrentLine, MatchesStatus}
-use proofs.MergeLemmas.{side_invariant_kept, read_facts_after_line, IsOpenMerge, ReadFactsOf, SidesInvariant}
+use proofs.MergeLemmas.{AtMost, self_at_most, equal_is, SideAfterNext, IsAtCurrentLine, MatchesStatus}
+use proofs.MergeLemmas.{read_facts_after_line, IsOpenMerge, ReadFactsOf, SidesInvariant}
 use proofs.MergeLemmas.{current_key_is_above, next_at, sides_next, advance_fails}
-use Rattle.std.proofs.Math.ListN.{get_or-append}
 use Rattle.std.proofs.lemmas.Grind.{common_steps}
 pub use Rattle.std.proofs.Common.{rules}
-use Rattle.std.proofs.lemmas.List.{drop-append-le, drop-set-add, set_at, take_at, take_more}
+use Rattle.std.proofs.lemmas.List.{drop-set-add, set_at, take_at, take_more}
 use Rattle.std.proofs.lemmas.List.Sums.{sum_by-append, sum_by-cons, sum_by_push}
 use Rattle.ptlines.proofs.SlotTotals.{total_bytes_set}
 use Rattle.ptmerge.specs.JoinGroup.{EnsureSlotPost, CopyToGroupErrPost, is_head}

@@ -629,8 +629,17 @@ write_least_run {tool} o k q f {b} {d} {p} {was} {is} {new} front all none law c
           let above = λ (side : Side). (front side).later.may_follow (r side) (c side) in
           let alone = simp append-nil at (front_is tool o w k none f (λ side. []) own (λ side. tt)) in
           let rest = front_is tool o w k none (λ side. []) r (λ side. tt) above in
-          (λ i. entries_by_key tool w (λ side. append_assoc (p side) (f side) (r side) i)) ∙ grind (arith, m.splits w (λ side. f side ++ r side) (λ side. (front side).may_follow (r side) (c side)), alone, rest, front_is tool o w k none f r own above, law r c, append_assoc (tool.entries k (f First) (f Second)) (entries_of_key tool r k)
-                (later_entries tool o w k none r), append_assoc (entries_by_key tool w p) (entries_by_key tool w f) (entries_by_key tool w r));
+          (λ i. entries_by_key tool w (λ side. append_assoc (p side) (f side) (r side) i)) ∙ grind (
+            arith,
+            m.splits w (λ side. f side ++ r side) (λ side. (front side).may_follow (r side) (c side)),
+            alone,
+            rest,
+            front_is tool o w k none f r own above,
+            law r c,
+            append_assoc (tool.entries k (f First) (f Second)) (entries_of_key tool r k)
+                (later_entries tool o w k none r),
+            append_assoc (entries_by_key tool w p) (entries_by_key tool w f) (entries_by_key tool w r),
+          );
       under = λ of side. Each-weaker _ _ (front of).under _ (under of side);
       wrote = rw texts (push_trans _ _ _ _ _ clean m.wrote wrote);
     } in
