@@ -405,7 +405,13 @@ module _ {job : Join} {cmp : Cmp} {key : Side → Key} {old : MergeState} {phase
           rw e.memory (exit_is_merge_post call.w _ (group_read_facts q) lag (λ all more.
           let up = λ (side : Side). extends (more side) in
           let room = call.laws.largest e.keeps _ all (inside e.came (up Second)) in
-          omega (arith, ap length (all_copied e.keeps), q.keeps.fits all up, total_within call.tool a.kept _ q.keeps.lines up (q.keeps.room all up), length_push a.g y))
+          omega (
+            arith,
+            ap length (all_copied e.keeps),
+            q.keeps.fits all up,
+            total_within call.tool a.kept _ q.keeps.lines up (q.keeps.room all up),
+            length_push a.g y,
+          ))
           (both_begun (λ side. (q.sides side).begun))
           (λ side fail. cc ((q.sides side).lines_read.advance_ok.failed, call.w.unfailed side)) (Err Memory) (record {
             denied = e.copy_failed.denied;

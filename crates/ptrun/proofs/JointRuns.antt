@@ -544,8 +544,13 @@ module _ (word : List ℕ) {t : JointTool} (names : List (List ℕ)) {positions 
     message = [];
     has_said = said_nothing messages_old;
     names = λ w agrees. sym (none_unopened word names (is_unopened w) (take e.operands_done positions)
-        (grind (arith, complete w agrees, list_any-append (is_unopened w) (take e.operands_done positions)
-              (drop e.operands_done positions), take-append-drop)));
+        (grind (
+          arith,
+          complete w agrees,
+          list_any-append (is_unopened w) (take e.operands_done positions)
+              (drop e.operands_done positions),
+          take-append-drop,
+        )));
     ends = e.ends;
     position = e.position;
     untouched = k.untouched;

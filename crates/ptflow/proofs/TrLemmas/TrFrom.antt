@@ -141,7 +141,10 @@ pub tr_after_byte : TrAfterByte
 tr_after_byte tables byte a b (front, ends) kept unsqueezed =
     let last : EndsWith (image tables byte) (tr tables a) = (
       tr tables front,
-      cc (front_on tables None front (byte ∷ []), one_byte tables (last_or None (tr tables front)) byte kept unsqueezed),
+      cc (
+        front_on tables None front (byte ∷ []),
+        one_byte tables (last_or None (tr tables front)) byte kept unsqueezed,
+      ),
     ) in
     grind (arith, common_steps, tr_of_parts)
 

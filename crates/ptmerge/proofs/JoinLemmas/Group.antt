@@ -195,7 +195,15 @@ module _ {tool : MergeTool} {before store : Slots} {ls : Side → Lines} {g : Li
           }
 
       kept : CopiedLine (with_line made to y) y
-      kept = grind (arith, by_tail, first_same, append_assoc g k.tail w.more, drop-set-add 4 made.lines (length g) y, sum_by-append length k.tail w.more, length-drop 4 made.lines)
+      kept = grind (
+        arith,
+        by_tail,
+        first_same,
+        append_assoc g k.tail w.more,
+        drop-set-add 4 made.lines (length g) y,
+        sum_by-append length k.tail w.more,
+        length-drop 4 made.lines,
+      )
 
   pub group_store_copied : {after : Slots} {from to : ℕ} → to ≡ 4 + length g → from < 4
       → CopyToGroupPost store after from to → {y : List ℕ} → line store from ≡ y
