@@ -19,11 +19,12 @@ use Rattle.ptflow.specs.Cuts.{cut}
 use Rattle.ptflow.specs.PasteText.{paste, paste_serial, uses_of}
 use Rattle.ptflow.specs.TrOutput.{tr}
 use Rattle.ptflow.specs.Uniqs.{Run, uniq, key, runs, output_of}
-use Rattle.ptflow.specs.Parts.{KeysChange, IsRowSplit}
+use Rattle.ptflow.specs.Parts.{EndsWith, KeysChange, IsRowSplit}
 use Rattle.ptflow.proofs.UniqLemmas.Runs.{uniq_of_parts}
 use Rattle.ptflow.proofs.PasteLemmas.Grid.{paste_of_parts}
 use Rattle.ptflow.proofs.CutLemmas.Fields.{cut_of_parts}
-use Rattle.ptflow.proofs.TrLemmas.TrFrom.{tr_after_byte, tr_meets_twice, same_last}
+use Rattle.ptflow.proofs.TrLemmas.TrFrom.{tr_after_byte, tr_meets_twice}
+use Rattle.std.proofs.lemmas.Grind.{common_steps}
 
 -- ---- cut
 
@@ -98,6 +99,10 @@ counts_of_both = refl
 cut_between_runs : uniq counting (codes "a\na\n") ++ uniq counting (codes "b\n") ≡ codes "2 a\n1 b\n"
 unfolding digits
 cut_between_runs = refl
+
+-- the last item of a list is unique
+same_last : {X : Type 0} (x y : X) (xs : List X) → EndsWith x xs → EndsWith y xs → Some x ≡ Some y
+same_last x y xs (front, ends) (others, other_ends) = grind (arith, common_steps)
 
 by_the_law_of_uniq : uniq counting (codes "a\na\nb\n") ≡ uniq counting (codes "a\na\n") ++ uniq counting (codes "b\n")
 by_the_law_of_uniq = uniq_of_parts counting (codes "a\na\n") (codes "b\n") (inr (codes "a\na", refl)) change

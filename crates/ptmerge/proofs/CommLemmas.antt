@@ -20,10 +20,6 @@ use Rattle.ptmerge.specs.Comm.{comm_with, entries, column_entries, tab_if_shown}
 no_entries : (hidden : Bool) (tabs line : List ℕ) → column_entries hidden tabs 0 line ≡ []
 no_entries = grind arith
 
-one_more_entry : (hidden : Bool) (tabs line : List ℕ) (n : ℕ)
-    → column_entries hidden tabs (suc n) line ≡ column_entries hidden tabs 1 line ++ column_entries hidden tabs n line
-one_more_entry = grind arith
-
 -- whether the column of a line of one input alone is hidden
 abbrev hidden_of : Comm → Side → Bool
 hidden_of job First = job.hide1
@@ -35,22 +31,22 @@ tabs_of job Second = tab_if_shown job.hide1 ++ []
 
 entries_both : (job : Comm) (x : List ℕ) (n k : ℕ)
     → entries job x (suc n) (suc k) ≡ entries job x 1 1 ++ entries job x n k
-entries_both = grind (arith, no_entries, one_more_entry)
+entries_both = grind (arith, no_entries)
 
 module _ (job : Comm) (cmp : Cmp) (key : Side → Key) where
   is_line_by_line : IsLineByLine (comm_with job cmp key)
-  is_line_by_line = grind (arith, no_entries, one_more_entry, append-nil)
+  is_line_by_line = grind (arith, no_entries, append-nil)
 
   -- the entries of one line of one input alone, if the key is the line
   entries_alone : (s : Side) (x : List ℕ) → key s x ≡ x → entries_by_key (comm_with job cmp key) all_keys
       (alone s x) ≡ column_entries (hidden_of job s) (tabs_of job s) 1 x
-  entries_alone = grind (arith, same_bytes, no_entries, append-nil)
+  entries_alone = grind (arith, same_bytes, append-nil)
 
   -- the entries of one line of both inputs
   entries_of_pair : IsKeyOrder cmp → (x y : List ℕ) → key First x ≡ x → key Second y ≡ key First x
       → entries_by_key (comm_with job cmp key) all_keys (both (x ∷ []) (y ∷ [])) ≡ column_entries job.hide3
       (tab_if_shown job.hide1 ++ tab_if_shown job.hide2) 1 x
-  entries_of_pair = grind (arith, same_bytes, no_entries, append-nil)
+  entries_of_pair = grind (arith, same_bytes, append-nil)
 
 -- ---- the loop invariant
 
@@ -66,7 +62,7 @@ pub record IterationInvariant (job : Comm) (cmp : Cmp) (key : Side → Key) (old
 pub opened : (job : Comm) {cmp : Cmp} {key : Side → Key} {first second : Reader} {out : Output} {store : Slots}
     → IsKeyOrder cmp → MergeRunPre job.terminator first second out store
     → IsOpenMerge (comm_with job cmp key) (merge_state first second out store)
-opened job {cmp} {key} o begins = grind (arith, open_merge, is_line_by_line job cmp key)
+opened job {cmp} {key} o begins = grind (arith, open_merge)
 
 -- ---- a step
 
@@ -118,12 +114,12 @@ module _ {job : Comm} {cmp : Cmp} {key : Side → Key} {old now : MergeState} {o
     module _ {one2 two2 : Sorted} {reader : Reader} {after : Slots} {mid : Output}
         (h : Advances First one2 two2 reader after mid) where
       pub second_advance_pre : AdvancePre key Second one2 two2 (now.reader Second) after
-      second_advance_pre = grind (arith, advance_pre, between_next)
+      second_advance_pre = grind (arith, advance_pre)
 
       pub pair_decreases : {one3 two3 : Sorted} {reader2 : Reader} {last : Slots} {new : Output}
           → AdvanceOkPost key cmp Second one2 two2 one3 two3 (now.reader Second) reader2 after last new
           → reads_ahead (both reader reader2) one3 two3 < reads_ahead now.reader one two
-      pair_decreases = grind (arith, reads_less, between_next, second_advance_pre)
+      pair_decreases = grind (arith, reads_less, between_next)
 
     abbrev both_written : Side → Lines
     both_written = both (ls First) (ls Second)
@@ -176,5 +172,5 @@ module _ {job : Comm} {cmp : Cmp} {key : Side → Key} {old now : MergeState} {o
               whole_line_keys = whole_line_keys;
               loop_invariant = rw k.continues.others (runs_on g Second step.second came
                   (search (rules, goes_merging, wrote_line_out)));
-              between = grind (arith, between_next, between);
+              between = grind (arith, between);
             }

@@ -3,6 +3,8 @@
 -- the reads that are left plus the rank of the phase, decreases in each iteration.
 pub mod Group
 pub mod Fields
+use Rattle.std.proofs.Common.{rules}
+use Rattle.std.proofs.Common.{arith}
 use Rattle.ptmerge.proofs
 use proofs.Common.{cond, ◌*◌, Err, flat_map-append, Cmp, MergeFault, IsReadyToContinue, AdvanceOkPost, MergePost}
 use proofs.Common.{merge_state, both, lines_of, Memory, HaveEqualKeys, HasOnlyLeastKey}
@@ -27,13 +29,13 @@ cond_of_empty = grind arith
 
 module _ (job : Join) (cmp : Cmp) (key : Side → Key) where
   first_alone : (k : List ℕ) (g : Lines) → join_entries job k g [] ≡ unpaired_entries1 job k g
-  first_alone k [] = grind (arith, cond_of_empty)
+  first_alone k [] = grind arith
   first_alone k (a ∷ g) = refl
 
   is_line_by_line : IsLineByLine (join_with job cmp key)
   is_line_by_line = record {
     none = λ k. cond_of_empty job.unpaired2;
-    first = λ k x g. let rest = first_alone k g in grind (arith, rest);
+    first = λ k x g. let rest = first_alone k g in grind arith;
     second = λ k x g. grind arith;
   }
 
@@ -51,14 +53,14 @@ module _ (job : Join) (cmp : Cmp) (key : Side → Key) where
     whole = grind arith;
     written = some_pairs;
     unwritten = λ none k f g. rw none;
-    largest = λ keeps g ls within. rw keeps (omega (arith, within));
+    largest = λ keeps g ls within. rw keeps (omega arith);
   }
 
   -- the entries of one unpaired line of one input
   pub entries_alone : (s : Side) (x : List ℕ) → key s x ≡ join_key job s x
       → entries_by_key (join_with job cmp key) all_keys (alone s x) ≡ unpaired_entry job s x
-  entries_alone First x is = grind (arith, same_bytes (refl {a = key First x}), append-nil)
-  entries_alone Second x is = grind (arith, same_bytes (refl {a = key Second x}), append-nil)
+  entries_alone First x is = grind (arith, same_bytes (refl {a = key First x}))
+  entries_alone Second x is = grind (arith, same_bytes (refl {a = key Second x}))
 
 -- ---- the phases
 
@@ -116,7 +118,7 @@ pub record IsOpenMerge (job : Join) (cmp : Cmp) (key : Side → Key) (old : Merg
 pub opened : (job : Join) {cmp : Cmp} {key : Side → Key} {first second : Reader} {out : Output} {store : Slots}
     → IsKeyOrder cmp → ((side : Side) (x : List ℕ) → key side x ≡ join_key job side x)
     → MergeRunPre job.terminator first second out store → IsOpenMerge job cmp key (merge_state first second out store)
-opened job {cmp} {key} o keys begins = grind (arith, open_merge, is_line_by_line)
+opened job {cmp} {key} o keys begins = grind (arith, open_merge)
 
 -- the call
 abbrev pub join_call_of : {job : Join} {cmp : Cmp} {key : Side → Key} {old : MergeState} → IsOpenMerge job cmp key old
@@ -283,7 +285,7 @@ module _ {job : Join} {cmp : Cmp} {key : Side → Key} {old : MergeState} {phase
         inside : {l : Lines} → Extends (on_second.group.ls Second) l → InLargest (key Second) grown l
         inside {l} more =
             let on = extends_on (on_second.more Second) more in
-            let is : l ≡ (a.q.p Second ++ grown) ++ on.more = cc (on.is, with_head (a.heads Second)) in
+            let is : l ≡ (a.q.p Second ++ grown) ++ on.more = cc (with_head (a.heads Second)) in
             rw is (group_in (key Second) a.k (a.q.p Second) grown on.more
             (own_more (a.heads Second) Second) (omega (arith, length_push a.g y)))
 
@@ -312,7 +314,7 @@ module _ {job : Join} {cmp : Cmp} {key : Side → Key} {old : MergeState} {phase
 
         -- the previous line stands for the group, if none is copied
         one_for_all : a.kept ≡ [] → IsOneForAll call a.k (line made two2.previous_slot) a.kept grown
-        one_for_all = grind (arith, last_stays, a.heads Second, a, all_copied)
+        one_for_all = grind (arith, a.heads Second, a, all_copied)
 
         -- the group after the line was added to it, with its copied lines
         record GrownGroup (after : Slots) (to : ℕ) : Type 0 where
@@ -326,7 +328,7 @@ module _ {job : Join} {cmp : Cmp} {key : Side → Key} {old : MergeState} {phase
         grown_group : {after : Slots} {to : ℕ} → IsInItsSlot call.keeps_groups two2 made after end to
             ⊎ IsCopiedToGroup call.keeps_groups two2 made after end to → GrownGroup after to
         grown_group (inl e) =
-            let none = ⊎_elim none_copied (λ (_, four). nil_from_length a.kept (omega (arith, four, a.q.at))) e.stays in
+            let none = ⊎_elim none_copied (λ (_, four). nil_from_length a.kept (omega (arith, a.q.at))) e.stays in
             rw (e.end_is, e.store_is) (record {
               kept = a.kept;
               q = on_second.group;
@@ -408,7 +410,6 @@ module _ {job : Join} {cmp : Cmp} {key : Side → Key} {old : MergeState} {phase
             ap length (all_copied e.keeps),
             q.keeps.fits all up,
             total_within call.tool a.kept _ q.keeps.lines up (q.keeps.room all up),
-            room,
             length_push a.g y,
           ))
           (both_begun (λ side. (q.sides side).begun))
@@ -433,10 +434,10 @@ module _ {job : Join} {cmp : Cmp} {key : Side → Key} {old : MergeState} {phase
     write_pairs_pre = record { status_is = advance_pre t.between First state.head.head; joins = joins }
 
     is_kept : state.kept ≡ state.g Second → (end == 4) ≡ false
-    is_kept = search (rules, state)
+    is_kept = search rules
 
     is_alone : state.kept ≡ [] → (end == 4) ≡ true
-    is_alone none = let four : end ≡ 4 = omega (arith, state.q.at, ap length none) in grind (arith, nat_tests)
+    is_alone none = let four : end ≡ 4 = omega (arith, state.q.at, ap length none) in grind arith
 
     -- the lines of the group have its key
     keyed_slot : (slot : ℕ) → group_first_slot two end ≤ slot → slot < group_end_slot two end
@@ -444,8 +445,8 @@ module _ {job : Join} {cmp : Cmp} {key : Side → Key} {old : MergeState} {phase
     keyed_slot slot from low = ⊎_elim (λ same.
         let own = rw (← same) at (state.q.within.own Second) in
         let keyed = EachKey-at (λ x. x ≡ state.k) (key Second) state.kept (slot - 4) in
-        grind (arith, is_kept same, kept_line state.q.keeps, keyed, own, state.q.at))
-        (λ h. let is : slot ≡ two.previous_slot = grind (arith, is_alone h.none) in rw is h.own) state.lines_in
+        grind (arith, kept_line state.q.keeps, keyed, own, state.q.at))
+        (λ h. let is : slot ≡ two.previous_slot = grind arith in rw is h.own) state.lines_in
 
     abbrev in_slots : Lines
     in_slots = group now.store (group_first_slot two end) (group_end_slot two end)
@@ -456,7 +457,7 @@ module _ {job : Join} {cmp : Cmp} {key : Side → Key} {old : MergeState} {phase
         (λ h. rw (
           is_alone h.none,
           group_one now.store two.previous_slot
-              (omega (arith, state.q.keeps.four, (low_slot Second two (state.q.sides Second).slots).previous)),
+              (omega (arith, state.q.keeps.four)),
         ) (h.same_pairs f))
         state.lines_in
 
@@ -496,7 +497,7 @@ module _ {job : Join} {cmp : Cmp} {key : Side → Key} {old : MergeState} {phase
         above_on = rw on_first.bound state.above
 
         pub group_there : (4 ≤ end) × (end ≤ length after.lines)
-        group_there = grind (arith, end_in state.q, length-set, h.came)
+        group_there = grind (arith, end_in state.q, h.came)
 
         pub write_pairs_continues : one2.same ≡ true
             → IterationInvariant job cmp key old phase (state_after_read now First reader new after) one2 two2 end
@@ -524,7 +525,7 @@ module _ {job : Join} {cmp : Cmp} {key : Side → Key} {old : MergeState} {phase
                 p = λ side. q.p side ++ with_added_line now (both one two) First state.g side;
                 b = q.d;
                 cursors = record {
-                  sides = same_cursors call.tool q.sides (omega (arith, clear.slots, q.keeps.four))
+                  sides = same_cursors call.tool q.sides (omega (arith, clear.slots))
                       (λ i low. clear.others i (inl low));
                   keeps = group_store_cleared q.keeps q.at clear;
                 };

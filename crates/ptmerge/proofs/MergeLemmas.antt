@@ -2,6 +2,8 @@
 -- next line has no lesser key, so the invariant holds again. A step ends the loop when both inputs are at their ends or
 -- a disorder is reported, and a fault of a write or read ends it with a prefix of the output.
 pub mod Exits
+use Rattle.std.proofs.Common.{rules}
+use Rattle.std.proofs.Common.{arith}
 use Rattle.ptmerge.proofs
 use proofs.Common.{AdvancePre, IsReadyToContinue, PrecedesInput, MergeRunPre, WriteFaultPost, budget}
 use proofs.Common.{CopyToGroupPost, Ok, IsErrAnd, HasOnlyLeastKey}
@@ -36,7 +38,7 @@ current_key_is_above cmp o key x Head cursor store now ls p b before line_is =
       },
     )
 current_key_is_above cmp o key x Ended cursor store now ls p b before (bound, _) = grind arith
-current_key_is_above cmp o key x (Disorder n) cursor store now ls p b before st = grind (arith, at_most_trans)
+current_key_is_above cmp o key x (Disorder n) cursor store now ls p b before st = grind arith
 
 -- ---- one line
 
@@ -138,13 +140,13 @@ module _ {tool : MergeTool} {old : MergeState} (w : IsOpenMerge tool old) {now :
   advance_fails {out} lag new after fault e =
       let f = failed_advance s cursor (now.reader s) new _ after out fault (a.facts s).sound e in
       let facts = put_both (ReadFactsOf tool old now.reader ls p b) s new _ f.piece (λ side. [])
-      (grind (arith, a.facts s, f)) (a.facts (other s)) in
+      (grind (arith, f)) (a.facts (other s)) in
       let is = state_by_side (with_side s new now.reader) out after in
       exit_is_merge_post w is facts lag
       (λ all holds. omega (arith, peak_line a.keeps s cursor a.slots f.piece all holds)) (a.order new f.piece f.line)
       (put_each (λ side (r : Reader). r.failed ≡ true → IsFailedRead r (ls side) (p side)) s new _
-      (grind (arith, f, none_failed_yet s, w.unfailed s)) (λ side fail. cc (none_failed_yet side, w.unfailed side)))
-      (Err fault) (grind (arith, w.unfailed, put_same, none_failed_yet, side_case, put_other, e))
+      (grind (arith, f, w.unfailed s)) (λ side fail. cc (none_failed_yet side, w.unfailed side)))
+      (Err fault) (grind (arith, w.unfailed, put_same, side_case, put_other, e))
 
 -- ---- between two steps
 
@@ -152,7 +154,7 @@ module _ {tool : MergeTool} {old : MergeState} (w : IsOpenMerge tool old) {now :
 pub open_merge : {tool : MergeTool} {first second : Reader} {out : Output} {store : Slots} → IsKeyOrder tool.cmp
     → ((ls : Side → Lines) → HasRoom tool [] ls) → IsLineByLine tool
     → MergeRunPre tool.terminator first second out store → IsOpenMerge tool (merge_state first second out store)
-open_merge = grind (arith, both_each)
+open_merge = grind arith
 
 -- the cursors between two steps, for any output
 pub record CursorsInvariant {tool : MergeTool} {old : MergeState} (w : IsOpenMerge tool old) (reader : Side → Reader)
@@ -256,7 +258,7 @@ module _ {tool : MergeTool} {old : MergeState} {w : IsOpenMerge tool old} {now :
           later = later;
         })))
         (side_case _ s (simp put_same h.all) (simp (put_other, append-nil))) (w.alone.none (key s x))
-        (λ r c. grind (arith, w.alone, none (r (other s)) (above (r (other s)) (c (other s))))) clean m
+        (λ r c. grind (arith, w.alone)) clean m
         (rw (sides s).lines_read.terminator at wrote)
 
     pub alone_breaks : EndsIfFails tool old now s (cursor s) new
@@ -270,7 +272,7 @@ module _ {tool : MergeTool} {old : MergeState} {w : IsOpenMerge tool old} {now :
       let disordered : b s ≡ AfterDisorder d = rw dec.status_is at (sides s).status_is in
       let st = (sides (other s)).status_is in
       let (above, _) = current_key_is_above _ w.o _ d.last_key _ _ _ _ _ _ _
-      (grind (arith, greater_flips, is_greater, dec.named)) st in
+      (grind (arith, is_greater, dec.named)) st in
       rw (named_is _ w.o _ s d _ _ _ _ _ _ _ dec.named st (λ side. first_disorder cmp (key side) (l side))
       (rw disordered at (f s)) (f (other s))) (
         none_wanted tool (λ k. is_le (cmp k d.last_key)) r
@@ -313,7 +315,7 @@ module _ {tool : MergeTool} {old : MergeState} {w : IsOpenMerge tool old} {now :
     ends_well step =
         let e : (side : Side) → (b side ≡ NothingMore) × IsDone (now.reader side) =
         λ side. rw (step side) at (sides side).status_is in
-        concludes (Ok tt) (pushed_all (λ none side. (e side).1) (grind (arith, e)))
+        concludes (Ok tt) (pushed_all (λ none side. (e side).1) (grind arith))
 
     pub ends_fallen : {s : Side} {n : ℕ} → IsDisorderDecided cmp key cursor now.store s n
         → MergePost tool old last (Err (faults.Disorder s n))
@@ -336,7 +338,7 @@ reads_ahead reader one two =
 -- the cursors after this input advanced
 pub place_is : (s : Side) (one two one2 two2 : Sorted) → both one2 two2 (other s) ≡ both one two (other s)
     → with_side s (both one2 two2 s) (both one two) ≡ both one2 two2
-place_is s one two one2 two2 same = grind (arith, same)
+place_is s one two one2 two2 same = grind arith
 
 -- the cursors, the readers and the output between two steps
 pub record BetweenSteps (key : Side → Key) (now : MergeState) (one two : Sorted) : Type 0 where
@@ -358,12 +360,12 @@ module _ {key : Side → Key} {now : MergeState} {one two : Sorted} (t : Between
   module _ (s : Side) {one2 two2 : Sorted} {reader : Reader} {after : Slots} {new : Output}
       (continues : IsReadyToContinue key s one two one2 two2 reader after new) where
     pub between_next : BetweenSteps key (state_by_side (with_side s reader now.reader) new after) one2 two2
-    between_next = grind (arith, side_case, put_same, put_other)
+    between_next = grind (arith, put_same, put_other)
 
     pub reads_less : {cmp : Cmp} {made : Slots} → (both one two s).status ≡ Head
         → NextOkPost (key s) cmp (both one two s) (both one2 two2 s) (now.reader s) reader now.store made
         → reads_ahead (with_side s reader now.reader) one2 two2 < reads_ahead now.reader one two
-    reads_less head came = grind (arith, came)
+    reads_less head came = grind arith
 
 -- writing out buffered output does not change what was pushed
 pub wrote_and_sent : (was mid is : Output) (pushed : List ℕ) → mid.write_failed ≡ false → PushEffect was mid pushed
@@ -383,7 +385,7 @@ later_status = grind arith
 pub valid_cursors_kept : (key : Side → Key) (one two : Sorted) (before after : Slots)
     → AreValidCursors key one two before → length before.lines ≤ length after.lines
     → ((slot : ℕ) → slot < 4 → line after slot ≡ line before slot) → AreValidCursors key one two after
-valid_cursors_kept = grind (arith, low_slot)
+valid_cursors_kept = grind arith
 
 -- copying a line changes one slot, or adds one
 pub kept_line : (before after : Slots) (from to slot : ℕ) → slot < to → CopyToGroupPost before after from to
@@ -405,7 +407,7 @@ module _ {tool : MergeTool} {old : MergeState} (w : IsOpenMerge tool old) where
   unstarted = record { reader = old.reader; store = old.store }
 
   none_read : (side : Side) → LinesRead terminator (old.reader side) (old.reader side) []
-  none_read side = grind (arith, w.readable side, w.terminator side)
+  none_read side = grind (arith, w.readable side)
 
   -- an input was advanced to its first line
   first_line : (side : Side) {new : Reader} {cursor : Sorted} {before after : Slots} → 4 ≤ length before.lines
@@ -428,7 +430,7 @@ module _ {tool : MergeTool} {old : MergeState} (w : IsOpenMerge tool old) where
         (store_starts w.fits s.four w.allowed w.empty) began
 
     half_invariant : MergeInvariant tool (both began.bound NoBound) no_lines old.out old.out
-    half_invariant = search (rules, bound_changes, began, merge_invariant_starts)
+    half_invariant = search (rules, bound_changes, began)
 
   pub start_ok : {first second : Reader} {store : Slots} {one two : Sorted}
       → StartOkPost key cmp (both one two) unstarted (merge_inputs first second store)
@@ -442,7 +444,7 @@ module _ {tool : MergeTool} {old : MergeState} (w : IsOpenMerge tool old) where
         p = no_lines;
         b = both f.bound k.bound;
         cursors = record {
-          sides = elim [ First ↦ grind (arith, side_invariant_kept, line_other, apart) | Second ↦ k.side_invariant ];
+          sides = elim [ First ↦ grind (arith, line_other, apart) | Second ↦ k.side_invariant ];
           keeps = group_store_next Second (initial_cursor Second) (fresh_slots Second) (half_store s) k;
         };
         merge_invariant = bound_changes Second (half_invariant s) k.later;
@@ -450,7 +452,7 @@ module _ {tool : MergeTool} {old : MergeState} (w : IsOpenMerge tool old) where
 
   -- nothing was read of an input
   unread : (side : Side) → ReadFactsOf tool old old.reader no_lines no_lines (λ t. NoBound) side (old.reader side) []
-  unread side = grind (arith, none_read, reads_nothing, w.sound side, sorted_up_to_none)
+  unread side = grind (arith, none_read, reads_nothing, w.sound side)
 
   -- the merge could not start
   abbrev StartErr : Reader → Reader → Slots → MergeFault → Type 0
@@ -466,7 +468,7 @@ module _ {tool : MergeTool} {old : MergeState} (w : IsOpenMerge tool old) where
         (record {
           facts = unread;
           all = refl;
-          order = λ r piece free. grind (arith, one_line_at_most, free, w.terminator First);
+          order = λ r piece free. grind (arith, one_line_at_most, free);
           kept = [];
           keeps = store_starts w.fits f.four w.allowed w.empty;
           slots = fresh_slots First;
@@ -480,7 +482,7 @@ module _ {tool : MergeTool} {old : MergeState} (w : IsOpenMerge tool old) where
         {b = both g.bound NoBound} (record {
           facts = elim [ First ↦ g.side_invariant.facts | Second ↦ unread Second ];
           all = refl;
-          order = λ r piece free. grind (arith, g);
+          order = λ r piece free. grind arith;
           kept = [];
           keeps = half_store s;
           slots = fresh_slots Second;

@@ -82,14 +82,14 @@ module _ {I : Type 0} {names : InputNames I} (engine : EngineSpec I) (position :
       (call_state (λ i. reader_at new (position i)) is store) call.given call.pushed found
       → AllPushed (inputs_at positions) (in_run (at_positions engine position)) (run_state old was before)
       (run_state new is store) given call.pushed (option_map (line_at position) found)
-  placed_pushed found e = grind (arith, placed_agree, each, none_found)
+  placed_pushed found e = grind (arith, each, none_found)
 
   unfinished : IsCallUnfinished names engine (call_state (λ i. reader_at new (position i)) is store) call.given
       call.pushed
       → IsCallUnfinished (inputs_at positions) (in_run (at_positions engine position)) (run_state new is store) given
       call.pushed
   unfinished (inl (i, read, left)) = search rules
-  unfinished (inr (keeps, unwritten)) = grind (arith, placed_agree)
+  unfinished (inr (keeps, unwritten)) = grind arith
 
   -- without its first slots the call has read nothing, and all inputs are new
   unread : length store.lines < engine.first_slots
@@ -105,9 +105,9 @@ module _ {I : Type 0} {names : InputNames I} (engine : EngineSpec I) (position :
   ends Complete e = placed_pushed None e
   ends (OutOfOrder i line) e =
       record { named = by.listed i e.named; pushed_all = placed_pushed (Some (i, line)) e.pushed_all }
-  ends (ReadFault i) e = grind (arith, each)
-  ends WriteFault e = grind (arith, each)
-  ends MemoryFault e = grind (arith, each, unread, unfinished)
+  ends (ReadFault i) e = grind arith
+  ends WriteFault e = grind arith
+  ends MemoryFault e = grind (arith, each, unread)
 
   -- less was received from one input, and the others are unchanged
   placed_decided : (i : I) → ◌≡◌ {A = (Unit {0} → Received) → List ℕ}
@@ -146,7 +146,7 @@ module _ {I : Type 0} {names : InputNames I} (engine : EngineSpec I) (position :
 only_operand_of : (positions : List ℕ) (d : ℕ) → (length positions == 1) ≡ true
     → positions ≡ get_or positions 0 d ∷ []
 only_operand_of (p ∷ []) d one = refl
-only_operand_of positions d one = grind (arith, eqb-true)
+only_operand_of positions d one = grind arith
 
 one_placed : (p : ℕ) → Placement only_input (λ u. p) (p ∷ [])
 one_placed p = record {
@@ -177,7 +177,7 @@ module _ {j : JointTool} {positions : List ℕ} {old : List Reader} {was : Outpu
     new_here = fresh_all old ready.fresh p opened
 
     pub only_operand_ready : (e : Reader) → PassPre (get_or old p e) before
-    only_operand_ready e = grind (arith, common_steps, only_operand_within, opened, new_here)
+    only_operand_ready e = grind (arith, common_steps, opened, new_here)
 
     named : is_in positions p ≡ true
     named = rw (only_operand_of positions d one) (is_in-same [] p)
@@ -211,7 +211,7 @@ module _ (job : Paste) {positions : List ℕ} {old : List Reader} {was : Output}
   cell_open = search (rules, none_passes)
 
   pub cells_ready : PastePre positions old before
-  cells_ready = grind (arith, common_steps, cell_open, cell_in, fresh_all)
+  cells_ready = grind (arith, common_steps, cell_in, fresh_all)
 
   in_place : Placement (inputs_at positions) (λ p. p) positions
   in_place = record {
@@ -236,7 +236,7 @@ module _ (job : Paste) {positions : List ℕ} {old : List Reader} {was : Output}
     result_is = completes result;
     call = placed_call (paste_engine job positions) (λ p. p) in_place old new k.untouched ready.writable
         (λ few. let first = cell_in positions 0 (omega arith) in let q = get_or positions 0 0 in
-        (q, first, grind (arith, fresh_all, cell_open))) k;
+        (q, first, grind (arith, cell_open))) k;
     same = decided_same job positions;
   }
 
@@ -254,10 +254,10 @@ AcceptsTwo positions =
 pub two_of : (positions : List ℕ) (d : ℕ) → AcceptsTwo positions
     → TwoPositions positions (get_or positions 0 d) (get_or positions 1 d)
 two_of (p ∷ q ∷ []) d accepts_operands = grind arith
-two_of positions d accepts_operands = grind (arith, nat_tests)
+two_of positions d accepts_operands = grind arith
 
 pub length_two : (positions : List ℕ) → AcceptsTwo positions → length positions ≡ 2
-length_two positions accepts_operands = search (rules, two_of)
+length_two positions accepts_operands = search rules
 
 module _ (t : MergeTool) {old : List Reader} {was : Output} {before : Slots} {p q : ℕ} (apart : p ≡ q → ⊥)
     (ready : JointPre (two_input_tool t) (p ∷ q ∷ []) old was before) where
@@ -265,21 +265,21 @@ module _ (t : MergeTool) {old : List Reader} {was : Output} {before : Slots} {p 
   two = p ∷ q ∷ []
 
   side_named : (side : Side) → is_in two (operand two side) ≡ true
-  side_named First = search (rules, same_here)
+  side_named First = search rules
   side_named Second = is_in-same (p ∷ []) q
 
   side_open : (side : Side) → (reader_at old (operand two side)).refused ≡ false
-  side_open side = grind (arith, none_passes, side_named)
+  side_open side = grind (arith, side_named)
 
   new_at : (side : Side) → IsNew (reader_at old (operand two side))
-  new_at side = search (rules, fresh_all, side_open)
+  new_at side = search (rules, side_open)
 
   -- both can be read
   pub ready_at : MergePre (reader_at old p) (reader_at old q) before
-  ready_at = grind (arith, side_open, new_at)
+  ready_at = grind (arith, new_at)
 
   not_same : (a b : ℕ) → (a ≡ b → ⊥) → (a == b) ≡ false
-  not_same a b differs = grind (arith, eqb_tells)
+  not_same a b differs = grind arith
 
   two_placed : Placement both_sides (operand two) two
   two_placed = record {
@@ -344,7 +344,7 @@ module _ {inputs : List Reader} (front back : List Reader) {low high : ℕ} (spl
   none_left = omega arith
 
   pub were : (d e : Reader) → (get_or front low d ≡ reader_at inputs low) × (get_or back 0 e ≡ reader_at inputs high)
-  were d e = grind (arith, common_steps, length-append, none_left)
+  were d e = grind (arith, common_steps, none_left)
 
   module _ (x y : Reader) where
     set_both : set (set inputs low x) high y ≡ set front low x ++ set back 0 y
@@ -353,7 +353,7 @@ module _ {inputs : List Reader} (front back : List Reader) {low high : ℕ} (spl
 
     pub split_readers : (d e : Reader)
         → SplitReaders inputs (set front low x ++ set back 0 y) low high (get_or front low d) (get_or back 0 e) x y
-    split_readers d e = grind (arith, common_steps, were, set_both)
+    split_readers d e = grind (arith, common_steps, were)
 
 -- ---- an operand could not be opened
 
@@ -415,38 +415,38 @@ module _ (word : List ℕ) {t : JointTool} (names : List (List ℕ)) {positions 
 
   at_position : (q : ℕ)
       → at received q ≡ cond (is_reader_unopened old q) None (Some (cond (is_in positions q) (k.given q) none_received))
-  at_position q = grind (arith, at_received, k)
+  at_position q = grind (arith, at_received)
 
   at_listed : (q : ℕ) → is_in positions q ≡ true → at received q ≡ Some (k.given q)
-  at_listed q named = grind (arith, at_position, open_at, k)
+  at_listed q named = grind (arith, at_position, open_at)
 
   at_other : (q : ℕ) → is_in positions q ≡ false → at received q ≡ received_of (reader_at old q)
-  at_other q other = grind (arith, at_position, k)
+  at_other q other = grind (arith, at_position)
 
   given_listed : (q : ℕ) → is_in positions q ≡ true → received_in received q ≡ k.given q
   given_listed q named = rw (at_listed q named) refl
 
   came : HaveReceived old new received
-  came q = grind (arith, at_listed, open_at, k, at_other, receives_none, fresh)
+  came q = grind (arith, at_listed, open_at, k, at_other, fresh)
 
   complete : (w : InputBytes) → AreInputsConsistent received w → has_unopened positions w ≡ false
-  complete w agrees = grind (arith, any_same, unopened_agrees, came)
+  complete w agrees = grind (arith, any_same, came)
 
   agree : (w : InputBytes) → AreInputsConsistent received w → AreAllConsistent (inputs_at positions) k.given
       (bytes_of w)
-  agree w agrees q named = grind (arith, consistent_bytes, k, at_listed)
+  agree w agrees q named = grind (arith, k, at_listed)
 
   -- ---- the decided output
 
   decided_is : (r : ReceivedInputs) (f : ℕ → Received) → ((q : ℕ) → is_unopened r q ≡ is_unopened received q)
       → ((q : ℕ) → is_in positions q ≡ true → received_in r q ≡ f q)
       → (joint_spec word t names positions).decided r ≡ (t.engine positions).decided f
-  decided_is r f opened same = grind (arith, any_same, unopened_received, came)
+  decided_is r f opened same = grind (arith, any_same, came)
 
   -- less was received from one input, and the others are unchanged
   put_is : (p : ℕ) (g e : Received) → at received p ≡ Some g → (q : ℕ) → is_in positions q ≡ true
       → received_in (set received p (Some e)) q ≡ update_at p e k.given q
-  put_is p g e there = search (rules, by_position, k, at_set, put_here, given_listed, put_other)
+  put_is p g e there = search (rules, k, at_set, put_here, given_listed, put_other)
 
   -- ---- how it ended
 
@@ -459,15 +459,15 @@ module _ (word : List ℕ) {t : JointTool} (names : List (List ℕ)) {positions 
       (run_state new is store) k.given k.pushed end
 
   failed_is_in : (q : ℕ) → HasReadFailed old new q → is_in positions q ≡ true
-  failed_is_in q failed = grind (arith, k)
+  failed_is_in q failed = grind arith
 
   none_failed : NoReadFailed (inputs_at positions) (run_state old was before) (run_state new is store) → (q : ℕ)
       → HasReadFailed old new q → ⊥
-  none_failed none q failed = grind (arith, failed_is_in)
+  none_failed none q failed = grind arith
 
   none_long : ((q : ℕ) → is_in positions q ≡ true → (reader_at new q).pulled < 2 ^ 63) → (q : ℕ)
       → IsTooLong (at received q) → ⊥
-  none_long short q long = grind (arith, not_long, fresh, came, never_long, at_other)
+  none_long short q long = grind (arith, not_long, fresh, came, at_other)
 
   record Ending (r : Result Completion FlowFault) : Type 0 where
     operands_done : ℕ
@@ -546,7 +546,6 @@ module _ (word : List ℕ) {t : JointTool} (names : List (List ℕ)) {positions 
     names = λ w agrees. sym (none_unopened word names (is_unopened w) (take e.operands_done positions)
         (grind (
           arith,
-          neither,
           complete w agrees,
           list_any-append (is_unopened w) (take e.operands_done positions)
               (drop e.operands_done positions),
@@ -563,7 +562,7 @@ module _ (word : List ℕ) {t : JointTool} (names : List (List ℕ)) {positions 
         )) (left_by post.end k.ends (sym post.result_is ∙ memory));
     is_prefix = λ w agrees. rw (complete w agrees) (k.is_prefix (bytes_of w) (agree w agrees));
     names_failed_read = e.names_failed_read;
-    decided_is_written = grind (arith, decided_is received k.given (λ q. refl) given_listed, failed_is_in, k);
+    decided_is_written = grind (arith, decided_is received k.given (λ q. refl) given_listed, k);
     bounded_lag = λ q g named there. let up = lagged_output (λ e. (t.engine positions).decided (update_at q e k.given))
         (k.bounded_lag q named start.writable) in let e = up.0.earlier in
         rw (some_same (sym there ∙ at_listed q named)) (

@@ -15,10 +15,10 @@ say_post_part {old} {piece = piece} done more split took p = record {
   rest = p.rest ++ more;
   split = grind (arith, common_steps);
   accepted = search (rules, append_known-append);
-  unflushed = search (rules, unflushed_after-append);
+  unflushed = search rules;
   flushes = p.flushes ∙ ap (λ s. s.flushes) took;
   whole = λ all. absurd (false≢true all);
-  broken = λ _. (omega (arith, p.some, length-append p.rest more), p.failed);
+  broken = λ _. (omega (arith, length-append p.rest more), p.failed);
 }
 
 -- all of it was taken
@@ -95,4 +95,4 @@ line_split parts i within = (
 
 pub took_trans : (a b c : SinkState) (xs ys : List ℕ) → WriteOutOk a b xs → WriteOutOk b c ys
     → WriteOutOk a c (xs ++ ys)
-took_trans a b c xs ys p q = grind (arith, append_known-append, unflushed_after-append)
+took_trans a b c xs ys p q = grind (arith, append_known-append)

@@ -30,7 +30,7 @@ pub some_same : {X : Type 0} {a b : X} → Some a ≡ Some b → a ≡ b
 some_same same = cc
 
 pub same_here : (p : ℕ) → (p == p) ≡ true
-same_here p = grind (arith, nat_tests)
+same_here p = grind arith
 
 pub neither : (a b : Bool) → (a || b) ≡ false → (a ≡ false) × (b ≡ false)
 neither true b is = absurd (false≢true (sym is))
@@ -49,7 +49,7 @@ each_listed P ps all q named = let a = Any-from_list_any (λ p. p == q) ps named
 pub none_passes : (test : ℕ → Bool) (ps : List ℕ) → list_any test ps ≡ false → (q : ℕ) → is_in ps q ≡ true
     → test q ≡ false
 none_passes test [] none q named = cc
-none_passes test (p ∷ ps) none q named = grind (arith, eqb-true, none_passes test ps)
+none_passes test (p ∷ ps) none q named = grind (arith, none_passes test ps)
 
 -- ---- functions of positions, updated at one
 
@@ -57,7 +57,7 @@ pub put_here : {X : Type 0} (p : ℕ) (x : X) (f : ℕ → X) → update_at p x 
 put_here p x f = ap (λ b. cond b x (f p)) (same_here p)
 
 pub put_other : {X : Type 0} (p q : ℕ) (x : X) (f : ℕ → X) → p ≢ q → update_at p x f q ≡ f q
-put_other p q x f differs = grind (arith, eqb_tells)
+put_other p q x f differs = grind arith
 
 -- ---- operands
 
@@ -106,10 +106,10 @@ said_more word names is_unopened_at done p k says = search (rules, flat_map-appe
 
 module _ (test : ℕ → Bool) (done : List ℕ) (p : ℕ) where
   pub any_now : test p ≡ true → list_any test (done ++ p ∷ []) ≡ true
-  any_now is = grind (arith, common_steps, or_right, or_left)
+  any_now is = grind (arith, common_steps, or_left)
 
   pub any_before : test p ≡ false → list_any test (done ++ p ∷ []) ≡ list_any test done
-  any_before is = grind (arith, common_steps, or-false)
+  any_before is = grind (arith, common_steps)
 
 pub is_in-same : (done : List ℕ) (p : ℕ) → is_in (done ++ p ∷ []) p ≡ true
 is_in-same done p = any_now (λ q. q == p) done p (same_here p)
@@ -123,7 +123,7 @@ not_more done p q none = grind (arith, is_in-same, is_in-other)
 -- a fact about each position in a list, and about one more
 pub holds_more : (P : ℕ → Type 0) (done : List ℕ) (p : ℕ) → ((q : ℕ) → is_in done q ≡ true → P q) → P p → (q : ℕ)
     → is_in (done ++ p ∷ []) q ≡ true → P q
-holds_more P done p before here = grind (arith, by_position, is_in-other)
+holds_more P done p before here = grind (arith, is_in-other)
 
 -- ---- the maximum
 
@@ -175,11 +175,11 @@ module _ (t : ToolSpec) (law : DecidesAll t) where
       ++ flat_map t.decided (up_to_unended later)
   decided_inputs r before [] later eof = refl
   decided_inputs r before (p ∷ ps) later eof =
-      let further = decided_inputs r (before ++ p ∷ []) ps later (grind (arith, or_right)) in
+      let further = decided_inputs r (before ++ p ∷ []) ps later (grind arith) in
       rw (at-least_bytes r p) (decided_input (inputs_of_operands empty_input r (before ++ p ∷ []) ps)
       (inputs_of_operands [] (least_bytes r) (before ++ p ∷ []) ps) later (flat_map t.decided (up_to_unended later))
       further
-      (at r p) (eof p (grind (arith, or_left, same_here))) (is_in before p))
+      (at r p) (eof p (grind (arith, or_left))) (is_in before p))
 
 -- ---- the positions of the operands, in order
 
@@ -187,12 +187,12 @@ module _ (t : ToolSpec) (law : DecidesAll t) where
 pub fresh_all : (readers : List Reader)
     → ((k : ℕ) (d : Reader) → k < length readers → IsNewOrUnopened (get_or readers k d)) → (q : ℕ)
     → IsNewOrUnopened (reader_at readers q)
-fresh_all readers h q = grind (arith, common_steps, h q no_reader, cases_lt q (length readers))
+fresh_all readers h q = grind (arith, common_steps, h q no_reader)
 
 pub position_in_range : (order : List Input) (n : ℕ) → All (λ p. p < n) (positions order)
     → All (λ o. position o < n) order
 position_in_range order n in_range i d within =
-    rw (get_or-map position order i d 0 within) at (in_range i 0 (omega (arith, within, length-map order position)))
+    rw (get_or-map position order i d 0 within) at (in_range i 0 (omega (arith, length-map order position)))
 
 -- the list of names is as long as the list of their texts
 pub names_counted : (names : List (Bor (List ℕ))) (n : ℕ) → n ≡ length (words_view names) + 1 → n ≡ length names + 1
@@ -206,7 +206,7 @@ pub record OperandStep (order : List Input) (i p n : ℕ) : Type 0 where
 
 pub only_within : {p n : ℕ} → p < n → All (λ q. q < n) (p ∷ [])
 only_within low zero d within = low
-only_within low (suc k) d within = absurd (omega (arith, within))
+only_within low (suc k) d within = absurd (omega arith)
 
 pub operand_step : {p n : ℕ} (order : List Input) (i : ℕ) (d : Input) → All (λ q. q < n) (positions order)
     → i < length order → p ≡ position (get_or order i d) → OperandStep order i p n
@@ -256,7 +256,7 @@ receives_nothing r new = grind arith
 
 pub receives_trans : (a b c : Reader) (g h : Received) → HasReceived a b g → HasReceived b c h → b.buffered ≡ []
     → HasReceived a c (record { bytes = g.bytes ++ h.bytes; eof = h.eof })
-receives_trans a b c g h p q empty = grind (arith, remaining_of_empty, prepend_known-append, length-append)
+receives_trans a b c g h p q empty = grind (arith, prepend_known-append, length-append)
 
 -- after the end nothing more is received
 pub ended_gives_nothing : (b c : Reader) (h : Received) → HasReceived b c h → b.buffered ≡ [] → b.eof ≡ true
@@ -268,7 +268,7 @@ abbrev pub received_of : Reader → Option Received
 received_of r = cond r.refused None (Some none_received)
 
 pub receives_none : (r : Reader) → IsNewOrUnopened r → HasReceivedAt r r (received_of r)
-receives_none r fresh = grind (arith, receives_nothing)
+receives_none r fresh = grind arith
 
 pub never_long : (r : Reader) → IsTooLong (received_of r) → ⊥
 never_long r long = grind arith
@@ -309,7 +309,7 @@ unopened_at old now (Some g) (Some b) (opened, received) a = opened
 
 pub unopened_agrees : (old now : List Reader) (r : ReceivedInputs) (w : InputBytes) → HaveReceived old now r
     → AreInputsConsistent r w → (q : ℕ) → (reader_at old q).refused ≡ is_unopened w q
-unopened_agrees old now r w reading agrees q = grind (arith, unopened_at)
+unopened_agrees old now r w reading agrees q = grind arith
 
 pub unopened_received : (old now : Reader) (o : Option Received) → HasReceivedAt old now o → old.refused ≡ is_none o
 unopened_received old now None (unopened, same) = unopened
@@ -341,7 +341,7 @@ received_at old q = get_or-map_any received_of old q no_reader
 -- nothing was read
 pub nothing_read : (old : List Reader) → ((q : ℕ) → IsNewOrUnopened (reader_at old q))
     → HaveReceived old old (map received_of old)
-nothing_read old fresh q = grind (arith, received_at, receives_none)
+nothing_read old fresh q = grind (arith, received_at)
 
 least_consistent_at : (o : Option Received) → IsConsistentAt o (bytes_at o)
 least_consistent_at None = tt
@@ -361,7 +361,7 @@ abbrev same_before : (g : Received) → LaggedInput g
 same_before g = record { earlier = g; last = []; split = sym (append-nil g.bytes); short = omega arith; eof = λ e. e }
 
 last_same : (xs ys : List Received) (x y : Received) → xs ++ x ∷ [] ≡ ys ++ y ∷ [] → (xs ≡ ys) × (x ≡ y)
-last_same xs ys x y is = grind (arith, common_steps, length-append)
+last_same xs ys x y is = grind (arith, common_steps)
 
 -- operands that are all done decide all their output
 pub all_earlier : (t : ToolSpec) (came : List Received) (P : List ℕ → Type 0) → P (decided_in_order t came)
@@ -392,7 +392,7 @@ at_set (o ∷ r) (suc p) g e is = at_set r p g e is
 -- the same inputs were opened
 pub opened_set : (r : ReceivedInputs) (p : ℕ) (g e : Received) → at r p ≡ Some g → (q : ℕ)
     → is_unopened (set r p (Some e)) q ≡ is_unopened r q
-opened_set r p g e is = search (rules, by_position, at_set)
+opened_set r p g e is = search (rules, at_set)
 
 -- if nothing is decided, then all that is decided was written
 pub nothing_decided : (positions : List ℕ) (decided : ReceivedInputs → List ℕ) (r : ReceivedInputs) (failed : Bool)
@@ -444,13 +444,7 @@ sends_after was mid is pushed bytes wrote clean s = by_known was.accepted refl
       written_out = wrote.kept.front ++ s.written_out;
       accepted = grind (arith, append_known-append);
       most =
-          grind (
-            arith,
-            s.most,
-            wrote.buffered,
-            rw (wrote.kept.is, is_known) at (ap known_length (wrote.whole clean)),
-            length-append,
-          );
+          grind (arith, s.most, rw (wrote.kept.is, is_known) at (ap known_length (wrote.whole clean)), length-append);
     }
 
 -- ---- the output that was written in the end
@@ -476,11 +470,11 @@ module _ (bytes : List ℕ) (was is is' : Output) (pushed front rest : List ℕ)
       by_known None none = omega (arith, all_lengths, ap length (unknown none), length-drop (length front) bytes)
       by_known (Some known) is_known =
           let all = rw (accepted, k.buffering.accepted, is_known) at (ap known_length kept.is) in
-          grind (arith, k.buffering.most, ap length empty, length-drop (length front) bytes, all, length-append)
+          grind (arith, ap length empty, length-drop (length front) bytes, all, length-append)
 
   pub kept_up : (failed : Bool) → (failed ≡ false → rest ≡ []) → IsWrittenUpToBlock bytes front failed
   kept_up failed whole =
       let (more, is) = take_front (length front) bytes k.begins.rest in
-      grind (arith, common_steps, few, all_lengths)
+      grind (arith, common_steps, few)
 
 -- ---- membership

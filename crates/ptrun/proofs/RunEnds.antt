@@ -68,13 +68,13 @@ reached_of was new pushed empty w = by_known was.accepted refl
       whole = λ clean none.
           let same = ap length (some_same (rw (w.kept.is, is, empty) at (w.whole clean))) in
           nil_from_length (new.buffered ++ w.beginning.front)
-          (grind (arith, split, length-append));
+          (grind (arith, length-append));
       unknown = λ none. cc;
     }
       where
         split : pushed ≡ w.kept.front ++ (new.buffered ++ w.beginning.front)
         split = append_cancel_left t pushed (w.kept.front ++ (new.buffered ++ w.beginning.front))
-            (grind (arith, common_steps, some_same, append-nil))
+            (grind (arith, common_steps, some_same))
 
 -- ---- the bytes of the readers are consistent with the bytes received
 
@@ -84,7 +84,7 @@ bytes_consistent_at old new None None fresh k bytes = tt
 bytes_consistent_at old new None (Some b) fresh (unopened, same) (opened, left, short) = cc
 bytes_consistent_at old new (Some g) None fresh (opened, received) unopened = cc
 bytes_consistent_at old new (Some g) (Some b) fresh (opened, received) (_, left, short) =
-    grind (arith, by_left, false≢true)
+    grind (arith, by_left)
   where
     by_left : (left : Option (List ℕ)) → Some b ≡ prepend_known g.bytes left → (new.eof ≡ true → IsAtEnd left)
         → IsConsistent g b
@@ -152,16 +152,16 @@ unread m {old} {out} {messages_old} {messages_new} {text} status at_once nothing
       has_said = has_said;
       operands_done = length m.positions;
       fault = None;
-      ends = grind (arith, none_failed, never_long, received_at);
+      ends = grind (arith, never_long, received_at);
       untouched = λ q other. refl;
       ended = ended;
       left = λ memory. cc;
       is_prefix = grind arith;
-      names_failed_read = grind (arith, none_failed);
-      decided_is_written = grind (arith, none_failed);
+      names_failed_read = grind arith;
+      decided_is_written = grind arith;
       bounded_lag = rw at_once
           (nothing_decided m.positions m.decided (map received_of old) out.failed
-          (grind (arith, unopened_received)));
+          (grind arith));
       bounded = λ w agrees. omega arith;
     }
 
@@ -217,7 +217,7 @@ module _ {m : CommandSpec} {old new : List Reader} {was is : Output}
 
   wrote : PushEffect was sent k.pushed
   wrote =
-      ⊎_elim (grind (arith, f))
+      ⊎_elim (grind arith)
       (λ clean. rw (append-nil k.pushed) at (push_trans was is sent k.pushed [] clean k.wrote f.wrote))
       (cases_Bool is.write_failed)
 
@@ -229,13 +229,13 @@ module _ {m : CommandSpec} {old new : List Reader} {was is : Output}
   flushes_before = search rules
 
   flushed_once : o.out.flushes ≡ (if o.out.failed then out.flushes else flushes_after out.flushes)
-  flushed_once = grind (arith, f, flushes_before)
+  flushed_once = grind (arith, f)
 
   begins : (w : InputBytes) → AreInputsConsistent k.received w → IsPrefix reached.front (m.out w)
   begins w agrees = grind (arith, common_steps, reached)
 
   all_front : is'.write_failed ≡ false → reached.front ≡ k.pushed
-  all_front clean = search (rules, reached, f)
+  all_front clean = search (rules, f)
 
   abbrev last_message : List ℕ
   last_message = result_message m.tool m.names final_result
@@ -258,24 +258,24 @@ module _ {m : CommandSpec} {old new : List Reader} {was is : Output}
     received = k.received;
     came = k.came;
     written = reached.front;
-    output = grind (arith, reached);
-    flushed = grind (arith, f);
-    flushes = grind (arith, flushed_once);
+    output = grind arith;
+    flushed = grind arith;
+    flushes = grind arith;
     message = k.message ++ last_message;
     has_said = search (rules, said_trans);
     operands_done = k.operands_done;
     fault = fault_of final_result;
-    ends = ends_as final_result refl (grind (arith, f, cases_Bool is'.write_failed));
+    ends = ends_as final_result refl (grind (arith, f));
     untouched = k.untouched;
-    ended = grind (arith, f, ended_after_all, cases_Bool is'.write_failed);
-    left = grind (arith, f, all_front, not_memory, err_of, cases_Bool is'.write_failed);
+    ended = grind (arith, f, ended_after_all);
+    left = grind (arith, f, all_front, not_memory, err_of);
     is_prefix = begins;
-    names_failed_read = grind (arith, f);
-    decided_is_written = grind (arith, f, all_front);
+    names_failed_read = grind arith;
+    decided_is_written = grind (arith, all_front);
     bounded_lag = earlier_map m k.received k.operands_done _
         (λ decided. IsWrittenUpToBlock decided reached.front o.out.failed)
         (λ bytes up. kept_up bytes was is is' k.pushed reached.front reached.rest up (ap (λ o. o.buffered) made)
-        reached.split reached.accepted f.wrote.kept reached.unknown o.out.failed (grind (arith, f, reached)))
+        reached.split reached.accepted f.wrote.kept reached.unknown o.out.failed (grind (arith, f)))
         k.bounded_lag;
     bounded = grind arith;
   }
@@ -303,18 +303,18 @@ pub spec_of_fault : {A : Type 0} (command : Result (code.Command A) UseFault) (w
     → command ≡ Err fault → CommandPost command (command_of_args words)
     → spec_of_parsed command words ≡ message_only (usage_message (tool_name words) (fault_view fault))
     (usage_status (fault_view fault))
-spec_of_fault command words fault is m = grind (arith, spec_of_fault_in)
+spec_of_fault command words fault is m = grind arith
 
 position_differs : (a b : Input) → (a ≡ b → ⊥) → (position a == position b) ≡ false
 position_differs Standard Standard differ = absurd (differ refl)
-position_differs Standard (File j) differ = grind (arith, nat_tests)
-position_differs (File i) Standard differ = grind (arith, nat_tests)
-position_differs (File i) (File j) differ = grind (arith, eqb_tells)
+position_differs Standard (File j) differ = grind arith
+position_differs (File i) Standard differ = grind arith
+position_differs (File i) (File j) differ = grind arith
 
 -- a tool that merges two inputs accepts two different ones, since their positions differ
 two_positions : (t : TwoInputs) (order : List Input) → AreTwo order
     → (two_input_tool t).accepts (positions order) ≡ true
-two_positions t order two = grind (arith, position_differs)
+two_positions t order two = grind arith
 
 -- the tool accepts its operands, and there are few if it reads them together
 record AcceptsOperands (m : CommandSpec) : Type 0 where
@@ -324,10 +324,10 @@ record AcceptsOperands (m : CommandSpec) : Type 0 where
 accepts_operands : (job : Job) (word : List ℕ) (names : List (List ℕ)) (order : List Input) → AreInputsOf job order
     → AcceptsOperands (spec_of_tool word (tool_of_job job) names (positions order))
 accepts_operands (RunCut u) word names order any = grind arith
-accepts_operands (RunPaste u) word names order few = grind (arith, common_steps, leb-true)
+accepts_operands (RunPaste u) word names order few = grind (arith, common_steps)
 accepts_operands (RunUniq u) word names order one = grind (arith, common_steps)
-accepts_operands (RunComm u) word names order two = grind (arith, two_positions)
-accepts_operands (RunJoin u) word names order two = grind (arith, two_positions)
+accepts_operands (RunComm u) word names order two = grind arith
+accepts_operands (RunJoin u) word names order two = grind arith
 accepts_operands (RunTr u) word names order any = grind arith
 
 inputs_pre_of_spelled : (words : List (List ℕ)) (c : Command) (readers : List Reader) → SpellsCommand words c

@@ -87,11 +87,8 @@ module _ (word : List ℕ) (names : List (List ℕ)) (positions : List ℕ) wher
           → RunOnPost s positions old new was is before store result
           → RunInputsPost (spec_of_tool word s names positions) old new was is messages messages before store result
       together_post (OneByOne t law) messages together given k none writable not_denied empty post = cc
-      together_post (Together t) messages together given k none writable not_denied empty post = grind (
-        arith,
-        joint_post,
-        together_pre,
-      )
+      together_post (Together t) messages together given k none writable not_denied empty post =
+          grind (arith, joint_post)
 
       pub sequential_post : (s : ToolInRun) {messages_old messages_new : SinkState} → reads_together s ≡ false
           → RunInputsPost (sequential_spec word (one_tool s) names positions) old new was is messages_old messages_new

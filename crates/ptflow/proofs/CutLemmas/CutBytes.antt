@@ -4,23 +4,23 @@ use Rattle.ptflow.proofs
 use proofs.Common.{◌≡◌, ℕ, ◌+◌, ◌-◌, ◌≤◌, ◌^◌, Bool, false, List, [], ◌∷◌, ◌++◌, map, length, take, drop, Some, refl}
 use proofs.Common.{ap, arith, append_assoc, common_steps, onto_first, flat_map, mask_l, chunk, length-chunk, chunk-drop}
 use proofs.Common.{IsFirstByte, is_byte, unlines, lines, IsLine, complete_lines, lines_cons, byte_ne, lines_of_unlines}
-use proofs.Common.{unlines-append, line_before_terminator, select_from, cut_line, cut, cut_decided, cut_lines_from}
+use proofs.Common.{line_before_terminator, select_from, cut_line, cut, cut_decided, cut_lines_from}
 use proofs.Common.{cut_bytes_from, cut_list_from, IsPrefix, Cut, Interval, ExtendsCut, CutPost, selected_bytes}
-use proofs.Common.{is_selected, drop-drop, zero, suc, ◌<◌, true, cond, set, ◌&&◌, get_or, length-append, sym}
-use proofs.Common.{◌∙◌, w8, All, nat_le, range_with_len, nat_tests, take-add}
+use proofs.Common.{is_selected, zero, suc, ◌<◌, true, cond, set, ◌&&◌, get_or, length-append, sym}
+use proofs.Common.{◌∙◌, w8, All, nat_le, range_with_len, take-add}
 use proofs.Common.{swz_l, pick_l-range_with_len, take-map, take-take, take-append-le, take_all}
 use proofs.Common.{length-take-le, append-nil, length-range_with_len, cases_eq, put_chunk, length-drop}
-use proofs.Common.{length-swz_l, slice_get, take_more_set, min, drop_all, drop_more, AreSeparated}
+use proofs.Common.{length-swz_l, slice_get, min, drop_all, drop_more, AreSeparated}
 use Rattle.ptflow.specs.declared.tools.cut.bytes.Line.{Line}
 use proofs.Passes.Exits.{split_of, LineSplit, line_split}
-use Rattle.std.proofs.Common.{get_or-set_same, get_or-set_other, length-set}
+use Rattle.std.proofs.Common.{get_or-set_same, length-set}
 use proofs.Vectors.Lanes.{stored_more}
 use mir.Val.{bool_byte}
 use Rattle.ptflow.specs.Private.Cut.ShortLines.{selected_indices, selected_after, IsPieceShuffle}
 use Rattle.ptflow.specs.declared.tools.cut.shuffle.PieceShuffle.{PieceShuffle}
 use proofs.Vectors.Compress.{row_lanes, selected_stored, shuffle_result}
 use lib.Seq.{take-nil}
-use Rattle.std.proofs.lemmas.List.{drop_min, length-take}
+use Rattle.std.proofs.lemmas.List.{length-take}
 
 -- ---- what intervals select
 
@@ -32,22 +32,22 @@ abbrev pub is_within : Interval → ℕ → Bool
 is_within r n = nat_le r.first n && nat_le n r.last
 
 inside : (r : Interval) (n : ℕ) → r.first ≤ n → n ≤ r.last → is_within r n ≡ true
-inside r n low high = grind (arith, nat_tests)
+inside r n low high = grind arith
 
 below : (r : Interval) (n : ℕ) → n < r.first → is_within r n ≡ false
-below r n low = grind (arith, nat_tests)
+below r n low = grind arith
 
 last_of : (r : Interval) (n : ℕ) → is_within r n ≡ true → n ≤ r.last
-last_of r n inside = grind (arith, nat_tests)
+last_of r n inside = grind arith
 
 pub above : (r : Interval) (n : ℕ) → r.last < n → is_within r n ≡ false
-above r n high = grind (arith, nat_tests)
+above r n high = grind arith
 
 -- intervals that begin after a position do not select it
 pub not_selected : (rs : List Interval) (low n : ℕ) → AreSeparated low rs → n ≤ low → is_selected rs n ≡ false
 not_selected [] low n apart out = refl
 not_selected (r ∷ rs) low n apart out =
-    grind (arith, not_selected rs (r.last + 1) n apart.2 (omega (arith, apart.0, apart.1)), below, apart)
+    grind (arith, not_selected rs (r.last + 1) n apart.2 (omega (arith, apart.1)), below, apart)
 
 -- no item is selected
 pub select_none : {X : Type 0} (test : ℕ → Bool) (n : ℕ) (xs : List X)
@@ -56,14 +56,14 @@ select_none test n [] out = refl
 select_none test n (x ∷ xs) out = grind (arith, select_none test (n + 1) xs (grind arith))
 
 pub select_past : {X : Type 0} (r : Interval) (n : ℕ) (xs : List X) → r.last < n → select_from (is_within r) n xs ≡ []
-select_past r n xs past = grind (arith, select_none, above)
+select_past r n xs past = grind (arith, select_none)
 
 -- the items of the first interval, and then those of the others
 pub select_first : {X : Type 0} (r : Interval) (rs : List Interval) (n : ℕ) (xs : List X) → AreSeparated (r.last + 1) rs
     → select_from (is_selected (r ∷ rs)) n xs ≡ select_from (is_within r) n xs ++ select_from (is_selected rs) n xs
 select_first r rs n [] apart = refl
 select_first r rs n (x ∷ xs) apart =
-    grind (arith, common_steps, select_first r rs (n + 1) xs apart, not_selected, select_past, last_of)
+    grind (arith, select_first r rs (n + 1) xs apart, not_selected, select_past, last_of)
 
 -- the first items are not selected
 pub select_skip : {X : Type 0} (test : ℕ → Bool) (n count : ℕ) (xs : List X)
@@ -80,15 +80,15 @@ select_slice r n [] zero j is js = sym (take-nil (j - 0))
 select_slice r n [] (suc i) j is js = sym (take-nil (j - suc i))
 select_slice r n (x ∷ xs) i zero is js = grind (arith, select_past)
 select_slice r n (x ∷ xs) zero (suc j) is js =
-    grind (arith, common_steps, select_slice r (n + 1) xs zero j (omega arith) (omega arith), inside)
-select_slice r n (x ∷ xs) (suc i) (suc j) is js = grind (arith, select_slice r (n + 1) xs i j, below)
+    grind (arith, common_steps, select_slice r (n + 1) xs zero j (omega arith) (omega arith))
+select_slice r n (x ∷ xs) (suc i) (suc j) is js = grind (arith, select_slice r (n + 1) xs i j)
 
 -- the rest of the first bytes from an index on
 pub rest_of : (from to : ℕ) (bytes : List ℕ) → drop from (take to bytes) ≡ take (to - from) (drop from bytes)
 rest_of zero to bytes = grind arith
 rest_of (suc n) zero bytes = grind arith
 rest_of (suc n) (suc to) [] = sym (take-nil (suc to - suc n))
-rest_of (suc n) (suc to) (b ∷ bytes) = grind (arith, common_steps, rest_of n to bytes)
+rest_of (suc n) (suc to) (b ∷ bytes) = grind (arith, rest_of n to bytes)
 
 -- a slice of the bytes that is in the piece at their start
 slice_is : (r : Interval) (before count : ℕ) (bytes : List ℕ) → count ≤ length bytes → r.last < before + count
@@ -100,7 +100,7 @@ slice_is r before count bytes within short = grind (arith, select_slice, rest_of
 rest_is : (r : Interval) (before count : ℕ) (bytes : List ℕ) → count ≤ length bytes → before + count ≤ r.last
     → let from = min (r.first - (before + 1)) count in
     take (count - from) (drop from bytes) ≡ select_from (is_within r) (before + 1) (take count bytes)
-rest_is r before count bytes within reaches = grind (arith, common_steps, select_slice, drop_min, rest_of)
+rest_is r before count bytes within reaches = grind (arith, common_steps, select_slice, rest_of)
 
 -- The invariant of `copy_selected`: the selected bytes of the intervals so far were copied, and the others select the
 -- rest of the piece. The copied bytes are no longer than the part of the piece that the intervals so far cover.
@@ -137,7 +137,7 @@ module _ {all : List Interval} {before count : ℕ} (bytes : List ℕ) {was : Li
 
     next : (is ++ select_from (is_within r) (before + 1) piece) ++ select_from (is_selected rs) (before + 1) piece
         ≡ was ++ select_from (is_selected all) (before + 1) piece
-    next = grind (arith, common_steps, select_first, apart)
+    next = grind (arith, common_steps, select_first)
 
     module _ (is' : List ℕ) where
       -- the interval reaches the end of the piece
@@ -152,7 +152,7 @@ module _ {all : List Interval} {before count : ℕ} (bytes : List ℕ) {was : Li
           → is' ≡ is ++ take (to - from) (drop from bytes)
           → CopyInvariant all (i + 1) before piece was is' start (at + (to - from))
       copied_more {from} {to} from_is to_is short copied =
-          grind (arith, common_steps, next, apart, slice_is, piece_long)
+          grind (arith, next, apart, slice_is, piece_long)
 
 module _ (end : ℕ) (selected : ℕ → Bool) where
   -- the output for lines
@@ -162,12 +162,12 @@ module _ (end : ℕ) (selected : ℕ → Bool) where
   -- at offset 0, the rest is a text of its own
   pub rest_of_all : (ls : List (List ℕ)) → cut_lines_from end selected 0 ls ≡ cut_text ls
   rest_of_all [] = refl
-  rest_of_all (line ∷ ls) = simp (append_assoc, cut_text)
+  rest_of_all (line ∷ ls) = simp append_assoc
 
   pub rest_line : (line_offset : ℕ) (line rest : List ℕ) → IsLine end line
       → cut_bytes_from end selected line_offset (line ++ end ∷ rest)
       ≡ (select_from selected (line_offset + 1) line ++ end ∷ []) ++ cut_bytes_from end selected 0 rest
-  rest_line line_offset line rest whole = grind (arith, common_steps, lines_cons, append_assoc, rest_of_all)
+  rest_line line_offset line rest whole = grind (arith, lines_cons, append_assoc, rest_of_all)
 
   -- one byte of a line
   rest_onto : (line_offset b : ℕ) (ls : List (List ℕ))
@@ -176,17 +176,13 @@ module _ (end : ℕ) (selected : ℕ → Bool) where
   rest_onto line_offset b [] = grind arith
   rest_onto line_offset b (line ∷ ls) = grind arith
 
-  select_onto : (n b : ℕ) (xs : List ℕ)
-      → select_from selected n (b ∷ []) ++ select_from selected (n + 1) xs ≡ select_from selected n (b ∷ xs)
-  select_onto n b xs = grind arith
-
   -- a piece of a line
   pub rest_piece : (line_offset : ℕ) (piece rest : List ℕ) → IsLine end piece
       → cut_bytes_from end selected line_offset (piece ++ rest) ≡ select_from selected (line_offset + 1) piece
       ++ cut_bytes_from end selected (line_offset + length piece) rest
   rest_piece line_offset [] rest whole = grind arith
   rest_piece line_offset (b ∷ piece) rest whole =
-      grind (arith, rest_piece (line_offset + 1) piece rest whole.1, byte_ne, rest_onto, select_onto)
+      grind (arith, rest_piece (line_offset + 1) piece rest whole.1, byte_ne, rest_onto)
 
 -- the selected bytes of the first line, and its terminator
 module _ (end : ℕ) (bytes : List ℕ) (at : ℕ) (first : IsFirstByte (is_byte end) bytes (Some at)) where
@@ -242,7 +238,7 @@ pub line_cut : {end : ℕ} {list : List Interval} {block : List ℕ} {was now ne
     → is ≡ new ++ (selected_bytes list block now count ++ end ∷ []) → next.start ≡ now.start + count + 1
     → next.line_offset ≡ 0 → next.at ≤ now.at + count + 1 → CutPost end list block was old next is
 line_cut {end} {list} {block} {was} {now} {next} {old} {new} count post first is start none near =
-    grind (arith, common_steps, cut_next, line_on, drop-drop)
+    grind (arith, common_steps, cut_next, line_on)
 
 module _ (job : Cut) (by_bytes : job.fields ≡ false) where
   abbrev end : ℕ
@@ -254,7 +250,7 @@ module _ (job : Cut) (by_bytes : job.fields ≡ false) where
     where
       one_each : (xs : List (List ℕ)) → flat_map (cut_line job) xs ≡ map (select_from job.selected 1) xs
       one_each [] = refl
-      one_each (x ∷ xs) = cc (by_bytes, one_each xs)
+      one_each (x ∷ xs) = cc (one_each xs)
 
   pub rest_is_cut : (bytes : List ℕ) → cut_bytes_from end job.selected 0 bytes ≡ cut job bytes
   rest_is_cut bytes = simp (rest_of_all, made_is)
@@ -272,7 +268,7 @@ module _ (job : Cut) (by_bytes : job.fields ≡ false) where
       grind (arith, common_steps, lines_of_unlines, lines_cons) in
       record {
         rest = select_from job.selected 1 p.piece;
-        is = grind (arith, common_steps, rest_line, rest_of_all, unlines-append, made_is);
+        is = grind (arith, common_steps, rest_line, rest_of_all, made_is);
       }
 
 -- ---- shuffles
@@ -299,12 +295,12 @@ module _ (selected : ℕ → Bool) where
   range_parts a (suc n) m =
       let next : suc n + m ≡ suc (n + m) = omega arith in
       let there : a + 1 + n ≡ a + suc n = omega arith in
-      cc (next, range_parts (a + 1) n m)
+      cc (range_parts (a + 1) n m)
 
   -- the selected indices of a line begin with those of a shorter one
   picked_parts : (n m : ℕ) → selected_indices selected (n + m) ≡ selected_indices selected n
       ++ select_from selected (1 + n) (range_with_len n m)
-  picked_parts n m = grind (arith, common_steps, range_parts, select_append, length-range_with_len)
+  picked_parts n m = grind (arith, range_parts, select_append, length-range_with_len)
 
   -- ---- the row and the counts, index by index
 
@@ -319,13 +315,13 @@ module _ (selected : ℕ → Bool) where
 
   one_index : (index : ℕ) → selected_indices selected (index + 1) ≡ selected_indices selected index
       ++ cond (selected (index + 1)) (index ∷ []) []
-  one_index index = grind (arith, common_steps, picked_parts)
+  one_index index = grind (arith, picked_parts)
 
   pub shuffle_next : {index count : ℕ} {row counts after : List ℕ} {one : ℕ} → index < 16
       → PickBegun index count row counts → one ≡ bool_byte (selected (index + 1))
       → after ≡ set counts (index + 1) (count + one) → PickBegun (index + 1) (count + one) (set row count index) after
   shuffle_next {index} {count} {row} {counts} {after} {one} low begun told after_is =
-      grind (arith, common_steps, length-set, stored_more, one_index, get_or-set_same, get_or-set_other, cases_eq)
+      grind (arith, common_steps, length-set, stored_more, one_index, get_or-set_same, cases_eq)
 
   -- no byte of a line after its first `start` bytes is selected
   pub none_later : {X : Type 0} {max_len start count : ℕ} (xs : List X)
@@ -366,11 +362,11 @@ pub none_after : (all : List Interval) (low n : ℕ) {last : Interval} {index : 
     → length all ≤ n + 1 → slice_get all n ≡ Some last → last.last < index
     → (is_selected all index ≡ false) × (low < index)
 none_after [] low n separated few is later = cc
-none_after (one ∷ []) low zero separated few is later = grind (arith, above)
+none_after (one ∷ []) low zero separated few is later = grind arith
 none_after (one ∷ two ∷ more) low zero separated few is later = absurd (omega arith)
 none_after (one ∷ more) low (suc n) {last} {index} separated few is later =
-    let (none, less) = none_after more (one.last + 1) n separated.2 (omega (arith, few)) is later in
-    grind (arith, above)
+    let (none, less) = none_after more (one.last + 1) n separated.2 (omega arith) is later in
+    grind arith
 
 -- ---- a line, piece by piece
 
@@ -378,7 +374,7 @@ none_after (one ∷ more) low (suc n) {last} {index} separated few is later =
 select_later : (selected : ℕ → Bool) (start n : ℕ) (xs : List ℕ)
     → select_from (selected_after selected start) n xs ≡ select_from selected (start + n) xs
 select_later selected start n [] = refl
-select_later selected start n (x ∷ xs) = grind (arith, common_steps, select_later selected start (n + 1) xs)
+select_later selected start n (x ∷ xs) = grind (arith, select_later selected start (n + 1) xs)
 
 -- the selected bytes of the next piece are stored after those of the bytes before
 pub piece_copied : (selected : ℕ → Bool) (start m at : ℕ) (bytes was into : List ℕ) {piece : PieceShuffle} {size : ℕ}
@@ -392,9 +388,8 @@ piece_copied selected start m at bytes was into {piece} {size} is counted short 
     let long : length v ≡ 16 = length-take-le 16 (drop start bytes) (omega (arith, length-drop start bytes)) in
     let few = shuffle_few (selected_after selected start) is m short in
     let front : length (take start bytes) ≡ start = length-take-le start bytes (omega arith) in
-    let first : start + 1 ≡ 1 + length (take start bytes) = omega (arith, front) in
+    let first : start + 1 ≡ 1 + length (take start bytes) = omega arith in
     cc (
-      counted,
       selected_stored at (get_or piece.counts m 0) into (swz_l w8 16 v 0 piece.row) (length-swz_l w8 16 v 0 piece.row
           ∙ is.long) (omega (arith, few)) room,
       pick_line (selected_after selected start) is v short long,
@@ -410,4 +405,4 @@ piece_copied selected start m at bytes was into {piece} {size} is counted short 
 -- the selected bytes of a complete line, and the terminator
 pub line_ended : (end b : ℕ) (bytes was into : List ℕ) → end < length into → take end into ≡ was ++ bytes
     → take (end + 1) (set into end b) ≡ was ++ (bytes ++ b ∷ [])
-line_ended end b bytes was into room put = grind (arith, common_steps, take_more_set)
+line_ended end b bytes was into room put = grind (arith, common_steps)

@@ -141,9 +141,6 @@ module _ (d : ℕ) (line : List ℕ) (cursor : FieldCursor) where
     pub not_past : cursor.passed + min cursor.passed 1 < r.first
     not_past = omega (arith, apart.0)
 
-    pub in_order : r.first ≤ r.last
-    in_order = apart.1
-
     module _ {from : ℕ} (near : cursor.at ≤ from)
         (s : IsFieldOffset d skip (drop cursor.at line) (from - cursor.at)) where
       starts : IsFieldOffset d (cursor.passed + skip) line from

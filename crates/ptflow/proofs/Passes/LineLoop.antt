@@ -5,9 +5,9 @@
 use Rattle.ptflow.proofs
 use proofs.Common.{◌≡◌, ℕ, zero, suc, ◌+◌, ◌-◌, ◌*◌, ◌<◌, ◌≤◌, false, List, [], ◌∷◌, length, drop, set, get_or}
 use proofs.Common.{max, refl, ◌∙◌, ap, arith, inl, inr, common_steps}
-use proofs.Common.{length-set, drop-set-lt, sum_by-cons, get_or-le-sum_by, Slots, total_bytes, with_line}
+use proofs.Common.{length-set, drop-set-lt, sum_by-cons, Slots, total_bytes, with_line}
 use proofs.Common.{AddedSlots, IsSwapped, SlotsCleared, Bool, ◌^◌, true, ◌++◌, Ok, Err, append_assoc, length-append}
-use proofs.Common.{nil_from_length, get_or-set_same, lines, complete_lines, IsLine, max_length, max_line_length}
+use proofs.Common.{nil_from_length, lines, complete_lines, IsLine, max_length, max_line_length}
 use proofs.Common.{Received, known_lines, IsPrefix, IsConsistent, Output, PushEffect, Reader, ReaderAdvance, AdvanceOk}
 use Rattle.ptlines.specs.ReadLine.{FillReadErr, FillMemoryErr}
 use proofs.Common.{IsDone, IsSound, advance_ok_take, unlines, line, FillPost, FillLine, advance_ok_trans, push_trans}
@@ -15,7 +15,7 @@ use proofs.Common.{ToolSpec, PassPre, PassPost, AreReceivedLines, LinesWritten, 
 use proofs.Common.{IsLineFilter, Read, Write, Memory, received_with, reads_nothing, rules}
 use proofs.Passes.Exits.{line_split, complete_prefix, max_length-append, lines_none, lines_few, lines_on, lines_more}
 use proofs.Passes.Exits.{lines_block, line_prefix, received_longest, piece_longest, whole_before, before_line}
-use proofs.Passes.Exits.{after_line, Progress, progress_none, progress_flushed, PassState, LaggedOutput, StoreBounds}
+use proofs.Passes.Exits.{after_line, Progress, progress_flushed, PassState, LaggedOutput, StoreBounds}
 use proofs.Passes.Exits.{PassEnding, nothing_more, pass_unslotted, pass_read, pass_memory, pass_write, pass_done}
 use proofs.Passes.Exits.{pass_unended}
 use Rattle.ptflow.specs.Private.Passes.LineLoop.{RunLinesPre}
@@ -35,7 +35,7 @@ pub record SlotBounds (width most : ℕ) (before store : Slots) : Type 0 where
 -- the total of slots with bounded lines is bounded
 pub bounded_total : (width most : ℕ) (ls : List (List ℕ)) → ((k : ℕ) → k < width → length (get_or ls k []) ≤ most)
     → total_bytes (drop width ls) ≡ 0 → total_bytes ls ≤ width * most
-bounded_total zero most ls short others = omega (arith, others)
+bounded_total zero most ls short others = omega arith
 bounded_total (suc width) most [] short others = omega arith
 bounded_total (suc width) most (l ∷ ls) short others =
     omega (
@@ -48,7 +48,7 @@ bounded_total (suc width) most (l ∷ ls) short others =
 pub bounds_start : {width : ℕ} {before store : Slots} → AddedSlots before store width → store.denied ≡ false
     → total_bytes store.lines ≡ 0 → store.peak ≡ before.peak → SlotBounds width 0 before store
 bounds_start {width} {store} adds denied empty peak =
-    grind (arith, common_steps, get_or-le-sum_by, sum_by-take-drop length store.lines width)
+    grind (arith, common_steps, sum_by-take-drop length store.lines width)
 
 pub bounds_weaker : {width most : ℕ} (more : ℕ) {before store : Slots} → SlotBounds width most before store
     → most ≤ more → SlotBounds width more before store
@@ -75,16 +75,16 @@ bounds_line {width} {most} {store} new slot bytes bounds within fits is = record
 -- the first and the last slot may have been swapped
 pub swapped_room : {width : ℕ} {before after : Slots} → IsSwapped width before after → 0 < width
     → width ≤ length before.lines → width ≤ length after.lines
-swapped_room = grind (arith, swap_is, length-set)
+swapped_room = grind (arith, length-set)
 
 pub bounds_swapped : {width most : ℕ} {before store : Slots} (new : Slots) → 0 < width
     → SlotBounds width most before store → IsSwapped width store new → SlotBounds width most before new
 bounds_swapped {width} {most} {before} {store} new some bounds either = elim either [
   | inl same ↦ grind arith
   | inr is ↦
-      let room : width ≤ length store.lines = omega (arith, bounds.size) in
+      let room : width ≤ length store.lines = omega arith in
       let same : new.lines ≡ set (set store.lines 0 last) (width - 1) first = grind (arith, swap_is) in
-      search (rules, bounds_both, same)
+      search (rules, bounds_both)
 ]
   where
     first : List ℕ
@@ -179,10 +179,10 @@ module _ {S X E : Type 0} {tool : ToolSpec} {state : S → Slots → X} {rest_fr
       passed = [];
       terminator = begins.ends;
       came = lines_none end old;
-      reached = search (rules, none_written, progress_none);
+      reached = search (rules, none_written);
       first = store;
       on = λ more. refl;
-      count = omega (arith, line_filter.fresh store);
+      count = omega arith;
       keeps = keeps;
     }
 
@@ -238,9 +238,9 @@ module _ {S X E : Type 0} {tool : ToolSpec} {state : S → Slots → X} {rest_fr
           clean = processed.clean run.reached.clean;
         };
         first = run.first;
-        on = grind (arith, common_steps, append_assoc);
+        on = grind (arith, append_assoc);
         count = omega (arith, length-append run.ls ls);
-        keeps = grind (arith, common_steps, bounds_weaker, max_length-append);
+        keeps = grind (arith, common_steps, max_length-append);
       }
 
       -- the lines that end in the block were consumed
@@ -302,10 +302,7 @@ module _ {S X E : Type 0} {tool : ToolSpec} {state : S → Slots → X} {rest_fr
       keeps_last : {after : Slots} (bytes : List ℕ) → after ≡ with_line store (width - 1) bytes
           → SlotBounds width (max (max_length run.ls) (length bytes)) before after
       keeps_last bytes told =
-          bounds_line _ (width - 1) bytes (grind (arith, bounds_weaker)) (omega arith) (omega arith) told
-
-      same_bounds : SlotBounds width (max (max_length run.ls) 0) before store
-      same_bounds = grind (arith, bounds_weaker)
+          bounds_line _ (width - 1) bytes (grind arith) (omega arith) (omega arith) told
 
       same_end : reader.terminator ≡ end
       same_end = grind arith
@@ -353,7 +350,7 @@ module _ {S X E : Type 0} {tool : ToolSpec} {state : S → Slots → X} {rest_fr
             let whole = e.faults.whole in
             let bounds = keeps_last e.piece e.stored in
             pass_read (piece_ending reads whole is_sound (stored reads whole is_sound bounds)) e.cause bounds.denied
-            (grind (arith, decided_so, whole_before, free _ whole))
+            (grind (arith, decided_so, whole_before))
 
         -- and then the store could not grow
         pub run_memory : {new : Reader} {after : Slots} → IsSound new → FillMemoryErr reader new store after (width - 1)
@@ -366,7 +363,7 @@ module _ {S X E : Type 0} {tool : ToolSpec} {state : S → Slots → X} {rest_fr
 
         -- nothing more was read
         ended_here : PassEnding tool midway reader before store []
-        ended_here = search (rules, piece_ending, reads_nothing, stored, same_bounds)
+        ended_here = search (rules, piece_ending, reads_nothing, stored)
 
         -- a write failed at the lines of the block
         pub run_block_halts : {block : List ℕ} → block ≡ reader.buffered → {is' : Output}
@@ -389,11 +386,11 @@ module _ {S X E : Type 0} {tool : ToolSpec} {state : S → Slots → X} {rest_fr
       -- the slot has these bytes, and the state is unchanged
       filled : {after : Slots} (bytes : List ℕ) → after ≡ with_line store (width - 1) bytes
           → line after (width - 1) ≡ bytes
-      filled bytes told = grind (arith, common_steps, get_or-set_same, run_room)
+      filled bytes told = grind (arith, common_steps, run_room)
 
       same_state : {after : Slots} (bytes : List ℕ) → after ≡ with_line store (width - 1) bytes
           → state now after ≡ state now store
-      same_state bytes told = grind (arith, run_room)
+      same_state bytes told = grind arith
 
       -- the number of lines with no output yet is unchanged
       pub filled_count : IsSound old → IsSound reader → {after : Slots} (bytes : List ℕ)
@@ -412,7 +409,7 @@ module _ {S X E : Type 0} {tool : ToolSpec} {state : S → Slots → X} {rest_fr
             (lines_more _ _ _ _ run.came _ _ _ _ next_line (cc))
             (bounds_swapped after' line_filter.some
             (bounds_weaker most (keeps_last run next_line.line next_line.stored) (omega arith)) swapped)
-            (grind (arith, same_state, filled))
+            (grind (arith, filled))
 
         -- a write failed
         pub run_line_halts : PassPre old before → IsSound reader → IsSound new → {is' : Output}
@@ -425,7 +422,7 @@ module _ {S X E : Type 0} {tool : ToolSpec} {state : S → Slots → X} {rest_fr
             let bounds = keeps_last run _ next_line.stored in
             halts run
             (ending run ready sound next_line.advance_ok.reads (kept run (received run came new)
-            (grind (arith, bounds_weaker, bounds, max_length-append))
+            (grind (arith, bounds, max_length-append))
             (received_longest _ _ _ _ more))
             (works_line run next_line.advance_ok.reads next_line.line (next_line.terminator ++ new.buffered)
             (grind (arith, common_steps)) (rw ends at next_line.whole)

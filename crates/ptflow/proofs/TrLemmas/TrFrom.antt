@@ -1,7 +1,7 @@
 -- The output of `tr` for the rest of a text, and for a text that is cut anywhere. A byte is kept or removed by the last
 -- output byte alone, so that byte is the only state, from block to block and within a block.
 use Rattle.ptflow.proofs
-use proofs.Common.{common_steps, ◌≡◌, ℕ, ◌-◌, ◌&&◌, not, eqb, Bool, true, false, cond, List, [], ◌∷◌, ◌++◌, Option}
+use proofs.Common.{common_steps, ◌≡◌, ℕ, ◌-◌, ◌&&◌, not, eqb, Bool, true, false, List, [], ◌∷◌, ◌++◌, Option}
 use proofs.Common.{None, Some, map, length, refl, ap, arith, filter, slice_get, last_or, option_eq, option_or}
 use proofs.Common.{append-nil, map-append, filter-append, IsPrefix, Tables, deletes, image, squeezes, is_not_repeat}
 use proofs.Common.{squeeze_after, translation, tr, tr_decided, squeeze_from, tr_from, eq-eqb, eqb-true, squeeze}
@@ -10,17 +10,6 @@ use proofs.Common.{TrOfAnyParts, TrOfParts, TrAfterByte, TrMeetsTwice, and_right
 use proofs.Vectors.Lanes.{bytes_fit}
 
 module _ (squeezed : ℕ → Bool) where
-  pub after_one_byte : (last b : ℕ) (bytes : List ℕ)
-      → squeeze_after squeezed last (b ∷ bytes)
-      ≡ cond (is_not_repeat squeezed (last, b)) (b ∷ squeeze_after squeezed b bytes) (squeeze_after squeezed b bytes)
-  after_one_byte = grind arith
-
-  pub from_one : (last : Option ℕ) (b : ℕ) (bytes : List ℕ)
-      → squeeze_from squeezed last (b ∷ bytes)
-      ≡ cond (not (option_eq eqb last (Some b) && squeezed b)) (b ∷ squeeze_after squeezed b bytes)
-      (squeeze_after squeezed b bytes)
-  from_one = grind (arith, after_one_byte)
-
   -- a byte that is removed is equal to the last one
   repeats : (last b : ℕ) → is_not_repeat squeezed (last, b) ≡ false → last ≡ b
   repeats last b h = grind arith
@@ -59,12 +48,12 @@ module _ (t : Tables) where
   rest_nothing = grind arith
 
   translated_append : (xs ys : List ℕ) → translation t (xs ++ ys) ≡ translation t xs ++ translation t ys
-  translated_append xs ys = simp (filter-append, deletes, map-append)
+  translated_append xs ys = simp (filter-append, map-append)
 
   -- the output for a block comes first
   pub front_on : (last : Option ℕ) (block rest : List ℕ)
       → tr_from t last (block ++ rest) ≡ tr_from t last block ++ tr_from t (last_or last (tr_from t last block)) rest
-  front_on last block rest = simp (translated_append, from_append, squeezes, translation)
+  front_on last block rest = simp (translated_append, from_append, squeezes)
 
   -- the last output byte of a block is the last one after it
   pub block_on : (last : Option ℕ) {after : Option ℕ} (block : List ℕ) {written : List ℕ} (rest : List ℕ)
@@ -87,7 +76,7 @@ module _ (t : Tables) where
       → IsPrefix (tr_decided t (record { bytes = given; eof = false })) pushed
   rest_decided given pushed now on = record {
     rest = [];
-    is = cc (append-nil pushed, rest_nothing now, on [], append-nil given, append-nil (tr t given));
+    is = cc (append-nil pushed, rest_nothing now, on [], append-nil given);
   }
 
 -- ---- nothing is deleted or squeezed
@@ -95,7 +84,7 @@ module _ (t : Tables) where
 after_all : (squeezed : ℕ → Bool) → ((b : ℕ) → squeezed b ≡ false) → (last : ℕ) (bytes : List ℕ)
     → squeeze_after squeezed last bytes ≡ bytes
 after_all squeezed none last [] = refl
-after_all squeezed none last (b ∷ bytes) = grind (arith, after_all squeezed none b bytes, after_one_byte, and_right)
+after_all squeezed none last (b ∷ bytes) = grind (arith, after_all squeezed none b bytes, and_right)
 
 pub from_all : (squeezed : ℕ → Bool) → ((b : ℕ) → squeezed b ≡ false) → (last : Option ℕ) (bytes : List ℕ)
     → squeeze_from squeezed last bytes ≡ bytes
@@ -119,7 +108,7 @@ last_of x (y ∷ xs) =
 after_two_parts : (squeezed : ℕ → Bool) (last : ℕ) (bytes : List ℕ)
     → (BeginsWith last (squeeze squeezed bytes) → squeezed last ≡ false)
     → squeeze_after squeezed last bytes ≡ squeeze squeezed bytes
-after_two_parts = grind (arith, after_one_byte, eqb-true)
+after_two_parts = grind (arith, eqb-true)
 
 -- bytes after some output
 from_two_parts : (squeezed : ℕ → Bool) (written bytes : List ℕ)
@@ -143,31 +132,26 @@ last_after : {X : Type 0} (o : Option X) (front : List X) (x : X) → last_or o 
 last_after o [] x = refl
 last_after o (y ∷ front) x = last_after (Some y) front x
 
--- the last item of a list is unique
-pub same_last : {X : Type 0} (x y : X) (xs : List X) → EndsWith x xs → EndsWith y xs → Some x ≡ Some y
-same_last x y xs (front, ends) (others, other_ends) = grind (arith, common_steps, last_after)
-
 -- one byte that is not deleted and whose image is not squeezed
 one_byte : (tables : Tables) (last : Option ℕ) (byte : ℕ) → deletes tables byte ≡ false
     → squeezes tables (image tables byte) ≡ false → tr_from tables last (byte ∷ []) ≡ image tables byte ∷ []
-one_byte = grind (arith, from_one)
+one_byte = grind arith
 
 pub tr_after_byte : TrAfterByte
 tr_after_byte tables byte a b (front, ends) kept unsqueezed =
     let last : EndsWith (image tables byte) (tr tables a) = (
       tr tables front,
       cc (
-        ends,
         front_on tables None front (byte ∷ []),
         one_byte tables (last_or None (tr tables front)) byte kept unsqueezed,
       ),
     ) in
-    grind (arith, common_steps, tr_of_parts, same_last)
+    grind (arith, common_steps, tr_of_parts)
 
 -- bytes that begin with the byte before them, which is squeezed
 after_same : (squeezed : ℕ → Bool) (last : ℕ) (bytes rest : List ℕ) → squeezed last ≡ true
     → squeeze squeezed bytes ≡ last ∷ rest → squeeze_after squeezed last bytes ≡ rest
-after_same = grind (arith, after_one_byte, eq-eqb)
+after_same = grind (arith, eq-eqb)
 
 pub tr_meets_twice : TrMeetsTwice
 tr_meets_twice tables byte a b rest is (front, ends) begins =
@@ -185,14 +169,14 @@ pub first_squeezed : (squeezed : ℕ → Bool) (last : Option ℕ) (from into : 
     → count ≡ from_bool (not repeats)
     → take count (set into 0 (get_or from 0 0)) ++ kept_bytes squeezed from (drop 1 from)
     ≡ squeeze_from squeezed last from
-first_squeezed = grind (arith, common_steps, repeats, from_one)
+first_squeezed = grind (arith, common_steps, repeats)
 
 -- ---- tests that agree on bytes
 
 same_after : (p q : ℕ → Bool) → ((b : ℕ) → b < 256 → p b ≡ q b) → (last : ℕ) (bytes : List ℕ) → Each1 (Fits w8) bytes
     → squeeze_after p last bytes ≡ squeeze_after q last bytes
 same_after p q same last [] fit = refl
-same_after p q same last (b ∷ bytes) (first, others) = grind (arith, same_after p q same b bytes others, after_one_byte)
+same_after p q same last (b ∷ bytes) (first, others) = grind (arith, same_after p q same b bytes others)
 
 pub same_from : (p q : ℕ → Bool) → ((b : ℕ) → b < 256 → p b ≡ q b) → (last : Option ℕ) (bytes : List ℕ)
     → ((k : ℕ) → Fits w8 (get_or bytes k 0)) → squeeze_from p last bytes ≡ squeeze_from q last bytes

@@ -21,9 +21,6 @@ use Rattle.ptflow.specs.declared.tools.uniq.block_runs.Span.{Span}
 use Rattle.ptflow.specs.declared.tools.uniq.CurrentRun.{CurrentRun}
 use Rattle.std.specs.Prelude.{◌≢◌, zero, suc}
 
-some_lines : (n : ℕ) → nat_lt 0 (n + 1) ≡ true
-some_lines n = grind arith
-
 module _ (job : Uniq) where
   -- The first run, and that run with one more line of its key before it.
   record First (line : List ℕ) (n : ℕ) (ls : List (List ℕ)) : Type 0 where
@@ -59,11 +56,6 @@ module _ (job : Uniq) where
   runs_are line (l ∷ ls) = grind (arith, onto_first_run, first, runs_are l ls)
 
   -- ---- one line more
-
-  pub runs_after_more : (run : Run) (line : List ℕ) (more : List (List ℕ))
-      → (nat_lt 0 run.count && is_same job run.line line) ≡ true
-      → runs_after job run (line ∷ more) ≡ runs_after job (run_of run.line (run.count + 1)) more
-  runs_after_more run line more advance_ok = grind arith
 
   pub runs_after_next : (run : Run) (line : List ℕ) (more : List (List ℕ))
       → (nat_lt 0 run.count && is_same job run.line line) ≡ false
@@ -386,10 +378,6 @@ line_ends : (end : ℕ) (l more : List ℕ) → IsLine end l
     → IsFirstByte (is_byte end) ((l ++ end ∷ []) ++ more) (Some (length l))
 line_ends end l more whole = grind (arith, common_steps)
 
-front_taken : (end : ℕ) (l more : List ℕ) → (take (length l) ((l ++ end ∷ []) ++ more) ≡ l)
-    × (drop (length l + 1) ((l ++ end ∷ []) ++ more) ≡ more)
-front_taken end l more = grind (arith, common_steps)
-
 module _ {job : Uniq} {first block : List ℕ} {start : ℕ} {line : Option Span} {pending : Span} {run_key : List ℕ}
     {was is : Output} (l : List ℕ) (whole : IsLine job.terminator l) (key_is : run_key ≡ key job l) where
   counted_once : (more : List ℕ) {count : ℕ}
@@ -447,11 +435,6 @@ module _ (job : Uniq) where
           ≡ run_of line count ∷ rest)
       by_test true = (run.count + 1, more, refl)
       by_test false = (1, run ∷ more, refl)
-
-  -- runs followed by other runs
-  onto_front : (line : List ℕ) (run : Run) (rs others : List Run)
-      → cons_run job line ((run ∷ rs) ++ others) ≡ cons_run job line (run ∷ rs) ++ others
-  onto_front = grind arith
 
   -- the runs of lines, and of lines after them that begin with another key
   runs-append : (xs ys : List (List ℕ))

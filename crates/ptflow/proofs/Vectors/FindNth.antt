@@ -10,7 +10,7 @@ use proofs.Common.{line_if_not_found, Nowhere, None, option_map, nowhere_trans, 
 use proofs.Common.{IsTerminatorMask}
 use proofs.Common.{count_by_more_yes, common_steps, rules}
 use Rattle.std.proofs.lemmas.List.{get_or-drop, drop-map}
-use Rattle.std.proofs.Common.{pow-suc, mul_comm, div-one}
+use Rattle.std.proofs.Common.{pow-suc, div-one}
 use Rattle.std.proofs.Math.Nat.{div-div-eq-div-mul, zero-div}
 use proofs.Vectors.Lanes.{map-id}
 use lib.Bits.{bit_and, and_step, and_self, and_zero_l}
@@ -103,7 +103,7 @@ shifted (suc n) [] = zero-div (2 ^ suc n)
 shifted (suc n) (b ∷ bits) =
     let half : (b : Bool) → (cond b 1 0 + 2 * mask_l bits) / 2 ≡ mask_l bits =
     grind arith in
-    grind (arith, half, pow-suc, mul_comm, div-div-eq-div-mul, shifted n bits)
+    grind (arith, half, pow-suc, div-div-eq-div-mul, shifted n bits)
 
 -- the mask of the first bytes, without those before an index
 pub mask_from : (p : ℕ → Bool) (size from : ℕ) (bytes : List ℕ) {mask : ℕ} → mask ≡ mask_l (map p (take size bytes))
@@ -127,7 +127,7 @@ module _ (p : ℕ → Bool) (bytes : List ℕ) (size : ℕ) (within : size ≤ l
       before = nowhere_trans (Passes p bytes) 0 size (size + at) front
           (λ k low high passes. first.before (k - size) (omega arith) (omega arith) (there k low passes));
     },
-    cc (get_or-drop size bytes at 0, found),
+    cc (get_or-drop size bytes at 0),
   )
 
 -- ---- in a chunk of some bytes
@@ -151,26 +151,26 @@ module _ (p : ℕ → Bool) (bytes : List ℕ) where
     pub nth_in_prefix : {to : ℕ} → at + k < to → to ≤ length bytes
         → IsNth p 0 (count_by p (take at bytes) + m) (take to bytes) (at + k)
     nth_in_prefix {to} lt le =
-        grind (arith, common_steps, length-take-le, get_or-take, get_or-chunk, near, take-take, count_in_prefix)
+        grind (arith, common_steps, get_or-take, get_or-chunk, near, take-take, count_in_prefix)
 
   -- no item before the first one passes
   pub first_is : (at : ℕ) → IsNth p 0 0 bytes at → NoneBefore (Passes p bytes) 0 (length bytes) at × Passes p bytes at
   first_is at (within, passes, none) =
-      (grind (arith, near, get_or-take, get_or-le-sum_by, length-take-le), passes)
+      (grind (arith, get_or-take, get_or-le-sum_by, length-take-le), passes)
 
 -- ---- by the first match
 
 module _ (d : ℕ) (line : List ℕ) where
   pub none_counted : (bytes : List ℕ) → IsLine d bytes → count_by (is_byte d) bytes ≡ 0
   none_counted [] free = refl
-  none_counted (b ∷ bytes) (differs, free) = grind (arith, none_counted bytes free, sum_by-cons, byte_ne)
+  none_counted (b ∷ bytes) (differs, free) = grind (arith, none_counted bytes free, byte_ne)
 
   -- the first delimiter is the one after 0 others
   module _ (to : ℕ) (le : to ≤ length line) where
     pub first_is_nth : (at : ℕ) → IsFirstByte (is_byte d) line (Some at) → at < to
         → IsNth (is_byte d) 0 0 (take to line) at
     first_is_nth at first lt =
-        grind (arith, common_steps, length-take-le, get_or-take, take-take, none_counted, line_before_terminator)
+        grind (arith, common_steps, get_or-take, take-take, none_counted, line_before_terminator)
 
     pub no_nth_before_first : (at : ℕ) → IsFirstByte (is_byte d) line (Some at) → to ≤ at
         → count_by (is_byte d) (take to line) ≤ 0
@@ -192,7 +192,7 @@ module _ (p : ℕ → Bool) (bytes : List ℕ) (start end : ℕ) (fits : end < l
       × Passes p (drop start bytes) (end - start)
   next_is =
       let whole : start + (end - start) ≡ end = omega (arith, in_order) in
-      grind (arith, common_steps, first_is, in_order, take-add, sum_by-append)
+      grind (arith, common_steps, first_is, in_order, take-add)
 
 -- the next terminator among 64 bytes, after n of them, where the line starts at `start`
 pub record NextTerminator (d : ℕ) (block : List ℕ) (from n bit start : ℕ) : Type 0 where
@@ -214,9 +214,9 @@ module _ {d : ℕ} {block : List ℕ} {from all marked : ℕ} (n start : ℕ) (h
       let nth : IsNth p 0 n v bit = after_set p v n (omega (arith, length-chunk from 64 block room))
       (grind (arith, ones-mask_l)) bits in
       let close : bit < 64 = near p block 64 from n bit room nth in
-      let fits : from + bit < length block = omega (arith, room) in
+      let fits : from + bit < length block = omega arith in
       let (_, passes, _) = nth in
-      let is : p (get_or block (from + bit) 0) ≡ true = cc (get_or-chunk from 64 block bit 0 close, passes) in
+      let is : p (get_or block (from + bit) 0) ≡ true = cc (get_or-chunk from 64 block bit 0 close) in
       let as_many : count_by p (take (from + bit) block) ≡ count_by p (take start block) =
       count_in_prefix p block 64 from n bit room nth ∙ sym ends in
-      grind (arith, near, in_order, next_is, one_after)
+      grind (arith, in_order, next_is, one_after)

@@ -4,14 +4,14 @@
 -- after a field are the bytes after it.
 use Rattle.ptmerge.proofs
 use proofs.Common.{◌≡◌, ⊎_elim, false, ℕ, List, ◌++◌, Result, Ok, Err, IsErrAnd, true, Output, PushPost, PushEffect}
-use proofs.Common.{push_trans, ◌∷◌, refl, append_assoc, arith, push_nothing, drop_more, length-drop, length-append, suc}
+use proofs.Common.{push_trans, ◌∷◌, refl, append_assoc, arith, length-drop, length-append, suc}
 use proofs.Common.{◌+◌, ◌-◌, ◌≤◌, Bool, [], Option, None, Some, length, drop, get_or, sym, ap, zero, ◌<◌, ◌==◌, cond}
 use proofs.Common.{position, MatchOption, filter, is_some, slice_split, nat_tests, is_blank, Lines}
 use proofs.Common.{is_separator, entry_with_list, remaining_fields, map, remove, unwrap_or, append-nil, flat_map-append}
 use proofs.Common.{Join, output_separator, entry, join_fields, other_fields, is_single_spaced, with_prefix, ◌^◌, eqb}
 use proofs.Common.{◌≢◌, ◌*◌, not, ◌&&◌, ◌∙◌}
-use Rattle.std.proofs.lemmas.Bool.{cases_Bool, false_from_ne_true, eqb-true}
-use Rattle.ptlines.proofs.Push.{push_after_failure, push_past_failure}
+use Rattle.std.proofs.lemmas.Bool.{cases_Bool, eqb-true}
+use Rattle.ptlines.proofs.Push.{push_past_failure}
 use Rattle.std.specs.List.{flat_map, slice_range, prefix_len, join_with_byte, onto_first}
 use Rattle.std.proofs.Common.{rules, ◌/◌, bit_and, bit_or, replicate, take, ◌%◌, ◌||◌}
 use Rattle.std.proofs.lemmas.Grind.{common_steps}
@@ -23,8 +23,7 @@ use Rattle.ptmerge.specs.declared.key_order.Span.{Span}
 use Rattle.std.proofs.lemmas.Simd.{length-chunk, mask_l-mod, mask_l-lt, trailing_mask_l}
 use Rattle.std.specs.Simd.Lanes.{chunk, mask_l, top, zip2}
 use Rattle.memchr.specs.Find.{is_byte, IsFirstByte}
-use Rattle.std.proofs.Math.Nat.{div-div-eq-div-mul, mod-eq_of_lt, mul-lt-mul_of_pos_right, mul_assoc, one-le-pow}
-use Rattle.std.proofs.Math.Nat.{two-pow-succ}
+use Rattle.std.proofs.Math.Nat.{div-div-eq-div-mul, mul-lt-mul_of_pos_right, mul_assoc, one-le-pow}
 use Rattle.std.proofs.Math.Pow.{pow-add, pow-lt, pow_mono}
 use lib.Bits.{and_step, or_step, or_zero_l, or_zero_r, and_zero_l, or_shifted_r, and_mod, and_le_l, and_self, or_self}
 use lib.Count.{count_trailing_zeros}
@@ -44,7 +43,7 @@ use Rattle.ptmerge.specs.KeySpan.{IsKeySpan}
 pub wrote_then : {a b c : Output} {xs ys : List ℕ} → (a.write_failed ≡ false → b.write_failed ≡ false)
     → PushEffect a b xs → PushEffect b c ys → PushEffect a c (xs ++ ys)
 wrote_then {a} {b} {c} {xs} {ys} clean p q =
-    ⊎_elim (λ fault. grind (arith, fault, push_after_failure a (xs ++ ys)))
+    ⊎_elim (λ fault. grind (arith, fault))
     (λ fine. push_trans a b c xs ys (clean fine) p q) (cases_Bool a.write_failed)
 
 pub then_pushes : {E : Type 0} {a b c : Output} {xs ys : List ℕ} {r : Result (Unit {0}) E}
@@ -71,7 +70,7 @@ pub record PartialWrite (was is : Output) (all left : List ℕ) : Type 0 where
   pub clean : was.write_failed ≡ false → is.write_failed ≡ false
 
 pub partial_starts : {was : Output} {all left : List ℕ} → all ≡ left → PartialWrite was was all left
-partial_starts = search (rules, push_nothing)
+partial_starts = search rules
 
 -- the first call succeeded
 pub partial_first : {was is : Output} {all bytes left : List ℕ} → all ≡ bytes ++ left → PushEffect was is bytes
@@ -83,7 +82,7 @@ module _ {E : Type 0} {r : Result (Unit {0}) E} (P : E → Type 0) (err_is : IsE
     {was new : Output} {all bytes : List ℕ} (left : List ℕ) where
   pub first_fails : all ≡ bytes ++ left → PushEffect was new bytes → new.write_failed ≡ true
       → WriteBytesPost was new all r
-  first_fails = grind (arith, push_is_write, push_fails, push_past_failure)
+  first_fails = grind (arith, push_fails, push_past_failure)
 
   pub partial_fails : {is : Output} {now : List ℕ} → now ≡ bytes ++ left → PartialWrite was is all now
       → PushEffect is new bytes → new.write_failed ≡ true → WriteBytesPost was new all r
@@ -121,8 +120,8 @@ module _ {X : Type 0} (f : X → List ℕ) {xs more : List X} {x : X} (is : xs �
 pub first_is_position : (test : ℕ → Bool) (bytes : List ℕ) (r : Option ℕ) → IsFirstByte test bytes r
     → r ≡ position test bytes
 first_is_position test bytes None none =
-    let is = position_or_len_is test bytes (length bytes) 0 in grind (arith, is, none, false_from_ne_true, nat_tests)
-first_is_position test bytes (Some at) (range, found) = grind (arith, position_or_len_is, false_from_ne_true)
+    let is = position_or_len_is test bytes (length bytes) 0 in grind (arith, is, none, nat_tests)
+first_is_position test bytes (Some at) (range, found) = grind (arith, position_or_len_is)
 
 -- ---- the field with a number
 
@@ -170,7 +169,7 @@ piece_at separator bytes at is = let (within, found, _) = position-Some _ bytes 
       front = [];
       tail = drop at bytes;
       is = sym (take-append-drop at bytes);
-      ends = (get_or bytes at 0, grind (arith, common_steps, drop_more bytes at 0 within), found);
+      ends = (get_or bytes at 0, grind (arith, common_steps), found);
     }
 
 -- the index of the first separator is the end of the first field
@@ -179,7 +178,7 @@ pub ends_at : (separator : Option ℕ) (bytes : List ℕ) (at : ℕ) (end : Opti
 ends_at separator bytes at end first some =
     let is : position (is_separator separator) bytes ≡ Some at = cc in
     let split = split_around (is_separator separator) bytes at is in
-    grind (arith, split, position-Some (is_separator separator) bytes at 0 is)
+    grind (arith, split)
 
 pub ends_whole : (separator : Option ℕ) (bytes : List ℕ) (end : Option ℕ)
     → end ≡ position (is_separator separator) bytes → end ≡ None → IsFirstPieceEnd separator bytes (length bytes)
@@ -196,7 +195,7 @@ pub skip_empty_word : (separator : Option ℕ) (bytes field : List ℕ) (remaind
     → MatchOption remainder (slice_split (is_separator separator) bytes ≡ field ∷ [])
     (λ left. slice_split (is_separator separator) bytes ≡ field ∷ slice_split (is_separator separator) left)
     → remaining_fields separator remainder ≡ remaining_fields separator (Some bytes)
-skip_empty_word = grind (arith, nat_tests)
+skip_empty_word = grind arith
 
 -- ---- writing lines field by field
 
@@ -258,7 +257,7 @@ WordsAre false bytes = (c : ℕ) → words_of (onto_first c (slice_split is_blan
 
 word_more : (c b : ℕ) (split : Lines) {l : List ℕ} → words_of (onto_first b split) ≡ 32 ∷ b ∷ l
     → words_of (onto_first c (onto_first b split)) ≡ 32 ∷ c ∷ b ∷ l
-word_more c b split is = grind (arith, is)
+word_more c b split is = grind arith
 
 pub single_spaced_words : (blank : Bool) (bytes : List ℕ) → is_single_spaced blank bytes ≡ true → WordsAre blank bytes
 single_spaced_words true [] tidy = cc
@@ -270,7 +269,7 @@ single_spaced_words false (b ∷ bytes) tidy =
     λ c.
     let more = λ (h : is_single_spaced false bytes ≡ true). word_more c b _
     (single_spaced_words false bytes h b) in
-    grind (arith, more, single_spaced_words true bytes, eqb-true b 32)
+    grind (arith, more, single_spaced_words true bytes)
 
 -- ---- canonical lines
 
@@ -284,7 +283,7 @@ module _ (job : Join) (key : List ℕ) (none : job.list ≡ None) where
   -- a canonical line, whose field with this number is the key
   canonical_is : {n : ℕ} {line : List ℕ} → IsCanonical job.separator n line → nth_field n (of line) ≡ key
       → line ≡ key ++ with_prefix prefix (other_fields n (of line))
-  canonical_is {n} {line} w keyed = grind (arith, w)
+  canonical_is {n} {line} w keyed = grind arith
 
   -- the output line for a pair of canonical lines
   pub pair_is : {one two : List ℕ} (end : ℕ) → IsCanonical job.separator job.field1 one
@@ -292,16 +291,16 @@ module _ (job : Join) (key : List ℕ) (none : job.list ≡ None) where
       → nth_field job.field2 (of two) ≡ key → one ++ take (length two - length key)
       (drop (length key) two) ++ end ∷ [] ≡ entry job key (of one) (of two) ++ end ∷ []
   pair_is {one} {two} end w1 w2 keyed1 keyed2 =
-      grind (arith, common_steps, length-append, canonical_is, append_assoc, entry_plain job key (Some one) (Some two))
+      grind (arith, common_steps, canonical_is, append_assoc, entry_plain job key (Some one) (Some two))
 
   -- the output line for one canonical line
   pub first_is : {line : List ℕ} → IsCanonical job.separator job.field1 line → nth_field job.field1 (of line) ≡ key
       → line ≡ entry job key (of line) []
-  first_is {line} w keyed = grind (arith, entry_plain job key (Some line) None, append-nil, canonical_is)
+  first_is {line} w keyed = grind (arith, entry_plain job key (Some line) None, append-nil)
 
   pub second_is : {line : List ℕ} → IsCanonical job.separator job.field2 line → nth_field job.field2 (of line) ≡ key
       → line ≡ entry job key [] (of line)
-  second_is {line} w keyed = grind (arith, entry_plain job key None (Some line), canonical_is)
+  second_is {line} w keyed = grind (arith, entry_plain job key None (Some line))
 
 -- ---- blanks
 
@@ -312,8 +311,8 @@ equal_lanes v n byte = zip2 (λ a b. cond (eqb a b) 255 0) v (replicate n byte)
 blank_lanes : (v : List ℕ) (n : ℕ) → length v ≡ n
     → map (top 7) (zip2 bit_or (equal_lanes v n 32) (equal_lanes v n 9)) ≡ map is_blank v
 blank_lanes [] n long = refl
-blank_lanes (b ∷ v) zero long = absurd (omega (arith, long))
-blank_lanes (b ∷ v) (suc n) long = grind (arith, blank_lanes v n (omega (arith, long)))
+blank_lanes (b ∷ v) zero long = absurd (omega arith)
+blank_lanes (b ∷ v) (suc n) long = grind (arith, blank_lanes v n (omega arith))
 
 pub blank_mask : (bytes : List ℕ) (at n : ℕ) → at + n ≤ length bytes → n ≤ 64
     → mask_l (map (top 7) (zip2 bit_or (equal_lanes (chunk at n bytes) n 32)
@@ -323,12 +322,12 @@ blank_mask bytes at n within few = search (rules, length-chunk, blank_lanes, mas
 -- a blank among single spaces is a space
 pub space_is : (blank : Bool) (b : ℕ) (v : List ℕ) → is_blank b ≡ true → is_single_spaced blank (b ∷ v) ≡ true
     → (b ≡ 32) × (is_single_spaced true v ≡ true)
-space_is blank b v here spaced = grind (arith, here, spaced, eqb-true b 32)
+space_is blank b v here spaced = grind (arith, here, spaced)
 
 spaced_suffix : (blank : Bool) (xs : List ℕ) (b : ℕ) (ys : List ℕ) → is_single_spaced blank (xs ++ b ∷ ys) ≡ true
     → is_blank b ≡ true → (b ≡ 32) × (is_single_spaced true ys ≡ true)
 spaced_suffix blank [] b ys s here = space_is blank b ys here s
-spaced_suffix blank (x ∷ xs) b ys s here = grind (arith, here, spaced_suffix (x == 32) xs b ys)
+spaced_suffix blank (x ∷ xs) b ys s here = grind (arith, spaced_suffix (x == 32) xs b ys)
 
 -- ---- the bytes before a field and after it
 
@@ -371,7 +370,7 @@ remove_at (g ∷ fs) (suc i) f more is = cc (remove_at fs i f more is)
 cut_before : (c : ℕ) (before more line : List ℕ) → before ++ (c ∷ more) ≡ c ∷ line → (rest : List ℕ)
     → before ++ rest ≡ cond (length before == 0) rest (c ∷ take (length before - 1) line ++ rest)
 cut_before c [] more line is rest = refl
-cut_before c (x ∷ before) more line is rest = grind (arith, common_steps, is)
+cut_before c (x ∷ before) more line is rest = grind (arith, common_steps)
 
 -- without a field: the bytes before it, except the separator, and those after it
 pub around_is : (separator : Option ℕ) (number : ℕ) (line : List ℕ) (found : Option Span)
@@ -387,7 +386,7 @@ around_is separator number line (Some span) f even =
     let before = with_prefix c (take (number - 1) fs) in
     let line_is : before ++ (c ∷ (word ++ rest)) ≡ c ∷ line =
     let all = rw (← take-append-drop (number - 1) fs, f.is, flat_map-append) at (even_prefixed separator line even) in
-    cc (f.after even, all) in
+    cc (f.after even) in
     let long : length before ≡ span.start = omega (
       arith,
       ap length line_is,
@@ -427,10 +426,10 @@ halves : (b : Bool) (x : ℕ) → ((bit b + 2 * x) / 2 ≡ x) × ((bit b + 2 * x
 halves = grind arith
 
 or_bits : (b c : Bool) (x y : ℕ) → bit_or (bit b + 2 * x) (bit c + 2 * y) ≡ bit (b || c) + 2 * bit_or x y
-or_bits b c x y = grind (arith, halves, or_step)
+or_bits b c x y = grind (arith, or_step)
 
 and_bits : (b c : Bool) (x y : ℕ) → bit_and (bit b + 2 * x) (bit c + 2 * y) ≡ bit (b && c) + 2 * bit_and x y
-and_bits b c x y = grind (arith, halves, and_step)
+and_bits b c x y = grind (arith, and_step)
 
 -- ---- masks of the first and of the last bytes
 
@@ -444,9 +443,9 @@ or_ends : (last n : ℕ) (bits : List Bool) → last ≤ n
 or_ends zero n bits le = let one : 2 ^ 0 * mask_l bits ≡ mask_l bits = omega arith in
     ap (bit_or _) one ∙ or_prefix n bits
 or_ends (suc last) zero bits le = absurd (omega arith)
-or_ends (suc last) (suc n) [] le = grind (arith, or_zero_l)
+or_ends (suc last) (suc n) [] le = grind arith
 or_ends (suc last) (suc n) (b ∷ bits) le =
-    let double : 2 ^ suc last ≡ 2 * 2 ^ last = omega (arith, two-pow-succ last) in
+    let double : 2 ^ suc last ≡ 2 * 2 ^ last = omega arith in
     let twice : 2 ^ suc last * mask_l (drop last bits) ≡ bit false + 2 * (2 ^ last * mask_l _) =
     search (rules, mul_assoc) in
     ap (bit_or (mask_l (b ∷ take n bits))) twice ∙ or_bits b false (mask_l (take n bits))
@@ -463,8 +462,8 @@ ends_mask test bytes n first all few =
     let size : length (drop last bits) ≡ n = grind (arith, common_steps) in
     let small = fits (mask_l (drop last bits)) n last (rw size at (mask_l-lt (drop last bits))) (omega arith) in
     let whole : mask_l (drop last bits) * 2 ^ last % 2 ^ 64 ≡ 2 ^ last * mask_l (drop last bits) =
-    omega (arith, mod-eq_of_lt small) in
-    cc (take-map test n bytes, tail, whole, or_ends last n bits (omega arith))
+    omega arith in
+    cc (take-map test n bytes, tail, or_ends last n bits (omega arith))
   where
     fits : (m n last : ℕ) → m < 2 ^ n → n + last ≤ 64 → m * 2 ^ last < 2 ^ 64
     fits m n last low le = omega (
@@ -480,7 +479,7 @@ no_misplaced : (blank : Bool) (bytes : List ℕ)
     → eqb (bit_or (mask_l (map (is_byte 9) bytes)) (bit_and (mask_l (map is_blank bytes))
     (bit blank + 2 * mask_l (map is_blank bytes)))) 0 ≡ has_single_spaces blank bytes
 no_misplaced blank [] = cc
-no_misplaced blank (b ∷ bytes) = grind (arith, nat_tests, and_bits, or_bits, no_misplaced (is_blank b) bytes)
+no_misplaced blank (b ∷ bytes) = grind (arith, and_bits, or_bits, no_misplaced (is_blank b) bytes)
 
 pub single_spaces_is : (any before : ℕ) (bytes : List ℕ) → before ≤ 1 → length bytes ≤ 64
     → any ≡ mask_l (map is_blank bytes)
@@ -494,19 +493,19 @@ single_spaces_is any before bytes low few is =
     rw (or_even any before low, and_low any (any * 2 + before) small, sum, is) (no_misplaced (before == 1) bytes)
   where
     of_bit : (before : ℕ) → before ≤ 1 → bit (before == 1) ≡ before
-    of_bit = grind (arith, nat_tests)
+    of_bit = grind arith
 
     or_even : (any before : ℕ) → before ≤ 1 → bit_or (any * 2 % 2 ^ 64) before ≡ (any * 2 + before) % 2 ^ 64
     or_even any before low =
         let half = any % 2 ^ 63 in
         let even : any * 2 % 2 ^ 64 ≡ 2 * half = omega arith in
-        grind (arith, of_bit, or_bits false (before == 1) half 0, or_zero_r half)
+        grind (arith, or_bits false (before == 1) half 0, or_zero_r half)
 
     and_low : (x y : ℕ) → x < 2 ^ 64 → bit_and x (y % 2 ^ 64) ≡ bit_and x y
     and_low x y low = grind (arith, and_le_l x y, and_mod x y 64)
 
 power_fits : (v : List ℕ) → length v < 64 → 1 * 2 ^ length v % 2 ^ 64 ≡ 1 * 2 ^ length v
-power_fits = search (rules, mod-eq_of_lt, pow-lt)
+power_fits = search (rules, pow-lt)
 
 -- a line that ends after these bytes, as if a space followed it
 pub with_end : (bytes : List ℕ) (any tabs : ℕ) → length bytes < 64 → any ≡ mask_l (map is_blank bytes)
@@ -523,7 +522,7 @@ with_end bytes any tabs short any_is tabs_is =
     end_bit : (test : ℕ → Bool) (bytes : List ℕ)
         → mask_l (map test (bytes ++ 32 ∷ [])) ≡ mask_l (map test bytes) + cond (test 32) (2 ^ length bytes) 0
     end_bit test [] = grind arith
-    end_bit test (b ∷ bytes) = grind (arith, end_bit test bytes, two-pow-succ (length bytes))
+    end_bit test (b ∷ bytes) = grind (arith, end_bit test bytes)
 
 pub spaced_to_end : (blank : Bool) (bytes : List ℕ)
     → has_single_spaces blank (bytes ++ 32 ∷ []) ≡ is_single_spaced blank bytes
@@ -544,14 +543,14 @@ spaced_append blank (b ∷ v) back = let ih = spaced_append (b == 32) v back in 
 -- the highest bit says whether the last byte is a blank
 pub top_bit : (n : ℕ) (blank : Bool) (v : List ℕ) → length v ≡ suc n → has_single_spaces blank v ≡ true
     → mask_l (map is_blank v) / 2 ^ n ≡ bit (last_blank blank v)
-top_bit n blank [] size spaced = absurd (omega (arith, size))
-top_bit zero blank (b ∷ []) size spaced = grind (arith, spaced)
-top_bit zero blank (b ∷ c ∷ v) size spaced = absurd (omega (arith, size))
+top_bit n blank [] size spaced = absurd (omega arith)
+top_bit zero blank (b ∷ []) size spaced = grind arith
+top_bit zero blank (b ∷ c ∷ v) size spaced = absurd (omega arith)
 top_bit (suc n) blank (b ∷ v) size spaced =
     let m = mask_l (map is_blank v) in
-    let twice : 2 ^ suc n ≡ 2 * 2 ^ n = omega (arith, two-pow-succ n) in
+    let twice : 2 ^ suc n ≡ 2 * 2 ^ n = omega arith in
     cc (
-      top_bit n (b == 32) v (omega (arith, size)) (grind (arith, spaced)),
+      top_bit n (b == 32) v (omega arith) (grind arith),
       (halves (is_blank b) m).0,
       div-div-eq-div-mul (bit (is_blank b) + 2 * m) 2 (2 ^ n),
     )
@@ -575,7 +574,7 @@ is_word b = not (is_blank b)
 
 pub word_mask : (bytes : List ℕ) → mask_l (map is_word bytes) + mask_l (map is_blank bytes) + 1 ≡ 2 ^ length bytes
 word_mask [] = refl
-word_mask (b ∷ bytes) = search (rules, two-pow-succ, word_mask bytes)
+word_mask (b ∷ bytes) = search (rules, word_mask bytes)
 
 -- ---- the first run of set bits
 
@@ -608,7 +607,7 @@ plus_one [] = refl
 plus_one (b ∷ bits) = grind (arith, plus_one bits)
 
 or_less : (bits : List Bool) → 0 < mask_l bits → bit_or (mask_l bits) (mask_l bits - 1) + 1 ≡ mask_l (after_run bits)
-or_less [] some = absurd (omega (arith, some))
+or_less [] some = absurd (omega arith)
 or_less (true ∷ bits) some =
     let m = mask_l bits in
     grind (arith, or_bits true false m m, or_self m, plus_one bits)
@@ -671,8 +670,8 @@ in_word (b ∷ v) = by (in_word v) (is_blank b) refl
     by w true e =
         let split = split_byte b v e in
         let more = slice_split is_blank v in
-        grind (arith, more, split, space_is, single_spaced_words true v)
-    by w false e = rw one_more (let more = w.more in grind (arith, more, split_byte b v e, w, e))
+        grind (arith, more, split, single_spaced_words true v)
+    by w false e = rw one_more (let more = w.more in grind (arith, more, w, e))
 
 -- the first word of `v` from the index `at` on is from `start` to before `end`
 pub record WordAt (at : ℕ) (v : List ℕ) (start end : ℕ) (cleared : List Bool) : Type 0 where
@@ -689,14 +688,14 @@ byte_before : {at to start end : ℕ} {v : List ℕ} {cleared : List Bool} (b : 
     → ((blank : Bool) → is_single_spaced blank (drop to (b ∷ v)) ≡ true
     → (left : Bool) × (is_single_spaced left (drop at v) ≡ true))
     → WordAt to (b ∷ v) (1 + start) (1 + end) (false ∷ cleared)
-byte_before {start = start} {end} b w same spaced = search (rules, one_more)
+byte_before {start = start} {end} b w same spaced = search rules
 
 word_at : (at : ℕ) (v : List ℕ) → at ≤ length v → 0 < mask_l (from at v)
     → WordAt at v (prefix_len not (from at v)) (prefix_len not (after_run (from at v))) (clear_run (from at v))
-word_at zero [] low some = absurd (omega (arith, some))
-word_at (suc at) [] low some = absurd (omega (arith, low))
+word_at zero [] low some = absurd (omega arith)
+word_at (suc at) [] low some = absurd (omega arith)
 word_at (suc at) (b ∷ v) low some =
-    byte_before b (word_at at v (omega (arith, low)) (omega (arith, some))) refl (λ blank s. (blank, s))
+    byte_before b (word_at at v (omega arith) (omega arith)) refl (λ blank s. (blank, s))
 word_at zero (b ∷ v) low some = by (word_at 0 v (omega arith)) (is_blank b) refl some
   where
     by : (0 < mask_l (from 0 v)
@@ -704,7 +703,7 @@ word_at zero (b ∷ v) low some = by (word_at 0 v (omega arith)) (is_blank b) re
         → (t : Bool) → is_blank b ≡ t → 0 < mask_l (not t ∷ from 0 v)
         → WordAt 0 (b ∷ v) (prefix_len not (not t ∷ from 0 v)) (prefix_len not (after_run (not t ∷ from 0 v)))
         (clear_run (not t ∷ from 0 v))
-    by more true e some = byte_before b (more (omega (arith, some))) (cc (split_byte b v e))
+    by more true e some = byte_before b (more (omega arith)) (cc (split_byte b v e))
         (λ blank s. (true, (space_is blank b v e s).1))
     by more false e some =
         let w = in_word v in
@@ -713,15 +712,15 @@ word_at zero (b ∷ v) low some = by (word_at 0 v (omega arith)) (is_blank b) re
         rw one_more (record {
           low = omega arith;
           high = omega arith;
-          is = cc (split_byte b v e, size);
+          is = cc size;
           rest = cc w.rest;
-          spaced = λ blank s. w.spaced (grind (arith, e, s));
+          spaced = λ blank s. w.spaced (grind (arith, s));
         })
 
 no_words : (at : ℕ) (v : List ℕ) → mask_l (from at v) ≡ 0 → join_fields None (drop at v) ≡ []
 no_words zero [] none = refl
 no_words (suc at) [] none = refl
-no_words (suc at) (b ∷ v) none = no_words at v (omega (arith, none))
+no_words (suc at) (b ∷ v) none = no_words at v (omega arith)
 no_words zero (b ∷ v) none = search (rules, no_words 0 v)
 
 -- `passed` words of the line have been passed, and `words` is the mask of those from the index `at` on
@@ -738,14 +737,14 @@ words_start = grind (arith, power_fits, word_mask)
 
 pub any_fits : (line : List ℕ) (any : ℕ) → length line < 64 → any ≡ mask_l (map is_blank line)
     → any ≤ 1 * 2 ^ length line % 2 ^ 64 - 1
-any_fits line any short is = omega (arith, power_fits line short, is, word_mask line)
+any_fits line any short is = omega (arith, power_fits line short, word_mask line)
 
 module _ {line : List ℕ} {passed words : ℕ} (short : length line < 64) (left : WordsLeft line passed words) where
   abbrev bits : List Bool
   bits = from left.at line
 
   bits_long : length bits ≡ length line
-  bits_long = grind (arith, common_steps, left)
+  bits_long = grind (arith, common_steps)
 
   pub words_small : words < 2 ^ 63
   words_small = search (rules, bits_long, mask_l-lt)
@@ -768,10 +767,10 @@ module _ {line : List ℕ} {passed words : ℕ} (short : length line < 64) (left
     after_is = cc (or_less bits some_bits)
 
     start_is : count_trailing_zeros 64 words ≡ prefix_len not bits
-    start_is = grind (arith, lowest, bits_long, some_bits)
+    start_is = grind (arith, lowest, bits_long)
 
     end_is : count_trailing_zeros 64 after ≡ prefix_len not (after_run bits)
-    end_is = grind (arith, after_is, lowest, length-after_run, bits_long, or_less, some_bits)
+    end_is = grind (arith, after_is, lowest, length-after_run, bits_long, or_less)
 
     -- the first of them is passed
     pub word_passed : WordsLeft line (passed + 1) (bit_and words after)
@@ -790,7 +789,7 @@ module _ {line : List ℕ} {passed words : ℕ} (short : length line < 64) (left
     word_found number is = let w = first_word in
         rw (start_is, end_is) (record {
           more = join_fields None (drop (prefix_len not (after_run bits)) line);
-          is = cc (left.fields, w.is);
+          is = cc w.is;
           ordered = w.low;
           within = w.high;
           after = λ s. (w.spaced (left.spaced s).0 (left.spaced s).1).1;

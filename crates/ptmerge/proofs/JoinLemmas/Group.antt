@@ -18,13 +18,12 @@ use proofs.MergeLemmas.{line_other, HasLines, GroupStore, AllExtend, HasRoom, si
 use proofs.MergeLemmas.{put_same, put_both, put_other, side_case, EachKey, Bound, MayFollow, IsUnder, MergeInvariant}
 use proofs.MergeLemmas.{IsFuture, MayCome, write_least_run, all_wanted, written_is_wanted, LagInvariant, IsLater}
 use proofs.MergeLemmas.{EachKey-append, at_most-same, front_is, later_entries, lines_with_key-above, Each-weaker}
-use proofs.MergeLemmas.{AtMost, least_or_above, self_at_most, equal_is, SideAfterNext, IsAtCurrentLine, MatchesStatus}
-use proofs.MergeLemmas.{side_invariant_kept, read_facts_after_line, IsOpenMerge, ReadFactsOf, SidesInvariant}
+use proofs.MergeLemmas.{AtMost, self_at_most, equal_is, SideAfterNext, IsAtCurrentLine, MatchesStatus}
+use proofs.MergeLemmas.{read_facts_after_line, IsOpenMerge, ReadFactsOf, SidesInvariant}
 use proofs.MergeLemmas.{current_key_is_above, next_at, sides_next, advance_fails}
-use Rattle.std.proofs.Math.ListN.{get_or-append}
 use Rattle.std.proofs.lemmas.Grind.{common_steps}
 pub use Rattle.std.proofs.Common.{rules}
-use Rattle.std.proofs.lemmas.List.{drop-append-le, drop-set-add, set_at, take_at, take_more}
+use Rattle.std.proofs.lemmas.List.{drop-set-add, set_at, take_at, take_more}
 use Rattle.std.proofs.lemmas.List.Sums.{sum_by-append, sum_by-cons, sum_by_push}
 use Rattle.ptlines.proofs.SlotTotals.{total_bytes_set}
 use Rattle.ptmerge.specs.JoinGroup.{EnsureSlotPost, CopyToGroupErrPost, is_head}
@@ -40,7 +39,7 @@ pub group_from : (store : Slots) (end slot : ℕ) → end ≤ length store.lines
     → group store slot end ≡ line store slot ∷ group store (slot + 1) end
 group_from store end slot fits low =
     let more : end - slot ≡ suc (end - (slot + 1)) = omega arith in
-    grind (arith, more, drop_more store.lines slot [])
+    grind (arith, drop_more store.lines slot [])
 
 pub group_end : (store : Slots) (end slot : ℕ) → end ≤ slot → group store slot end ≡ []
 group_end store end slot past = let none : end - slot ≡ 0 = omega arith in rw none refl
@@ -48,12 +47,12 @@ group_end store end slot past = let none : end - slot ≡ 0 = omega arith in rw 
 pub group_more : (store : Slots) (from end : ℕ) → from ≤ end → end < length store.lines
     → group store from (end + 1) ≡ group store from end ++ line store end ∷ []
 group_more store from end least within =
-    let more = take_more (drop from store.lines) (end - from) [] in grind (arith, common_steps, more)
+    let more = take_more (drop from store.lines) (end - from) [] in grind (arith, common_steps)
 
 -- the lines of one slot
 pub group_one : (store : Slots) (slot : ℕ) → slot < length store.lines
     → group store slot (slot + 1) ≡ line store slot ∷ []
-group_one = grind (arith, group_more, group_end)
+group_one = grind (arith, group_more)
 
 -- ---- the output
 
@@ -63,7 +62,7 @@ pair_of job k first second = entry job k (join_fields job.separator first) (join
 
 pub pairs_text : (job : Join) (end : ℕ) (x k : List ℕ) (g : Lines) → job.pairs ≡ true
     → unlines end (pair_entries job k (x ∷ []) g) ≡ unlines end (map (pair_of job k x) g)
-pairs_text = search (rules, pair_of)
+pairs_text = search rules
 
 -- ---- emptying the group
 
@@ -76,16 +75,16 @@ clears_more a s t slot from within c is =
     let rest = drop 4 s.lines in
     let back : 4 + (slot - 4) ≡ slot = omega arith in
     let all = total_bytes_set s.lines slot [] (omega arith) in
-    let at : get_or rest (slot - 4) [] ≡ line a slot = grind (arith, common_steps, back) in
-    let d : drop 4 (set s.lines slot []) ≡ set rest (slot - 4) [] = grind (arith, drop-set-add) in
+    let at : get_or rest (slot - 4) [] ≡ line a slot = grind (arith, back) in
+    let d : drop 4 (set s.lines slot []) ≡ set rest (slot - 4) [] = grind arith in
     let here = total_bytes_set rest (slot - 4) [] (omega (arith, length-drop 4 s.lines)) in
     let grows = ap total_bytes (group_more a 4 slot from within) ∙ sum_by_push length (group a 4 slot) (line a slot) in
     rw is (record {
       slots = length-set s.lines slot [] ∙ c.slots;
       others = λ i far. grind (arith, line_other);
-      emptied = grind (arith, d);
-      less = omega (arith, all);
-      peak = omega (arith, all);
+      emptied = grind arith;
+      less = omega arith;
+      peak = omega arith;
       denied = c.denied;
     })
 
@@ -102,12 +101,12 @@ record EnsuredSlot (before made : Slots) (slot : ℕ) : Type 0 where
 
 ensured_slot : (before made : Slots) (slot : ℕ) → EnsureSlotPost before made slot → EnsuredSlot before made slot
 ensured_slot before made slot g =
-    ⊎_elim (λ e. let more : Lines = [] in grind (arith, common_steps, more))
-    (λ e. let more : Lines = [] ∷ [] in grind (arith, common_steps, more)) g.grown
+    ⊎_elim (λ e. let more : Lines = [] in grind (arith, common_steps))
+    (λ e. let more : Lines = [] ∷ [] in grind (arith, common_steps)) g.grown
 
 pub failed_copy : (before made : Slots) (to : ℕ) → EnsureSlotPost before made to
     → CopyToGroupErrPost before (with_denied (with_line made to [])) to
-failed_copy = grind (arith, common_steps, ensured_slot, total_bytes_set)
+failed_copy = grind (arith, common_steps, total_bytes_set)
 
 -- ---- the largest group
 
@@ -168,29 +167,29 @@ module _ {tool : MergeTool} {before store : Slots} {ls : Side → Lines} {g : Li
 
   module _ {made : Slots} {to : ℕ} (w : EnsuredSlot store made to) where
     made_same : (i : ℕ) → i < 4 → line made i ≡ line store i
-    made_same i low = grind (arith, get_or-append)
+    made_same i low = grind arith
 
     module _ (y : List ℕ) (at : to ≡ 4 + length g) (within : to < length made.lines)
         (largest : (all : Side → Lines) → AllExtend ls all → HasRoom tool (g ++ y ∷ []) all) where
       first_same : (i : ℕ) → i < 4 → get_or (set made.lines to y) i [] ≡ get_or store.lines i []
-      first_same i low = grind (arith, line_other, made_same)
+      first_same i low = grind (arith, made_same)
 
       by_tail : (t : Lines) → total_bytes t ≡ 0 → length g + 1 ≤ length (g ++ t)
           → drop 4 (set made.lines to y) ≡ set (g ++ t) (length g) y
           → GroupStore tool before (with_line made to y) ls (g ++ y ∷ [])
       by_tail [] none some is = grind (arith, length-append)
       by_tail (z ∷ t) none some is =
-          let four : 4 ≤ length (set made.lines to y) = grind (arith, length-set) in
-          let split : drop 4 (set made.lines to y) ≡ (g ++ y ∷ []) ++ t = grind (arith, common_steps, set_at, is) in
+          let four : 4 ≤ length (set made.lines to y) = grind arith in
+          let split : drop 4 (set made.lines to y) ≡ (g ++ y ∷ []) ++ t = grind (arith, common_steps, set_at) in
           let lines = same_lines store.lines (set made.lines to y) (λ side. max_length (ls side)) (total_bytes g)
-          (total_bytes (g ++ y ∷ [])) k.lines four first_same (grind (arith, common_steps, split, none)) in
+          (total_bytes (g ++ y ∷ [])) k.lines four first_same (grind (arith, common_steps, none)) in
           record {
             tail = t;
             split = split;
-            empty = omega (arith, none, sum_by-cons length z t);
+            empty = omega (arith, sum_by-cons length z t);
             lines = lines;
             room = largest;
-            fits = λ all more. search (rules, k.fits, total_within, largest, length-set, length-append);
+            fits = λ all more. search (rules, k.fits, total_within, largest, length-append);
             four = four;
             denied = w.denied ∙ k.denied;
           }
@@ -200,7 +199,6 @@ module _ {tool : MergeTool} {before store : Slots} {ls : Side → Lines} {g : Li
         arith,
         by_tail,
         first_same,
-        drop-append-le 4 store.lines w.more k.four,
         append_assoc g k.tail w.more,
         drop-set-add 4 made.lines (length g) y,
         sum_by-append length k.tail w.more,
@@ -226,7 +224,7 @@ module _ {tool : MergeTool} {before store : Slots} {ls : Side → Lines} {g : Li
   -- the group is emptied
   pub group_store_cleared : {after : Slots} {end : ℕ} → end ≡ 4 + length g → ClearGroupPost store after end
       → GroupStore tool before after ls []
-  group_store_cleared = grind (arith, common_steps, group_is, total_within, same_lines, sum_by-append)
+  group_store_cleared = grind (arith, common_steps, group_is, total_within, same_lines)
 
 pub ruleset pair_steps = (partial_starts, pairs_text)
 
@@ -293,7 +291,7 @@ module _ {tool : MergeTool} {old : MergeState} (w : IsOpenMerge tool old) {mid :
     group_comes_first {extra} starts =
         let (rest, is) = starts.rest is_wanted coming (λ side. (seen side).may_follow)
         (wanted k (self_at_most cmp o k)) in
-        (rest, cc (parts is_wanted, front_is_first, is, append_assoc front extra rest))
+        (rest, cc (parts is_wanted, front_is_first, append_assoc front extra rest))
 
     -- the text of the entries of lesser keys is not all, if the group has entries
     pub front_is_not_all : HasEntries tool g d k
@@ -304,7 +302,7 @@ module _ {tool : MergeTool} {old : MergeState} (w : IsOpenMerge tool old) {mid :
         (rw (append-nil front, parts is_wanted, front_is_first) at same)
       where
         some_text : (xs ys : Lines) → 0 < length ys → ¬ (unlines terminator xs ≡ unlines terminator (xs ++ ys))
-        some_text xs [] none same = absurd (omega (arith, none))
+        some_text xs [] none same = absurd (omega arith)
         some_text xs (y ∷ ys) some same =
             absurd (omega (arith, simp (unlines-append, length-append) at (ap length same)))
 
@@ -370,7 +368,7 @@ pub same_cursors : (tool : MergeTool) {old now : Side → Reader} {cursor : Side
     {ls p : Side → Lines} {b : Side → Bound} → SidesInvariant tool old now cursor before ls p b
     → 4 ≤ length after.lines → ((i : ℕ) → i < 4 → line after i ≡ line before i)
     → SidesInvariant tool old now cursor after ls p b
-same_cursors = grind (arith, low_slot, side_invariant_kept)
+same_cursors = grind (arith, low_slot)
 
 -- ---- the output of a group
 
@@ -408,14 +406,14 @@ module _ (call : JoinCall) {mid : Output} {p g : Side → Lines} {d : Side → B
   has_entries keeps some w r c wanted =
       let f = g First ++ lines_with_key (key First) (r First) k in
       let s = g Second ++ lines_with_key (key Second) (r Second) k in
-      let some_first : 0 < length f = grind (arith, length-append, lines_with_key) in
-      let some_second : 0 < length s = grind (arith, length-append, lines_with_key) in
+      let some_first : 0 < length f = grind (arith, length-append) in
+      let some_second : 0 < length s = grind (arith, length-append) in
       let rest = later_entries tool o w k (call.w.alone.none k) r in
       rw (
         front_is tool o w k (call.w.alone.none k) g r m.own (none_less r c),
         wanted,
         laws.whole k f s some_first some_second,
-      ) (grind (arith, keeps, length-append))
+      ) (grind (arith, length-append))
 
   -- a group is complete if only greater keys follow
   pub closes : {is : Output} → ((side : Side) → 0 < length (g side))
@@ -478,12 +476,12 @@ module _ {call : JoinCall} {now : MergeState} {cursor : Side → Sorted} {end : 
       by : (t : CursorStatus) → MatchesStatus cmp (key s) t (cursor s) now.store (now.reader s) (q.ls s) (q.p s ++ g s)
           (q.d s) → (t ≡ Head → ¬ (key s (head_of now cursor s) ≡ k))
           → PrecedesInput cmp k t (key s (head_of now cursor s)) (key s (line now.store (cursor s).previous_slot))
-      by Head at_line other = grind (arith, other, least_or_above, under)
+      by Head at_line other = grind (arith, other, under)
       by Ended st other = tt
       by (Disorder n) st other = rw st at under
 
   pub end_in : (4 ≤ end) × (end ≤ length now.store.lines)
-  end_in = (omega (arith, q.at), end_within q.keeps q.at)
+  end_in = (omega arith, end_within q.keeps q.at)
 
   -- the facts of an input, if these lines of the group are processed
   abbrev pub FactsWith : (Side → Lines) → Side → Type 0
@@ -522,7 +520,7 @@ module _ {call : JoinCall} {now : MergeState} {cursor : Side → Sorted} {end : 
   with_head = at_head.all ∙ append_assoc (q.p s) (g s) (x ∷ [])
 
   pub own_more : (side : Side) → EachKey (λ z. z ≡ k) (key side) (added side)
-  own_more = grind (arith, common_steps, put_each, q.within.own, l.is)
+  own_more = grind (arith, common_steps, q.within.own, l.is)
 
   pub within_more : OutputInGroup tool old.out q.mid q.p added q.d k
   within_more = assumption (own_more, q.within)
@@ -557,11 +555,11 @@ module _ {call : JoinCall} {now : MergeState} {cursor : Side → Sorted} {end : 
 
     -- the previous line keeps its slot
     pub last_stays : line after next.previous_slot ≡ head_of now cursor s
-    last_stays = grind (arith, gone_to.stored, low_slot s (cursor s) (q.sides s).slots, line_other)
+    last_stays = grind (arith, gone_to.stored, line_other)
 
     says : next.same ≡ (is_head next.status && bytes_eq k (key s (line after next.current_slot)))
     says = let h = at_head in let low = low_slot s (cursor s) (q.sides s).slots in
-        grind (arith, line_of_with_line, equal_is, l.is)
+        grind (arith, line_of_with_line, equal_is)
 
     -- whether the next line has the key of the group, too
     pub continues_key : next.same ≡ true → (next.status ≡ Head) × (key s (line after next.current_slot) ≡ k)

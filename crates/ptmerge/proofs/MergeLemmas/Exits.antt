@@ -2,6 +2,9 @@
 -- others are known for each input, and the contract of the tool follows from these and from the output.
 pub mod Invariant
 pub mod SlotLines
+use Rattle.std.proofs.lemmas.Grind.{common_steps}
+use Rattle.std.proofs.Common.{rules}
+use Rattle.std.proofs.Common.{arith}
 use Rattle.ptmerge.proofs
 pub use proofs.Common.{⊎_elim, inl, IsPrefix, both_sides, nat_tests, length_push, line_of_with_line}
 pub use proofs.Common.{CursorStatus, Head, Ended, Disorder, status_at, same_key_at, NextOkPost, Result, Err, Memory}
@@ -121,7 +124,7 @@ module _ (end : ℕ) (given piece : List ℕ) (ls p : Lines) (now new : Reader) 
       (IsLine-append end y piece line free) rest split
 
   pub back : ProcessedNearly ls p piece → Point
-  back processed_nearly = by processed_nearly (grind (arith, the_lines, far))
+  back processed_nearly = by processed_nearly (grind (arith, the_lines))
     where
       by : ProcessedNearly ls p piece → Shape end given ls → Point
       by (inl e) (all, inl is) =
@@ -154,8 +157,8 @@ of_other : (cmp : Cmp) (s : Side) (f : Side → Option FirstDisorder) (test : Op
     → test None ≡ false
     → ((d : FirstDisorder) → f (other s) ≡ Some d → test (Some (record { file = other s; first_disorder = d })) ≡ false)
     → test (earlier_disorder cmp (f First) (f Second)) ≡ false
-of_other cmp First f test none calm some = grind (arith, none, some)
-of_other cmp Second f test none calm some = grind (arith, none, some)
+of_other cmp First f test none calm some = grind (arith, some)
+of_other cmp Second f test none calm some = grind (arith, some)
 
 -- one input is in order, and has not ended
 module _ (tool : MergeTool) (o : IsKeyOrder tool.cmp) (eof : Side → Bool) (ls : Side → Lines) (of : Side)
@@ -189,7 +192,7 @@ module _ (tool : MergeTool) (o : IsKeyOrder tool.cmp) (eof : Side → Bool) (ls 
       ∙ (λ i. entries_by_key tool all_keys (λ side. kept side i)) ∙ by_keys_kept dec tool o p all_keys in
       record {
         rest = unlines terminator rest;
-        is = cc (is, known, unlines-append terminator (decided_entries tool eof ls) rest);
+        is = cc (is, unlines-append terminator (decided_entries tool eof ls) rest);
       }
 
   -- the disorder of the other input comes after its keys, so no disorder is decided
@@ -251,7 +254,7 @@ module _ {tool : MergeTool} (o : IsKeyOrder tool.cmp) (given : Side → Received
     others side = record {
       rest = [];
       tail = to_come side;
-      same = grind (arith, append-nil, (seen side).is, lag.split side, append_assoc);
+      same = grind (arith, append-nil, lag.split side, append_assoc);
       none_rest = tt;
       none_tail = above side;
     }
@@ -268,7 +271,7 @@ module _ {tool : MergeTool} (o : IsKeyOrder tool.cmp) (given : Side → Received
           (side_case (λ side. Differs side (mix side)) of (rw own mine) (rw rest (others (other of)))))
 
       pub decided_by : mix (other of) ≡ given (other of) → IsPrefix (decided_output tool mix) (unlines terminator done)
-      decided_by rest = let begins = decided_at rest in search (rules, begins, append_assoc, lag.all)
+      decided_by rest = let begins = decided_at rest in search (rules, begins, append_assoc)
 
     pub lag_bound : ProcessLag {I = Unit {0}} (λ came. decided_output tool (with_input both_sides of (came tt) given))
         (λ u. given of) (output_of tool lag.front)
@@ -283,13 +286,13 @@ module _ {tool : MergeTool} (o : IsKeyOrder tool.cmp) (given : Side → Received
     unsettled =
         let up = Each-weaker _ (λ k. IsDisorderFrom cmp k (first_disorder cmp (tool.key (other of))
         (known_lines terminator (given (other of)))))
-        (λ k u. grind (arith, at_most_trans, (seen (other of)).may_disorder)) _ (lag.under (other of) of) in
+        (λ k u. grind (arith, at_most_trans)) _ (lag.under (other of) of) in
         let mix = with_side of point.before.earlier given in
         let own = put_same of point.before.earlier given in (
           point.before,
           not_settled tool o (λ side. (mix side).eof) (λ side. known_lines terminator (mix side)) of
               (rw own point.going) (rw (whole_now mix own) ordered.1) (rw (put_other, whole_now mix own)
-              (search (rules, front_has, whole))),
+              (search (rules, front_has))),
         )
 
 -- ---- the cursor of one input
@@ -338,7 +341,7 @@ module _ {tool : MergeTool} {s : Side} {old now : Reader} {cursor : Sorted} {sto
   pub side_invariant_kept : {after : Slots} → line after cursor.current_slot ≡ line store cursor.current_slot
       → line after cursor.previous_slot ≡ line store cursor.previous_slot → 4 ≤ length after.lines
       → SideInvariant tool s old now cursor after ls p b
-  side_invariant_kept = grind (arith, common_steps)
+  side_invariant_kept = grind arith
 
   pub at_current_line : cursor.status ≡ Head
       → IsAtCurrentLine tool.cmp (tool.key s) cursor.number (line store cursor.current_slot) ls p b
@@ -379,12 +382,12 @@ pub record SideAfterNext (tool : MergeTool) (s : Side) (old new : Reader) (curso
 status_after_next : (cmp : Cmp) (key : Key) (last : Option (List ℕ)) (cursor : Sorted) (store : Slots) (next : List ℕ)
     → IsLastKey key last cursor store → status_at key cmp cursor.number (line store cursor.current_slot) next
     ≡ cond (is_disordered cmp last (key next)) (Disorder (cursor.number + 1)) Head
-status_after_next = grind (arith, nat_tests)
+status_after_next = grind arith
 
 from_next : {cmp : Cmp} (o : IsKeyOrder cmp) (key : Key) (last : Option (List ℕ)) (x : List ℕ)
     → is_disordered cmp last (key x) ≡ false → IsLater cmp key (bound_after last) (AtLeast (key x))
 from_next o key None x h = record { may_follow = λ r c. tt; under = λ k u. absurd u }
-from_next {cmp} o key (Some j) x h = search (rules, Each-weaker, at_most_trans)
+from_next {cmp} o key (Some j) x h = search (rules, Each-weaker)
 
 module _ (tool : MergeTool) (o : IsKeyOrder tool.cmp) (s : Side) (old now new : Reader) (cursor next : Sorted)
     (before after : Slots) (ls : Lines) (slots : HasSlots s cursor) (four : 4 ≤ length before.lines) where
@@ -415,7 +418,7 @@ module _ (tool : MergeTool) (o : IsKeyOrder tool.cmp) (s : Side) (old now new : 
       → MatchesStatus cmp own q.status q after new (ls ++ more) ls b
       → IsLater cmp own (bound_after last) b → after ≡ with_line before cursor.previous_slot bytes
       → length bytes ≤ max_length (ls ++ more) → Goal last q
-  at_next = grind (arith, max_length-append, reads_nothing, length-set)
+  at_next = grind (arith, reads_nothing, length-set)
 
   low : AreLow cursor
   low = low_slot s cursor slots
@@ -430,7 +433,7 @@ module _ (tool : MergeTool) (o : IsKeyOrder tool.cmp) (s : Side) (old now new : 
     at_status last status b processed ended status_is later =
         at_next last (e.line ∷ []) e.line (next_cursor status (cursor.number + 1) same) b (lines_read_more lines_read e)
         (inr (omega (arith, length_push ls e.line))) sound (refl, refl) (inr (e.line, refl, refl))
-        (omega (arith, number, length_push ls e.line)) processed ended status_is later e.stored
+        (omega (arith, length_push ls e.line)) processed ended status_is later e.stored
         (omega (arith, max_length-append ls (e.line ∷ [])))
 
     at_line : (last : Option (List ℕ)) → IsSortedUpTo cmp own ls last → IsLastKey own last cursor before
@@ -438,15 +441,15 @@ module _ (tool : MergeTool) (o : IsKeyOrder tool.cmp) (s : Side) (old now new : 
         → Goal last (next_cursor (cond t (Disorder (cursor.number + 1)) Head) (cursor.number + 1) same)
     at_line last sorted_up_to is false none =
         let more : IsSortedUpTo cmp own (ls ++ e.line ∷ []) (Some (own e.line)) =
-        grind (arith, common_steps, sorted_up_to) in
+        grind (arith, common_steps) in
         let within : cursor.previous_slot < length before.lines = omega (arith, low) in
         at_status last Head (AtLeast (own e.line)) (processed_before_line o more)
-        (λ ended. cc) (grind (arith, more, line_of_with_line)) (from_next o own last e.line none)
+        (λ ended. cc) (grind (arith, line_of_with_line)) (from_next o own last e.line none)
     at_line None sorted_up_to is true disordered = cc
     at_line (Some k) sorted_up_to is true disordered =
         at_status (Some k) (Disorder (cursor.number + 1))
         (AfterDisorder (record { last_key = k; line = length ls + 1 }))
-        (grind (arith, common_steps, sorted_up_to)) (λ ended. cc) (grind (arith, line_other, is.1, low))
+        (grind (arith, common_steps)) (λ ended. cc) (grind (arith, line_other, low))
         (record { may_follow = λ r none. rw none tt; under = λ j u. u })
 
   pub next_invariant : {last : Option (List ℕ)} → LinesRead tool.terminator old now ls → cursor.number ≡ length ls
@@ -458,8 +461,8 @@ module _ (tool : MergeTool) (o : IsKeyOrder tool.cmp) (s : Side) (old now new : 
       (at_line e.next_line e.sound lines_read number same last sorted_up_to is _ refl)
   next_invariant {last} lines_read number sorted_up_to is (inr e) =
       rw e.cursor (at_next last [] [] (next_cursor Ended cursor.number false) NothingMore
-      (search (rules, lines_read)) (inl e.done) e.sound (refl, refl)
-      (inl (append-nil ls)) (simp append-nil number) (grind (arith, common_steps, sorted_up_to)) (λ ended. e.done)
+      (search rules) (inl e.done) e.sound (refl, refl)
+      (inl (append-nil ls)) (simp append-nil number) (grind (arith, common_steps)) (λ ended. e.done)
       (refl, e.done)
       (record { may_follow = λ r none. rw none (may_follow_none cmp own (bound_after last)); under = λ k u. tt })
       e.empty (omega arith))
@@ -498,13 +501,13 @@ module _ {tool : MergeTool} {before store : Slots} {ls : Side → Lines} {g : Li
       → Fits tool before now ls (with_side s piece (λ t. [])) (with_line store cursor.previous_slot piece)
   peak_line s cursor slots piece all holds =
       let longest = rw (put_same s piece (λ t. [])) at (holds s).longest in
-      let next = group_store_line s cursor slots piece k (λ side. extends (holds side)) (omega (arith, longest)) refl in
+      let next = group_store_line s cursor slots piece k (λ side. extends (holds side)) (omega arith) refl in
       next.fits all (λ side. extends_itself (all side))
 
   -- and so does a store whose slots are emptied
   pub fits_emptied : (after : Slots) → after.peak ≤ max store.peak (total_bytes store.lines)
       → length after.lines ≡ length store.lines → Fits tool before now ls (λ side. []) after
-  fits_emptied = grind (arith, extends, total_within)
+  fits_emptied = grind (arith, total_within)
 
 -- The order of the first reads: the first input has begun, or the second is unread; and the second has begun, or at
 -- most one line of the first was read.
@@ -588,7 +591,7 @@ module _ {tool : MergeTool} {old : MergeState} (w : IsOpenMerge tool old) (new :
       let s = input_split_of (lines_of tool texts) (continues texts agree) in
       let (none, found) = stop (lines_of tool texts) (λ side. (s side).rest) (λ side. (s side).may_follow)
       (λ side. (s side).may_disorder) in (
-        cc (ap (unlines tool.terminator) (input_split w.o m s), none, append-nil (entries_by_key tool all_keys p)),
+        cc (ap (unlines tool.terminator) (input_split w.o m s), append-nil (entries_by_key tool all_keys p)),
         found,
       )
 
@@ -679,10 +682,10 @@ pub merge_set : {tool : MergeTool} {first second set1 set2 : Reader} {out : Outp
 unfolding call_set
 merge_set {tool} {first} {second} {set1} {set2} {new = new} zero_byte end clean is1 is2 m =
     let is : (side : Side) → both set1 set2 side ≡ record (both first second side) { terminator = tool.terminator } =
-    λ side. grind (arith, end, is1, is2) in record {
+    λ side. grind (arith, is1, is2) in record {
       call = call_set both_sides _ _ _ new clean refl refl (λ side read. is side) (λ side none. cc) m.call;
       stops_at_disorder = m.stops_at_disorder;
-      first_reads = grind (arith, is Second);
+      first_reads = grind arith;
     }
 
 -- the output had failed, and nothing was done
@@ -722,9 +725,9 @@ merge_without_slots {tool} {old} w {new} same_output unread slots =
       call = call_without_slots both_sides (merge_engine tool) old new w.writable same_output (λ side read. set side)
           (λ side none. cc) (λ side read. w.sound side) (λ side read. w.unfailed side) slots.denied slots.peak
           slots.least
-          slots.few (λ texts. omega (arith, w.fits (lines_of tool texts)))
+          slots.few (λ texts. omega arith)
           (λ side read. decided_by w.o (given_before old) lag seen side (point side)
           (with_input both_sides side (point side).before.earlier (given_before old)) (grind arith) (grind arith));
       stops_at_disorder = λ side clean. unsettled w.o (given_before old) lag seen side (point side);
-      first_reads = search (rules, set);
+      first_reads = search rules;
     }

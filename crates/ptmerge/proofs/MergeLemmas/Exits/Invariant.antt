@@ -54,7 +54,7 @@ module _ (cmp : Cmp) (o : IsKeyOrder cmp) where
   self_at_most a = ap is_gt (tied_itself o.total a)
 
   pub equal_is : (a b : List ℕ) → is_eq (cmp a b) ≡ bytes_eq a b
-  equal_is a b = grind (arith, not_same, tied_itself, bytes_decides)
+  equal_is a b = grind (arith, not_same, bytes_decides)
 
   pub at_most_trans : (a b c : List ℕ) → AtMost cmp a b → AtMost cmp b c → AtMost cmp a c
   at_most_trans a b c p q = upto o.total a b c p q
@@ -69,20 +69,20 @@ module _ (cmp : Cmp) (o : IsKeyOrder cmp) where
   above_at_most k y g = ap is_gt (greater_flips y k g)
 
   pub above_not_same : (k y : List ℕ) → cmp y k ≡ Greater → bytes_eq y k ≡ false
-  above_not_same k y g = grind (arith, not_same y k, tied_itself o.total y)
+  above_not_same k y g = grind (arith, not_same y k)
 
   -- k equals y, or is less
   pub least_or_above : (k y : List ℕ) → AtMost cmp k y
       → ((bytes_eq y k ≡ true) × (y ≡ k)) ⊎ ((bytes_eq y k ≡ false) × (cmp y k ≡ Greater))
-  least_or_above = search (rules, less_flips, above_not_same, same_bytes)
+  least_or_above = search (rules, less_flips, same_bytes)
 
   -- a ≤ b < c
   pub above_trans : (a b c : List ℕ) → AtMost cmp a b → cmp c b ≡ Greater → cmp c a ≡ Greater
-  above_trans = search (rules, least_or_above, greater_flips, less_flips)
+  above_trans = search (rules, greater_flips, less_flips)
 
   -- a < b ≤ c
   pub above_up : (a b c : List ℕ) → cmp b a ≡ Greater → AtMost cmp b c → cmp c a ≡ Greater
-  above_up = search (rules, least_or_above, greater_flips, less_flips)
+  above_up = search (rules, greater_flips, less_flips)
 
   pub at_most_is_le : (a b : List ℕ) → AtMost cmp a b → is_le (cmp a b) ≡ true
   at_most_is_le = grind arith
@@ -108,9 +108,9 @@ Each-weaker P Q f (x ∷ xs) (here, more) = (f x here, Each-weaker P Q f xs more
 
 pub EachKey-at : (P : List ℕ → Type 0) (key : Key) (xs : Lines) (i : ℕ) → i < length xs → EachKey P key xs
     → P (key (get_or xs i []))
-EachKey-at P key [] i low e = absurd (omega (arith, low))
+EachKey-at P key [] i low e = absurd (omega arith)
 EachKey-at P key (x ∷ xs) zero low (here, _) = here
-EachKey-at P key (x ∷ xs) (suc i) low (_, more) = EachKey-at P key xs i (omega (arith, low)) more
+EachKey-at P key (x ∷ xs) (suc i) low (_, more) = EachKey-at P key xs i (omega arith) more
 
 pub Each-all : (P : List ℕ → Type 0) → ((x : List ℕ) → P x) → (xs : Lines) → Each P xs
 Each-all P f [] = tt
@@ -216,7 +216,7 @@ sorted_from_whole cmp key last n (x ∷ ls) (here, more) =
 pub sorted_from_start : (cmp : Cmp) (key : Key) (ls : Lines) → IsSortedFrom cmp key None ls
     → (sorted_prefix cmp key ls ≡ ls) × (first_disorder cmp key ls ≡ None)
 sorted_from_start cmp key ls r =
-    grind (arith, sorted_from_whole cmp key None 0 ls r, sorted_prefix_is, first_disorder_is)
+    grind (arith, sorted_from_whole cmp key None 0 ls r, sorted_prefix_is)
 
 none_disordered : (cmp : Cmp) (key : Key) (last : Option (List ℕ)) (n : ℕ) (ls : Lines)
     → disorder_after cmp key last n ls ≡ None → IsSortedFrom cmp key last ls
@@ -250,7 +250,7 @@ after_from cmp o key k n (x ∷ w) =
     let (more, _) = ih in
     let weaker : is_gt _ ≡ false → EachKey (AtMost cmp k) key _ =
     λ h. Each-weaker _ _ (λ y a. at_most_trans cmp o k (key x) y h a) _ more in
-    grind (arith, weaker, at_most_trans, self_at_most cmp o k)
+    grind (arith, weaker, at_most_trans)
 
 -- The lines that may follow in an input: any lines; lines with keys of at least k; none, since the input is out of
 -- order; none, since it has ended.
@@ -307,7 +307,7 @@ pub record IsProcessedPrefix (cmp : Cmp) (key : Key) (ls p : Lines) (b : Bound) 
 -- the current line is not yet processed
 pub processed_before_line : {cmp : Cmp} (o : IsKeyOrder cmp) {key : Key} {p : Lines} {x : List ℕ}
     → IsSortedUpTo cmp key (p ++ x ∷ []) (Some (key x)) → IsProcessedPrefix cmp key (p ++ x ∷ []) p (AtLeast (key x))
-processed_before_line = grind (arith, common_steps, after_from, self_at_most)
+processed_before_line = grind (arith, common_steps, after_from)
 
 -- ---- the output
 
@@ -335,7 +335,7 @@ module _ (cmp : Cmp) (o : IsKeyOrder cmp) where
   ascends_insert : (k : List ℕ) (ks : Lines) → Ascends cmp ks → Ascends cmp (insert_key cmp k ks)
   ascends_insert k [] a = (tt, tt)
   ascends_insert k (x ∷ xs) (above, more) =
-      grind (arith, Each-weaker, above_trans, Each-insert, less_flips, ascends_insert k xs more)
+      grind (arith, Each-weaker, Each-insert, less_flips, ascends_insert k xs more)
 
   pub ascends_distinct : (ks : Lines) → Ascends cmp (distinct_keys cmp ks)
   ascends_distinct [] = tt
@@ -350,11 +350,11 @@ module _ (cmp : Cmp) (o : IsKeyOrder cmp) where
 
   pub up_to_from : (k : List ℕ) (f1 f2 : Option FirstDisorder) → IsDisorderFrom cmp k f1 → IsDisorderFrom cmp k f2
       → is_up_to cmp (earlier_disorder cmp f1 f2) k ≡ true
-  up_to_from = grind (arith, at_most_is_le)
+  up_to_from = grind arith
 
   pub written_is_wanted : (b1 b2 : Bound) (f1 f2 : Option FirstDisorder) (k : List ℕ) → MayDisorder cmp b1 f1
       → MayDisorder cmp b2 f2 → IsUnder cmp b1 k → IsUnder cmp b2 k → is_up_to cmp (earlier_disorder cmp f1 f2) k ≡ true
-  written_is_wanted = grind (arith, at_most_is_le, at_most_trans)
+  written_is_wanted = grind (arith, at_most_trans)
 
 -- ---- lines with some of the keys
 
@@ -369,9 +369,9 @@ module _ (p : List ℕ → Bool) where
     insert_kept k [] a = refl
     insert_kept k (x ∷ xs) (above, more) =
         let least : cmp k x ≡ Less → insert_key cmp k (filter p xs) ≡ k ∷ filter p xs =
-        grind (arith, insert_least, each_kept, Each-weaker, above_trans) in
+        grind (arith, insert_least, each_kept, Each-weaker) in
         let same : cmp k x ≡ Equal → p k ≡ p x = λ e. ap p (o.exact k x e) in
-        grind (arith, insert_kept k xs more, least, same)
+        grind (arith, insert_kept k xs more, same)
 
     -- filtering and computing the distinct keys commute
     distinct_kept : (ks : Lines) → filter p (distinct_keys cmp ks) ≡ distinct_keys cmp (filter p ks)
@@ -415,7 +415,7 @@ module _ (p : List ℕ → Bool) where
         each_of (d ∷ ds) =
             let same : p d ≡ true → entries_of_key tool part d ≡ entries_of_key tool ls d =
             grind (arith, with_key_kept) in
-            grind (arith, each_of ds, same)
+            grind (arith, each_of ds)
 
 -- ---- the least key comes first
 
@@ -431,9 +431,9 @@ module _ (cmp : Cmp) (o : IsKeyOrder cmp) where
       → LeastLines cmp key k f r
   least_lines key k [] [] e h = grind arith
   least_lines key k [] (x ∷ r) e (here, more) =
-      grind (arith, common_steps, least_or_above, least_lines key k [] r tt more)
+      grind (arith, least_or_above, least_lines key k [] r tt more)
   least_lines key k (x ∷ f) r (here, more) h =
-      grind (arith, common_steps, tied_itself o.total k, same_bytes, least_lines key k f r more h)
+      grind (arith, common_steps, same_bytes, least_lines key k f r more h)
 
   -- the only key of these lines
   only_key : (key1 key2 : Key) (k : List ℕ) (xs ys : Lines) → EachKey (λ x. x ≡ k) key1 xs
@@ -441,9 +441,9 @@ module _ (cmp : Cmp) (o : IsKeyOrder cmp) where
       → (distinct_keys cmp (map key1 xs ++ map key2 ys) ≡ k ∷ []) ⊎ ((xs ≡ []) × (ys ≡ []))
   only_key key1 key2 k [] [] e h = inr (refl, refl)
   only_key key1 key2 k [] (y ∷ ys) e (here, more) =
-      grind (arith, tied_itself o.total k, only_key key1 key2 k [] ys tt more)
+      grind (arith, only_key key1 key2 k [] ys tt more)
   only_key key1 key2 k (x ∷ xs) ys (here, more) h =
-      grind (arith, tied_itself o.total k, only_key key1 key2 k xs ys more h)
+      grind (arith, only_key key1 key2 k xs ys more h)
 
 -- the output for these lines, of all keys
 abbrev pub output_of : MergeTool → (Side → Lines) → List ℕ
@@ -476,7 +476,7 @@ module _ (tool : MergeTool) where
         → ((side : Side) → lines_with_key (key side) (ls side) k ≡ ls side)
         → entries_by_key tool w ls ≡ cond (w k) (tool.entries k (ls First) (ls Second)) []
     of_one_key ls own all =
-        grind (arith, append-nil, none, all First, all Second, only_key cmp o _ _ k _ _ (own First) (own Second))
+        grind (arith, append-nil, none, all First, only_key cmp o _ _ k _ _ (own First) (own Second))
 
     -- the entries of the other keys
     abbrev pub later_entries : (Side → Lines) → Lines
@@ -495,7 +495,7 @@ module _ (tool : MergeTool) where
         ∙ of_one_key _ (λ side. (s side).own) (λ side. (s side).all) in
         let rest = sym (by_keys_kept (λ x. not (p x)) tool o ls w)
         ∙ (λ i. entries_by_key tool w (λ side. (s side).other i)) ∙ by_keys_kept (λ x. not (p x)) tool o r w in
-        downward_splits o w p (grind (arith, at_most_trans, greater_flips)) ls ∙ (λ i. first i ++ rest i)
+        downward_splits o w p (grind (arith, greater_flips)) ls ∙ (λ i. first i ++ rest i)
 
   -- the lines that may follow in both inputs
   abbrev pub MayCome : (Side → Bound) → (Side → Lines) → Type 0
@@ -517,7 +517,7 @@ pub record MergeInvariant (tool : MergeTool) (b : Side → Bound) (p : Side → 
 -- before anything is read
 pub merge_invariant_starts : (tool : MergeTool) (was : Output)
     → MergeInvariant tool (λ side. NoBound) (λ side. []) was was
-merge_invariant_starts = search (rules, push_nothing)
+merge_invariant_starts = search rules
 
 pub both_under : (key : Key) (P Q R : List ℕ → Type 0) → ((k : List ℕ) → P k → Q k → R k) → (xs : Lines)
     → EachKey P key xs → EachKey Q key xs → EachKey R key xs
@@ -536,7 +536,7 @@ input_split {tool} o {b} {p} {ls} m s =
     (λ k u1 u2. written_is_wanted _ o _ _ _ _ k (s First).may_disorder (s Second).may_disorder u1 u2)
     _ (m.under First side) (m.under Second side)) in
     (λ i. entries_by_key tool w (λ side. (s side).is i))
-    ∙ cc (m.splits w (λ side. (s side).rest) (λ side. (s side).may_follow), first)
+    ∙ cc (m.splits w (λ side. (s side).rest) (λ side. (s side).may_follow))
 
 -- the entries `done` come first, for all lists that continue those read so far
 abbrev pub ComeFirst : MergeTool → (Side → Bound) → (Side → Lines) → Lines → Type 0
@@ -601,7 +601,7 @@ pub record IsLeastKeyRun (cmp : Cmp) (key : Key) (b d : Bound) (k : List ℕ) (f
 -- the current line, or no line
 pub line_is_least_run : {cmp : Cmp} (o : IsKeyOrder cmp) {key : Key} {b : Bound} {k x : List ℕ} → b ≡ AtLeast (key x)
     → key x ≡ k → IsLeastKeyRun cmp key b b k (x ∷ [])
-line_is_least_run = grind (arith, self_at_most)
+line_is_least_run = grind arith
 
 -- such lines are processed
 pub write_least_run : {tool : MergeTool} (o : IsKeyOrder tool.cmp) (k : List ℕ) (q f : Side → Lines)
@@ -632,7 +632,6 @@ write_least_run {tool} o k q f {b} {d} {p} {was} {is} {new} front all none law c
           (λ i. entries_by_key tool w (λ side. append_assoc (p side) (f side) (r side) i)) ∙ grind (
             arith,
             m.splits w (λ side. f side ++ r side) (λ side. (front side).may_follow (r side) (c side)),
-            m.splits w f nothing,
             alone,
             rest,
             front_is tool o w k none f r own above,
@@ -680,7 +679,7 @@ pub bound_changes : {tool : MergeTool} {b : Side → Bound} {p : Side → Lines}
     → MergeInvariant tool b p was is → IsLater tool.cmp (tool.key s) (b s) d
     → MergeInvariant tool (with_side s d b) p was is
 bound_changes {tool} {b} s {d} m later = bounds_change
-    (grind (arith, put_each, same_bound)) m
+    (grind (arith, put_each)) m
 
 -- the merge is at its end: the disorder is the one found, if any, and no line that may follow changes the output
 abbrev pub IsExactStop : MergeTool → (Side → Bound) → Option (Side × ℕ) → Type 0
@@ -700,7 +699,7 @@ last_has key P last (y ∷ xs) x e f (here, more) =
 
 module _ (cmp : Cmp) (o : IsKeyOrder cmp) where
   pub not_below : (k x : List ℕ) → AtMost cmp x k → is_lt (cmp k x) ≡ false
-  not_below k x h = grind (arith, less_flips cmp o k x)
+  not_below k x h = grind arith
 
   -- no line that may follow is below the key of a processed line
   coming_under : (key : Key) (b : Bound) (x : List ℕ) (r : Lines) → IsUnder cmp b x → MayFollow cmp key b r
@@ -721,10 +720,10 @@ module _ (cmp : Cmp) (o : IsKeyOrder cmp) where
           (coming_under other_key b x r (last_has key (IsUnder cmp b) None p x e (λ y bad. cc) u) c)
 
   downward_up_to : (d : Option MergeDisorder) → IsDownwardClosed cmp (is_up_to cmp d)
-  downward_up_to = grind (arith, at_most_trans, greater_flips)
+  downward_up_to = grind (arith, greater_flips)
 
   downward_past : (key : Key) (eof : Bool) (ls : Lines) → IsDownwardClosed cmp (is_past cmp key eof ls)
-  downward_past = grind (arith, greater_flips, less_flips, above_trans)
+  downward_past = grind (arith, less_flips, above_trans)
 
 all_three : (x y z u v w : Bool) → (x ≡ true → u ≡ true) → (y ≡ true → v ≡ true) → (z ≡ true → w ≡ true)
     → (x && y && z) ≡ true → (u && v && w) ≡ true
