@@ -21,7 +21,7 @@ use Rattle.ptflow.specs.TrOutput.{tr}
 use Rattle.ptflow.specs.Uniqs.{Run, uniq, key, runs, output_of}
 use Rattle.ptflow.specs.Parts.{EndsWith, KeysChange, IsRowSplit}
 use Rattle.ptflow.proofs.UniqLemmas.Runs.{uniq_of_parts}
-use Rattle.ptflow.proofs.PasteLemmas.Grid.{paste_of_parts}
+use Rattle.ptflow.proofs.PasteLemmas.BufferedRows.Rows.Grid.{paste_of_parts}
 use Rattle.ptflow.proofs.CutLemmas.Fields.{cut_of_parts}
 use Rattle.ptflow.proofs.TrLemmas.TrFrom.{tr_after_byte, tr_meets_twice}
 use Rattle.std.proofs.lemmas.Grind.{common_steps}

@@ -1,5 +1,5 @@
--- The meaning of the words and the parsed command agree on the number of files and on whether standard output is used,
--- unless memory ran out. So a run over the parsed command is one that the words ask for.
+-- The words and the parsed command agree on the number of files and on whether standard output is used, unless memory
+-- ran out. So a run over the parsed command is one that the words ask for.
 use Rattle.std.specs.Prelude.{◌≡◌, ℕ, Bool, true, false, List, Option, Some, None, Result, Ok, Err, codes, is_none}
 use Rattle.std.specs.Prelude.{option_map, if◌then◌else◌}
 use Rattle.std.proofs.Common.{sym, ◌∙◌, ap, refl, subst}
@@ -20,7 +20,6 @@ use Rattle.ptrun.specs.SpecOfArgs.{is_memory_fault, named_file_count, file_count
 use Rattle.ptext.specs.CommandOutput.{has_standard_output, means_standard_output, output_file}
 use Rattle.ptext.specs.Perform.{HasRun, IsOutputUnopened}
 
--- the number of files of a parsed command is that of the words
 pub files_of_parsed : {A : Type 0} (command : Result (code.Command A) UseFault) (meaning : Result Command Fault)
     → CommandPost command meaning
     → file_count command ≡ (if is_memory_fault command then 0 else named_file_count meaning)
@@ -31,7 +30,6 @@ files_of_parsed (Err fault) meaning meant = by_view (fault_view fault) meant
     by_view None meant = refl
     by_view (Some e) meant = ap named_file_count (sym meant)
 
--- a parsed command writes to standard output if the words say so
 pub output_of_parsed : {A : Type 0} (command : Result (code.Command A) UseFault) (meaning : Result Command Fault)
     → CommandPost command meaning → is_memory_fault command ≡ false → means_standard_output meaning ≡ true
     → has_standard_output command ≡ true
@@ -42,13 +40,11 @@ output_of_parsed (Err fault) meaning meant parsed means = by_view (fault_view fa
     by_view None meant parsed = sym parsed
     by_view (Some e) meant parsed = sym (ap means_standard_output meant) ∙ means
 
--- if memory ran out while the words were parsed, no command writes to standard output
 pub no_output_without_memory : {A : Type 0} (command : Result (code.Command A) UseFault)
     → is_memory_fault command ≡ true → has_standard_output command ≡ false
 no_output_without_memory (Ok command) failed = absurd (false≢true failed)
 no_output_without_memory (Err fault) failed = refl
 
--- the outcome `o` with the sink of the outcome `ran` is `ran`, if they are the same otherwise
 pub with_sink : (o ran : Outcome) → o.messages ≡ ran.messages → o.status ≡ ran.status → o.peak ≡ ran.peak
     → o.denied ≡ ran.denied → record o { out = ran.out } ≡ ran
 with_sink o ran messages status peak denied =
@@ -77,7 +73,6 @@ has_run command words {old} {new} {out} {messages} {sink} {Unused} {o} {ran} sam
       unused = λ failed. unused (no_output_without_memory command failed);
     }
 
--- an output file that could not be created is the one that the words name
 pub names_output : {A : Type 0} (command : Result (code.Command A) UseFault) (meaning : Result Command Fault)
     (inputs : List Reader) (name : List ℕ)
     → CommandPost command meaning → Some name ≡ output_file command inputs

@@ -1,4 +1,4 @@
--- Names of other crates and of this one that many proofs use. They import them from here.
+-- Names that many proofs use, which they import from here.
 pub use Rattle.std.proofs.Common.{Bool, Err, Fits, List, None, Ok, OnErr, Option, Result, Some, [], add-one, ap}
 pub use Rattle.std.proofs.Common.{append_assoc, arith, bit_and, bit_or, cond, drop, drop-cons, eqb, false, get_or}
 pub use Rattle.std.proofs.Common.{get_or-drop, get_or-take, inl, inr, leb, length, length-append, length-drop, ltb, map}

@@ -1,3 +1,2 @@
--- Facts about `cut`.
 pub mod CutBytes
 pub mod Fields

@@ -1,2 +1,1 @@
--- Facts about `tr`.
 pub mod TrFrom

@@ -1,3 +1,2 @@
--- Facts about `uniq`.
 pub mod Keys
 pub mod Runs

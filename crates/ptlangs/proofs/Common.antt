@@ -1,4 +1,4 @@
--- Names that many proofs of this crate use, from other crates and from the definitions of this one.
+-- Names that many proofs of this crate use.
 pub use Rattle.ptlangs.specs.CutLists.{IsValidInterval, element_interval, is_dash}
 pub use Rattle.ptlangs.specs.DelimLists.{delim_list}
 pub use Rattle.ptlangs.specs.Numbers.{and_then, cons_ok, elements, is_list_separator, max_u64, value}

@@ -1,16 +1,13 @@
--- The lists of `paste`: each escape is one case of the grammar, so `delim_list` agrees with the grammar in both
--- directions. The fault of a list is the first one found from left to right, and is never an allocation failure.
+-- Each escape of `paste` is one case of the grammar, so `delim_list` agrees with it in both directions. The fault of a
+-- list is the first from left to right.
 use Rattle.ptlangs.proofs
-use proofs.Common.{Bool, Err, List, Ok, Option, Result, Some, [], and_then, append-nil, arith, cond}
+use proofs.Common.{Err, List, Ok, Option, Result, Some, [], append-nil, arith}
 use proofs.Common.{cond_both, cons_ok, delim_list, eqb-true, length, refl, result_err, subst, ℕ, ◌++◌}
 use proofs.Common.{◌<◌, ◌∷◌, ◌≡◌}
 use proofs.ListElements.{reads_first}
 use Rattle.ptlangs.specs.DelimLists.{Backslash, DelimListMatchesGrammar, IsDelim, IsDelimList, Last, More, Newline}
 use Rattle.ptlangs.specs.DelimLists.{Nothing, Plain, Tab, backslash, delim_list_fault, delims, escape}
 use Rattle.ptlangs.specs.declared.delims.DelimFault.{DelimFault}
-
-pub delims_of_some : (bs : List ℕ) → 0 < length bs → delims bs ≡ delim_list bs
-delims_of_some = grind arith
 
 -- ---- from the grammar to `delim_list`
 
@@ -26,7 +23,7 @@ is_some = grind arith
 
 accepts : (bs : List ℕ) (ds : List (Option ℕ)) → IsDelimList bs ds → delim_list bs ≡ Ok ds
 accepts bs ds (Last e d is) = grind (arith, append-nil, element_is_read e [] d is)
-accepts bs ds (More e rest d others is list) = grind (arith, element_is_read, is_some, accepts rest others list)
+accepts bs ds (More e rest d others is list) = grind (arith, element_is_read, accepts _ _ list)
 
 -- ---- from `delim_list` to the grammar
 
@@ -34,9 +31,8 @@ abbrev Spells : ℕ → Option ℕ → Result (Option ℕ) DelimFault → Type 0
 Spells c d r = r ≡ Ok d → IsDelim (backslash ∷ c ∷ []) d
 
 escape_is_spelled : (c : ℕ) (d : Option ℕ) → Spells c d (escape c)
-escape_is_spelled c d = grind (arith, eqb-true, Newline, Tab, Backslash, Nothing)
+escape_is_spelled c d = grind (arith, Newline, Tab, Backslash, Nothing)
 
--- an element, and after it either nothing or a list
 more_delims : (e rest : List ℕ) (d : Option ℕ) (ds : List (Option ℕ)) → IsDelim e d → delims rest ≡ Ok ds
     → ((xs : List (Option ℕ)) → delim_list rest ≡ Ok xs → IsDelimList rest xs) → IsDelimList (e ++ rest) (d ∷ ds)
 more_delims e [] d [] is h list = grind (arith, append-nil, Last)
@@ -52,52 +48,33 @@ list_is_spelled (b ∷ c ∷ more) ds h =
     (λ t e.
     let f = reads_first _ _ ds e in
     rw (eqb-true b backslash t) (subst (IsDelimList _) f.is
-    (more_delims _ more f.head f.tail (escape_is_spelled c f.head f.read) f.rest
-    (λ xs. list_is_spelled more xs))))
+    (more_delims _ _ _ _ (escape_is_spelled c _ f.read) f.rest
+    (λ xs. list_is_spelled _ xs))))
     (λ n e.
     let f = reads_first (Ok _) _ ds e in
     let first : Some b ≡ f.head = cc in
     subst (IsDelimList _) f.is
-    (more_delims _ _ f.head f.tail (subst (IsDelim _) first (Plain b n)) f.rest
+    (more_delims _ _ _ _ (subst (IsDelim _) first (Plain b n)) f.rest
     (λ xs. list_is_spelled _ xs)))
     h
 
 pub accepts_the_grammar : DelimListMatchesGrammar
 accepts_the_grammar bs ds = (accepts bs ds, list_is_spelled bs ds)
 
--- ---- the fault of a list, found from left to right
+-- ---- the fault of a list
 
 -- the result is not an allocation failure
 abbrev IsOfText : {A : Type 0} → Result A DelimFault → Type 0
 IsOfText (Ok x) = Unit {0}
 IsOfText (Err e) = delim_list_fault e ≡ Some e
 
-fault_of_either : {A : Type 0} (b : Bool) (r s : Result A DelimFault) → IsOfText r → IsOfText s → IsOfText (cond b r s)
-fault_of_either = grind arith
-
 after_first : (d : Option ℕ) (r : Result (List (Option ℕ)) DelimFault) → IsOfText r → IsOfText (cons_ok d r)
 after_first = grind arith
 
-after_escape : (e : Result (Option ℕ) DelimFault) (r : Result (List (Option ℕ)) DelimFault) → IsOfText e → IsOfText r
-    → IsOfText (and_then e (λ d. cons_ok d r))
-after_escape = grind arith
-
-escape_fault : (b : ℕ) → IsOfText (escape b)
-escape_fault b = grind arith
-
 delims_fault : (bs : List ℕ) → IsOfText (delims bs)
 delims_fault [] = tt
-delims_fault (b ∷ []) = grind (arith, fault_of_either)
-delims_fault (b ∷ c ∷ more) = grind (
-  arith,
-  fault_of_either,
-  after_escape,
-  escape_fault,
-  after_first,
-  delims_fault
-      more,
-  delims_fault (c ∷ more),
-)
+delims_fault (b ∷ []) = grind arith
+delims_fault (b ∷ c ∷ more) = grind (arith, after_first, delims_fault more, delims_fault (c ∷ more))
 
 delim_fault : (bs : List ℕ) → IsOfText (delim_list bs)
 delim_fault bs = grind (arith, delims_fault bs)

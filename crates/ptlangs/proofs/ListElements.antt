@@ -1,77 +1,58 @@
--- Lists of elements between separators, and decimal numbers. An element contains no separator, so splitting at
--- separators gives the elements of the grammar back. A number that is too large stays so with further digits.
---
--- The lists of `cut`. An element is split at its dashes, which digits do not contain, so that the split gives its
--- bounds back; this makes `cut_list` agree with the grammar in both directions. Merging sorted intervals keeps the set
--- that they select.
---
--- The output lists of `join`: an element is `0`, or the number of a file, a point and a number, and `element_field`
--- tests exactly this. So `out_list` agrees with the grammar in both directions.
+-- An element contains no separator, so splitting at separators gives the elements of the grammar back; digits contain
+-- no dash, so splitting an interval at its dashes gives its bounds back. The lists of `cut` and `join` agree with the
+-- grammar in both directions. Merging sorted intervals keeps the set that they select.
 use Rattle.ptlangs.proofs
 use proofs.Common.{Bool, Err, Interval, IsValidInterval, List, None, Ok, Option, Result, Some, [], and_then, ap, arith}
 use proofs.Common.{common_steps, cond, cond_both, cons_ok, digits_value_after, drop, element_field, element_interval}
 use proofs.Common.{elements, eqb, eqb-true, false, get_or, is_ascii_digit, is_dash, is_err, is_list_separator, length}
-use proofs.Common.{length-drop, ltb-true, map, max_u64, not, refl, result_err, result_ok, rules, subst, suc, take}
-use proofs.Common.{take_all, true, value, ℕ, ◌*◌, ◌++◌, ◌+◌, ◌-◌, ◌<◌, ◌||◌, ◌∙◌, ◌∷◌, ◌≡◌, ◌≤◌}
+use proofs.Common.{length-drop, ltb-true, map, max_u64, refl, result_err, result_ok, rules, subst, suc, take}
+use proofs.Common.{take_all, true, value, ℕ, ◌*◌, ◌++◌, ◌+◌, ◌-◌, ◌<◌, ◌∙◌, ◌∷◌, ◌≡◌, ◌≤◌}
 use Rattle.ptlangs.specs.CutLists.{AreSeparated, AreSortedFrom, CutListMatchesGrammar, From, FromTo, IsIntervalElement}
 use Rattle.ptlangs.specs.CutLists.{One, SpellsInterval, UpTo, checked_interval, cut_list, cut_list_fault}
 use Rattle.ptlangs.specs.CutLists.{interval_of_bounds, interval_of_parts, is_bound, is_selected, selection}
 use Rattle.ptlangs.specs.Numbers.{IsListOf, Last, More, is_empty, is_number, number, traverse}
 use Rattle.ptlangs.specs.OutLists.{FirstFileField, IsFieldElement, IsValidField, JoinField, OutListMatchesGrammar}
 use Rattle.ptlangs.specs.OutLists.{SecondFileField, SpellsField, field_of, out_list_fault}
-use Rattle.ptlangs.specs.declared.outlist.File.TheVariants.{First, Second}
 use Rattle.ptlangs.specs.declared.outlist.File.{File}
 use Rattle.ptlangs.specs.declared.outlist.OutFault.{OutFault}
 use Rattle.ptlangs.specs.declared.outlist.OutField.TheVariants.{Field}
 use Rattle.ptlangs.specs.declared.outlist.OutField.{OutField}
 use Rattle.ptlangs.specs.declared.ranges.ListFault.{ListFault}
-use Rattle.std.proofs.Common.{leb, max, ◌&&◌}
+use Rattle.std.proofs.Common.{max, ◌&&◌}
 use Rattle.std.proofs.lemmas.Bool.{and_parts, cases_Bool, ltb-false, not-false}
 use Rattle.std.proofs.lemmas.List.Elements.{All-cons}
 use Rattle.std.proofs.lemmas.List.Sorted.{list_any-IsPermutation}
-use Rattle.std.proofs.lemmas.List.Splits.{join_with_byte-slice_split, length-slice_split, slice_split_at}
+use Rattle.std.proofs.lemmas.List.Splits.{join_with_byte-slice_split, slice_split_at}
 use Rattle.std.proofs.lemmas.List.Splits.{slice_split_first, slice_split_none}
 use Rattle.std.proofs.lemmas.List.Sums.{fails_before_first}
 use Rattle.std.specs.Char.{digit_value}
 use Rattle.std.specs.List.Sorted.{IsNonDecreasingBy, IsPermutation}
-use Rattle.std.specs.List.{All, filter_map, find, join_with_byte, onto_first, position, slice_split}
+use Rattle.std.specs.List.{All, filter_map, find, onto_first, position, slice_split}
 use Rattle.std.specs.Option.{option_and_then}
 
 -- ---- splitting at the first separator
-
-none_since : (b : Bool) (i : ℕ) → cond b (Some i) None ≡ None → b ≡ false
-none_since = grind arith
 
 some_since : {X : Type 0} (b : Bool) {x : X} (y : X) → cond b (Some x) None ≡ Some y → (b ≡ true) × (x ≡ y)
 some_since = grind arith
 
 pub split_whole : {X : Type 0} (p : X → Bool) (xs : List X) → position p xs ≡ None → slice_split p xs ≡ xs ∷ []
-split_whole = grind (arith, common_steps, ltb-false, none_since, slice_split_none, fails_before_first)
+split_whole = grind (arith, ltb-false, slice_split_none, fails_before_first)
 
 -- the last argument is the value of `&xs[i + 1..]`
 pub split_around : {X : Type 0} (p : X → Bool) (xs : List X) (i : ℕ) → position p xs ≡ Some i
     → slice_split p xs ≡ take i xs ∷ slice_split p (take (length xs - (i + 1)) (drop (i + 1) xs))
-split_around = grind (arith, common_steps, some_since, slice_split_first, ltb-true, take_all, length-drop)
+split_around = grind (arith, some_since, slice_split_first, ltb-true, take_all, length-drop)
 
 -- ---- reading the elements from left to right
 
--- the values that were read, before the result for the rest
 abbrev pub append_ok : {A E : Type 0} → List A → Result (List A) E → Result (List A) E
 append_ok xs (Ok ys) = Ok (xs ++ ys)
 append_ok xs (Err e) = Err e
-
-pub append_ok-nil : {A E : Type 0} (r : Result (List A) E) → append_ok [] r ≡ r
-append_ok-nil r = grind arith
 
 pub append_ok-cons_ok : {A E : Type 0} (xs : List A) (y : A) (r : Result (List A) E)
     → append_ok xs (cons_ok y r) ≡ append_ok (xs ++ y ∷ []) r
 append_ok-cons_ok = grind (arith, common_steps)
 
-pub cons_ok-append_ok : {A E : Type 0} (x : A) (xs : List A) (r : Result (List A) E)
-    → cons_ok x (append_ok xs r) ≡ append_ok (x ∷ xs) r
-cons_ok-append_ok = grind arith
-
--- the first element has a value, and so have the others
 pub record ReadsFirst {A E : Type 0} (first : Result A E) (others : Result (List A) E) (all : List A) : Type 0 where
   pub head : A
   pub tail : List A
@@ -85,13 +66,11 @@ reads_first = grind arith
 
 -- ---- what is read of all elements
 
--- the first fault of a list is that of its first faulty element
 pub first_fault_is : {A B E : Type 0} (read : A → Result B E) (xs : List A)
     → option_and_then result_err (find is_err (map read xs)) ≡ result_err (traverse read xs)
 first_fault_is read [] = refl
 first_fault_is read (x ∷ xs) = grind (arith, first_fault_is read xs)
 
--- a list without a fault has the values of its elements
 pub values_are : {A B E : Type 0} (read : A → Result B E) (xs : List A) → result_err (traverse read xs) ≡ None
     → traverse read xs ≡ Ok (filter_map (λ x. result_ok (read x)) xs)
 values_are read [] e = refl
@@ -99,12 +78,10 @@ values_are read (x ∷ xs) e = grind (arith, values_are read xs)
 
 -- ---- the elements that are accepted are those of the grammar
 
--- the digits of a number all fail a test that every digit fails
 digits_fail : (p : ℕ → Bool) → ((b : ℕ) → is_ascii_digit b ≡ true → p b ≡ false) → (n : List ℕ) → is_number n ≡ true
     → All (λ b. p b ≡ false) n
 digits_fail = grind (arith, common_steps)
 
--- a text without a separator
 abbrev Unbroken : List ℕ → Type 0
 Unbroken bs = All (λ b. is_list_separator b ≡ false) bs
 
@@ -120,7 +97,7 @@ unbroken_append = grind (arith, common_steps)
 unbroken_nil : Unbroken []
 unbroken_nil k d below = absurd (omega arith)
 
--- a list split at separators: one part, or a part, a separator and the split of the rest
+-- one part, or a part, a separator and the split of the rest
 pub data IsSplit (p : ℕ → Bool) : List ℕ → List (List ℕ) → Type 0 where
   Whole : (bs : List ℕ) → IsSplit p bs (bs ∷ [])
   Cut : (e : List ℕ) (s : ℕ) (bs : List ℕ) (parts : List (List ℕ)) → p s ≡ true → IsSplit p bs parts
@@ -137,7 +114,7 @@ splits p (b ∷ bs) = cond_both _ _ _ (IsSplit p _) (λ e. Cut [] b bs _ e (spli
     (λ e. onto p b bs _ (splits p bs))
 
 module _ {A E : Type 0} (read : List ℕ → Result A E) (Spells : List ℕ → A → Type 0) where
-  -- the function accepts exactly the elements of the grammar, and these contain no separator
+  -- the function accepts exactly the elements of the grammar
   pub record Accepts : Type 0 where
     pub from : (e : List ℕ) (x : A) → Spells e x → read e ≡ Ok x
     pub to : (e : List ℕ) (x : A) → read e ≡ Ok x → Spells e x
@@ -147,14 +124,13 @@ module _ {A E : Type 0} (read : List ℕ → Result A E) (Spells : List ℕ → 
     from_grammar : (bs : List ℕ) (xs : List A) → IsListOf Spells bs xs → traverse read (elements bs) ≡ Ok xs
     from_grammar bs xs (Last e x says) = grind (arith, slice_split_none)
     from_grammar bs xs (More e s others x xs' says sep list) =
-        grind (arith, slice_split_at, from_grammar others xs' list)
+        grind (arith, slice_split_at, from_grammar _ xs' list)
 
     reads_parts : (bs : List ℕ) (parts : List (List ℕ)) (xs : List A) → IsSplit is_list_separator bs parts
         → traverse read parts ≡ Ok xs → IsListOf Spells bs xs
-    reads_parts bs parts xs (Whole ys) h = grind (arith, reads_first, Last)
+    reads_parts bs parts xs (Whole ys) h = grind (arith, Last)
     reads_parts bs parts xs (Cut e s ys rest cut split) h =
-        let f = reads_first _ _ xs h in
-        grind (arith, More, reads_parts ys rest f.tail split)
+        grind (arith, More, reads_parts ys rest (reads_first _ _ xs h).tail split)
 
     pub matches_grammar : (bs : List ℕ) (xs : List A) → (IsListOf Spells bs xs → traverse read (elements bs) ≡ Ok xs)
         × (traverse read (elements bs) ≡ Ok xs → IsListOf Spells bs xs)
@@ -162,7 +138,6 @@ module _ {A E : Type 0} (read : List ℕ → Result A E) (Spells : List ℕ → 
 
 -- ---- reading decimal digits from left to right
 
--- further digits do not make a number smaller
 after-ge : (n : ℕ) (ds : List ℕ) → n ≤ digits_value_after 10 n ds
 after-ge n [] = omega arith
 after-ge n (d ∷ ds) = omega (arith, after-ge (n * 10 + digit_value d) ds)
@@ -170,10 +145,9 @@ after-ge n (d ∷ ds) = omega (arith, after-ge (n * 10 + digit_value d) ds)
 pub too_large : (bs : List ℕ) → max_u64 < value bs → None ≡ number bs
 too_large = grind arith
 
--- if the number is too large at digit `i`, it is too large
 pub too_large_at : (bs : List ℕ) (i n : ℕ) → i < length bs → value bs ≡ digits_value_after 10 n (drop i bs)
     → max_u64 < n * 10 + digit_value (get_or bs i 0) → None ≡ number bs
-too_large_at = grind (arith, common_steps, too_large, after-ge)
+too_large_at = grind (arith, common_steps, after-ge)
 
 pub is_empty_by_length : {X : Type 0} (xs : List X) → is_empty xs ≡ eqb (length xs) 0
 is_empty_by_length xs = grind arith
@@ -184,39 +158,18 @@ digit_at = grind (arith, common_steps)
 
 -- ---- the elements, split at dashes
 
--- a digit is not a dash
-digit_no_dash : (b : ℕ) → is_ascii_digit b ≡ true → is_dash b ≡ false
-digit_no_dash b h = grind arith
-
 bound_is_one_part : (m : List ℕ) → is_bound m ≡ true → slice_split is_dash m ≡ m ∷ []
-bound_is_one_part = grind (arith, common_steps, slice_split_none, digit_no_dash)
+bound_is_one_part = grind (arith, common_steps, slice_split_none)
 
-bounds_rejected : (n m : List ℕ) → is_bound m ≡ false → interval_of_bounds n m ≡ None
-bounds_rejected = grind arith
-
-rejected : (n m : List ℕ) → (parts : List (List ℕ)) → 0 < length parts → join_with_byte 45 parts ≡ m
-    → is_bound m ≡ false → interval_of_parts (n ∷ parts) ≡ None
-rejected = grind arith
-
--- the part after the first dash is the upper bound; if it is not a bound, the element is rejected
+-- if the part after the first dash is not a bound, the element is rejected
 parts_after_dash : (n m : List ℕ) → interval_of_parts (n ∷ slice_split is_dash m) ≡ interval_of_bounds n m
-parts_after_dash n m = grind (
-  arith,
-  cases_Bool (is_bound m),
-  bound_is_one_part,
-  rejected,
-  length-slice_split is_dash m,
-  join_with_byte-slice_split 45 m,
-  bounds_rejected,
-)
+parts_after_dash n m = grind (arith, cases_Bool (is_bound m), bound_is_one_part, join_with_byte-slice_split 45 m)
 
 twice : {X : Type 0} (b : Bool) (x y : X) → cond b x y ≡ cond ((b && b) && true) x y
 twice = grind arith
 
--- an element without a dash is both of its bounds
-pub parts_without_dash : (bs : List ℕ) → position is_dash bs ≡ None → is_empty bs ≡ false
-    → interval_of_parts (slice_split is_dash bs) ≡ interval_of_bounds bs bs
-parts_without_dash = grind (arith, split_whole, twice)
+pub parts_without_dash : (bs : List ℕ) → position is_dash bs ≡ None → interval_of_parts (slice_split is_dash bs) ≡ interval_of_bounds bs bs
+parts_without_dash = grind (arith, split_whole)
 
 pub parts_around_dash : (bs : List ℕ) (i : ℕ) → position is_dash bs ≡ Some i
     → interval_of_parts (slice_split is_dash bs)
@@ -226,13 +179,9 @@ parts_around_dash bs i h = ap interval_of_parts (split_around is_dash bs i h)
 
 -- ---- from the intervals in the order of the list to the merged intervals
 
--- an interval that passes the check is valid
 checked_proper : (interval_of_parts : Option Interval) (r : Interval) → checked_interval interval_of_parts ≡ Ok r
     → (interval_of_parts ≡ Some r) × IsValidInterval r
 checked_proper = grind arith
-
-element_proper : (bs : List ℕ) (r : Interval) → element_interval bs ≡ Ok r → IsValidInterval r
-element_proper = search (rules, checked_proper)
 
 -- no element has the fault of an allocation
 pub fault_of_intervals : (all : List (List ℕ)) (e : ListFault) → Some e ≡ result_err (traverse element_interval all)
@@ -246,8 +195,8 @@ each_proper [] [] h = λ k d below. absurd (omega arith)
 each_proper [] (r ∷ rs) h = cc
 each_proper (x ∷ all) rs h =
     let f = reads_first _ _ rs h in
-    subst (All IsValidInterval) f.is (All-cons IsValidInterval f.head f.tail (element_proper x f.head f.read)
-    (each_proper all f.tail f.rest))
+    subst (All IsValidInterval) f.is (All-cons IsValidInterval f.head f.tail (search rules)
+    (each_proper all _ f.rest))
 
 sorted_after : (x : Interval) (xs : List Interval) → All IsValidInterval (x ∷ xs)
     → IsNonDecreasingBy (λ (r : Interval). r.first) (x ∷ xs) → AreSortedFrom x.first xs
@@ -278,14 +227,13 @@ selection_is_kept bs listed sorted kept e p same =
 checked_ok : (r : Interval) → IsValidInterval r → checked_interval (Some r) ≡ Ok r
 checked_ok = grind arith
 
--- an element with a dash after its lower bound
 bounds_at_dash : (n m : List ℕ) → is_number n ≡ true → element_interval (n ++ 45 ∷ m)
     ≡ checked_interval (interval_of_bounds n m)
-bounds_at_dash = grind (arith, common_steps, slice_split_at, digits_fail, digit_no_dash, parts_after_dash)
+bounds_at_dash = grind (arith, common_steps, slice_split_at, digits_fail, parts_after_dash)
 
 accepts_interval : (bs : List ℕ) (r : Interval) → SpellsInterval bs r → IsValidInterval r → element_interval bs ≡ Ok r
-accepts_interval bs r (One n h) valid = grind (arith, common_steps, bound_is_one_part, checked_ok)
-accepts_interval bs r (FromTo n m h k) valid = search (rules, bounds_at_dash, checked_ok)
+accepts_interval bs r (One n h) valid = grind (arith, bound_is_one_part, checked_ok)
+accepts_interval bs r (FromTo n m h k) valid = search (rules, bounds_at_dash)
 accepts_interval bs r (UpTo [] h) valid = cc
 accepts_interval bs r (UpTo (c ∷ m) h) valid =
     ap checked_interval (parts_after_dash [] (c ∷ m)) ∙ rw h (checked_ok r valid)
@@ -293,37 +241,30 @@ accepts_interval bs r (From n h) valid = grind (arith, bounds_at_dash, checked_o
 
 unbroken_interval : (bs : List ℕ) (r : Interval) → SpellsInterval bs r → Unbroken bs
 unbroken_interval bs r (One n h) = unbroken_number n h
-unbroken_interval bs r (FromTo n m h k) = grind (arith, unbroken_append, unbroken_number, unbroken_cons)
+unbroken_interval bs r (FromTo n m h k) = grind (arith, unbroken_append, unbroken_number)
 unbroken_interval bs r (UpTo m h) = unbroken_cons 45 m refl (unbroken_number m h)
-unbroken_interval bs r (From n h) = grind (arith, unbroken_append, unbroken_number, unbroken_cons, unbroken_nil)
+unbroken_interval bs r (From n h) = grind (arith, unbroken_append, unbroken_number, unbroken_nil)
 
 -- ---- from `cut_list` to the grammar
 
 spelled_one : (bs : List ℕ) (r : Interval)
     → cond (is_number bs) (Some (record { first = value bs; last = value bs })) None ≡ Some r → SpellsInterval bs r
-spelled_one = grind (arith, some_since, One)
-
-spelled_ends : (n m : List ℕ) (r : Interval) → interval_of_bounds n m ≡ Some r → SpellsInterval (n ++ 45 ∷ m) r
-spelled_ends = grind (arith, some_since, and_parts, UpTo, From, FromTo)
-
-three_parts : (n m bs : List ℕ) (rest : List (List ℕ)) → IsSplit is_dash bs rest
-    → interval_of_parts (n ∷ m ∷ rest) ≡ None
-three_parts = grind arith
+spelled_one = grind (arith, One)
 
 spelled_cut : (n : List ℕ) (s : ℕ) (bs : List ℕ) (rest : List (List ℕ)) (r : Interval) → s ≡ 45
     → IsSplit is_dash bs rest → interval_of_parts (n ∷ rest) ≡ Some r → SpellsInterval (n ++ s ∷ bs) r
-spelled_cut = grind (arith, common_steps, Whole, spelled_ends, Cut, three_parts)
+spelled_cut = grind (arith, common_steps, Whole, Cut, some_since, and_parts, UpTo, From, FromTo)
 
 spelled_interval : (bs : List ℕ) (parts : List (List ℕ)) (r : Interval) → IsSplit is_dash bs parts
     → interval_of_parts parts ≡ Some r → SpellsInterval bs r
 spelled_interval bs parts r (Whole xs) e = spelled_one xs r e
-spelled_interval bs parts r (Cut n s xs rest cut split) e = grind (arith, spelled_cut, eqb-true)
+spelled_interval bs parts r (Cut n s xs rest cut split) e = grind (arith, spelled_cut)
 
 reads_interval : (bs : List ℕ) (r : Interval) → element_interval bs ≡ Ok r → IsIntervalElement bs r
 reads_interval [] r h = cc
 reads_interval (b ∷ bs) r h =
     let (parts, valid) = checked_proper _ r h in
-    (spelled_interval _ _ r (splits is_dash _) parts, valid)
+    (spelled_interval _ _ r (splits _ _) parts, valid)
 
 pub accepts_cut_lists : CutListMatchesGrammar
 accepts_cut_lists = matches_grammar element_interval IsIntervalElement (record {
@@ -334,20 +275,18 @@ accepts_cut_lists = matches_grammar element_interval IsIntervalElement (record {
 
 -- ---- merging sorted intervals
 
--- the merged intervals, the current one and the remaining ones select the same numbers as all sorted intervals
+-- the merged intervals, the current one and the rest select the same numbers as all sorted intervals
 pub record Merges (sorted kept : List Interval) (current : Interval) (rest : List Interval) : Type 0 where
   pub positive : 1 ≤ current.first
   pub separated : AreSeparated 0 (kept ++ current ∷ [])
   pub ordered : AreSortedFrom current.first rest
   pub same : (n : ℕ) → is_selected (kept ++ current ∷ rest) n ≡ is_selected sorted n
 
--- the last interval may be extended
 AreSeparated-longer : (low : ℕ) (kept : List Interval) (r s : Interval) → s.first ≡ r.first → r.last ≤ s.last
     → AreSeparated low (kept ++ r ∷ []) → AreSeparated low (kept ++ s ∷ [])
 AreSeparated-longer low [] r s e h separated = grind arith
 AreSeparated-longer low (k ∷ kept) r s e h separated = grind (arith, AreSeparated-longer (k.last + 1) kept)
 
--- an interval after a gap may be appended
 AreSeparated-more : (low : ℕ) (kept : List Interval) (r s : Interval) → r.last + 1 < s.first → s.first ≤ s.last
     → AreSeparated low (kept ++ r ∷ []) → AreSeparated low ((kept ++ r ∷ []) ++ s ∷ [])
 AreSeparated-more low [] r s gap proper separated = grind arith
@@ -357,18 +296,10 @@ InOrder-lower : (low high : ℕ) (rest : List Interval) → low ≤ high → Are
 InOrder-lower low high [] h ordered = tt
 InOrder-lower low high (r ∷ rest) h ordered = grind arith
 
--- two intervals that overlap or are adjacent select the numbers of their union
-union_of_touching : (a b c d n : ℕ) → a ≤ c → c - 1 ≤ b → c ≤ d
-    → ((leb a n && leb n b) || (leb c n && leb n d)) ≡ (leb a n && leb n (max b d))
-union_of_touching = grind arith
-
-or_first : (p q m x : Bool) → (p || q) ≡ m → (p || (q || x)) ≡ (m || x)
-or_first = grind arith
-
 pub absorbs : {sorted : List Interval} (kept : List Interval) (r s t : Interval) (rest : List Interval)
     → t.first ≡ r.first
     → t.last ≡ max r.last s.last → s.first - 1 ≤ r.last → Merges sorted kept r (s ∷ rest) → Merges sorted kept t rest
-absorbs = grind (arith, common_steps, or_first, union_of_touching, AreSeparated-longer, InOrder-lower)
+absorbs = grind (arith, common_steps, AreSeparated-longer, InOrder-lower)
 
 pub starts_next : {sorted : List Interval} (kept : List Interval) (r s : Interval) {rest : List Interval}
     → r.last < s.first - 1
@@ -377,21 +308,14 @@ starts_next = grind (arith, common_steps, AreSeparated-more)
 
 -- ---- from the grammar to `out_list`
 
-field_accepted : (file : File) (n : List ℕ) → is_number n ≡ true → 1 ≤ value n → value n ≤ max_u64
-    → field_of file n ≡ Ok (Field file (value n))
-field_accepted = grind arith
-
 accepts_field : (e : List ℕ) (f : OutField) → SpellsField e f → IsValidField f → element_field e ≡ Ok f
 accepts_field e f JoinField proper = refl
-accepts_field e f (FirstFileField n h) proper = grind (arith, field_accepted)
-accepts_field e f (SecondFileField n h) proper = grind (arith, field_accepted)
+accepts_field e f (FirstFileField n h) proper = grind arith
+accepts_field e f (SecondFileField n h) proper = grind arith
 
 after_file_number : (name : ℕ) (n : List ℕ) → is_list_separator name ≡ false → is_number n ≡ true
     → Unbroken (name ∷ 46 ∷ n)
 after_file_number = grind (arith, unbroken_cons, unbroken_number)
-
-unbroken_field : (e : List ℕ) (f : OutField) → SpellsField e f → Unbroken e
-unbroken_field = grind (arith, unbroken_cons, unbroken_nil, after_file_number)
 
 -- ---- the fault of a list
 
@@ -403,7 +327,6 @@ fault_of_fields (x ∷ all) e h = grind (arith, fault_of_fields all e)
 
 -- ---- from `out_list` to the grammar
 
--- the field of an element is the one that the grammar gives
 abbrev Spelled : List ℕ → OutField → Result OutField OutFault → Type 0
 Spelled e f r = r ≡ Ok f → IsFieldElement e f
 
@@ -414,19 +337,19 @@ spelled_field = grind arith
 
 reads_field : (e : List ℕ) (f : OutField) → Spelled e f (element_field e)
 reads_field [] f = λ h. cc
-reads_field (b ∷ []) f = grind (arith, eqb-true, JoinField)
+reads_field (b ∷ []) f = grind (arith, JoinField)
 reads_field (b ∷ c ∷ n) f =
-    cond_both (not (eqb c 46)) _ _ (Spelled _ f) (λ t h. cc)
-    (λ point. cond_both (eqb b 49) _ _ (Spelled _ f)
+    cond_both _ _ _ (Spelled _ f) (λ t h. cc)
+    (λ point. cond_both _ _ _ (Spelled _ f)
     (λ t. rw (eqb-true b 49 t, eqb-true c 46 (not-false (eqb c 46) point))
-    (spelled_field First 49 n f (FirstFileField n)))
-    (λ other. cond_both (eqb b 50) _ _ (Spelled _ f)
+    (spelled_field _ 49 n f (FirstFileField n)))
+    (λ other. cond_both _ _ _ (Spelled _ f)
     (λ t. rw (eqb-true b 50 t, eqb-true c 46 (not-false (eqb c 46) point))
-    (spelled_field Second 50 n f (SecondFileField n))) (λ t h. cc)))
+    (spelled_field _ 50 n f (SecondFileField n))) (λ t h. cc)))
 
 pub accepts_out_lists : OutListMatchesGrammar
 accepts_out_lists = matches_grammar element_field IsFieldElement (record {
   from = search (rules, accepts_field);
   to = reads_field;
-  whole = λ e f (spells, _). unbroken_field e f spells;
+  whole = λ e f (spells, _). (grind (arith, unbroken_nil, after_file_number));
 })

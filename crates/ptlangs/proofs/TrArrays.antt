@@ -1,33 +1,24 @@
--- The byte with an index in a concatenation of ranges: an index past the first range is an index in the rest, less the
--- length of the first.
---
--- The bytes of a string of `tr`, read one after another: the bytes so far and those that are left are together all
--- bytes of the string. And the classes that start in two arrays, compared byte by byte as the arrays are paired.
---
--- The table of the bytes that an array contains, which grows byte by byte, and the table of images. The image of a byte
--- is the byte of the second array, extended by its last byte, at the index that was pushed last for it.
---
--- The pairs of two arrays, byte by byte: what one more byte of the first array adds, and what is left of the second one
--- at its end.
+-- The bytes of a string of `tr` are read one after another: those read and those left are together all its bytes. The
+-- image of a byte is the byte of the second array, extended by its last byte, at the index that was pushed last for it.
+-- After the end of the first array, no class may start in the rest of the second one.
 use Rattle.ptlangs.proofs
 use proofs.Common.{Bool, Bytes, CharClass, Contents, Err, HasPaired, IsErrAnd, List, Member, None, Ok, Option, Result}
 use proofs.Common.{Segment, SetElement, SetFaultKind, SetRole, Some, [], all_paired, ap, append-nil, arith, array}
 use proofs.Common.{bytes_left, common_steps, complement_of, cond, contents_of, count_by, drop, drop_all, drop_more, eqb}
-use proofs.Common.{eqb-true, false, first_array, first_members, flat_map, image_by, is_fill, length, length-append, map}
-use proofs.Common.{map-append, marked_array, member_bytes, member_results, ne_eqb, not, plain_members, range_bytes}
+use proofs.Common.{false, first_array, first_members, image_by, is_fill, length, length-append, map}
+use proofs.Common.{map-append, marked_array, member_bytes, member_results, ne_eqb, not, plain_members}
 use proofs.Common.{refl, replicate, result_map_both, rules, segments_of, sequence, slice_get, string_segments, subst}
 use proofs.Common.{suc, sym, take, take_all, true, zero, ℕ, ◌++◌, ◌+◌, ◌-◌, ◌<◌, ◌||◌, ◌∙◌, ◌∷◌, ◌≡◌, ◌≢◌, ◌≤◌}
-use proofs.ListElements.{append_ok as onto, append_ok-nil, cons_ok-append_ok, reads_first}
+use proofs.ListElements.{append_ok as onto}
 use Rattle.ptlangs.specs.TrClasses.{all_bytes, class_bytes, span}
 use Rattle.ptlangs.specs.TrParsing.{classes_match, marked_members, members_from}
 use Rattle.ptlangs.specs.TrPlan.{are_paired, class_offsets, has_byte, has_other_case_at, last_position, members}
 use Rattle.ptlangs.specs.TrPlan.{next_index_or, padded_to, segment}
 use Rattle.ptlangs.specs.declared.faults.SetFaultKind.TheVariants.{ClassPlace}
 use Rattle.ptlangs.specs.declared.tr.images.Images.{Images}
-use Rattle.ptlangs.specs.declared.tr.segments.Segment.TheVariants.{Fill}
 use Rattle.std.proofs.Common.{inl, inr, min, ◌&&◌, ◌⊎◌}
 use Rattle.std.proofs.Math.ListN.{get_or, set}
-use Rattle.std.proofs.lemmas.Bool.{cases_lt, eq-eqb, or_right}
+use Rattle.std.proofs.lemmas.Bool.{cases_lt, eq-eqb}
 use Rattle.std.proofs.lemmas.List.Elements.{filter-append, filter_more}
 use Rattle.std.proofs.lemmas.List.Folds.{list_any-append, list_any_at}
 use Rattle.std.proofs.lemmas.List.FromFn.{get_or-map-range_with_len, get_or-range_with_len, length-map-range_with_len}
@@ -41,45 +32,31 @@ use Rattle.std.specs.List.{last_or}
 use Rattle.std.specs.Option.{option_and_then}
 use Rattle.std.specs.Prelude.{IfSome, filter, is_some, unwrap_or, ◌^◌}
 
-slice_get-left : {X : Type 0} (xs ys : List X) (i : ℕ) → i < length xs → slice_get (xs ++ ys) i ≡ slice_get xs i
+pub slice_get-left : {X : Type 0} (xs ys : List X) (i : ℕ) → i < length xs → slice_get (xs ++ ys) i ≡ slice_get xs i
 slice_get-left = grind (arith, common_steps, slice_get_cases)
 
-slice_get-right : {X : Type 0} (xs ys : List X) (i j : ℕ) → i ≡ length xs + j
+pub slice_get-right : {X : Type 0} (xs ys : List X) (i j : ℕ) → i ≡ length xs + j
     → slice_get (xs ++ ys) i ≡ slice_get ys j
 slice_get-right = grind (arith, common_steps, slice_get_cases)
 
 pub span_there : (first last index : ℕ) → index < length (span first last)
     → Some (first + index) ≡ slice_get (span first last) index
-span_there = grind (arith, common_steps, slice_get_cases, length-range_with_len, get_or-range_with_len)
+span_there = grind (arith, slice_get_cases, length-range_with_len, get_or-range_with_len)
 
 pub span_past : (first last index : ℕ) → length (span first last) ≤ index → None ≡ slice_get (span first last) index
-span_past first last index h = sym (slice_get_past _ index h)
+span_past first last index h = sym (slice_get_past _ _ h)
 
 pub length-span : (first last : ℕ) → length (span first last) ≡ last + 1 - first
-length-span first last = length-range_with_len first _
+length-span first last = length-range_with_len _ _
 
 pub ruleset span_steps = (span_there, span_past, length-span)
 
--- ---- an index in concatenated ranges, searched range by range
-
-pub ranges_found : (rs : List (ℕ × ℕ)) (i left : ℕ) (d : ℕ × ℕ) (o : Option ℕ) → i < length rs
-    → left < length (range_bytes (get_or rs i d)) → o ≡ slice_get (range_bytes (get_or rs i d)) left
-    → o ≡ slice_get (flat_map range_bytes (drop i rs)) left
-ranges_found rs i left d o h under e = grind (arith, slice_get-left, drop_more)
-
-pub ranges_next : (rs : List (ℕ × ℕ)) (i left count : ℕ) (d : ℕ × ℕ) → i < length rs
-    → count ≡ length (range_bytes (get_or rs i d)) → count ≤ left
-    → slice_get (flat_map range_bytes (drop (i + 1) rs)) (left - count)
-    ≡ slice_get (flat_map range_bytes (drop i rs)) left
-ranges_next = grind (arith, slice_get-right, drop_more)
-
-class_bytes-some : (class : CharClass) → 0 < length (class_bytes class)
-class_bytes-some = grind arith
+-- ---- an index in concatenated ranges
 
 pub class_bytes-short : (class : CharClass) → length (class_bytes class) ≤ 256
 class_bytes-short = grind arith
 
--- an index within a list that is no longer than a number of 128 bits can be counted up
+-- an index of a list shorter than 2^128 can be counted up
 pub room : (bytes : List ℕ) (i : ℕ) (found : Option ℕ) → found ≡ slice_get bytes i → length bytes < 2 ^ 128
     → IfSome found (λ _. i + 1 < 2 ^ 128)
 room bytes i None e h = tt
@@ -97,7 +74,7 @@ pub ruleset member_steps = (length-replicate, length-span, class_bytes-short, re
 
 -- ---- items that were read
 
--- these items were read without a fault, and `P` holds of them; `rest` is still to be read
+-- `done` was read without a fault; `rest` is still to be read
 pub record ItemsRead {A : Type 0} (all rest : List (Result A SetFaultKind)) (P : List A → Type 0) : Type 0 where
   pub done : List A
   pub so_far : all ≡ map Ok done ++ rest
@@ -105,11 +82,10 @@ pub record ItemsRead {A : Type 0} (all rest : List (Result A SetFaultKind)) (P :
 
 sequence-done : {A : Type 0} (done : List A) (rest : List (Result A SetFaultKind))
     → sequence (map Ok done ++ rest) ≡ onto done (sequence rest)
-sequence-done [] rest = sym (append_ok-nil _)
-sequence-done (x ∷ done) rest = grind (arith, cons_ok-append_ok, sequence-done done rest)
+sequence-done [] rest = sym (grind arith)
+sequence-done (x ∷ done) rest = grind (arith, sequence-done done rest)
 
 module _ {A : Type 0} {all rest : List (Result A SetFaultKind)} {P : List A → Type 0} (r : ItemsRead all rest P) where
-  -- more items were read
   pub items_more : {after : List (Result A SetFaultKind)} (Q : List A → Type 0) (more : List A)
       → rest ≡ map Ok more ++ after → (P r.done → Q (r.done ++ more))
       → ItemsRead all after Q
@@ -124,47 +100,41 @@ module _ {A : Type 0} {all rest : List (Result A SetFaultKind)} {P : List A → 
   pub items_fault : {k : SetFaultKind} → sequence rest ≡ Err k → sequence all ≡ Err k
   items_fault e = cc (sequence-read)
 
-  -- the items before and after the current one, if none has a fault
   pub items_at : {after : List (Result A SetFaultKind)} {x : A} {xs : List A}
       → rest ≡ Ok x ∷ after → sequence all ≡ Ok xs
       → (more : List A) × (xs ≡ r.done ++ x ∷ more)
-  items_at = grind (arith, sequence-read, onto)
+  items_at = grind (arith, sequence-read)
 
 -- ---- the bytes of segments
 
 sequence-members : (n : ℕ) (rs : List (Result Segment SetFaultKind))
     → sequence (member_results n rs) ≡ result_map_both (marked_array n) (λ (k : SetFaultKind). k) (sequence rs)
 sequence-members n [] = refl
-sequence-members n (Ok x ∷ rs) = grind (arith, sequence-done, onto, sequence-members n rs)
+sequence-members n (Ok x ∷ rs) = grind (arith, sequence-done, sequence-members n rs)
 sequence-members n (Err k ∷ rs) = refl
 
--- if no segment has a fault, all bytes are read
 members-ok : (n : ℕ) (rs : List (Result Segment SetFaultKind)) (ps : List Segment) → sequence rs ≡ Ok ps
     → member_results n rs ≡ map Ok (marked_array n ps)
 members-ok n [] ps e = grind arith
 members-ok n (Err k ∷ rs) ps e = grind arith
-members-ok n (Ok x ∷ rs) ps e = grind (arith, reads_first, map-append, members-ok n rs)
+members-ok n (Ok x ∷ rs) ps e = grind (arith, map-append, members-ok n rs)
 
 pub member_bytes-plain : (bytes : List ℕ) → member_bytes (plain_members bytes) ≡ bytes
 member_bytes-plain [] = refl
-member_bytes-plain (b ∷ bytes) = ap (λ bs. b ∷ bs) (member_bytes-plain bytes)
+member_bytes-plain (b ∷ bytes) = ap (λ bs. b ∷ bs) (member_bytes-plain _)
 
-member_bytes-members : (class : Option CharClass) (bytes : List ℕ) → member_bytes (members_from class bytes) ≡ bytes
+pub member_bytes-members : (class : Option CharClass) (bytes : List ℕ) → member_bytes (members_from class bytes) ≡ bytes
 member_bytes-members = grind (arith, member_bytes-plain)
 
 pub member_bytes-array : (n : ℕ) (ps : List Segment) → member_bytes (marked_array n ps) ≡ array n ps
 member_bytes-array n [] = refl
 member_bytes-array n (p ∷ ps) = grind (arith, map-append, member_bytes-members, member_bytes-array n ps)
 
-pub length-marked : (n : ℕ) (x : Segment) → length (marked_members n x) ≡ length (members n x)
-length-marked n x = grind (arith, length-map, member_bytes-members)
-
 pub drop-found : {X : Type 0} (xs : List X) (i : ℕ) (x : X) → Some x ≡ slice_get xs i → drop i xs ≡ x ∷ drop (i + 1) xs
 drop-found = grind (arith, slice_get_cases, drop_more)
 
 -- ---- the bytes after a segment that was passed
 
--- no byte is left of a segment that ends before the index
 pub segment-passed : (n : ℕ) (x : Segment) (i : ℕ) (rs : List (Result Segment SetFaultKind))
     → None ≡ slice_get (marked_members n x) i
     → map {B = Result Member SetFaultKind} Ok (drop i (marked_members n x)) ++ member_results n rs ≡ member_results n rs
@@ -172,25 +142,17 @@ segment-passed = grind (arith, slice_get_cases, drop_all)
 
 -- ---- the copies of a byte, passed at once
 
--- if a segment has only copies of a byte, those from an index on are passed
-pub copies-passed : (count i b : ℕ) (ms : List Member) → (0 < count → ms ≡ plain_members (replicate count b))
-    → drop i ms ≡ plain_members (replicate (count - i) b) ++ drop (i + (count - i)) ms
-copies-passed = grind (arith, common_steps, drop_all, append-nil, drop-map, drop-replicate)
-
 -- ---- the string of the segments
 
--- a string that is not empty has the fault of its bytes
 pub string-fault : (role : SetRole) (text : List ℕ) (n : ℕ) (k : SetFaultKind) → false ≡ eqb (length text) 0
     → sequence (member_results n (segments_of role text)) ≡ Err k → string_segments role text ≡ Err k
 string-fault = grind (arith, sequence-members)
 
--- or the segments that give these bytes
 pub string-read : (role : SetRole) (text : List ℕ) (n : ℕ) (ms : List Member) → false ≡ eqb (length text) 0
     → sequence (member_results n (segments_of role text)) ≡ Ok ms
     → (ps : List Segment) × (string_segments role text ≡ Ok ps) × (marked_array n ps ≡ ms)
 string-read = grind (arith, sequence-members)
 
--- a string without a fault gives its array
 pub string-ok : (role : SetRole) (text : List ℕ) (n : ℕ) (ps : List Segment) → string_segments role text ≡ Ok ps
     → member_results n (segments_of role text) ≡ map Ok (marked_array n ps)
 string-ok = grind (arith, members-ok)
@@ -203,14 +165,11 @@ on_fault = grind arith
 
 -- ---- at most one segment is a fill
 
-no_second_fill : (role : SetRole) (p : SetElement) (b : ℕ) → segment role true p ≡ Ok (Fill b) → ⊥
-no_second_fill = grind arith
-
 -- one more segment adds the length of a fill only if no fill came before it
 pub fill_step : (n : ℕ) (role : SetRole) (p : SetElement) (d : Segment) (has_fill : Bool)
     → segment role has_fill p ≡ Ok d
     → length (members n d) + cond (has_fill || is_fill (Ok d)) 0 n ≤ length (members 0 d) + cond has_fill 0 n
-fill_step = grind (arith, no_second_fill, length-replicate)
+fill_step = grind (arith, length-replicate)
 
 -- ---- the classes that start in two arrays
 
@@ -220,7 +179,6 @@ class_here [] i = None
 class_here (m ∷ ms) zero = m.class
 class_here (m ∷ ms) (suc i) = class_here ms i
 
--- the classes that start in an array, each with its offset
 abbrev offset_of : ℕ → Option CharClass → List (ℕ × CharClass)
 offset_of at None = []
 offset_of at (Some class) = (at, class) ∷ []
@@ -238,42 +196,31 @@ offsets-members : (at : ℕ) (bytes : List ℕ) (ms : List Member)
     → offsets at (members_from None bytes ++ ms) ≡ offsets (at + length bytes) ms
 offsets-members = grind (arith, offsets-plain)
 
-offsets-class : (at : ℕ) (class : CharClass) (bytes : List ℕ) (ms : List Member) → 0 < length bytes
-    → offsets at (members_from (Some class) bytes ++ ms) ≡ (at, class) ∷ offsets (at + length bytes) ms
-offsets-class = grind (arith, offsets-plain)
-
-class_offsets-are : (n : ℕ) (ps : List Segment) (at : ℕ) → class_offsets n at ps ≡ offsets at (marked_array n ps)
+pub class_offsets-are : (n : ℕ) (ps : List Segment) (at : ℕ) → class_offsets n at ps ≡ offsets at (marked_array n ps)
 class_offsets-are n [] at = refl
 class_offsets-are n (x ∷ ps) at =
-    grind (arith, common_steps, offsets-members, offsets-class, class_bytes-some, class_offsets-are n ps)
+    grind (arith, common_steps, offsets-members, class_offsets-are n ps)
 
-offset_first : (at k : ℕ) (o : Option CharClass) (later : List (ℕ × CharClass)) (class : CharClass)
-    → has_other_case_at (offset_of at o ++ later) k class
-    ≡ ((eqb at k && classes_match o (Some class)) || has_other_case_at later k class)
-offset_first = grind arith
-
--- no class starts before an array
 none_before : (ms : List Member) (at k : ℕ) (class : CharClass) → k < at
     → has_other_case_at (offsets at ms) k class ≡ false
 none_before [] at k class low = refl
 none_before (m ∷ ms) at k class low =
-    grind (arith, offset_first, ne_eqb, none_before ms (suc at) k class (omega arith))
+    grind (arith, ne_eqb, none_before ms (suc at) k class (omega arith))
 
 stands_here : (ms : List Member) (at i k : ℕ) (class : CharClass) → at + i ≡ k
     → has_other_case_at (offsets at ms) k class ≡ classes_match (class_here ms i) (Some class)
 stands_here [] at i k class e = refl
-stands_here (m ∷ ms) at zero k class e = grind (arith, offset_first, eq-eqb, none_before)
+stands_here (m ∷ ms) at zero k class e = grind (arith, eq-eqb, none_before)
 stands_here (m ∷ ms) at (suc i) k class e =
-    grind (arith, offset_first, ne_eqb, stands_here ms (suc at) i k class (omega arith))
+    grind (arith, ne_eqb, stands_here ms (suc at) i k class (omega arith))
 
--- one byte of the second array against the first array from the same index on
 all_paired-more : (i : ℕ) (from : List Member) (t : Member) (to : List Member)
     → all_paired (drop i from) (t ∷ to)
     ≡ (classes_match (class_here from i) t.class && all_paired (drop (suc i) from) to)
 all_paired-more zero [] t to = refl
 all_paired-more zero (f ∷ from) t to = refl
 all_paired-more (suc i) [] t to = refl
-all_paired-more (suc i) (f ∷ from) t to = all_paired-more i from t to
+all_paired-more (suc i) (f ∷ from) t to = all_paired-more i _ t to
 
 paired_first : (from : List Member) (i : ℕ) (o : Option CharClass) (later : List (ℕ × CharClass))
     → are_paired (offsets 0 from) (offset_of i o ++ later)
@@ -281,22 +228,15 @@ paired_first : (from : List Member) (i : ℕ) (o : Option CharClass) (later : Li
 paired_first from i None later = cc
 paired_first from i (Some c) later = grind (arith, stands_here)
 
-paired_from : (from to : List Member) (i : ℕ) → are_paired (offsets 0 from) (offsets i to) ≡ all_paired (drop i from) to
+pub paired_from : (from to : List Member) (i : ℕ) → are_paired (offsets 0 from) (offsets i to) ≡ all_paired (drop i from) to
 paired_from from [] i = refl
 paired_from from (t ∷ to) i = grind (arith, paired_first, paired_from from to (suc i), all_paired-more)
 
--- the classes are paired as the definition states it
-pub paired-arrays : (n : ℕ) (firsts seconds : List Segment)
-    → are_paired (class_offsets 0 0 firsts) (class_offsets n 0 seconds)
-    ≡ all_paired (marked_array 0 firsts) (marked_array n seconds)
-paired-arrays = grind (arith, class_offsets-are, paired_from)
-
 pub paired-plain : (n : ℕ) (bytes : List ℕ) (seconds : List Segment)
     → are_paired [] (class_offsets n 0 seconds) ≡ all_paired (plain_members bytes) (marked_array n seconds)
-paired-plain n bytes seconds =
-    grind (arith, offsets-plain 0 bytes [], class_offsets-are, paired_from (plain_members bytes), append-nil)
+paired-plain n bytes _ =
+    grind (arith, offsets-plain 0 bytes [], class_offsets-are, paired_from, append-nil)
 
--- the entries of a table of all bytes
 length-table : {X : Type 0} (f : ℕ → X) → length (map f all_bytes) ≡ 256
 unfolding all_bytes
 length-table f = length-map-range_with_len f 0 256
@@ -305,30 +245,27 @@ pub get_or-table : {X : Type 0} (f : ℕ → X) (i : ℕ) (d : X) → i < 256 �
 unfolding all_bytes
 get_or-table f i d h = get_or-map-range_with_len f 0 256 i i d h (omega arith)
 
--- a list of 256 entries that agrees with a function at each byte is the table of that function
 pub same_table : {X : Type 0} (xs : List X) (f : ℕ → X) (d : X) → length xs ≡ 256
     → ((i : ℕ) → i < 256 → get_or xs i d ≡ f i) → xs ≡ map f all_bytes
 same_table xs f d n h = search (rules, same_lists, length-table, get_or_default, get_or-table)
 
--- an empty array contains no byte
 pub none_contained : replicate 256 false ≡ map (λ b. has_byte b []) all_bytes
-none_contained = same_table _ _ false (length-replicate 256 false) (λ i h. get_or-replicate 256 i false false h)
+none_contained = same_table _ _ _ (length-replicate 256 false) (λ i h. get_or-replicate 256 i false false h)
 
--- writing one entry of a table
-set-table : {X : Type 0} (f g : ℕ → X) (i : ℕ) (v : X) → i < 256 → g i ≡ v → ((k : ℕ) → k ≢ i → g k ≡ f k)
+set-table : {X : Type 0} (f g : ℕ → X) (i : ℕ) (v : X) → g i ≡ v → ((k : ℕ) → k ≢ i → g k ≡ f k)
     → set (map f all_bytes) i v ≡ map g all_bytes
-set-table f g i v h e others =
+set-table f g i v e others =
     same_table _ g v (length-set _ i v ∙ length-table f)
-    (λ k under. grind (arith, common_steps, length-table, get_or-table, others))
+    (grind (arith, common_steps, get_or-table))
 
 -- ---- appending a byte
 
 has_byte-same : (b : ℕ) (bytes more : List ℕ) → has_byte b (bytes ++ b ∷ more) ≡ true
-has_byte-same = grind (arith, list_any-append, eq-eqb, or_right)
+has_byte-same = grind (arith, list_any-append, eq-eqb)
 
 has_byte-copies : (b k n : ℕ) → k ≢ b → has_byte k (replicate n b) ≡ false
 has_byte-copies b k zero other = refl
-has_byte-copies b k (suc n) other = grind (arith, ne_eqb, has_byte-copies b k n other)
+has_byte-copies b k (suc n) other = grind (arith, has_byte-copies b k n other)
 
 has_byte-other : (b k : ℕ) (bytes : List ℕ) (n : ℕ) → k ≢ b → has_byte k (bytes ++ replicate n b) ≡ has_byte k bytes
 has_byte-other = grind (arith, list_any-append, has_byte-copies)
@@ -338,8 +275,8 @@ pub contents-push : (old : Contents) (bytes : List ℕ) (b more : ℕ) → b < 2
     ≡ contents_of (bytes ++ b ∷ replicate more b)
 contents-push old bytes b more h e =
     let table =
-    set-table _ _ b true h (has_byte-same b bytes (replicate more b)) (λ k n. has_byte-other b k bytes (suc more) n) in
-    grind (arith, table, length-append, length-replicate)
+    set-table _ _ b true (has_byte-same b bytes (replicate more b)) (λ k n. has_byte-other b k bytes (suc more) n) in
+    grind (arith, length-append, length-replicate)
 
 pub contents-new : record { has = replicate 256 false; length = 0 } ≡ contents_of []
 contents-new = rw none_contained refl
@@ -348,7 +285,7 @@ pub ruleset contents_steps = (contents-push)
 
 -- ---- the complement of an array
 
-length-all : length all_bytes ≡ 256
+pub length-all : length all_bytes ≡ 256
 unfolding all_bytes
 length-all = length-range_with_len 0 256
 
@@ -362,17 +299,13 @@ others_below bytes n = filter (λ b. not (has_byte b bytes)) (take n all_bytes)
 
 pub others_below-more : (bytes : List ℕ) (n : ℕ) (t : Bool) → n < 256 → has_byte n bytes ≡ t
     → others_below bytes (n + 1) ≡ others_below bytes n ++ cond t [] (n ∷ [])
-others_below-more bytes n t low e = filter_more _ all_bytes n 0 (omega (arith, length-all))
+others_below-more bytes n t low e = filter_more _ _ n 0 (omega (arith, length-all))
     ∙ rw (get_or-all n 0 low, e) (grind arith)
-
-pub others_below-all : (bytes : List ℕ) {n : ℕ} → n ≡ 256 → others_below bytes n ≡ complement_of bytes
-others_below-all bytes e = grind (arith, take_all, length-all)
 
 get_or-has : (contents : Contents) (bytes : List ℕ) (b : ℕ) (d : Bool) → b < 256 → contents ≡ contents_of bytes
     → get_or contents.has b d ≡ has_byte b bytes
 get_or-has contents bytes b d h e = rw e (get_or-table _ b d h)
 
--- a byte of the complement, between those below it and the others
 pub complement-around : (bytes : List ℕ) (b : ℕ) → b < 256 → has_byte b bytes ≡ false
     → (rest : List ℕ) × (complement_of bytes ≡ others_below bytes b ++ b ∷ rest)
 complement-around bytes b low h = (
@@ -382,19 +315,14 @@ complement-around bytes b low h = (
 )
 
 has_byte-filter : (p : ℕ → Bool) (b : ℕ) (xs : List ℕ) → has_byte b (filter p xs) ≡ (p b && has_byte b xs)
-has_byte-filter = grind (arith, any-filter_same, eqb-true)
+has_byte-filter = grind (arith, any-filter_same)
 
 has_byte-all : (b : ℕ) → b < 256 → has_byte b all_bytes ≡ true
 has_byte-all b low = list_any_at _ all_bytes b 0 (omega (arith, length-all)) (eq-eqb _ b (get_or-all b 0 low))
 
--- the complement contains the bytes that the array does not contain
 has_byte-complement : (bytes : List ℕ) (b : ℕ) → b < 256 → has_byte b (complement_of bytes) ≡ not (has_byte b bytes)
 has_byte-complement = grind (arith, has_byte-filter, has_byte-all)
 
-length-filter-map : (f : ℕ → Bool) (xs : List ℕ) → count_by not (map f xs) ≡ length (filter (λ b. not (f b)) xs)
-length-filter-map = grind (arith, common_steps, length-filter)
-
--- the complement of an array, from a table and a count of the bytes that the array does not contain
 pub complement-is : (old : Contents) (bytes : List ℕ) (has : List Bool) (count : ℕ) → old ≡ contents_of bytes
     → length has ≡ 256 → ((k : ℕ) → k < 256 → get_or has k false ≡ not (get_or old.has k false))
     → count ≡ count_by not old.has → record { has = has; length = count } ≡ contents_of (complement_of bytes)
@@ -403,23 +331,20 @@ complement-is old bytes has count e long flips counted =
     same_table has _ false long (λ k low.
     flips k low ∙ ap not (get_or-has old bytes k false low e) ∙ sym (has_byte-complement bytes k low)) in
     let all =
-    counted ∙ ap (λ (q : Contents). count_by not q.has) e ∙ length-filter-map _ all_bytes in
+    counted ∙ ap (λ (q : Contents). count_by not q.has) e ∙ (grind (arith, common_steps, length-filter)) in
     rw (table, all) refl
 
--- a byte is not in the array if it is in the complement, and the other way about
 pub is_kept : (first : Contents) (bytes : List ℕ) (b i : ℕ) (t : Bool) → i ≡ b → b < 256 → get_or first.has i false ≡ t
     → first ≡ contents_of (complement_of bytes) → has_byte b bytes ≡ not t
 is_kept first bytes b i t j low h e =
-    let is = has_byte-complement bytes b low in
     let has = get_or-has first _ b false low e in
-    grind (arith, is, j)
+    grind (arith, (has_byte-complement bytes b low))
 
 -- ---- the image of a byte
 
 next_index-lt : (o : Option ℕ) (t : Bool) (n : ℕ) → IfSome o (λ i. i < n) → IfSome (next_index_or o t) (λ i. i < suc n)
 next_index-lt = grind arith
 
--- the last position is below the length
 last_position-lt : (c : ℕ) (bytes : List ℕ) → IfSome (last_position c bytes) (λ i. i < length bytes)
 last_position-lt c [] = tt
 last_position-lt c (b ∷ bytes) = next_index-lt _ _ _ (last_position-lt c bytes)
@@ -432,7 +357,7 @@ last_or-some : (o : Option ℕ) (b : ℕ) (bytes : List ℕ)
 last_or-some o b [] = refl
 last_or-some o b (x ∷ bytes) = last_or-some (Some b) x bytes
 
--- the byte with an index of the padded array: past the end it is the last byte
+-- past the end it is the last byte
 padded_to-get : (n i : ℕ) (bytes : List ℕ) → i < n
     → slice_get (padded_to n bytes) i ≡ slice_get bytes (min i (length bytes - 1))
 padded_to-get n i [] h = slice_get-take n [] i h
@@ -448,17 +373,16 @@ padded_to-get n i (b ∷ bytes) h =
         slice_get-right (b ∷ bytes) _ i _ (omega arith)
         ∙ slice_get-left _ [] (i - length (b ∷ bytes)) (grind (arith, length-replicate))
         ∙ sym (repeat_there n _ _ (omega arith))
-        ∙ sym (slice_get-get_or (b ∷ bytes) (length bytes) 0 (omega arith)) ∙ ap (slice_get (b ∷ bytes)) index
+        ∙ sym (grind (arith, slice_get-get_or, bytes)) ∙ ap (slice_get (b ∷ bytes)) index
 
 last_position-same : (b : ℕ) (bytes : List ℕ) → last_position b (bytes ++ b ∷ []) ≡ Some (length bytes)
 last_position-same b [] = rw (eq-eqb b b refl) refl
 last_position-same b (x ∷ bytes) = grind (arith, last_position-same b bytes)
 
 last_position-other : (b k : ℕ) (bytes : List ℕ) → k ≢ b → last_position k (bytes ++ b ∷ []) ≡ last_position k bytes
-last_position-other b k [] n = grind (arith, ne_eqb)
+last_position-other b k [] n = grind arith
 last_position-other b k (x ∷ bytes) n = cc (last_position-other b k bytes n)
 
--- the last of the first `n + 1` bytes is the one with index `n`, or the last of all
 last_or-take : (o : Option ℕ) (b : ℕ) (bytes : List ℕ) (n : ℕ)
     → last_or o (take (suc n) (b ∷ bytes)) ≡ slice_get (b ∷ bytes) (min n (length bytes))
 last_or-take o b bytes zero = grind arith
@@ -470,7 +394,7 @@ image-same : (from to : List ℕ) (b : ℕ)
     → image_by (from ++ b ∷ []) to b ≡ unwrap_or (last_or None (take (suc (length from)) to)) b
 image-same from to b =
     let longer : length from < length (from ++ b ∷ []) = omega (arith, length-append from (b ∷ [])) in
-    rw (last_position-same b from, padded_to-get _ _ to longer) (by_list to)
+    rw (last_position-same b _, padded_to-get _ _ to longer) (by_list to)
   where
     by_list : (to : List ℕ)
         → unwrap_or (slice_get to (min (length from) (length to - 1))) b
@@ -478,11 +402,10 @@ image-same from to b =
     by_list [] = refl
     by_list (t ∷ to) =
         let most : length (t ∷ to) - 1 ≡ length to = omega arith in
-        rw (most, last_or-take None t to _) refl
+        rw (most, last_or-take _ t to _) refl
 
--- the images of the other bytes stay
 image-other : (from to : List ℕ) (b k : ℕ) → k ≢ b → image_by (from ++ b ∷ []) to k ≡ image_by from to k
-image-other from to b k n = rw (last_position-other b k from n) (by_last _ refl)
+image-other from to b k n = rw (last_position-other b k _ n) (by_last _ refl)
   where
     by_last : (o : Option ℕ) → last_position k from ≡ o
         → unwrap_or (option_and_then (slice_get (padded_to (length (from ++ b ∷ [])) to)) o) k
@@ -496,10 +419,9 @@ images-push : (from to : List ℕ) (b : ℕ) (last : Option ℕ) → b < 256
     → last ≡ last_or None (take (suc (length from)) to)
     → set (map (image_by from to) all_bytes) b (unwrap_or last b) ≡ map (image_by (from ++ b ∷ []) to) all_bytes
 images-push from to b last h e =
-    set-table _ _ b _ h
+    set-table _ _ b _
     (search (rules, image-same)) (λ k n. image-other from to b k n)
 
--- the results are the bytes of the second array from an index on
 abbrev AllOk : List Member → List (Result Member SetFaultKind)
 AllOk ms = map Ok ms
 
@@ -507,26 +429,24 @@ pub sequence-ok : (ms : List Member) → sequence (AllOk ms) ≡ Ok ms
 sequence-ok [] = refl
 sequence-ok (m ∷ ms) = rw (sequence-ok ms) refl
 
--- the second array has no fault
 pub never_fault : {X : Type 0} (ms : List Member) (rs : List (Result Member SetFaultKind)) {k : SetFaultKind}
     → rs ≡ AllOk ms → sequence rs ≡ Err k → X
 never_fault = grind (arith, sequence-ok)
 
--- one byte of the second array is taken
+-- byte `t` of the second array, at index `n`, is taken
 pub record TakesNext (o : Option ℕ) (n : ℕ) (to : List Member) (t : Member)
     (after : List (Result Member SetFaultKind)) : Type 0 where
   pub at : drop n to ≡ t ∷ drop (suc n) to
   pub left : after ≡ AllOk (drop (suc n) to)
   pub last : last_or o (member_bytes (take (suc n) to)) ≡ Some t.byte
 
-takes_next : (o : Option ℕ) (n : ℕ) (to : List Member) (t : Member) (after : List (Result Member SetFaultKind))
+pub takes_next : (o : Option ℕ) (n : ℕ) (to : List Member) (t : Member) (after : List (Result Member SetFaultKind))
     → AllOk (drop n to) ≡ Ok t ∷ after → TakesNext o n to t after
 takes_next o zero [] t after e = absurd (cc)
 takes_next o zero (x ∷ to) t after e = grind arith
 takes_next o (suc n) [] t after e = absurd (cc)
 takes_next o (suc n) (x ∷ to) t after e = grind (arith, takes_next (Some x.byte) n to t after)
 
--- no byte of the second array is left
 ended : (n : ℕ) (to : List Member) → AllOk (drop n to) ≡ [] → length to ≤ n
 ended zero [] e = omega arith
 ended zero (x ∷ to) e = absurd (cc)
@@ -536,21 +456,19 @@ ended (suc n) (x ∷ to) e = omega (arith, ended n to e)
 module _ (before to : List Member) (old : Images) (from : Member) (h : HasPaired before to old)
     (fits : from.byte < 256) where
   count : length (before ++ from ∷ []) ≡ suc (length before)
-  count = omega (arith, length-append before (from ∷ []))
+  count = grind (arith, length-append)
 
   bytes : member_bytes (before ++ from ∷ []) ≡ member_bytes before ++ from.byte ∷ []
   bytes = map-append _ before _
 
-  -- the byte is paired, if the table and the last byte are what the pairs give
   paired : (second : Bytes) (last : Option ℕ) → bytes_left second ≡ AllOk (drop (suc (length before)) to)
       → last ≡ last_or None (member_bytes (take (suc (length before)) to))
       → ((more : List Member) → all_paired (from ∷ more) (drop (length before) to)
       ≡ all_paired more (drop (suc (length before)) to))
       → HasPaired (before ++ from ∷ []) to
       (record { table = set old.table from.byte (unwrap_or last from.byte); second = second; last = last })
-  paired = grind (arith, common_steps, count, bytes, images-push, take-map)
+  paired = grind (arith, common_steps, bytes, images-push, take-map)
 
-  -- a byte of the second array is left
   pub push-next : (second : Bytes) (t : Member) → bytes_left old.second ≡ Ok t ∷ bytes_left second
       → classes_match from.class t.class ≡ true
       → HasPaired (before ++ from ∷ []) to
@@ -567,12 +485,7 @@ module _ (before to : List Member) (old : Images) (from : Member) (h : HasPaired
       (record { table = set old.table from.byte (unwrap_or old.last from.byte); second = second; last = old.last })
   push-last = grind (arith, ended, paired, drop_all, take_all)
 
-  -- a class without its other case
-  pub push-unpaired : (after : List (Result Member SetFaultKind)) (t : Member) → bytes_left old.second ≡ Ok t ∷ after
-      → classes_match from.class t.class ≡ false → (more : List Member) → all_paired (before ++ from ∷ more) to ≡ false
-  push-unpaired = grind (arith, takes_next None)
-
--- the images and the table after a step, as the code writes them
+-- the images after a step, as the code writes them
 pub written : (before to : List Member) (m : Images) (i u byte : ℕ) (table : List ℕ) (second : Bytes) (last : Option ℕ)
     → m ≡ record { table = table; second = second; last = last } → i ≡ byte → u ≡ unwrap_or m.last byte
     → HasPaired before to (record { table = set table byte (unwrap_or last byte); second = second; last = last })
@@ -585,23 +498,19 @@ paired_same ns to e f h = rw (e, f) h
 
 -- ---- after the end of the first array
 
--- these bytes of the second array are left, and no class started in those that were passed
+-- `rest` is left of the second array, and no class started in the bytes that were passed
 pub record IsPassing (from to : List Member) (images : Images) : Type 0 where
   pub rest : List Member
   pub left : bytes_left images.second ≡ AllOk rest
   pub decides : all_paired from to ≡ all_paired [] rest
   pub table : images.table ≡ map (image_by (member_bytes from) (member_bytes to)) all_bytes
 
--- the next byte that is left
-split_ok : (rest : List Member) (t : Member) (after : List (Result Member SetFaultKind)) → AllOk rest ≡ Ok t ∷ after
+pub split_ok : (rest : List Member) (t : Member) (after : List (Result Member SetFaultKind)) → AllOk rest ≡ Ok t ∷ after
     → (more : List Member) × (rest ≡ t ∷ more) × (after ≡ AllOk more)
 split_ok [] t after e = absurd (cc)
 split_ok (x ∷ rest) t after e = grind arith
 
-unmatched : (class : Option CharClass) → classes_match None class ≡ not (is_some class)
-unmatched = grind arith
-
--- no class starts in bytes that are passed as copies of one
+-- no class starts in copies of one byte
 plain-passed : (bytes : List ℕ) (rest : List Member) (after : List (Result Member SetFaultKind))
     → AllOk rest ≡ AllOk (plain_members bytes) ++ after
     → (more : List Member) × (after ≡ AllOk more) × (all_paired [] rest ≡ all_paired [] more)
@@ -611,16 +520,12 @@ plain-passed (b ∷ bytes) rest after e = grind (arith, split_ok rest, plain-pas
 module _ {from to : List Member} {old : Images} (p : IsPassing from to old) where
   pub passing-next : (second : Bytes) (t : Member) → bytes_left old.second ≡ Ok t ∷ bytes_left second
       → is_some t.class ≡ false → IsPassing from to (record { table = old.table; second = second; last = old.last })
-  passing-next = grind (arith, split_ok, unmatched)
+  passing-next = grind (arith, split_ok)
 
   pub passing-copies : (second : Bytes) (bytes : List ℕ)
       → bytes_left old.second ≡ AllOk (plain_members bytes) ++ bytes_left second
       → IsPassing from to (record { table = old.table; second = second; last = old.last })
-  passing-copies second bytes s = grind (arith, plain-passed, bytes)
-
-  pub passing-unpaired : (after : List (Result Member SetFaultKind)) (t : Member) → bytes_left old.second ≡ Ok t ∷ after
-      → is_some t.class ≡ true → all_paired from to ≡ false
-  passing-unpaired = grind (arith, split_ok, unmatched)
+  passing-copies second bytes s = grind (arith, plain-passed)
 
   pub passing-end : bytes_left old.second ≡ [] → all_paired from to ≡ true
   passing-end s = p.decides ∙ by_rest p.rest (sym p.left ∙ s)
@@ -633,10 +538,6 @@ module _ {from to : List Member} {old : Images} (p : IsPassing from to old) wher
 
 abbrev pub answer_of : Bool → List ℕ → Result (List ℕ) SetFaultKind
 answer_of paired images = cond paired (Ok images) (Err ClassPlace)
-
-pub unpaired_answer : (paired : Bool) (images : List ℕ) (r : Result (List ℕ) SetFaultKind) (k : SetFaultKind)
-    → IsErrAnd r (λ e. e ≡ k) → k ≡ ClassPlace → paired ≡ false → r ≡ answer_of paired images
-unpaired_answer = grind arith
 
 pub answer_ok : (paired : Bool) {images table : List ℕ} → Ok table ≡ answer_of paired images
     → (paired ≡ true) × (table ≡ images)

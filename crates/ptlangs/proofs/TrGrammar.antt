@@ -1,20 +1,15 @@
--- Octal and decimal numbers, and the characters of a string at an index. The character at an index depends only on the
--- bytes from there on, which gives the agreement with the grammar, character by character.
---
--- Plain bytes in the characters of a string: a byte other than a backslash is a character by itself, so the code may
--- look at the bytes where the definition looks at characters.
---
--- The elements that the definition computes are those of the grammar, in both directions: each bracketed form, range
--- and single character is one case of both. The code finds the elements that the definition computes, and a string is
--- rejected with the fault of its first faulty element.
+-- The character at an index depends only on the bytes from there on, so the agreement with the grammar goes character
+-- by character. A byte other than a backslash is a character by itself, so the code may look at bytes where the
+-- definition looks at characters. Each bracketed form, range and single character is one case of both the definition
+-- and the grammar.
 use Rattle.ptlangs.proofs
 use proofs.Common.{Bool, CharClass, Err, Invalid, List, NoChar, None, Ok, Option, Plain, Result, Segment, SetChar}
 use proofs.Common.{SetElement, SetFaultKind, SetRole, Some, SpellsChar, SpellsChars, [], after_backslash, ap, arith}
 use proofs.Common.{byte_of, char_at, chars, chars_after, common_steps, cond, cond_both, digits_value, drop, drop_all}
-use proofs.Common.{drop_more, false, get_or, is_ascii_digit, is_fill, length, length-append, ltb-true, map, ne_eqb}
-use proofs.Common.{octal, refl, result_map_both, rules, segments, sequence, set_elements, slice_get, subst, suc, sym}
+use proofs.Common.{drop_more, false, get_or, is_ascii_digit, is_fill, length, ltb-true, map, ne_eqb}
+use proofs.Common.{octal, refl, rules, segments, sequence, set_elements, slice_get, subst, suc, sym}
 use proofs.Common.{take, true, value, zero, ℕ, ◌*◌, ◌++◌, ◌+◌, ◌-◌, ◌<◌, ◌||◌, ◌∙◌, ◌∷◌, ◌≡◌, ◌≢◌, ◌≤◌}
-use Rattle.ptlangs.specs.TrChars.{AChar, ALargeOctal, ALoneBackslash, APlainByte, AnEscape, AnOctal, CharsMatchGrammar}
+use Rattle.ptlangs.specs.TrChars.{AChar, ALargeOctal, ALoneBackslash, APlainByte, AnEscape, AnOctal}
 use Rattle.ptlangs.specs.TrChars.{Escaped, IsOctalRun, OneDigit, ThreeDigits, TwoDigits, is_octal_digit, octal_run}
 use Rattle.ptlangs.specs.TrClasses.{class_named}
 use Rattle.ptlangs.specs.TrElements.{AClass, ADescendingRange, ARange, ARepeat, Alone, AnEquivalence, AnInvalidChar}
@@ -24,72 +19,50 @@ use Rattle.ptlangs.specs.TrElements.{after_two, bracketed_at, char_or_range, cla
 use Rattle.ptlangs.specs.TrElements.{equivalence_after_equals, equivalence_at, first_set_element, or_char, plain_run}
 use Rattle.ptlangs.specs.TrElements.{range_to, repeat_after_star, repeat_at, repeat_count, single_or_range, with_rest}
 use Rattle.ptlangs.specs.TrParsing.{char_from}
-use Rattle.ptlangs.specs.TrPlan.{FirstFault, FirstFaultIsReported, LaterFault, NoElement, NoSegment, segment}
+use Rattle.ptlangs.specs.TrPlan.{FirstFault, LaterFault, NoElement, NoSegment, segment}
 use Rattle.ptlangs.specs.declared.faults.SetFaultKind.TheVariants.{Octal}
 use Rattle.ptlangs.specs.declared.tr.elements.SetElement.TheVariants.{Class, Equivalence, Repeat, Single}
 use Rattle.std.proofs.Common.{All, inl, inr, nat_le, nat_lt}
-use Rattle.std.proofs.lemmas.Bool.{and_from, and_parts, cases_Bool, eq-eqb, le-leb, le-ltb, lt-leb, ltb-false}
+use Rattle.std.proofs.lemmas.Bool.{cases_Bool, le-leb, le-ltb, lt-leb}
 use Rattle.std.proofs.lemmas.Int.Digits.{digits_value_more}
 use Rattle.std.proofs.lemmas.List.Folds.{length-prefix_len}
-use Rattle.std.proofs.lemmas.List.Sums.{AllPass-from_list_all, prefix_len-le-length, prefix_len_passes, take_while-cons}
+use Rattle.std.proofs.lemmas.List.Sums.{AllPass-from_list_all, prefix_len_passes, take_while-cons}
 use Rattle.std.proofs.lemmas.List.{drop_at, get_or-take, length-take, take-append-drop, take-take, take_rest}
 use Rattle.std.proofs.lemmas.Str.Parse.{digit_from_value, digits_value-take-le}
-use Rattle.std.proofs.lemmas.Str.{digit_value_digit}
 use Rattle.std.specs.Char.{digit_value, is_ascii_lowercase}
 use Rattle.std.specs.List.{AllPass, list_all, prefix_len, slice_range, take_while}
-use Rattle.std.specs.Option.{option_and_then, option_or}
+use Rattle.std.specs.Option.{option_and_then}
 
 pub ruleset number_steps = (digits_value_more, digits_value-take-le, digit_from_value)
 
--- the byte of an octal escape with this value; `None` is a value above 255
+-- `None` is a value above 255
 abbrev byte_of_octal : Option ℕ → Result ℕ SetFaultKind
 byte_of_octal None = Err Octal
 byte_of_octal (Some v) = Ok v
 
--- a number is above the limit if its first digits are
 pub too_large : (base limit : ℕ) (ds : List ℕ) (i : ℕ) → 1 ≤ base → limit < digits_value base (take i ds)
     → nat_le (digits_value base ds) limit ≡ false
 too_large = search (rules, digits_value-take-le)
 
--- the value after one more digit
 pub number_step : (base : ℕ) (ds : List ℕ) (i value digit : ℕ) → i < length ds → base ≤ 10
     → digit_value (get_or ds i 0) < base → value ≡ digits_value base (take i ds) → digit ≡ get_or ds i 0 - 48
     → value * base + digit ≡ digits_value base (take (i + 1) ds)
 number_step base ds i value digit h ten below v d =
-    search (rules, digit_from_value, digit_value_digit, digits_value_more)
+    search (rules, digit_from_value, digits_value_more)
 
 pub length-octal_run : (bs : List ℕ) → length (octal_run bs) ≤ length bs
 length-octal_run bs =
-    omega (
-      arith,
-      length-prefix_len is_octal_digit (take 3 bs),
-      prefix_len-le-length is_octal_digit (take 3 bs),
-      length-take 3 bs,
-    )
+    grind (arith, common_steps, length-prefix_len is_octal_digit (take 3 bs), length-take 3 bs)
 
 pub take-octal_run : (bs : List ℕ) → take (length (octal_run bs)) bs ≡ octal_run bs
 take-octal_run bs =
     let n = prefix_len is_octal_digit (take 3 bs) in
-    let e = length-prefix_len is_octal_digit (take 3 bs) in
     let short : n ≤ 3 = grind arith in
-    ap (λ m. take m bs) e ∙ sym (take-take n 3 bs short)
-
-octal_value : (b : ℕ) → is_octal_digit b ≡ true → digit_value b < 8
-octal_value b h = grind (arith, rules)
+    ap (λ m. take m bs) (length-prefix_len is_octal_digit (take 3 bs)) ∙ sym (take-take n 3 bs short)
 
 pub octal_digits : (bs : List ℕ) → All (λ d. digit_value d < 8) (take (length (octal_run bs)) bs)
-octal_digits = grind (
-  arith,
-  common_steps,
-  length-prefix_len,
-  length-take,
-  octal_value,
-  take-octal_run,
-  get_or-take,
-  prefix_len_passes,
-)
+octal_digits = grind (arith, common_steps, length-take, take-octal_run, get_or-take, prefix_len_passes)
 
--- a backslash before an octal digit
 after_backslash-octal : (bs : List ℕ) (c : ℕ) → Some c ≡ slice_get bs 0 → is_octal_digit c ≡ true
     → after_backslash bs ≡ (octal (digits_value 8 (octal_run bs)), length (octal_run bs))
 after_backslash-octal = grind arith
@@ -98,23 +71,23 @@ pub octal_char : (bs : List ℕ) (c count : ℕ) (o : Option ℕ) → Some c ≡
     → count ≡ length (octal_run bs)
     → o ≡ cond (nat_le (digits_value 8 (take count bs)) 255) (Some (digits_value 8 (take count bs))) None
     → byte_of_octal o ≡ byte_of (after_backslash bs).0
-octal_char = grind (arith, after_backslash-octal, take-octal_run)
+octal_char = grind (arith, take-octal_run)
 
 chars-cons : (b : ℕ) (bs : List ℕ) → chars (b ∷ bs) ≡ (char_at b bs).0 ∷ chars (drop (char_at b bs).1 bs)
 chars-cons b bs = grind arith
 
 pub chars_plain : (bs : List ℕ) (i b : ℕ) → i < length bs → get_or bs i 0 ≡ b → (b ≡ 92 → ⊥)
     → chars (drop i bs) ≡ Plain b ∷ chars (drop (i + 1) bs)
-chars_plain = grind (arith, common_steps, chars-cons)
+chars_plain = grind (arith, common_steps)
 
-pub chars_escape : (bs : List ℕ) (i : ℕ) → i < length bs → get_or bs i 0 ≡ 92
+pub chars_escape : (bs : List ℕ) (i : ℕ) → get_or bs i 0 ≡ 92
     → chars (drop i bs) ≡ (after_backslash (drop (i + 1) bs)).0
     ∷ chars (drop (i + 1 + (after_backslash (drop (i + 1) bs)).1) bs)
 chars_escape = grind (arith, common_steps, chars-cons)
 
 pub char_from-plain : (bs : List ℕ) (i b : ℕ) → get_or bs i 0 ≡ b → (b ≡ 92 → ⊥) → char_from bs i ≡ Plain b
 unfolding char_from
-char_from-plain = grind (arith, ne_eqb)
+char_from-plain = grind arith
 
 pub char_from-escape : (bs : List ℕ) (i : ℕ) → get_or bs i 0 ≡ 92
     → char_from bs i ≡ (after_backslash (drop (i + 1) bs)).0
@@ -138,14 +111,14 @@ run_is digits rest (ThreeDigits a b c more ha hb hc) = rw (ha, hb, hc) refl
 escape_is : (digits rest : List ℕ) {u : SetChar} → IsOctalRun digits rest → octal (digits_value 8 digits) ≡ u
     → chars (92 ∷ digits ++ rest) ≡ u ∷ chars rest
 escape_is digits rest run is =
-    rw (chars-cons 92 _, run_is digits rest run, is, drop_at digits rest _ refl) refl
+    rw (chars-cons 92 _, run_is _ _ run, is, drop_at digits rest _ refl) refl
 
 char_is : (bs : List ℕ) (u : SetChar) (rest : List ℕ) → SpellsChar bs u rest → chars bs ≡ u ∷ chars rest
-char_is = grind (arith, chars-cons, ne_eqb, escape_is, le-leb, lt-leb)
+char_is = grind (arith, ne_eqb, escape_is, le-leb, lt-leb)
 
-chars_are : (bs : List ℕ) (us : List SetChar) → SpellsChars bs us → chars bs ≡ us
+pub chars_are : (bs : List ℕ) (us : List SetChar) → SpellsChars bs us → chars bs ≡ us
 chars_are bs us NoChar = refl
-chars_are bs us (AChar ds rest u more s others) = cc (char_is ds u rest s, chars_are rest more others)
+chars_are bs us (AChar ds rest u more s others) = cc (char_is ds u _ s, chars_are _ _ others)
 
 -- ---- from the computed characters to the grammar
 
@@ -155,61 +128,44 @@ run_spelled a [] ha = grind (arith, OneDigit)
 run_spelled a (b ∷ []) ha = grind (arith, TwoDigits, OneDigit)
 run_spelled a (b ∷ c ∷ more) ha = grind (arith, TwoDigits, OneDigit, ThreeDigits)
 
-octal_spelled : (bs : List ℕ) → IsOctalRun (octal_run bs) (drop (length (octal_run bs)) bs)
-    → SpellsChar (92 ∷ bs) (octal (digits_value 8 (octal_run bs))) (drop (length (octal_run bs)) bs)
-octal_spelled bs run =
-    let digits = octal_run bs in
-    let rest = drop (length digits) bs in
-    let all = ap (λ ds. ds ++ rest) (sym (take-octal_run bs)) ∙ take-append-drop (length digits) bs in
-    subst (λ xs. SpellsChar (92 ∷ xs) (octal (digits_value 8 digits)) rest) all
-    (elim (cases_Bool (nat_le (digits_value 8 digits) 255)) [
-      | inl small ↦ rw small (AnOctal digits rest run (grind arith))
-      | inr large ↦ rw large (ALargeOctal digits rest run (grind arith))
-    ])
-
 escape_spelled : (bs : List ℕ) → SpellsChar (92 ∷ bs) (after_backslash bs).0 (drop (after_backslash bs).1 bs)
 escape_spelled [] = ALoneBackslash
 escape_spelled (b ∷ more) = elim (cases_Bool (is_octal_digit b)) [
-  | inl h ↦ rw (after_backslash-octal (b ∷ more) b refl h) (octal_spelled (b ∷ more) (run_spelled b more h))
+  | inl h ↦
+      let digits = octal_run (b ∷ more) in
+      let rest = drop (length digits) (b ∷ more) in
+      let all =
+      ap (λ ds. ds ++ rest) (sym (take-octal_run (b ∷ more))) ∙ take-append-drop (length digits) (b ∷ more) in
+      rw (after_backslash-octal (b ∷ more) b refl h)
+      (subst (λ xs. SpellsChar (92 ∷ xs) (octal (digits_value 8 digits)) rest) all
+      (elim (cases_Bool (nat_le (digits_value 8 digits) 255)) [
+        | inl small ↦ rw small (AnOctal digits rest (run_spelled b more h) (grind arith))
+        | inr large ↦ rw large (ALargeOctal digits rest (run_spelled b more h) (grind arith))
+      ]))
   | inr h ↦ rw h (AnEscape b more h)
 ]
 
-first_spelled : (b : ℕ) (bs : List ℕ) → SpellsChar (b ∷ bs) (char_at b bs).0 (drop (char_at b bs).1 bs)
-first_spelled = grind (arith, escape_spelled, ne_eqb, APlainByte)
-
-spelled : (bs : List ℕ) (skip : ℕ) → SpellsChars (drop skip bs) (chars_after bs skip)
+pub spelled : (bs : List ℕ) (skip : ℕ) → SpellsChars (drop skip bs) (chars_after bs skip)
 spelled [] zero = NoChar
 spelled [] (suc skip) = NoChar
-spelled (b ∷ bs) zero = AChar (b ∷ bs) _ _ _ (first_spelled b bs) (spelled bs _)
-spelled (b ∷ bs) (suc skip) = spelled bs skip
+spelled (b ∷ bs) zero = AChar (b ∷ bs) _ _ _ (grind (arith, escape_spelled, APlainByte)) (spelled bs _)
+spelled (b ∷ bs) (suc skip) = spelled bs _
 
-pub chars_are_spelled : CharsMatchGrammar
-chars_are_spelled bs us = (chars_are bs us, λ e. subst (SpellsChars bs) e (spelled bs 0))
-
--- a character that starts with a backslash
+-- the character starts with a backslash
 abbrev IsEscape : SetChar → Type 0
 IsEscape (Plain b) = ⊥
 IsEscape (Escaped b) = Unit {0}
 IsEscape (Invalid k) = Unit {0}
 
-IsEscape-after_backslash : (bs : List ℕ) → IsEscape (after_backslash bs).0
-IsEscape-after_backslash bs = grind arith
-
-after_plain-escape : (c : ℕ) (u : SetChar) (us : List SetChar) → IsEscape u → after_plain c (u ∷ us) ≡ None
-after_plain-escape = grind arith
-
-plain_run-escape : (test : ℕ → Bool) (u : SetChar) (us : List SetChar) → IsEscape u → plain_run test (u ∷ us) ≡ []
-plain_run-escape = grind arith
-
 -- ---- one plain byte
 
 pub after_plain-here : (bs : List ℕ) (i c : ℕ) → i < length bs → get_or bs i 0 ≡ c → c ≢ 92
     → Some (chars (drop (i + 1) bs)) ≡ after_plain c (chars (drop i bs))
-after_plain-here = grind (arith, chars_plain, eq-eqb)
+after_plain-here = grind (arith, chars_plain)
 
 pub after_plain-other : (bs : List ℕ) (i c : ℕ) → i < length bs → get_or bs i 0 ≢ c
     → None ≡ after_plain c (chars (drop i bs))
-after_plain-other = grind (arith, chars_escape, after_plain-escape, IsEscape-after_backslash, chars_plain, ne_eqb)
+after_plain-other = grind (arith, chars_escape, chars_plain, ne_eqb)
 
 pub after_plain-end : (bs : List ℕ) (i c : ℕ) → length bs ≤ i → None ≡ after_plain c (chars (drop i bs))
 after_plain-end bs i c h = rw (drop_all i bs h) refl
@@ -219,20 +175,12 @@ pub ruleset after_plain_steps = (after_plain-here, after_plain-other, after_plai
 -- ---- a run of plain bytes
 
 chars-plain : (b : ℕ) (bs : List ℕ) → b ≢ 92 → chars (b ∷ bs) ≡ Plain b ∷ chars bs
-chars-plain b bs n = search (rules, chars-cons)
+chars-plain b bs n = search rules
 
 plain_run-chars : (test : ℕ → Bool) → test 92 ≡ false → (bs : List ℕ)
     → plain_run test (chars bs) ≡ take_while test bs
 plain_run-chars test n [] = refl
-plain_run-chars test n (b ∷ bs) = grind (
-  arith,
-  take_while-cons,
-  chars-cons,
-  plain_run-escape,
-  IsEscape-after_backslash,
-  chars-plain,
-  plain_run-chars test n bs,
-)
+plain_run-chars test n (b ∷ bs) = grind (arith, take_while-cons, chars-cons, chars-plain, plain_run-chars test n bs)
 
 drop-prefix_len : (test : ℕ → Bool) → test 92 ≡ false → (bs : List ℕ)
     → drop (prefix_len test bs) (chars bs) ≡ chars (drop (prefix_len test bs) bs)
@@ -245,7 +193,7 @@ drop-prefix_len test n (b ∷ bs) =
       next,
     ) (drop-prefix_len test n bs)) (λ e. refl)
 
--- the length of the run from `i` on, counted in the slice from `i` on
+-- `count` is counted in the slice from `i` on
 abbrev IsRunLength : (ℕ → Bool) → List ℕ → ℕ → ℕ → Type 0
 IsRunLength test bs i count = count ≡ length (take_while test (take (length bs - i) (drop i bs)))
 
@@ -253,34 +201,28 @@ prefix_len-from_run : (test : ℕ → Bool) (bs : List ℕ) (i count : ℕ) → 
     → count ≡ prefix_len test (drop i bs)
 prefix_len-from_run test bs i count e = simp (e, take_rest, length-prefix_len)
 
--- the bytes from `i` to the end of the run
 pub run_range : (test : ℕ → Bool) → test 92 ≡ false → (bs : List ℕ) (i count : ℕ) → IsRunLength test bs i count
     → slice_range bs i (i + count) ≡ plain_run test (chars (drop i bs))
 run_range = grind (arith, prefix_len-from_run, plain_run-chars)
 
 pub run_rest : (test : ℕ → Bool) → test 92 ≡ false → (bs : List ℕ) (i count : ℕ) → IsRunLength test bs i count
     → chars (drop (i + count) bs) ≡ after_run test (chars (drop i bs))
-run_rest = grind (arith, common_steps, prefix_len-from_run, plain_run-chars, length-prefix_len, drop-prefix_len)
+run_rest = grind (arith, common_steps, plain_run-chars, length-prefix_len, drop-prefix_len)
 
--- each byte of a run passes the test
 list_all-plain_run : (test : ℕ → Bool) (us : List SetChar) → list_all test (plain_run test us) ≡ true
 list_all-plain_run test [] = refl
-list_all-plain_run test (u ∷ us) = grind (arith, and_from, list_all-plain_run test us)
+list_all-plain_run test (u ∷ us) = grind (arith, list_all-plain_run test us)
 
 pub AllPass-run : (test : ℕ → Bool) (bs : List ℕ) (us : List SetChar) → bs ≡ plain_run test us → AllPass test bs
-AllPass-run test bs us e = AllPass-from_list_all test bs (rw e (list_all-plain_run test us))
+AllPass-run test bs us e = AllPass-from_list_all test bs (rw e (list_all-plain_run _ us))
 
 -- ---- from the computed elements to the grammar
-
-after_plain_is : (c : ℕ) (us rest : List SetChar) → after_plain c us ≡ Some rest → us ≡ Plain c ∷ rest
-after_plain_is = grind arith
 
 run_split : (test : ℕ → Bool) (us : List SetChar) → us ≡ map Plain (plain_run test us) ++ after_run test us
 run_split test [] = refl
 run_split test (u ∷ us) = grind (arith, run_split test us)
 
--- A property of the characters with no rest, and of plain byte `c` with any rest, holds of the characters with
--- `after_plain c` of them.
+-- the cases of `after_plain c`: it finds nothing, or plain byte `c` first
 after_plain_cases : (Q : List SetChar → Option (List SetChar) → Type 0) (c : ℕ) (us : List SetChar)
     → ((vs : List SetChar) → Q vs None) → ((rest : List SetChar) → Q (Plain c ∷ rest) (Some rest))
     → Q us (after_plain c us)
@@ -291,7 +233,6 @@ after_two_cases : (Q : List SetChar → Option (List SetChar) → Type 0) (c d :
     → Q us (after_two c d us)
 after_two_cases = grind arith
 
--- the characters start with the bracketed form that is found
 abbrev StartsFound : List SetChar → Option (SetElement × List SetChar) → Type 0
 StartsFound us None = Unit {0}
 StartsFound us (Some (p, rest)) = StartsBracketed us p rest
@@ -319,14 +260,14 @@ name_found (c ∷ name) us t =
     (with_rest (Class (class_named (c ∷ name))) o)) 58 93 us _ (λ rest. AClass c name rest t)
 
 class_starts : (us : List SetChar) → StartsFound (Plain 91 ∷ us) (class_at us)
-class_starts us = grind (arith, after_plain_cases, run_split, name_found, list_all-plain_run)
+class_starts us = grind (arith, run_split, name_found, list_all-plain_run)
 
 equivalence_found : (u : SetChar) (v : ℕ) (us : List SetChar) → DenotesByte u v
     → StartsFound (Plain 91 ∷ Plain 61 ∷ u ∷ us) (with_rest (Equivalence v) (after_two 61 93 us))
 equivalence_found = grind (arith, AnEquivalence)
 
 equivalence_starts : (us : List SetChar) → StartsFound (Plain 91 ∷ us) (equivalence_at us)
-equivalence_starts us = grind (arith, after_plain_cases, by_unit)
+equivalence_starts us = grind (arith, by_unit)
   where
     by_unit : (more : List SetChar) → StartsFound (Plain 91 ∷ Plain 61 ∷ more) (equivalence_after_equals more)
     by_unit [] = tt
@@ -334,12 +275,8 @@ equivalence_starts us = grind (arith, after_plain_cases, by_unit)
     by_unit (Escaped b ∷ more) = equivalence_found _ b more (ByEscape b)
     by_unit (Invalid k ∷ more) = tt
 
-starts_either : (us : List SetChar) (o q : Option (SetElement × List SetChar)) → StartsFound us o → StartsFound us q
-    → StartsFound us (option_or o q)
-starts_either = grind arith
-
 bracketed_starts : (us : List SetChar) → StartsFound us (bracketed_at us)
-bracketed_starts us = grind (arith, after_plain_cases, starts_either, repeat_starts, class_starts, equivalence_starts)
+bracketed_starts us = grind (arith, common_steps, repeat_starts, class_starts, equivalence_starts)
 
 -- ---- from the grammar to the computed elements
 
@@ -349,7 +286,7 @@ byte_of-DenotesByte = grind arith
 plain_run-map : (test : ℕ → Bool) (bs : List ℕ) (c : ℕ) (rest : List SetChar) → list_all test bs ≡ true
     → test c ≡ false → plain_run test (map Plain bs ++ Plain c ∷ rest) ≡ bs
 plain_run-map test [] c rest t n = rw n refl
-plain_run-map test (b ∷ bs) c rest t n = grind (arith, and_parts, plain_run-map test bs c rest)
+plain_run-map test (b ∷ bs) c rest t n = grind (arith, plain_run-map test bs c rest)
 
 after_run-map : (test : ℕ → Bool) (bs : List ℕ) (c : ℕ) (rest : List SetChar) → list_all test bs ≡ true
     → test c ≡ false → after_run test (map Plain bs ++ Plain c ∷ rest) ≡ Plain c ∷ rest
@@ -364,35 +301,29 @@ bracketed_at-StartsBracketed us p rest (ARepeat u v digits more m t) = grind (
   plain_run-map,
 )
 bracketed_at-StartsBracketed us p rest (AClass c name more t) =
-    let (lower, _) = and_parts (is_ascii_lowercase c) _ t in
-    let no_star = ne_eqb c 42 (λ e. cc) in
-    rw (no_star, after_run-map is_ascii_lowercase _ 58 _ t refl, plain_run-map is_ascii_lowercase _ 58 _ t refl) refl
+    rw ((ne_eqb c 42 (λ e. cc)), after_run-map _ _ 58 _ t refl, plain_run-map _ _ 58 _ t refl) refl
 bracketed_at-StartsBracketed us p rest (AnEquivalence u v more m) = grind (arith, byte_of-DenotesByte)
 
 bracketed_at-none : (us : List SetChar) → bracketed_at us ≡ None → ¬ HasBracketed us
-bracketed_at-none us e (p, rest, f) = cc (bracketed_at-StartsBracketed us p rest f)
+bracketed_at-none us e (p, rest, f) = cc (bracketed_at-StartsBracketed us p _ f)
 
 bracketed_at-unless : (us : List SetChar) → ¬ HasBracketed us → bracketed_at us ≡ None
 bracketed_at-unless = grind (arith, bracketed_starts)
 
 -- ---- the first element
 
--- the characters start with the element that is found, or with none because of this fault
+-- the characters start with this element, or with none because of this fault
 abbrev StartsAs : List SetChar → Result (SetElement × List SetChar) SetFaultKind → Type 0
 StartsAs us (Ok (p, rest)) = StartsElement us p rest
 StartsAs us (Err k) = StartsInvalid us k
 
 range_starts : (u v : SetChar) (a b : ℕ) (more : List SetChar) → ¬ HasBracketed (u ∷ Plain 45 ∷ v ∷ more)
     → DenotesByte u a → DenotesByte v b → StartsAs (u ∷ Plain 45 ∷ v ∷ more) (range_to a (Ok b) more)
-range_starts = grind (arith, ADescendingRange, ARange, ltb-true, ltb-false)
-
-range_end_starts : (u v : SetChar) (a : ℕ) (more : List SetChar) → ¬ HasBracketed (u ∷ Plain 45 ∷ v ∷ more)
-    → DenotesByte u a → StartsAs (u ∷ Plain 45 ∷ v ∷ more) (range_to a (byte_of v) more)
-range_end_starts = grind (arith, range_starts, ByItself, ByEscape, AnInvalidEnd)
+range_starts = grind (arith, ADescendingRange, ARange, ltb-true)
 
 byte_starts : (u : SetChar) (a : ℕ) (us : List SetChar) → ¬ HasBracketed (u ∷ us) → DenotesByte u a
     → StartsAs (u ∷ us) (single_or_range a us (after_plain 45 us))
-byte_starts = grind (arith, Alone, after_plain_is, range_end_starts)
+byte_starts = grind (arith, Alone, range_starts, ByItself, ByEscape, AnInvalidEnd)
 
 char_starts : (u : SetChar) (us : List SetChar) → ¬ HasBracketed (u ∷ us)
     → StartsAs (u ∷ us) (char_or_range (byte_of u) us)
@@ -414,13 +345,8 @@ first_set_element-found = grind arith
 first_set_element-StartsElement : (us : List SetChar) (p : SetElement) (rest : List SetChar)
     → StartsElement us p rest → first_set_element us ≡ Ok (p, rest)
 first_set_element-StartsElement us p rest (InBrackets xs q more f) =
-    first_set_element-found xs q more (bracketed_at-StartsBracketed xs q more f)
-first_set_element-StartsElement us p rest (ARange u v a b more n m w h) = grind (
-  arith,
-  bracketed_at-unless,
-  byte_of-DenotesByte,
-  le-ltb,
-)
+    first_set_element-found xs q _ (bracketed_at-StartsBracketed xs q _ f)
+first_set_element-StartsElement us p rest (ARange u v a b more n m w h) = grind (arith, byte_of-DenotesByte, le-ltb)
 first_set_element-StartsElement us p rest (Alone u a more n d m) =
     rw (bracketed_at-unless _ n, byte_of-DenotesByte u a m) (by_dash _ refl)
   where
@@ -459,14 +385,13 @@ StartsElement-front us p rest (Alone u a more n d m) = (u ∷ [], refl, omega ar
 elements_after_is : (us : List SetChar) (skip : ℕ) → elements_after us skip ≡ set_elements (drop skip us)
 elements_after_is [] skip = grind (arith, drop_all)
 elements_after_is (u ∷ us) zero = refl
-elements_after_is (u ∷ us) (suc skip) = elements_after_is us skip
+elements_after_is (u ∷ us) (suc skip) = elements_after_is us _
 
 drop_prefix : (u : SetChar) (us rest front : List SetChar) → u ∷ us ≡ front ++ rest → 0 < length front
     → drop (length us - length rest) us ≡ rest
 drop_prefix u us rest [] e h = absurd (omega arith)
-drop_prefix u us rest (f ∷ front) e h = grind (arith, common_steps, length-append)
+drop_prefix u us rest (f ∷ front) e h = grind (arith, common_steps)
 
--- the first element, then those of the rest
 set_elements-first : (us : List SetChar) (p : SetElement) (rest : List SetChar)
     → first_set_element us ≡ Ok (p, rest) → set_elements us ≡ Ok p ∷ set_elements rest
 set_elements-first [] p rest e = absurd (cc)
@@ -474,7 +399,7 @@ set_elements-first (u ∷ us) p rest e =
     let (front, all, some) = StartsElement-front _ p rest (starts_as u us e) in
     grind (arith, elements_after_is, drop_prefix)
 
-set_elements-fault : (us : List SetChar) (k : SetFaultKind) → 0 < length us → first_set_element us ≡ Err k
+pub set_elements-fault : (us : List SetChar) (k : SetFaultKind) → 0 < length us → first_set_element us ≡ Err k
     → set_elements us ≡ Err k ∷ []
 set_elements-fault = grind arith
 
@@ -483,7 +408,6 @@ by_result : {A P : Type 0} (r : Result A SetFaultKind) → ((x : A) → r ≡ Ok
 by_result (Ok x) good bad = good x refl
 by_result (Err k) good bad = bad k refl
 
--- the characters start with an element, or with a fault
 by_first : {P : Type 0} (u : SetChar) (us : List SetChar)
     → ((p : SetElement) (rest : List SetChar) → StartsElement (u ∷ us) p rest
     → set_elements (u ∷ us) ≡ Ok p ∷ set_elements rest → P)
@@ -492,7 +416,6 @@ by_first u us element fault = by_result _
     (λ (p, rest) e. search (rules, starts_as, set_elements-first))
     (λ k e. fault k (starts_as u us e) (set_elements-fault (u ∷ us) k (omega arith) e))
 
--- the computed elements are those of the grammar
 pub set_elements-AreElements : (us : List SetChar) (ps : List SetElement) → AreElements us ps
     → set_elements us ≡ map Ok ps
 set_elements-AreElements us [] e = ap set_elements e
@@ -500,25 +423,24 @@ set_elements-AreElements us (p ∷ ps) (rest, begins, more) = grind (
   arith,
   set_elements-first,
   first_set_element-StartsElement,
-  set_elements-AreElements rest ps more,
+  set_elements-AreElements _ ps more,
 )
 
 pub AreElements-set_elements : (ps : List SetElement) (us : List SetChar) → set_elements us ≡ map Ok ps
     → AreElements us ps
 AreElements-set_elements [] [] e = refl
 AreElements-set_elements [] (u ∷ us) e =
-    by_first u us (λ p rest b is. let never = sym is ∙ e in cc) (λ k b is. let never = sym is ∙ e in cc)
+    by_first u us (λ p rest b is. let never = sym is ∙ e in cc) (λ k b is. cc)
 AreElements-set_elements (p ∷ ps) [] e = absurd (cc)
 AreElements-set_elements (p ∷ ps) (u ∷ us) e = by_first u us
     (λ q rest b is.
     let all = sym is ∙ e in
     let same : q ≡ p = cc in
     (rest, subst (λ (x : SetElement). StartsElement (u ∷ us) x rest) same b, AreElements-set_elements ps rest (cc)))
-    (λ k b is. let all = sym is ∙ e in absurd (cc))
+    (λ k b is. absurd (cc))
 
 -- ---- the bracketed forms and the first element, as the code finds them
 
--- a class whose name is not empty
 class_with_name-named : (name : List ℕ) (us : List SetChar) → 0 < length name
     → class_with_name name us ≡ with_rest (Class (class_named name)) (after_two 58 93 us)
 class_with_name-named = grind arith
@@ -529,8 +451,7 @@ pub class_at-found : (us : List SetChar) {inside : List SetChar} (after : List S
     → after ≡ after_run is_ascii_lowercase inside → 0 < length name → Some rest ≡ after_two 58 93 after
     → found ≡ class_named name → Some (Class found, rest) ≡ class_at us
 class_at-found us after name found e n a h r f =
-    let named = class_with_name-named name after h in
-    rw (← e, ← a, ← n, named, ← r, f) refl
+    rw (← e, ← a, ← n, (class_with_name-named name after h), ← r, f) refl
 
 pub chars-some : (bs : List ℕ) (i : ℕ) → i < length bs → 0 < length (chars (drop i bs))
 chars-some bs i h = rw (drop_more bs i 0 h) (omega arith)
@@ -547,20 +468,14 @@ pub segments-element : (role : SetRole) (has_fill : Bool) (us rest : List SetCha
     {x : Result Segment SetFaultKind}
     → Ok (p, rest) ≡ first_set_element us → x ≡ segment role has_fill p
     → segments role has_fill (set_elements us) ≡ x ∷ segments role (has_fill || is_fill x) (set_elements rest)
-segments-element role has_fill us rest p e h = rw (set_elements-first us p rest (sym e), h) refl
-
-pub segments-fault : (role : SetRole) (has_fill : Bool) (bs : List ℕ) (i end : ℕ) (k : SetFaultKind) → i < length bs
-    → length bs ≤ end → Err k ≡ first_set_element (chars (drop i bs))
-    → segments role has_fill (set_elements (chars (drop i bs)))
-    ≡ Err k ∷ segments role has_fill (set_elements (chars (drop end bs)))
-segments-fault = grind (arith, set_elements-fault, chars-some, drop_all)
+segments-element role has_fill us rest p e h = rw (set_elements-first us p _ (sym e), h) refl
 
 -- ---- the fault of a string is that of its first faulty element
 
 first_set_element-faulty : (us : List SetChar) (k : SetFaultKind) → StartsInvalid us k
     → (first_set_element us ≡ Err k) × (0 < length us)
 first_set_element-faulty us k (AnInvalidChar j rest) = (refl, omega arith)
-first_set_element-faulty us k (AnInvalidEnd u a j rest n m) = grind (arith, bracketed_at-unless, byte_of-DenotesByte)
+first_set_element-faulty us k (AnInvalidEnd u a j rest n m) = grind (arith, byte_of-DenotesByte)
 first_set_element-faulty us k (ADescendingRange u v a b rest n m w h) =
     let falls : nat_lt b a ≡ true = grind arith in (
       rw (bracketed_at-unless _ n, byte_of-DenotesByte u a m, byte_of-DenotesByte v b w, falls)
@@ -568,26 +483,18 @@ first_set_element-faulty us k (ADescendingRange u v a b rest n m w h) =
       omega arith,
     )
 
-rest_fails : (x : Segment) (r : Result (List Segment) SetFaultKind) (k : SetFaultKind)
-    → result_map_both (λ (xs : List Segment). x ∷ xs) (λ (e : SetFaultKind). e) r ≡ Err k → r ≡ Err k
-rest_fails = grind arith
-
 module _ (role : SetRole) where
-  fault_is : (has_fill : Bool) (us : List SetChar) {k : SetFaultKind} → FirstFault role has_fill us k
+  pub fault_is : (has_fill : Bool) (us : List SetChar) {k : SetFaultKind} → FirstFault role has_fill us k
       → sequence (segments role has_fill (set_elements us)) ≡ Err k
-  fault_is has_fill us (NoElement f vs j b) = grind (arith, first_set_element-faulty, set_elements-fault)
-  fault_is has_fill us (NoSegment f vs rest p j b e) = grind (
-    arith,
-    set_elements-first,
-    first_set_element-StartsElement,
-  )
+  fault_is has_fill us (NoElement f vs j b) = grind (arith, first_set_element-faulty)
+  fault_is has_fill us (NoSegment f vs rest p j b e) = grind (arith, first_set_element-StartsElement)
   fault_is has_fill us (LaterFault f vs rest p x j b e later) =
       cc (
-        set_elements-first vs p rest (first_set_element-StartsElement vs p rest b),
-        fault_is (f || is_fill (Ok x)) rest later,
+        set_elements-first vs p _ (first_set_element-StartsElement vs p _ b),
+        fault_is _ _ later,
       )
 
-  is_fault : (xs : List (Result SetElement SetFaultKind)) (has_fill : Bool) (us : List SetChar) (k : SetFaultKind)
+  pub is_fault : (xs : List (Result SetElement SetFaultKind)) (has_fill : Bool) (us : List SetChar) (k : SetFaultKind)
       → set_elements us ≡ xs → sequence (segments role has_fill xs) ≡ Err k → FirstFault role has_fill us k
   is_fault [] has_fill us k all e = cc
   is_fault (y ∷ ys) has_fill [] k all e = cc
@@ -596,19 +503,14 @@ module _ (role : SetRole) where
       (λ i b is.
       let both = sym all ∙ is in
       let same : i ≡ k = cc in
-      NoElement has_fill _ k (subst (StartsInvalid _) same b))
+      NoElement has_fill _ k (grind arith))
   is_fault (Ok q ∷ ys) has_fill (u ∷ us) k all e = by_first u us
       (λ p rest b is.
-      let both = sym all ∙ is in
       let same : p ≡ q = cc in
       let begins = subst (λ (x : SetElement). StartsElement (u ∷ us) x rest) same b in
       by_result _
       (λ x got. LaterFault has_fill _ rest q x k begins got
-      (is_fault ys _ rest k (cc) (rest_fails x _ k (rw got at e))))
+      (is_fault ys _ _ k (cc) (grind arith)))
       (λ j got.
-      let fails = rw got at e in
       let last : j ≡ k = cc in NoSegment has_fill _ rest q k begins (got ∙ ap Err last)))
       (grind arith)
-
-pub faults_are_first : FirstFaultIsReported
-faults_are_first = grind (arith, fault_is, is_fault)

@@ -1,16 +1,15 @@
--- Big-endian numbers of equally many bytes compare as the bytes do, since the first digit that differs decides. Equal
--- chunks can be skipped, and if the shorter slice is a prefix of the longer, the lengths decide.
-use Rattle.ptlines.proofs.Common.{◌≡◌, ℕ, zero, suc, ◌+◌, ◌*◌, ◌<◌, ◌≤◌, List, [], ◌∷◌, ◌++◌, length, take, drop, min}
-use Rattle.ptlines.proofs.Common.{refl, sym, ◌∙◌, ap, arith, get_or, Fits, take-add, nat_tests, take-take, chunk-fits}
+-- Big-endian numbers of equally many bytes compare as the bytes do, since the first digit that differs decides.
+use Rattle.ptlines.proofs.Common.{◌≡◌, ℕ, zero, suc, ◌+◌, ◌*◌, ◌<◌, ◌≤◌, List, [], ◌∷◌, length, take, drop, min}
+use Rattle.ptlines.proofs.Common.{refl, sym, ◌∙◌, ap, arith, get_or, Fits, take-add, take-take, chunk-fits}
 use Rattle.ptlines.proofs.Common.{length-chunk, Each1, common_steps}
 use Rattle.std.proofs.lemmas.Cmp.{nat_list_cmp_total, tied_itself}
 use Rattle.std.specs.Int.{w8, w32, w64, from_be_bytes}
 use Rattle.std.specs.Ordering.{nat_cmp, ordering_then}
 use Rattle.std.specs.declared.cmp.Ordering.{Ordering}
-use Rattle.std.specs.declared.cmp.Ordering.TheVariants.{Less, Equal, Greater}
+use Rattle.std.specs.declared.cmp.Ordering.TheVariants.{Less, Equal}
 use Rattle.ptlines.specs.ByteOrder.{byte_cmp, byte_cmp_equal}
 
--- the number whose digits to the base of 256 are these, appended to the digits of `p`
+-- the number with the digits of `p`, and then these, to the base of 256
 abbrev number : ℕ → List ℕ → ℕ
 number p [] = p
 number p (x ∷ xs) = number (p * 256 + x) xs
@@ -22,36 +21,25 @@ number_lt p q (x ∷ xs) (y ∷ ys) long (first, fit) less =
 number_lt p q _ _ long fit less = absurd (omega arith)
 
 nat_cmp_less : (x y : ℕ) → x < y → nat_cmp x y ≡ Less
-nat_cmp_less = grind (arith, nat_tests)
-
-nat_cmp_greater : (x y : ℕ) → y < x → nat_cmp x y ≡ Greater
-nat_cmp_greater = grind (arith, nat_tests)
+nat_cmp_less = grind arith
 
 nat_cmp_equal : (x : ℕ) → nat_cmp x x ≡ Equal
-nat_cmp_equal x = grind (arith, nat_tests)
+nat_cmp_equal x = grind arith
 
--- numbers of equally many digits compare as their digits do
 digits_cmp : (p : ℕ) (xs ys : List ℕ) → length xs ≡ length ys → Each1 (Fits w8) xs → Each1 (Fits w8) ys
     → nat_cmp (number p xs) (number p ys) ≡ byte_cmp xs ys
 digits_cmp p [] [] long fx fy = nat_cmp_equal p
-digits_cmp p (x ∷ xs) (y ∷ ys) long (x_fits, xs_fit) (y_fits, ys_fit) = grind (
-  arith,
-  nat_cmp_less,
-  number_lt,
-  nat_cmp_greater,
-  digits_cmp (p * 256 + x) xs ys (omega arith) xs_fit ys_fit,
-)
+digits_cmp p (x ∷ xs) (y ∷ ys) long (x_fits, xs_fit) (y_fits, ys_fit) =
+    grind (arith, nat_cmp_less, number_lt, digits_cmp (p * 256 + x) xs ys (omega arith) xs_fit ys_fit)
 digits_cmp p _ _ long fx fy = absurd (omega arith)
 
--- a word is the number of its bytes
 pub word_1 : (xs : List ℕ) → length xs ≡ 1 → get_or xs 0 0 ≡ number 0 xs
 word_1 = grind (arith, common_steps)
 
--- the byte at an index, as a word
 pub byte_at : (at : ℕ) (xs : List ℕ) → get_or xs at 0 ≡ get_or (take 1 (drop at xs)) 0 0
 byte_at zero [] = refl
 byte_at zero (x ∷ xs) = refl
-byte_at (suc at) [] = refl
+byte_at _ [] = refl
 byte_at (suc at) (x ∷ xs) = byte_at at xs
 
 pub word_4 : (xs : List ℕ) → length xs ≡ 4 → from_be_bytes w32 xs ≡ number 0 xs
@@ -62,36 +50,16 @@ word_8 = grind (arith, common_steps)
 
 -- ---- byte order, chunk by chunk
 
-then_assoc : (a b c : Ordering) → ordering_then a (ordering_then b c) ≡ ordering_then (ordering_then a b) c
-then_assoc = grind arith
-
--- the first k bytes decide, or if they are equal the bytes after them
 byte_cmp_split : (k : ℕ) (a b : List ℕ) → k ≤ length a → k ≤ length b
     → byte_cmp a b ≡ ordering_then (byte_cmp (take k a) (take k b)) (byte_cmp (drop k a) (drop k b))
 byte_cmp_split zero a b la lb = refl
-byte_cmp_split (suc k) (x ∷ a) (y ∷ b) la lb = grind (
-  arith,
-  then_assoc,
-  byte_cmp_split k a b (omega arith) (omega
-      arith),
-)
+byte_cmp_split (suc k) (x ∷ a) (y ∷ b) la lb = grind (arith, byte_cmp_split k a b (omega arith) (omega arith))
 byte_cmp_split _ _ _ la lb = absurd (omega arith)
-
-equal_numbers : (x y : ℕ) → nat_cmp x y ≡ Equal → x ≡ y
-equal_numbers x y is = grind (arith, nat_tests, is)
-
--- equal bytes at the beginning can be skipped
-byte_cmp_after_prefix : (at : ℕ) (a b : List ℕ) → at ≤ length a → at ≤ length b → take at a ≡ take at b
-    → byte_cmp a b ≡ byte_cmp (drop at a) (drop at b)
-byte_cmp_after_prefix at a b la lb same =
-    byte_cmp_split at a b la lb
-    ∙ ap (λ o. ordering_then o (byte_cmp (drop at a) (drop at b)))
-    (ap (byte_cmp (take at a)) (sym same) ∙ tied_itself nat_list_cmp_total (take at a))
 
 first_decides : (r o k : Ordering) → o ≡ r → (r ≡ Equal → ⊥) → r ≡ ordering_then o k
 first_decides = grind arith
 
--- Two words of `n` bytes, read at the same index of two slices.
+-- Words of `n` bytes at the same index of two slices.
 module _ {n : ℕ} {read : List ℕ → ℕ} (is_number : (xs : List ℕ) → length xs ≡ n → read xs ≡ number 0 xs)
     (at : ℕ) (a b : List ℕ) {x y : ℕ} (fits : at + n ≤ min (length a) (length b))
     (fa : (k : ℕ) → Fits w8 (get_or a k 0))
@@ -105,40 +73,31 @@ module _ {n : ℕ} {read : List ℕ → ℕ} (is_number : (xs : List ℕ) → le
 
   words_cmp : nat_cmp x y ≡ byte_cmp xs ys
   words_cmp =
-      let long_a = length-chunk at n a (omega (arith, fits)) in
-      let long_b = length-chunk at n b (omega (arith, fits)) in
+      let long_a = length-chunk at n a (omega arith) in
+      let long_b = length-chunk at n b (omega arith) in
       ap (λ z. nat_cmp z y) (first ∙ is_number xs long_a) ∙ ap (nat_cmp (number 0 xs)) (second ∙ is_number ys long_b)
       ∙ digits_cmp 0 xs ys (long_a ∙ sym long_b) (chunk-fits w8 at n a fa) (chunk-fits w8 at n b fb)
 
-  -- if they differ, they decide the order
   pub words_differ : (x ≡ y → ⊥) → nat_cmp x y ≡ byte_cmp a b
   words_differ other =
       first_decides (nat_cmp x y) (byte_cmp xs ys) (byte_cmp (drop n (drop at a)) (drop n (drop at b)))
-      (sym words_cmp) (λ e. other (equal_numbers x y e))
+      (sym words_cmp) (grind arith)
       ∙ sym (grind (arith, common_steps, byte_cmp_split))
-      ∙ sym (byte_cmp_after_prefix at a b (omega (arith, fits)) (omega (arith, fits)) same)
+      ∙ sym (byte_cmp_split at a b (omega arith) (omega arith)
+      ∙ ap (λ o. ordering_then o (byte_cmp (drop at a) (drop at b)))
+      (ap (byte_cmp (take at a)) (sym same) ∙ tied_itself nat_list_cmp_total (take at a)))
 
-  -- if they are equal, their bytes are
   pub words_same : x ≡ y → take (at + n) a ≡ take (at + n) b
   words_same is =
-      let equal : nat_cmp x y ≡ Equal = ap (nat_cmp x) (sym is) ∙ nat_cmp_equal x in
-      take-add at n a ∙ ap (λ l. l ++ xs) same ∙ ap (λ l. take at b ++ l) (byte_cmp_equal xs ys (sym words_cmp ∙ equal))
-      ∙ sym (take-add at n b)
+      grind (arith, nat_cmp, take-add, xs, take, byte_cmp_equal, ys, words_cmp)
 
--- a prefix of equal bytes is equal
 pub shorter_prefix_same : (m n : ℕ) (a b : List ℕ) → m ≤ n → take n a ≡ take n b → take m a ≡ take m b
 shorter_prefix_same m n a b less same = sym (take-take m n a less) ∙ ap (take m) same ∙ take-take m n b less
 
--- if the shorter slice is a prefix of the longer, the lengths decide
 pub cmp_by_length : (n : ℕ) (a b : List ℕ) → n ≡ min (length a) (length b) → take n a ≡ take n b
     → nat_cmp (length a) (length b) ≡ byte_cmp a b
 cmp_by_length n [] [] least same = refl
-cmp_by_length n [] (y ∷ b) least same = grind (arith, nat_cmp_less)
-cmp_by_length n (x ∷ a) [] least same = grind (arith, nat_cmp_greater)
+cmp_by_length n [] (y ∷ b) least same = grind arith
+cmp_by_length n _ [] least same = grind arith
 cmp_by_length zero (x ∷ a) (y ∷ b) least same = absurd (omega arith)
-cmp_by_length (suc n) (x ∷ a) (y ∷ b) least same = grind (
-  arith,
-  nat_cmp_equal,
-  cmp_by_length n a b (omega arith) (ap
-      (drop 1) same),
-)
+cmp_by_length (suc n) (x ∷ a) (y ∷ b) least same = grind (arith, cmp_by_length n a b (omega arith) (ap (drop 1) same))

@@ -1,21 +1,19 @@
--- The ends of a call, for every engine: the output had failed before, a first slot could not be added, or the call made
--- some progress and then ended in one of five ways.
+-- The ends of a call of any engine: the output had failed before, a first slot could not be added, or there was
+-- progress.
 use Rattle.ptlines.proofs.Common.{◌≡◌, ℕ, ◌<◌, ◌≤◌, true, false, List, [], Option, length, max, refl, ◌∙◌, ap, arith}
 use Rattle.ptlines.proofs.Common.{Reader, ReaderAdvance, IsSound, Received, IsPrefix, PushEffect}
 use Rattle.ptlines.specs.Calls.{InputNames, EngineSpec, CallState, CallEnd, Complete, OutOfOrder, ReadFault}
 use Rattle.ptlines.specs.Calls.{WriteFault, MemoryFault, CallPost, CallOutcome, AreAllConsistent, AllPushed}
-use Rattle.ptlines.specs.Calls.{with_input, NoReadFailed}
+use Rattle.ptlines.specs.Calls.{with_input}
 use Rattle.ptlines.specs.Lag.{BoundedLag}
-use Rattle.ptlines.proofs.KnownBytes.{prepend_known-nil}
 use Rattle.ptlines.proofs.Lag.{bounded_lag_now}
 use Rattle.ptlines.proofs.Push.{push_nothing}
 use Rattle.ptlines.proofs.Received.{received_with, has_received, has_received_set}
 
--- nothing was consumed
 pub reads_nothing : (r : Reader) → ReaderAdvance r r []
-reads_nothing r = grind (arith, prepend_known-nil)
+reads_nothing r = grind arith
 
--- What was received before a call, and by its end, if it took these bytes.
+-- What was received before a call, and by its end.
 abbrev pub given_before : {I : Type 0} → CallState I → I → Received
 given_before old i = received_with [] (old.reader i)
 
@@ -23,21 +21,20 @@ abbrev pub given_by : {I : Type 0} → CallState I → (I → List ℕ) → I �
 given_by new bytes i = received_with (bytes i) (new.reader i)
 
 module _ {I : Type 0} (names : InputNames I) (engine : EngineSpec I) where
-  -- The output had failed, and nothing was done.
   pub call_on_failed_output : {old : CallState I} → old.out.write_failed ≡ true → old.store.denied ≡ false
       → CallPost names engine old old WriteFault
   call_on_failed_output {old} fault not_denied = record {
     given = λ i. received_with [] (old.reader i);
-    came = grind (arith, has_received, reads_nothing);
+    came = grind (arith, has_received);
     untouched = λ i unread. refl;
     pushed = [];
-    wrote = push_nothing old.out;
+    wrote = push_nothing _;
     ends = grind arith;
     is_prefix = grind arith;
     decided_is_written = λ i read failed clean. cc;
     bounded_lag = λ i read clean. cc;
-    peak = λ texts agree. omega arith;
-    slots = λ texts agree. omega arith;
+    peak = grind arith;
+    slots = grind arith;
     added = λ clean. cc;
     unread = λ clean few. cc;
     unchanged_if_failed =
@@ -100,7 +97,7 @@ module _ {I : Type 0} (names : InputNames I) (engine : EngineSpec I) where
       unchanged_if_failed = λ fault. cc;
     }
 
-  -- The progress of a call that had its first slots: `bytes` are those that it took from each input.
+  -- The progress of a call that had its first slots: it took `bytes` from each input.
   module _ (old new : CallState I) (bytes : I → List ℕ) where
     abbrev given : I → Received
     given = given_by new bytes
@@ -121,7 +118,6 @@ module _ {I : Type 0} (names : InputNames I) (engine : EngineSpec I) where
       pub least : length old.store.lines ≤ length new.store.lines
       pub room : engine.first_slots ≤ length new.store.lines
 
-    -- If a read failed, all output that is decided was pushed.
     abbrev pub DecidedIfReadFailed : List ℕ → CallEnd I → Type 0
     DecidedIfReadFailed pushed (ReadFault input) =
         (i : I) → names.is_read i ≡ true → (new.reader i).failed ≡ true → IsPrefix (engine.decided given) pushed
@@ -135,7 +131,7 @@ module _ {I : Type 0} (names : InputNames I) (engine : EngineSpec I) where
       decided_at Complete e decided i read failed clean = grind arith
       decided_at (OutOfOrder input line) e decided i read failed clean = grind arith
       decided_at WriteFault e decided i read failed clean = cc (e.write_failed)
-      decided_at MemoryFault e decided i read failed clean = grind arith
+      decided_at _ e decided i read failed clean = grind arith
 
       unfoldable pub call_ends : (end : CallEnd I) → CallOutcome names engine old new given pushed end
           → DecidedIfReadFailed pushed end → CallPost names engine old new end
@@ -161,20 +157,17 @@ module _ {I : Type 0} (names : InputNames I) (engine : EngineSpec I) where
       (same_store : set.store ≡ old.store) (is : (i : I) → names.is_read i ≡ true
       → set.reader i ≡ record (old.reader i) { terminator = engine.terminator })
       (other : (i : I) → names.is_read i ≡ false → set.reader i ≡ old.reader i) where
-    unfailed_set : NoReadFailed names set new → NoReadFailed names old new
-    unfailed_set unfailed i read = grind arith
-
     pushed_set : {given : I → Received} {pushed : List ℕ} {found : Option (I × ℕ)}
         → AllPushed names engine set new given pushed found → AllPushed names engine old new given pushed found
-    pushed_set e = grind (arith, unfailed_set)
+    pushed_set e = grind arith
 
     pub ends_set : (given : I → Received) (pushed : List ℕ) (end : CallEnd I)
         → CallOutcome names engine set new given pushed end → CallOutcome names engine old new given pushed end
     ends_set given pushed Complete e = pushed_set e
-    ends_set given pushed (OutOfOrder input line) e = grind (arith, pushed_set)
+    ends_set given pushed (OutOfOrder input line) e = grind arith
     ends_set given pushed (ReadFault input) e = grind arith
-    ends_set given pushed WriteFault e = grind (arith, unfailed_set)
-    ends_set given pushed MemoryFault e = grind (arith, unfailed_set)
+    ends_set given pushed WriteFault e = grind arith
+    ends_set _ _ _ e = grind arith
 
     unfoldable pub call_set : {end : CallEnd I} → CallPost names engine set new end → CallPost names engine old new end
     call_set {end} c = record {

@@ -1,4 +1,4 @@
--- Names from other crates and from this one that many proofs here use.
+-- Names that many proofs here use.
 pub use Rattle.std.proofs.Common.{Bool, Err, Fits, List, None, Ok, OnErr, OnOk, Option, Result, Some, [], ap}
 pub use Rattle.std.proofs.Common.{append_assoc, arith, cond, drop, eqb, false, get_or, inl, inr, length, length-append}
 pub use Rattle.std.proofs.Common.{length-take, map, max, min, not, refl, rules, set, subst, suc, sym, take}

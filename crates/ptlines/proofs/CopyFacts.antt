@@ -1,5 +1,5 @@
--- A copy of a whole vector copies its first bytes too; the bytes after them do not matter. Two vectors that overlap
--- copy all bytes.
+-- A copy of a whole vector copies its first bytes too; the others do not matter. Two vectors that overlap copy all
+-- bytes.
 use Rattle.ptlines.proofs.Common.{◌≡◌, ℕ, ◌+◌, ◌≤◌, List, length, take, drop, ◌++◌, sym, ◌∙◌, ap, arith}
 use Rattle.ptlines.proofs.Common.{length-take-le, take-take, take_more_put_chunk, put_chunk, take-append-add}
 use Rattle.ptlines.proofs.Common.{common_steps}
@@ -13,18 +13,16 @@ copied_prefix at few many was is bytes within fewer copied =
     ∙ take-append-add (take at was) (take many bytes) few
     ∙ ap (λ b. take at was ++ b) (take-take few many bytes fewer)
 
--- a vector stored at the beginning of a list
 pub copied_vector_prefix : (few many : ℕ) (was bytes : List ℕ) → few ≤ many → many ≤ length was → many ≤ length bytes
     → take few (put_chunk 0 was (take many bytes)) ≡ take few bytes
 copied_vector_prefix few many was bytes fewer room within =
-    let lanes = take many bytes in
     sym (grind (arith, common_steps))
-    ∙ ap (take few) (take_more_put_chunk 0 was lanes many (grind (arith, length-take-le)) room)
+    ∙ ap (take few) (take_more_put_chunk 0 was (take many bytes) many (grind (arith, length-take-le)) room)
     ∙ take-take few many bytes fewer
 
--- the first n bytes and the last n, which may overlap, are all bytes
+-- the first `n` bytes and the last `n`, which may overlap
 pub copied_ends : (at last n : ℕ) (was between is bytes : List ℕ) → at ≤ length was → last ≤ n → last + n ≡ length bytes
     → take (at + n) between ≡ take at was ++ take n bytes
     → take (at + last + n) is ≡ take (at + last) between ++ take n (drop last bytes)
     → take (at + length bytes) is ≡ take at was ++ bytes
-copied_ends at last n was between is bytes within less whole first second = grind (arith, common_steps, copied_prefix)
+copied_ends at _ n was _ is _ within less whole first second = grind (arith, common_steps, copied_prefix)

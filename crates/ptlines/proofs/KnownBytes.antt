@@ -1,4 +1,4 @@
--- Facts about bytes that may be unknown, and about unflushed bytes: appending twice is appending the concatenation.
+-- Appending twice is appending the concatenation, also to bytes that may be unknown.
 use Rattle.ptlines.proofs.Common.{◌≡◌, ℕ, Bool, List, [], ◌++◌, Option, append_known, prepend_known, unflushed_after}
 use Rattle.ptlines.proofs.Common.{arith, rules, common_steps}
 
@@ -12,9 +12,6 @@ append_known-nil = search rules
 pub prepend_known-append : (xs ys : List ℕ) (known : Option (List ℕ))
     → prepend_known xs (prepend_known ys known) ≡ prepend_known (xs ++ ys) known
 prepend_known-append = grind (arith, common_steps)
-
-pub prepend_known-nil : (known : Option (List ℕ)) → prepend_known [] known ≡ known
-prepend_known-nil = grind arith
 
 pub unflushed_after-append : (unflushed : Bool) (xs ys : List ℕ)
     → unflushed_after (unflushed_after unflushed xs) ys ≡ unflushed_after unflushed (xs ++ ys)

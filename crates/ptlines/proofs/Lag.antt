@@ -1,17 +1,15 @@
--- Bounded lag: if output was pushed while no write had failed, all of it but at most one block has been written to the
--- sink, since the block holds at most 8,192 bytes.
+-- All output that was pushed while no write had failed, except for at most one block of 8,192 bytes, is in the sink.
 use Rattle.ptlines.proofs.Common.{◌≡◌, ℕ, ◌+◌, ◌≤◌, false, List, ◌++◌, Option, None, Some, length, max, sym, ◌∙◌, ap}
 use Rattle.ptlines.proofs.Common.{arith, length-append, append_known, Received, IsPrefix, Output, IsKnownPrefix}
 use Rattle.ptlines.proofs.Common.{PushEffect, rules, common_steps}
 use Rattle.ptlines.specs.Lag.{ProcessLag, BufferLag, BoundedLag}
-use Rattle.ptlines.proofs.KnownBytes.{append_known-append}
 use Rattle.ptlines.proofs.Push.{known_prefix_refl}
 
 unfoldable pub known_length : Option (List ℕ) → ℕ
 known_length None = 0
 known_length (Some bytes) = length bytes
 
--- the bytes written to the sink since then, and how many are missing
+-- what was written to the sink since `was`, and how much is missing
 buffer_lag_bytes : (was mid is : Option (List ℕ)) (buffered waits bytes : List ℕ) → IsKnownPrefix was mid
     → IsKnownPrefix mid is → append_known mid waits ≡ append_known (append_known was buffered) bytes
     → length waits ≤ max 8192 (length buffered)
@@ -25,10 +23,9 @@ buffer_lag_bytes None mid is buffered waits bytes first second all few = (
 )
 buffer_lag_bytes (Some t) mid is buffered waits bytes first second all few = (
   first.front ++ second.front,
-  grind (arith, common_steps, append_known-append),
+  grind (arith, common_steps),
   omega (
     arith,
-    few,
     ap known_length (sym (ap (λ m. append_known m waits) first.is) ∙ all),
     length-append first.front second.front,
     length-append t first.front,
@@ -40,9 +37,9 @@ buffer_lag_bytes (Some t) mid is buffered waits bytes first second all few = (
 
 buffer_lag : (was mid is : Output) (pushed bytes : List ℕ) → PushEffect was mid pushed → mid.write_failed ≡ false
     → IsKnownPrefix mid.accepted is.accepted → IsPrefix bytes pushed → BufferLag was is bytes
-buffer_lag was mid is pushed bytes wrote clean kept front =
+buffer_lag was mid is _ _ wrote clean kept front =
     let (written_out, accepted, most) =
-    buffer_lag_bytes was.accepted mid.accepted is.accepted was.buffered mid.buffered pushed
+    buffer_lag_bytes _ _ _ _ _ _
     wrote.kept kept (wrote.whole clean) wrote.buffered in
     grind (arith, length-append)
 
@@ -56,11 +53,9 @@ module _ {I : Type 0} (decided : (I → Received) → List ℕ) (came : I → Re
         buffering = search (rules, buffer_lag, known_prefix_refl);
       }
 
-  -- regardless of the bytes pushed after that
   pub bounded_lag_after : (is : Output) (bytes : List ℕ) → PushEffect mid is bytes
       → BoundedLag decided came was is (pushed ++ bytes)
-  bounded_lag_after is bytes more =
-      let now = decided (λ i. (processing.before i).earlier) in
+  bounded_lag_after is _ more =
       record {
         processing = record {
           before = processing.before;

@@ -1,43 +1,28 @@
--- The number of trailing zeros of a match mask is the index of the first match, and a mask of zero means that there is
--- none. Masks of adjacent chunks are combined by shifting and adding.
+-- The trailing zeros of a match mask count the bytes before the first match; a mask of zero means that there is none.
 use Rattle.ptlines.proofs.Common.{◌≡◌, ℕ, ◌+◌, ◌*◌, ◌^◌, ◌%◌, ◌<◌, ◌≤◌, Bool, not, List, [], ◌∷◌, ◌++◌, rules}
 use Rattle.ptlines.proofs.Common.{Option, Some, length, map, refl, sym, ◌∙◌, ap, subst, arith, bit_or}
 use Rattle.ptlines.proofs.Common.{take-add, drop-drop, length-map, none_from_empty_mask, trailing_mask_l}
 use Rattle.ptlines.proofs.Common.{run_in_chunk_fails, run_in_chunk_stops, length-chunk, mask_l-lt}
-use Rattle.ptlines.proofs.Common.{prefix_len, mask_l, chunk, Nowhere, NoneBefore, Passes, IsFirst}
-use Rattle.std.proofs.Math.Nat.{pow-succ', mul_assoc}
+use Rattle.ptlines.proofs.Common.{prefix_len, mask_l, chunk, Nowhere, Passes, IsFirst}
+use Rattle.std.proofs.Math.Nat.{pow-succ'}
 use Rattle.std.proofs.lemmas.Grind.{or_before_shift, common_steps}
 use lib.Count.{count_trailing_zeros}
 
-pub none_if_zero_mask_at : (test : ℕ → Bool) (hay : List ℕ) (i n : ℕ) → i + n ≤ length hay
-    → mask_l (map test (chunk i n hay)) ≡ 0 → Nowhere (Passes test hay) i (i + n)
-none_if_zero_mask_at test hay i n room none k low high passes =
-    grind (arith, none_from_empty_mask)
-
--- if the mask is not zero, the first match lies within the list
 prefix_len_lt : (test : ℕ → Bool) (xs : List ℕ) → 0 < mask_l (map test xs)
     → prefix_len (λ x. not (test x)) xs < length xs
-prefix_len_lt test [] some = absurd (omega arith)
+prefix_len_lt _ [] some = absurd (omega arith)
 prefix_len_lt test (x ∷ xs) some = grind (arith, prefix_len_lt test xs)
-
--- the lowest set bit is the first match
-pub first_at_lowest_bit_of_chunk : (test : ℕ → Bool) (hay : List ℕ) (i n : ℕ) → n ≤ 64 → i + n ≤ length hay
-    → 0 < mask_l (map test (chunk i n hay))
-    → NoneBefore (Passes test hay) i (i + n) (i + count_trailing_zeros 64 (mask_l (map test (chunk i n hay))))
-    × Passes test hay (i + count_trailing_zeros 64 (mask_l (map test (chunk i n hay))))
-first_at_lowest_bit_of_chunk test hay i n few room some =
-    grind (arith, length-chunk, trailing_mask_l, prefix_len_lt, run_in_chunk_fails, run_in_chunk_stops)
 
 -- ---- the same facts for a number that equals the mask
 
 pub none_if_zero_mask : (test : ℕ → Bool) (hay : List ℕ) (i n m : ℕ) → i + n ≤ length hay
     → m ≡ mask_l (map test (chunk i n hay)) → m ≡ 0 → Nowhere (Passes test hay) i (i + n)
-none_if_zero_mask = grind (arith, none_if_zero_mask_at)
+none_if_zero_mask = grind (arith, none_from_empty_mask)
 
 pub first_at_lowest_bit : (test : ℕ → Bool) (hay : List ℕ) (i n m : ℕ) → n ≤ 64 → i + n ≤ length hay
     → m ≡ mask_l (map test (chunk i n hay)) → (m ≡ 0 → ⊥)
     → IsFirst (Passes test hay) i (i + n) (Some (i + count_trailing_zeros 64 m))
-first_at_lowest_bit = grind (arith, first_at_lowest_bit_of_chunk)
+first_at_lowest_bit = grind (arith, length-chunk, trailing_mask_l, prefix_len_lt, run_in_chunk_fails, run_in_chunk_stops)
 
 -- ---- a search that continues after indices without a match
 
@@ -45,36 +30,29 @@ module _ (P : ℕ → Type 0) where
   pub nowhere_trans : (i j k : ℕ) → Nowhere P i j → Nowhere P j k → Nowhere P i k
   nowhere_trans = grind arith
 
-  -- nothing matches before `later`, so a search that begins at `j` finds the first match from `i` on
+  -- nothing matches before `later`, so a search from `j` finds the first match from `i` on
   pub first_after : (i j k later : ℕ) (r : Option ℕ) → i ≤ j → j ≤ later → Nowhere P i later → IsFirst P j k r
       → IsFirst P i k r
-  first_after = grind (arith, nowhere_trans)
+  first_after = grind arith
 
 -- ---- masks of adjacent chunks
 
 pub mask_append : (front back : List Bool) → mask_l (front ++ back) ≡ mask_l front + 2 ^ length front * mask_l back
 mask_append [] back = omega arith
 mask_append (f ∷ front) back =
-    omega (
-      arith,
-      mask_append front back,
-      ap (λ p. p * mask_l back) (pow-succ' 2 (length front)),
-      mul_assoc 2 (2 ^ length front) (mask_l back),
-    )
+    omega (arith, mask_append front back, ap (λ p. p * mask_l back) (pow-succ' 2 (length front)))
 
 chunk_append : {X : Type 0} (i m n : ℕ) (xs : List X) → chunk i (m + n) xs ≡ chunk i m xs ++ chunk (i + m) n xs
 chunk_append {X} i m n xs = grind (arith, take-add, drop-drop)
 
--- the mask of 16 + n bytes is the mask of the first 16 plus 2^16 times that of the next n
 mask_16_append : (test : ℕ → Bool) (hay : List ℕ) (i n : ℕ) → i + 16 ≤ length hay
     → mask_l (map test (chunk i (16 + n) hay))
     ≡ mask_l (map test (chunk i 16 hay)) + 65536 * mask_l (map test (chunk (i + 16) n hay))
-mask_16_append = grind (arith, common_steps, length-chunk, chunk_append, mask_append)
+mask_16_append = grind (arith, common_steps, chunk_append, mask_append)
 
 mask_16_lt : (test : ℕ → Bool) (hay : List ℕ) (i : ℕ) → i + 16 ≤ length hay → mask_l (map test (chunk i 16 hay)) < 65536
-mask_16_lt = search (rules, length-chunk, mask_l-lt)
+mask_16_lt = search (rules, mask_l-lt)
 
--- three masks of 16 bytes make one of 48
 pub mask_48 : (test : ℕ → Bool) (hay : List ℕ) (i a b c : ℕ) → i + 48 ≤ length hay
     → a ≡ mask_l (map test (chunk i 16 hay)) → b ≡ mask_l (map test (chunk (i + 16) 16 hay))
     → c ≡ mask_l (map test (chunk (i + 32) 16 hay))
@@ -87,14 +65,14 @@ mask_48 test hay i a b c room first second third =
     let two : bit_or a (b * 65536 % 18446744073709551616) ≡ b * 65536 + a =
     grind (arith, or_before_shift) in
     let three = or_before_shift (bit_or a (b * 65536 % 18446744073709551616)) c 4294967296 18446744073709551616 refl
-    (omega (arith, two, low, mid)) (omega (arith, high)) in
+    (grind arith) (omega arith) in
     let mask : ℕ → ℕ → ℕ = λ k n. mask_l (map test (chunk k n hay)) in
-    let all : mask i 48 ≡ mask i 16 + 65536 * mask (i + 16) 32 = mask_16_append test hay i 32 (omega (arith, room)) in
-    let rest : mask (i + 16) 32 ≡ mask (i + 16) 16 + 65536 * mask (i + 16 + 16) 16 =
-    mask_16_append test hay (i + 16) 16 (omega (arith, room)) in
+    let all = mask_16_append test hay i 32 (omega arith) in
+    let rest =
+    mask_16_append test hay (i + 16) 16 (omega arith) in
     grind arith
 
--- The first match among 64 bytes: by the mask of the first 16 if that is not zero, otherwise by the mask of all.
+-- ---- the first match among 64 bytes, by the mask of the first 16 if that is not zero
 
 module _ (test : ℕ → Bool) (hay : List ℕ) where
   first_from_start : (n m : ℕ) → n ≤ 64 → n ≤ length hay → m ≡ mask_l (map test (chunk 0 n hay)) → (m ≡ 0 → ⊥)
@@ -104,7 +82,7 @@ module _ (test : ℕ → Bool) (hay : List ℕ) where
       let end : 0 + n ≡ n = omega arith in
       subst (λ k. IsFirst (Passes test hay) 0 n (Some k)) at
       (subst (λ k. IsFirst (Passes test hay) 0 k (Some (0 + count_trailing_zeros 64 m))) end
-      (first_at_lowest_bit test hay 0 n m few (omega (arith, room)) is some))
+      (first_at_lowest_bit _ hay 0 n m few (omega arith) is some))
 
   pub first_of_mask_64 : (m : ℕ) → 64 ≤ length hay → m ≡ mask_l (map test (chunk 0 64 hay)) → (m ≡ 0 → ⊥)
       → IsFirst (Passes test hay) 0 64 (Some (count_trailing_zeros 64 m))
@@ -113,7 +91,7 @@ module _ (test : ℕ → Bool) (hay : List ℕ) where
   pub first_of_mask_16 : (m : ℕ) → 64 ≤ length hay → m ≡ mask_l (map test (chunk 0 16 hay)) → (m ≡ 0 → ⊥)
       → IsFirst (Passes test hay) 0 64 (Some (count_trailing_zeros 64 m))
   first_of_mask_16 m room is some =
-      let (first, found) = first_from_start 16 m (omega arith) (omega (arith, room)) is some in
+      let (first, found) = first_from_start 16 m (omega arith) (omega arith) is some in
       grind arith
 
   pub mask_64 : (near far : ℕ) → 64 ≤ length hay → near ≡ mask_l (map test (chunk 0 16 hay)) → near ≡ 0

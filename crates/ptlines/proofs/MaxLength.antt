@@ -1,6 +1,5 @@
--- Facts about the length of the longest line: it is the maximum over parts, and no prefix of a line is longer.
+-- The length of the longest line is the maximum over parts.
 use Rattle.ptlines.proofs.Common.{◌≡◌, ℕ, ◌+◌, ◌≤◌, List, [], ◌∷◌, ◌++◌, length, max, arith, onto_first}
-use Rattle.ptlines.proofs.TextLaws.{byte_ne}
 use Rattle.ptlines.specs.Text.{lines, IsLine, max_length}
 
 pub max_length-append : (xs ys : List (List ℕ)) → max_length (xs ++ ys) ≡ max (max_length xs) (max_length ys)
@@ -22,9 +21,8 @@ first_le_max_length = grind arith
 first_piece : (end : ℕ) (piece rest : List ℕ) → IsLine end piece
     → length piece ≤ first_length (lines end (piece ++ rest))
 first_piece end [] rest free = omega arith
-first_piece end (b ∷ piece) rest (differs, free) = grind (arith, byte_ne, first_onto, first_piece end piece rest free)
+first_piece end (b ∷ piece) rest (differs, free) = grind (arith, first_onto, first_piece end piece rest free)
 
--- a prefix of a line is no longer than the longest line
 pub piece_le_max_length : (end : ℕ) (piece rest : List ℕ) → IsLine end piece
     → length piece ≤ max_length (lines end (piece ++ rest))
 piece_le_max_length end piece rest free =

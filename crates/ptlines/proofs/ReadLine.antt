@@ -1,13 +1,13 @@
--- A line is read piece by piece: the pieces put together are the line, and what was consumed in several calls is the
--- concatenation of what each consumed. A line whose terminator is among the next 64 bytes is copied at once.
+-- A line is read piece by piece: what several calls consumed is the concatenation of what each consumed. A line whose
+-- terminator is among the next 64 bytes is copied at once.
 use Rattle.ptlines.proofs.Common.{◌≡◌, ℕ, ◌+◌, ◌-◌, ◌^◌, ◌<◌, ◌≤◌, None, Some, take, Bool, List, [], ◌∷◌, ◌++◌}
-use Rattle.ptlines.proofs.Common.{length, sym, ◌∙◌, ap, subst, arith, append_assoc, length-append, nat_tests, set-set}
-use Rattle.ptlines.proofs.Common.{Slots, line, with_line, false, not, ◌==◌, Ok, IsLine, Reader, ReaderAdvance}
-use Rattle.ptlines.proofs.Common.{AdvanceOk, IsDone, budget, PiecePartial, PieceLine, FillLine, FillPost, IsAppended}
+use Rattle.ptlines.proofs.Common.{length, sym, ◌∙◌, ap, subst, arith, length-append, set-set}
+use Rattle.ptlines.proofs.Common.{Slots, line, with_line, not, ◌==◌, Ok, IsLine, Reader, ReaderAdvance}
+use Rattle.ptlines.proofs.Common.{AdvanceOk, IsDone, PiecePartial, PieceLine, FillLine, FillPost, IsAppended}
 use Rattle.ptlines.proofs.Common.{IsFirst, IsFirstByte, Passes, is_byte, slice_range, rules, common_steps}
 use Rattle.ptlines.proofs.KnownBytes.{prepend_known-append}
 use Rattle.ptlines.proofs.SlotTotals.{total_bytes_set}
-use Rattle.ptlines.proofs.LineSearch.{IsLine-append, line_before_terminator, take_with_terminator, advance_ok_take}
+use Rattle.ptlines.proofs.LineSearch.{IsLine-append, line_before_terminator, advance_ok_take}
 use Rattle.ptlines.proofs.Consume.{rest_of_range}
 
 pub advance_trans : (a b c : Reader) (xs ys : List ℕ) → ReaderAdvance a b xs → ReaderAdvance b c ys
@@ -18,30 +18,15 @@ pub advance_ok_trans : (a b c : Reader) (xs ys : List ℕ) → AdvanceOk a b xs 
     → AdvanceOk a c (xs ++ ys)
 advance_ok_trans a b c xs ys first second = search (rules, advance_trans)
 
--- a piece that was moved after a refill that consumed nothing
-module _ (old now new : Reader) (before after : Slots) (slot : ℕ) (first : AdvanceOk old now []) where
-  pub partial_after_refill : PiecePartial now new before after slot → PiecePartial old new before after slot
-  partial_after_refill = grind (arith, advance_ok_trans)
-
-  pub line_after_refill : PieceLine now new before after slot → PieceLine old new before after slot
-  line_after_refill = grind (arith, advance_ok_trans)
-
--- setting a slot twice, the second time to a longer line, is the same as setting it once to that line
-pub with_line_twice : (store : Slots) (slot : ℕ) (xs ys : List ℕ) → slot < length store.lines → length xs ≤ length ys
-    → with_line (with_line store slot xs) slot ys ≡ with_line store slot ys
-with_line_twice store slot xs ys within longer =
-    let same = set-set store.lines slot xs ys in
-    grind (arith, total_bytes_set)
-
 pub line_of_with_line : (store : Slots) (slot : ℕ) (xs : List ℕ) → slot < length store.lines
     → line (with_line store slot xs) slot ≡ xs
 line_of_with_line = search rules
 
 pub appended_twice : (s t u : Slots) (slot : ℕ) (xs ys : List ℕ) → slot < length s.lines → t ≡ with_line s slot xs
     → IsAppended t u slot ys → u ≡ with_line s slot (xs ++ ys)
-appended_twice = grind (arith, line_of_with_line, with_line_twice, length-append)
+appended_twice = grind (arith, line_of_with_line, length-append, set-set, total_bytes_set)
 
--- The bytes consumed since `old` are a prefix of one line, and the slot holds them.
+-- the bytes consumed since `old`, a part of one line, are in the slot
 pub record LineSoFar (old now : Reader) (before so_far : Slots) (slot : ℕ) : Type 0 where
   pub piece : List ℕ
   pub advance_ok : AdvanceOk old now piece
@@ -51,22 +36,18 @@ pub record LineSoFar (old now : Reader) (before so_far : Slots) (slot : ℕ) : T
 pub line_so_far_partial : (old now new : Reader) (before so_far after : Slots) (slot : ℕ) → slot < length before.lines
     → LineSoFar old now before so_far slot → PiecePartial now new so_far after slot
     → LineSoFar old new before after slot
-line_so_far_partial old now new before so_far after slot within begun partial = record {
+line_so_far_partial old now new _ _ _ _ within begun partial = record {
   piece = begun.piece ++ partial.piece;
   advance_ok = search (rules, advance_ok_trans);
   whole = grind (arith, IsLine-append);
   stored = grind (arith, appended_twice);
 }
 
-budget_decreases : (old new : Reader) (bytes : List ℕ) → AdvanceOk old new bytes → 0 < length bytes
-    → old.pulled < 2 ^ 63 → budget new < budget old
-budget_decreases = grind arith
-
 pub fill_line : (old now new : Reader) (before so_far after : Slots) (slot : ℕ) → slot < length before.lines
     → old.pulled < 2 ^ 63 → LineSoFar old now before so_far slot → PieceLine now new so_far after slot
     → FillLine old new before after slot
-fill_line old now new before so_far after slot within short begun last =
-    grind (arith, budget_decreases, all, length-append, IsLine-append, same, appended_twice)
+fill_line old now new _ _ _ _ within short begun last =
+    grind (arith, all, length-append, IsLine-append, same, appended_twice)
   where
     same : now.terminator ≡ old.terminator
     same = begun.advance_ok.reads.terminator
@@ -75,33 +56,23 @@ fill_line old now new before so_far after slot within short begun last =
     all =
         subst (λ b. AdvanceOk old new b)
         (ap (λ end. begun.piece ++ (last.piece ++ end ∷ [])) same
-        ∙ sym (append_assoc begun.piece last.piece (old.terminator ∷ [])))
+        ∙ sym (grind (arith, common_steps)))
         (search (rules, advance_ok_trans))
-
-not_empty : (n : ℕ) → 0 < n → (n == 0) ≡ false
-not_empty = grind (arith, nat_tests)
 
 pub fill_eof : (old now new : Reader) (before so_far after : Slots) (slot : ℕ) (empty : Bool)
     → slot < length before.lines → old.pulled < 2 ^ 63 → LineSoFar old now before so_far slot → AdvanceOk now new []
     → IsDone new → after ≡ so_far → empty ≡ (length (line after slot) == 0)
     → FillPost old new before after slot (Ok (not empty))
-fill_eof old now new before so_far after slot empty within short begun advance_ok done same is = grind (
-  arith,
-  advance_ok_trans,
-  line_of_with_line,
-  by_piece,
-)
+fill_eof old now new before so_far after slot empty within short begun advance_ok done same is = grind (arith, line_of_with_line, by_piece)
   where
     by_piece : (piece : List ℕ) → AdvanceOk old new piece → IsLine old.terminator piece
         → after ≡ with_line before slot piece → empty ≡ (length piece == 0)
         → FillPost old new before after slot (Ok (not empty))
     by_piece [] g w s t = grind arith
-    by_piece (x ∷ piece) g w s t = search (rules, not_empty, budget_decreases)
+    by_piece (x ∷ piece) g w s t = search rules
 
--- The terminator is among the first n bytes of `front`, which begins with the buffered bytes; the line before it was
--- copied to the slot at once.
+-- `front` begins with the buffered bytes. The line before the terminator among its first `n` bytes was copied at once.
 module _ (n : ℕ) (old new : Reader) (block front : List ℕ) (start end size : ℕ) (before after : Slots) (slot : ℕ) where
-  -- the terminator that was found lies within the buffered bytes
   first_in_block : start + size < end → end - start ≤ length old.buffered → take (end - start) front ≡ old.buffered
       → IsFirst (Passes (is_byte old.terminator) front) 0 n (Some size)
       → IsFirstByte (is_byte old.terminator) old.buffered (Some size)
@@ -112,13 +83,4 @@ module _ (n : ℕ) (old new : Reader) (block front : List ℕ) (start end size :
       → IsFirst (Passes (is_byte old.terminator) front) 0 n (Some size)
       → new ≡ record old { buffered = slice_range block (start + size + 1) end }
       → after ≡ with_line before slot (take size front) → FillLine old new before after slot
-  fill_short_line = grind (
-    arith,
-    common_steps,
-    first_in_block,
-    rest_of_range,
-    take_with_terminator,
-    advance_ok_take,
-    line_before_terminator,
-    budget_decreases,
-  )
+  fill_short_line = grind (arith, common_steps, first_in_block, rest_of_range, advance_ok_take, line_before_terminator)

@@ -1,24 +1,22 @@
--- The total length of the lines in a store, and the bounds of its lines and buffers, after one slot is set, added or
--- exchanged. The total changes by the difference of the lengths of the new and the old line, and always fits 128 bits.
+-- The total length of the lines in a store, and the bounds of lines and buffers, after one slot is set, added or
+-- exchanged. The total changes by the difference of two lengths, and always fits 128 bits.
 use Rattle.ptlines.proofs.Common.{◌≡◌, ◌≢◌, ℕ, zero, suc, ◌+◌, ◌*◌, ◌^◌, ◌<◌, ◌≤◌, List, [], ◌∷◌, ◌++◌, length, take}
 use Rattle.ptlines.proofs.Common.{drop, get_or, sym, ◌∙◌, ap, arith, set, Bool, subst, refl, max, set-get_or, set-set}
 use Rattle.ptlines.proofs.Common.{swap, length-map, Slots, LengthsAreBounded, line, total_bytes, with_line}
-use Rattle.ptlines.proofs.Common.{with_denied, true, rules, common_steps}
+use Rattle.ptlines.proofs.Common.{rules, common_steps}
 use Rattle.ptlines.specs.Slots.{SlotBuffer, slot_lines, AreBuffersBounded, AreCounted}
 use Rattle.std.proofs.lemmas.List.{map-set, get_or-map}
-use Rattle.std.proofs.lemmas.List.Elements.{All-set, All-get_or}
+use Rattle.std.proofs.lemmas.List.Elements.{All-set}
 use Rattle.std.proofs.lemmas.List.Sums.{sum_by-le}
 use Rattle.std.proofs.lemmas.List.Sorted.{sum_by-IsPermutation, IsPermutation-swap}
 
--- the total after one line is set
 pub total_bytes_set : (lines : List (List ℕ)) (slot : ℕ) (bytes : List ℕ) → slot < length lines
     → total_bytes (set lines slot bytes) + length (get_or lines slot []) ≡ total_bytes lines + length bytes
 total_bytes_set = grind (arith, common_steps)
 
--- the total with one more line fits 128 bits
 pub total_fits : (lines : List (List ℕ)) (more : ℕ) → LengthsAreBounded lines → length lines < 2 ^ 63 → more < 2 ^ 64
     → total_bytes lines + more < 2 ^ 128
-total_fits lines more short few small = omega (arith, sum_by-le length (2 ^ 63) lines short)
+total_fits _ _ short few small = omega (arith, sum_by-le length _ _ short)
 
 abbrev pub IsBounded : List ℕ → Type 0
 IsBounded bytes = length bytes ≤ 2 ^ 63
@@ -27,49 +25,42 @@ abbrev pub HasBoundedBuffer : ℕ → SlotBuffer → Type 0
 HasBoundedBuffer peak slot = slot.buffer_size ≤ 2 * peak + 128
 
 module _ {X : Type 0} where
-  -- at an index within the list the default value does not matter
-  pub get_or_any_default : (xs : List X) (at : ℕ) (d e : X) → at < length xs → get_or xs at d ≡ get_or xs at e
-  get_or_any_default = grind (arith, common_steps)
-
-  -- setting an element after a split of the list, and before it
   pub set_after_split : (xs : List X) (at : ℕ) (w : X) → at < length xs
       → take at xs ++ set (drop at xs) 0 w ≡ set xs at w
   set_after_split [] at w within = absurd (omega arith)
   set_after_split (x ∷ xs) zero w within = refl
-  set_after_split (x ∷ xs) (suc at) w within = cc (set_after_split xs at w (omega (arith, within)))
+  set_after_split (x ∷ xs) (suc at) w within = cc (set_after_split xs at w (omega arith))
 
   pub set_before_split : (xs : List X) (at cut : ℕ) (w : X) → at < cut
       → set (take cut xs) at w ++ drop cut xs ≡ set xs at w
   set_before_split xs at zero w near = grind arith
   set_before_split [] at (suc cut) w near = refl
   set_before_split (x ∷ xs) zero (suc cut) w near = grind (arith, common_steps)
-  set_before_split (x ∷ xs) (suc at) (suc cut) w near = cc (set_before_split xs at cut w (omega (arith, near)))
+  set_before_split (x ∷ xs) (suc at) (suc cut) w near = cc (set_before_split xs at cut w (omega arith))
 
   All-swap : (P : X → Type 0) (xs : List X) (a b : ℕ) → a < length xs → b < length xs
       → ((k : ℕ) (d : X) → k < length xs → P (get_or xs k d)) → (k : ℕ) (d : X) → k < length (swap xs a b)
       → P (get_or (swap xs a b) k d)
   All-swap P [] a b a_in b_in all = all
   All-swap P (x ∷ more) a b a_in b_in all =
-      let xs : List X = x ∷ more in
-      All-set P (set xs a (get_or xs b x)) b (get_or xs a x) (All-get_or P xs a x a_in all)
-      (All-set P xs a (get_or xs b x) (All-get_or P xs b x b_in all) all)
+      let xs = x ∷ more in
+      All-set P _ b _ (grind arith)
+      (All-set P xs a _ (grind arith) all)
 
 abbrev pub line_of : SlotBuffer → List ℕ
 line_of slot = slot.line
 
--- exchanging two slots does not change the total
 pub total_bytes_swap : (lines : List (List ℕ)) (a b : ℕ) → a < length lines → b < length lines
     → total_bytes (swap lines a b) ≡ total_bytes lines
-total_bytes_swap lines a b a_in b_in =
-    sum_by-IsPermutation length lines (swap lines a b) (IsPermutation-swap lines (swap lines a b) a b a_in b_in refl)
+total_bytes_swap _ a b a_in b_in =
+    sum_by-IsPermutation _ _ _ (IsPermutation-swap _ _ a b a_in b_in refl)
 
 pub slot_lines-swap : (slots : List SlotBuffer) (a b : ℕ) → a < length slots → b < length slots
     → slot_lines (swap slots a b) ≡ swap (slot_lines slots) a b
 slot_lines-swap [] a b a_in b_in = refl
-slot_lines-swap (s ∷ more) a b a_in b_in =
+slot_lines-swap _ a b a_in b_in =
     grind (arith, map-set, get_or-map)
 
--- the invariant after an exchange
 pub counted_after_swap : (slots : List SlotBuffer) (a b : ℕ) {byte_count peak : ℕ} → a < length slots → b < length slots
     → AreCounted byte_count peak slots → AreCounted byte_count peak (swap slots a b)
 counted_after_swap slots a b {byte_count} {peak} a_in b_in counted =
@@ -84,7 +75,7 @@ counted_after_swap slots a b {byte_count} {peak} a_in b_in counted =
       buffers = All-swap (HasBoundedBuffer peak) slots a b a_in b_in counted.buffers;
     }
 
--- the lines and the buffers after one slot is set
+-- one slot is set, from `had` to `new`
 module _ (slots after : List SlotBuffer) (slot : ℕ) (had new : SlotBuffer) (d : SlotBuffer)
     (within : slot < length slots) (is : after ≡ set slots slot new) (was : had ≡ get_or slots slot d) where
   low : slot < length (slot_lines slots)
@@ -103,9 +94,9 @@ module _ (slots after : List SlotBuffer) (slot : ℕ) (had new : SlotBuffer) (d 
   -- the new line is a part of the new total, so a buffer that grows to twice its length stays below the bound
   buffers_after_set : new.buffer_size ≤ max had.buffer_size (2 * length new.line + 64) → (peak : ℕ)
       → total_bytes (slot_lines after) ≤ peak → AreBuffersBounded peak slots → AreBuffersBounded peak after
-  buffers_after_set = grind (arith, common_steps, lines_are, total_bytes_set, low)
+  buffers_after_set = grind (arith, common_steps, lines_are, total_bytes_set)
 
--- A slot that was `had` is set to another one: the old line was part of the total, and the new total follows.
+-- A slot that was `had` is set to another one: the old line was part of the total.
 module _ (slots : List SlotBuffer) (slot : ℕ) {byte_count before : ℕ} (had : SlotBuffer) (within : slot < length slots)
     (was : had ≡ get_or slots slot had) (counted : AreCounted byte_count before slots) where
   pub line_le_total : length had.line ≤ byte_count
@@ -127,30 +118,23 @@ module _ (slots : List SlotBuffer) (slot : ℕ) {byte_count before : ℕ} (had :
       omega (
         arith,
         ap total_bytes (lines_are slots after slot had new had within refl was),
-        total_bytes_set (slot_lines slots) slot new.line (grind (arith, common_steps, low)),
+        total_bytes_set (slot_lines slots) slot new.line (grind (arith, common_steps)),
         ap length (line_was slots after slot had new had within refl was),
       ) in
       record {
         total = total;
         below_peak = less;
         lines = search (rules, lengths_after_set);
-        buffers = buffers_after_set slots after slot had new had within refl was room peak (grind arith)
+        buffers = buffers_after_set slots after slot had new had within refl was room _ (grind arith)
             (grind arith);
       }
 
--- one slot, at two default values
 pub same_slot : (slots : List SlotBuffer) (slot : ℕ) {a b : SlotBuffer} → slot < length slots → a ≡ get_or slots slot a
     → b ≡ get_or slots slot b → a ≡ b
-same_slot = grind (arith, get_or_any_default)
-
-empty_bounded : LengthsAreBounded ([] ∷ [])
-empty_bounded = grind arith
+same_slot = grind (arith, common_steps)
 
 abbrev pub empty_slot : SlotBuffer
 empty_slot = record { line = []; buffer_size = 128 }
-
-empty_fits : (peak : ℕ) → AreBuffersBounded peak (empty_slot ∷ [])
-empty_fits = grind arith
 
 -- the model of a store
 abbrev pub store_of : List SlotBuffer → ℕ → Bool → Slots
@@ -158,44 +142,19 @@ store_of slots peak denied = record { lines = slot_lines slots; peak = peak; den
 
 module _ (slots : List SlotBuffer) {peak : ℕ} {denied : Bool} {now : Slots} (slot : ℕ)
     (is : store_of slots peak denied ≡ now) where
-  -- a slot number below the number of slots is an index of the list
   pub slot_in_range : slot < length now.lines → slot < length slots
   slot_in_range = grind (arith, common_steps)
 
-  -- the line of a slot is that of the element of the list
   pub line_before : {had : SlotBuffer} → slot < length slots → had ≡ get_or slots slot had → had.line ≡ line now slot
   line_before = grind (arith, common_steps)
 
-  -- memory could not be allocated, so the slot is as before
-  pub denied_line : {had new : SlotBuffer} → had ≡ get_or slots slot had → new ≡ had
-      → store_of (set slots slot new) peak true ≡ with_denied now
-  denied_line = grind (arith, common_steps)
-
-  -- the model of the store after a slot was set
   pub store_after_set : (new : SlotBuffer) {bytes : List ℕ} {byte_count peak_now : ℕ} → new.line ≡ bytes
       → byte_count ≡ total_bytes (slot_lines (set slots slot new)) → peak_now ≡ max peak byte_count
       → store_of (set slots slot new) peak_now denied ≡ with_line now slot bytes
   store_after_set new {bytes} new_is counts peak_is =
       grind (arith, map-set)
 
--- the invariant after an empty slot was added
-pub counted_after_add : (slots : List SlotBuffer) {after : List SlotBuffer} {byte_count peak : ℕ}
-    → after ≡ slots ++ empty_slot ∷ [] → AreCounted byte_count peak slots → AreCounted byte_count peak after
-counted_after_add = grind (arith, common_steps, empty_bounded, empty_fits)
-
--- the slots after the line of one was appended to that of another
-module _ (slots after : List SlotBuffer) (from to : ℕ) (had source new d e : SlotBuffer) (more : List ℕ)
-    (from_in : from < length slots) (to_in : to < length slots)
-    (is : after ≡ set slots to new) (had_is : had ≡ get_or slots to d) (source_is : source ≡ get_or slots from e) where
-  slots_appended : more ≡ source.line → new.line ≡ had.line ++ more
-      → slot_lines after ≡ set (slot_lines slots) to
-      (get_or (slot_lines slots) to [] ++ get_or (slot_lines slots) from [])
-  slots_appended more_is new_is =
-      let added : more ≡ get_or (slot_lines slots) from [] = grind (arith, common_steps) in
-      lines_are slots after to had new d to_in is had_is
-      ∙ ap (set (slot_lines slots) to) (grind (arith, common_steps, line_was))
-
--- The slots are split at `to`, so the target is the first slot of the back part.
+-- Split at `to`: the target is the first slot of the back part.
 module _ (slots front back : List SlotBuffer) (from to : ℕ) (d e new : SlotBuffer) (more : List ℕ) (near : from < to)
     (within : to < length slots)
     (front_is : front ≡ take to slots) (back_is : back ≡ drop to slots) where
@@ -205,14 +164,12 @@ module _ (slots front back : List SlotBuffer) (from to : ℕ) (d e new : SlotBuf
   back_slot : get_or back 0 d ≡ get_or slots to d
   back_slot = grind (arith, common_steps)
 
-  front_slot : get_or front from e ≡ get_or slots from e
-  front_slot = grind (arith, common_steps)
-
   pub append_to_back : more ≡ (get_or front from e).line → new.line ≡ (get_or back 0 d).line ++ more
       → slot_lines (front ++ set back 0 new)
       ≡ set (slot_lines slots) to (get_or (slot_lines slots) to [] ++ get_or (slot_lines slots) from [])
-  append_to_back = slots_appended slots (front ++ set back 0 new) from to (get_or back 0 d) (get_or front from e)
-      new d e more (omega (arith, near, within)) within back_set back_slot front_slot
+  append_to_back = λ more_is new_is.
+      lines_are slots (front ++ set back 0 new) to (get_or back 0 d) new d within back_set back_slot
+      ∙ ap (set (slot_lines slots) to) (grind (arith, common_steps))
 
   pub bounded_back : length new.line ≤ 2 ^ 63 → LengthsAreBounded (slot_lines slots)
       → LengthsAreBounded (slot_lines (front ++ set back 0 new))
@@ -223,7 +180,7 @@ module _ (slots front back : List SlotBuffer) (from to : ℕ) (d e new : SlotBuf
       → AreBuffersBounded peak (front ++ set back 0 new)
   buffers_back = search (rules, buffers_after_set, back_set, back_slot)
 
--- The slots are split at `from`, so the target lies in the front part.
+-- Split at `from`: the target lies in the front part.
 module _ (slots front back : List SlotBuffer) (from to : ℕ) (d e new : SlotBuffer) (more : List ℕ) (near : to < from)
     (within : from < length slots)
     (front_is : front ≡ take from slots) (back_is : back ≡ drop from slots) where
@@ -233,37 +190,34 @@ module _ (slots front back : List SlotBuffer) (from to : ℕ) (d e new : SlotBuf
   target_slot : get_or front to d ≡ get_or slots to d
   target_slot = grind (arith, common_steps)
 
-  source_slot : get_or back 0 e ≡ get_or slots from e
-  source_slot = grind (arith, common_steps)
-
   pub append_to_front : more ≡ (get_or back 0 e).line → new.line ≡ (get_or front to d).line ++ more
       → slot_lines (set front to new ++ back)
       ≡ set (slot_lines slots) to (get_or (slot_lines slots) to [] ++ get_or (slot_lines slots) from [])
-  append_to_front = slots_appended slots (set front to new ++ back) from to (get_or front to d) (get_or back 0 e)
-      new d e more within (omega (arith, near, within)) front_set target_slot source_slot
+  append_to_front = λ more_is new_is.
+      lines_are slots (set front to new ++ back) to (get_or front to d) new d (grind arith) front_set target_slot
+      ∙ ap (set (slot_lines slots) to) (grind (arith, common_steps))
 
   pub bounded_front : length new.line ≤ 2 ^ 63 → LengthsAreBounded (slot_lines slots)
       → LengthsAreBounded (slot_lines (set front to new ++ back))
   bounded_front = lengths_after_set slots (set front to new ++ back) to (get_or front to d) new d
-      (omega (arith, near, within)) front_set target_slot
+      (grind arith) front_set target_slot
 
   pub buffers_front : new.buffer_size ≤ max (get_or front to d).buffer_size (2 * length new.line + 64) → (peak : ℕ)
       → total_bytes (slot_lines (set front to new ++ back)) ≤ peak → AreBuffersBounded peak slots
       → AreBuffersBounded peak (set front to new ++ back)
   buffers_front = buffers_after_set slots (set front to new ++ back) to (get_or front to d) new d
-      (omega (arith, near, within)) front_set target_slot
+      (grind arith) front_set target_slot
 
--- the slot `to` after it was emptied and the line of `from` was appended
+-- the slot `to` was emptied, and the line of `from` appended
 pub copy_lines : (lines cleared after : List (List ℕ)) (from to : ℕ) → from ≢ to → to < length lines
     → cleared ≡ set lines to [] → after ≡ set cleared to (get_or cleared to [] ++ get_or cleared from [])
     → after ≡ set lines to (get_or lines from [])
-copy_lines lines cleared after from to differ to_in cleared_is after_is =
+copy_lines _ _ _ _ to differ to_in cleared_is after_is =
     search (rules, set-set)
 
--- the total after that copy
 pub copy_total : (lines cleared after : List (List ℕ)) (from to byte_count size : ℕ) (v : List ℕ) → from ≢ to
     → from < length lines → to < length lines → cleared ≡ set lines to [] → after ≡ set lines to (get_or lines from [])
     → byte_count ≡ total_bytes cleared → v ≡ get_or after from v → size ≡ length v
     → (byte_count + size ≡ total_bytes after) × (byte_count ≡ total_bytes (set lines to []))
     × (byte_count + size ≡ total_bytes (set lines to (get_or lines from [])))
-copy_total = search (rules, get_or_any_default, total_bytes_set)
+copy_total = grind (arith, common_steps, total_bytes_set)

@@ -1,32 +1,25 @@
--- Facts about lines and their text: a text is split at each terminator, so splitting the text of lines gives these
--- lines, and the text of the lines of a text is that text, to which one terminator may be added.
+-- Splitting the text of lines gives these lines, and the text of the lines of a text is that text, perhaps with one
+-- more terminator.
 use Rattle.ptlines.proofs.Common.{◌≡◌, ◌≢◌, ◌⊎◌, inl, inr, ℕ, ◌==◌, ◌<◌, Bool, true, false, cond, List, [], ◌∷◌, ◌++◌}
-use Rattle.ptlines.proofs.Common.{length, drop, get_or, refl, sym, ◌∙◌, ap, arith, onto_first, eq-eqb, eqb-true}
-use Rattle.ptlines.proofs.Common.{eqb-false, nat_tests, append-nil, unlines, lines, complete_lines, IsLine, AreLines}
-use Rattle.ptlines.proofs.Common.{AreLinesOf, EndsWithByte, LinesAreUnique, CompleteLinesAreLines, rules, common_steps}
+use Rattle.ptlines.proofs.Common.{length, drop, get_or, refl, sym, ◌∙◌, ap, arith, onto_first, eq-eqb}
+use Rattle.ptlines.proofs.Common.{eqb-false, append-nil, unlines, lines, complete_lines, IsLine, AreLines}
+use Rattle.ptlines.proofs.Common.{EndsWithByte, LinesAreUnique, CompleteLinesAreLines, rules, common_steps}
 
 pub byte_eq : (end : ℕ) → (end == end) ≡ true
 byte_eq end = eq-eqb end end refl
 
 pub byte_ne : (end b : ℕ) → b ≢ end → (b == end) ≡ false
-byte_ne = grind (arith, nat_tests)
+byte_ne = grind arith
 
--- the first line of a text that has a terminator
 pub lines_cons : (end : ℕ) (front rest : List ℕ) → IsLine end front
     → lines end (front ++ end ∷ rest) ≡ front ∷ lines end rest
 lines_cons end [] rest free = rw (byte_eq end) refl
-lines_cons end (b ∷ front) rest (differs, free) = grind (arith, byte_ne, lines_cons end front rest free)
+lines_cons end (b ∷ front) rest (differs, free) = grind (arith, lines_cons end front rest free)
 
--- a last line without a terminator
 pub lines_of_last : (end : ℕ) (line : List ℕ) → IsLine end line → 0 < length line → lines end line ≡ line ∷ []
 lines_of_last end [] free some = absurd (omega arith)
 lines_of_last end (b ∷ []) (differs, free) some = rw (byte_ne end b differs) refl
-lines_of_last end (b ∷ c ∷ line) (differs, free) some = grind (
-  arith,
-  byte_ne,
-  lines_of_last end (c ∷ line) free
-      (omega arith),
-)
+lines_of_last end (b ∷ c ∷ line) (differs, free) some = grind (arith, lines_of_last end (c ∷ line) free (omega arith))
 
 pub unlines-append : (end : ℕ) (xs ys : List (List ℕ)) → unlines end (xs ++ ys) ≡ unlines end xs ++ unlines end ys
 unlines-append = grind (arith, common_steps)
@@ -39,88 +32,55 @@ pub AreLines_push : (end : ℕ) (ls : List (List ℕ)) (line : List ℕ) → Are
     → AreLines end (ls ++ line ∷ [])
 AreLines_push = grind (arith, common_steps)
 
--- the text of some lines followed by more bytes: the first line, and what comes after it
-unlines_first : (end : ℕ) (line : List ℕ) (ls : List (List ℕ)) (bytes : List ℕ)
-    → unlines end (line ∷ ls) ++ bytes ≡ line ++ end ∷ (unlines end ls ++ bytes)
-unlines_first = grind (arith, common_steps)
-
--- the text of some lines followed by more bytes has these lines, followed by the lines of the bytes
 pub lines_of_unlines : (end : ℕ) (ls : List (List ℕ)) (bytes : List ℕ) → AreLines end ls
     → lines end (unlines end ls ++ bytes) ≡ ls ++ lines end bytes
 lines_of_unlines end [] bytes w = refl
-lines_of_unlines end (line ∷ ls) bytes (first, others) = grind (
-  arith,
-  unlines_first,
-  lines_cons,
-  lines_of_unlines end
-      ls bytes others,
-)
+lines_of_unlines end (line ∷ ls) bytes (first, others) = grind (arith, common_steps, lines_cons, lines_of_unlines end ls bytes others)
 
--- the lines of the text of some lines are these lines
 pub lines-unlines : (end : ℕ) (ls : List (List ℕ)) → AreLines end ls → lines end (unlines end ls) ≡ ls
 lines-unlines end ls w = ap (lines end) (sym (append-nil (unlines end ls))) ∙ lines_of_unlines end ls [] w
     ∙ append-nil ls
 
--- a part of a line contains no complete line
 pub complete_lines_none : (end : ℕ) (piece : List ℕ) → IsLine end piece → complete_lines end piece ≡ []
 complete_lines_none end [] free = refl
-complete_lines_none end (b ∷ piece) (differs, free) = grind (arith, byte_ne, complete_lines_none end piece free)
+complete_lines_none end (b ∷ piece) (differs, free) = grind (arith, complete_lines_none end piece free)
 
 pub complete_lines_cons : (end : ℕ) (front rest : List ℕ) → IsLine end front
     → complete_lines end (front ++ end ∷ rest) ≡ front ∷ complete_lines end rest
 complete_lines_cons end [] rest free = rw (byte_eq end) refl
-complete_lines_cons end (b ∷ front) rest (differs, free) = grind (
-  arith,
-  byte_ne,
-  complete_lines_cons end front rest
-      free,
-)
+complete_lines_cons end (b ∷ front) rest (differs, free) = grind (arith, complete_lines_cons end front rest free)
 
--- the complete lines of the text of some lines, followed by a part of a line, are these lines
 pub complete_lines_of_unlines : (end : ℕ) (ls : List (List ℕ)) (piece : List ℕ) → AreLines end ls → IsLine end piece
     → complete_lines end (unlines end ls ++ piece) ≡ ls
-complete_lines_of_unlines end [] piece w p = complete_lines_none end piece p
-complete_lines_of_unlines end (line ∷ ls) piece (first, others) p = grind (
-  arith,
-  unlines_first,
-  complete_lines_cons,
-  complete_lines_of_unlines end ls piece others p,
-)
+complete_lines_of_unlines end [] piece w p = complete_lines_none end _ p
+complete_lines_of_unlines end (line ∷ ls) piece (first, others) p =
+    grind (arith, common_steps, complete_lines_cons, complete_lines_of_unlines end ls piece others p)
 
--- a terminator added to an incomplete last line changes no line
 lines_extra_terminator : (end : ℕ) (bytes : List ℕ) → bytes ≢ [] → ¬ EndsWithByte end bytes
     → lines end (bytes ++ end ∷ []) ≡ lines end bytes
 lines_extra_terminator end [] some not_eof = absurd (some refl)
-lines_extra_terminator end (b ∷ []) some not_eof = grind (arith, eqb-true, byte_eq)
+lines_extra_terminator end (b ∷ []) some not_eof = grind (arith, byte_eq)
 lines_extra_terminator end (b ∷ c ∷ bytes) some not_eof = cc (lines_extra_terminator end (c ∷ bytes) (λ e. cc) (λ
     (front, e). not_eof (b ∷ front, ap (λ xs. b ∷ xs) e)))
 
-lines-only : (end : ℕ) (bytes : List ℕ) (ls : List (List ℕ)) → AreLinesOf end bytes ls → ls ≡ lines end bytes
-lines-only = grind (arith, lines-unlines, lines_extra_terminator)
-
--- no line contains the terminator
 pub lines_are : (end : ℕ) (bytes : List ℕ) → AreLines end (lines end bytes)
 lines_are end [] = tt
 lines_are end (b ∷ bytes) = grind (arith, lines_are end bytes)
 
-unlines_onto : (end b c : ℕ) (bytes : List ℕ)
-    → unlines end (onto_first b (lines end (c ∷ bytes))) ≡ b ∷ unlines end (lines end (c ∷ bytes))
-unlines_onto = grind arith
-
 tail_ends : (end b c : ℕ) (bytes : List ℕ) → EndsWithByte end (b ∷ c ∷ bytes) → EndsWithByte end (c ∷ bytes)
-tail_ends end b c bytes ([], e) = cc
-tail_ends end b c bytes (f ∷ fs, e) = (fs, ap (drop 1) e)
+tail_ends end b c _ ([], e) = cc
+tail_ends end b c _ (f ∷ fs, e) = (fs, ap (drop 1) e)
 
--- the text of the lines is the text, with one terminator added if the last line was incomplete
+-- one terminator is added if the last line was incomplete
 pub unlines-lines : (end : ℕ) (bytes : List ℕ)
     → (unlines end (lines end bytes) ≡ bytes)
     ⊎ ((bytes ≢ []) × ¬ EndsWithByte end bytes × (unlines end (lines end bytes) ≡ bytes ++ end ∷ []))
 unlines-lines end [] = inl refl
-unlines-lines end (b ∷ []) = grind (arith, eqb-true, byte_eq, not_ended)
+unlines-lines end (b ∷ []) = grind (arith, byte_eq, not_ended)
   where
     not_ended : (b == end) ≡ false → EndsWithByte end (b ∷ []) → ⊥
     not_ended e ([], h) = eqb-false b end e (ap (λ xs. get_or xs 0 0) h)
-    not_ended e (f ∷ fs, h) = let bad : [] ≡ fs ++ end ∷ [] = ap (drop 1) h in not_nil fs bad
+    not_ended e (f ∷ fs, h) = let bad = ap (drop 1) h in not_nil fs bad
       where
         not_nil : (xs : List ℕ) → [] ≡ xs ++ end ∷ [] → ⊥
         not_nil [] z = cc
@@ -135,25 +95,24 @@ unlines-lines end (b ∷ c ∷ bytes) = put (b == end) refl (unlines-lines end (
         ⊎ ((b ∷ c ∷ bytes ≢ []) × ¬ EndsWithByte end (b ∷ c ∷ bytes)
         × (unlines end (cond t ([] ∷ lines end (c ∷ bytes)) (onto_first b (lines end (c ∷ bytes))))
         ≡ (b ∷ c ∷ bytes) ++ end ∷ []))
-    put true e (inl h) = grind (arith, eqb-true)
+    put true e (inl h) = grind arith
     put true e (inr (n, u, h)) =
-        inr ((λ z. cc), (λ x. u (tail_ends end b c bytes x)), grind (arith, eqb-true))
-    put false e (inl h) = grind (arith, unlines_onto)
+        inr ((λ z. cc), (λ x. u (tail_ends end b c _ x)), grind arith)
+    put false e (inl h) = grind arith
     put false e (inr (n, u, h)) =
-        inr ((λ z. cc), (λ x. u (tail_ends end b c bytes x)), grind (arith, unlines_onto))
+        inr ((λ z. cc), (λ x. u (tail_ends end b c _ x)), grind arith)
 
 pub the_lines : LinesAreUnique
-the_lines = grind (arith, lines_are, unlines-lines, lines-only)
+the_lines = grind (arith, lines_are, unlines-lines, lines-unlines, lines_extra_terminator)
 
--- the complete lines are the lines up to the last terminator
 complete_lines_up_to_last : (end : ℕ) (front rest : List ℕ) → IsLine end rest
     → complete_lines end (front ++ end ∷ rest) ≡ lines end (front ++ end ∷ [])
 complete_lines_up_to_last end front rest free =
-    let all : List ℕ = front ++ end ∷ [] in
+    let all = front ++ end ∷ [] in
     let whole : unlines end (lines end all) ≡ all =
     grind (arith, unlines-lines) in
     ap (complete_lines end) (grind (arith, common_steps))
-    ∙ complete_lines_of_unlines end (lines end all) rest (lines_are end all) free
+    ∙ complete_lines_of_unlines end _ _ (lines_are end all) free
 
 pub the_complete_lines : CompleteLinesAreLines
 the_complete_lines = grind (arith, complete_lines_none, complete_lines_up_to_last)

@@ -1,16 +1,15 @@
--- Proofs for `comm`. A line adds one output line if one input has it alone, and one common output line if both have it.
--- So each step of the merge extends the output by the entries of its key, and the loop invariant of the merge carries
--- over.
+-- Proofs for `comm`. A line adds one output line if one input has it alone, and one common output line if both have it:
+-- each step of the merge extends the output by the entries of its key, so the loop invariant of the merge carries over.
 use Rattle.ptmerge.proofs
-use proofs.Common.{◌≡◌, ℕ, ◌<◌, List, [], ◌∷◌, ◌++◌, refl, sym, arith, Comm, Output, PushEffect, Reader, Slots}
+use proofs.Common.{◌≡◌, ℕ, List, [], ◌∷◌, ◌++◌, refl, sym, arith, Comm, Output, PushEffect, Reader, Slots}
 use proofs.Common.{line, unlines, Side, First, Second, Sorted, Lines, MergeTool, entries_by_key, AdvanceOkPost}
-use proofs.Common.{AdvancePre, MergeState, merge_state, Cmp, Key, both, with_side, HaveEqualKeys}
-use proofs.Common.{HasOnlyLeastKey, suc, append-nil, Bool, MergeRunPre}
-use proofs.MergeLemmas.{BetweenSteps, between_next, advance_pre, reads_less, EndsIfFails}
+use proofs.Common.{AdvancePre, MergeState, Cmp, Key, both, with_side, HaveEqualKeys}
+use proofs.Common.{HasOnlyLeastKey, suc, append-nil, Bool}
+use proofs.MergeLemmas.{BetweenSteps, between_next, advance_pre, EndsIfFails}
 use proofs.MergeLemmas.{LoopInvariant, advance_ok, goes_merging, passing_now, runs_on, read_facts_current}
-use proofs.MergeLemmas.{iteration_fails, alone, wrote_alone, alone_breaks, reads_ahead, place_is, wrote_and_sent}
-use proofs.MergeLemmas.{open_merge, IsKeyOrder}
-use proofs.MergeLemmas.{same_bytes, AllWritten, MergeInvariant, line_is_least_run, lag_invariant_starts}
+use proofs.MergeLemmas.{iteration_fails, alone, wrote_alone, alone_breaks, place_is, wrote_and_sent}
+use proofs.MergeLemmas.{IsKeyOrder}
+use proofs.MergeLemmas.{same_bytes, Written, MergeInvariant, line_is_least_run, lag_invariant_starts}
 use proofs.MergeLemmas.{write_least_run, all_keys, at_current_line, state_by_side, IsOpenMerge, IsLineByLine}
 use Rattle.std.proofs.Common.{rules}
 use Rattle.ptmerge.specs.Comm.{comm_with, entries, column_entries, tab_if_shown}
@@ -34,15 +33,13 @@ entries_both : (job : Comm) (x : List ℕ) (n k : ℕ)
 entries_both = grind (arith, no_entries)
 
 module _ (job : Comm) (cmp : Cmp) (key : Side → Key) where
-  is_line_by_line : IsLineByLine (comm_with job cmp key)
+  pub is_line_by_line : IsLineByLine (comm_with job cmp key)
   is_line_by_line = grind (arith, no_entries, append-nil)
 
-  -- the entries of one line of one input alone, if the key is the line
   entries_alone : (s : Side) (x : List ℕ) → key s x ≡ x → entries_by_key (comm_with job cmp key) all_keys
       (alone s x) ≡ column_entries (hidden_of job s) (tabs_of job s) 1 x
   entries_alone = grind (arith, same_bytes, append-nil)
 
-  -- the entries of one line of both inputs
   entries_of_pair : IsKeyOrder cmp → (x y : List ℕ) → key First x ≡ x → key Second y ≡ key First x
       → entries_by_key (comm_with job cmp key) all_keys (both (x ∷ []) (y ∷ [])) ≡ column_entries job.hide3
       (tab_if_shown job.hide1 ++ tab_if_shown job.hide2) 1 x
@@ -50,26 +47,19 @@ module _ (job : Comm) (cmp : Cmp) (key : Side → Key) where
 
 -- ---- the loop invariant
 
--- the invariant of the loop
 pub record IterationInvariant (job : Comm) (cmp : Cmp) (key : Side → Key) (old now : MergeState)
     (one two : Sorted) : Type 0 where
-  pub opened : IsOpenMerge (comm_with job cmp key) old
+  pub w : IsOpenMerge (comm_with job cmp key) old
   pub whole_line_keys : (side : Side) (x : List ℕ) → key side x ≡ x
-  pub loop_invariant : LoopInvariant opened now (both one two)
+  pub loop_invariant : LoopInvariant w now (both one two)
   pub between : BetweenSteps key now one two
-
--- the conditions at the start
-pub opened : (job : Comm) {cmp : Cmp} {key : Side → Key} {first second : Reader} {out : Output} {store : Slots}
-    → IsKeyOrder cmp → MergeRunPre job.terminator first second out store
-    → IsOpenMerge (comm_with job cmp key) (merge_state first second out store)
-opened job {cmp} {key} o begins = grind (arith, open_merge)
 
 -- ---- a step
 
 module _ {job : Comm} {cmp : Cmp} {key : Side → Key} {old now : MergeState} {one two : Sorted}
     (t : IterationInvariant job cmp key old now one two) where
   open t use {
-    opened as w,
+    w,
     whole_line_keys,
     loop_invariant,
     loop_invariant.{ls, p, b, sides, merge_invariant, cursors as lines_before},
@@ -82,12 +72,10 @@ module _ {job : Comm} {cmp : Cmp} {key : Side → Key} {old now : MergeState} {o
   abbrev head : Side → List ℕ
   head s = line now.store (both one two s).current_slot
 
-  -- the input `s` advanced, with this output
   abbrev Advances : Side → Sorted → Sorted → Reader → Slots → Output → Type 0
   Advances s one2 two2 reader after new =
       AdvanceOkPost key cmp s one two one2 two2 (now.reader s) reader now.store after new
 
-  -- a step for a line of one input alone
   module _ {s : Side} (step : HasOnlyLeastKey cmp key (both one two) now.store s) where
     module _ {new : Output} {tabs : List ℕ} (led : tabs ≡ tabs_of job s) (pushed : PushEffect now.out new
         (unlines (now.reader s).terminator (column_entries (hidden_of job s) tabs 1 (head s)))) where
@@ -98,8 +86,8 @@ module _ {job : Comm} {cmp : Cmp} {key : Side → Key} {old now : MergeState} {o
       pub alone_continues : {one2 two2 : Sorted} {reader : Reader} {after : Slots}
           → Advances s one2 two2 reader after new
           → IterationInvariant job cmp key old (state_by_side (with_side s reader now.reader) new after) one2 two2
-      alone_continues {one2} {two2} {reader} h = record {
-        opened = w;
+      alone_continues {one2} {two2} h = record {
+        w = w;
         whole_line_keys = whole_line_keys;
         loop_invariant = rw (← place_is s one two one2 two2 h.continues.others)
             (runs_on lines_before s step.status_is h.came (wrote_alone loop_invariant between.clean step wrote_line).0);
@@ -110,31 +98,25 @@ module _ {job : Comm} {cmp : Cmp} {key : Side → Key} {old now : MergeState} {o
       alone_fails = search (rules, alone_breaks, wrote_line)
 
   module _ (step : HaveEqualKeys cmp key (both one two) now.store) where
-    -- after the first input advanced: the second one is still at the line
+    -- the first input advanced: the second one is still at the line
     module _ {one2 two2 : Sorted} {reader : Reader} {after : Slots} {mid : Output}
         (h : Advances First one2 two2 reader after mid) where
       pub second_advance_pre : AdvancePre key Second one2 two2 (now.reader Second) after
       second_advance_pre = grind (arith, advance_pre)
-
-      pub pair_decreases : {one3 two3 : Sorted} {reader2 : Reader} {last : Slots} {new : Output}
-          → AdvanceOkPost key cmp Second one2 two2 one3 two3 (now.reader Second) reader2 after last new
-          → reads_ahead (both reader reader2) one3 two3 < reads_ahead now.reader one two
-      pair_decreases = grind (arith, reads_less, between_next)
 
     abbrev both_written : Side → Lines
     both_written = both (ls First) (ls Second)
 
     wrote_both : {new : Output} → PushEffect now.out new
         (unlines job.terminator (entries_by_key tool all_keys (both (head First ∷ []) (head Second ∷ []))))
-        → MergeInvariant tool b both_written old.out new × AllWritten tool b both_written old.out new
-    wrote_both {new} wrote =
-        let h1 = at_current_line (sides First) step.first in
+        → Written tool b both_written old.out new
+    wrote_both wrote =
         let h2 = at_current_line (sides Second) step.second in
         let x = head First in
         write_least_run w.o (key First x) both_written (both (x ∷ []) (head Second ∷ []))
-        (elim [ First ↦ line_is_least_run w.o h1.bound refl | Second ↦ line_is_least_run w.o h2.bound (sym step.same) ])
+        (elim [ First ↦ line_is_least_run w.o (at_current_line (sides First) step.first).bound refl | Second ↦ line_is_least_run w.o h2.bound (sym step.same) ])
         (grind arith) (w.alone.none (key First x))
-        (λ r c. entries_both job (key First x) _ _) between.clean merge_invariant wrote
+        (λ r c. entries_both job _ _ _) between.clean merge_invariant wrote
 
     module _ {mid : Output} {tabs : List ℕ} (led : tabs ≡ tab_if_shown job.hide1 ++ tab_if_shown job.hide2)
         (pushed : PushEffect now.out mid (unlines (now.reader First).terminator
@@ -147,7 +129,6 @@ module _ {job : Comm} {cmp : Cmp} {key : Side → Key} {old now : MergeState} {o
       pair_fails = iteration_fails lines_before First step.first (wrote_both wrote_pair).1 refl
           (passing_now lines_before Second step.second)
 
-      -- the first input advanced, and the output was written out
       module _ {one2 two2 : Sorted} {reader : Reader} {after : Slots}
           (h : Advances First one2 two2 reader after mid) {new : Output} (written_out : PushEffect mid new []) where
         wrote_line_out : MergeInvariant tool b both_written old.out new
@@ -159,18 +140,17 @@ module _ {job : Comm} {cmp : Cmp} {key : Side → Key} {old now : MergeState} {o
             let g = advance_ok lines_before First step.first h.came in
             let before = goes_merging lines_before First step.first h.came (wrote_both wrote_pair).0 in
             iteration_fails g Second step.second (lag_invariant_starts w.o before h.continues.clean written_out) refl
-            (read_facts_current g First) _ _ _ (rw h.continues.others at k)
+            (read_facts_current g _) _ _ _ (rw h.continues.others at k)
 
         pub pair_continues : {one3 two3 : Sorted} {reader2 : Reader} {last : Slots}
             → AdvanceOkPost key cmp Second one2 two2 one3 two3 (now.reader Second) reader2 after last new
             → IterationInvariant job cmp key old (state_by_side (both reader reader2) new last) one3 two3
         pair_continues k =
             let g = advance_ok lines_before First step.first h.came in
-            let came = rw h.continues.others at k.came in
             record {
-              opened = w;
+              w = w;
               whole_line_keys = whole_line_keys;
-              loop_invariant = rw k.continues.others (runs_on g Second step.second came
+              loop_invariant = rw k.continues.others (runs_on g Second step.second (rw h.continues.others at k.came)
                   (search (rules, goes_merging, wrote_line_out)));
               between = grind (arith, between);
             }

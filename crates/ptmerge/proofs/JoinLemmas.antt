@@ -1,6 +1,6 @@
--- The loop invariant of `join`, and its iterations between two groups. Between groups the invariant is that of the
--- merge. An iteration there writes one unpaired line, opens a group or ends the loop. The remaining work, three times
--- the reads that are left plus the rank of the phase, decreases in each iteration.
+-- The loop invariant of `join`; between groups it is that of the merge. An iteration there writes one unpaired line,
+-- opens a group or ends the loop. The remaining work, three times the reads that are left plus the rank of the phase,
+-- decreases.
 pub mod Group
 pub mod Fields
 use Rattle.std.proofs.Common.{rules}
@@ -15,7 +15,7 @@ use Rattle.ptmerge.specs.JoinGroup.{JoinStepPre, JoinLinePre, group_end_slot, gr
 use proofs.MergeLemmas.{BetweenSteps, between_next, advance_pre, reads_less, open_merge, alone, wrote_alone}
 use proofs.MergeLemmas.{alone_breaks, reads_ahead, place_is, LoopInvariant, Extends, input_split_of}
 use proofs.MergeLemmas.{extends, extends_on, runs_on, valid_cursors_kept, wrote_and_sent}
-use proofs.MergeLemmas.{others_stay, IsLineByLine, IsOpenMerge as OpenMerge, exit_is_merge_post, continues}
+use proofs.MergeLemmas.{others_stay, IsLineByLine, IsOpenMerge, exit_is_merge_post, continues}
 use proofs.MergeLemmas.{same_bound, bounds_change, IsKeyOrder, EachKey-at, Continues}
 use Rattle.ptmerge.specs.declared.tools.join.JoinPhase.{JoinPhase}
 use Rattle.ptmerge.specs.declared.tools.join.JoinPhase.TheVariants as phases
@@ -32,12 +32,8 @@ module _ (job : Join) (cmp : Cmp) (key : Side → Key) where
   first_alone k [] = grind arith
   first_alone k (a ∷ g) = refl
 
-  is_line_by_line : IsLineByLine (join_with job cmp key)
-  is_line_by_line = record {
-    none = λ k. cond_of_empty job.unpaired2;
-    first = λ k x g. let rest = first_alone k g in grind arith;
-    second = λ k x g. grind arith;
-  }
+  pub is_line_by_line : IsLineByLine (join_with job cmp key)
+  is_line_by_line = grind (arith, cond_of_empty, first_alone)
 
   some_pairs : job.pairs ≡ true → (k : List ℕ) (f g : Lines) → 0 < length f → 0 < length g
       → 0 < length (pair_entries job k f g)
@@ -45,22 +41,11 @@ module _ (job : Join) (cmp : Cmp) (key : Side → Key) where
   some_pairs keeps k f g some1 some2 = absurd (omega arith)
 
   pub join_pairs : IsPairTool (join_with job cmp key) (pair_entries job)
-  join_pairs = record {
-    none = λ k g. cond_of_empty job.pairs;
-    more = λ k f g c.
-        let each = λ (a : List ℕ). map (pair_of job k a) c in
-        grind (arith, flat_map-append each f g);
-    whole = grind arith;
-    written = some_pairs;
-    unwritten = λ none k f g. rw none;
-    largest = λ keeps g ls within. rw keeps (omega arith);
-  }
+  join_pairs = grind (arith, cond_of_empty, flat_map-append, some_pairs)
 
-  -- the entries of one unpaired line of one input
   pub entries_alone : (s : Side) (x : List ℕ) → key s x ≡ join_key job s x
       → entries_by_key (join_with job cmp key) all_keys (alone s x) ≡ unpaired_entry job s x
-  entries_alone First x is = grind (arith, same_bytes (refl {a = key First x}))
-  entries_alone Second x is = grind (arith, same_bytes (refl {a = key Second x}))
+  entries_alone = grind (arith, same_bytes)
 
 -- ---- the phases
 
@@ -73,14 +58,13 @@ pub record ReadGroup (call : JoinCall) (now : MergeState) (cursor : Side → Sor
   pub copied : kept ≡ cond call.keeps_groups g []
   pub heads : (side : Side) → IsAtGroupLine q side
 
--- no line of the group is copied, and `last`, the previous line of the second input, stands for all of them: it is the
--- only one, or no pairs are written
+-- no line of the group is copied, and `last`, the previous line of the second input, stands for all: it is the only
+-- one, or no pairs are written
 pub record IsOneForAll (call : JoinCall) (k last : List ℕ) (kept g : Lines) : Type 0 where
   pub none : kept ≡ []
   pub own : call.key Second last ≡ k
   pub same_pairs : (f : Lines) → call.pairs k f (last ∷ []) ≡ call.pairs k f g
 
--- the group's lines are the copied ones, or the previous line of the second input stands for them
 abbrev pub IsGroupIn : JoinCall → List ℕ → List ℕ → Lines → Lines → Type 0
 IsGroupIn call k last kept g = (kept ≡ g) ⊎ IsOneForAll call k last kept g
 
@@ -95,7 +79,6 @@ pub record WritePairs (call : JoinCall) (now : MergeState) (cursor : Side → So
   pub above : IsAbove call.cmp (call.key Second) k (q.d Second)
   pub head : IsAtGroupLine q First
 
--- the invariant in each phase
 abbrev pub PhaseInvariant : JoinCall → JoinPhase → MergeState → (Side → Sorted) → ℕ → Type 0
 PhaseInvariant call phases.BetweenGroups now cursor end = LoopInvariant call.w now cursor × (end ≡ 4)
 PhaseInvariant call phases.ReadGroup now cursor end = ReadGroup call now cursor end
@@ -110,55 +93,39 @@ rank_few = grind arith
 
 -- ---- an iteration
 
--- the conditions at the start
-pub record IsOpenMerge (job : Join) (cmp : Cmp) (key : Side → Key) (old : MergeState) : Type 0 where
-  pub w : OpenMerge (join_with job cmp key) old
-  pub keys : (side : Side) (x : List ℕ) → key side x ≡ join_key job side x
+abbrev pub join_call : (job : Join) (cmp : Cmp) (key : Side → Key) {old : MergeState}
+    → IsOpenMerge (join_with job cmp key) old → JoinCall
+join_call job cmp key {old} w =
+    record { tool = join_with job cmp key; pairs = pair_entries job; laws = join_pairs job cmp key; old = old; w = w }
 
-pub opened : (job : Join) {cmp : Cmp} {key : Side → Key} {first second : Reader} {out : Output} {store : Slots}
-    → IsKeyOrder cmp → ((side : Side) (x : List ℕ) → key side x ≡ join_key job side x)
-    → MergeRunPre job.terminator first second out store → IsOpenMerge job cmp key (merge_state first second out store)
-opened job {cmp} {key} o keys begins = grind (arith, open_merge)
-
--- the call
-abbrev pub join_call_of : {job : Join} {cmp : Cmp} {key : Side → Key} {old : MergeState} → IsOpenMerge job cmp key old
-    → JoinCall
-join_call_of {job} {cmp} {key} {old} a = record {
-  tool = join_with job cmp key;
-  pairs = pair_entries job;
-  laws = join_pairs job cmp key;
-  old = old;
-  w = a.w;
-}
-
--- the loop invariant
 pub record IterationInvariant (job : Join) (cmp : Cmp) (key : Side → Key) (old : MergeState) (phase : JoinPhase)
     (now : MergeState) (one two : Sorted) (end : ℕ) : Type 0 where
-  pub opened : IsOpenMerge job cmp key old
-  pub phased : PhaseInvariant (join_call_of opened) phase now (both one two) end
+  pub w : IsOpenMerge (join_with job cmp key) old
+  pub keys : (side : Side) (x : List ℕ) → key side x ≡ join_key job side x
+  pub phased : PhaseInvariant (join_call job cmp key w) phase now (both one two) end
   pub between : BetweenSteps key now one two
   pub open between use *
 
 module _ {job : Join} {cmp : Cmp} {key : Side → Key} {old : MergeState} {phase : JoinPhase} {now : MergeState}
     {one two : Sorted} {end : ℕ}
     (t : IterationInvariant job cmp key old phase now one two end) where
-  open t.opened.w use {o}
+  open t.w use {o}
 
   abbrev call : JoinCall
-  call = join_call_of t.opened
+  call = join_call job cmp key t.w
 
   pub iteration_continues : {next : JoinPhase} (s : Side) {one2 two2 : Sorted} {reader : Reader} {after : Slots}
       {new : Output} {to : ℕ} → IsReadyToContinue key s one two one2 two2 reader after new
       → PhaseInvariant call next (state_after_read now s reader new after)
       (with_side s (both one2 two2 s) (both one two)) to → IterationInvariant job cmp key old next
       (state_after_read now s reader new after) one2 two2 to
-  iteration_continues {next} s {one2} {two2} {reader} {after} {new} {to} continues phased = record {
-    opened = t.opened;
+  iteration_continues s {one2} {two2} continues phased = record {
+    w = t.w;
+    keys = t.keys;
     phased = rw (← place_is s one two one2 two2 continues.others) phased;
     between = between_next t.between s continues;
   }
 
-  -- advancing an input decreases the remaining work, in every phase
   pub measure_decreases : (s : Side) (next : JoinPhase) {one2 two2 : Sorted} {reader : Reader} {made after : Slots}
       {out : Output} → (both one two s).status ≡ Head
       → NextOkPost (key s) cmp (both one two s) (both one2 two2 s) (now.reader s) reader now.store made
@@ -169,20 +136,19 @@ module _ {job : Join} {cmp : Cmp} {key : Side → Key} {old : MergeState} {phase
       omega (arith, reads_less t.between s continues head came, rank_few next)
 
   pub joins : JoinStepPre job key now.out
-  joins = record { keys = t.opened.keys; clean = t.clean }
+  joins = search rules
 
   -- ---- between groups
 
   module _ (is : phase ≡ phases.BetweenGroups) where
-    between : LoopInvariant t.opened.w now (both one two) × (end ≡ 4)
+    between : LoopInvariant t.w now (both one two) × (end ≡ 4)
     between = rw is at t.phased
 
-    pub loop_invariant : LoopInvariant t.opened.w now (both one two)
+    pub loop_invariant : LoopInvariant t.w now (both one two)
     loop_invariant = between.0
 
     open loop_invariant use {cursors as lines_before, ls, p, b, sides, merge_invariant}
 
-    -- a step for an unpaired line
     module _ {s : Side} (step : HasOnlyLeastKey cmp key (both one two) now.store s) {new : Output}
         (pushed : PushEffect now.out new (unlines (now.reader s).terminator
         (unpaired_entry job s (head_of now (both one two) s)))) where
@@ -195,13 +161,12 @@ module _ {job : Join} {cmp : Cmp} {key : Side → Key} {old : MergeState} {phase
           → IterationInvariant job cmp key old phase (state_after_read now s reader new after) one2 two2 end
       alone_continues h =
           let (m, _) = wrote_alone loop_invariant t.clean step wrote_unpaired in
-          iteration_continues {next = phase} s h.continues
+          iteration_continues s h.continues
           (rw is (runs_on lines_before s step.status_is h.came m, between.1))
 
       pub alone_fails : EndsIfFails (join_with job cmp key) old now s (both one two s) new
       alone_fails = alone_breaks loop_invariant t.clean step wrote_unpaired
 
-    -- both inputs have the same key, and a group of it begins
     pub group_opens : HaveEqualKeys cmp key (both one two) now.store
         → IterationInvariant job cmp key old phases.ReadGroup now one two end
     group_opens step =
@@ -214,7 +179,8 @@ module _ {job : Join} {cmp : Cmp} {key : Side → Key} {old : MergeState} {phase
         let none : (side : Side) → p side ≡ p side ++ both [] []
         side = search rules in
         record {
-          opened = t.opened;
+          w = t.w;
+          keys = t.keys;
           phased = record {
             k = k;
             g = [];
@@ -229,11 +195,11 @@ module _ {job : Join} {cmp : Cmp} {key : Side → Key} {old : MergeState} {phase
               within = record {
                 merge_invariant = bounds_change (λ side. rw (bounds side) same_bound) merge_invariant;
                 clean = t.clean;
-                own = elim [ First ↦ tt | Second ↦ tt ];
+                own = search rules;
                 later = λ side. rw (bounds side) same_bound;
               };
               keeps = lines_before.keeps;
-              wrote = rw ((join_pairs job cmp key).none k []) (push_nothing now.out);
+              wrote = rw ((join_pairs job cmp key).none k []) (push_nothing _);
               at = between.1;
             };
             heads = elim [
@@ -256,12 +222,8 @@ module _ {job : Join} {cmp : Cmp} {key : Side → Key} {old : MergeState} {phase
     pub read_group_pre : AdvancePre key Second one two (now.reader Second) now.store
     read_group_pre = advance_pre t.between Second (a.heads Second).head
 
-    -- the copied lines are all lines read, or none
     all_copied : call.keeps_groups ≡ true → a.kept ≡ a.g
-    all_copied keeps = a.copied ∙ (λ i. cond (keeps i) a.g [])
-
-    none_copied : call.keeps_groups ≡ false → a.kept ≡ []
-    none_copied none = a.copied ∙ (λ i. cond (none i) a.g [])
+    all_copied = grind (arith, a)
 
     abbrev y : List ℕ
     y = line now.store two.current_slot
@@ -270,17 +232,15 @@ module _ {job : Join} {cmp : Cmp} {key : Side → Key} {old : MergeState} {phase
     abbrev grown : Lines
     grown = a.g ++ y ∷ []
 
-    -- the output buffered before the group was written out
+    -- buffered output was written out
     module _ {out : Output} (written_out : PushEffect now.out out []) where
-      -- no output of the group is written
       wrote_none : PushEffect a.q.mid out []
       wrote_none = wrote_and_sent _ _ _ _ t.clean (rw (call.laws.none a.k a.g) at a.q.wrote) written_out
 
-      -- the second input advanced
       module _ {reader : Reader} {two2 : Sorted} {made : Slots}
           (comes : NextOkPost (key Second) cmp two two2 (now.reader Second) reader now.store made) where
         on_second : AdvancedGroup (a.heads Second) comes out
-        on_second = advanced_group (a.heads Second) comes (rw (call.laws.none a.k grown) wrote_none)
+        on_second = advanced_group _ _ (rw (call.laws.none a.k grown) wrote_none)
 
         inside : {l : Lines} → Extends (on_second.group.ls Second) l → InLargest (key Second) grown l
         inside {l} more =
@@ -289,7 +249,6 @@ module _ {job : Join} {cmp : Cmp} {key : Side → Key} {old : MergeState} {phase
             rw is (group_in (key Second) a.k (a.q.p Second) grown on.more
             (own_more (a.heads Second) Second) (omega (arith, length_push a.g y)))
 
-        -- the current lines keep their slots in a store with the same first slots
         module _ (after : Slots) (same : (i : ℕ) → i < 4 → line after i ≡ line made i) where
           key1_on : key First (line after one.current_slot) ≡ a.k
           key1_on = rw (
@@ -300,23 +259,9 @@ module _ {job : Join} {cmp : Cmp} {key : Side → Key} {old : MergeState} {phase
           stays : line after two2.current_slot ≡ line made two2.current_slot
           stays = same _ (low_slot Second two2 (on_second.group.sides Second).slots).current
 
-        -- the pairs of the first input's current line and the group are not written yet
-        pairs_are_missing : call.keeps_groups ≡ true → (all : Side → Lines)
-            → ((side : Side) → Continues (with_side Second reader now.reader side) (on_second.group.ls side) (all side))
-            → ¬ (unlines call.terminator (entries_by_key call.tool all_keys on_second.group.p ++ [])
-            ≡ unlines call.terminator (merged_entries call.tool all))
-        pairs_are_missing keeps all w =
-            let first : IsAtGroupLine on_second.group First =
-            record { head = (a.heads First).head; is = key1_on made (λ i low. refl) } in
-            front_is_not_all call.w (within_more first) all (input_split_of call.w (state_after_read now Second reader
-            out made) (passing_now first) all w) (has_entries call (within_more first) keeps
-            (elim [ First ↦ omega arith | Second ↦ omega (arith, length_push a.g y) ]))
-
-        -- the previous line stands for the group, if none is copied
         one_for_all : a.kept ≡ [] → IsOneForAll call a.k (line made two2.previous_slot) a.kept grown
         one_for_all = grind (arith, a.heads Second, a, all_copied)
 
-        -- the group after the line was added to it, with its copied lines
         record GrownGroup (after : Slots) (to : ℕ) : Type 0 where
           kept : Lines
           q : GroupState call (state_after_read now Second reader out after) (with_side Second two2 (both one two)) to
@@ -328,13 +273,13 @@ module _ {job : Join} {cmp : Cmp} {key : Side → Key} {old : MergeState} {phase
         grown_group : {after : Slots} {to : ℕ} → IsInItsSlot call.keeps_groups two2 made after end to
             ⊎ IsCopiedToGroup call.keeps_groups two2 made after end to → GrownGroup after to
         grown_group (inl e) =
-            let none = ⊎_elim none_copied (λ (_, four). nil_from_length a.kept (omega (arith, a.q.at))) e.stays in
+            let none = ⊎_elim (λ without. a.copied ∙ (λ i. cond (without i) a.g []))
+            (λ (_, four). nil_from_length a.kept (omega (arith, a.q.at))) e.stays in
             rw (e.end_is, e.store_is) (record {
               kept = a.kept;
               q = on_second.group;
               same = λ i low. refl;
-              copied = λ same. ⊎_elim (λ without. none ∙ sym (λ i. cond (without i) grown [])) (λ (differs, _). cc)
-                  e.stays;
+              copied = grind (arith, none, e.stays);
               lines_in = inr (one_for_all none);
             })
         grown_group {after} (inr e) =
@@ -347,7 +292,7 @@ module _ {job : Join} {cmp : Cmp} {key : Side → Key} {old : MergeState} {phase
               kept = a.kept ++ y ∷ [];
               q = group_kept on_second.group new.same new.store_holds (omega (arith, a.q.at, length_push a.kept y));
               same = new.same;
-              copied = λ same. all ∙ sym (λ i. cond (e.keeps i) grown []);
+              copied = grind (arith, all, e.keeps);
               lines_in = inl all;
             })
 
@@ -359,7 +304,7 @@ module _ {job : Join} {cmp : Cmp} {key : Side → Key} {old : MergeState} {phase
         read_group_continues same =
             let r = grown_group h.came h.kept in
             let (head, has_key) = continues_key (a.heads Second) h.came same in
-            iteration_continues {next = phase} Second continues (rw is (record {
+            iteration_continues Second continues (rw is (record {
               k = a.k;
               g = grown;
               kept = r.kept;
@@ -375,7 +320,7 @@ module _ {job : Join} {cmp : Cmp} {key : Side → Key} {old : MergeState} {phase
             (state_after_read now Second reader out after) one2 two2 to
         write_pairs_next same =
             let r = grown_group h.came h.kept in
-            iteration_continues {next = phases.WritePairs} Second continues (record {
+            iteration_continues Second continues (record {
               k = a.k;
               g = both [] grown;
               kept = r.kept;
@@ -390,7 +335,6 @@ module _ {job : Join} {cmp : Cmp} {key : Side → Key} {old : MergeState} {phase
       read_fails : EndsIfFails call.tool old now Second two out
       read_fails = group_breaks (a.heads Second) (starts_none call (within_more (a.heads Second))) wrote_none
 
-      -- a line could not be copied, or the next one could not be read
       pub read_group_fails : {two2 : Sorted} {reader : Reader} {after : Slots} {fault : MergeFault}
           → ReadGroupLinePost call.keeps_groups (key Second) cmp two two2 (now.reader Second) reader now.store after out
           end (Err fault) → MergePost (join_with job cmp key) old (state_after_read now Second reader out after)
@@ -417,10 +361,16 @@ module _ {job : Join} {cmp : Cmp} {key : Side → Key} {old : MergeState} {phase
             denied = e.copy_failed.denied;
             unfailed = λ side read. (q.sides side).lines_read.advance_ok.failed;
             clean = fine;
+            -- the pairs of the first input's current line and the group are not written yet
             left = λ four. inr (
               e.keeps,
-              λ texts agree. pairs_are_missing e.came e.keeps (lines_of call.tool texts)
-                  (continues call.w new (group_read_facts q) texts agree),
+              λ texts agree.
+                  let first : IsAtGroupLine q First =
+                  record { head = (a.heads First).head; is = key1_on e.came e.made (λ i low. refl) } in
+                  front_is_not_all call (within_more first) e.keeps
+                  (elim [ First ↦ omega arith | Second ↦ omega (arith, length_push a.g y) ])
+                  (lines_of call.tool texts) (input_split_of call.w new (passing_now first) _
+                  (continues call.w new (group_read_facts q) texts agree)),
             );
           }))
 
@@ -431,29 +381,19 @@ module _ {job : Join} {cmp : Cmp} {key : Side → Key} {old : MergeState} {phase
     state = rw is at t.phased
 
     pub write_pairs_pre : JoinLinePre job key First one two (now.reader First) now.store now.out
-    write_pairs_pre = record { status_is = advance_pre t.between First state.head.head; joins = joins }
+    write_pairs_pre = search (rules, advance_pre, state, joins)
 
     is_kept : state.kept ≡ state.g Second → (end == 4) ≡ false
     is_kept = search rules
 
     is_alone : state.kept ≡ [] → (end == 4) ≡ true
-    is_alone none = let four : end ≡ 4 = omega (arith, state.q.at, ap length none) in grind arith
-
-    -- the lines of the group have its key
-    keyed_slot : (slot : ℕ) → group_first_slot two end ≤ slot → slot < group_end_slot two end
-        → key Second (line now.store slot) ≡ state.k
-    keyed_slot slot from low = ⊎_elim (λ same.
-        let own = rw (← same) at (state.q.within.own Second) in
-        let keyed = EachKey-at (λ x. x ≡ state.k) (key Second) state.kept (slot - 4) in
-        grind (arith, kept_line state.q.keeps, keyed, own, state.q.at))
-        (λ h. let is : slot ≡ two.previous_slot = grind arith in rw is h.own) state.lines_in
+    is_alone none = grind arith
 
     abbrev in_slots : Lines
     in_slots = group now.store (group_first_slot two end) (group_end_slot two end)
 
-    -- the lines in the slots of the group have the pairs of the group
     group_pairs_are : (f : Lines) → pair_entries job state.k f in_slots ≡ pair_entries job state.k f (state.g Second)
-    group_pairs_are f = ⊎_elim (λ same. rw (is_kept same, group_is state.q.keeps state.q.at, same) refl)
+    group_pairs_are f = ⊎_elim (λ same. rw (is_kept same, group_is state.q.keeps state.q.at, same))
         (λ h. rw (
           is_alone h.none,
           group_one now.store two.previous_slot
@@ -465,8 +405,12 @@ module _ {job : Join} {cmp : Cmp} {key : Side → Key} {old : MergeState} {phase
         (key First (line now.store one.current_slot))
     write_pairs_group = record {
       within = end_in state.q;
-      keyed = λ slot from low. sym
-          (t.opened.keys Second (line now.store slot)) ∙ keyed_slot slot from low ∙ sym state.head.is;
+      keyed = λ slot from low. sym (t.keys Second (line now.store slot))
+          ∙ ⊎_elim (λ same.
+          let keyed = EachKey-at (λ x. x ≡ state.k) (key Second) state.kept (slot - 4) in
+          grind (arith, kept_line state.q.keeps, keyed, (rw (← same) at (state.q.within.own Second)), state.q.at))
+          (λ h. let is : slot ≡ two.previous_slot = grind arith in rw is h.own) state.lines_in
+          ∙ sym state.head.is;
     }
 
     abbrev z : Lines
@@ -491,7 +435,7 @@ module _ {job : Join} {cmp : Cmp} {key : Side → Key} {old : MergeState} {phase
       module _ {one2 two2 : Sorted} {reader : Reader} {after : Slots}
           (h : AdvanceOkPost key cmp First one two one2 two2 (now.reader First) reader now.store after new) where
         on_first : AdvancedGroup state.head h.came new
-        on_first = advanced_group state.head h.came wrote_more
+        on_first = advanced_group _ _ wrote_more
 
         above_on : IsAbove cmp (key Second) state.k (on_first.group.d Second)
         above_on = rw on_first.bound state.above
@@ -501,7 +445,7 @@ module _ {job : Join} {cmp : Cmp} {key : Side → Key} {old : MergeState} {phase
 
         pub write_pairs_continues : one2.same ≡ true
             → IterationInvariant job cmp key old phase (state_after_read now First reader new after) one2 two2 end
-        write_pairs_continues same = iteration_continues {next = phase} First h.continues (rw is (record {
+        write_pairs_continues same = iteration_continues First h.continues (rw is (record {
           k = state.k;
           g = with_added_line now (both one two) First state.g;
           kept = state.kept;
@@ -509,7 +453,7 @@ module _ {job : Join} {cmp : Cmp} {key : Side → Key} {old : MergeState} {phase
           lines_in = rw (others_stay o state.q.sides First state.head.head h.came).1 state.lines_in;
           some = state.some;
           above = above_on;
-          head = let (head, is) = continues_key state.head h.came same in record { head = head; is = is };
+          head = assumption (continues_key state.head h.came same);
         }))
 
         pub group_closed : {cleared : Slots} → ClearGroupPost after cleared end → one2.same ≡ false
@@ -519,7 +463,7 @@ module _ {job : Join} {cmp : Cmp} {key : Side → Key} {old : MergeState} {phase
             let q = on_first.group in
             let valid_cursors = valid_cursors_kept key one2 two2 after cleared h.continues.valid_cursors
             (omega arith) (λ i low. clear.others i (inl low)) in
-            iteration_continues {next = phases.BetweenGroups} First (assumption (h.continues, valid_cursors)) (
+            iteration_continues First (assumption (h.continues, valid_cursors)) (
               record {
                 ls = q.ls;
                 p = λ side. q.p side ++ with_added_line now (both one two) First state.g side;

@@ -1,6 +1,5 @@
 -- The steps of a merge. A line that precedes everything in the other input is processed, and its input advances; the
--- next line has no lesser key, so the invariant holds again. A step ends the loop when both inputs are at their ends or
--- a disorder is reported, and a fault of a write or read ends it with a prefix of the output.
+-- next line has no lesser key, so the invariant holds again. A fault ends the loop with a prefix of the output.
 pub mod Exits
 use Rattle.std.proofs.Common.{rules}
 use Rattle.std.proofs.Common.{arith}
@@ -17,32 +16,23 @@ pub use Exits.*
 
 -- ---- keys that may follow
 
--- all lines that may follow have keys above x
 abbrev pub IsAbove : Cmp → Key → List ℕ → Bound → Type 0
 IsAbove cmp key x b = (r : Lines) → MayFollow cmp key b r → EachKey (Above cmp x) key r
 
--- a key that precedes an input's current line precedes all lines that may follow
+-- a key that precedes the current line of an input precedes all lines that may follow
 pub current_key_is_above : (cmp : Cmp) (o : IsKeyOrder cmp) (key : Key) (x : List ℕ) (status : CursorStatus)
     (cursor : Sorted) (store : Slots) (now : Reader) (ls p : Lines) (b : Bound)
     → PrecedesInput cmp x status (key (line store cursor.current_slot)) (key (line store cursor.previous_slot))
     → MatchesStatus cmp key status cursor store now ls p b → IsAbove cmp key x b × IsLater cmp key (AtLeast x) b
 current_key_is_above cmp o key x Head cursor store now ls p b before line_is =
     let head = key (line store cursor.current_slot) in
-    let above : Above cmp x head = is_greater (cmp head x) before in
-    let below = above_at_most cmp o x head above in
-    rw line_is.bound (
-      λ r c. Each-weaker _ _ (λ k h. above_up cmp o x head k above h) _ c,
-      record {
-        may_follow = λ r c. Each-weaker _ _ (λ k h. at_most_trans cmp o x head k below h) _ c;
-        under = λ k h. at_most_trans cmp o k x head h below;
-      },
-    )
+    let above = is_greater _ before in
+    rw line_is.bound (search (rules, Each-weaker, at_most_trans, greater_flips cmp o, less_flips cmp o))
 current_key_is_above cmp o key x Ended cursor store now ls p b before (bound, _) = grind arith
 current_key_is_above cmp o key x (Disorder n) cursor store now ls p b before st = grind arith
 
 -- ---- one line
 
--- a line of one input
 abbrev pub alone : Side → List ℕ → Side → Lines
 alone s x = with_side s (x ∷ []) (λ side. [])
 
@@ -64,21 +54,19 @@ module _ {tool : MergeTool} (o : IsKeyOrder tool.cmp) {old now : Side → Reader
       next_invariant tool o s _ _ _ _ _ _ _ _ (sides s).slots (sides s).four (sides s).lines_read (sides s).number
       h.sorted_up_to (h.some, refl) comes
 
-  -- the lines of the other input keep their slots
   pub others_stay : (line after (cursor (other s)).current_slot ≡ line store (cursor (other s)).current_slot)
       × (line after (cursor (other s)).previous_slot ≡ line store (cursor (other s)).previous_slot)
-  others_stay = let (one, two) = slots_apart s (cursor s) (cursor (other s)) (sides s).slots (sides (other s)).slots in
-      rw next_at.stored (line_other store _ _ _ one, line_other store _ _ _ two)
+  others_stay = grind (arith, slots_apart, line_other, next_at.stored, (sides s).slots, (sides (other s)).slots)
 
   pub sides_next : SidesInvariant tool old (with_side s new now) (with_side s next cursor) after
       (with_side s next_at.now_ls ls) (with_side s (ls s) p) (with_side s next_at.bound b)
   sides_next = side_case _ s (simp put_same next_at.side_invariant)
-      (simp put_other (side_invariant_kept (sides (other s)) others_stay.0 others_stay.1 next_at.side_invariant.four))
+      (simp put_other (grind (arith, others_stay.0, others_stay.1, next_at.side_invariant.four)))
 
 -- ---- the end of the loop
 
 module _ (cmp : Cmp) (o : IsKeyOrder cmp) where
-  -- the disorder of the other input, if there is one, is not the one to report
+  -- a disorder of the other input is not the one to report
   named_is : (key : Key) (s : Side) (d : FirstDisorder) (status : CursorStatus) (cursor : Sorted) (store : Slots)
       (now : Reader) (ls p : Lines) (b : Bound)
       → IsReportable cmp s d.last_key status (key (line store cursor.current_slot))
@@ -90,18 +78,16 @@ module _ (cmp : Cmp) (o : IsKeyOrder cmp) where
 
 -- ---- a failed read
 
--- a write failed, or reading the next line did
 abbrev pub AdvanceErrPost : Side → Sorted → Reader → Reader → Slots → Slots → Output → MergeFault → Type 0
 AdvanceErrPost s cursor was is before after out fault = ((fault ≡ Write) × WriteFaultPost was is before after out)
     ⊎ ((out.write_failed ≡ false) × NextErrPost s cursor was is before after fault)
 
--- each such failure ends the call as the contract says
 abbrev pub EndsIfFails : MergeTool → MergeState → MergeState → Side → Sorted → Output → Type 0
 EndsIfFails tool old now s cursor out = (new : Reader) (after : Slots) (fault : MergeFault)
     → AdvanceErrPost s cursor (now.reader s) new now.store after out fault
     → MergePost tool old (state_by_side (with_side s new now.reader) out after) (Err fault)
 
--- In both cases a piece of the next line was read, and is in the store.
+-- The write or the read failed: a piece of the next line was read, and is in the store.
 record FailedAdvance (cursor : Sorted) (was is : Reader) (before after : Slots) : Type 0 where
   pub piece : List ℕ
   pub reads : ReaderAdvance was is piece
@@ -116,53 +102,41 @@ failed_advance : (s : Side) (cursor : Sorted) (was is : Reader) (before after : 
     → FailedAdvance cursor was is before after
 failed_advance = search rules
 
--- the input `s` is to advance, and all its lines are processed
-pub record IsAdvancing (tool : MergeTool) (old now : MergeState) (s : Side) (cursor : Sorted) (ls p : Side → Lines)
-    (b : Side → Bound) : Type 0 where
-  pub facts : (side : Side) → ReadFactsOf tool old now.reader ls p b side (now.reader side) []
-  pub all : p s ≡ ls s
-  pub order : (r : Reader) (piece : List ℕ) → IsLine (now.reader s).terminator piece
-      → FirstReads tool.terminator old.reader now.reader (with_side s r now.reader) ls (with_side s piece (λ side. []))
-  pub kept : Lines
-  pub keeps : GroupStore tool old.store now.store ls kept
-  pub slots : HasSlots s cursor
-
-module _ {tool : MergeTool} {old : MergeState} (w : IsOpenMerge tool old) {now : MergeState} {s : Side}
-    {cursor : Sorted} {ls p : Side → Lines} {b : Side → Bound} (a : IsAdvancing tool old now s cursor ls p b) where
-  open tool use {cmp, key}
-
-  none_failed_yet : (side : Side) → (now.reader side).failed ≡ (old.reader side).failed
-  none_failed_yet side = (a.facts side).lines_read.advance_ok.failed
-
-  -- the merge ends with this fault
+-- the input `s` is to advance: all its lines are processed
+module _ {tool : MergeTool} {old : MergeState} (w : IsOpenMerge tool old) (now : MergeState) {s : Side}
+    (cursor : Sorted) {ls p : Side → Lines} {b : Side → Bound}
+    (facts : (side : Side) → ReadFactsOf tool old now.reader ls p b side (now.reader side) []) (all : p s ≡ ls s)
+    (order : (r : Reader) (piece : List ℕ) → IsLine (now.reader s).terminator piece
+    → FirstReads tool.terminator old.reader now.reader (with_side s r now.reader) ls (with_side s piece (λ side. [])))
+    {kept : Lines} (keeps : GroupStore tool old.store now.store ls kept) (slots : HasSlots s cursor) where
   pub advance_fails : {out : Output} {done : Lines} → LagInvariant tool b p old.out out done
       → EndsIfFails tool old now s cursor out
   advance_fails {out} lag new after fault e =
-      let f = failed_advance s cursor (now.reader s) new _ after out fault (a.facts s).sound e in
-      let facts = put_both (ReadFactsOf tool old now.reader ls p b) s new _ f.piece (λ side. [])
-      (grind (arith, f)) (a.facts (other s)) in
-      let is = state_by_side (with_side s new now.reader) out after in
-      exit_is_merge_post w is facts lag
-      (λ all holds. omega (arith, peak_line a.keeps s cursor a.slots f.piece all holds)) (a.order new f.piece f.line)
+      let f = failed_advance s cursor (now.reader s) new _ after out fault (facts s).sound e in
+      let ends = put_both (ReadFactsOf tool old now.reader ls p b) s new _ f.piece (λ side. [])
+      (grind (arith, f)) (facts (other s)) in
+      exit_is_merge_post w (state_by_side (with_side s new now.reader) out after) ends lag
+      (λ all holds.
+      let longest = rw (put_same s _ _) at (holds s).longest in
+      let next = group_store_line s cursor slots f.piece keeps (λ side. extends (holds side)) (omega arith) refl in
+      omega (arith, next.fits all (λ side. extends_itself _))) (order new f.piece f.line)
       (put_each (λ side (r : Reader). r.failed ≡ true → IsFailedRead r (ls side) (p side)) s new _
-      (grind (arith, f, w.unfailed s)) (λ side fail. cc (none_failed_yet side, w.unfailed side)))
+      (grind (arith, f, w.unfailed s)) (λ side fail. cc ((facts side).lines_read.advance_ok.failed, w.unfailed side)))
       (Err fault) (grind (arith, w.unfailed, put_same, side_case, put_other, e))
 
 -- ---- between two steps
 
--- the conditions at the start
 pub open_merge : {tool : MergeTool} {first second : Reader} {out : Output} {store : Slots} → IsKeyOrder tool.cmp
-    → ((ls : Side → Lines) → HasRoom tool [] ls) → IsLineByLine tool
-    → MergeRunPre tool.terminator first second out store → IsOpenMerge tool (merge_state first second out store)
+    → IsLineByLine tool → MergeRunPre tool.terminator first second out store
+    → IsOpenMerge tool (merge_state first second out store)
 open_merge = grind arith
 
--- the cursors between two steps, for any output
+-- the invariant without the output
 pub record CursorsInvariant {tool : MergeTool} {old : MergeState} (w : IsOpenMerge tool old) (reader : Side → Reader)
     (cursor : Side → Sorted) (store : Slots) (ls p : Side → Lines) (b : Side → Bound) : Type 0 where
   pub sides : SidesInvariant tool old.reader reader cursor store ls p b
   pub keeps : GroupStore tool old.store store ls []
 
--- the loop invariant of a tool
 pub record LoopInvariant {tool : MergeTool} {old : MergeState} (w : IsOpenMerge tool old) (now : MergeState)
     (cursor : Side → Sorted) : Type 0 where
   pub ls : Side → Lines
@@ -183,30 +157,23 @@ module _ {tool : MergeTool} {old : MergeState} {w : IsOpenMerge tool old} {reade
   begun : (side : Side) → HasBegun (reader side) (ls side)
   begun side = (a.sides side).begun
 
-  -- an input of which the lines `q` are processed
+  -- if the lines `q` are processed
   abbrev ReadFactsBy : Side → Lines → Type 0
   ReadFactsBy side q = ReadFactsOf tool old reader ls (λ t. q) b side (reader side) []
 
-  -- an input at its current line, and one whose current line is processed
   pub read_facts_current : (side : Side) → ReadFactsBy side (p side)
   read_facts_current side = (a.sides side).facts
 
   pub passing_now : (s : Side) → (cursor s).status ≡ Head → ReadFactsBy s (ls s)
   passing_now s head = read_facts_after_line (a.sides s) w.o head
 
-  -- the iteration failed, after the lines `q` were processed
   pub iteration_fails : (s : Side) → (cursor s).status ≡ Head → {q : Side → Lines} {out : Output}
       → AllWritten tool b q old.out out → q s ≡ ls s
       → ReadFactsBy (other s) (q (other s)) → EndsIfFails tool old (state_by_side reader out store) s (cursor s) out
   iteration_fails s head {q} {out} lag same rest =
-      advance_fails w {now = state_by_side reader out store} {cursor = cursor s} {p = q} (record {
-        facts = side_case _ s (rw same (passing_now s head)) rest;
-        all = same;
-        order = λ r piece free. both_begun begun;
-        kept = [];
-        keeps = a.keeps;
-        slots = (a.sides s).slots;
-      }) lag
+      advance_fails w (state_by_side reader out store) (cursor s) {p = q}
+      (side_case _ s (rw same (passing_now s head)) rest) same (λ r piece free. both_begun begun) a.keeps
+      (a.sides s).slots lag
 
   -- an input advances
   module _ (s : Side) (head : (cursor s).status ≡ Head) {next : Sorted} {new : Reader} {after : Slots}
@@ -222,7 +189,6 @@ module _ {tool : MergeTool} {old : MergeState} {w : IsOpenMerge tool old} {reade
       keeps = group_store_next s (cursor s) (a.sides s).slots a.keeps n;
     }
 
-    -- the output comes first, as before
     pub goes_merging : {q : Side → Lines} {out : Output} → MergeInvariant tool b q old.out out
         → MergeInvariant tool (with_side s n.bound b) q old.out out
     goes_merging m = bound_changes s m (rw (at_current_line (a.sides s) head).bound n.later)
@@ -236,12 +202,11 @@ module _ {tool : MergeTool} {old : MergeState} {w : IsOpenMerge tool old} {now :
   open tool use {cmp, key}
   open loop use {ls, p, b, cursors as a, sides, merge_invariant as m}
 
-  -- the current line of the input `s`, whose key precedes everything in the other input, is written
+  -- the current line of the input `s` is written
   module _ {s : Side} (step : HasOnlyLeastKey cmp key cursor now.store s) {new : Output}
       (wrote : PushEffect now.out new (unlines (now.reader s).terminator (entries_by_key tool all_keys
       (alone s (line now.store (cursor s).current_slot))))) where
-    pub wrote_alone : MergeInvariant tool b (with_side s (ls s) p) old.out new
-        × AllWritten tool b (with_side s (ls s) p) old.out new
+    pub wrote_alone : Written tool b (with_side s (ls s) p) old.out new
     wrote_alone =
         let x = line now.store (cursor s).current_slot in
         let h = at_current_line (sides s) step.status_is in
@@ -249,29 +214,24 @@ module _ {tool : MergeTool} {old : MergeState} {w : IsOpenMerge tool old} {now :
         current_key_is_above _ w.o _ _ _ _ _ _ _ _ _ step.before (sides (other s)).status_is in
         let none = lines_with_key-above tool w.o (key (other s)) (key s x) in
         write_least_run w.o (key s x) (with_side s (ls s) p) (alone s x)
-        (side_case _ s (simp put_same (line_is_least_run w.o h.bound refl)) (simp put_other (record {
-          -- no line of the other input has the key, and only greater keys follow
-          own = tt;
-          may_follow = λ r c. c;
-          own_under = later.under _ (self_at_most _ w.o _);
-          under = λ j u. u;
-          later = later;
-        })))
+        (side_case _ s (simp put_same (line_is_least_run w.o h.bound refl)) (simp put_other
+        -- no line of the other input has the key, and only greater keys follow
+        (search (rules, later, self_at_most))))
         (side_case _ s (simp put_same h.all) (simp (put_other, append-nil))) (w.alone.none (key s x))
         (λ r c. grind (arith, w.alone)) clean m
         (rw (sides s).lines_read.terminator at wrote)
 
     pub alone_breaks : EndsIfFails tool old now s (cursor s) new
-    alone_breaks = iteration_fails a s step.status_is wrote_alone.1 (put_same s (ls s) p)
-        (rw (put_other s (ls s) p) (read_facts_current a (other s)))
+    alone_breaks = iteration_fails a s step.status_is wrote_alone.1 (put_same s _ p)
+        (rw (put_other s _ p) (read_facts_current a _))
 
-  -- an input is out of order, and no key that may follow is up to its last key
+  -- no key that may follow is up to the last key of the input that is out of order
   stops_at : {s : Side} {n : ℕ} → IsDisorderDecided cmp key cursor now.store s n → IsExactStop tool b (Some (s, n))
   stops_at {s} {n} dec l r c f =
       let d : FirstDisorder = record { last_key = previous_key key cursor now.store s; line = n } in
       let disordered : b s ≡ AfterDisorder d = rw dec.status_is at (sides s).status_is in
       let st = (sides (other s)).status_is in
-      let (above, _) = current_key_is_above _ w.o _ d.last_key _ _ _ _ _ _ _
+      let (above, _) = current_key_is_above _ w.o _ _ _ _ _ _ _ _ _
       (grind (arith, is_greater, dec.named)) st in
       rw (named_is _ w.o _ s d _ _ _ _ _ _ _ dec.named st (λ side. first_disorder cmp (key side) (l side))
       (rw disordered at (f s)) (f (other s))) (
@@ -281,7 +241,6 @@ module _ {tool : MergeTool} {old : MergeState} {w : IsOpenMerge tool old} {now :
         refl,
       )
 
-  -- the slots are emptied at the end
   module _ {after : Slots} (clear : ClearFourSlotsPost now.store after) where
     abbrev last : MergeState
     last = record now { store = after }
@@ -292,12 +251,12 @@ module _ {tool : MergeTool} {old : MergeState} {w : IsOpenMerge tool old} {now :
     pushed_all ended stop =
         let exact = exact_output w last (read_facts_current a) m stop in
         record {
-          out = λ texts agree. (exact texts agree).0;
-          disorder = λ texts agree. (exact texts agree).1;
-          ended = λ none side read. ended none side;
-          fault = λ side read. (sides side).lines_read.advance_ok.fault;
-          short = λ side read. (sides side).lines_read.advance_ok.short ((w.sound side).long (w.readable side));
-          unfailed = λ side read. none_failed a side;
+          out = search (rules, exact);
+          disorder = search (rules, exact);
+          ended = search (rules, ended);
+          fault = search (rules, sides);
+          short = search (rules, sides, w.sound, w.readable);
+          unfailed = search (rules, none_failed a);
           clean = clean;
           not_denied = clear.denied ∙ a.keeps.denied;
           empty = omega (arith, (has_lines_total now.store.lines (λ side. max_length (ls side)) 0 a.keeps.lines).is);
@@ -309,24 +268,23 @@ module _ {tool : MergeTool} {old : MergeState} {w : IsOpenMerge tool old} {now :
     concludes result ends = exit_is_merge_post w _ (read_facts_current a)
         (lag_invariant_starts w.o m clean (push_nothing now.out)) (fits_emptied a.keeps after clear.peak clear.slots)
         (both_begun (begun a))
-        (λ side fail. cc (none_failed a side, w.unfailed side)) result ends
+        (λ side fail. cc (none_failed a _, w.unfailed side)) result ends
 
     pub ends_well : ((side : Side) → (cursor side).status ≡ Ended) → MergePost tool old last (Ok tt)
     ends_well step =
         let e : (side : Side) → (b side ≡ NothingMore) × IsDone (now.reader side) =
         λ side. rw (step side) at (sides side).status_is in
-        concludes (Ok tt) (pushed_all (λ none side. (e side).1) (grind arith))
+        concludes _ (pushed_all (λ none side. (e side).1) (grind arith))
 
     pub ends_fallen : {s : Side} {n : ℕ} → IsDisorderDecided cmp key cursor now.store s n
         → MergePost tool old last (Err (faults.Disorder s n))
-    ends_fallen {s} {n} step = concludes (Err (faults.Disorder s n)) (record {
+    ends_fallen step = concludes _ (record {
       named = refl;
       pushed_all = pushed_all (λ none. cc) (stops_at step);
     })
 
 -- ---- after one input advanced
 
--- the fault of a call is returned
 pub err_is : {r : Result (Unit {0}) MergeFault} {fault : MergeFault} → IsErrAnd r (λ y. y ≡ fault) → r ≡ Err fault
 err_is = search rules
 
@@ -335,28 +293,19 @@ abbrev pub reads_ahead : (Side → Reader) → Sorted → Sorted → ℕ
 reads_ahead reader one two =
     (budget (reader First) + reads_left one.status) + (budget (reader Second) + reads_left two.status)
 
--- the cursors after this input advanced
 pub place_is : (s : Side) (one two one2 two2 : Sorted) → both one2 two2 (other s) ≡ both one two (other s)
     → with_side s (both one2 two2 s) (both one two) ≡ both one2 two2
 place_is s one two one2 two2 same = grind arith
 
--- the cursors, the readers and the output between two steps
 pub record BetweenSteps (key : Side → Key) (now : MergeState) (one two : Sorted) : Type 0 where
   pub valid_cursors : AreValidCursors key one two now.store
   pub own_reader : (side : Side) → IsReaderOf (both one two side) (now.reader side)
   pub clean : now.out.write_failed ≡ false
 
-pub between_starts : {key : Side → Key} {first second : Reader} {out : Output} {store : Slots} {one two : Sorted}
-    → AreValidCursors key one two store → IsReaderOf one first × IsReaderOf two second → out.write_failed ≡ false
-    → BetweenSteps key (merge_state first second out store) one two
-between_starts valid_cursors (reader1, reader2) clean =
-    record { valid_cursors = valid_cursors; own_reader = elim [ First ↦ reader1 | Second ↦ reader2 ]; clean = clean }
-
 module _ {key : Side → Key} {now : MergeState} {one two : Sorted} (t : BetweenSteps key now one two) where
   pub advance_pre : (s : Side) → (both one two s).status ≡ Head → AdvancePre key s one two (now.reader s) now.store
   advance_pre = search rules
 
-  -- the input `s` advanced
   module _ (s : Side) {one2 two2 : Sorted} {reader : Reader} {after : Slots} {new : Output}
       (continues : IsReadyToContinue key s one two one2 two2 reader after new) where
     pub between_next : BetweenSteps key (state_by_side (with_side s reader now.reader) new after) one2 two2
@@ -367,35 +316,31 @@ module _ {key : Side → Key} {now : MergeState} {one two : Sorted} (t : Between
         → reads_ahead (with_side s reader now.reader) one2 two2 < reads_ahead now.reader one two
     reads_less head came = grind arith
 
--- writing out buffered output does not change what was pushed
+-- writing out the buffer does not change what was pushed
 pub wrote_and_sent : (was mid is : Output) (pushed : List ℕ) → mid.write_failed ≡ false → PushEffect was mid pushed
     → PushEffect mid is [] → PushEffect was is pushed
 wrote_and_sent was mid is pushed clean wrote written_out =
-    rw append-nil at (push_trans was mid is pushed [] clean wrote written_out)
+    rw append-nil at (push_trans was mid is _ [] clean wrote written_out)
 
 -- ---- keys in slots
 
--- the status at a line that is not the first
 pub later_status : (key : Key) (cmp : Cmp) (number : ℕ) (last next : List ℕ) (r : Ordering) → 0 < number
     → r ≡ cmp (key last) (key next) → (cond (is_gt r) (Disorder (number + 1)) Head ≡ status_at key cmp number last next)
     × (is_eq r ≡ same_key_at key cmp number last next)
 later_status = grind arith
 
--- the slots after the first four may change
 pub valid_cursors_kept : (key : Side → Key) (one two : Sorted) (before after : Slots)
     → AreValidCursors key one two before → length before.lines ≤ length after.lines
     → ((slot : ℕ) → slot < 4 → line after slot ≡ line before slot) → AreValidCursors key one two after
 valid_cursors_kept = grind arith
 
--- copying a line changes one slot, or adds one
 pub kept_line : (before after : Slots) (from to slot : ℕ) → slot < to → CopyToGroupPost before after from to
     → line after slot ≡ line before slot
 kept_line = grind (arith, line_added, line_other)
 
 -- ---- the start
 
--- Slots are added and the first line of each input is read. Nothing is processed yet, so the invariant holds with an
--- empty output.
+-- Slots are added and the first line of each input is read; nothing is processed yet, and the output is empty.
 
 fresh_slots : (s : Side) → HasSlots s (initial_cursor s)
 fresh_slots s = inr (refl, refl)
@@ -409,25 +354,23 @@ module _ {tool : MergeTool} {old : MergeState} (w : IsOpenMerge tool old) where
   none_read : (side : Side) → LinesRead terminator (old.reader side) (old.reader side) []
   none_read side = grind (arith, w.readable side)
 
-  -- an input was advanced to its first line
   first_line : (side : Side) {new : Reader} {cursor : Sorted} {before after : Slots} → 4 ≤ length before.lines
       → NextOkPost (key side) cmp (initial_cursor side) cursor (old.reader side) new before after
       → SideAfterNext tool side (old.reader side) new cursor (base_slot side) before after [] None
-  first_line side four comes = next_invariant tool w.o side _ _ _ _ _ _ _ _ (fresh_slots side) four (none_read side)
-      refl sorted_up_to_none refl comes
+  first_line side four comes = next_invariant tool w.o side _ _ _ _ _ _ _ _ (fresh_slots side) four (none_read _)
+      refl (grind (arith, sorted_prefix_is, first_disorder_is)) refl comes
 
   abbrev no_lines : Side → Lines
   no_lines side = []
 
-  -- the first input was advanced to its first line
   module _ {first : Sorted} {new : MergeInputs} {Then : Slots → Type 0}
       (s : StartFirstPost key cmp first unstarted new Then) where
     began : SideAfterNext tool First (old.reader First) (new.reader First) first (base_slot First) s.made s.mid [] None
-    began = first_line First (omega arith) s.came
+    began = first_line _ (omega arith) s.came
 
     half_store : GroupStore tool old.store s.mid (both began.now_ls []) []
     half_store = group_store_next First (initial_cursor First) (fresh_slots First)
-        (store_starts w.fits s.four w.allowed w.empty) began
+        (store_starts w.alone.fits s.four w.allowed w.empty) began
 
     half_invariant : MergeInvariant tool (both began.bound NoBound) no_lines old.out old.out
     half_invariant = search (rules, bound_changes, began)
@@ -438,23 +381,20 @@ module _ {tool : MergeTool} {old : MergeState} (w : IsOpenMerge tool old) where
   start_ok {one = one} s =
       let f = began s in
       let k = first_line Second f.side_invariant.four s.later in
-      let apart = slots_apart Second (initial_cursor Second) one (fresh_slots Second) f.side_invariant.slots in
       record {
         ls = both f.now_ls k.now_ls;
         p = no_lines;
         b = both f.bound k.bound;
         cursors = record {
-          sides = elim [ First ↦ grind (arith, line_other, apart) | Second ↦ k.side_invariant ];
+          sides = elim [ First ↦ grind (arith, line_other) | Second ↦ k.side_invariant ];
           keeps = group_store_next Second (initial_cursor Second) (fresh_slots Second) (half_store s) k;
         };
-        merge_invariant = bound_changes Second (half_invariant s) k.later;
+        merge_invariant = bound_changes _ (half_invariant s) k.later;
       }
 
-  -- nothing was read of an input
   unread : (side : Side) → ReadFactsOf tool old old.reader no_lines no_lines (λ t. NoBound) side (old.reader side) []
   unread side = grind (arith, none_read, reads_nothing, w.sound side)
 
-  -- the merge could not start
   abbrev StartErr : Reader → Reader → Slots → MergeFault → Type 0
   StartErr new1 new2 after fault =
       StartErrPost key cmp unstarted (record { reader = both new1 new2; store = after }) fault
@@ -464,27 +404,15 @@ module _ {tool : MergeTool} {old : MergeState} (w : IsOpenMerge tool old) where
         → MergePost tool old (state_by_side (both new1 new2) old.out after) (Err fault)
     start_fault (inl u) = rw u.memory (merge_without_slots w refl u.unread u.slots)
     start_fault (inr (inl f)) =
-        rw f.unread (advance_fails w {now = state_by_side old.reader old.out f.made} {cursor = initial_cursor First}
-        (record {
-          facts = unread;
-          all = refl;
-          order = λ r piece free. grind (arith, one_line_at_most, free);
-          kept = [];
-          keeps = store_starts w.fits f.four w.allowed w.empty;
-          slots = fresh_slots First;
-        }) (lag_invariant_starts w.o (merge_invariant_starts tool old.out) w.writable (push_nothing old.out)) _ _ _
+        rw f.unread (advance_fails w (state_by_side old.reader old.out f.made) (initial_cursor First)
+        unread refl (λ r piece free. grind (arith, one_line_at_most, free))
+        (store_starts w.alone.fits f.four w.allowed w.empty) (fresh_slots First)
+        (lag_invariant_starts w.o (merge_invariant_starts tool _) w.writable (push_nothing _)) _ _ _
         (inr (w.writable, f.fails)))
     start_fault (inr (inr f)) =
         let s = f.begins in
-        let g = began s in
-        advance_fails w {now = state_by_side (both new1 (old.reader Second)) old.out s.mid}
-        {s = Second} {cursor = initial_cursor Second} {ls = both g.now_ls []} {p = no_lines}
-        {b = both g.bound NoBound} (record {
-          facts = elim [ First ↦ g.side_invariant.facts | Second ↦ unread Second ];
-          all = refl;
-          order = λ r piece free. grind arith;
-          kept = [];
-          keeps = half_store s;
-          slots = fresh_slots Second;
-        }) (lag_invariant_starts w.o (half_invariant s) w.writable (push_nothing old.out)) _ _ _
+        advance_fails w (state_by_side (both new1 (old.reader Second)) old.out s.mid) {s = Second}
+        (initial_cursor Second) (elim [ First ↦ (began s).side_invariant.facts | Second ↦ unread Second ]) refl
+        (λ r piece free. grind arith) (half_store s) (fresh_slots Second)
+        (lag_invariant_starts w.o (half_invariant s) w.writable (push_nothing _)) _ _ _
         (inr (w.writable, s.later))

@@ -1,8 +1,7 @@
--- Output of inputs in parts. Inputs that are split at the same key: the keys of the first parts are below those of
--- the second, so the distinct keys of the whole are those of the first parts followed by those of the second, and so
--- are the entries; a disorder can only be in the second parts. Inputs that are distributed over parts by a function
--- of the key: a filter by keys commutes with computing the distinct keys (`MergeLemmas.Exits.Invariant`), so each part
--- has the entries of its keys, and the entries of all parts are a permutation of all entries.
+-- Output of inputs in parts. Inputs split at the same key: the keys of the first parts are below those of the second,
+-- so the entries of the first come first, and a disorder can only be in the second. Inputs distributed by a function of
+-- the key: a filter by keys commutes with computing the distinct keys, so each part has the entries of its keys, and
+-- the entries of all parts are a permutation of all entries.
 use Rattle.ptmerge.proofs
 use proofs.Common.{arith, ◌≡◌, ℕ, ◌+◌, List, [], ◌∷◌, ◌++◌, Bool, true, false, Option, Some, None, refl, ap, sym}
 use proofs.Common.{◌∙◌, filter, Less, Side, First, Second, Lines, MergeTool, FirstDisorder, entries_by_key, disorder}
@@ -27,7 +26,6 @@ use Rattle.ptlines.proofs.PartLaws.{the_lines_of_parts}
 use Rattle.ptmerge.specs.Parts.{CommByKey, IsSplittableByKey, IsConcatOfParts, JoinByKey, CommOfParts, JoinOfParts}
 use Rattle.ptmerge.specs.Parts.{text_of_part, output_lines}
 
--- two lists, appended, of which the first passes the test and the second does not
 kept_parts : (p : List ℕ → Bool) (key : Key) (xs ys : Lines) → EachKey (λ k. p k ≡ true) key xs
     → EachKey (λ k. p k ≡ false) key ys
     → (filter (λ line. p (key line)) (xs ++ ys) ≡ xs) × (filter (λ line. not (p (key line))) (xs ++ ys) ≡ ys)
@@ -37,7 +35,6 @@ kept_parts p key (x ∷ xs) ys (here, more) f = search (rules, kept_parts p key 
 
 -- ---- keys below others
 
--- a property of the keys of two lists holds for each list
 key_split : (tool : MergeTool) (P : List ℕ → Type 0) (ls : Side → Lines) → Each P (keys tool ls) → (side : Side)
     → EachKey P (tool.key side) (ls side)
 key_split tool P ls e = let (first, second) = Each-parts P (map (tool.key First) (ls First)) _ e in
@@ -59,17 +56,16 @@ module _ (cmp : Cmp) (o : IsKeyOrder cmp) where
 
   none_under : (ls : Lines) → Each (λ l. is_under cmp ls l ≡ false) ls
   none_under [] = tt
-  none_under (x ∷ ls) = (rw (tied_itself o.total x) refl, Each-weaker _ _ (λ l h. grind arith) ls (none_under ls))
+  none_under (x ∷ ls) = (rw (tied_itself o.total x), Each-weaker _ _ (λ l h. grind arith) ls (none_under ls))
 
 -- ---- lists in order
 
--- the last key in order before a disorder, without the line number
 abbrev without_line_number : Option FirstDisorder → Option FirstDisorder
 without_line_number None = None
 without_line_number (Some d) = Some (record { last_key = d.last_key; line = 0 })
 
 module _ (cmp : Cmp) (o : IsKeyOrder cmp) (key : Key) where
-  -- the last key in order does not depend on the number of lines before
+  -- only the line number depends on the number of lines before
   uncounted : (last : Option (List ℕ)) (n m : ℕ) (ys : Lines)
       → without_line_number (disorder_after cmp key last n ys) ≡ without_line_number (disorder_after cmp key last m ys)
   uncounted last n m [] = refl
@@ -84,35 +80,32 @@ module _ (cmp : Cmp) (o : IsKeyOrder cmp) (key : Key) where
   appended last n [] [] e h b = grind arith
   appended last n [] (y ∷ ys) e (here, _) b = grind (arith, uncounted)
   appended last n (x ∷ xs) ys (here, more) h (below, below_all) =
-      let ih = appended (Some (key x)) (n + 1) xs ys more below below_all in grind arith
+      grind (arith, appended (Some (key x)) (n + 1) xs ys more below below_all)
 
   together : (xs ys : Lines) → first_disorder cmp key xs ≡ None → EachKey (λ k. EachKey (AtMost cmp k) key ys) key xs
       → (sorted_prefix cmp key (xs ++ ys) ≡ xs ++ sorted_prefix cmp key ys)
       × (without_line_number (first_disorder cmp key (xs ++ ys)) ≡ without_line_number (first_disorder cmp key ys))
   together xs ys e b =
-      let all = appended None 0 xs ys (sorted_from_none cmp key xs e)
+      let all = appended _ 0 xs ys (sorted_from_none cmp key xs e)
       (Each-all _ (λ k. refl) (map key ys)) b in
       grind (arith, all, first_disorder_is, sorted_prefix_is)
 
-  -- a property of each line holds for each line of the sorted prefix
   each_ordered : (P : List ℕ → Type 0) (ys : Lines) → EachKey P key ys → EachKey P key (sorted_prefix cmp key ys)
   each_ordered P [] e = tt
   each_ordered P (x ∷ []) e = e
   each_ordered P (x ∷ y ∷ ys) (here, more) = grind (arith, each_ordered P (y ∷ ys) more)
 
-  -- the last key in order is at least a lower bound of all keys
   from_below : (k : List ℕ) (ys : Lines) → EachKey (AtMost cmp k) key ys
       → IsDisorderFrom cmp k (first_disorder cmp key ys)
   from_below k [] e = tt
   from_below k (y ∷ ys) (here, _) =
-      rw (first_disorder_is cmp key (y ∷ ys)) (grind (arith, after_from))
+      rw (first_disorder_is cmp key _) (grind (arith, after_from))
 
   kept_after : (p : List ℕ → Bool) (last from : Option (List ℕ)) (xs : Lines)
       → ((k : List ℕ) → is_disordered cmp last k ≡ false → is_disordered cmp from k ≡ false)
       → IsSortedFrom cmp key last xs → IsSortedFrom cmp key from (filter p xs)
   kept_after p last from [] up s = tt
   kept_after p last from (x ∷ xs) up (here, more) =
-      let rise = up (key x) here in
       let left_out = kept_after p (Some (key x)) from xs (λ k g. grind (arith, at_most_trans, g)) more in
       grind (arith, kept_after p (Some (key x)) (Some (key x)) xs (λ k g. g) more)
 
@@ -128,12 +121,11 @@ module _ (tool : MergeTool) (o : IsKeyOrder tool.cmp) where
       → first_disorder cmp (key side) (ls side) ≡ None
   none_disordered = grind arith
 
-  -- the output for sorted lists is that of all their keys
   pub merged_in_order : (ls : Side → Lines) → disorder tool ls ≡ None
       → merged_entries tool ls ≡ entries_by_key tool all_keys ls
   merged_in_order = grind (arith, sorted_from_start, sorted_from_none, none_disordered)
 
-  -- sorted lists whose keys pass a test, and lists whose keys, which are at least those, do not
+  -- the keys of the sorted lists `a` pass the test; those of `b`, which are higher, do not
   module _ (p : List ℕ → Bool) (down : IsDownwardClosed cmp p) (a b : Side → Lines) (in_order : disorder tool a ≡ None)
       (low : (side : Side) → EachKey (λ k. p k ≡ true) (key side) (a side))
       (high : (side : Side) → EachKey (λ k. p k ≡ false) (key side) (b side)) where
@@ -144,15 +136,13 @@ module _ (tool : MergeTool) (o : IsKeyOrder tool.cmp) where
         → (sorted_prefix cmp (key side) (a side ++ b side) ≡ a side ++ sorted_prefix cmp (key side) (b side))
         × (without_line_number (first_disorder cmp (key side) (a side ++ b side))
         ≡ without_line_number (first_disorder cmp (key side) (b side)))
-    both_go_on side = together cmp o (key side) (a side) (b side) (none_disordered a in_order side)
-        (Each-weaker _ _ (at_most_high side) _ (low side))
+    both_go_on side = together cmp o _ _ _ (none_disordered a in_order _)
+        (Each-weaker _ _ (at_most_high _) _ (low side))
 
-    -- the same keys are wanted
     same_wanted : (k : List ℕ)
         → is_up_to cmp (disorder tool (λ side. a side ++ b side)) k ≡ is_up_to cmp (disorder tool b) k
     same_wanted = grind (arith, both_go_on)
 
-    -- The entries of the appended lists are those of the first lists, followed by those of the second.
     entries_together : merged_entries tool (λ side. a side ++ b side) ≡ merged_entries tool a ++ merged_entries tool b
     entries_together =
         let w = is_up_to cmp (disorder tool b) in
@@ -171,16 +161,16 @@ module _ (tool : MergeTool) (o : IsKeyOrder tool.cmp) where
 
 of_parts : (tool : MergeTool) → IsKeyOrder tool.cmp → IsConcatOfParts tool
 of_parts tool o first second cut =
-    let a : Side → Lines = lines_of tool first in
-    let b : Side → Lines = lines_of tool second in
-    let p : List ℕ → Bool = is_under tool.cmp (keys tool b) in
+    let a = lines_of tool first in
+    let b = lines_of tool second in
+    let p = is_under tool.cmp (keys tool b) in
     let low = key_split tool (λ k. p k ≡ true) a (Each-weaker _ _ (below_under tool.cmp o (keys tool b)) _ cut.below) in
     let high = key_split tool (λ k. p k ≡ false) b (none_under tool.cmp o (keys tool b)) in
     ap (unlines tool.terminator)
     ((λ i. merged_entries tool (λ side. the_lines_of_parts tool.terminator (first side) (second side)
     (cut.whole side) i))
     ∙ entries_together tool o p (downward_under tool.cmp o (keys tool b)) a b cut.in_order low high)
-    ∙ unlines-append _ (merged_entries tool a) (merged_entries tool b)
+    ∙ unlines-append _ _ _
 
 pub comm_of_parts : CommOfParts
 comm_of_parts = search (rules, of_parts, line_order)
@@ -191,24 +181,21 @@ join_of_parts = search (rules, of_parts, line_order)
 -- ---- permutations
 
 module _ {A : Type 0} where
-  -- two lists are swapped
   changed : (u v w : List A) → IsPermutation (u ++ (v ++ w)) (v ++ (u ++ w))
   changed u v w = rw (← append_assoc u v w, ← append_assoc v u w)
       (IsPermutation-append_left w (u ++ v) (v ++ u) (IsPermutation-append_comm u v))
 
-  -- the keys that pass a test, followed by the others
   of_some : (f : List ℕ → List A) (p q : List ℕ → Bool) → ((k : List ℕ) → q k ≡ true → p k ≡ true) → (ks : Lines)
       → IsPermutation (flat_map f (filter p ks))
       (flat_map f (filter q ks) ++ flat_map f (filter (λ k. p k && not (q k)) ks))
   of_some f p q all [] = IsPermutation-refl []
   of_some f p q all (k ∷ ks) =
-      let own : List A = flat_map f (filter q ks) in
-      let rest : List A = flat_map f (filter (λ k. p k && not (q k)) ks) in
+      let own = flat_map f (filter q ks) in
       let first = IsPermutation-append_right (f k) _ _ (of_some f p q all ks) in
-      let second = IsPermutation-trans _ _ _ first (changed (f k) own rest) in
+      let second = IsPermutation-trans _ _ _ first (changed _ own _) in
       grind (arith, append_assoc, all k, of_some f p q all ks, first, second)
 
-  -- The keys of each part from `a` on.
+  -- part by part, from part `a` on
   of_each : (f : List ℕ → List A) (part_of : List ℕ → ℕ) (w : List ℕ → Bool) (a n : ℕ)
       → ((k : List ℕ) → (w k ≡ not (nat_lt (part_of k) a)) × part_of k < a + n) → (ks : Lines)
       → IsPermutation (flat_map f (filter w ks))
@@ -223,7 +210,6 @@ module _ {A : Type 0} where
 
 -- ---- texts
 
--- the lines of the output: of some entries, followed by those of each key
 lines_of_each : (end : ℕ) (f : List ℕ → Lines) (ks es : Lines)
     → lines end (unlines end (es ++ flat_map f ks)) ≡ flat_map (λ e. lines end (e ++ end ∷ [])) es ++ flat_map
     (λ k. flat_map (λ e. lines end (e ++ end ∷ [])) (f k)) ks
@@ -231,11 +217,10 @@ lines_of_each end f [] [] = refl
 lines_of_each end f (k ∷ ks) [] = lines_of_each end f ks (f k)
 lines_of_each end f ks (e ∷ es) = search (rules, the_lines_of_parts, lines_of_each end f ks es, append_assoc)
 
--- a text made of lines of another text has these lines
 lines_dealt : (end : ℕ) (q : List ℕ → Bool) (bytes : List ℕ)
     → lines end (unlines end (filter q (lines end bytes))) ≡ filter q (lines end bytes)
-lines_dealt end q bytes = lines-unlines end (filter q (lines end bytes))
-    (recursion_from_All (IsLine end) _ (All-filter q (IsLine end) _ (grind (arith, common_steps, lines_are))))
+lines_dealt end q bytes = lines-unlines end _
+    (recursion_from_All _ _ (All-filter q (IsLine end) _ (grind (arith, common_steps, lines_are))))
 
 pub split_by_key : (tool : MergeTool) → IsKeyOrder tool.cmp → IsSplittableByKey tool
 split_by_key tool o inputs part_of parts in_order below = simp (whole, of_part)
@@ -260,11 +245,11 @@ split_by_key tool o inputs part_of parts in_order below = simp (whole, of_part)
         (λ t. lines tool.terminator (unlines tool.terminator
         (merged_entries tool (λ side. lines_dealt tool.terminator (in_part side) (inputs side) t))))
         ∙ ap (λ es. lines tool.terminator (unlines tool.terminator es)) entries
-        ∙ lines_of_each tool.terminator (entries_of_key tool ls) (filter own ds) []
+        ∙ lines_of_each _ (entries_of_key tool ls) (filter own ds) []
 
     whole : output_lines tool inputs ≡ flat_map each (filter all_keys ds)
     whole = ap (λ es. lines tool.terminator (unlines tool.terminator es)) (merged_in_order tool o ls in_order)
-        ∙ lines_of_each tool.terminator (entries_of_key tool ls) (filter all_keys ds) []
+        ∙ lines_of_each _ _ (filter all_keys ds) []
 
 pub comm_of_keys : CommByKey
 comm_of_keys = search (rules, split_by_key, line_order)

@@ -1,9 +1,9 @@
--- The command after parsing: without a fault of parsing and of the constraints, `command_of_args` reduces to
--- `checked_command`, and a fault of the constraints is the first fault.
+-- Without a fault of parsing and of the constraints, `command_of_args` reduces to `checked_command`; a fault of the
+-- constraints is the first fault.
 use Rattle.ptopts.proofs
-use proofs.Common.{AreInputs, ArgsPost, Err, Fault, Job, List, None, Ok, Option, ParsedOption, Some, Tool, [], ap}
-use proofs.Common.{arith, checked_command, command, command_of_args, constraints_fault, first_some, input_operands, job}
-use proofs.Common.{ok_unless, operands_fault, output, sym, tool_of_name, values_fault, with_inputs, ℕ, ◌∙◌, ◌∷◌, ◌≡◌}
+use proofs.Common.{AreInputs, ArgsPost, Fault, Job, List, None, Ok, Option, ParsedOption, Some, Tool, ap}
+use proofs.Common.{arith, checked_command, command_of_args, constraints_fault, input_operands, job}
+use proofs.Common.{operands_fault, output, sym, tool_of_name, values_fault, with_inputs, ℕ, ◌∙◌, ◌∷◌, ◌≡◌}
 use Rattle.ptlangs.specs.Results.{IsFault}
 use Rattle.ptopts.specs.Faults.{strings_fault}
 use Rattle.ptopts.specs.declared.inputs.Inputs.{Inputs}
@@ -16,28 +16,8 @@ pub checked_command_ok : {A : Type 0} (tool : Tool) (os : List ParsedOption) (op
 checked_command_ok tool os operands i values number strings same are =
     rw (values, number, strings) (ap Ok (sym (are (job tool os operands)) ∙ ap (λ (j : Job). with_inputs j i) same))
 
-checked_command_is : (tool : Tool) (os os' : List ParsedOption) (operands operands' : List (List ℕ))
-    (read : Option Fault)
-    → os ≡ os' → operands ≡ operands' → read ≡ None → constraints_fault tool os ≡ None
-    → ok_unless
-    (first_some (read ∷ constraints_fault tool os' ∷ values_fault tool os' ∷ operands_fault tool os' operands'
-    ∷ strings_fault tool os' operands' ∷ [])) (command tool os' operands') ≡ checked_command tool os operands
-checked_command_is tool os os' operands operands' read same same' fine none = cc
-
-constraint_fault_is : (tool : Tool) (os os' : List ParsedOption) (operands operands' : List (List ℕ))
-    (read : Option Fault) (f : Fault)
-    → os ≡ os' → read ≡ None → Some f ≡ constraints_fault tool os
-    → ok_unless
-    (first_some (read ∷ constraints_fault tool os' ∷ values_fault tool os' ∷ operands_fault tool os' operands'
-    ∷ strings_fault tool os' operands' ∷ [])) (command tool os' operands') ≡ Err f
-constraint_fault_is tool os os' operands operands' read f same fine is = cc
-
 module _ (name : List ℕ) (words : List (List ℕ)) (tool : Tool) (os : List ParsedOption) (operands : List (List ℕ)) where
-  pub meaning_read : tool_of_name name ≡ Some tool → ArgsPost tool words os operands → constraints_fault tool os ≡ None
-      → command_of_args (name ∷ words) ≡ checked_command tool os operands
-  meaning_read named r none = grind (arith, checked_command_is)
-
   pub meaning_refused : (found : Option Fault) → tool_of_name name ≡ Some tool → ArgsPost tool words os operands
       → found ≡ constraints_fault tool os → IsFault found (command_of_args (name ∷ words))
   meaning_refused None named r is = tt
-  meaning_refused (Some f) named r is = grind (arith, constraint_fault_is)
+  meaning_refused _ named r is = grind arith

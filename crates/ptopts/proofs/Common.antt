@@ -1,4 +1,4 @@
--- Names that many proofs of this crate use, from other crates and from the definitions of this one.
+-- Names that many proofs of this crate use.
 pub use Rattle.ptlangs.specs.Numbers.{is_empty}
 pub use Rattle.ptopts.specs.Args.{AreFlags, EndOfOptions, Flags, MissingValue, OperandsAlone, ParsedArgs, ParsedOption}
 pub use Rattle.ptopts.specs.Args.{Spells, Token, UnknownLetter, Valid, ValueAttached, ValueNext, flag, has_letter}

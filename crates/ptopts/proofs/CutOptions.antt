@@ -1,50 +1,40 @@
--- One of the three lists of `cut` is present, by `-b` (98), `-c` (99) or `-f` (102). They conflict, so the other two
--- are absent and have no fault.
+-- The options `-b` (98), `-c` (99) and `-f` (102) of `cut` conflict: beside one, the others are absent and have no
+-- fault.
 use Rattle.ptopts.proofs
 use proofs.Common.{Bool, Cut, Fault, IsSome, List, None, ParsedOption, Some, [], arith, constraint_fault}
 use proofs.Common.{constraints_fault, false, has_option, if◌then◌else◌, refl, true, value_of, ℕ, ◌&&◌, ◌∷◌, ◌≡◌}
-use proofs.ParsedIsSpelled.{option_or-none}
 use Rattle.ptopts.specs.Faults.{is_cut_list, value_fault}
 use Rattle.ptopts.specs.declared.tool.Constraint.TheVariants.{Conflict}
 use Rattle.std.specs.Prelude.{All}
 
 valueless : (letter : ℕ) (os : List ParsedOption) → has_option letter os ≡ false → value_of letter os ≡ None
-valueless letter [] none = refl
+valueless _ [] none = refl
 valueless letter (o ∷ os) none = grind (arith, valueless letter os)
 
 not_both : (one other : Bool) (fault : Fault) → (if one && other then Some fault else None) ≡ None → one ≡ true
     → other ≡ false
 not_both true true fault none is = cc
 not_both true false fault none is = refl
-not_both false other fault none is = cc
+not_both _ _ _ none is = cc
 
 given : (letter : ℕ) (os : List ParsedOption) → IsSome (value_of letter os) → has_option letter os ≡ true
-given letter os some = grind (arith, valueless)
+given _ os some = grind (arith, valueless)
 
 other_is_absent : (a b : ℕ) (os : List ParsedOption) → constraint_fault os (Conflict a b) ≡ None
     → IsSome (value_of a os) → value_of b os ≡ None
-other_is_absent a b os none some = grind (arith, valueless, not_both, given)
+other_is_absent a b os none some = grind (arith, not_both, given)
 
--- the list of this option has no fault
 abbrev pub HasNoFault : List ParsedOption → ℕ → Type 0
 HasNoFault os letter = value_fault os (letter, is_cut_list) ≡ None
-
-has_no_fault : (letter : ℕ) (os : List ParsedOption) → value_of letter os ≡ None → HasNoFault os letter
-has_no_fault letter os none = rw none refl
 
 pub all_three : (os : List ParsedOption) (b c f : ℕ) → HasNoFault os b → HasNoFault os c → HasNoFault os f
     → All (HasNoFault os) (b ∷ c ∷ f ∷ [])
 all_three os b c f at_b at_c at_f = grind arith
 
-all_apart : (os : List ParsedOption) → constraints_fault Cut os ≡ None
-    → (constraint_fault os (Conflict 98 99) ≡ None) × (constraint_fault os (Conflict 98 102) ≡ None)
-    × (constraint_fault os (Conflict 99 102) ≡ None)
-all_apart os none = grind (arith, option_or-none)
-
 module _ (os : List ParsedOption) (none : constraints_fault Cut os ≡ None) where
   pub no_fault_beside_b : IsSome (value_of 98 os) → HasNoFault os 98 → All (HasNoFault os) (98 ∷ 99 ∷ 102 ∷ [])
-  no_fault_beside_b some at_b = grind (arith, all_apart, all_three, has_no_fault, other_is_absent)
+  no_fault_beside_b some at_b = grind (arith, all_three, other_is_absent)
 
   pub no_fault_beside_c : IsSome (value_of 99 os) → HasNoFault os 98 → HasNoFault os 99
       → All (HasNoFault os) (98 ∷ 99 ∷ 102 ∷ [])
-  no_fault_beside_c some at_b at_c = grind (arith, all_three, has_no_fault, other_is_absent, all_apart)
+  no_fault_beside_c some at_b at_c = grind (arith, all_three, other_is_absent)

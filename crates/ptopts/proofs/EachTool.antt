@@ -1,11 +1,11 @@
--- Facts about the syntax of each tool, by computation: one line for each tool.
+-- Facts about the syntax of each tool, by computation.
 use Rattle.ptopts.proofs
 use proofs.Common.{Comm, Cut, Input, Job, Join, List, None, ParsedOption, Paste, RunComm, RunJoin, RunPaste, RunUniq}
 use proofs.Common.{Tool, Tr, Uniq, false, input_operands, is_flag, job, length, list_all, nat_le, nat_lt, not}
 use proofs.Common.{operands_fault, order_from, refl, syntax, takes_value, true, ℕ, ⊤, ◌≡◌}
 use proofs.InputCounts.{AreTwo, few_inputs, sole_input, two_inputs}
+use Rattle.std.proofs.Common.{arith}
 
--- no option is both with and without a value, a dash is not an option, and options with a value are ASCII
 pub record IsSyntaxOf (tool : Tool) : Type 0 where
   pub disjoint : list_all (λ l. not (is_flag tool l)) (syntax tool).value_letters ≡ true
   pub dash_is_no_flag : is_flag tool 45 ≡ false
@@ -18,9 +18,9 @@ syntax_is Paste = record { disjoint = refl; dash_is_no_flag = refl; dash_takes_n
 syntax_is Uniq = record { disjoint = refl; dash_is_no_flag = refl; dash_takes_no_value = refl; ascii = refl }
 syntax_is Comm = record { disjoint = refl; dash_is_no_flag = refl; dash_takes_no_value = refl; ascii = refl }
 syntax_is Join = record { disjoint = refl; dash_is_no_flag = refl; dash_takes_no_value = refl; ascii = refl }
-syntax_is Tr = record { disjoint = refl; dash_is_no_flag = refl; dash_takes_no_value = refl; ascii = refl }
+syntax_is Tr = grind arith
 
--- the number of inputs of each job that is not free
+-- the number of inputs of a job, where it is bounded
 abbrev pub AreInputsOf : Job → List Input → Type 0
 AreInputsOf (RunUniq told) order = length order ≡ 1
 AreInputsOf (RunPaste told) order = nat_le (length order) 512 ≡ true
@@ -31,9 +31,9 @@ AreInputsOf _ order = ⊤
 pub are_inputs : (tool : Tool) (os : List ParsedOption) (operands : List (List ℕ))
     → operands_fault tool os operands ≡ None
     → AreInputsOf (job tool os operands) (order_from 0 (input_operands tool operands))
-are_inputs Cut os operands none = tt
+are_inputs Cut os _ none = tt
 are_inputs Paste os operands none = few_inputs os operands none
 are_inputs Uniq os operands none = sole_input operands
 are_inputs Comm os operands none = two_inputs operands none
 are_inputs Join os operands none = two_inputs operands none
-are_inputs Tr os operands none = tt
+are_inputs Tr os _ none = tt

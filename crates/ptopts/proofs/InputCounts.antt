@@ -1,10 +1,9 @@
--- The number of inputs of a tool whose operands have no fault. Each operand is one input.
+-- The number of inputs if the operands have no fault. Each operand is one input.
 use Rattle.ptopts.proofs
 use proofs.Common.{Bool, Input, List, None, Operands, ParsedOption, Paste, Some, StandardTwice, [], arith, cond, false}
 use proofs.Common.{is_standard, is_within, length, list_all, nat_le, operands_fault, or_stdin, order_from, refl, take}
 use proofs.Common.{true, ℕ, ◌&&◌, ◌+◌, ◌∙◌, ◌∷◌, ◌≡◌}
 use Rattle.ptopts.specs.declared.inputs.Input.TheVariants.{File, Standard}
-use Rattle.std.proofs.lemmas.Bool.Decides.{nat_tests}
 use Rattle.std.specs.Prelude.{not}
 
 order_length : (n : ℕ) (operands : List (List ℕ)) → length (order_from n operands) ≡ length operands
@@ -13,23 +12,16 @@ order_length n (operand ∷ operands) = grind (arith, order_length n operands, o
 
 one_of : (operands : List (List ℕ)) → length (take 1 (or_stdin operands)) ≡ 1
 one_of [] = refl
-one_of (word ∷ words) = refl
+one_of _ = refl
 
 -- `uniq` has one input
 pub sole_input : (operands : List (List ℕ)) → length (order_from 0 (take 1 (or_stdin operands))) ≡ 1
 sole_input operands = order_length 0 (take 1 (or_stdin operands)) ∙ one_of operands
 
-few_of : (some few : Bool) → cond (not ((some && few) && true)) (Some Operands) None ≡ None → few ≡ true
-few_of true true none = refl
-few_of true false none = cc
-few_of false few none = cc
-
--- `paste` has at most 512 inputs
 pub few_inputs : (os : List ParsedOption) (operands : List (List ℕ)) → operands_fault Paste os operands ≡ None
     → nat_le (length (order_from 0 operands)) 512 ≡ true
-few_inputs os operands none = grind (arith, order_length, few_of)
+few_inputs os _ none = grind (arith, order_length)
 
--- two inputs that differ
 pub record AreTwo (order : List Input) : Type 0 where
   pub first : Input
   pub second : Input
@@ -43,10 +35,10 @@ two_of true false once = grind arith
 two_of false true once = grind arith
 two_of false false once = grind arith
 
--- `comm` and `join` have two inputs, at most one of which is standard input
+-- `comm` and `join` have two inputs
 pub two_inputs : (operands : List (List ℕ)) → cond (not (is_within 2 2 (length operands) && true)) (Some Operands)
     (cond (list_all is_standard operands) (Some StandardTwice) None) ≡ None → AreTwo (order_from 0 operands)
 two_inputs [] none = cc
 two_inputs (a ∷ []) none = cc
-two_inputs (a ∷ b ∷ []) none = grind (arith, two_of)
-two_inputs (a ∷ b ∷ c ∷ more) none = grind (arith, nat_tests)
+two_inputs (a ∷ b ∷ []) none = grind arith
+two_inputs _ none = grind arith

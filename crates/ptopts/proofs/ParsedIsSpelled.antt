@@ -1,17 +1,17 @@
 -- A parse without a faulty token is one of the grammar: each word of options is flags, perhaps with an option that
 -- takes the rest of the word or the next word as its value.
 use Rattle.ptopts.proofs
-use proofs.Common.{AreFlags, Bool, EndOfOptions, FaultlessIsSpelled, Flags, GrammarIsUnambiguous, List, MissingValue}
-use proofs.Common.{None, OperandsAlone, Option, ParseMatchesGrammar, ParsedOption, Some, Spells, Token, Tool}
-use proofs.Common.{UnknownLetter, Valid, ValueAttached, ValueNext, [], and_from, ap, append_assoc, arith, cases_Bool}
-use proofs.Common.{codes, eqb-true, false, filter_map, flag, is_empty, is_end_of_options, is_flag, is_option_arg}
-use proofs.Common.{is_some, list_all, map, not_from_false, option_of_token, option_or, options, parse_fault}
+use proofs.Common.{AreFlags, Bool, EndOfOptions, FaultlessIsSpelled, Flags, List, MissingValue}
+use proofs.Common.{None, OperandsAlone, ParseMatchesGrammar, ParsedOption, Spells, Token, Tool}
+use proofs.Common.{Valid, ValueAttached, ValueNext, [], and_from, ap, append_assoc, arith, cases_Bool}
+use proofs.Common.{codes, false, filter_map, flag, is_empty, is_end_of_options, is_flag, is_option_arg}
+use proofs.Common.{is_some, list_all, map, not_from_false, option_of_token, options, parse_fault}
 use proofs.Common.{parsed_args_from, refl, rules, slice_get, subst, sym, takes_next, takes_value, tokens_in, true}
-use proofs.Common.{value_token, with_value, ℕ, ⊎_elim, ◌&&◌, ◌++◌, ◌==◌, ◌∷◌, ◌≡◌}
+use proofs.Common.{value_token, ℕ, ⊎_elim, ◌&&◌, ◌++◌, ◌==◌, ◌∷◌, ◌≡◌}
 use proofs.SpelledIsParsed.{spelled, takes_next-all_flags, takes_next-flags, tokens_in-all_flags, tokens_in-flags}
 use Rattle.std.proofs.lemmas.Slice.Eq.{bytes_eq-Decides}
+use Rattle.std.proofs.lemmas.Grind.{common_steps}
 
--- each token is an option
 abbrev all_given : List Token → Bool
 all_given tokens = list_all (λ e. is_some (option_of_token e)) tokens
 
@@ -33,21 +33,20 @@ options-prefixed : (os : List ParsedOption) (tokens : List Token)
 options-prefixed [] tokens = refl
 options-prefixed (o ∷ os) tokens = grind (arith, options-prefixed os tokens)
 
--- the letters are all flags, or flags and then a letter that is not a flag
 data Split (tool : Tool) : List ℕ → Type 0 where
   AllFlags : (fs : List ℕ) → AreFlags tool fs → Split tool fs
   OneMore : (fs : List ℕ) (l : ℕ) (rest : List ℕ) → AreFlags tool fs → is_flag tool l ≡ false
       → Split tool (fs ++ l ∷ rest)
 
 split_behind : (tool : Tool) (l : ℕ) {ls : List ℕ} → is_flag tool l ≡ true → Split tool ls → Split tool (l ∷ ls)
-split_behind tool l is (AllFlags fs a) = AllFlags (l ∷ fs) (and_from (is_flag tool l) (list_all (is_flag tool) fs) is a)
-split_behind tool l is (OneMore fs m rest a n) =
-    OneMore (l ∷ fs) m rest (and_from (is_flag tool l) (list_all (is_flag tool) fs) is a) n
+split_behind _ l is (AllFlags fs a) = AllFlags (l ∷ fs) (grind (arith, and_from, is_flag, list_all))
+split_behind _ l is (OneMore fs m rest a n) =
+    OneMore (l ∷ fs) m rest (grind (arith, and_from, is_flag, list_all)) n
 
 split : (tool : Tool) (letters : List ℕ) → Split tool letters
-split tool [] = AllFlags [] refl
-split tool (l ∷ ls) = ⊎_elim (λ is. split_behind tool l is (split tool ls)) (λ n. OneMore [] l ls refl n)
-    (cases_Bool (is_flag tool l))
+split _ [] = AllFlags [] refl
+split tool (l ∷ ls) = ⊎_elim (λ is. split_behind tool l is (split _ ls)) (λ n. OneMore [] l ls refl n)
+    (cases_Bool _)
 
 -- the words without the first one if that is a value
 abbrev untaken : Bool → List (List ℕ) → List (List ℕ)
@@ -61,7 +60,7 @@ IsSpelled tool ws taken =
     → Spells tool (untaken taken ws) (options (parsed_args_from tool taken ws))
     (parsed_args_from tool taken ws).operands
 
--- like `IsSpelled`, for a word with these tokens before the other words
+-- like `IsSpelled`, with these tokens of `word` before the others
 abbrev GroupIsSpelled : Tool → List ℕ → List (List ℕ) → List Token → Bool → Type 0
 GroupIsSpelled tool word ws tokens taken =
     all_given (tokens ++ (parsed_args_from tool taken ws).tokens) ≡ true
@@ -70,36 +69,11 @@ GroupIsSpelled tool word ws tokens taken =
 
 flags_spelled : (tool : Tool) (f : ℕ) (fs : List ℕ) (ws : List (List ℕ)) → AreFlags tool (f ∷ fs)
     → IsSpelled tool ws false → GroupIsSpelled tool (45 ∷ f ∷ fs) ws (map Valid (map flag (f ∷ fs))) false
-flags_spelled tool f fs ws a more given = grind (arith, all_given-prefixed, options-prefixed, Flags)
+flags_spelled _ f fs ws a more given = grind (arith, all_given-prefixed, options-prefixed, Flags)
 
-attached_spelled : (tool : Tool) (fs : List ℕ) (l b : ℕ) (bs : List ℕ) (ws : List (List ℕ)) → AreFlags tool fs
-    → takes_value tool l ≡ true → IsSpelled tool ws false
-    → GroupIsSpelled tool (45 ∷ fs ++ l ∷ b ∷ bs) ws (map Valid (map flag fs) ++ Valid (with_value l (b ∷ bs)) ∷ [])
-    false
-attached_spelled tool fs l b bs ws a t more given = grind (
-  arith,
-  append_assoc,
-  all_given-prefixed,
-  options-prefixed,
-  ValueAttached,
-)
-
-next_spelled : (tool : Tool) (fs : List ℕ) (l : ℕ) (value : List ℕ) (ws : List (List ℕ)) → AreFlags tool fs
-    → takes_value tool l ≡ true → IsSpelled tool (value ∷ ws) true
-    → GroupIsSpelled tool (45 ∷ fs ++ l ∷ []) (value ∷ ws) (map Valid (map flag fs) ++ Valid (with_value l value) ∷ [])
-    true
-next_spelled tool fs l value ws a t more given = grind (
-  arith,
-  append_assoc,
-  all_given-prefixed,
-  options-prefixed,
-  ValueNext,
-)
-
--- one of the tokens is not an option
 not_all_given : (os : List ParsedOption) (token : Token) (tokens : List Token) → option_of_token token ≡ None
     → all_given ((map Valid os ++ token ∷ []) ++ tokens) ≡ true → ⊥
-not_all_given [] token tokens n h = let bad : false ≡ true = rw n at h in cc
+not_all_given [] token tokens n h = cc
 not_all_given (o ∷ os) token tokens n h = not_all_given os token tokens n h
 
 valued_spelled : (tool : Tool) (fs : List ℕ) (l : ℕ) (rest : List ℕ) (ws : List (List ℕ)) → AreFlags tool fs
@@ -107,80 +81,58 @@ valued_spelled : (tool : Tool) (fs : List ℕ) (l : ℕ) (rest : List ℕ) (ws :
     → GroupIsSpelled tool (45 ∷ fs ++ l ∷ rest) ws
     (map Valid (map flag fs) ++ value_token tool (45 ∷ fs ++ l ∷ rest) l rest (slice_get ws 0) ∷ [])
     (takes_value tool l && is_empty rest)
-valued_spelled tool fs l (b ∷ bs) ws a n more = grind (arith, attached_spelled, not_all_given)
+valued_spelled tool fs l (b ∷ bs) ws a n more = grind (arith, append_assoc, all_given-prefixed, options-prefixed, ValueAttached)
 valued_spelled tool fs l [] [] a n more = grind (arith, not_all_given)
-valued_spelled tool fs l [] (value ∷ ws) a n more = grind (arith, next_spelled, not_all_given)
+valued_spelled _ fs l [] (value ∷ ws) a n more = grind (arith, append_assoc, all_given-prefixed, options-prefixed, ValueNext)
 
 group_spelled : (tool : Tool) {letters : List ℕ} (ws : List (List ℕ)) → is_empty letters ≡ false → Split tool letters
     → ((taken : Bool) → IsSpelled tool ws taken)
     → GroupIsSpelled tool (45 ∷ letters) ws (tokens_in tool (45 ∷ letters) (slice_get ws 0) letters)
     (takes_next tool letters)
-group_spelled tool ws some (AllFlags [] a) more = cc
-group_spelled tool ws some (AllFlags (f ∷ fs) a) more =
-    rw (tokens_in-all_flags tool (45 ∷ f ∷ fs) (slice_get ws 0) (f ∷ fs) a, takes_next-all_flags tool (f ∷ fs) a)
-    (flags_spelled tool f fs ws a (more false))
-group_spelled tool ws some (OneMore fs l rest a n) more = grind (
+group_spelled _ ws some (AllFlags [] a) more = cc
+group_spelled _ ws some (AllFlags (f ∷ fs) a) more =
+    rw (tokens_in-all_flags _ _ _ _ a, takes_next-all_flags _ _ a)
+    (flags_spelled _ f fs ws a (more false))
+group_spelled _ ws some (OneMore fs l rest a n) more = grind (
   arith,
   tokens_in-flags,
   takes_next-flags,
   valued_spelled,
 )
 
--- a word that is not `--` and not a word of options is an operand
 operand_spelled : (tool : Tool) (word : List ℕ) (ws : List (List ℕ)) → is_end_of_options word ≡ false
     → is_option_arg word ≡ false → IsSpelled tool (word ∷ ws) false
 operand_spelled tool word ws ends plain =
-    rw (ends, plain) (λ given. OperandsAlone (word ∷ ws) (not_from_false (is_option_arg word) plain))
+    rw (ends, plain) (λ given. OperandsAlone (word ∷ ws) (not_from_false _ plain))
 
-dashed_spelled : (tool : Tool) (b l : ℕ) (ls : List ℕ) (ws : List (List ℕ)) → b ≡ 45
-    → is_end_of_options (b ∷ l ∷ ls) ≡ false → ((taken : Bool) → IsSpelled tool ws taken)
-    → IsSpelled tool ((b ∷ l ∷ ls) ∷ ws) false
-dashed_spelled tool b l ls ws dash ends more = grind (arith, group_spelled tool ws refl (split tool (l ∷ ls)) more)
-
--- a word that is not `--` is an operand, or a dash and letters
 word_spelled : (tool : Tool) (word : List ℕ) (ws : List (List ℕ)) → is_end_of_options word ≡ false
     → ((taken : Bool) → IsSpelled tool ws taken) → IsSpelled tool (word ∷ ws) false
 word_spelled tool [] ws ends more = operand_spelled tool [] ws refl refl
 word_spelled tool (b ∷ []) ws ends more = operand_spelled tool (b ∷ []) ws ends ends
 word_spelled tool (b ∷ l ∷ ls) ws ends more =
-    ⊎_elim (λ dash. dashed_spelled tool b l ls ws (eqb-true b 45 dash) ends more)
+    ⊎_elim (λ dash. (grind (arith, common_steps, group_spelled tool ws refl (split tool (l ∷ ls)) more)))
     (λ none. operand_spelled tool (b ∷ l ∷ ls) ws ends (rw none refl)) (cases_Bool (b == 45))
 
-end_spelled : (tool : Tool) (word : List ℕ) (ws : List (List ℕ)) → is_end_of_options word ≡ true
-    → IsSpelled tool (word ∷ ws) false
-end_spelled tool word ws ends =
-    let (same, _) = bytes_eq-Decides word (codes "--") in
-    rw ends (λ given. subst (λ (w : List ℕ). Spells tool (w ∷ ws) [] ws) (sym (same ends)) (EndOfOptions ws))
-
 built : (tool : Tool) (ws : List (List ℕ)) (taken : Bool) → IsSpelled tool ws taken
-built tool [] true = λ given. OperandsAlone [] refl
-built tool [] false = λ given. OperandsAlone [] refl
+built _ [] true = λ given. OperandsAlone [] refl
+built _ [] false = λ given. OperandsAlone [] refl
 built tool (word ∷ ws) true = built tool ws false
 built tool (word ∷ ws) false =
-    ⊎_elim (end_spelled tool word ws) (λ ends. word_spelled tool word ws ends (built tool ws))
-    (cases_Bool (is_end_of_options word))
+    ⊎_elim
+    (λ ends. let (same, _) = bytes_eq-Decides word (codes "--") in
+    rw ends (λ given. subst (λ (w : List ℕ). Spells tool (w ∷ ws) [] ws) (sym (same ends)) (EndOfOptions ws)))
+    (λ ends. word_spelled _ _ ws ends (built _ ws))
+    (cases_Bool _)
 
 pub read_as_spelled : ParseMatchesGrammar
 read_as_spelled tool words os operands = grind (arith, spelled, built, all_given-map, options-map)
 
-pub spelled_one_way : GrammarIsUnambiguous
-spelled_one_way tool words os os' operands operands' s s' = grind (arith, spelled, options-map)
-
-pub option_or-none : {A : Type 0} (o p : Option A) → option_or o p ≡ None → (o ≡ None) × (p ≡ None)
-option_or-none None p none = (refl, none)
-option_or-none (Some x) p none = cc
-
--- if no fault is found, each token is an option
 all_given_unless_faulty : (tool : Tool) (before : List ParsedOption) (tokens : List Token)
     → parse_fault tool before tokens ≡ None → all_given tokens ≡ true
-all_given_unless_faulty tool before [] none = refl
-all_given_unless_faulty tool before (Valid o ∷ tokens) none = grind (
-  arith,
-  option_or-none,
-  all_given_unless_faulty tool (before ++ o ∷ []) tokens,
-)
-all_given_unless_faulty tool before (MissingValue letter ∷ tokens) none = grind (arith, option_or-none)
-all_given_unless_faulty tool before (UnknownLetter word ∷ tokens) none = cc
+all_given_unless_faulty _ _ [] none = refl
+all_given_unless_faulty tool before (Valid o ∷ tokens) none = grind (arith, all_given_unless_faulty tool (before ++ o ∷ []) tokens)
+all_given_unless_faulty tool before (MissingValue letter ∷ tokens) none = grind arith
+all_given_unless_faulty _ _ _ none = cc
 
 pub spelled_unless_faulty : FaultlessIsSpelled
 spelled_unless_faulty tool words none = search (rules, built, all_given_unless_faulty)

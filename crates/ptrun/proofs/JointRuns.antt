@@ -1,43 +1,36 @@
--- A call over named inputs, as a call over the inputs at the positions that these names have.
--- A tool with one input that accepts one operand: the pass over the reader of this operand is its run.
--- `paste`: each operand is a column, so the call of its engine over the columns is the run of the tool.
--- Tools with two inputs. What the merge has done to its two readers is what the tool has to do with the list from which
--- both were lent; no other reader changes.
--- Tools that read all their operands together.
---
--- If an operand could not be opened, nothing but messages is required. Otherwise what the engine of such a tool has
--- done at the positions of its operands is what processing the inputs has to do.
+-- Tools that read all their operands together. A call over named inputs is one over the inputs at the positions of
+-- these names: with one operand, the pass over its reader; in `paste`, each operand is a column; in a merge, only the
+-- two readers change. If an operand could not be opened, nothing but messages is required.
 use Rattle.ptrun.proofs
 use proofs.Common.{AllPushed, AllWritten, AreInputsConsistent, AreReadToEnd, Bool, BoundedLag}
 use proofs.Common.{CallOutcome, Completion, Disorder, Err, First, FlowFault, HasIndexBelow, HasReadFailed}
 use proofs.Common.{HaveReceived, InputBytes, IsDone, IsTooLong, JointTool, List, Memory, MergeTool, None, Ok}
-use proofs.Common.{Option, Output, PassPost, PassPre, Paste, Read, Reader, Received, ReceivedInputs, Result}
+use proofs.Common.{Option, Output, PassPost, Paste, Read, Reader, Received, ReceivedInputs, Result}
 use proofs.Common.{RunInputsEnd, RunInputsPost, Second, SinkState, Slots, Some, ToolSpec, Write, [], ap, arith}
 use proofs.Common.{bytes_of, call_state, cases_eq, common_steps, cond}
 use proofs.Common.{drop, ended_operands, eqb-true, eqb_tells, false, false≢true, get_or, get_or_default, has_unopened}
-use proofs.Common.{inl, inr, is_in, is_reader_unopened, is_unopened, joint_spec, length, length-append, length-set}
-use proofs.Common.{list_any, list_any-append, nat_tests, no_reader, not, one_input_tool, only_input, operand}
+use proofs.Common.{inl, inr, is_in, is_reader_unopened, is_unopened, joint_spec, length}
+use proofs.Common.{list_any, list_any-append, no_reader, not, one_input_tool, only_input, operand}
 use proofs.Common.{option_map, pass_end, pass_engine, paste_rows_tool, positions, reader_at, received_in}
 use proofs.Common.{refl, result_status, rules, set, slice_get, subst, suc, sym, take, take-append-drop}
-use proofs.Common.{true, two_input_tool, unopened_messages, zero, ℕ, ⊎_elim, ◌&&◌, ◌++◌, ◌+◌, ◌-◌, ◌<◌, ◌==◌, ◌^◌}
+use proofs.Common.{true, two_input_tool, unopened_messages, zero, ℕ, ⊎_elim, ◌&&◌, ◌++◌, ◌+◌, ◌-◌, ◌<◌, ◌==◌}
 use proofs.Common.{◌∙◌, ◌∷◌, ◌≡◌, ◌≤◌, ◌⊎◌}
 use proofs.MessageWrites.{said_nothing}
-use proofs.OperandInputs.{any_same, at_set, by_position, consistent_bytes, each_listed, fresh_all, is_in-same}
-use proofs.OperandInputs.{lagged_output, neither, never_long, none_passes, none_received, not_long, opened_set}
-use proofs.OperandInputs.{put_here, put_other, received_of, receives_none, same_here, some_same, unopened_agrees}
-use proofs.OperandInputs.{unopened_received}
-use Rattle.ptflow.proofs.PasteLemmas.Grid.{cell_in, decided_same}
+use proofs.OperandInputs.{any_same, at_set, each_listed, fresh_all, is_in-same}
+use proofs.OperandInputs.{lagged_output, none_passes, none_received, opened_set}
+use proofs.OperandInputs.{put_here, put_other, received_of, same_here, some_same}
+use Rattle.ptflow.proofs.PasteLemmas.BufferedRows.Rows.Grid.{cell_in, decided_same}
 use Rattle.ptflow.specs.PasteCall.{PastePost, PastePre, paste_end, paste_engine, update_at}
 use Rattle.ptlines.specs.Calls.{AreAllConsistent, CallEnd, CallPost, Complete, EngineSpec, InputNames, IsCallUnfinished}
 use Rattle.ptlines.specs.Calls.{MemoryFault, NoReadFailed, OutOfOrder, ReadFault, WriteFault, inputs_at, with_input}
-use Rattle.ptmerge.specs.MergeCall.{MergePost, MergePre, both_sides, is_same_side, merge_end, merge_engine, merge_state}
+use Rattle.ptmerge.specs.MergeCall.{MergePost, both_sides, is_same_side, merge_end, merge_engine, merge_state}
 use Rattle.ptmerge.specs.Sides.{both}
 use Rattle.ptmerge.specs.declared.faults.MergeFault.{MergeFault}
 use Rattle.ptmerge.specs.declared.key_order.Side.{Side}
 use Rattle.ptrun.specs.Driver.{JointPost, JointPre, merge_completion, operand_completion, result_of_end, run_state}
 use Rattle.ptrun.specs.Engines.{at_positions, end_at, in_run, line_at}
 use Rattle.ptrun.specs.Files.{IsNew, IsNewOrUnopened, at}
-use Rattle.std.proofs.lemmas.List.{get_or-set_other, get_or-set_same, set-append_left, set-append_right}
+use Rattle.std.proofs.lemmas.List.{get_or-set_other, get_or-set_same}
 
 -- The names that are read are those of the positions in a list, one for each.
 pub record Placement {I : Type 0} (names : InputNames I) (position : I → ℕ) (positions : List ℕ) : Type 0 where
@@ -73,16 +66,12 @@ module _ {I : Type 0} {names : InputNames I} (engine : EngineSpec I) (position :
   given_is : (λ i. given (position i)) ≡ call.given
   given_is = λ k i. by.placed_at call.given i k
 
-  placed_agree : (texts : ℕ → List ℕ) → AreAllConsistent (inputs_at positions) given texts
-      → AreAllConsistent names call.given (λ i. texts (position i))
-  placed_agree texts a i read = grind arith
-
   placed_pushed : (found : Option (I × ℕ))
       → AllPushed names engine (call_state (λ i. reader_at old (position i)) was before)
       (call_state (λ i. reader_at new (position i)) is store) call.given call.pushed found
       → AllPushed (inputs_at positions) (in_run (at_positions engine position)) (run_state old was before)
       (run_state new is store) given call.pushed (option_map (line_at position) found)
-  placed_pushed found e = grind (arith, each, none_found)
+  placed_pushed found e = grind (arith, each)
 
   unfinished : IsCallUnfinished names engine (call_state (λ i. reader_at new (position i)) is store) call.given
       call.pushed
@@ -102,18 +91,12 @@ module _ {I : Type 0} {names : InputNames I} (engine : EngineSpec I) (position :
       (call_state (λ i. reader_at new (position i)) is store) call.given call.pushed e
       → CallOutcome (inputs_at positions) (in_run (at_positions engine position)) (run_state old was before)
       (run_state new is store) given call.pushed (end_at position e)
-  ends Complete e = placed_pushed None e
+  ends Complete e = placed_pushed _ e
   ends (OutOfOrder i line) e =
-      record { named = by.listed i e.named; pushed_all = placed_pushed (Some (i, line)) e.pushed_all }
+      record { named = by.listed i e.named; pushed_all = placed_pushed _ e.pushed_all }
   ends (ReadFault i) e = grind arith
   ends WriteFault e = grind arith
-  ends MemoryFault e = grind (arith, each, unread)
-
-  -- less was received from one input, and the others are unchanged
-  placed_decided : (i : I) → ◌≡◌ {A = (Unit {0} → Received) → List ℕ}
-      (λ came. engine.decided (with_input names i (came tt) call.given))
-      (λ came. engine.decided (λ j. with_input (inputs_at positions) (position i) (came tt) given (position j)))
-  placed_decided i = grind arith
+  ends MemoryFault e = grind (arith, each)
 
   placed_call : CallPost (inputs_at positions) (in_run (at_positions engine position)) (run_state old was before)
       (run_state new is store) (end_at position end)
@@ -126,14 +109,12 @@ module _ {I : Type 0} {names : InputNames I} (engine : EngineSpec I) (position :
     ends = ends end call.ends;
     is_prefix = grind arith;
     decided_is_written = grind (arith, common_steps, given_is);
-    bounded_lag = each by (λ q. was.write_failed ≡ false → BoundedLag {I = Unit {0}}
-        (λ came. engine.decided (λ j. with_input (inputs_at positions) q (came tt) given (position j)))
-        (λ u. given q) was is call.pushed) (λ i read fine.
+    bounded_lag = each by _ (λ i read fine.
         subst (λ (g : Received). BoundedLag {I = Unit {0}} (λ came. engine.decided
         (λ j. with_input (inputs_at positions) (position i) (came tt) given (position j)))
         (λ u. g) was is call.pushed) (sym (by.placed_at call.given i))
         (subst (λ (f : (Unit {0} → Received) → List ℕ). BoundedLag f (λ u. call.given i) was is call.pushed)
-        (placed_decided i) (call.bounded_lag i read fine)));
+        (grind arith) (call.bounded_lag i read fine)));
     peak = grind arith;
     slots = grind arith;
     added = grind arith;
@@ -157,30 +138,23 @@ one_placed p = record {
   placed_at = λ f u. refl;
 }
 
--- the pass over the reader of the only operand
 module _ {j : JointTool} {positions : List ℕ} {old : List Reader} {was : Output} {before : Slots}
     (ready : JointPre j positions old was before) (one : (length positions == 1) ≡ true) where
-  only_operand_exists : 0 < length positions
-  only_operand_exists = omega (arith, eqb-true (length positions) 1 one)
-
   pub only_operand_within : (d : ℕ) → get_or positions 0 d < length old
-  only_operand_within d = ready.in_range 0 d only_operand_exists
+  only_operand_within d = ready.in_range 0 d (grind (arith, eqb-true))
 
   module _ (d : ℕ) where
     abbrev p : ℕ
     p = get_or positions 0 d
 
-    opened : (reader_at old p).refused ≡ false
-    opened = grind (arith, neither, only_operand_of)
+    pub opened : (reader_at old p).refused ≡ false
+    opened = grind (arith, only_operand_of)
 
-    new_here : IsNew (reader_at old p)
+    pub new_here : IsNew (reader_at old p)
     new_here = fresh_all old ready.fresh p opened
 
-    pub only_operand_ready : (e : Reader) → PassPre (get_or old p e) before
-    only_operand_ready e = grind (arith, common_steps, opened, new_here)
-
     named : is_in positions p ≡ true
-    named = rw (only_operand_of positions d one) (is_in-same [] p)
+    named = rw (only_operand_of _ d one) (is_in-same [] p)
 
     pub only_operand_post : (e : Reader) {t : ToolSpec} {is : Output} {store : Slots} {new : Reader}
         {result : Result (Unit {0}) FlowFault} → PassPost t (get_or old p e) new was is before store result
@@ -207,20 +181,8 @@ rows_completion (Err fault) = Err fault
 
 module _ (job : Paste) {positions : List ℕ} {old : List Reader} {was : Output} {before : Slots}
     (ready : JointPre (paste_rows_tool job) positions old was before) where
-  cell_open : (q : ℕ) → is_in positions q ≡ true → is_reader_unopened old q ≡ false
-  cell_open = search (rules, none_passes)
-
   pub cells_ready : PastePre positions old before
-  cells_ready = grind (arith, common_steps, cell_in, fresh_all)
-
-  in_place : Placement (inputs_at positions) (λ p. p) positions
-  in_place = record {
-    listed = λ q named. named;
-    name_at = λ q named. (q, named, refl);
-    same = λ p q. refl;
-    placed = λ f. f;
-    placed_at = λ f q. refl;
-  }
+  cells_ready = grind (arith, common_steps, cell_in)
 
   completes : (r : Result (Unit {0}) FlowFault) → rows_completion r ≡ result_of_end (end_at (λ p. p) (paste_end r))
   completes (Ok u) = refl
@@ -234,15 +196,19 @@ module _ (job : Paste) {positions : List ℕ} {old : List Reader} {was : Output}
   rows_post {new} result k = record {
     end = end_at (λ p. p) (paste_end result);
     result_is = completes result;
-    call = placed_call (paste_engine job positions) (λ p. p) in_place old new k.untouched ready.writable
-        (λ few. let first = cell_in positions 0 (omega arith) in let q = get_or positions 0 0 in
-        (q, first, grind (arith, cell_open))) k;
+    call = placed_call (paste_engine job positions) (λ p. p) (record {
+      listed = λ q named. named;
+      name_at = λ q named. (q, named, refl);
+      same = λ p q. refl;
+      placed = λ f. f;
+      placed_at = λ f q. refl;
+    }) old new k.untouched ready.writable
+        (λ few. let first = cell_in positions 0 (omega arith) in ((get_or positions 0 0), first, grind (arith, rules, none_passes))) k;
     same = decided_same job positions;
   }
 
 -- ---- two operands
 
--- two different positions
 pub record TwoPositions (positions : List ℕ) (p q : ℕ) : Type 0 where
   pub are : positions ≡ p ∷ q ∷ []
   pub apart : p ≡ q → ⊥
@@ -268,15 +234,8 @@ module _ (t : MergeTool) {old : List Reader} {was : Output} {before : Slots} {p 
   side_named First = search rules
   side_named Second = is_in-same (p ∷ []) q
 
-  side_open : (side : Side) → (reader_at old (operand two side)).refused ≡ false
-  side_open side = grind (arith, side_named)
-
   new_at : (side : Side) → IsNew (reader_at old (operand two side))
-  new_at side = search (rules, side_open)
-
-  -- both can be read
-  pub ready_at : MergePre (reader_at old p) (reader_at old q) before
-  ready_at = grind (arith, new_at)
+  new_at side = search rules
 
   not_same : (a b : ℕ) → (a ≡ b → ⊥) → (a == b) ≡ false
   not_same a b differs = grind arith
@@ -301,7 +260,6 @@ module _ (t : MergeTool) {old : List Reader} {was : Output} {before : Slots} {p 
       placed_at f First = put_here p (f First) (λ k. f Second)
       placed_at f Second = put_other p q (f First) (λ k. f Second) apart
 
-  -- what holds of both positions, by side
   by_side : {X : Type 0} (f : ℕ → X) (side : Side) → both (f p) (f q) side ≡ f (operand two side)
   by_side f First = refl
   by_side f Second = refl
@@ -344,20 +302,15 @@ module _ {inputs : List Reader} (front back : List Reader) {low high : ℕ} (spl
   none_left = omega arith
 
   pub were : (d e : Reader) → (get_or front low d ≡ reader_at inputs low) × (get_or back 0 e ≡ reader_at inputs high)
-  were d e = grind (arith, common_steps, none_left)
+  were d e = grind (arith, common_steps)
 
   module _ (x y : Reader) where
-    set_both : set (set inputs low x) high y ≡ set front low x ++ set back 0 y
-    set_both =
-        grind (arith, set-append_left, set-append_right, length-set, none_left)
-
     pub split_readers : (d e : Reader)
         → SplitReaders inputs (set front low x ++ set back 0 y) low high (get_or front low d) (get_or back 0 e) x y
-    split_readers d e = grind (arith, common_steps, were)
+    split_readers d e = grind (arith, common_steps)
 
 -- ---- an operand could not be opened
 
--- if each was opened, none is reported
 pub none_unopened : (word : List ℕ) (names : List (List ℕ)) (test : ℕ → Bool) (positions : List ℕ)
     → list_any test positions ≡ false → unopened_messages word names test positions ≡ []
 none_unopened word names test [] none = refl
@@ -388,7 +341,7 @@ at_received given n (r ∷ readers) (suc q) m is = at_received given (n + 1) rea
 
 -- ---- processing the inputs
 
--- a line out of order that was found, if any: its position and its number
+-- of a line out of order, if there is one: its position and its number
 abbrev completion_of : Option (ℕ × ℕ) → Completion
 completion_of None = AllWritten
 completion_of (Some found) = Disorder found.0 found.1
@@ -427,14 +380,14 @@ module _ (word : List ℕ) {t : JointTool} (names : List (List ℕ)) {positions 
   given_listed q named = rw (at_listed q named) refl
 
   came : HaveReceived old new received
-  came q = grind (arith, at_listed, open_at, k, at_other, fresh)
+  came q = grind (arith, at_listed, open_at, at_other, fresh)
 
   complete : (w : InputBytes) → AreInputsConsistent received w → has_unopened positions w ≡ false
-  complete w agrees = grind (arith, any_same, came)
+  complete w agrees = grind (arith, came)
 
   agree : (w : InputBytes) → AreInputsConsistent received w → AreAllConsistent (inputs_at positions) k.given
       (bytes_of w)
-  agree w agrees q named = grind (arith, k, at_listed)
+  agree w agrees q named = grind (arith, at_listed)
 
   -- ---- the decided output
 
@@ -443,10 +396,9 @@ module _ (word : List ℕ) {t : JointTool} (names : List (List ℕ)) {positions 
       → (joint_spec word t names positions).decided r ≡ (t.engine positions).decided f
   decided_is r f opened same = grind (arith, any_same, came)
 
-  -- less was received from one input, and the others are unchanged
   put_is : (p : ℕ) (g e : Received) → at received p ≡ Some g → (q : ℕ) → is_in positions q ≡ true
       → received_in (set received p (Some e)) q ≡ update_at p e k.given q
-  put_is p g e there = search (rules, k, at_set, put_here, given_listed, put_other)
+  put_is p g e there = search (rules, k, at_set, put_here, given_listed)
 
   -- ---- how it ended
 
@@ -458,16 +410,9 @@ module _ (word : List ℕ) {t : JointTool} (names : List (List ℕ)) {positions 
   EndedAs end = CallOutcome (inputs_at positions) (in_run (t.engine positions)) (run_state old was before)
       (run_state new is store) k.given k.pushed end
 
-  failed_is_in : (q : ℕ) → HasReadFailed old new q → is_in positions q ≡ true
-  failed_is_in q failed = grind arith
-
   none_failed : NoReadFailed (inputs_at positions) (run_state old was before) (run_state new is store) → (q : ℕ)
       → HasReadFailed old new q → ⊥
   none_failed none q failed = grind arith
-
-  none_long : ((q : ℕ) → is_in positions q ≡ true → (reader_at new q).pulled < 2 ^ 63) → (q : ℕ)
-      → IsTooLong (at received q) → ⊥
-  none_long short q long = grind (arith, not_long, fresh, came, at_other)
 
   record Ending (r : Result Completion FlowFault) : Type 0 where
     operands_done : ℕ
@@ -494,10 +439,10 @@ module _ (word : List ℕ) {t : JointTool} (names : List (List ℕ)) {positions 
   all_pushed found e below = record {
     operands_done = length positions;
     within = omega arith;
-    ends = grind (arith, complete, e.out, agree, e.clean, e.not_denied, e.unfailed, none_long, e.short, e.disorder);
+    ends = grind (arith, complete, e.out, agree, e.clean, e.not_denied, e.unfailed, e.short, e.disorder, fresh, came, at_other);
     position = below;
     names_failed_read = grind arith;
-    ended = ended_if_written found e.ended;
+    ended = ended_if_written _ e.ended;
   }
 
   ending : (end : CallEnd ℕ)
@@ -515,14 +460,13 @@ module _ (word : List ℕ) {t : JointTool} (names : List (List ℕ)) {positions 
         ends = (f.2, f.3, cause, e.clean, e.not_denied);
         position = each_listed (λ q. q < length old) positions start.in_range p e.named;
         names_failed_read = λ q failed clean. ⊎_elim (λ same. ap (λ n. Err (Read n)) (sym same))
-            (λ other. absurd (false≢true (sym failed.1 ∙ sym (e.others q (failed_is_in q failed) other) ∙ failed.2)))
+            (λ other. absurd (false≢true (sym failed.1 ∙ sym (e.others q (grind arith) other) ∙ failed.2)))
             (cases_eq q p);
         ended = none_ended;
       }
   ending WriteFault e = grind arith
   ending MemoryFault e = grind (arith, none_failed)
 
-  -- memory ran out, so something was left
   left_by : (end : CallEnd ℕ)
       → EndedAs end → result_of_end end ≡ Err Memory
       → IsCallUnfinished (inputs_at positions) (in_run (t.engine positions)) (run_state new is store) k.given k.pushed
@@ -534,7 +478,7 @@ module _ (word : List ℕ) {t : JointTool} (names : List (List ℕ)) {positions 
 
   pub joint_post : RunInputsPost (joint_spec word t names positions) old new was is messages_old messages_old before
       store result
-  joint_post = let e : Ending result = subst Ending (sym post.result_is) (ending post.end k.ends) in record {
+  joint_post = let e = subst Ending (sym post.result_is) (ending post.end k.ends) in record {
     received = received;
     came = came;
     pushed = k.pushed;
@@ -546,7 +490,7 @@ module _ (word : List ℕ) {t : JointTool} (names : List (List ℕ)) {positions 
     names = λ w agrees. sym (none_unopened word names (is_unopened w) (take e.operands_done positions)
         (grind (
           arith,
-          complete w agrees,
+          complete,
           list_any-append (is_unopened w) (take e.operands_done positions)
               (drop e.operands_done positions),
           take-append-drop,
@@ -562,7 +506,7 @@ module _ (word : List ℕ) {t : JointTool} (names : List (List ℕ)) {positions 
         )) (left_by post.end k.ends (sym post.result_is ∙ memory));
     is_prefix = λ w agrees. rw (complete w agrees) (k.is_prefix (bytes_of w) (agree w agrees));
     names_failed_read = e.names_failed_read;
-    decided_is_written = grind (arith, decided_is received k.given (λ q. refl) given_listed, k);
+    decided_is_written = grind (arith, decided_is received k.given (λ q. refl) given_listed);
     bounded_lag = λ q g named there. let up = lagged_output (λ e. (t.engine positions).decided (update_at q e k.given))
         (k.bounded_lag q named start.writable) in let e = up.0.earlier in
         rw (some_same (sym there ∙ at_listed q named)) (

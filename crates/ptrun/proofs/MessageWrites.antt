@@ -7,7 +7,6 @@ use proofs.Common.{take_more, texts, true, ℕ, ◌++◌, ◌+◌, ◌<◌, ◌�
 use Rattle.ptlines.proofs.KnownBytes.{append_known-append, append_known-nil, unflushed_after-append}
 use Rattle.ptlines.specs.Sinks.{WriteOutErr, unflushed_after}
 
--- the pieces before this one and a prefix of it are a prefix of the text
 pub say_post_part : {old mid new : SinkState} {text piece : List ℕ} (done more : List ℕ)
     → text ≡ (done ++ piece) ++ more → WriteOutOk old mid done → WriteOutErr mid new piece → SayPost old new text false
 say_post_part {old} {piece = piece} done more split took p = record {
@@ -21,7 +20,6 @@ say_post_part {old} {piece = piece} done more split took p = record {
   broken = λ _. (omega (arith, length-append p.rest more), p.failed);
 }
 
--- all of it was taken
 pub say_post_all : {old new : SinkState} {text : List ℕ} → old.failed ≡ false → WriteOutOk old new text
     → SayPost old new text true
 say_post_all {text = text} clean took = search rules
@@ -44,21 +42,20 @@ said_trans {a} {b} {c} {xs} {ys} p q = by_failed b.failed refl
       stays = p.stays;
     })
     by_failed false is =
-        let all : xs ≡ p.front = p.split ∙ ap (λ l. p.front ++ l) (p.whole is) ∙ append-nil p.front in
+        let all = p.split ∙ ap (λ l. p.front ++ l) (p.whole is) ∙ append-nil p.front in
         rw all (record {
           front = p.front ++ q.front;
           rest = q.rest;
           split = ap (λ l. p.front ++ l) q.split ∙ sym (append_assoc p.front q.front q.rest);
           accepted = q.accepted ∙ ap (λ t. append_known t q.front) p.accepted
-              ∙ append_known-append a.accepted p.front q.front;
+              ∙ append_known-append _ _ _;
           unflushed = q.unflushed ∙ ap (λ b. unflushed_after b q.front) p.unflushed
-              ∙ unflushed_after-append a.unflushed p.front q.front;
+              ∙ unflushed_after-append _ p.front _;
           flushes = q.flushes ∙ p.flushes;
           whole = q.whole;
           stays = λ failed. absurd (false≢true (sym is ∙ ap (λ s. s.failed) (p.stays failed) ∙ failed));
         })
 
--- the first `n` parts, concatenated
 abbrev pub joined : List (Bor (List ℕ)) → ℕ → List ℕ
 joined parts n = flat_map (λ p. p) (take n (texts parts))
 
@@ -89,10 +86,6 @@ line_split parts i within = (
     joined_more,
     append_assoc,
     take-append-drop (i + 1) (texts parts),
-    flat_map-append (λ p. p) (take (i + 1) (texts parts)) (drop (i + 1) (texts parts)),
+    flat_map-append,
   ),
 )
-
-pub took_trans : (a b c : SinkState) (xs ys : List ℕ) → WriteOutOk a b xs → WriteOutOk b c ys
-    → WriteOutOk a c (xs ++ ys)
-took_trans a b c xs ys p q = grind (arith, append_known-append)

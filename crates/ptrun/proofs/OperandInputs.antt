@@ -1,27 +1,24 @@
 -- One input: what was received from it, the output that was decided two blocks earlier, and how much of that reached
--- the sink. What is received in two calls is the concatenation of what each receives, and at most one block of the
--- output is buffered.
--- The inputs and the positions of the operands of a command, one operand at a time. The facts follow by induction on
--- the list of operands.
+-- the sink. Two calls receive the concatenation of what each receives, and at most one block of the output is buffered.
+-- Then the operands of a command, by induction on their list.
 use Rattle.ptrun.proofs
-use proofs.Common.{All, AllWritten, Any-from_list_any, AreInputsConsistent, Bool, Bor, BoundedLag, BoundedLagAs}
+use proofs.Common.{All, AllWritten, Any-from_list_any, AreInputsConsistent, Bool, BoundedLag, BoundedLagAs}
 use proofs.Common.{BufferLag, CommandSpec, Completion, DecidesAll, HasBoundedLag, HasReceived, HasSaid, HaveReceived}
-use proofs.Common.{Input, InputBytes, IsConsistent, IsDone, IsKnownPrefix, IsPrefix, IsPushedUpToBlock, IsTooLong}
+use proofs.Common.{Input, InputBytes, IsConsistent, IsDone, IsKnownPrefix, IsPrefix, IsPushedUpToBlock}
 use proofs.Common.{IsWrittenUpToBlock, LagOfAny, LagOfLast, LaggedInput, List, None, Option, Output, PushEffect, Reader}
 use proofs.Common.{Received, ReceivedInputs, SinkState, Some, ToolSpec, Unopened, [], ap, append-nil, append_assoc}
-use proofs.Common.{append_known, arith, cases_lt, common_steps, cond, decided_in_order, drop, empty_input, eqb-true}
-use proofs.Common.{eqb_tells, false, false≢true, file_names, filter_map-append, flat_map, flat_map-append, get_or}
-use proofs.Common.{get_or-map, is_in, is_none, is_unopened, length, length-append, length-drop, length-map, list_any}
-use proofs.Common.{map, max, name_of, nat_tests, no_reader, option_map, or-false, or_left, or_right, order_from}
+use proofs.Common.{append_known, arith, common_steps, cond, decided_in_order, drop, empty_input}
+use proofs.Common.{false, false≢true, file_names, filter_map-append, flat_map, flat_map-append, get_or}
+use proofs.Common.{get_or-map, is_in, is_unopened, length, length-append, length-drop, length-map, list_any}
+use proofs.Common.{map, max, name_of, no_reader, option_map, order_from}
 use proofs.Common.{position, positions, reader_at, refl, rules, set, slice_get, suc, sym, take, take-append-drop}
-use proofs.Common.{take_more, true, unopened_message, unopened_messages, up_to_unended, words_view, zero, ℕ, ◌++◌, ◌+◌}
+use proofs.Common.{take_more, true, unopened_message, unopened_messages, up_to_unended, zero, ℕ, ◌++◌, ◌+◌}
 use proofs.Common.{◌<◌, ◌==◌, ◌^◌, ◌||◌, ◌∙◌, ◌∷◌, ◌≡◌, ◌≢◌, ◌≤◌}
 use proofs.MessageWrites.{said_trans}
 use Rattle.ptflow.specs.PasteCall.{update_at}
-use Rattle.ptlines.proofs.KnownBytes.{append_known-append, prepend_known-append}
+use Rattle.ptlines.proofs.KnownBytes.{append_known-append}
 use Rattle.ptlines.proofs.Lag.{bounded_lag_now, known_length}
-use Rattle.ptlines.proofs.Refill.{remaining_of_empty}
-use Rattle.ptrun.specs.Files.{HasReceivedAt, IsConsistentAt, IsNew, IsNewOrUnopened, at, input_of_operand}
+use Rattle.ptrun.specs.Files.{HasReceivedAt, IsConsistentAt, IsNewOrUnopened, at, input_of_operand}
 use Rattle.ptrun.specs.Files.{inputs_of_operands, opened_inputs, opened_values}
 use Rattle.ptrun.specs.Operands.{maximum}
 use Rattle.std.proofs.Math.ListN.{get_or-map as get_or-map_any}
@@ -36,16 +33,13 @@ pub neither : (a b : Bool) → (a || b) ≡ false → (a ≡ false) × (b ≡ fa
 neither true b is = absurd (false≢true (sym is))
 neither false b is = (refl, is)
 
--- a fact about `p` and about each other position holds at each position
 pub by_position : (P : ℕ → Type 0) (p : ℕ) → P p → ((q : ℕ) → p ≢ q → P q) → (q : ℕ) → P q
 by_position P p here others q = grind arith
 
--- a fact about each position in a list holds at each position that is in it
 pub each_listed : (P : ℕ → Type 0) (ps : List ℕ) → All P ps → (q : ℕ) → is_in ps q ≡ true → P q
 each_listed P ps all q named = let a = Any-from_list_any (λ p. p == q) ps named in
     search rules
 
--- if no position in a list passes a test, none that is in it does
 pub none_passes : (test : ℕ → Bool) (ps : List ℕ) → list_any test ps ≡ false → (q : ℕ) → is_in ps q ≡ true
     → test q ≡ false
 none_passes test [] none q named = cc
@@ -72,7 +66,6 @@ module _ {X : Type 0} (rest : X) (xs : List (Option X)) where
     inputs_of_operands-append (before ++ p ∷ []) ps qs,
   )
 
-  -- the operands before one, this one, and those after it
   opened_inputs_at : (done : List ℕ) (p : ℕ) (more : List ℕ)
       → opened_inputs rest xs (done ++ p ∷ more) ≡ opened_inputs rest xs done
       ++ opened_values (input_of_operand rest xs done p ∷ inputs_of_operands rest xs (done ++ p ∷ []) more)
@@ -89,14 +82,9 @@ module _ {X : Type 0} (rest : X) (xs : List (Option X)) where
 
 -- ---- messages
 
-pub unopened_same : (tool : List ℕ) (names : List (List ℕ)) (f g : ℕ → Bool) (ps : List ℕ) → ((p : ℕ) → f p ≡ g p)
-    → unopened_messages tool names f ps ≡ unopened_messages tool names g ps
-unopened_same tool names f g ps same = grind arith
-
 pub any_same : (f g : ℕ → Bool) (ps : List ℕ) → ((p : ℕ) → f p ≡ g p) → list_any f ps ≡ list_any g ps
 any_same f g ps same = λ i. list_any (λ q. same q i) ps
 
--- one more operand, which is reported if it could not be opened
 pub said_more : (word : List ℕ) (names : List (List ℕ)) (is_unopened_at : ℕ → Bool) (done : List ℕ)
     (p : ℕ) {messages_old messages_new messages_new' : SinkState}
     → HasSaid messages_old messages_new (unopened_messages word names is_unopened_at done)
@@ -106,7 +94,7 @@ said_more word names is_unopened_at done p k says = search (rules, flat_map-appe
 
 module _ (test : ℕ → Bool) (done : List ℕ) (p : ℕ) where
   pub any_now : test p ≡ true → list_any test (done ++ p ∷ []) ≡ true
-  any_now is = grind (arith, common_steps, or_left)
+  any_now is = grind (arith, common_steps)
 
   pub any_before : test p ≡ false → list_any test (done ++ p ∷ []) ≡ list_any test done
   any_before is = grind (arith, common_steps)
@@ -114,16 +102,12 @@ module _ (test : ℕ → Bool) (done : List ℕ) (p : ℕ) where
 pub is_in-same : (done : List ℕ) (p : ℕ) → is_in (done ++ p ∷ []) p ≡ true
 is_in-same done p = any_now (λ q. q == p) done p (same_here p)
 
-pub is_in-other : (done : List ℕ) (p q : ℕ) → p ≢ q → is_in (done ++ p ∷ []) q ≡ is_in done q
-is_in-other done p q differs = grind (arith, any_before)
-
 pub not_more : (done : List ℕ) (p q : ℕ) → is_in (done ++ p ∷ []) q ≡ false → (p ≢ q) × (is_in done q ≡ false)
-not_more done p q none = grind (arith, is_in-same, is_in-other)
+not_more done p q none = grind (arith, is_in-same, any_before)
 
--- a fact about each position in a list, and about one more
 pub holds_more : (P : ℕ → Type 0) (done : List ℕ) (p : ℕ) → ((q : ℕ) → is_in done q ≡ true → P q) → P p → (q : ℕ)
     → is_in (done ++ p ∷ []) q ≡ true → P q
-holds_more P done p before here = grind (arith, is_in-other)
+holds_more P done p before here = grind (arith, any_before)
 
 -- ---- the maximum
 
@@ -133,7 +117,6 @@ maximum-append (x ∷ xs) ys = omega (arith, maximum-append xs ys)
 
 -- ---- the decided output
 
--- its end was reached, so nothing more can be received from it
 abbrev pub IsEndedAt : Option Received → Type 0
 IsEndedAt None = Unit {0}
 IsEndedAt (Some g) = g.eof ≡ true
@@ -146,11 +129,7 @@ bytes_at (Some g) = Some (g.bytes)
 abbrev pub least_bytes : ReceivedInputs → InputBytes
 least_bytes r = map bytes_at r
 
-at-least_bytes : (r : ReceivedInputs) (p : ℕ) → at (least_bytes r) p ≡ bytes_at (at r p)
-at-least_bytes r p = get_or-map_any bytes_at r p None
-
 module _ (t : ToolSpec) (law : DecidesAll t) where
-  -- one operand whose end was reached decides all its output, and the decided output goes on with the next operand
   module _ (came : List (Option Received)) (texts : List (Option (List ℕ))) (later : List Received) (rest : List ℕ)
       (further : flat_map t.decided (up_to_unended (opened_values came ++ later))
       ≡ flat_map t.text (opened_values texts) ++ rest) where
@@ -164,7 +143,7 @@ module _ (t : ToolSpec) (law : DecidesAll t) where
         (opened_values (option_map (λ (g : Received). cond seen empty_input g) o ∷ came) ++ later))
         ≡ flat_map t.text (opened_values (option_map (λ (b : List ℕ). cond seen [] b) (bytes_at o) ∷ texts)) ++ rest
     decided_input None e seen = further
-    decided_input (Some g) e true = one empty_input refl
+    decided_input (Some g) e true = one _ refl
     decided_input (Some g) e false = one g e
 
   -- operands whose ends were reached decide all their output, and the decided output goes on with the next operand
@@ -175,30 +154,24 @@ module _ (t : ToolSpec) (law : DecidesAll t) where
       ++ flat_map t.decided (up_to_unended later)
   decided_inputs r before [] later eof = refl
   decided_inputs r before (p ∷ ps) later eof =
-      let further = decided_inputs r (before ++ p ∷ []) ps later (grind arith) in
-      rw (at-least_bytes r p) (decided_input (inputs_of_operands empty_input r (before ++ p ∷ []) ps)
+      rw (get_or-map_any bytes_at r p None) (decided_input (inputs_of_operands empty_input r (before ++ p ∷ []) ps)
       (inputs_of_operands [] (least_bytes r) (before ++ p ∷ []) ps) later (flat_map t.decided (up_to_unended later))
-      further
-      (at r p) (eof p (grind (arith, or_left))) (is_in before p))
+      (decided_inputs r (before ++ p ∷ []) ps later (grind arith))
+      (at r p) (eof p (grind arith)) (is_in before p))
 
 -- ---- the positions of the operands, in order
 
--- each position has a reader that was not read yet, or none
 pub fresh_all : (readers : List Reader)
     → ((k : ℕ) (d : Reader) → k < length readers → IsNewOrUnopened (get_or readers k d)) → (q : ℕ)
     → IsNewOrUnopened (reader_at readers q)
-fresh_all readers h q = grind (arith, common_steps, h q no_reader)
+fresh_all readers h q = grind (arith, common_steps)
 
 pub position_in_range : (order : List Input) (n : ℕ) → All (λ p. p < n) (positions order)
     → All (λ o. position o < n) order
 position_in_range order n in_range i d within =
     rw (get_or-map position order i d 0 within) at (in_range i 0 (omega (arith, length-map order position)))
 
--- the list of names is as long as the list of their texts
-pub names_counted : (names : List (Bor (List ℕ))) (n : ℕ) → n ≡ length (words_view names) + 1 → n ≡ length names + 1
-names_counted names n is = grind (arith, common_steps)
-
--- the position of the `i`-th operand has a reader, and the operands are those before it, it, and those after it
+-- the position `p` of the operand `i` has a reader, and splits the list of operands
 pub record OperandStep (order : List Input) (i p n : ℕ) : Type 0 where
   pub low : p < n
   pub next : take (i + 1) (positions order) ≡ take i (positions order) ++ p ∷ []
@@ -218,14 +191,13 @@ operand_step {p} {n} order i d in_range within is = record {
 }
   where
     next : take (i + 1) (positions order) ≡ take i (positions order) ++ p ∷ []
-    next = grind (arith, take_more (positions order) i 0, get_or-map position order i d 0, length-map)
+    next = grind (arith, take_more, get_or-map position order i d 0, length-map)
 
 pub positions_end : (order : List Input) (i : ℕ) → length order ≤ i → take i (positions order) ≡ positions order
 positions_end order i all = grind (arith, common_steps)
 
 -- ---- the operands of arguments
 
--- each operand has a reader
 pub positions_within : (n : ℕ) (operands : List (List ℕ))
     → All (λ o. position o < n + length (file_names operands) + 1) (order_from n operands)
 positions_within n [] k d within = absurd (omega arith)
@@ -251,27 +223,9 @@ completion_with any = cond any Unopened AllWritten
 
 -- ---- one input
 
-receives_nothing : (r : Reader) → IsNew r → HasReceived r r none_received
-receives_nothing r new = grind arith
-
-pub receives_trans : (a b c : Reader) (g h : Received) → HasReceived a b g → HasReceived b c h → b.buffered ≡ []
-    → HasReceived a c (record { bytes = g.bytes ++ h.bytes; eof = h.eof })
-receives_trans a b c g h p q empty = grind (arith, prepend_known-append, length-append)
-
--- after the end nothing more is received
-pub ended_gives_nothing : (b c : Reader) (h : Received) → HasReceived b c h → b.buffered ≡ [] → b.eof ≡ true
-    → (h.bytes ≡ []) × (h.eof ≡ true)
-ended_gives_nothing b c h q empty eof = grind (arith, common_steps)
-
 -- what was received from a reader before it is read
 abbrev pub received_of : Reader → Option Received
 received_of r = cond r.refused None (Some none_received)
-
-pub receives_none : (r : Reader) → IsNewOrUnopened r → HasReceivedAt r r (received_of r)
-receives_none r fresh = grind arith
-
-pub never_long : (r : Reader) → IsTooLong (received_of r) → ⊥
-never_long r long = grind arith
 
 -- an opened reader has received something, possibly no bytes
 pub record OpenedInput (old now : Reader) (o : Option Received) : Type 0 where
@@ -284,40 +238,12 @@ pub opened_receives : (old now : Reader) (o : Option Received) → old.refused �
 opened_receives old now None opened (unopened, same) = cc
 opened_receives old now (Some g) opened (_, received) = grind arith
 
-pub still_unopened : (old now : Reader) (o : Option Received) → HasReceivedAt old now o → now.refused ≡ old.refused
-still_unopened old now None (unopened, same) = ap (λ r. r.refused) same
-still_unopened old now (Some g) (opened, received) = received.refused
-
--- fewer than 2^63 bytes were received
-pub not_long : (old now : Reader) (o : Option Received) → IsNewOrUnopened old → HasReceivedAt old now o
-    → (old.refused ≡ false → now.pulled < 2 ^ 63) → IsTooLong o → ⊥
-not_long old now None fresh k short long = long
-not_long old now (Some g) fresh (opened, received) short long = grind arith
-
-pub ended_at : (old now : Reader) (o : Option Received) → HasReceivedAt old now o → (old.refused ≡ false → IsAtEof now)
-    → IsEndedAt o
-ended_at old now None k at_eof = tt
-ended_at old now (Some g) (opened, received) at_eof = grind arith
-
--- the same files could not be opened
-unopened_at : (old now : Reader) (o : Option Received) (v : Option (List ℕ)) → HasReceivedAt old now o
-    → IsConsistentAt o v → old.refused ≡ is_none v
-unopened_at old now None None (unopened, same) a = unopened
-unopened_at old now None (Some b) k a = absurd a
-unopened_at old now (Some g) None k a = absurd a
-unopened_at old now (Some g) (Some b) (opened, received) a = opened
-
 pub unopened_agrees : (old now : List Reader) (r : ReceivedInputs) (w : InputBytes) → HaveReceived old now r
     → AreInputsConsistent r w → (q : ℕ) → (reader_at old q).refused ≡ is_unopened w q
 unopened_agrees old now r w reading agrees q = grind arith
 
-pub unopened_received : (old now : Reader) (o : Option Received) → HasReceivedAt old now o → old.refused ≡ is_none o
-unopened_received old now None (unopened, same) = unopened
-unopened_received old now (Some g) (opened, received) = opened
-
 -- ---- the input of an operand
 
--- the bytes of an input, consistent with what was received from it
 pub record ConsistentBytes (v : Option (List ℕ)) (g : Received) : Type 0 where
   pub bytes : List ℕ
   pub are : v ≡ Some bytes
@@ -338,7 +264,6 @@ consistent_before g e b still a = grind (arith, common_steps)
 pub received_at : (old : List Reader) (q : ℕ) → at (map received_of old) q ≡ received_of (reader_at old q)
 received_at old q = get_or-map_any received_of old q no_reader
 
--- nothing was read
 pub nothing_read : (old : List Reader) → ((q : ℕ) → IsNewOrUnopened (reader_at old q))
     → HaveReceived old old (map received_of old)
 nothing_read old fresh q = grind (arith, received_at)
@@ -348,7 +273,7 @@ least_consistent_at None = tt
 least_consistent_at (Some g) = search rules
 
 pub least_consistent : (r : ReceivedInputs) → AreInputsConsistent r (least_bytes r)
-least_consistent r q = rw (at-least_bytes r q) (least_consistent_at (at r q))
+least_consistent r q = rw (get_or-map_any bytes_at r q None) (least_consistent_at _)
 
 pub nth_here : (done more : List ℕ) (p : ℕ) → slice_get (done ++ p ∷ more) (length done) ≡ Some p
 nth_here [] more p = refl
@@ -363,16 +288,14 @@ same_before g = record { earlier = g; last = []; split = sym (append-nil g.bytes
 last_same : (xs ys : List Received) (x y : Received) → xs ++ x ∷ [] ≡ ys ++ y ∷ [] → (xs ≡ ys) × (x ≡ y)
 last_same xs ys x y is = grind (arith, common_steps)
 
--- operands that are all done decide all their output
 pub all_earlier : (t : ToolSpec) (came : List Received) (P : List ℕ → Type 0) → P (decided_in_order t came)
     → LagOfLast t came P
 all_earlier t came P holds done last is =
     (same_before last, grind arith)
 
--- less of the last operand was received earlier
 pub last_earlier : (t : ToolSpec) (came : List Received) (g : Received) (b : LaggedInput g) (P : List ℕ → Type 0)
     → P (decided_in_order t (came ++ b.earlier ∷ [])) → LagOfLast t (came ++ g ∷ []) P
-last_earlier t came g b P holds done last is = let (before, same) = last_same came done g last is in
+last_earlier t came g b P holds done last is = let (before, same) = last_same _ _ g _ is in
     rw (sym before, sym same) (b, holds)
 
 -- a call with a bounded lag has pushed what was decided by less of one input
@@ -389,12 +312,10 @@ at_set [] p g e is = cc
 at_set (o ∷ r) zero g e is = refl
 at_set (o ∷ r) (suc p) g e is = at_set r p g e is
 
--- the same inputs were opened
 pub opened_set : (r : ReceivedInputs) (p : ℕ) (g e : Received) → at r p ≡ Some g → (q : ℕ)
     → is_unopened (set r p (Some e)) q ≡ is_unopened r q
 opened_set r p g e is = search (rules, at_set)
 
--- if nothing is decided, then all that is decided was written
 pub nothing_decided : (positions : List ℕ) (decided : ReceivedInputs → List ℕ) (r : ReceivedInputs) (failed : Bool)
     → ((s : ReceivedInputs) → ((q : ℕ) → is_unopened s q ≡ is_unopened r q) → decided s ≡ [])
     → LagOfAny positions decided r (λ bytes. IsWrittenUpToBlock bytes [] failed)
@@ -410,7 +331,6 @@ nothing_decided positions decided r failed none position came named is = (
   },
 )
 
--- a consequence of what holds of the decided output
 pub earlier_map : (m : CommandSpec) (r : ReceivedInputs) (n : ℕ) (P Q : List ℕ → Type 0)
     → ((bytes : List ℕ) → P bytes → Q bytes) → HasBoundedLag m r n P → HasBoundedLag m r n Q
 earlier_map m r n P Q follows = by_kind m.sequential
@@ -438,13 +358,13 @@ sends_after was mid is pushed bytes wrote clean s = by_known was.accepted refl
     by_known None none = record {
       written_out = was.buffered ++ (pushed ++ bytes);
       accepted = rw (s.accepted, wrote.kept.is, none) refl;
-      most = omega (arith, length-append was.buffered (pushed ++ bytes));
+      most = grind (arith, common_steps);
     }
     by_known (Some known) is_known = record {
       written_out = wrote.kept.front ++ s.written_out;
       accepted = grind (arith, append_known-append);
       most =
-          grind (arith, s.most, rw (wrote.kept.is, is_known) at (ap known_length (wrote.whole clean)), length-append);
+          grind (arith, rw (wrote.kept.is, is_known) at (ap known_length (wrote.whole clean)), length-append);
     }
 
 -- ---- the output that was written in the end
@@ -458,19 +378,15 @@ module _ (bytes : List ℕ) (was is is' : Output) (pushed front rest : List ℕ)
     (empty : was.buffered ≡ []) (split : pushed ≡ front ++ rest)
     (accepted : is'.accepted ≡ append_known was.accepted front) (kept : IsKnownPrefix is.accepted is'.accepted)
     (unknown : was.accepted ≡ None → rest ≡ []) where
-  all_lengths : length bytes + length k.begins.rest ≡ length front + length rest
-  all_lengths =
-      omega (arith, ap length split, ap length k.begins.is, length-append front rest, length-append bytes k.begins.rest)
-
   few : length (drop (length front) bytes) ≤ 8192
   unfolding known_length
   few = by_known was.accepted refl
     where
       by_known : (known : Option (List ℕ)) → was.accepted ≡ known → length (drop (length front) bytes) ≤ 8192
-      by_known None none = omega (arith, all_lengths, ap length (unknown none), length-drop (length front) bytes)
+      by_known None none = grind (arith, common_steps, length-drop (length front) bytes, ap length split, ap length k.begins.is, length-append front rest, ap)
       by_known (Some known) is_known =
           let all = rw (accepted, k.buffering.accepted, is_known) at (ap known_length kept.is) in
-          grind (arith, ap length empty, length-drop (length front) bytes, all, length-append)
+          grind (arith, ap, length-drop, length-append)
 
   pub kept_up : (failed : Bool) → (failed ≡ false → rest ≡ []) → IsWrittenUpToBlock bytes front failed
   kept_up failed whole =

@@ -1,40 +1,29 @@
--- Runs that have ended: a run that reads nothing, and a run whose inputs were processed, are runs as specified
--- (`IsRun`). The main theorem is that the result of such a run is exact unless a call failed. Then the specification
--- that arguments denote, and the main theorem for arguments.
---
--- The output of a tool reaches the sink unless a write fails, and the last message follows the tool's own messages. The
--- main theorem holds because the bytes that the readers have are consistent with the bytes received, and because each
--- cause of a failure contradicts a premise.
+-- Runs that have ended are runs as specified (`IsRun`), whether they read nothing or processed their inputs. The main
+-- theorem is that the result of such a run is exact unless a call failed: the bytes that the readers have are
+-- consistent with the bytes received, and each cause of a failure contradicts a premise. Then the same for arguments.
 use Rattle.ptrun.proofs
 use proofs.Common.{All, All-map, AreInputsConsistent, AreReadToEnd, Bool, Command, CommandPost, CommandSpec, Completion}
-use proofs.Common.{EndRunPost, Err, File, FinishPost, FlowFault, HasCause, HasReadFailed, HasSaid, Input, InputBytes}
-use proofs.Common.{InputsPre, IsAtEnd, IsConsistent, IsPrefix, IsRun, IsTooLong, IsWrittenUpToBlock, Job, List, Memory}
-use proofs.Common.{MergeTool as TwoInputs, None, Ok, Option, Output, PushEffect, Read, Reader, Received, ReceivedInputs}
+use proofs.Common.{EndRunPost, Err, FinishPost, FlowFault, HasCause, HasReadFailed, HasSaid, Input, InputBytes}
+use proofs.Common.{InputsPre, IsAtEnd, IsConsistent, IsPrefix, IsRun, IsTooLong, Job, List, Memory}
+use proofs.Common.{None, Ok, Option, Output, PushEffect, Read, Reader, Received, ReceivedInputs}
 use proofs.Common.{Result, RunComm, RunCut, RunInputsEnd, RunInputsPost, RunJoin, RunPaste, RunTr, RunUniq, SinkState}
-use proofs.Common.{Slots, Some, Standard, Write, [], ap, append-nil, append_known, arith, cases_Bool}
-use proofs.Common.{command_of_args, command_spec, command_view, common_steps, cond, ended_operands, eqb_tells, false}
-use proofs.Common.{false≢true, fault_view, is_memory_fault, is_none, is_reader_unopened, is_unopened, length}
-use proofs.Common.{length-append, map, message_only, messages, nat_tests, position, positions, prepend_known}
-use proofs.Common.{push_trans, reader_at, refl, result_message, result_status, rules, sinks, spec_of_args}
-use proofs.Common.{spec_of_parsed, spec_of_result, spec_of_tool, sym, tool_name, tool_of_job, true, two_input_tool}
+use proofs.Common.{Slots, Some, Write, [], ap, append-nil, append_known, arith, cases_Bool}
+use proofs.Common.{command_of_args, command_spec, common_steps, cond, ended_operands, false}
+use proofs.Common.{false≢true, fault_view, is_memory_fault, is_reader_unopened, is_unopened, length}
+use proofs.Common.{length-append, map, message_only, messages, position, positions, prepend_known}
+use proofs.Common.{push_trans, reader_at, refl, result_message, rules, sinks, spec_of_args}
+use proofs.Common.{spec_of_parsed, spec_of_tool, sym, tool_name, tool_of_job, true}
 use proofs.Common.{usage_message, usage_status, word_of_job, ℕ, ⊎_elim, ◌++◌, ◌<◌, ◌==◌, ◌∙◌, ◌≡◌, ◌≤◌}
 use proofs.MessageWrites.{said_trans}
-use proofs.OperandInputs.{earlier_map, fresh_all, kept_up, never_long, nothing_decided, nothing_read, positions_within}
-use proofs.OperandInputs.{received_at, received_of, some_same, unopened_received}
-use Rattle.ptlangs.specs.Results.{IsFault}
+use proofs.OperandInputs.{earlier_map, fresh_all, kept_up, nothing_decided, nothing_read, positions_within}
+use proofs.OperandInputs.{received_at, received_of, some_same}
 use Rattle.ptlines.proofs.KnownBytes.{append_known-nil}
-use Rattle.ptlines.specs.Sinks.{flushes_after}
-use Rattle.ptopts.proofs.CommandGrammar.{meant_as_spelled}
 use Rattle.ptopts.proofs.EachTool.{AreInputsOf, are_inputs}
-use Rattle.ptopts.proofs.InputCounts.{AreTwo}
-use Rattle.ptopts.specs.Faults.{Fault}
 use Rattle.ptopts.specs.Theorems.{Spelled, SpellsCommand}
 use Rattle.ptopts.specs.declared.fault.UseFault.{UseFault}
-use Rattle.ptrun.specs.Files.{AreNewInputs, HasBytesAt, HasReceivedAt, IsConsistentAt, IsNewOrUnopened, at}
+use Rattle.ptrun.specs.Files.{AreNewInputs, HasBytesAt, HasReceivedAt, IsConsistentAt, IsNewOrUnopened}
 use Rattle.ptrun.specs.Runs.{IsExact, IsExactUnlessFailed, IsRunInStore, Outcome, RunEnd, Sinks}
-use Rattle.std.proofs.lemmas.Bool.{leb-true}
 use Rattle.std.proofs.lemmas.List.{append_cancel_left, nil_from_length}
-use Rattle.std.specs.Prelude.{if◌then◌else◌}
 use Rattle.ptopts.specs.declared.command.Command as code
 
 -- ---- the bytes that reached the sink
@@ -67,14 +56,14 @@ reached_of was new pushed empty w = by_known was.accepted refl
       accepted = w.kept.is;
       whole = λ clean none.
           let same = ap length (some_same (rw (w.kept.is, is, empty) at (w.whole clean))) in
-          nil_from_length (new.buffered ++ w.beginning.front)
+          nil_from_length _
           (grind (arith, length-append));
       unknown = λ none. cc;
     }
       where
         split : pushed ≡ w.kept.front ++ (new.buffered ++ w.beginning.front)
         split = append_cancel_left t pushed (w.kept.front ++ (new.buffered ++ w.beginning.front))
-            (grind (arith, common_steps, some_same))
+            (grind (arith, common_steps))
 
 -- ---- the bytes of the readers are consistent with the bytes received
 
@@ -84,7 +73,7 @@ bytes_consistent_at old new None None fresh k bytes = tt
 bytes_consistent_at old new None (Some b) fresh (unopened, same) (opened, left, short) = cc
 bytes_consistent_at old new (Some g) None fresh (opened, received) unopened = cc
 bytes_consistent_at old new (Some g) (Some b) fresh (opened, received) (_, left, short) =
-    grind (arith, by_left)
+    grind arith
   where
     by_left : (left : Option (List ℕ)) → Some b ≡ prepend_known g.bytes left → (new.eof ≡ true → IsAtEnd left)
         → IsConsistent g b
@@ -104,12 +93,12 @@ exact_of_run : (m : CommandSpec) (old new : List Reader) (before : Sinks) (o : O
 exact_of_run m old new before o fresh k w bytes none fine not_denied = by_fault k.fault k.ends
   where
     agrees : AreInputsConsistent k.received w
-    agrees q = bytes_consistent_at (reader_at old q) (reader_at new q) (at k.received q) (at w q)
+    agrees q = bytes_consistent_at _ _ _ _
         (fresh_all old fresh q) (k.came q) (bytes q)
 
     unfailed : (n : ℕ) (fault : FlowFault) → HasCause m k.received old new o.out.failed o.denied n fault → ⊥
     unfailed n (Read p) c =
-        ⊎_elim (λ failed. none p failed) (λ long. not_too_long (at k.received p) (at w p) (reader_at old p) (agrees p)
+        ⊎_elim (λ failed. none p failed) (λ long. not_too_long _ _ (reader_at old p) (agrees p)
         (bytes p) long) c.2
     unfailed n Write c = false≢true (sym fine ∙ c)
     unfailed n Memory c = false≢true (sym not_denied ∙ c.0)
@@ -145,14 +134,14 @@ unread m {old} {out} {messages_old} {messages_new} {text} status at_once nothing
       received = map received_of old;
       came = came;
       written = [];
-      output = sym (append_known-nil out.accepted);
+      output = sym (append_known-nil _);
       flushed = λ settled _. settled;
       flushes = grind arith;
       message = text;
       has_said = has_said;
       operands_done = length m.positions;
       fault = None;
-      ends = grind (arith, never_long, received_at);
+      ends = grind (arith, received_at);
       untouched = λ q other. refl;
       ended = ended;
       left = λ memory. cc;
@@ -165,14 +154,13 @@ unread m {old} {out} {messages_old} {messages_new} {text} status at_once nothing
       bounded = λ w agrees. omega arith;
     }
 
--- nothing is read or written, and `text` is the only message
 pub message_only_run : {text : List ℕ} {is : ℕ} {old : List Reader} {out messages_old messages_new : SinkState}
     {status : ℕ}
     → All IsNewOrUnopened old → out.failed ≡ false → HasSaid messages_old messages_new text → status ≡ is
     → IsRun (message_only text is) old old (sinks out messages_old)
     (record { out = out; messages = messages_new; status = status; peak = 0; denied = false })
-message_only_run {text} {is} {old = old} {status = status} fresh fine has_said status_is = unread (message_only text is)
-    status refl refl (λ r same. refl) fresh fine has_said (λ w agrees. (refl, refl, status_is))
+message_only_run {text} {is} {old = old} {status = status} fresh fine has_said status_is = unread _
+    _ refl refl (λ r same. refl) fresh fine has_said (λ w agrees. (refl, refl, status_is))
     (no_operand (status == 0))
   where
     no_operand : (b : Bool) → AreReadToEnd old (cond b [] [])
@@ -184,11 +172,6 @@ message_only_run {text} {is} {old = old} {status = status} fresh fine has_said s
 abbrev fault_of : Result Completion FlowFault → Option FlowFault
 fault_of (Ok done) = None
 fault_of (Err fault) = Some fault
-
--- operands that were read to their end stay so if a write fails after that
-ended_after_all : (m : CommandSpec) (readers : List Reader) (n : ℕ) (r : Result Completion FlowFault)
-    → AreReadToEnd readers (ended_operands m n (result_status r)) → AreReadToEnd readers (ended_operands m n 1)
-ended_after_all m readers n r ended = grind arith
 
 module _ {m : CommandSpec} {old new : List Reader} {was is : Output}
     {messages_first messages_old messages_new : SinkState} {before store : Slots}
@@ -218,24 +201,14 @@ module _ {m : CommandSpec} {old new : List Reader} {was is : Output}
   wrote : PushEffect was sent k.pushed
   wrote =
       ⊎_elim (grind arith)
-      (λ clean. rw (append-nil k.pushed) at (push_trans was is sent k.pushed [] clean k.wrote f.wrote))
-      (cases_Bool is.write_failed)
+      (λ clean. rw (append-nil k.pushed) at (push_trans was is _ _ [] clean k.wrote f.wrote))
+      (cases_Bool _)
 
   reached : Reached was sent k.pushed
   reached = search (rules, reached_of, wrote)
 
-  -- until the output was finished nothing was flushed
-  flushes_before : is.flushes ≡ out.flushes
-  flushes_before = search rules
-
-  flushed_once : o.out.flushes ≡ (if o.out.failed then out.flushes else flushes_after out.flushes)
-  flushed_once = grind (arith, f)
-
   begins : (w : InputBytes) → AreInputsConsistent k.received w → IsPrefix reached.front (m.out w)
   begins w agrees = grind (arith, common_steps, reached)
-
-  all_front : is'.write_failed ≡ false → reached.front ≡ k.pushed
-  all_front clean = search (rules, f)
 
   abbrev last_message : List ℕ
   last_message = result_message m.tool m.names final_result
@@ -243,11 +216,8 @@ module _ {m : CommandSpec} {old new : List Reader} {was is : Output}
   ends_as : (r : Result Completion FlowFault) → final_result ≡ r
       → RunInputsEnd m k.received old new k.pushed is'.write_failed store.denied k.operands_done r
       → RunEnd m k.received old new reached.front (k.message ++ last_message) o k.operands_done (fault_of r)
-  ends_as (Ok done) same (complete, says) = grind (arith, all_front)
+  ends_as (Ok done) same (complete, says) = grind (arith, rules)
   ends_as (Err fault) same e = grind arith
-
-  not_memory : final_result ≡ Err Write → fault_of final_result ≡ Some Memory → ⊥
-  not_memory write memory = cc
 
   err_of : (r : Result Completion FlowFault) → fault_of r ≡ Some Memory → r ≡ Err Memory
   err_of (Ok done) same = cc
@@ -265,17 +235,17 @@ module _ {m : CommandSpec} {old new : List Reader} {was is : Output}
     has_said = search (rules, said_trans);
     operands_done = k.operands_done;
     fault = fault_of final_result;
-    ends = ends_as final_result refl (grind (arith, f));
+    ends = ends_as _ refl (grind arith);
     untouched = k.untouched;
-    ended = grind (arith, f, ended_after_all);
-    left = grind (arith, f, all_front, not_memory, err_of);
+    ended = grind arith;
+    left = grind (arith, f, rules);
     is_prefix = begins;
     names_failed_read = grind arith;
-    decided_is_written = grind (arith, all_front);
-    bounded_lag = earlier_map m k.received k.operands_done _
-        (λ decided. IsWrittenUpToBlock decided reached.front o.out.failed)
+    decided_is_written = grind (arith, rules);
+    bounded_lag = earlier_map m _ _ _
+        _
         (λ bytes up. kept_up bytes was is is' k.pushed reached.front reached.rest up (ap (λ o. o.buffered) made)
-        reached.split reached.accepted f.wrote.kept reached.unknown o.out.failed (grind (arith, f)))
+        reached.split reached.accepted f.wrote.kept reached.unknown o.out.failed (grind arith))
         k.bounded_lag;
     bounded = grind arith;
   }
@@ -286,37 +256,12 @@ module _ {m : CommandSpec} {old new : List Reader} {was is : Output}
 
 -- ---- the specification of arguments
 
--- the specification of arguments that are a command
-pub spec_of_ok : {A : Type 0} (command : Result (code.Command A) UseFault) (words : List (List ℕ)) (c : code.Command A)
-    → command ≡ Ok c → CommandPost command (command_of_args words)
-    → spec_of_parsed command words ≡ command_spec (command_view c)
-spec_of_ok command words c is m = grind arith
-
-spec_of_fault_in : (words : List (List ℕ)) (f : Option Fault) → IsFault f (command_of_args words)
-    → cond (is_none f) (message_only (usage_message (tool_name words) None) 1) (spec_of_args words)
-    ≡ message_only (usage_message (tool_name words) f) (usage_status f)
-spec_of_fault_in words None m = refl
-spec_of_fault_in words (Some f) m = ap (spec_of_result (tool_name words)) m
-
--- the specification of arguments that are no command
 pub spec_of_fault : {A : Type 0} (command : Result (code.Command A) UseFault) (words : List (List ℕ)) (fault : UseFault)
     → command ≡ Err fault → CommandPost command (command_of_args words)
     → spec_of_parsed command words ≡ message_only (usage_message (tool_name words) (fault_view fault))
     (usage_status (fault_view fault))
 spec_of_fault command words fault is m = grind arith
 
-position_differs : (a b : Input) → (a ≡ b → ⊥) → (position a == position b) ≡ false
-position_differs Standard Standard differ = absurd (differ refl)
-position_differs Standard (File j) differ = grind arith
-position_differs (File i) Standard differ = grind arith
-position_differs (File i) (File j) differ = grind arith
-
--- a tool that merges two inputs accepts two different ones, since their positions differ
-two_positions : (t : TwoInputs) (order : List Input) → AreTwo order
-    → (two_input_tool t).accepts (positions order) ≡ true
-two_positions t order two = grind arith
-
--- the tool accepts its operands, and there are few if it reads them together
 record AcceptsOperands (m : CommandSpec) : Type 0 where
   accepts_operands : m.accepts ≡ true
   few : m.sequential ≡ None → length m.positions ≤ 512
@@ -330,7 +275,7 @@ accepts_operands (RunComm u) word names order two = grind arith
 accepts_operands (RunJoin u) word names order two = grind arith
 accepts_operands (RunTr u) word names order any = grind arith
 
-inputs_pre_of_spelled : (words : List (List ℕ)) (c : Command) (readers : List Reader) → SpellsCommand words c
+pub inputs_pre_of_spelled : (words : List (List ℕ)) (c : Command) (readers : List Reader) → SpellsCommand words c
     → AreNewInputs (length c.names) readers → InputsPre (command_spec c) readers
 inputs_pre_of_spelled words c readers (Spelled name rest tool os operands named s allowed) fresh =
     let is = accepts_operands c.job (word_of_job c.job) c.names c.order
@@ -343,19 +288,10 @@ inputs_pre_of_spelled words c readers (Spelled name rest tool os operands named 
       few = is.few;
     }
 
--- each operand of a command has a reader, and the tool accepts these operands
-pub inputs_pre_of_parsed : {A : Type 0} (command : Result (code.Command A) UseFault) (words : List (List ℕ))
-    (c : code.Command A) (readers : List Reader)
-    → command ≡ Ok c → CommandPost command (command_of_args words)
-    → AreNewInputs (length (command_view c).names) readers → InputsPre (command_spec (command_view c)) readers
-inputs_pre_of_parsed command words c readers is m fresh =
-    inputs_pre_of_spelled words (command_view c) readers (grind (arith, meant_as_spelled))
-    fresh
-
 -- the main theorem for arguments, if parsing did not run out of memory
 pub exact_for_args : {A : Type 0} (command : Result (code.Command A) UseFault) (words : List (List ℕ))
     (old new : List Reader) (before : Sinks) (o : Outcome)
     → All IsNewOrUnopened old → IsRun (spec_of_parsed command words) old new before o → is_memory_fault command ≡ false
     → IsExactUnlessFailed (spec_of_args words) old new before o
 exact_for_args command words old new before o fresh run not_denied =
-    rw not_denied at (exact_of_run (spec_of_parsed command words) old new before o fresh run)
+    rw not_denied at (exact_of_run _ old new _ o fresh run)

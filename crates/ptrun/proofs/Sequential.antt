@@ -15,19 +15,17 @@ use proofs.Common.{refl, rules, sequential_spec, set, subst, sym, take, take_all
 use proofs.Common.{total_bytes, true, unopened_message, unopened_messages, up_to_unended, ℕ, ⊎_elim, ◌++◌, ◌+◌, ◌<◌}
 use proofs.Common.{◌∙◌, ◌∷◌, ◌≡◌, ◌≢◌, ◌≤◌, ◌⊎◌}
 use proofs.MessageWrites.{said_nothing}
-use proofs.OperandInputs.{IsAtEof, IsEndedAt, OpenedInput, all_earlier, any_before, any_now, by_position}
-use proofs.OperandInputs.{completion_with, consistent_before, consistent_bytes, decided_inputs, ended_at}
-use proofs.OperandInputs.{ended_gives_nothing, fresh_all, holds_more, is_in-other, is_in-same, last_earlier}
+use proofs.OperandInputs.{IsAtEof, IsEndedAt, OpenedInput, all_earlier, any_before, any_now}
+use proofs.OperandInputs.{completion_with, consistent_before, consistent_bytes, decided_inputs}
+use proofs.OperandInputs.{fresh_all, holds_more, is_in-same, last_earlier}
 use proofs.OperandInputs.{least_bytes, least_consistent, maximum-append, none_received}
 use proofs.OperandInputs.{not_more, nothing_read, nth_here, opened_inputs_none, opened_inputs_some, opened_receives}
-use proofs.OperandInputs.{received_at, received_of, receives_trans, said_more, sends_after, sends_now, some_same}
-use proofs.OperandInputs.{still_unopened}
+use proofs.OperandInputs.{received_at, received_of, said_more, sends_after, sends_now}
 use Rattle.ptrun.specs.Driver.{OperandPre, fault_at, operand_completion}
 use Rattle.ptrun.specs.Files.{IsNewOrUnopened, at, input_of_operand, inputs_of_operands, opened_inputs, opened_values}
 use Rattle.ptrun.specs.Operands.{sequential_bound, sequential_decided, sequential_output, sequential_slots}
 use Rattle.std.proofs.Math.Seq.{take-append-add, take-append_seam, take-length}
 
--- the state once these operands are done
 pub record OperandsDone (word : List ℕ) (t : ToolSpec) (names : List (List ℕ)) (old now : List Reader) (was is : Output)
     (messages_old messages_new : SinkState) (before store : Slots)
     (done : List ℕ) (so_far : Completion) : Type 0 where
@@ -80,7 +78,7 @@ module _ {word : List ℕ} {t : ToolSpec} {names : List (List ℕ)} {old : List 
     pushed = [];
     wrote = push_nothing was;
     out = λ w agrees. refl;
-    has_said = said_nothing messages_old;
+    has_said = said_nothing _;
     so_far_is = refl;
     clean = clean;
     not_denied = not_denied;
@@ -93,10 +91,7 @@ module _ {word : List ℕ} {t : ToolSpec} {names : List (List ℕ)} {old : List 
       {so_far : Completion}
       (k : OperandsDone word t names old now was is messages_old messages_new before store done so_far) where
     was_unopened : (q : ℕ) → is_reader_unopened old q ≡ (reader_at now q).refused
-    was_unopened q = grind (arith, still_unopened)
-
-    ended_now : (q : ℕ) → is_in done q ≡ true → IsEndedAt (at k.inputs_read q)
-    ended_now q seen = grind (arith, ended_at)
+    was_unopened q = grind arith
 
     can_read_now : (q : ℕ) → is_reader_unopened old q ≡ false
         → ((reader_at now q).buffered ≡ []) × ((reader_at now q).fault ≡ None)
@@ -147,18 +142,16 @@ module _ {word : List ℕ} {t : ToolSpec} {names : List (List ℕ)} {old : List 
         none q failed = grind arith
 
         short : (q : ℕ) → IsTooLong (at k.inputs_read q) → ⊥
-        short q long = grind (arith, fresh_all old fresh q)
+        short q long = grind (arith, fresh_all)
 
-        -- all output that they decided was pushed
         processing : IsPrefix (sequential_decided t k.inputs_read done) k.pushed
         processing =
-            let all = decided_inputs t law k.inputs_read [] done [] ended_now
+            let all = decided_inputs t law _ [] done [] (λ q seen. grind arith)
             ∙ append-nil (sequential_output t (least_bytes k.inputs_read) done)
             ∙ sym (grind (arith, least_consistent)) in
-            let none = append-nil (opened_inputs empty_input k.inputs_read done) in
             record {
               rest = [];
-              is = sym all ∙ ap (λ l. flat_map t.decided (up_to_unended l)) none
+              is = sym all ∙ ap (λ l. flat_map t.decided (up_to_unended l)) (append-nil (opened_inputs empty_input k.inputs_read done))
                   ∙ sym (append-nil (sequential_decided t k.inputs_read done));
             }
 
@@ -168,15 +161,9 @@ module _ {word : List ℕ} {t : ToolSpec} {names : List (List ℕ)} {old : List 
       here : get_or now p d ≡ reader_at now p
       here = grind (arith, common_steps)
 
-      ready_here : (get_or now p d).refused ≡ false → (get_or now p d).fault ≡ None
-      ready_here opened = let (buffered, fault) =
-          can_read_now p (grind (arith, was_unopened, here)) in rw here fault
-
-      -- an opened operand can be passed to the tool
       pub operand_ready : (get_or now p d).refused ≡ false → OperandPre (p ∷ []) now store
-      operand_ready opened = grind (arith, here, ready_here)
+      operand_ready opened = grind (arith, here)
 
-      -- the next operand could not be opened
       pub done_unopened : {messages_new' : SinkState} → (get_or now p d).refused ≡ true
           → HasSaid messages_new messages_new' (unopened_message word (name_of names p))
           → OperandsDone word t names old now was is messages_old messages_new' before store (done ++ p ∷ []) Unopened
@@ -185,7 +172,7 @@ module _ {word : List ℕ} {t : ToolSpec} {names : List (List ℕ)} {old : List 
         same_length = k.same_length;
         long = k.long;
         came = k.came;
-        at_eof = holds_more (λ q. is_reader_unopened old q ≡ false → IsAtEof (reader_at now q)) done p k.at_eof
+        at_eof = holds_more _ _ p k.at_eof
             (grind (arith, old_unopened));
         unread = grind (arith, not_more);
         unreceived = grind (arith, not_more);
@@ -235,11 +222,8 @@ module _ {word : List ℕ} {t : ToolSpec} {names : List (List ℕ)} {old : List 
       came_here : HasReceived (reader_at now p) new given_here
       came_here = e.call.came tt refl
 
-      not_failed_before : (reader_at now p).failed ≡ false
-      not_failed_before = grind (arith, here, ready_here)
-
       old_open : is_reader_unopened old p ≡ false
-      old_open = grind (arith, was_unopened, here)
+      old_open = grind (arith, here)
 
       -- what its input had received before
       abbrev y : OpenedInput (reader_at old p) (reader_at now p) (at k.inputs_read p)
@@ -267,29 +251,24 @@ module _ {word : List ℕ} {t : ToolSpec} {names : List (List ℕ)} {old : List 
       read_other q differs = search rules
 
       receives_here : HasReceived (reader_at old p) new (given_now y.given)
-      receives_here = grind (arith, common_steps, receives_trans, y.received, came_here, buffered)
+      receives_here = grind (arith, common_steps, y.received, came_here, buffered)
 
       received' : HaveReceived old now' inputs_read'
       received' = grind (arith, reader_here, read_here, receives_here, reader_other, read_other)
 
       still : y.given.eof ≡ true → (given_here.bytes ≡ []) × (given_here.eof ≡ true)
-      still eof = grind (arith, ended_gives_nothing, came_here, buffered)
+      still eof = grind (arith, common_steps, buffered)
 
       -- its input was read to its end before and gives nothing now, or it was not read before
       turn : ((is_in done p ≡ true) × (given_here ≡ empty_input) × IsAtEof (reader_at now p))
           ⊎ ((is_in done p ≡ false) × (y.given ≡ none_received))
       turn = ⊎_elim
-          (grind (arith, old_open, still))
-          (λ unseen. grind (arith, unseen, some_same, old_open)) (cases_Bool (is_in done p))
+          (grind (arith, still))
+          (λ unseen. grind (arith, unseen, old_open)) (cases_Bool (is_in done p))
 
       unseen : HasReadCause (reader_at now p) new → is_in done p ≡ false
-      unseen cause = grind (arith, came_here, still, turn)
+      unseen cause = grind (arith, still, turn)
 
-      consistent_here : (b : List ℕ) → IsConsistent (given_now y.given) b
-          → IsConsistent given_here (cond (is_in done p) [] b)
-      consistent_here b a = grind (arith, unseen, turn)
-
-      -- the bytes are consistent with what was received before
       back : (w : InputBytes) → AreInputsConsistent inputs_read' w → AreInputsConsistent k.inputs_read w
       back w agrees = grind (arith, read_here, consistent_before, still, read_other)
 
@@ -301,14 +280,13 @@ module _ {word : List ℕ} {t : ToolSpec} {names : List (List ℕ)} {old : List 
 
       operand_finds : (w : InputBytes) → AreInputsConsistent inputs_read' w → OperandFinds w
       operand_finds w agrees =
-          let here = consistent_bytes (at inputs_read' p) (at w p) (given_now y.given) read_here (agrees p) in
+          let here = consistent_bytes _ _ _ read_here (agrees p) in
           record {
             bytes = cond (is_in done p) [] here.bytes;
-            are = grind (arith, here);
-            agree = consistent_here here.bytes here.agree;
+            are = grind arith;
+            agree = grind (arith, turn);
           }
 
-      -- the inputs of the operands after it
       abbrev later : InputBytes → List ℕ → List (List ℕ)
       later w more = opened_values (inputs_of_operands [] w (done ++ p ∷ []) more)
 
@@ -326,11 +304,10 @@ module _ {word : List ℕ} {t : ToolSpec} {names : List (List ℕ)} {old : List 
           let f = operand_finds w agrees in
           let bounds = k.bounds w (back w agrees) in
           rw (opened_inputs_some [] w done p more f.bytes f.are, map-append, map-append) (
-            omega (arith, maximum-append, e.call.peak (λ u. f.bytes) (λ u read. f.agree), bounds.0),
-            omega (arith, maximum-append, e.call.slots (λ u. f.bytes) (λ u read. f.agree), bounds.1),
+            omega (arith, maximum-append, e.call.peak (λ u. f.bytes) (λ u read. f.agree)),
+            omega (arith, maximum-append, e.call.slots (λ u. f.bytes) (λ u read. f.agree)),
           )
 
-      -- it was read to its end
       pub done_operand : {all : Completion} → result ≡ Ok all
           → OperandsDone word t names old now' was is' messages_old messages_new before store' (done ++ p ∷ []) so_far
       done_operand ok = record {
@@ -338,11 +315,11 @@ module _ {word : List ℕ} {t : ToolSpec} {names : List (List ℕ)} {old : List 
         same_length = grind (arith, length-set);
         long = grind (arith, length-set);
         came = received';
-        at_eof = grind (arith, reader_here, at_eof, reader_other, is_in-other);
+        at_eof = grind (arith, reader_here, at_eof, reader_other, any_before);
         unread = grind (arith, not_more, reader_other);
         unreceived = grind (arith, not_more, read_other);
         pushed = k.pushed ++ e.call.pushed;
-        wrote = push_trans was is is' k.pushed e.call.pushed k.clean k.wrote e.call.wrote;
+        wrote = push_trans was is is' _ _ k.clean k.wrote e.call.wrote;
         out = λ w agrees. let f = operand_finds w agrees in
             (λ i. k.out w (back w agrees) i
             ++ (end.out (λ u. f.bytes) (λ u read. f.agree) ∙ sym (append-nil (t.text f.bytes))) i)
@@ -358,13 +335,13 @@ module _ {word : List ℕ} {t : ToolSpec} {names : List (List ℕ)} {old : List 
       }
         where
           end : AllPushed only_input (pass_engine t) was_here is_here e.call.given e.call.pushed None
-          end = subst EndedAs (ok_of p o.pass_result (sym o.result_is ∙ ok)) e.call.ends
+          end = subst EndedAs (ok_of p _ (sym o.result_is ∙ ok)) e.call.ends
 
           at_eof : IsAtEof new
           at_eof = record {
             done = end.ended refl tt refl;
             fault = end.fault tt refl;
-            failed = end.unfailed tt refl ∙ not_failed_before;
+            failed = end.unfailed tt refl ∙ (grind (arith, here));
             short = end.short tt refl;
           }
 
@@ -376,53 +353,36 @@ module _ {word : List ℕ} {t : ToolSpec} {names : List (List ℕ)} {old : List 
       cause_of more (Read position) r = (
         nth_here done more p,
         grind (arith, common_steps, unseen),
-        grind (
-          arith,
-          old_open,
-          unseen,
-          not_failed_before,
-          reader_here,
-          read_here,
-          fresh_all,
-          receives_here,
-          buffered,
-        ),
+        grind (arith, old_open, unseen, reader_here, read_here, fresh_all, receives_here, buffered),
         r.clean,
         r.not_denied,
       )
       cause_of more Write r = r.write_failed
       cause_of more Memory r = (r.denied, r.clean)
 
-      -- an operand before it with the same input has read that to its end
-      ended_still : (q : ℕ) → is_in done q ≡ true → (reader_at now' q).refused ≡ false → IsDone (reader_at now' q)
-      ended_still = grind (arith, by_position, reader_here, old_open, reader_other, was_unopened)
-
-      -- If no slot was missing, a line is left. A slot was missing only if no operand was read before: then its input
-      -- is unread.
+      -- If no slot was missing, a line is left. If one was, no operand was read before, so its input is unread.
       input_left : o.pass_result ≡ Err Memory → IsDone new → ⊥
       input_left memory ended = ⊎_elim
           (λ few.
           let unread = (e.call.unread k.clean few).readers tt refl in
-          grind (arith, old_open, unseen, fresh_all))
-          (grind arith) (cases_lt (length store'.lines) t.slots)
+          grind (arith, old_open, unseen))
+          (grind arith) (cases_lt _ _)
 
       failing : (fault : FlowFault) → EndedAs (Err fault) → new.failed ≡ true
           → (new.eof ≡ false) × (fault_at p fault ≡ Read p)
-      failing (Read position) r failed = grind (arith, not_failed_before)
-      failing Write r failed = absurd (false≢true (sym (r.unfailed tt refl ∙ not_failed_before) ∙ failed))
-      failing Memory r failed = absurd (false≢true (sym (r.unfailed tt refl ∙ not_failed_before) ∙ failed))
+      failing (Read position) r failed = grind arith
+      failing Write r failed = absurd (false≢true (sym (r.unfailed tt refl ∙ (grind (arith, here))) ∙ failed))
+      failing Memory r failed = absurd (false≢true (sym (r.unfailed tt refl ∙ (grind (arith, here))) ∙ failed))
 
       ended_before : (q : ℕ) → is_in done q ≡ true → IsEndedAt (at inputs_read' q)
-      ended_before = grind (arith, by_position, read_here, unseen, turn, read_other, ended_now)
+      ended_before = grind (arith, read_here, unseen, turn, read_other)
 
       module _ (law : DecidesAll t) where
-        -- the operands that are done decided all their output
         decided_all : (came : List Received)
             → flat_map t.decided (up_to_unended (opened_inputs empty_input inputs_read' done ++ came))
             ≡ k.pushed ++ flat_map t.decided (up_to_unended came)
         decided_all came = grind (arith, decided_inputs, ended_before, back, least_consistent)
 
-        -- the output of this operand that was decided two blocks earlier
         one_keeps : BoundedLag {I = Unit {0}} (λ came. t.decided (came tt)) (λ u. given_here) is is' e.call.pushed
         one_keeps = e.call.bounded_lag tt refl k.clean
 
@@ -430,21 +390,15 @@ module _ {word : List ℕ} {t : ToolSpec} {names : List (List ℕ)} {old : List 
         earlier = (one_keeps.processing.before tt).earlier
 
         input_given : input_of_operand empty_input inputs_read' done p ≡ Some (given_here)
-        input_given = grind (arith, read_here, unseen, turn)
+        input_given = grind (arith, read_here, turn)
 
-        -- if its end was not reached, nothing after it is decided
-        decided_open : (g : Received) (after : List Received) → (after ≡ []) ⊎ (g.eof ≡ false)
-            → flat_map t.decided (up_to_unended (g ∷ after)) ≡ t.decided g
-        decided_open g after last = grind (arith, append-nil)
-
-        -- a prefix of what this operand pushed, after all that was pushed before it
         begins_after : (bytes : List ℕ) {all : List ℕ} → all ≡ k.pushed ++ bytes → IsPrefix bytes e.call.pushed
             → IsPrefix all (k.pushed ++ e.call.pushed)
         begins_after bytes is b = grind (arith, common_steps)
 
         decided_here : decided_in_order t (opened_inputs empty_input inputs_read' done ++ earlier ∷ [])
             ≡ k.pushed ++ t.decided earlier
-        decided_here = search (rules, decided_all, decided_open)
+        decided_here = search (rules, decided_all)
 
         stopped : (more : List ℕ) (fault : FlowFault) → o.pass_result ≡ Err fault
             → RunInputsPost (sequential_spec word t names (done ++ p ∷ more)) old now' was is' messages_old messages_new
@@ -463,7 +417,7 @@ module _ {word : List ℕ} {t : ToolSpec} {names : List (List ℕ)} {old : List 
           ends = cause_of more fault end;
           position = index_within fault;
           untouched = grind (arith, not_more, take-append-add, reader_other);
-          ended = grind (arith, ended_still, take-append_seam);
+          ended = grind (arith, take-append_seam, reader_here, old_open, reader_other, was_unopened);
           left = grind (arith, take-append-add, is_in-same, reader_here, came_here.refused, old_open, input_left);
           is_prefix = λ w agrees. let f = operand_finds w agrees in let b = e.call.is_prefix (λ u. f.bytes)
               (λ u read. f.agree) in let rest =
@@ -478,20 +432,20 @@ module _ {word : List ℕ} {t : ToolSpec} {names : List (List ℕ)} {old : List 
               begins_after (t.decided given_here) (ap (λ l. flat_map t.decided (up_to_unended l))
               (grind (arith, opened_inputs_some, input_given))
               ∙ decided_all (given_here ∷ after) ∙ ap (λ l. k.pushed ++ l)
-              (grind (arith, decided_open, failing, end)))
+              (grind (arith, failing, end, append-nil)))
               (e.call.decided_is_written tt refl here clean);
           bounded_lag =
               rw (
                 take-append-add done (p ∷ more) 1,
-                opened_inputs_some empty_input inputs_read' done p [] given_here input_given,
+                opened_inputs_some _ _ _ p [] given_here input_given,
               )
               (last_earlier t (opened_inputs empty_input inputs_read' done) given_here (one_keeps.processing.before tt)
               (λ bytes. IsPushedUpToBlock bytes was is' (k.pushed ++ e.call.pushed))
               (search
               (rules, begins_after, decided_here, sends_after, k.wrote, one_keeps.processing, one_keeps.buffering)));
-          names_failed_read = grind (arith, failing fault end, fails_here, position_of);
-          peak = λ w agrees. (bounds_here w more agrees).0;
-          slots = λ w agrees. (bounds_here w more agrees).1;
+          names_failed_read = grind (arith, failing _ end, fails_here, position_of);
+          peak = λ w agrees. (bounds_here w _ agrees).0;
+          slots = λ w agrees. (bounds_here w _ agrees).1;
         }
           where
             end : EndedAs (Err fault)
@@ -511,4 +465,4 @@ module _ {word : List ℕ} {t : ToolSpec} {names : List (List ℕ)} {old : List 
         pub done_stopped : (more : List ℕ) {fault : FlowFault} → result ≡ Err fault
             → RunInputsPost (sequential_spec word t names (done ++ p ∷ more)) old now' was is' messages_old messages_new
             before store' (Err fault)
-        done_stopped more is_err = let f = err_of o.pass_result (sym o.result_is ∙ is_err) in grind (arith, stopped)
+        done_stopped more is_err = let f = err_of _ (sym o.result_is ∙ is_err) in grind (arith, stopped)

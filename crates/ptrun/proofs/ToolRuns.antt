@@ -1,19 +1,17 @@
--- The steps of the driver, by how a tool reads its operands: each is the step of a tool that reads them one after
--- another, or of one that reads them together.
+-- The steps of the driver, by how a tool reads its operands: one after another, or together.
 use Rattle.ptrun.proofs
 use proofs.Common.{All, Bool, Completion, DecidesAll, FlowFault, HasSaid, InputsPre, IsRun, List, OneByOne}
 use proofs.Common.{OperandPost, Output, PassPost, Reader, Result, RunInputsPost, SinkState, Slots, Together, ToolInRun}
 use proofs.Common.{ToolSpec, [], append-nil, arith, common_steps, false, false≢true, get_or, is_reader_unopened}
-use proofs.Common.{is_unopened, joint_spec, list_any, map, only_operand, reads_together, refl}
-use proofs.Common.{sequential_spec, set, sinks, spec_of_tool, sym, total_bytes, true, unopened_messages, ℕ, ◌∙◌, ◌≡◌}
+use proofs.Common.{is_unopened, list_any, only_operand, reads_together, refl}
+use proofs.Common.{set, sinks, spec_of_tool, sym, total_bytes, true, unopened_messages, ℕ, ◌∙◌, ◌≡◌}
 use proofs.JointRuns.{joint_post, none_unopened}
-use proofs.OperandInputs.{any_same, fresh_all, nothing_read, received_of, unopened_agrees, unopened_same}
+use proofs.OperandInputs.{any_same, fresh_all, nothing_read, unopened_agrees}
 use proofs.RunEnds.{unread}
 use Rattle.ptrun.specs.Driver.{OperandPre, ReportUnopenedPost, RunOnPost, RunOnPre, operand_completion}
 use Rattle.ptrun.specs.Files.{IsNewOrUnopened}
 use Rattle.std.proofs.Math.Seq.{take-length}
 
--- the tool, if it reads one operand after another
 abbrev pub one_tool : ToolInRun → ToolSpec
 one_tool (OneByOne t law) = t
 one_tool (Together t) = record { text = λ i. []; decided = λ g. []; size = λ i. 0; slots = 0; end = 10 }
@@ -36,15 +34,15 @@ module _ (word : List ℕ) (names : List (List ℕ)) (positions : List ℕ) wher
       (record { out = out; messages = messages_new; status = 1; peak = 0; denied = false })
   unopened_run (OneByOne t law) together fresh fine k some = absurd (false≢true together)
   unopened_run (Together t) {inputs} together fresh fine k some =
-      unread (joint_spec word t names positions) 1 refl any
+      unread _ 1 refl any
       (λ r same. rw (any_of (is_unopened r) same) refl) fresh fine k.has_said
       (λ w agrees.
-      let same = unopened_agrees inputs inputs (map received_of inputs) w (nothing_read inputs (fresh_all inputs fresh))
+      let same = unopened_agrees _ _ _ w (nothing_read _ (fresh_all _ fresh))
       agrees in
       rw (any_of (is_unopened w) same) (
         refl,
         rw (take-length positions, append-nil (unopened_messages word names (is_unopened w) positions))
-            (unopened_same word names (is_reader_unopened inputs) (is_unopened w) positions same),
+            (grind arith),
         refl,
       ))
       (λ q named. absurd (false≢true named))
@@ -53,9 +51,8 @@ module _ (word : List ℕ) (names : List (List ℕ)) (positions : List ℕ) wher
       any = sym k.is ∙ some
 
       any_of : (test : ℕ → Bool) → ((q : ℕ) → is_reader_unopened inputs q ≡ test q) → list_any test positions ≡ true
-      any_of test same = sym (any_same (is_reader_unopened inputs) test positions same) ∙ any
+      any_of test same = sym (any_same _ _ _ same) ∙ any
 
-  -- no file is reported if each was opened
   pub together_says : {inputs : List Reader} {messages_old messages_new : SinkState} {any_unopened : Bool}
       → ReportUnopenedPost word names positions inputs messages_old messages_new any_unopened → any_unopened ≡ false
       → HasSaid messages_old messages_new []
@@ -90,16 +87,8 @@ module _ (word : List ℕ) (names : List (List ℕ)) (positions : List ℕ) wher
       together_post (Together t) messages together given k none writable not_denied empty post =
           grind (arith, joint_post)
 
-      pub sequential_post : (s : ToolInRun) {messages_old messages_new : SinkState} → reads_together s ≡ false
-          → RunInputsPost (sequential_spec word (one_tool s) names positions) old new was is messages_old messages_new
-          before store result
-          → RunInputsPost (spec_of_tool word s names positions) old new was is messages_old messages_new before store
-          result
-      sequential_post s in_turn post = rw (read_in_turn s in_turn) post
-
 -- ---- one operand
 
--- a pass over the reader of the only operand
 pub operand_passed : {t : ToolSpec} {operands : List ℕ} {old : List Reader} {new : Reader} {was is : Output}
     {before store : Slots} {passed : Result (Unit {0}) FlowFault} {result : Result Completion FlowFault}
     → OperandPre operands old before → (d : Reader)

@@ -1,19 +1,19 @@
--- The output of `cut` by bytes for the rest of a text. A piece of a line adds to the line offset, and a terminator
--- resets it; at offset 0 the output is that of complete lines.
+-- The output of `cut` by bytes for the rest of a text. It depends on the line offset; at offset 0 the rest is a text of
+-- its own.
 use Rattle.ptflow.proofs
 use proofs.Common.{◌≡◌, ℕ, ◌+◌, ◌-◌, ◌≤◌, ◌^◌, Bool, false, List, [], ◌∷◌, ◌++◌, map, length, take, drop, Some, refl}
-use proofs.Common.{ap, arith, append_assoc, common_steps, onto_first, flat_map, mask_l, chunk, length-chunk, chunk-drop}
+use proofs.Common.{ap, arith, append_assoc, common_steps, flat_map, mask_l, chunk, length-chunk, chunk-drop}
 use proofs.Common.{IsFirstByte, is_byte, unlines, lines, IsLine, complete_lines, lines_cons, byte_ne, lines_of_unlines}
 use proofs.Common.{line_before_terminator, select_from, cut_line, cut, cut_decided, cut_lines_from}
 use proofs.Common.{cut_bytes_from, cut_list_from, IsPrefix, Cut, Interval, ExtendsCut, CutPost, selected_bytes}
-use proofs.Common.{is_selected, zero, suc, ◌<◌, true, cond, set, ◌&&◌, get_or, length-append, sym}
+use proofs.Common.{is_selected, zero, suc, ◌<◌, true, set, ◌&&◌, get_or, length-append, sym}
 use proofs.Common.{◌∙◌, w8, All, nat_le, range_with_len, take-add}
 use proofs.Common.{swz_l, pick_l-range_with_len, take-map, take-take, take-append-le, take_all}
 use proofs.Common.{length-take-le, append-nil, length-range_with_len, cases_eq, put_chunk, length-drop}
-use proofs.Common.{length-swz_l, slice_get, min, drop_all, drop_more, AreSeparated}
+use proofs.Common.{length-swz_l, slice_get, min, drop_more, AreSeparated}
 use Rattle.ptflow.specs.declared.tools.cut.bytes.Line.{Line}
 use proofs.Passes.Exits.{split_of, LineSplit, line_split}
-use Rattle.std.proofs.Common.{get_or-set_same, length-set}
+use Rattle.std.proofs.Common.{length-set}
 use proofs.Vectors.Lanes.{stored_more}
 use mir.Val.{bool_byte}
 use Rattle.ptflow.specs.Private.Cut.ShortLines.{selected_indices, selected_after, IsPieceShuffle}
@@ -24,10 +24,8 @@ use Rattle.std.proofs.lemmas.List.{length-take}
 
 -- ---- what intervals select
 
--- The items of a list that intervals select. Disjoint ascending intervals select one after another, and each selects a
--- slice; so the selected items are these slices in order.
+-- Disjoint ascending intervals select one after another, and each a slice; so the selected items are these slices.
 
--- the position is in the interval
 abbrev pub is_within : Interval → ℕ → Bool
 is_within r n = nat_le r.first n && nat_le n r.last
 
@@ -43,29 +41,22 @@ last_of r n inside = grind arith
 pub above : (r : Interval) (n : ℕ) → r.last < n → is_within r n ≡ false
 above r n high = grind arith
 
--- intervals that begin after a position do not select it
 pub not_selected : (rs : List Interval) (low n : ℕ) → AreSeparated low rs → n ≤ low → is_selected rs n ≡ false
 not_selected [] low n apart out = refl
 not_selected (r ∷ rs) low n apart out =
-    grind (arith, not_selected rs (r.last + 1) n apart.2 (omega (arith, apart.1)), below, apart)
+    grind (arith, not_selected rs _ n apart.2 (omega arith), below, apart)
 
--- no item is selected
 pub select_none : {X : Type 0} (test : ℕ → Bool) (n : ℕ) (xs : List X)
     → ((k : ℕ) → n ≤ k → k < n + length xs → test k ≡ false) → select_from test n xs ≡ []
 select_none test n [] out = refl
 select_none test n (x ∷ xs) out = grind (arith, select_none test (n + 1) xs (grind arith))
 
-pub select_past : {X : Type 0} (r : Interval) (n : ℕ) (xs : List X) → r.last < n → select_from (is_within r) n xs ≡ []
-select_past r n xs past = grind (arith, select_none)
-
--- the items of the first interval, and then those of the others
 pub select_first : {X : Type 0} (r : Interval) (rs : List Interval) (n : ℕ) (xs : List X) → AreSeparated (r.last + 1) rs
     → select_from (is_selected (r ∷ rs)) n xs ≡ select_from (is_within r) n xs ++ select_from (is_selected rs) n xs
 select_first r rs n [] apart = refl
 select_first r rs n (x ∷ xs) apart =
-    grind (arith, select_first r rs (n + 1) xs apart, not_selected, select_past, last_of)
+    grind (arith, select_first r rs (n + 1) xs apart, not_selected, select_none)
 
--- the first items are not selected
 pub select_skip : {X : Type 0} (test : ℕ → Bool) (n count : ℕ) (xs : List X)
     → ((k : ℕ) → n ≤ k → k < n + count → test k ≡ false)
     → select_from test n xs ≡ select_from test (n + count) (drop count xs)
@@ -73,37 +64,29 @@ select_skip test n zero xs out = grind arith
 select_skip test n (suc count) [] out = refl
 select_skip test n (suc count) (x ∷ xs) out = grind (arith, select_skip test (n + 1) count xs (grind arith))
 
--- the items of one interval are a slice, from index i to index j
 pub select_slice : {X : Type 0} (r : Interval) (n : ℕ) (xs : List X) (i j : ℕ) → i ≡ r.first - n → j ≡ r.last + 1 - n
     → select_from (is_within r) n xs ≡ take (j - i) (drop i xs)
 select_slice r n [] zero j is js = sym (take-nil (j - 0))
 select_slice r n [] (suc i) j is js = sym (take-nil (j - suc i))
-select_slice r n (x ∷ xs) i zero is js = grind (arith, select_past)
+select_slice r n (x ∷ xs) i zero is js = grind (arith, select_none)
 select_slice r n (x ∷ xs) zero (suc j) is js =
     grind (arith, common_steps, select_slice r (n + 1) xs zero j (omega arith) (omega arith))
 select_slice r n (x ∷ xs) (suc i) (suc j) is js = grind (arith, select_slice r (n + 1) xs i j)
 
--- the rest of the first bytes from an index on
 pub rest_of : (from to : ℕ) (bytes : List ℕ) → drop from (take to bytes) ≡ take (to - from) (drop from bytes)
 rest_of zero to bytes = grind arith
 rest_of (suc n) zero bytes = grind arith
 rest_of (suc n) (suc to) [] = sym (take-nil (suc to - suc n))
 rest_of (suc n) (suc to) (b ∷ bytes) = grind (arith, rest_of n to bytes)
 
--- a slice of the bytes that is in the piece at their start
-slice_is : (r : Interval) (before count : ℕ) (bytes : List ℕ) → count ≤ length bytes → r.last < before + count
-    → take ((r.last - before) - (r.first - (before + 1))) (drop (r.first - (before + 1)) bytes)
-    ≡ select_from (is_within r) (before + 1) (take count bytes)
-slice_is r before count bytes within short = grind (arith, select_slice, rest_of, take-take)
-
--- the rest of the piece, if the interval reaches its end
+-- an interval that reaches the end of the piece
 rest_is : (r : Interval) (before count : ℕ) (bytes : List ℕ) → count ≤ length bytes → before + count ≤ r.last
     → let from = min (r.first - (before + 1)) count in
     take (count - from) (drop from bytes) ≡ select_from (is_within r) (before + 1) (take count bytes)
 rest_is r before count bytes within reaches = grind (arith, common_steps, select_slice, rest_of)
 
--- The invariant of `copy_selected`: the selected bytes of the intervals so far were copied, and the others select the
--- rest of the piece. The copied bytes are no longer than the part of the piece that the intervals so far cover.
+-- The invariant of `copy_selected`: the intervals from `i` on are left. The copied bytes are not longer than the part
+-- of the piece that the others cover.
 pub record CopyInvariant (all : List Interval) (i before : ℕ) (piece was is : List ℕ) (start at : ℕ) : Type 0 where
   pub front : is ++ select_from (is_selected (drop i all)) (before + 1) piece ≡ was
       ++ select_from (is_selected all) (before + 1) piece
@@ -117,13 +100,6 @@ module _ {all : List Interval} {before count : ℕ} (bytes : List ℕ) {was : Li
     (k : CopyInvariant all i before (take count bytes) was is start at) where
   abbrev piece : List ℕ
   piece = take count bytes
-
-  piece_long : length piece ≡ count
-  piece_long = length-take-le count bytes in_bytes
-
-  -- all intervals were processed
-  pub copied_done : length all ≤ i → is ≡ was ++ select_from (is_selected all) (before + 1) piece
-  copied_done past = grind (arith, select_none, drop_all, append-nil)
 
   module _ (within : i < length all) where
     abbrev r : Interval
@@ -140,26 +116,22 @@ module _ {all : List Interval} {before count : ℕ} (bytes : List ℕ) {was : Li
     next = grind (arith, common_steps, select_first)
 
     module _ (is' : List ℕ) where
-      -- the interval reaches the end of the piece
       pub copied_ends : {from : ℕ} → from ≡ min (r.first - (before + 1)) count → before + count ≤ r.last
           → is' ≡ is ++ take (count - from) (drop from bytes)
           → is' ≡ was ++ select_from (is_selected all) (before + 1) piece
       copied_ends {from} from_is reaches copied =
-          grind (arith, rest_is, select_none, not_selected, apart, piece_long, append-nil, next)
+          grind (arith, rest_is, select_none, not_selected, apart, append-nil, next, length-take-le count bytes in_bytes)
 
-      -- it ends before
       pub copied_more : {from to : ℕ} → from ≡ r.first - (before + 1) → to ≡ r.last - before → r.last < before + count
           → is' ≡ is ++ take (to - from) (drop from bytes)
           → CopyInvariant all (i + 1) before piece was is' start (at + (to - from))
       copied_more {from} {to} from_is to_is short copied =
-          grind (arith, next, apart, slice_is, piece_long)
+          grind (arith, next, apart, select_slice, rest_of, take-take, length-take-le count bytes in_bytes)
 
 module _ (end : ℕ) (selected : ℕ → Bool) where
-  -- the output for lines
   abbrev pub cut_text : List (List ℕ) → List ℕ
   cut_text ls = unlines end (map (select_from selected 1) ls)
 
-  -- at offset 0, the rest is a text of its own
   pub rest_of_all : (ls : List (List ℕ)) → cut_lines_from end selected 0 ls ≡ cut_text ls
   rest_of_all [] = refl
   rest_of_all (line ∷ ls) = simp append_assoc
@@ -167,24 +139,15 @@ module _ (end : ℕ) (selected : ℕ → Bool) where
   pub rest_line : (line_offset : ℕ) (line rest : List ℕ) → IsLine end line
       → cut_bytes_from end selected line_offset (line ++ end ∷ rest)
       ≡ (select_from selected (line_offset + 1) line ++ end ∷ []) ++ cut_bytes_from end selected 0 rest
-  rest_line line_offset line rest whole = grind (arith, lines_cons, append_assoc, rest_of_all)
+  rest_line line_offset line rest whole = grind (arith, lines_cons, append_assoc)
 
-  -- one byte of a line
-  rest_onto : (line_offset b : ℕ) (ls : List (List ℕ))
-      → cut_lines_from end selected line_offset (onto_first b ls) ≡ select_from selected (line_offset + 1) (b ∷ [])
-      ++ cut_lines_from end selected (line_offset + 1) ls
-  rest_onto line_offset b [] = grind arith
-  rest_onto line_offset b (line ∷ ls) = grind arith
-
-  -- a piece of a line
   pub rest_piece : (line_offset : ℕ) (piece rest : List ℕ) → IsLine end piece
       → cut_bytes_from end selected line_offset (piece ++ rest) ≡ select_from selected (line_offset + 1) piece
       ++ cut_bytes_from end selected (line_offset + length piece) rest
   rest_piece line_offset [] rest whole = grind arith
   rest_piece line_offset (b ∷ piece) rest whole =
-      grind (arith, rest_piece (line_offset + 1) piece rest whole.1, byte_ne, rest_onto)
+      grind (arith, rest_piece (line_offset + 1) piece rest whole.1, byte_ne)
 
--- the selected bytes of the first line, and its terminator
 module _ (end : ℕ) (bytes : List ℕ) (at : ℕ) (first : IsFirstByte (is_byte end) bytes (Some at)) where
   pub line_on : (selected : ℕ → Bool) (line_offset : ℕ) (more : List ℕ)
       → cut_bytes_from end selected line_offset (bytes ++ more)
@@ -192,20 +155,19 @@ module _ (end : ℕ) (bytes : List ℕ) (at : ℕ) (first : IsFirstByte (is_byte
       ++ cut_bytes_from end selected 0 (drop (at + 1) bytes ++ more)
   line_on selected line_offset more =
       cc (
-        split_of end bytes at first,
+        split_of end _ at first,
         append_assoc (take at bytes) (end ∷ drop (at + 1) bytes) more,
-        rest_line end selected line_offset (take at bytes) (drop (at + 1) bytes ++ more)
-            (line_before_terminator end bytes at first),
+        rest_line end _ _ _ _
+            (line_before_terminator end _ at first),
       )
 
--- empty lines
 pub empty_lines : (end : ℕ) (selected : ℕ → Bool) (ends more : List ℕ)
     → mask_l (map (is_byte end) ends) + 1 ≡ 2 ^ length ends
     → cut_bytes_from end selected 0 (ends ++ more) ≡ ends ++ cut_bytes_from end selected 0 more
 empty_lines end selected [] more all = refl
 empty_lines end selected (b ∷ ends) more all = grind (arith, common_steps, empty_lines end selected ends more)
 
--- 64 empty lines at an index of a block, at offset 0
+-- 64 empty lines
 pub terminators_next : (end : ℕ) (selected : ℕ → Bool) (block : List ℕ) {from start now marked : ℕ}
     → from + 64 ≤ length block → start ≡ from → now ≡ 0 → marked ≡ mask_l (map (is_byte end) (chunk from 64 block))
     → marked ≡ 2 ^ 64 - 1 → (more : List ℕ)
@@ -213,32 +175,29 @@ pub terminators_next : (end : ℕ) (selected : ℕ → Bool) (block : List ℕ) 
     ++ cut_bytes_from end selected now (drop (start + 64) block ++ more)
 terminators_next end selected block {start} room here none is all more =
     let ends = chunk start 64 block in
-    let left = drop (start + 64) block ++ more in
-    let long : length ends ≡ 64 = length-chunk start 64 block (omega arith) in
+    let long = length-chunk start 64 block (omega arith) in
     let every : mask_l (map (is_byte end) ends) + 1
     ≡ 2 ^ length ends = grind arith in
     cc (
       chunk-drop start 64 block,
       append_assoc ends (drop (start + 64) block) more,
-      empty_lines end selected ends left
+      empty_lines end _ _ _
           every,
     )
 
--- output that is extended by one step
 pub cut_next : (end : ℕ) (list : List Interval) (line_offset now next : ℕ) (from rest rest' old was : List ℕ)
     {is : List ℕ} (bytes : List ℕ) → ExtendsCut end list line_offset from old now rest was → is ≡ was ++ bytes
     → ((more : List ℕ) → cut_list_from end list now (rest ++ more) ≡ bytes
     ++ cut_list_from end list next (rest' ++ more)) → ExtendsCut end list line_offset from old next rest' is
-cut_next end list line_offset now next from rest rest' old was bytes cut copied on start block so_far more =
+cut_next end list line_offset now next _ _ _ old was bytes cut copied on start block so_far more =
     grind (arith, common_steps)
 
--- one line more was cut
 pub line_cut : {end : ℕ} {list : List Interval} {block : List ℕ} {was now next : Line} {old new is : List ℕ} (count : ℕ)
     → CutPost end list block was old now new → IsFirstByte (is_byte end) (drop now.start block) (Some count)
     → is ≡ new ++ (selected_bytes list block now count ++ end ∷ []) → next.start ≡ now.start + count + 1
     → next.line_offset ≡ 0 → next.at ≤ now.at + count + 1 → CutPost end list block was old next is
 line_cut {end} {list} {block} {was} {now} {next} {old} {new} count post first is start none near =
-    grind (arith, common_steps, cut_next, line_on)
+    grind (arith, common_steps, line_on)
 
 module _ (job : Cut) (by_bytes : job.fields ≡ false) where
   abbrev end : ℕ
@@ -252,29 +211,25 @@ module _ (job : Cut) (by_bytes : job.fields ≡ false) where
       one_each [] = refl
       one_each (x ∷ xs) = cc (one_each xs)
 
-  pub rest_is_cut : (bytes : List ℕ) → cut_bytes_from end job.selected 0 bytes ≡ cut job bytes
-  rest_is_cut bytes = simp (rest_of_all, made_is)
-
-  -- the output that was pushed for these bytes begins with the output for their complete lines
+  -- the pushed output begins with that for the complete lines
   pub rest_is_decided : (given pushed : List ℕ) (now : ℕ)
       → ((rest : List ℕ) → cut_bytes_from end job.selected 0 (given ++ rest) ≡ pushed
       ++ cut_bytes_from end job.selected now rest)
       → IsPrefix (cut_decided job (record { bytes = given; eof = false })) pushed
   rest_is_decided given pushed now on =
-      let p : LineSplit end given = line_split end given in
-      let ls = complete_lines end given in
+      let p : LineSplit end given = line_split end _ in
       -- with one terminator more, the piece is a line too
-      let all_lines : lines end (given ++ end ∷ []) ≡ ls ++ p.piece ∷ [] =
+      let all_lines : lines end (given ++ end ∷ []) ≡ (complete_lines end given) ++ p.piece ∷ [] =
       grind (arith, common_steps, lines_of_unlines, lines_cons) in
       record {
         rest = select_from job.selected 1 p.piece;
-        is = grind (arith, common_steps, rest_line, rest_of_all, made_is);
+        is = grind (arith, common_steps, rest_of_all, made_is);
       }
 
 -- ---- shuffles
 
--- The shuffles of `cut`. A row has the selected indices in order, so a shuffle moves the selected bytes of 16 bytes to
--- the front; the counts are how many of them a piece of each length has. A line is cut piece by piece.
+-- A row has the selected indices in order, so a shuffle moves the selected bytes of 16 to the front. The counts tell
+-- how many bytes of a piece of each length are selected.
 
 module _ (selected : ℕ → Bool) where
   pub select_append : {X : Type 0} (n : ℕ) (xs ys : List X)
@@ -297,7 +252,6 @@ module _ (selected : ℕ → Bool) where
       let there : a + 1 + n ≡ a + suc n = omega arith in
       cc (range_parts (a + 1) n m)
 
-  -- the selected indices of a line begin with those of a shorter one
   picked_parts : (n m : ℕ) → selected_indices selected (n + m) ≡ selected_indices selected n
       ++ select_from selected (1 + n) (range_with_len n m)
   picked_parts n m = grind (arith, range_parts, select_append, length-range_with_len)
@@ -313,17 +267,12 @@ module _ (selected : ℕ → Bool) where
     pub indices : take count row ≡ selected_indices selected index
     pub counted : (k : ℕ) → k ≤ index → get_or counts k 0 ≡ length (selected_indices selected k)
 
-  one_index : (index : ℕ) → selected_indices selected (index + 1) ≡ selected_indices selected index
-      ++ cond (selected (index + 1)) (index ∷ []) []
-  one_index index = grind (arith, picked_parts)
-
   pub shuffle_next : {index count : ℕ} {row counts after : List ℕ} {one : ℕ} → index < 16
       → PickBegun index count row counts → one ≡ bool_byte (selected (index + 1))
       → after ≡ set counts (index + 1) (count + one) → PickBegun (index + 1) (count + one) (set row count index) after
   shuffle_next {index} {count} {row} {counts} {after} {one} low begun told after_is =
-      grind (arith, common_steps, length-set, stored_more, one_index, get_or-set_same, cases_eq)
+      grind (arith, common_steps, length-set, stored_more, cases_eq, picked_parts)
 
-  -- no byte of a line after its first `start` bytes is selected
   pub none_later : {X : Type 0} {max_len start count : ℕ} (xs : List X)
       → ((index : ℕ) → start < index → index ≤ max_len → selected index ≡ false) → start ≤ count → count ≤ max_len
       → count ≤ length xs → select_from selected 1 (take start xs) ≡ select_from selected 1 (take count xs)
@@ -331,14 +280,14 @@ module _ (selected : ℕ → Bool) where
       let whole : start + (count - start) ≡ count = omega arith in
       grind (arith, select_none, length-take, append-nil, select_append, take-add)
 
-  -- ---- the bytes of a line that the row moves to the front
+  -- ---- the bytes that the row moves to the front
 
   module _ {piece : PieceShuffle} (is : IsPieceShuffle selected piece) where
     prefix_indices : {count : ℕ} → count ≤ 16
         → take (length (selected_indices selected count)) piece.row ≡ selected_indices selected count
     prefix_indices {count} short =
         let all : count + (16 - count) ≡ 16 = omega arith in
-        let parts = ap (selected_indices selected) (sym all) ∙ picked_parts count (16 - count) in
+        let parts = ap (selected_indices selected) (sym all) ∙ picked_parts _ _ in
         let later = select_from selected (1 + count) (range_with_len count (16 - count)) in
         let few : length (selected_indices selected count) ≤ length (selected_indices selected 16) = omega
         (arith, ap length parts, length-append (selected_indices selected count) later) in
@@ -349,15 +298,9 @@ module _ (selected : ℕ → Bool) where
           take_all (length (selected_indices selected count)) (selected_indices selected count) (omega arith),
         )
 
-    pub pick_line : {count : ℕ} (v : List ℕ) → count ≤ 16 → length v ≡ 16
-        → take (get_or piece.counts count 0) (swz_l w8 16 v 0 piece.row) ≡ select_from selected 1 (take count v)
-    pick_line {count} v short long =
-        grind (arith, shuffle_result, row_lanes, take-map, prefix_indices, map_select, pick_l-range_with_len)
-
     pub shuffle_few : (count : ℕ) → count ≤ 16 → get_or piece.counts count 0 ≤ count
     shuffle_few count short = grind (arith, few_selected, length-range_with_len)
 
--- positions after the last interval are not selected
 pub none_after : (all : List Interval) (low n : ℕ) {last : Interval} {index : ℕ} → AreSeparated low all
     → length all ≤ n + 1 → slice_get all n ≡ Some last → last.last < index
     → (is_selected all index ≡ false) × (low < index)
@@ -376,7 +319,7 @@ select_later : (selected : ℕ → Bool) (start n : ℕ) (xs : List ℕ)
 select_later selected start n [] = refl
 select_later selected start n (x ∷ xs) = grind (arith, select_later selected start (n + 1) xs)
 
--- the selected bytes of the next piece are stored after those of the bytes before
+-- the selected bytes of the next piece are stored after those before
 pub piece_copied : (selected : ℕ → Bool) (start m at : ℕ) (bytes was into : List ℕ) {piece : PieceShuffle} {size : ℕ}
     → IsPieceShuffle (selected_after selected start) piece
     → size ≡ get_or piece.counts m 0 → m ≤ 16 → start + 16 ≤ length bytes → at + 16 ≤ length into → take at into ≡ was
@@ -385,24 +328,21 @@ pub piece_copied : (selected : ℕ → Bool) (start m at : ℕ) (bytes was into 
     ++ select_from selected 1 (take (start + m) bytes)
 piece_copied selected start m at bytes was into {piece} {size} is counted short within room before =
     let v = take 16 (drop start bytes) in
-    let long : length v ≡ 16 = length-take-le 16 (drop start bytes) (omega (arith, length-drop start bytes)) in
-    let few = shuffle_few (selected_after selected start) is m short in
-    let front : length (take start bytes) ≡ start = length-take-le start bytes (omega arith) in
-    let first : start + 1 ≡ 1 + length (take start bytes) = omega arith in
-    cc (
-      selected_stored at (get_or piece.counts m 0) into (swz_l w8 16 v 0 piece.row) (length-swz_l w8 16 v 0 piece.row
-          ∙ is.long) (omega (arith, few)) room,
-      pick_line (selected_after selected start) is v short long,
+    let long = length-take-le 16 (drop start bytes) (omega (arith, length-drop start bytes)) in
+    let few = shuffle_few _ is m short in
+    let front = length-take-le start bytes (omega arith) in
+    grind (
+      arith,
+      common_steps,
+      selected_stored at (get_or piece.counts m 0) _ _ (length-swz_l w8 16 v 0 _ ∙ is.long) (omega (arith, few)) room,
       take-take m 16 (drop start bytes) short,
       select_later selected start 1 (take m (drop start bytes)),
-      first,
       take-add start m bytes,
       select_append selected 1 (take start bytes) (take m (drop start bytes)),
-      append_assoc was (select_from selected 1 (take start bytes))
-          (select_from selected (1 + length (take start bytes)) (take m (drop start bytes))),
+      shuffle_result,
+      row_lanes,
+      take-map,
+      prefix_indices _ is,
+      map_select (selected_after selected start),
+      pick_l-range_with_len,
     )
-
--- the selected bytes of a complete line, and the terminator
-pub line_ended : (end b : ℕ) (bytes was into : List ℕ) → end < length into → take end into ≡ was ++ bytes
-    → take (end + 1) (set into end b) ≡ was ++ (bytes ++ b ∷ [])
-line_ended end b bytes was into room put = grind (arith, common_steps)

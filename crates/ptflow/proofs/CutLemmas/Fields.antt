@@ -1,26 +1,23 @@
--- The fields of a line, and the output of `cut` by fields. Each delimiter ends one field, so the rest of the fields,
--- after the first n, starts after the n-th delimiter. The fields of an interval, with the delimiter before each, are
--- one slice of the line; so the output is these slices, the first without the delimiter before it. Lines without the
--- delimiter are unchanged, or nothing with `-s`. No state is carried from line to line, so the output for two lists of
--- lines is the output for each, one after the other.
+-- The output of `cut` by fields. The fields after the first n start after the n-th delimiter. The fields of an
+-- interval, with the delimiter before each, are one slice of the line; so the output is these slices, the first without
+-- the delimiter before it. No state is carried from line to line.
 use Rattle.ptflow.proofs
 use proofs.Common.{common_steps, ◌≡◌, ℕ, zero, suc, ◌+◌, ◌<◌, ◌==◌, ◌-◌, ◌≤◌, Bool, true, false, List, [], ◌∷◌}
 use proofs.Common.{◌++◌, length, take, drop, refl, sym, ap, arith, join_with_byte, append-nil}
 use proofs.Common.{take-take, take-add, take_all, drop_all, drop-drop, length-drop, length-take-le, take-append-drop}
 use proofs.Common.{flat_map-append, length-slice_split, count_by, is_byte, byte_eq, fields, prefixed_fields}
-use proofs.Common.{IsFieldOffset, IsNth, get_or, length-append, drop-append-le, nil_from_length, Cut}
+use proofs.Common.{IsFieldOffset, IsNth, get_or, length-append, drop-append-le, Cut}
 use proofs.Common.{cut_fields, is_selected, AreSeparated, Interval, select_from, IsFieldCursor, IsNextSlice}
 use proofs.Common.{output_from_cursor, min, Option, None, Some, is_some, flat_map, list_any, list_any_at, IsFirstByte}
-use proofs.Common.{line_if_not_found, unlines, IsLine, is_field_delimiter, cut_line, cut_lines, cut_tool}
-use proofs.Common.{cut_fields_from, IsPrefix, IsLineFilter, ◌⊎◌, inl, inr, get_or-take, unwrap_or, complete_lines}
+use proofs.Common.{line_if_not_found, unlines, IsLine, is_field_delimiter, cut_line, cut_lines}
+use proofs.Common.{IsPrefix, ◌⊎◌, inl, inr, unwrap_or, complete_lines}
 use proofs.Common.{AreLines, line_before_terminator, complete_lines_cons, the_lines, the_complete_lines, CopyLinesPost}
 use proofs.Common.{the_lines_of_parts, CutOfParts, rules}
-use proofs.CutLemmas.CutBytes.{rest_of, not_selected, select_none, select_first, select_slice, select_skip}
-use proofs.Passes.Exits.{ended_next, line_split}
+use proofs.CutLemmas.CutBytes.{not_selected, select_first, select_slice, select_skip}
+use proofs.Passes.Exits.{line_split}
 use Rattle.ptflow.specs.declared.tools.cut.fields.FieldCursor.{FieldCursor}
 
 module _ (d : ℕ) where
-  -- the fields before a delimiter, and those after it
   pub fields-append : (xs ys : List ℕ) → fields d (xs ++ d ∷ ys) ≡ fields d xs ++ fields d ys
   fields-append [] ys = rw (byte_eq d) refl
   fields-append (x ∷ xs) ys = grind (arith, common_steps, fields-append xs ys, length-slice_split)
@@ -34,7 +31,6 @@ module _ (d : ℕ) where
   prefixed_of_fields [] = refl
   prefixed_of_fields (x ∷ xs) = grind (arith, prefixed_of_fields xs)
 
-  -- fields joined by the delimiter are the fields with a delimiter before each but the first
   pub join_prefixed : (fs : List (List ℕ)) → join_with_byte d fs ≡ drop 1 (prefixed_fields d fs)
   join_prefixed [] = refl
   join_prefixed (f ∷ []) = sym (append-nil f)
@@ -46,11 +42,9 @@ module _ (d : ℕ) where
     pub offset_start : IsFieldOffset d 0 line 0
     offset_start = grind (arith, prefixed_of_fields)
 
-    -- after the last field
     pub offset_end : {n : ℕ} → count_by (is_byte d) line < n → IsFieldOffset d n line (length line + 1)
     offset_end {n} lt = grind (arith, length-slice_split, take_all, prefixed_of_fields, drop_all)
 
-    -- after the delimiter that comes after n - 1 others
     pub offset_after_nth : {n : ℕ} (at : ℕ) → 0 < n → IsNth (is_byte d) 0 (n - 1) line at
         → IsFieldOffset d n line (at + 1)
     offset_after_nth {n} at some (within, passes, before) =
@@ -63,9 +57,8 @@ module _ (d : ℕ) where
 
     module _ {n at : ℕ} (o : IsFieldOffset d n line at) where
       pub rest_at : at ≤ length line → drop at (d ∷ line) ≡ d ∷ drop at line
-      rest_at fits = cc (o.later fits, prefixed_of_fields (drop at line))
+      rest_at fits = cc (o.later fits, prefixed_of_fields _)
 
-      -- after the line no field is left
       pub none_left : length line < at → drop n (fields d line) ≡ []
       none_left past = grind (arith, none, drop_all)
         where
@@ -73,26 +66,15 @@ module _ (d : ℕ) where
           none [] is = refl
           none (f ∷ fs) is = cc
 
-      -- k fields later
       pub offset_add : at ≤ length line → {k size : ℕ} → IsFieldOffset d k (drop at line) size
           → IsFieldOffset d (n + k) line (at + size)
       offset_add fits {k} {size} next =
-          grind (arith, common_steps, length-drop, take-add, rest_at, drop-drop)
-
--- a slice of a line
-pub slice_of : (from size : ℕ) {to : ℕ} (bytes : List ℕ) → from + size ≤ to
-    → take size (drop from (take to bytes)) ≡ take size (drop from bytes)
-slice_of from size {to} bytes le = grind (arith, rest_of, take-take)
+          grind (arith, common_steps, take-add, rest_at, drop-drop)
 
 -- ---- the selected fields of a line, in one pass
 
 -- the cursor at the start of a line
 module _ (cursor : FieldCursor) (none : cursor.passed ≡ 0) where
-  pub cursor_starts : (d : ℕ) (line : List ℕ) → cursor.at ≡ 0 → AreSeparated 0 cursor.left.now
-      → IsFieldCursor d line cursor
-  cursor_starts d line start apart = grind (arith, offset_start)
-
-  -- all selected fields of a line are left, by the list of a job
   pub selected_remaining : (job : Cut) {d : ℕ} (line : List ℕ) → d ≡ job.delimiter
       → is_selected cursor.left.now ≡ job.selected → cut_fields job line ≡ output_from_cursor d line cursor
   selected_remaining job {d} line same selected = grind (arith, join_prefixed)
@@ -101,18 +83,9 @@ module _ (d : ℕ) (line : List ℕ) (cursor : FieldCursor) where
   abbrev all : List Interval
   all = cursor.left.now
 
-  -- no selected field is left
-  none_selected : select_from (is_selected all) (cursor.passed + 1)
+  pub none_selected : select_from (is_selected all) (cursor.passed + 1)
       (drop cursor.passed (fields d line)) ≡ [] → output_from_cursor d line cursor ≡ []
   none_selected none = grind arith
-
-  -- no interval is left
-  pub no_interval : length all ≡ 0 → output_from_cursor d line cursor ≡ []
-  no_interval none = grind (arith, select_none, nil_from_length)
-
-  -- the line ends before the cursor
-  pub no_field : IsFieldCursor d line cursor → length line < cursor.at → output_from_cursor d line cursor ≡ []
-  no_field w past = grind (arith, none_selected, none_left)
 
   module _ (w : IsFieldCursor d line cursor) (fits : cursor.at ≤ length line) (within : 0 < length all) where
     -- the next interval, and those after it
@@ -122,7 +95,7 @@ module _ (d : ℕ) (line : List ℕ) (cursor : FieldCursor) where
     abbrev rs : List Interval
     rs = drop 1 all
 
-    -- the fields from the cursor on; how many of them are before the interval, and how many in it
+    -- the fields from the cursor on; how many are before the interval, and how many in it
     abbrev here : List (List ℕ)
     here = drop cursor.passed (fields d line)
 
@@ -138,19 +111,15 @@ module _ (d : ℕ) (line : List ℕ) (cursor : FieldCursor) where
     apart : AreSeparated (cursor.passed + min cursor.passed 1) (r ∷ rs)
     apart = rw these at w.apart
 
-    pub not_past : cursor.passed + min cursor.passed 1 < r.first
-    not_past = omega (arith, apart.0)
-
     module _ {from : ℕ} (near : cursor.at ≤ from)
         (s : IsFieldOffset d skip (drop cursor.at line) (from - cursor.at)) where
       starts : IsFieldOffset d (cursor.passed + skip) line from
-      starts = let is : cursor.at + (from - cursor.at) ≡ from = omega (arith, near) in
+      starts = let is : cursor.at + (from - cursor.at) ≡ from = omega arith in
           rw is at (offset_add d line w.offset fits s)
 
       left : drop skip here ≡ drop (cursor.passed + skip) (fields d line)
       left = drop-drop skip _ (fields d line)
 
-      -- the line ends before the interval
       pub ends_before : length line < from → output_from_cursor d line cursor ≡ []
       ends_before past = none_selected (cc (
         these,
@@ -163,9 +132,6 @@ module _ (d : ℕ) (line : List ℕ) (cursor : FieldCursor) where
       module _ (begun : from ≤ length line) where
         abbrev rest : List ℕ
         rest = drop from line
-
-        sep_fits : min cursor.passed 1 ≤ from
-        sep_fits = omega arith
 
         -- the start of the interval, with or without the delimiter before it
         sep_drop : drop (from - min cursor.passed 1) line ≡ drop (1 - min cursor.passed 1) (d ∷ rest)
@@ -182,48 +148,23 @@ module _ (d : ℕ) (line : List ℕ) (cursor : FieldCursor) where
           ends : IsFieldOffset d r.last line at
           ends =
               let is : from + (at - from) ≡ at = omega arith in
-              let last : cursor.passed + skip + size ≡ r.last = omega (arith, not_past, apart.1) in
+              let last : cursor.passed + skip + size ≡ r.last = omega (arith, apart.1, apart.0) in
               rw (is, last) at (offset_add d line starts begun p)
 
           some : 0 < at - from
           some = omega arith
 
-          -- the fields in the interval, and those that the others select
           selected : select_from (is_selected (r ∷ rs)) (cursor.passed + 1) here ≡ take size (fields d rest)
               ++ select_from (is_selected rs) (r.last + 1) (drop r.last (fields d line))
           selected =
-              let b = r.last + 1 - (cursor.passed + 1) in
-              let count : (cursor.passed + 1) + (skip + size) ≡ r.last + 1 = omega (arith, not_past, apart.1) in
-              grind (
-                arith,
-                not_past,
-                select_first,
-                select_slice,
-                left,
-                starts.later,
-                select_skip,
-                not_selected,
-                apart,
-                drop-drop,
-              )
+              let count : (cursor.passed + 1) + (skip + size) ≡ r.last + 1 = omega (arith, apart.1, apart.0) in
+              grind (arith, select_first, select_slice, left, starts.later, select_skip, not_selected, apart, drop-drop)
 
-          -- the slice, and then the output that is left
           output : output_from_cursor d line cursor
               ≡ take ((at - 1) - (from - min cursor.passed 1)) (drop (from - min cursor.passed 1) line)
               ++ prefixed_fields d (select_from (is_selected rs) (r.last + 1) (drop r.last (fields d line)))
           output =
-              grind (
-                arith,
-                length-take-le,
-                some,
-                sep_fits,
-                these,
-                selected,
-                prefixed_fields-append,
-                drop-append-le,
-                rest_of,
-                sep_drop,
-              )
+              grind (arith, length-take-le, some, these, selected, prefixed_fields-append, drop-append-le, sep_drop)
 
           pub next_slice : (next : FieldCursor) → next.left.now ≡ rs → next.passed ≡ r.last → next.at ≡ at
               → IsNextSlice d line cursor (from - min cursor.passed 1) (at - 1) next
@@ -269,17 +210,12 @@ pub none_of : (d : ℕ) (line : List ℕ) → IsLine d line → list_any (λ b. 
 none_of d [] free = refl
 none_of d (b ∷ line) free = grind (arith, none_of d line)
 
--- the delimiter is in a line, by a search
 pub found : (d : ℕ) (line : List ℕ) (r : Option ℕ) → IsFirstByte (is_byte d) line r
     → list_any (λ b. b == d) line ≡ is_some r
-found d line None first = none_of d line (line_if_not_found d line first)
+found d line None first = none_of d _ (line_if_not_found d _ first)
 found d line (Some at) first = grind (arith, list_any_at)
 
--- the output for a line that is cut by fields
 module _ (job : Cut) (by_fields : job.fields ≡ true) (line : List ℕ) where
-  pub of_fields : list_any (is_field_delimiter job) line ≡ true → cut_line job line ≡ cut_fields job line ∷ []
-  of_fields some = grind arith
-
   pub of_line : list_any (is_field_delimiter job) line ≡ false → job.only ≡ false → cut_line job line ≡ line ∷ []
   of_line none keeps = grind arith
 
@@ -295,18 +231,9 @@ module _ (job : Cut) (line : List ℕ) where
   line_dropped is = cc
 
 module _ (job : Cut) where
-  pub cut_lines-append : (xs ys : List (List ℕ)) → cut_lines job (xs ++ ys) ≡ cut_lines job xs ++ cut_lines job ys
-  cut_lines-append xs ys = grind (arith, common_steps)
-
-  -- all output that was pushed is decided
-  cut_sure : (ls : List (List ℕ)) (pushed : List ℕ) → cut_lines job (ls ++ []) ≡ pushed ++ cut_lines job []
+  pub cut_sure : (ls : List (List ℕ)) (pushed : List ℕ) → cut_lines job (ls ++ []) ≡ pushed ++ cut_lines job []
       → IsPrefix (cut_lines job ls) pushed
-  cut_sure ls pushed on = grind (arith, append-nil, cut_lines)
-
-  pub cut_line_tool : {S : Type 0} (start : S) → job.fields ≡ true
-      → IsLineFilter {S = S} {X = Unit {0}} {E = ℕ} (cut_tool job) (λ room store. tt) (cut_fields_from job)
-      (λ bytes. bytes) (λ u. 1) 1 start
-  cut_line_tool start by_fields = grind (arith, cut_sure)
+  cut_sure ls pushed on = grind (arith, append-nil)
 
 -- ---- lines before others
 
@@ -315,7 +242,6 @@ eof-append : (end : ℕ) (ls : List (List ℕ)) (bytes : List ℕ) → AreLines 
 eof-append end [] bytes whole = refl
 eof-append end (l ∷ ls) bytes whole = grind (arith, common_steps, eof-append end ls bytes whole.1, complete_lines_cons)
 
--- bytes that end with a terminator are the text of their lines
 text_of_ended : (end : ℕ) (front : List ℕ) → unlines end (complete_lines end (front ++ end ∷ [])) ≡ front ++ end ∷ []
 text_of_ended end front = grind (arith, the_complete_lines end [] tt, the_lines end (front ++ end ∷ []))
 
@@ -324,7 +250,7 @@ text_of_ended end front = grind (arith, the_complete_lines end [] tt, the_lines 
 free_prefix : (d : ℕ) (n : ℕ) (bytes : List ℕ) → IsLine d bytes → IsLine d (take n bytes)
 free_prefix d n [] free = grind (arith, common_steps)
 free_prefix d zero (b ∷ bytes) free = tt
-free_prefix d (suc n) (b ∷ bytes) free = (free.0, free_prefix d n bytes free.1)
+free_prefix d (suc n) (b ∷ bytes) free = (free.0, free_prefix d n _ free.1)
 
 free_lines : (d end : ℕ) (bytes : List ℕ) → IsLine d bytes → AreLines d (complete_lines end bytes)
 free_lines d end [] free = tt
@@ -343,12 +269,7 @@ module _ (job : Cut) (by_fields : job.fields ≡ true) where
 
 module _ (job : Cut) (by_fields : job.fields ≡ true) {end : ℕ} (same : end ≡ job.terminator) (bytes : List ℕ) (to : ℕ)
     (first : IsFirstByte (is_byte end) bytes (Some to)) where
-  -- one line, with this output
-  pub puts_line : (out : List ℕ) {old new : List ℕ} → cut_line job (take to bytes) ≡ out ∷ [] → new ≡ old
-      ++ (out ++ take 1 (drop to bytes)) → CopyLinesPost job end bytes (to + 1) old new
-  puts_line out is put = grind (arith, common_steps, ended_next)
-
-  -- all complete lines before an index, none of which has the delimiter
+  -- all complete lines before `size`, none of which has the delimiter
   module _ {size up_to : ℕ} (high : to < size) (fits : size ≤ length bytes) (eof : get_or bytes (size - 1) 0 ≡ end)
       (near : (size ≡ to + 1) ⊎ (size ≤ up_to)) (past : to ≤ up_to)
       (free : IsLine job.delimiter (take up_to bytes)) where
@@ -366,12 +287,12 @@ module _ (job : Cut) (by_fields : job.fields ≡ true) {end : ℕ} (same : end �
         cc (
           take-append-drop size bytes,
           texts,
-          eof-append end front (drop size bytes)
-              (line_split end (take size bytes)).whole,
+          eof-append end _ _
+              (line_split end _).whole,
         )
 
     free_up_to : {n : ℕ} → n ≤ up_to → IsLine job.delimiter (take n bytes)
-    free_up_to {n} le = rw (take-take n up_to bytes le) at (free_prefix job.delimiter n (take up_to bytes) free)
+    free_up_to {n} le = rw (take-take n up_to bytes le) at (free_prefix _ n _ free)
 
     are_free : ((size ≡ to + 1) ⊎ (size ≤ up_to)) → AreLines job.delimiter front
     are_free (inl one) = grind (arith, common_steps, complete_lines_cons, line_before_terminator)
@@ -384,19 +305,10 @@ module _ (job : Cut) (by_fields : job.fields ≡ true) {end : ℕ} (same : end �
     pub puts_dropped : {old : List ℕ} → job.only ≡ true → CopyLinesPost job end bytes size old old
     puts_dropped {old} only = grind (arith, common_steps, texts, lines_are, lines_dropped, are_free)
 
--- before the first delimiter there is none
 pub free_before : (d : ℕ) (bytes : List ℕ) (r : Option ℕ) → IsFirstByte (is_byte d) bytes r
     → IsLine d (take (unwrap_or r (length bytes)) bytes)
 free_before d bytes None none = grind (arith, take_all, line_if_not_found)
-free_before d bytes (Some at) first = line_before_terminator d bytes at first
+free_before d bytes (Some at) first = line_before_terminator d _ at first
 
--- the first delimiter of some bytes is the first one of the first line if it is in that line
-pub first_within : (d : ℕ) (bytes : List ℕ) (r : Option ℕ) (to : ℕ) → IsFirstByte (is_byte d) bytes r
-    → unwrap_or r (length bytes) < to → to ≤ length bytes
-    → IsFirstByte (is_byte d) (take to bytes) (Some (unwrap_or r (length bytes)))
-first_within d bytes None to none lt le = absurd (omega arith)
-first_within d bytes (Some at) to first lt le = grind (arith, common_steps, get_or-take)
-
--- a text that is cut after a line
 pub cut_of_parts : CutOfParts
 cut_of_parts job a b whole = grind (arith, common_steps, the_lines_of_parts)

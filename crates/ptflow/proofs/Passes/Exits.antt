@@ -1,6 +1,6 @@
 -- The exits of a pass over one input, for every tool: the call did nothing, a slot was refused, a read, a write or an
--- allocation failed, or the input ended. Between two steps (`PassState`) the pushed bytes, followed by the output for
--- the rest, are the output for every continuation of the input. So the output is exact at the end of the input, it is a
+-- allocation failed, or the input ended. Between two steps the pushed bytes, followed by the output for the rest, are
+-- the output for every continuation of the input. So the output is exact at the end of the input, it is a
 -- prefix of the output for each consistent input, and decided output is written.
 use Rattle.ptflow.proofs
 use proofs.Common.{◌≡◌, ℕ, ◌≤◌, ◌<◌, ◌^◌, true, false, List, [], ◌++◌, length, None, Result, Ok, Err, max, arith, Slots}
@@ -12,9 +12,9 @@ use proofs.Common.{call_ends, call_on_failed_output, call_set, call_without_slot
 use proofs.Common.{FlowFault, Memory, rules, drop, advance_ok_take, Bool, refl, push_past_failure}
 use proofs.Common.{OnErr, err_from_is_err_and, ◌+◌, ◌-◌, take_all, inl, inr, zero, suc, ◌∷◌, unlines}
 use proofs.Common.{take-append-drop, false≢true, lines, IsLine, AreLines, max_length, max_line_length}
-use proofs.Common.{known_lines, LaggedInput, FillLine, lines_of_unlines, lines_of_last, lines_cons, lines-unlines, ◌==◌}
-use proofs.Common.{complete_lines_of_unlines, AreReceivedLines, cond, ap, Some, eqb-true, eqb-false, complete_lines}
-use proofs.Common.{onto_first_if_any, complete_lines_none, complete_lines_cons, take_at, IsFirstByte, is_byte}
+use proofs.Common.{known_lines, FillLine, lines_of_unlines, lines_of_last, lines_cons, lines-unlines, ◌==◌}
+use proofs.Common.{complete_lines_of_unlines, AreReceivedLines, Some, eqb-true, eqb-false, complete_lines}
+use proofs.Common.{complete_lines_cons, IsFirstByte, is_byte}
 use proofs.Common.{line_before_terminator, drop_at_terminator}
 use Rattle.std.specs.Prelude.{IsErrAnd}
 use Rattle.std.proofs.lemmas.Bool.{cases_Bool}
@@ -25,9 +25,8 @@ pub use Rattle.ptlines.proofs.MaxLength.{max_length-append, piece_le_max_length}
 
 -- ---- readers
 
--- Facts about readers and outputs that each engine starts from. Each follows from the records of one call.
+-- Facts about readers and outputs. Each follows from the records of one call.
 
--- after the end of the input, nothing is read
 pub eof_gives_nothing : (now new : Reader) (bytes : List ℕ) → IsDone now → ReaderAdvance now new bytes
     → (bytes ≡ []) × (new.buffered ≡ []) × (new.eof ≡ true)
 eof_gives_nothing now new bytes done reads = grind (arith, common_steps)
@@ -35,23 +34,14 @@ eof_gives_nothing now new bytes done reads = grind (arith, common_steps)
 pub stays_at_eof : (now new : Reader) (bytes : List ℕ) → IsDone now → ReaderAdvance now new bytes → IsDone new
 stays_at_eof now new bytes done reads = grind (arith, common_steps)
 
--- once the input has ended, the bytes of a read and any continuation after them are empty
-pub may_follow : (now new : Reader) (bytes rest : List ℕ) → ReaderAdvance now new bytes → (IsDone new → rest ≡ [])
-    → IsDone now → bytes ++ rest ≡ []
-may_follow now new bytes rest reads may done = grind (arith, common_steps)
-
 abbrev state : Reader → Output → Slots → CallState (Unit {0})
 state reader out store = call_state (λ u. reader) out store
 
--- these bytes were read, and these pushed
+-- `given` was read, and `pushed` pushed
 pub record Progress (old reader : Reader) (was is : Output) (given pushed : List ℕ) : Type 0 where
   pub advance_ok : AdvanceOk old reader given
   pub wrote : PushEffect was is pushed
   pub clean : is.write_failed ≡ false
-
-pub progress_none : (old : Reader) (was : Output) → old.fault ≡ None → was.write_failed ≡ false
-    → Progress old old was was [] []
-progress_none = grind (arith, common_steps)
 
 -- the buffered output was written
 abbrev pub progress_flushed : {old reader : Reader} {was is is' : Output} {given pushed : List ℕ}
@@ -63,37 +53,26 @@ progress_flushed {pushed} reached wrote clean = record {
   clean = clean;
 }
 
--- The state between two steps: after the end of the input the continuation is empty, and else it is any text.
-pub record PassState {X : Type 0} (rest_from : X → List ℕ → List ℕ) (start now : X) (old reader : Reader)
-    (was is : Output) : Type 0 where
-  pub given : List ℕ
-  pub pushed : List ℕ
-  pub reached : Progress old reader was is given pushed
-  pub on : (rest : List ℕ) → (IsDone reader → rest ≡ [])
-      → rest_from start (given ++ rest) ≡ pushed ++ rest_from now rest
-
 -- the output that was decided two blocks earlier, or less, was pushed
 abbrev pub LaggedOutput : ToolSpec → Received → List ℕ → Type 0
 LaggedOutput tool came pushed = ProcessLag {I = Unit {0}} (λ given. tool.decided (given tt)) (λ u. came) pushed
 
--- the store after the call
 pub record StoreBounds (tool : ToolSpec) (before store : Slots) (given : Received) : Type 0 where
   pub peak : (input : List ℕ) → IsConsistent given input → store.peak ≤ max before.peak (tool.size input)
   pub size : length store.lines ≡ max (length before.lines) tool.slots
 
--- `?` returns that a write failed
+-- `?` returns the failed write
 pub by_write : {A : Type 0} {tool : ToolSpec} {old new : Reader} {was is : Output} {before store : Slots}
     {result : Result (Unit {0}) FlowFault}
     → A × IsErrAnd result (λ fault. fault ≡ Write)
     → PassPost tool old new was is before store (Err Write) → PassPost tool old new was is before store result
 by_write = grind arith
 
--- on an output that has failed, nothing is done
 pub pass_unchanged : (tool : ToolSpec) (old : Reader) (was : Output) (before : Slots) → PassPre old before
     → was.write_failed ≡ true → PassPost tool old old was was before before (Err Write)
 pass_unchanged = grind (arith, call_on_failed_output)
 
--- the terminator of the reader was set before the call
+-- before the call the terminator was set
 module _ (old : Reader) {set : Reader} {end : ℕ} where
   pub ready_set : {store : Slots} → PassPre old store → set ≡ record old { terminator = end } → PassPre set store
   ready_set ready same = grind arith
@@ -104,7 +83,6 @@ module _ (old : Reader) {set : Reader} {end : ℕ} where
       → PassPost tool old new was is before store result
   pass_set = grind (arith, call_set)
 
--- a slot could not be allocated
 pub pass_unslotted : (tool : ToolSpec) {old : Reader} (was : Output) {before store : Slots} → PassPre old before
     → IsSound old → was.write_failed ≡ false → AddedSlots before store tool.slots → length store.lines < tool.slots
     → store.peak ≡ before.peak → store.denied ≡ true → old.terminator ≡ tool.end
@@ -112,47 +90,45 @@ pub pass_unslotted : (tool : ToolSpec) {old : Reader} (was : Output) {before sto
     → PassPost tool old old was was before store (Err Memory)
 pass_unslotted = grind (arith, call_without_slots)
 
--- a tool that is given a store that is not denied, and leaves it unchanged, never returns `Memory`
 pub never_memory : {tool : ToolSpec} {old new : Reader} {was is : Output} {store : Slots}
     {result : Result (Unit {0}) FlowFault}
     → store.denied ≡ false → PassPost tool old new was is store store result → result ≡ Err Memory → ⊥
 never_memory = grind arith
 
--- After the last step, a call reads a piece, and then it ends.
-pub record PassEnding {X : Type 0} {rest_from : X → List ℕ → List ℕ} {start now : X} {old reader : Reader}
-    {was is : Output} (tool : ToolSpec) (midway : PassState rest_from start now old reader was is) (new : Reader)
-    (before store : Slots) (piece : List ℕ) : Type 0 where
-  pub is_text : (bytes : List ℕ) → rest_from start bytes ≡ tool.text bytes
+-- After the last step, these bytes were given and pushed, and `left` is the output for the rest, which is empty after
+-- the end of the input, and else any text. A call reads a piece then, and ends.
+pub record PassEnding (tool : ToolSpec) (left : List ℕ → List ℕ) (old reader new : Reader) (was is : Output)
+    (before store : Slots) (given piece pushed : List ℕ) : Type 0 where
+  pub reached : Progress old reader was is given pushed
+  pub on : (rest : List ℕ) → (IsDone reader → rest ≡ []) → tool.text (given ++ rest) ≡ pushed ++ left rest
   pub ready : PassPre old before
   pub sound : IsSound reader
   pub reads : ReaderAdvance reader new piece
-  pub stored : StoreBounds tool before store (received_with (midway.given ++ piece) new)
+  pub stored : StoreBounds tool before store (received_with (given ++ piece) new)
   pub keeps_store : tool.slots ≡ 0 → store ≡ before
-  pub processing : LaggedOutput tool (received_with (midway.given ++ piece) new) midway.pushed
+  pub processing : LaggedOutput tool (received_with (given ++ piece) new) pushed
 
-module _ {X : Type 0} {rest_from : X → List ℕ → List ℕ} {start now : X} {old reader new : Reader} {was is : Output}
-    {tool : ToolSpec} {midway : PassState rest_from start now old reader was is} {before store : Slots}
-    {piece : List ℕ} (p : PassEnding tool midway new before store piece) where
-  -- what was received
+module _ {tool : ToolSpec} {left : List ℕ → List ℕ} {old reader new : Reader} {was is : Output} {before store : Slots}
+    {given piece pushed : List ℕ} (p : PassEnding tool left old reader new was is before store given piece pushed) where
   abbrev received : Received
-  received = received_with (midway.given ++ piece) new
+  received = received_with (given ++ piece) new
 
-  advanced : ReaderAdvance old new (midway.given ++ piece)
+  advanced : ReaderAdvance old new (given ++ piece)
   advanced = search (rules, advance_trans)
 
   never_failed : old.failed ≡ false
   never_failed = grind arith
 
   text_of : {input : List ℕ} (consistent : IsConsistent received input)
-      → tool.text input ≡ midway.pushed ++ rest_from now (piece ++ (new.buffered ++ consistent.rest))
+      → tool.text input ≡ pushed ++ left (piece ++ (new.buffered ++ consistent.rest))
   text_of consistent = grind (arith, common_steps)
 
-  -- after the last step these bytes are pushed, with which the output for the rest begins
+  -- `bytes`, with which the output for the rest begins, are pushed after the last step
   module _ {is' : Output} {bytes : List ℕ} (wrote : PushEffect is is' bytes)
       (begins : (rest : List ℕ) → (new.eof ≡ true → rest ≡ [])
-      → IsPrefix bytes (rest_from now (piece ++ (new.buffered ++ rest)))) where
+      → IsPrefix bytes (left (piece ++ (new.buffered ++ rest)))) where
     progress : CallProgress only_input (pass_engine tool) (state old was before) (state new is' store)
-        (λ u. midway.given ++ piece) (midway.pushed ++ bytes)
+        (λ u. given ++ piece) (pushed ++ bytes)
     progress = record {
       reads = λ u read. advanced;
       untouched = λ u unread. cc;
@@ -169,9 +145,9 @@ module _ {X : Type 0} {rest_from : X → List ℕ → List ℕ} {start now : X} 
 
     pass : (result : Result (Unit {0}) FlowFault)
         → CallOutcome only_input (pass_engine tool) (state old was before) (state new is' store) (λ u. received)
-        (midway.pushed ++ bytes) (pass_end result)
+        (pushed ++ bytes) (pass_end result)
         → DecidedIfReadFailed only_input (pass_engine tool) (state old was before) (state new is' store)
-        (λ u. midway.given ++ piece) (midway.pushed ++ bytes) (pass_end result)
+        (λ u. given ++ piece) (pushed ++ bytes) (pass_end result)
         → ((index : ℕ) → result ≡ Err (Read index) → index ≡ 0) → PassPost tool old new was is' before store result
     pass result ends decided only = record {
       call = search (rules, call_ends, progress);
@@ -180,27 +156,24 @@ module _ {X : Type 0} {rest_from : X → List ℕ → List ℕ} {start now : X} 
       stays_done = λ done. stays_at_eof _ _ _ done advanced;
     }
 
-    -- a write failed while these bytes were pushed
     pub pass_write : is'.write_failed ≡ true → new.failed ≡ reader.failed → store.denied ≡ false
         → PassPost tool old new was is' before store (Err Write)
-    pass_write fault same not_denied = pass (Err Write)
+    pass_write fault same not_denied = pass _
         (grind arith) tt
         (λ index is. cc)
 
   pub nothing_more : (rest : List ℕ) → (new.eof ≡ true → rest ≡ [])
-      → IsPrefix [] (rest_from now (piece ++ (new.buffered ++ rest)))
+      → IsPrefix [] (left (piece ++ (new.buffered ++ rest)))
   nothing_more rest may = grind arith
 
-  -- a read failed
   pub pass_read : HasReadCause reader new → store.denied ≡ false
-      → (new.buffered ≡ [] → new.eof ≡ false → IsPrefix (tool.decided received) midway.pushed)
+      → (new.buffered ≡ [] → new.eof ≡ false → IsPrefix (tool.decided received) pushed)
       → PassPost tool old new was is before store (Err (Read 0))
   pass_read cause not_denied decided = pass (push_nothing is) nothing_more (Err (Read 0))
       (grind arith)
       (search rules)
       (λ index is. cc)
 
-  -- the store could not grow
   pub pass_memory : new.failed ≡ reader.failed → store.denied ≡ true → 0 < length new.buffered
       → PassPost tool old new was is before store (Err Memory)
   pass_memory same denied left = pass (push_nothing is) nothing_more (Err Memory)
@@ -208,40 +181,33 @@ module _ {X : Type 0} {rest_from : X → List ℕ → List ℕ} {start now : X} 
       tt (λ index is. cc)
 
   -- the end of the input was reached
-  module _ {is' : Output} (wrote : PushEffect is is' (rest_from now [])) (done : IsDone new) (none : piece ≡ [])
+  module _ {is' : Output} (wrote : PushEffect is is' (left [])) (done : IsDone new) (none : piece ≡ [])
       (same : new.failed ≡ reader.failed) (not_denied : store.denied ≡ false) where
     all_of_it : (rest : List ℕ) → (new.eof ≡ true → rest ≡ [])
-        → IsPrefix (rest_from now []) (rest_from now (piece ++ (new.buffered ++ rest)))
+        → IsPrefix (left []) (left (piece ++ (new.buffered ++ rest)))
     all_of_it rest whole = grind (arith, append-nil)
 
-    -- and the output that is due there was pushed
     pub pass_done : is'.write_failed ≡ false → new.fault ≡ None → new.pulled < 2 ^ 63 → total_bytes store.lines ≡ 0
         → PassPost tool old new was is' before store (Ok tt)
     pass_done clean fault short empty = pass wrote all_of_it (Ok tt)
         (search rules)
         tt (λ index is. cc)
 
-    -- and a write failed there
+    -- a write failed there
     pub pass_unended : is'.write_failed ≡ true → PassPost tool old new was is' before store (Err Write)
     pass_unended fault = search (rules, pass_write, all_of_it)
 
 -- ---- pushes
 
--- Bytes that are pushed piece by piece: the pushed bytes are a prefix, and the rest is left. A failed push leaves a
--- prefix too, so the result of several pushes is that of one.
+-- Bytes that are pushed piece by piece. A failed push leaves a prefix too, so several pushes have the result of one.
 
--- one push after another, even after a fault
+-- even if a push failed
 pub wrote_then : (a b c : Output) {xs ys : List ℕ} → PushEffect a b xs → PushEffect b c ys → PushEffect a c (xs ++ ys)
-wrote_then a b c {xs} {ys} p q = elim (cases_Bool b.write_failed) [
+wrote_then a b c {xs} {ys} p q = elim (cases_Bool _) [
   | inl fault ↦ rw (q.stays fault) (push_past_failure a b xs ys fault p)
   | inr clean ↦ push_trans a b c xs ys clean p q
 ]
 
-pub push_then : {E : Type 0} {a b c : Output} {xs ys : List ℕ} {r : Result (Unit {0}) E} → PushEffect a b xs
-    → PushPost b c ys r → PushPost a c (xs ++ ys) r
-push_then p q = record { wrote = wrote_then _ _ _ p q.wrote; clean = q.clean; fault = q.fault }
-
--- a push failed, and so did the call
 pub push_failed : {E : Type 0} {a b : Output} {xs : List ℕ} {r : Result (Unit {0}) E} {e : E} → r ≡ Err e
     → PushEffect a b xs → b.write_failed ≡ true → PushPost a b xs r
 push_failed = grind arith
@@ -264,7 +230,7 @@ module _ {whole rest : List ℕ} {was is : Output} (f : WrittenPrefix whole rest
     front_more = search (rules, wrote_then, all_split)
 
     pub front_fails : is'.write_failed ≡ true → PushEffect was is' whole
-    front_fails fault = rw all_split (push_past_failure _ _ _ more fault (wrote_then _ _ _ f.wrote wrote))
+    front_fails fault = rw all_split (push_past_failure _ _ _ _ fault (wrote_then _ _ _ f.wrote wrote))
 
 -- ---- results
 
@@ -278,17 +244,9 @@ returned_err r (_, is_err) = err_from_is_err_and r is_err
 
 -- ---- the loop over blocks
 
--- A tool that works block by block. The output of each block is pushed before the next is read, so the input with no
--- output yet is in the reader's buffer.
+-- The output of each block is pushed before the next is read, so input with no output yet is in the reader's buffer.
 
--- a counter is at most the number of bytes that were processed
-pub counted_more : {reader shown new : Reader} {block : List ℕ} {counted more : ℕ} → AdvanceOk reader shown []
-    → shown.buffered ≡ block → IsSound reader → counted ≤ reader.pulled - length reader.buffered
-    → new ≡ record shown { buffered = drop (length block) shown.buffered } → more ≤ counted + length block
-    → more ≤ new.pulled - length new.buffered
-counted_more = grind (arith, common_steps)
-
--- The state between two blocks. The configuration of the tool is unchanged.
+-- The state between two blocks.
 pub record BlockLoopState {X : Type 0} (rest_from : X → List ℕ → List ℕ) (IsUnchanged : X → X → Type 0) (start now : X)
     (old reader : Reader) (was is : Output) : Type 0 where
   pub given : List ℕ
@@ -304,7 +262,7 @@ module _ {X : Type 0} {rest_from : X → List ℕ → List ℕ} {IsUnchanged : X
   blocks_start readable clean = record {
     given = [];
     pushed = [];
-    reached = progress_none old was readable clean;
+    reached = grind (arith, common_steps);
     on = λ rest. refl;
     holds = λ same. same;
   }
@@ -322,7 +280,6 @@ module _ {X : Type 0} {rest_from : X → List ℕ → List ℕ} {IsUnchanged : X
       holds = run.holds;
     }
 
-    -- the output of a block was pushed, and the block consumed
     pub block_taken : {shown new : Reader} {block : List ℕ} {next : X} {is' : Output} → AdvanceOk reader shown []
         → shown.buffered ≡ block → new ≡ record shown { buffered = drop (length block) shown.buffered }
         → OutputPart rest_from now next block is is' → (IsUnchanged start now → IsUnchanged start next)
@@ -339,20 +296,14 @@ module _ {X : Type 0} {rest_from : X → List ℕ → List ℕ} {IsUnchanged : X
       holds = λ same. unchanged (run.holds same);
     }
 
-    abbrev midway : PassState rest_from start now old reader was is
-    midway = record { given = run.given; pushed = run.pushed; reached = run.reached; on = λ rest may. run.on rest }
-
     -- the block was read
     module _ {tool : ToolSpec} (block_filter : IsBlockFilter tool rest_from IsUnchanged start) {store : Slots}
         (ready : PassPre old store) (sound : IsSound reader) {new : Reader} (reads : ReaderAdvance reader new [])
         (is_sound : IsSound new) where
-      decided_so : IsPrefix (tool.decided (record { bytes = run.given; eof = false })) run.pushed
-      decided_so = grind arith
-
-      -- the output that was pushed before this block
-      pub ending : PassEnding tool midway new store store []
+      pub ending : PassEnding tool (rest_from now) old reader new was is store store run.given [] run.pushed
       ending = record {
-        is_text = block_filter.text;
+        reached = run.reached;
+        on = λ rest may. cc (block_filter.text (run.given ++ rest), run.on rest);
         ready = ready;
         sound = sound;
         reads = reads;
@@ -366,25 +317,18 @@ module _ {X : Type 0} {rest_from : X → List ℕ → List ℕ} {IsUnchanged : X
             short = omega arith;
             eof = λ never. cc;
           };
-          begins = decided_so;
+          begins = grind arith;
         };
       }
 
-      pub block_read : HasReadCause reader new → PassPost tool old new was is store store (Err (Read 0))
-      block_read cause = pass_read ending cause ready.not_denied
-          (search rules)
-
 -- ---- lines that were read
 
--- The lines that were read from a reader. A line that was read is complete, so it is a line of the input for every
--- continuation; the same holds for the complete lines of a block.
+-- A line that was read is complete, so it is a line of the input for every continuation.
 
 -- ---- lines of a text
 
--- Laws of the lines of a text: complete lines and the unfinished line after them, the maximum length, and the lines of
--- a block one by one. All of them use the first terminator in some bytes, before which there is no other.
+-- Complete lines and the unfinished line after them, the maximum length, and the lines of a block one by one.
 
--- the complete lines of a text, and the unfinished line after them
 pub record LineSplit (end : ℕ) (bytes : List ℕ) : Type 0 where
   pub piece : List ℕ
   pub is : bytes ≡ unlines end (complete_lines end bytes) ++ piece
@@ -393,32 +337,38 @@ pub record LineSplit (end : ℕ) (bytes : List ℕ) : Type 0 where
 
 pub line_split : (end : ℕ) (bytes : List ℕ) → LineSplit end bytes
 line_split end [] = record { piece = []; is = refl; whole = tt; line = tt }
-line_split end (b ∷ bytes) =
-    let split = line_split end bytes in
-    let (piece, is, whole, line) =
-    put (b == end) (complete_lines end bytes) split.piece refl split.is split.whole split.line in
-    record { piece = piece; is = is; whole = whole; line = line }
+line_split end (b ∷ bytes) = put (b == end) (complete_lines end bytes) refl refl (line_split end bytes)
   where
-    put : (t : Bool) (ls : List (List ℕ)) (piece : List ℕ) → (b == end) ≡ t → bytes ≡ unlines end ls ++ piece
-        → AreLines end ls → IsLine end piece
-        → let more = cond t ([] ∷ ls) (onto_first_if_any b ls) in
-        (rest : List ℕ) × (b ∷ bytes ≡ unlines end more ++ rest) × AreLines end more × IsLine end rest
-    put true ls piece same is whole line = (piece, (λ i. eqb-true b end same i ∷ is i), (tt, whole), line)
-    put false [] piece other is whole line = (b ∷ piece, ap (◌∷◌ b) is, tt, (eqb-false b end other, line))
-    put false (l ∷ ls) piece other is (first, others) line =
-        (piece, ap (◌∷◌ b) is, ((eqb-false b end other, first), others), line)
+    put : (t : Bool) (ls : List (List ℕ)) → (b == end) ≡ t → complete_lines end bytes ≡ ls → LineSplit end bytes
+        → LineSplit end (b ∷ bytes)
+    put true ls same are split = record {
+      piece = split.piece;
+      is = grind (arith, eqb-true, split.is);
+      whole = grind (arith, split.whole);
+      line = split.line;
+    }
+    put false [] same are split = record {
+      piece = b ∷ split.piece;
+      is = grind (arith, split.is);
+      whole = grind (arith, split.whole);
+      line = (eqb-false b end same, split.line);
+    }
+    put false (l ∷ ls) same are split = record {
+      piece = split.piece;
+      is = grind (arith, split.is);
+      whole = grind (arith, eqb-false, split.whole);
+      line = split.line;
+    }
 
--- the complete lines come before those of the continuation
 pub complete_prefix : (end : ℕ) (bytes rest : List ℕ)
     → lines end (bytes ++ rest) ≡ complete_lines end bytes ++ lines end ((line_split end bytes).piece ++ rest)
 complete_prefix = grind (arith, line_split, append_assoc, lines_of_unlines)
 
--- the bytes before the first terminator, and those after it
 module _ (end : ℕ) (bytes : List ℕ) (at : ℕ) (first : IsFirstByte (is_byte end) bytes (Some at)) where
   pub split_of : bytes ≡ take at bytes ++ end ∷ drop (at + 1) bytes
-  split_of = cc (take-append-drop at bytes, drop_at_terminator end bytes at first)
+  split_of = cc (take-append-drop at bytes, drop_at_terminator end _ at first)
 
--- some of the lines were processed, and these bytes are the rest of the block
+-- some lines of the block were processed, and `rest` is left
 pub record TakenLines (end : ℕ) (block rest : List ℕ) : Type 0 where
   pub front : List ℕ
   pub split : block ≡ front ++ rest
@@ -429,12 +379,11 @@ module _ (end : ℕ) where
       → complete_lines end rest ≡ take at rest ∷ complete_lines end (drop (at + 1) rest)
   ended_next rest at first =
       cc (
-        split_of end rest at first,
-        complete_lines_cons end (take at rest) (drop (at + 1) rest)
-            (line_before_terminator end rest at first),
+        split_of end _ at first,
+        complete_lines_cons end _ _
+            (line_before_terminator end _ at first),
       )
 
-  -- these first lines were processed too
   pub taken_more : {block rest : List ℕ} (size : ℕ)
       → unlines end (complete_lines end rest) ≡ take size rest ++ unlines end (complete_lines end (drop size rest))
       → TakenLines end block rest → TakenLines end block (drop size rest)
@@ -444,15 +393,6 @@ module _ (end : ℕ) where
         split = grind (arith, common_steps, append_assoc);
         texts = grind (arith, append_assoc);
       }
-
-  -- no complete line is left
-  pub taken_all : {block rest : List ℕ} → IsLine end rest → TakenLines end block rest
-      → take (length block - length rest) block ≡ unlines end (complete_lines end block)
-  taken_all = grind (arith, common_steps, take_at, complete_lines_none, append-nil)
-
-longest_prefix : (end : ℕ) (ls : List (List ℕ)) (piece rest : List ℕ) → AreLines end ls → IsLine end piece
-    → max (max_length ls) (length piece) ≤ max_length (lines end (unlines end ls ++ (piece ++ rest)))
-longest_prefix end ls piece rest whole free = grind (arith, lines_of_unlines, max_length-append, piece_le_max_length)
 
 pub lines_none : (end : ℕ) (reader : Reader) → AreReceivedLines end reader [] []
 lines_none end reader = record { so_far = inl (refl, tt) }
@@ -469,7 +409,6 @@ module _ (end : ℕ) (now : Reader) (given : List ℕ) (ls : List (List ℕ))
   pub lines_few : length ls ≤ length given
   lines_few = rw lines_are_given at (lines_length end given)
 
-  -- for every continuation
   pub lines_on : (rest : List ℕ) → (IsDone now → rest ≡ []) → lines end (given ++ rest) ≡ ls ++ lines end rest
   lines_on rest may = grind (arith, lines_of_unlines, append-nil)
 
@@ -482,19 +421,26 @@ module _ (end : ℕ) (now : Reader) (given : List ℕ) (ls : List (List ℕ))
     pub piece_longest : (input : List ℕ) → IsConsistent (received_with (given ++ piece) new) input
         → max (max_length ls) (length piece) ≤ max_line_length end input
     piece_longest input consistent =
-        grind (arith, common_steps, append_assoc, longest_prefix, free, append-nil)
+        grind (
+          arith,
+          common_steps,
+          append_assoc,
+          free,
+          append-nil,
+          lines_of_unlines,
+          max_length-append,
+          piece_le_max_length,
+        )
 
     -- and the read of its rest failed
     pub whole_before : new.buffered ≡ [] → new.eof ≡ false → known_lines end (received_with (given ++ piece) new) ≡ ls
     whole_before empty going = search (rules, complete_lines_of_unlines)
 
-  -- one line was read
   module _ (new : Reader) (before after : Slots) (slot : ℕ) (next_line : FillLine now new before after slot)
       (same : now.terminator ≡ end) where
     free : IsLine end next_line.line
     free = rw same at next_line.whole
 
-    -- its bytes are a line for every continuation
     pub line_prefix : (rest : List ℕ) → (IsDone new → rest ≡ [])
         → lines end ((next_line.line ++ next_line.terminator) ++ rest) ≡ next_line.line ∷ lines end rest
     line_prefix rest may = grind (arith, append_assoc, lines_cons, free, append-nil, lines_of_last)
@@ -503,7 +449,6 @@ module _ (end : ℕ) (now : Reader) (given : List ℕ) (ls : List (List ℕ))
         (ls ++ next_line.line ∷ [])
     lines_more = grind (arith, common_steps, lines_of_unlines, lines_of_last)
 
--- some complete lines were read after those
 pub lines_block : {end : ℕ} {reader : Reader} {given : List ℕ} {ls : List (List ℕ)}
     → AreReceivedLines end reader given ls → {new : Reader} (more : List (List ℕ))
     → AdvanceOk reader new (unlines end more) → AreLines end more
@@ -512,46 +457,38 @@ lines_block {end} {ls} received more advance_ok are = grind (arith, common_steps
 
 -- ---- the input two blocks earlier
 
--- the complete lines of the input that was read two blocks earlier, or less
-pub record EarlierLines (end : ℕ) (ls : List (List ℕ)) (came : Received) : Type 0 where
-  pub before : LaggedInput came
-  pub whole : known_lines end before.earlier ≡ ls
-
 pub line_take : (end n : ℕ) (bytes : List ℕ) → IsLine end bytes → IsLine end (take n bytes)
 line_take end zero bytes are = tt
 line_take end (suc n) [] are = tt
-line_take end (suc n) (b ∷ bytes) (differs, are) = (differs, line_take end n bytes are)
-
--- the terminator of a line and the buffered bytes after it are at most 8,193 bytes
-pub after_line : {now new : Reader} {before after : Slots} {slot : ℕ} (next_line : FillLine now new before after slot)
-    → IsSound new → length (next_line.terminator ++ new.buffered) ≤ 8193
-after_line {new} next_line sound = grind arith
+line_take end (suc n) (b ∷ bytes) (differs, are) = (differs, line_take end n _ are)
 
 module _ {end : ℕ} {now new : Reader} {given : List ℕ} {ls : List (List ℕ)}
     (received : AreReceivedLines end now given ls)
     {piece : List ℕ} (reads : ReaderAdvance now new piece) (line behind : List ℕ)
     (is : piece ++ new.buffered ≡ line ++ behind) (whole : IsLine end line) (short : length behind ≤ 8193) where
-  -- all but the terminator of a line that was read, and the bytes after it
-  pub before_line : EarlierLines end ls (received_with (given ++ piece) new)
-  before_line = elim received.so_far [
+  -- the output that is decided by all but the terminator of a line that was read, and the bytes after it
+  pub before_line : (tool : ToolSpec) {pushed : List ℕ}
+      → ((came : Received) → known_lines end came ≡ ls → IsPrefix (tool.decided came) pushed)
+      → LaggedOutput tool (received_with (given ++ piece) new) pushed
+  before_line tool decided = elim received.so_far [
     | inl (text, are) ↦ let n = length line - 8191 in record {
-      before = record {
+      before = λ u. record {
         earlier = record { bytes = given ++ take n line; eof = false };
         last = drop n line ++ behind;
         split = grind (arith, append_assoc, take-append-drop n line);
         short = grind (arith, common_steps);
         eof = λ never. absurd (false≢true never);
       };
-      whole = grind (arith, complete_lines_of_unlines, line_take);
+      begins = decided _ (grind (arith, complete_lines_of_unlines, line_take));
     }
     | inr (same, done) ↦ let none = eof_gives_nothing _ _ _ done reads in record {
-      before = record {
+      before = λ u. record {
         earlier = record { bytes = given; eof = true };
         last = [];
         split = cc (append-nil (given ++ []));
         short = omega arith;
         eof = λ e. (stays_at_eof _ _ _ done reads).eof;
       };
-      whole = same;
+      begins = decided _ same;
     }
   ]

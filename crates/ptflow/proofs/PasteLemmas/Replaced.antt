@@ -1,11 +1,10 @@
--- Bytes of which each terminator is replaced, and how the code replaces them: 64 at a time, where the terminators are
--- the bits of a mask, and then byte by byte.
+-- Bytes whose terminators are replaced: 64 at a time, where the terminators are the bits of a mask, then byte by byte.
 use Rattle.ptflow.proofs
-use proofs.Common.{slice_index_or, ◌≡◌, ◌≢◌, ℕ, zero, suc, ◌+◌, ◌-◌, ◌%◌, ◌^◌, ◌==◌, ◌<◌, ◌≤◌, Bool, cond, List, []}
+use proofs.Common.{◌≡◌, ◌≢◌, ℕ, zero, suc, ◌+◌, ◌-◌, ◌%◌, ◌^◌, ◌==◌, ◌<◌, ◌≤◌, Bool, cond, List, []}
 use proofs.Common.{◌∷◌, ◌++◌, length, map, take, drop, get_or, slice_set, refl, sym, ◌∙◌, ap, arith, bit_and, count_by}
 use proofs.Common.{count_ones, mask_l, chunk, mod-add-mod, mod-eq_of_lt, take-add, take_at, take-append-drop}
 use proofs.Common.{take-set-lt, eq-eqb, set-append_right, drop_more, take_more_set, length-set, common_steps, is_byte}
-use proofs.Common.{byte_eq, byte_ne, IsLine, IsNth, length-take-le, length-chunk, length-put_chunk, take_more_put_chunk}
+use proofs.Common.{byte_ne, IsLine, IsNth, length-take-le, length-chunk, length-put_chunk, take_more_put_chunk}
 use proofs.Common.{put_chunk, ones-mask_l, with_replacements, cycle_byte, IsReplacedTo, true, false, Option}
 use proofs.Common.{append_assoc, onto_first, append-nil, append_cancel_right, lines, complete_lines, IsPrefix, Paste}
 use proofs.Common.{delimiter, join_with_cycle, paste_serial_decided, row_rest, option_to_list, None, Some, IsFirstByte}
@@ -32,19 +31,19 @@ module _ (end : ℕ) where
         grind (arith, common_steps, replaced-append (number + 1) xs ys, replaced-append number xs ys)
 
     -- A line contains no terminator, so its bytes stay.
-    pub replaced_line : (number : ℕ) (line rest : List ℕ) → IsLine end line
-        → with_replacements end text_of number (line ++ end ∷ rest)
-        ≡ line ++ (text_of number ++ with_replacements end text_of (number + 1) rest)
-    replaced_line number [] rest free = rw (byte_eq end) refl
-    replaced_line number (b ∷ line) rest (other, free) = cc (byte_ne end b other, replaced_line number line rest free)
-
     pub replaced_none : (number : ℕ) (line : List ℕ) → IsLine end line
         → with_replacements end text_of number line ≡ line
     replaced_none number [] free = refl
     replaced_none number (b ∷ line) (other, free) = cc (byte_ne end b other, replaced_none number line free)
 
+    pub replaced_line : (number : ℕ) (line rest : List ℕ) → IsLine end line
+        → with_replacements end text_of number (line ++ end ∷ rest)
+        ≡ line ++ (text_of number ++ with_replacements end text_of (number + 1) rest)
+    replaced_line number line rest free =
+        grind (arith, common_steps, replaced-append number line (end ∷ rest), replaced_none, none_counted)
+
   -- Only the index in the cycle matters.
-  pub replaced_mod : (text_at : ℕ → List ℕ) (len m n : ℕ) → m % len ≡ n % len → (bytes : List ℕ)
+  replaced_mod : (text_at : ℕ → List ℕ) (len m n : ℕ) → m % len ≡ n % len → (bytes : List ℕ)
       → with_replacements end (λ k. text_at (k % len)) m bytes ≡ with_replacements end (λ k. text_at (k % len)) n bytes
   replaced_mod text_at len m n same [] = refl
   replaced_mod text_at len m n same (b ∷ bytes) =
@@ -62,7 +61,6 @@ module _ (end : ℕ) where
     length-replaced number [] = refl
     length-replaced number (b ∷ bytes) = grind (arith, length-replaced (number + 1) bytes, length-replaced number bytes)
 
-    -- One byte for all terminators.
     pub replaced_by_map : (b : ℕ) → ((n : ℕ) → byte n ≡ b) → (number : ℕ) (bytes : List ℕ)
         → all number bytes ≡ map (λ x. cond (x == end) b x) bytes
     replaced_by_map b same number [] = refl
@@ -76,45 +74,32 @@ module _ (end : ℕ) where
         → take at (all number bytes) ≡ all number (take at bytes)
     take-replaced at number bytes within =
         let front = take at bytes in
-        let long = length-replaced number front ∙ length-take-le at bytes within in
         let rest = all (number + count_by (is_byte end) front) (drop at bytes) in
         cc (
           take-append-drop at bytes,
-          replaced-append (λ n. byte n ∷ []) number front (drop at bytes),
-          take_at (all number front) rest at long,
+          replaced-append _ _ _ _,
+          take_at (all number front) rest at (length-replaced _ _ ∙ length-take-le at bytes within),
         )
 
-    -- The bytes, with their first n terminators replaced.
+    -- Only the first n terminators are replaced.
     abbrev first_replaced : ℕ → ℕ → List ℕ → List ℕ
     first_replaced zero number bytes = bytes
     first_replaced (suc n) number [] = []
     first_replaced (suc n) number (b ∷ bytes) = cond (b == end) (byte number ∷ first_replaced n (number + 1) bytes)
         (b ∷ first_replaced (suc n) number bytes)
 
-    -- One more terminator is replaced.
-    replaced_next : (n number : ℕ) (bytes : List ℕ) (k : ℕ) → IsNth (is_byte end) 0 n bytes k
+    replaced_next : (n number : ℕ) (bytes : List ℕ) (k : ℕ) → k < length bytes
+        → is_byte end (get_or bytes k 0) ≡ true → count_by (is_byte end) (take k bytes) ≡ n
         → slice_set (first_replaced n number bytes) k (byte (number + n)) ≡ first_replaced (suc n) number bytes
-    replaced_next n number [] k (low, test, before) = absurd (omega arith)
-    replaced_next zero number (b ∷ bytes) zero (low, test, before) = grind arith
-    replaced_next (suc m) number (b ∷ bytes) zero (low, test, before) = absurd (omega arith)
-    replaced_next zero number (b ∷ bytes) (suc k) (low, test, before) =
-        let more = λ (e : count_by (is_byte end) (take k bytes) ≡ zero). replaced_next zero number bytes k (
-          omega arith,
-          test,
-          e,
-        ) in
+    replaced_next n number [] k low test before = absurd (omega arith)
+    replaced_next zero number (b ∷ bytes) zero low test before = grind arith
+    replaced_next (suc m) number (b ∷ bytes) zero low test before = absurd (omega arith)
+    replaced_next zero number (b ∷ bytes) (suc k) low test before =
+        let more = replaced_next zero number bytes k (omega arith) test in
         grind (arith, counted b (take k bytes))
-    replaced_next (suc m) number (b ∷ bytes) (suc k) (low, test, before) =
-        let one = λ (e : count_by (is_byte end) (take k bytes) ≡ m). replaced_next m (number + 1) bytes k (
-          omega arith,
-          test,
-          e,
-        ) in
-        let more = λ (e : count_by (is_byte end) (take k bytes) ≡ suc m). replaced_next (suc m) number bytes k (
-          omega arith,
-          test,
-          e,
-        ) in
+    replaced_next (suc m) number (b ∷ bytes) (suc k) low test before =
+        let one = replaced_next m (number + 1) bytes k (omega arith) test in
+        let more = replaced_next (suc m) number bytes k (omega arith) test in
         grind (arith, counted b (take k bytes))
 
     all_replaced : (number : ℕ) (bytes : List ℕ) (n : ℕ) → n ≡ count_by (is_byte end) bytes
@@ -130,9 +115,9 @@ module _ (end : ℕ) where
           number bytes (suc m),
     )
 
--- ---- the terminators of a chunk, replaced one after another
+-- ---- the terminators of a chunk, one by one
 
--- n terminators of the 64 bytes at an index were replaced, and the mask has the others.
+-- Of the 64 bytes at `at`, n terminators were replaced, and `marked` has the others.
 pub record ReplaceInvariant (end : ℕ) (byte : ℕ → ℕ) (first at : ℕ) (from was : List ℕ) (n marked : ℕ)
     (to : List ℕ) : Type 0 where
   pub room : at + 64 ≤ length from
@@ -146,14 +131,13 @@ module _ {end : ℕ} {byte : ℕ → ℕ} where
       → length was ≡ length from → marked ≡ mask_l (map (is_byte end) (chunk at 64 from))
       → ReplaceInvariant end byte first at from was 0 marked (put_chunk at was (chunk at 64 from))
   replace_starts {at = at} {from = from} {was} room same is =
-      let ends = chunk at 64 from in
-      let long = length-chunk at 64 from room in
+      let long = length-chunk at 64 _ room in
       record {
         room = room;
         same = same;
         bits = is;
-        long = cc (length-put_chunk at was ends);
-        is = take_more_put_chunk at was ends (at + 64) (omega arith) (omega arith);
+        long = cc (length-put_chunk at was (chunk at 64 from));
+        is = take_more_put_chunk at was _ _ (omega arith) (omega arith);
       }
 
   module _ {first at : ℕ} {from was : List ℕ} {n marked : ℕ} {to : List ℕ}
@@ -163,29 +147,21 @@ module _ {end : ℕ} {byte : ℕ → ℕ} where
     ends = chunk at 64 from
 
     ends_counted : count_ones mask ≡ count_by (is_byte end) ends
-    ends_counted = cc (ones-mask_l (is_byte end) ends)
+    ends_counted = cc (ones-mask_l _ _)
 
     module _ (some : n < count_ones mask) where
       abbrev bit : ℕ
       bit = count_trailing_zeros 64 marked
 
       nth : IsNth (is_byte end) 0 n ends bit
-      nth = after_set (is_byte end) ends n (omega (arith, length-chunk at 64 from r.room))
+      nth = after_set _ _ n (omega (arith, length-chunk at 64 _ r.room))
           (omega (arith, ends_counted)) r.bits
 
       low : bit < 64
-      low = let (within, _, _) = nth in omega (arith, length-chunk at 64 from r.room)
+      low = let (within, _, _) = nth in omega (arith, length-chunk at 64 _ r.room)
 
       pub end_within : at + bit < length to
       end_within = omega (arith, low)
-
-      -- One byte of the chunk is set. The bytes before it do not change.
-      set_in_chunk : (v : ℕ) → take (at + 64) (slice_set to (at + bit) v)
-          ≡ take at was ++ slice_set (first_replaced end byte n first ends) bit v
-      set_in_chunk v =
-          let there : at + bit - at ≡ bit = omega arith in
-          let front = length-take-le at was (omega arith) in
-          grind (arith, common_steps, take-set-lt, set-append_right)
 
       pub replace_next : {rest put : ℕ} {to' : List ℕ} → marked < 2 ^ 64 → put ≡ byte (first + n)
           → rest ≡ bit_and marked ((marked + (2 ^ 64 - 1)) % 2 ^ 64) → to' ≡ slice_set to (at + bit) put
@@ -195,9 +171,13 @@ module _ {end : ℕ} {byte : ℕ → ℕ} where
           record {
             room = r.room;
             same = r.same;
-            bits = cc (cleared n (map (is_byte end) ends) small r.bits);
+            bits = cc (cleared n _ small r.bits);
             long = cc (length-set to (at + bit) put);
-            is = cc (set_in_chunk put, replaced_next end byte n first ends bit nth);
+            is =
+                let (within, test, before) = nth in
+                let there : at + bit - at ≡ bit = omega arith in
+                let step = replaced_next end byte n first ends bit within test before in
+                grind (arith, common_steps, take-set-lt, set-append_right);
           }
 
     pub replace_end : n ≡ count_ones mask
@@ -212,12 +192,8 @@ ends_in cycle = count_by (is_byte cycle.terminator)
 abbrev copied : Cycle → ℕ → List ℕ → List ℕ
 copied cycle = with_replacements cycle.terminator (cycle_byte cycle)
 
-one_byte : (at : ℕ) (from : List ℕ) → at < length from → take 1 (drop at from) ≡ get_or from at 0 ∷ []
-one_byte at from room = ap (take 1) (drop_more from at 0 room)
-
 module _ {cycle : Cycle} {first index at : ℕ} {from to to' : List ℕ} (long : length to' ≡ length from)
     (r : IsReplacedTo cycle first index at from to) where
-  -- Bytes were replaced from the one at `index` on.
   pub replaced_more : (size : ℕ) {next : ℕ} → at + size ≤ length from
       → next ≡ (index + ends_in cycle (take size (drop at from))) % cycle.len
       → take (at + size) to' ≡ take at to ++ copied cycle index (take size (drop at from))
@@ -227,8 +203,6 @@ module _ {cycle : Cycle} {first index at : ℕ} {from to to' : List ℕ} (long :
       let here = take size (drop at from) in
       let split = take-add at size from in
       let so_far = first + ends_in cycle front in
-      let index_is =
-      mod-eq_of_lt (omega arith) ∙ r.next in
       let count : first + ends_in cycle (take (at + size) from) ≡ so_far + ends_in cycle here =
       grind (arith, common_steps) in
       record {
@@ -236,7 +210,7 @@ module _ {cycle : Cycle} {first index at : ℕ} {from to to' : List ℕ} (long :
         same = long;
         next = cc (mod-add-mod so_far cycle.len (ends_in cycle here));
         is = cc (
-          replaced_mod _ (λ k. get_or cycle.unrolled k 0 ∷ []) _ index so_far index_is
+          replaced_mod _ (λ k. get_or cycle.unrolled k 0 ∷ []) _ index so_far (mod-eq_of_lt (omega arith) ∙ r.next)
               here,
           replaced-append cycle.terminator (cycle_byte cycle) first front here,
         );
@@ -247,9 +221,8 @@ module _ {cycle : Cycle} {first index at : ℕ} {from to to' : List ℕ} (long :
         → next ≡ (index + 1) % cycle.len → to' ≡ slice_set (slice_set to at (get_or from at 0)) at v
         → IsReplacedTo cycle first next (at + 1) from to'
     replaced_terminator is_end is later set =
-        let x = get_or from at 0 in
-        let test = eq-eqb x _ is_end in
-        let one = one_byte at from room in
+        let test = eq-eqb (get_or from at 0) _ is_end in
+        let one = ap (take 1) (drop_more _ at 0 room) in
         replaced_more 1 (omega arith) (cc)
         (grind (arith, common_steps))
 
@@ -258,7 +231,7 @@ module _ {cycle : Cycle} {first index at : ℕ} {from to to' : List ℕ} (long :
     replaced_other other set less =
         let x = get_or from at 0 in
         let test = byte_ne _ x other in
-        let one = one_byte at from room in
+        let one = ap (take 1) (drop_more _ at 0 room) in
         let number : index + ends_in cycle (take 1 (drop at from)) ≡ index =
         grind arith in
         replaced_more 1 (omega arith) (cc (mod-eq_of_lt less))
@@ -266,16 +239,10 @@ module _ {cycle : Cycle} {first index at : ℕ} {from to to' : List ℕ} (long :
 
 -- ---- the rest of a series
 
--- The output of `paste -s` from a position on: the bytes with their terminators replaced, as long as more bytes follow.
--- So the terminator of a line that is the last byte so far is held back.
+-- The output of `paste -s` from a position on: a terminator is replaced if bytes follow, so one at the end is held
+-- back.
 
 module _ (end : ℕ) (delims : List (Option ℕ)) where
-  -- A byte of a line.
-  pub row_byte : (number b : ℕ) (bytes : List ℕ) → (b == end) ≡ false
-      → row_rest end delims number (b ∷ bytes) ≡ b ∷ row_rest end delims number bytes
-  row_byte = grind arith
-
-  -- A terminator, if more bytes follow.
   row_next : (number b : ℕ) (bytes : List ℕ) → (b == end) ≡ true → 0 < length bytes
       → row_rest end delims number (b ∷ bytes) ≡ delimiter delims number ++ row_rest end delims (number + 1) bytes
   row_next number b [] is some = absurd (omega arith)
@@ -288,7 +255,7 @@ module _ (end : ℕ) (delims : List (Option ℕ)) where
       by_test false [] = simp append_assoc
       by_test false (l ∷ ls) = simp append_assoc
 
-  pub row_rest_on : (number : ℕ) (bytes more : List ℕ) → 0 < length more
+  row_rest_on : (number : ℕ) (bytes more : List ℕ) → 0 < length more
       → row_rest end delims number (bytes ++ more) ≡ with_replacements end (delimiter delims) number bytes
       ++ row_rest end delims (number + count_by (is_byte end) bytes) more
   row_rest_on number [] more some = grind arith
@@ -300,19 +267,14 @@ module _ (end : ℕ) (delims : List (Option ℕ)) where
     row_rest_on number bytes more some,
   )
 
-  -- Only the index of the delimiter matters.
-  row_rest_mod : (m n : ℕ) → m % length delims ≡ n % length delims → (bytes : List ℕ)
-      → row_rest end delims m bytes ≡ row_rest end delims n bytes
-  row_rest_mod m n same bytes = grind (arith, joined_mod)
-    where
-      joined_mod : (m n : ℕ) → m % length delims ≡ n % length delims → (ls : List (List ℕ))
-          → join_with_cycle delims m ls ≡ join_with_cycle delims n ls
-      joined_mod m n same [] = refl
-      joined_mod m n same (x ∷ []) = refl
-      joined_mod m n same (x ∷ y ∷ ls) =
-          let len = length delims in
-          let next = sym (mod-add-mod m len 1) ∙ ap (λ k. (k + 1) % len) same ∙ mod-add-mod n len 1 in
-          λ i. x ++ option_to_list (slice_index_or delims (same i) None) ++ joined_mod (m + 1) (n + 1) next (y ∷ ls) i
+  joined_mod : (m n : ℕ) → m % length delims ≡ n % length delims → (ls : List (List ℕ))
+      → join_with_cycle delims m ls ≡ join_with_cycle delims n ls
+  joined_mod m n same [] = refl
+  joined_mod m n same (x ∷ []) = refl
+  joined_mod m n same (x ∷ y ∷ ls) =
+      let len = length delims in
+      let next = sym (mod-add-mod m len 1) ∙ ap (λ k. (k + 1) % len) same ∙ mod-add-mod n len 1 in
+      λ i. x ++ option_to_list (get_or delims (same i) None) ++ joined_mod (m + 1) (n + 1) next (y ∷ ls) i
 
   joined_begins : (number : ℕ) (xs ys : List (List ℕ)) → IsPrefix (join_with_cycle delims number xs)
       (join_with_cycle delims number (xs ++ ys))
@@ -321,7 +283,6 @@ module _ (end : ℕ) (delims : List (Option ℕ)) where
   joined_begins number (x ∷ []) (y ∷ ys) = grind (arith, common_steps)
   joined_begins number (x ∷ z ∷ xs) ys = grind (arith, common_steps, joined_begins (number + 1) (z ∷ xs) ys)
 
--- Two pieces were copied.
 pub copied_more : {format : SerialFormat} {index next last : ℕ} {xs ys before middle after : List ℕ}
     → CopyCellsPost format index xs before next middle → CopyCellsPost format next ys middle last after
     → CopyCellsPost format index (xs ++ ys) before last after
@@ -335,34 +296,31 @@ copied_more {format} {index} {next} {xs = xs} {ys} {before} p q =
     grind (arith, common_steps) in
     record {
       is = cc (
-        replaced-append end (delimiter delims) index xs ys,
-        replaced_mod end (λ k. option_to_list (slice_index_or delims k None)) len next number same ys,
+        replaced-append end _ _ xs ys,
+        replaced_mod end (λ k. option_to_list (get_or delims k None)) len _ _ same ys,
         append_assoc before (with_replacements end (delimiter delims) index xs)
             (with_replacements end (delimiter delims) number ys),
       );
       later = grind (arith, mod-add-mod);
     }
 
--- A line and its delimiter were copied.
 pub line_copied : {format : SerialFormat} (index : ℕ) {next at : ℕ} (rest before : List ℕ) {line text : List ℕ}
     → IsFirstByte (is_byte format.terminator) rest (Some at) → next ≡ (index + 1) % length format.delims.now
     → line ≡ before ++ take at rest → text ≡ line ++ delimiter format.delims.now index
     → CopyCellsPost format index (take (at + 1) rest) before next text
 line_copied {format} index {next} {at} rest before first next_is line_is text_is =
     let end = format.terminator in
-    let head = take at rest in
-    let free = line_before_terminator end rest at first in
-    let one : count_by (is_byte end) (head ++ end ∷ []) ≡ 1 =
+    let free = line_before_terminator end _ at first in
+    let one : count_by (is_byte end) ((take at rest) ++ end ∷ []) ≡ 1 =
     grind (arith, common_steps, counted, none_counted) in
-    rw (take_with_terminator end rest at first) (grind (arith, common_steps, replaced_line, append-nil, append_assoc))
+    rw (take_with_terminator end _ at first) (grind (arith, common_steps, replaced_line, append-nil, append_assoc))
 
--- A piece was copied, and at least one byte follows.
 pub copied_on : {format : SerialFormat} {index : ℕ} {bytes before : List ℕ} {next : ℕ} {after : List ℕ} (more : List ℕ)
     → 0 < length more → CopyCellsPost format index bytes before next after
     → before ++ row_rest format.terminator format.delims.now index (bytes ++ more)
     ≡ after ++ row_rest format.terminator format.delims.now next more
 copied_on more some p =
-    grind (arith, mod-eq_of_lt, mod-lt, row_rest_on, row_rest_mod, append_assoc)
+    grind (arith, mod-eq_of_lt, mod-lt, row_rest_on, joined_mod, append_assoc)
 
 -- The output for the received bytes begins with their complete lines.
 pub serial_is_decided : (job : Paste) (format now : SerialFormat) → format.terminator ≡ job.terminator
@@ -372,14 +330,8 @@ pub serial_is_decided : (job : Paste) (format now : SerialFormat) → format.ter
 serial_is_decided job format now ends are same given pushed cell on =
     let end = format.terminator in
     let delims = format.delims.now in
-    let ls = complete_lines end given in
     let text = join_with_cycle delims 0 (lines end (given ++ [])) in
     let is : text ≡ pushed = append_cancel_right text pushed (end ∷ [])
     (grind arith) in
-    let b = joined_begins end delims 0 ls (lines end ((line_split end given).piece ++ [])) in
+    let b = joined_begins end delims 0 (complete_lines end given) (lines end ((line_split end given).piece ++ [])) in
     rw (← ends, ← are) (grind (arith, common_steps, complete_prefix, append-nil))
-  where
-    row_end : (t : Bool) → row_rest format.terminator format.delims.now cell.index
-        (cond t (format.terminator ∷ []) []) ≡ format.terminator ∷ []
-    row_end true = rw (byte_eq format.terminator) refl
-    row_end false = refl

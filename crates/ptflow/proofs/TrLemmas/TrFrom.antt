@@ -1,17 +1,16 @@
--- The output of `tr` for the rest of a text, and for a text that is cut anywhere. A byte is kept or removed by the last
--- output byte alone, so that byte is the only state, from block to block and within a block.
+-- The output of `tr` for the rest of a text, and for one that is cut anywhere. The last output byte is the only state,
+-- since squeezing looks back no further.
 use Rattle.ptflow.proofs
-use proofs.Common.{common_steps, ◌≡◌, ℕ, ◌-◌, ◌&&◌, not, eqb, Bool, true, false, List, [], ◌∷◌, ◌++◌, Option}
-use proofs.Common.{None, Some, map, length, refl, ap, arith, filter, slice_get, last_or, option_eq, option_or}
+use proofs.Common.{common_steps, ◌≡◌, ℕ, ◌-◌, not, Bool, false, List, [], ◌∷◌, ◌++◌, Option}
+use proofs.Common.{None, Some, length, refl, ap, arith, filter, slice_get, last_or, option_or}
 use proofs.Common.{append-nil, map-append, filter-append, IsPrefix, Tables, deletes, image, squeezes, is_not_repeat}
-use proofs.Common.{squeeze_after, translation, tr, tr_decided, squeeze_from, tr_from, eq-eqb, eqb-true, squeeze}
-use proofs.Common.{BeginsWith, Each1, Fits, w8, suc, ◌<◌, drop, from_bool, get_or, kept_bytes, set, take, EndsWith}
-use proofs.Common.{TrOfAnyParts, TrOfParts, TrAfterByte, TrMeetsTwice, and_right}
+use proofs.Common.{squeeze_after, tr, tr_decided, squeeze_from, tr_from, eq-eqb, squeeze}
+use proofs.Common.{BeginsWith, Each1, Fits, w8, suc, ◌<◌, get_or, EndsWith}
+use proofs.Common.{TrOfAnyParts, TrOfParts, TrAfterByte, TrMeetsTwice}
 use proofs.Vectors.Lanes.{bytes_fit}
 
 module _ (squeezed : ℕ → Bool) where
-  -- a byte that is removed is equal to the last one
-  repeats : (last b : ℕ) → is_not_repeat squeezed (last, b) ≡ false → last ≡ b
+  pub repeats : (last b : ℕ) → is_not_repeat squeezed (last, b) ≡ false → last ≡ b
   repeats last b h = grind arith
 
   after_split : (last : ℕ) (xs ys : List ℕ) → squeeze_after squeezed last (xs ++ ys) ≡ squeeze_after squeezed last xs
@@ -44,39 +43,21 @@ last_is last (b ∷ bytes) =
 -- ---- a block
 
 module _ (t : Tables) where
-  pub rest_nothing : (last : Option ℕ) → tr_from t last [] ≡ []
-  rest_nothing = grind arith
-
-  translated_append : (xs ys : List ℕ) → translation t (xs ++ ys) ≡ translation t xs ++ translation t ys
-  translated_append xs ys = simp (filter-append, map-append)
-
-  -- the output for a block comes first
   pub front_on : (last : Option ℕ) (block rest : List ℕ)
       → tr_from t last (block ++ rest) ≡ tr_from t last block ++ tr_from t (last_or last (tr_from t last block)) rest
-  front_on last block rest = simp (translated_append, from_append, squeezes)
+  front_on last block rest = simp (from_append, filter-append, map-append)
 
-  -- the last output byte of a block is the last one after it
   pub block_on : (last : Option ℕ) {after : Option ℕ} (block : List ℕ) {written : List ℕ} (rest : List ℕ)
       → written ≡ tr_from t last block → after ≡ option_or (slice_get written (length written - 1)) last
       → tr_from t last (block ++ rest) ≡ written ++ tr_from t after rest
   block_on = grind (arith, front_on, last_is)
-
-  -- the output for a block: bytes are deleted, then translated, then squeezed
-  pub passes_make : (last : Option ℕ) (block : List ℕ) {kept mapped written : List ℕ}
-      → kept ≡ filter (λ b. not (deletes t b)) block → mapped ≡ map (image t) kept
-      → written ≡ squeeze_from (squeezes t) last mapped → written ≡ tr_from t last block
-  passes_make last block k m w = cc
-
-  pub block_begins : (last : Option ℕ) (block : List ℕ) {written : List ℕ} (rest : List ℕ)
-      → written ≡ tr_from t last block → IsPrefix written (tr_from t last (block ++ rest))
-  block_begins = grind (arith, front_on)
 
   pub rest_decided : (given pushed : List ℕ) (now : Option ℕ)
       → ((rest : List ℕ) → tr_from t None (given ++ rest) ≡ pushed ++ tr_from t now rest)
       → IsPrefix (tr_decided t (record { bytes = given; eof = false })) pushed
   rest_decided given pushed now on = record {
     rest = [];
-    is = cc (append-nil pushed, rest_nothing now, on [], append-nil given);
+    is = grind (arith, common_steps, on [], append-nil given);
   }
 
 -- ---- nothing is deleted or squeezed
@@ -84,7 +65,7 @@ module _ (t : Tables) where
 after_all : (squeezed : ℕ → Bool) → ((b : ℕ) → squeezed b ≡ false) → (last : ℕ) (bytes : List ℕ)
     → squeeze_after squeezed last bytes ≡ bytes
 after_all squeezed none last [] = refl
-after_all squeezed none last (b ∷ bytes) = grind (arith, after_all squeezed none b bytes, and_right)
+after_all squeezed none last (b ∷ bytes) = grind (arith, after_all squeezed none b bytes)
 
 pub from_all : (squeezed : ℕ → Bool) → ((b : ℕ) → squeezed b ≡ false) → (last : Option ℕ) (bytes : List ℕ)
     → squeeze_from squeezed last bytes ≡ bytes
@@ -97,31 +78,23 @@ filter_all test none (b ∷ bytes) = cc (none b, filter_all test none bytes)
 
 -- ---- a text that is cut anywhere
 
--- the last item of a list that is not empty
 last_of : {X : Type 0} (x : X) (xs : List X) → (last : X) × (last_or (Some x) xs ≡ Some last) × EndsWith last (x ∷ xs)
 last_of x [] = (x, refl, ([], refl))
 last_of x (y ∷ xs) =
     let (last, is, ends) = last_of y xs in
     let (front, split) = ends in (last, is, (x ∷ front, ap (◌∷◌ x) split))
 
--- A byte before the text makes no difference if the text does not begin with it, or it is not squeezed.
-after_two_parts : (squeezed : ℕ → Bool) (last : ℕ) (bytes : List ℕ)
-    → (BeginsWith last (squeeze squeezed bytes) → squeezed last ≡ false)
-    → squeeze_after squeezed last bytes ≡ squeeze squeezed bytes
-after_two_parts = grind (arith, eqb-true)
-
--- bytes after some output
 from_two_parts : (squeezed : ℕ → Bool) (written bytes : List ℕ)
     → ((byte : ℕ) → EndsWith byte written → BeginsWith byte (squeeze squeezed bytes) → squeezed byte ≡ false)
     → squeeze_from squeezed (last_or None written) bytes ≡ squeeze squeezed bytes
 from_two_parts squeezed [] bytes apart = refl
 from_two_parts squeezed (b ∷ written) bytes apart =
     let (last, is, ends) = last_of b written in
-    grind (arith, after_two_parts)
+    grind (arith, common_steps)
 
 pub tr_of_parts : TrOfParts
 tr_of_parts tables a b apart =
-    cc (front_on tables None a b, from_two_parts (squeezes tables) (tr tables a) (translation tables b) apart)
+    cc (front_on _ None a b, from_two_parts _ _ _ apart)
 
 pub tr_of_any_parts : TrOfAnyParts
 tr_of_any_parts = grind (arith, tr_of_parts)
@@ -132,7 +105,6 @@ last_after : {X : Type 0} (o : Option X) (front : List X) (x : X) → last_or o 
 last_after o [] x = refl
 last_after o (y ∷ front) x = last_after (Some y) front x
 
--- one byte that is not deleted and whose image is not squeezed
 one_byte : (tables : Tables) (last : Option ℕ) (byte : ℕ) → deletes tables byte ≡ false
     → squeezes tables (image tables byte) ≡ false → tr_from tables last (byte ∷ []) ≡ image tables byte ∷ []
 one_byte = grind arith
@@ -148,28 +120,11 @@ tr_after_byte tables byte a b (front, ends) kept unsqueezed =
     ) in
     grind (arith, common_steps, tr_of_parts)
 
--- bytes that begin with the byte before them, which is squeezed
-after_same : (squeezed : ℕ → Bool) (last : ℕ) (bytes rest : List ℕ) → squeezed last ≡ true
-    → squeeze squeezed bytes ≡ last ∷ rest → squeeze_after squeezed last bytes ≡ rest
-after_same = grind (arith, eq-eqb)
-
 pub tr_meets_twice : TrMeetsTwice
 tr_meets_twice tables byte a b rest is (front, ends) begins =
-    cc (
-      front_on tables None a b,
-      last_after None front byte,
-      after_same (squeezes tables) byte (translation tables b) rest is begins,
-    )
+    grind (arith, front_on tables None a b, last_after None front byte, eq-eqb)
 
 -- ---- a block of which the first byte was stored, if it is kept
-
-pub first_squeezed : (squeezed : ℕ → Bool) (last : Option ℕ) (from into : List ℕ) {repeats : Bool} {count : ℕ}
-    → 0 < length from → 0 < length into
-    → repeats ≡ (option_eq eqb last (Some (get_or from 0 0)) && squeezed (get_or from 0 0))
-    → count ≡ from_bool (not repeats)
-    → take count (set into 0 (get_or from 0 0)) ++ kept_bytes squeezed from (drop 1 from)
-    ≡ squeeze_from squeezed last from
-first_squeezed = grind (arith, common_steps, repeats)
 
 -- ---- tests that agree on bytes
 
@@ -181,7 +136,7 @@ same_after p q same last (b ∷ bytes) (first, others) = grind (arith, same_afte
 pub same_from : (p q : ℕ → Bool) → ((b : ℕ) → b < 256 → p b ≡ q b) → (last : Option ℕ) (bytes : List ℕ)
     → ((k : ℕ) → Fits w8 (get_or bytes k 0)) → squeeze_from p last bytes ≡ squeeze_from q last bytes
 same_from p q same None [] fit = refl
-same_from p q same None (b ∷ bytes) fit = ap (◌∷◌ b) (same_after p q same b bytes (bytes_fit bytes (λ k. fit (suc k))))
+same_from p q same None (b ∷ bytes) fit = ap (◌∷◌ b) (same_after p q same b _ (bytes_fit _ (λ k. fit (suc k))))
 same_from p q same (Some last) bytes fit = grind (arith, same_after, bytes_fit)
 
 pub ruleset tr_laws = (tr_of_any_parts, tr_of_parts, tr_after_byte, tr_meets_twice)

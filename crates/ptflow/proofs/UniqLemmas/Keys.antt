@@ -1,5 +1,5 @@
--- The key of a line, in one pass. Skipping a field is skipping blanks and then other bytes; doing so n times leads to
--- the byte after the n-th field end.
+-- The key of a line, in one pass: skipping n fields, each of them blanks and then other bytes, leads to the byte after
+-- the n-th field end.
 use Rattle.ptflow.proofs
 use proofs.Common.{◌≡◌, ℕ, zero, suc, ◌+◌, ◌<◌, ◌≤◌, Bool, true, false, cond, min, List, [], ◌∷◌, None, Some, length}
 use proofs.Common.{drop, get_or, refl, sym, ◌∙◌, arith, common_steps, slice_get, option_map_or, drop-drop, IsFirstByte}
@@ -20,7 +20,7 @@ pub suffix_zero : (bytes : List ℕ) → suffix_at 0 bytes ≡ bytes
 suffix_zero [] = refl
 suffix_zero (b ∷ bytes) = refl
 
--- the rest of a line after the n-th field end, where the bytes begin at index i of the line
+-- the rest of `line` after the n-th field end of `bytes`, which begin at index i
 from_end : List ℕ → List ℕ → ℕ → ℕ → List ℕ
 from_end line bytes i n = option_map_or (λ end. drop (end + 1) line) (slice_get (word_ends i bytes) n) []
 
@@ -46,12 +46,10 @@ suffix_is = grind (arith, suffix_zero, from_end_is)
 
 -- ---- field by field
 
--- one field is skipped, and then n more
 suffix_add : (n : ℕ) (bytes : List ℕ) → suffix_at (suc n) bytes ≡ suffix_at n (suffix_at 1 bytes)
 suffix_add n [] = sym (suffix_none n)
-suffix_add n (b ∷ bytes) = grind (arith, suffix_add n bytes, suffix_zero bytes)
+suffix_add n (b ∷ bytes) = grind (arith, suffix_add n bytes)
 
--- the first byte is not a blank
 suffix_other : (b : ℕ) (bytes : List ℕ) → is_blank b ≡ false → suffix_at 1 (b ∷ bytes) ≡ after_nonblanks bytes
 suffix_other b [] other = rw other refl
 suffix_other b (c ∷ bytes) other = search (rules, suffix_other c bytes)
@@ -62,60 +60,46 @@ after_one line = sym (suffix_is 1 line)
 pub suffix_step : (n m : ℕ) (rest : List ℕ) → n ≡ m + 1 → suffix_at n rest ≡ suffix_at m (after_fields 1 rest)
 suffix_step n m rest is =
     let more : n ≡ suc m = omega arith in
-    cc (suffix_add m rest, after_one rest)
+    cc (suffix_add m _, after_one _)
 
 pub other_first : (rest : List ℕ) → 0 < length rest → is_blank (get_or rest 0 0) ≡ false
     → suffix_at 1 rest ≡ after_nonblanks rest
 other_first = grind (arith, common_steps, suffix_other)
 
--- by a search for the first blank
-blank_here : (b : ℕ) (bytes : List ℕ) → is_blank b ≡ true → after_nonblanks (b ∷ bytes) ≡ b ∷ bytes
-blank_here b bytes blank = cc
-
-other_here : (b : ℕ) (bytes : List ℕ) → (is_blank b ≡ true → ⊥) → after_nonblanks (b ∷ bytes) ≡ after_nonblanks bytes
-other_here = grind arith
-
 after_at : (line : List ℕ) (at : ℕ) → at < length line → ((k : ℕ) → k < at → is_blank (get_or line k 0) ≡ true → ⊥)
     → is_blank (get_or line at 0) ≡ true → after_nonblanks line ≡ drop at line
 after_at [] at high none blank = absurd (omega arith)
-after_at (b ∷ bytes) zero high none blank = blank_here b bytes blank
-after_at (b ∷ bytes) (suc at) high none blank = other_here b bytes (none 0 (omega arith))
-    ∙ after_at bytes at (omega arith) (λ k lt. none (suc k) (omega arith)) blank
+after_at (b ∷ bytes) zero high none blank = cc
+after_at (b ∷ bytes) (suc at) high none blank = grind (arith, b, (none 0 (omega arith)))
+    ∙ after_at _ at (omega arith) (λ k lt. none (suc k) (omega arith)) blank
 
 after_none : (line : List ℕ) → ((k : ℕ) → k < length line → is_blank (get_or line k 0) ≡ true → ⊥)
     → after_nonblanks line ≡ []
 after_none [] none = refl
-after_none (b ∷ bytes) none = other_here b bytes (none 0 (omega arith))
+after_none (b ∷ bytes) none = grind (arith, b, (none 0 (omega arith)))
     ∙ after_none bytes (λ k lt. none (suc k) (omega arith))
 
 pub after_first : (line : List ℕ) (r : Option ℕ) → IsFirstByte (is_byte2 32 9) line r
     → after_nonblanks line ≡ drop (unwrap_or r (length line)) line
-after_first line None none = grind (arith, common_steps, after_none, drop_all)
+after_first line None none = grind (arith, after_none, drop_all)
 after_first line (Some at) first = grind (arith, after_at)
 
--- the bytes before an index at which there are no blanks are skipped
 pub blanks_later : (line : List ℕ) (at : ℕ) → at ≤ length line
     → ((k : ℕ) → k < at → is_blank (get_or line k 0) ≡ true → ⊥) → after_nonblanks line ≡ after_nonblanks (drop at line)
 blanks_later line zero high none = refl
 blanks_later [] (suc at) high none = refl
-blanks_later (b ∷ bytes) (suc at) high none = other_here b bytes (none 0 (omega arith))
-    ∙ blanks_later bytes at (omega arith) (λ k lt. none (suc k) (omega arith))
+blanks_later (b ∷ bytes) (suc at) high none = grind (arith, b, (none 0 (omega arith)))
+    ∙ blanks_later _ at (omega arith) (λ k lt. none (suc k) (omega arith))
 
 is_space : (b : ℕ) → (b == 32) ≡ true → is_blank b ≡ true
 is_space b e = cc
 
-is_tab : (b : ℕ) → (b == 9) ≡ true → is_blank b ≡ true
-is_tab b e = grind arith
-
 -- by a search for a space and one for a tab
 module _ (line : List ℕ) (a b : ℕ) (no_space : Nowhere (Passes (is_byte 32) line) 0 a)
     (no_tab : Nowhere (Passes (is_byte 9) line) 0 b) where
-  none_here : (k : ℕ) → k < min a b → is_blank (get_or line k 0) ≡ true → ⊥
-  none_here k lt = grind (arith, common_steps)
-
   pub both_later : min a b ≤ length line → after_nonblanks line ≡ after_nonblanks (drop (min a b) line)
-  both_later high = blanks_later line _ high none_here
+  both_later high = blanks_later _ _ high (λ k lt. grind arith)
 
   pub both_near : {n : ℕ} → (a < n → Passes (is_byte 32) line a) → (b < n → Passes (is_byte 9) line b) → n ≤ length line
       → min a b < n → after_nonblanks line ≡ drop (min a b) line
-  both_near = grind (arith, after_at, none_here, is_tab, is_space)
+  both_near = grind (arith, after_at, is_space)

@@ -1,15 +1,14 @@
--- The runs of lines, from the first line on, and in a block line by line. A run that is continued by the first of some
--- lines is one of their runs with a larger count. A line either has the key of the run before it, and adds to its count
--- with its copies, or ends it. Output that is contiguous in the block is deferred, so the pushed bytes and the deferred
--- ones together are the output so far.
+-- The runs of lines, from the first line on, and in a block line by line. A line adds to the count of the current run
+-- or ends it. Output that is contiguous in the block is deferred, so the output so far is the pushed bytes and then the
+-- deferred ones.
 use Rattle.ptflow.proofs
 use proofs.Common.{◌≡◌, ℕ, ◌+◌, ◌&&◌, Bool, true, false, cond, List, [], ◌∷◌, ◌++◌, refl, ap, arith, common_steps}
 use proofs.Common.{nat_lt, append-nil, bytes_eq-Decides, IsPrefix, Uniq, Run, key, is_same, cons_run, runs}
 use proofs.Common.{output_of, init, run_of, current_run, runs_from, runs_after, run_output, ◌-◌, ◌<◌, ◌≤◌, Some, None}
 use proofs.Common.{Option, length, take, drop, subst, append_assoc, length-append, bytes_eq, slice_range, drop_split}
-use proofs.Common.{length-drop, take_at, drop_at, IsFirstByte, is_byte, Output, PushEffect, unlines, complete_lines}
+use proofs.Common.{length-drop, drop_at, IsFirstByte, is_byte, Output, PushEffect, unlines, complete_lines}
 use proofs.Common.{IsLine, unlines_push, complete_lines_none, has_output, RunsWritten, RunsFailed}
-use proofs.Common.{span_of, IsSpan, IsPending, sym, ◌∙◌, swap, is_some, known_lines, Slots, line, line_if_not_found}
+use proofs.Common.{span_of, IsSpan, IsPending, sym, ◌∙◌, is_some, known_lines, line, line_if_not_found}
 use proofs.Common.{uniq_tool, IsLineFilter, first_line, current_run_of, count_of, rules, ◌⊎◌, inl, inr, ⊎_elim, filter}
 use proofs.Common.{AllByRecursion, cases_Bool, the_lines_of_parts, lines-unlines, lines_are, BeginsWith, EndsWith}
 use proofs.Common.{HasGroupedKeys, UniqOfParts, UniqByKey}
@@ -50,7 +49,6 @@ module _ (job : Uniq) where
       → cons_run job line (runs_from job (run_of l 1) ls) ≡ chosen l ls line 1 t
   onto_first_run = grind (arith, bytes_eq-Decides)
 
-  -- the runs of a list of lines, from its first line
   pub runs_are : (line : List ℕ) (ls : List (List ℕ)) → runs job (line ∷ ls) ≡ runs_from job (run_of line 1) ls
   runs_are line [] = refl
   runs_are line (l ∷ ls) = grind (arith, onto_first_run, first, runs_are l ls)
@@ -67,7 +65,6 @@ module _ (job : Uniq) where
   pub entries-append : (xs ys : List Run) → output_of job (xs ++ ys) ≡ output_of job xs ++ output_of job ys
   entries-append xs ys = grind (arith, common_steps)
 
--- the output of one run
 pub current_run_is : (job : Uniq) (run : Run)
     → output_of job (current_run run) ≡ run_output job.show run.count (run.line ++ job.terminator ∷ [])
 current_run_is job run = grind (arith, common_steps)
@@ -77,14 +74,14 @@ current_run_is job run = grind (arith, common_steps)
 init_push : (rs : List Run) (run : Run) → init (rs ++ run ∷ []) ≡ rs
 init_push [] run = refl
 init_push (r ∷ []) run = refl
-init_push (r ∷ q ∷ rs) run = ap (◌∷◌ r) (init_push (q ∷ rs) run)
+init_push (r ∷ q ∷ rs) run = ap (◌∷◌ r) (init_push _ run)
 
 init_prefix : (rs : List Run) → (last : List Run) × (rs ≡ init rs ++ last)
 init_prefix [] = ([], refl)
 init_prefix (r ∷ []) = (r ∷ [], refl)
-init_prefix (r ∷ q ∷ rs) = let (last, is) = init_prefix (q ∷ rs) in (last, ap (◌∷◌ r) is)
+init_prefix (r ∷ q ∷ rs) = let (last, is) = init_prefix _ in (last, ap (◌∷◌ r) is)
 
--- all runs but the current one were written, or all but the last of them
+-- `init` leaves out the current run, or if there is none, the last one that was written
 pub init_current : (job : Uniq) (passed : List Run) (run : Run)
     → IsPrefix (output_of job (init (passed ++ current_run run))) (output_of job passed)
 init_current job passed run = by_test (nat_lt 0 run.count)
@@ -116,38 +113,31 @@ module _ {end : ℕ} {block rest : List ℕ} {front : List (List ℕ)} (lies : B
   front_few : length front + length rest ≤ length block
   front_few = omega (arith, front_size, text_long end front)
 
-  passed_is : length block - length rest ≡ length (unlines end front)
+  pub passed_is : length block - length rest ≡ length (unlines end front)
   passed_is = omega (arith, front_size)
-
-  front_drop : drop (length block - length rest) block ≡ rest
-  front_drop = grind (arith, passed_is, drop_at)
 
   module _ (at : ℕ) (first : IsFirstByte (is_byte end) rest (Some at)) where
     front_more : BlockPrefix end block (drop (at + 1) rest) (front ++ take at rest ∷ [])
     front_more = grind (arith, ended_next, append_assoc, split_of, unlines_push)
 
-    -- the next line
     module _ (from to : ℕ) (from_is : from ≡ to - at - 1)
         (to_is : to ≡ length block - length (drop (at + 1) rest)) where
       starts : (from ≡ length block - length rest) × (to ≡ from + at + 1)
       starts = omega (arith, front_size, length-drop (at + 1) rest)
 
       next_is : slice_range block from (to - 1) ≡ take at rest
-      next_is = grind (arith, starts, front_drop)
+      next_is = grind (arith, starts, passed_is, drop_at)
 
 -- ---- deferred output
 
--- adjacent ranges are one range
 span_join : {block : List ℕ} {a b : Span} → IsSpan block a → IsSpan block b → a.to ≡ b.from
     → span_of block (record { from = a.from; to = b.to }) ≡ span_of block a ++ span_of block b
 span_join {block} {a} {b} fits next touch =
-    let front = span_of block a in
     let back = span_of block b in
-    let split : drop a.from block ≡ (front ++ back) ++ drop b.to block =
+    let split : drop a.from block ≡ ((span_of block a) ++ back) ++ drop b.to block =
     grind (arith, common_steps, drop_split) in
     grind (arith, common_steps)
 
--- the first line of a run that has output is in the block
 module _ (job : Uniq) (first : List ℕ) (count : ℕ) {block : List ℕ} {line : Option Span} {l pending : Span}
     (pre : EndRunPre job.terminator block line pending) (is : line ≡ Some l)
     (shown : has_output job.show count ≡ true) where
@@ -157,7 +147,6 @@ module _ (job : Uniq) (first : List ℕ) (count : ℕ) {block : List ℕ} {line 
   pub due_is : run_text job (run_of (first_of first block line) count) ≡ count_prefix job.show count ++ span_of block l
   due_is = grind (arith, current_run_is)
 
-  -- the line follows the deferred output
   pub pending_joined : {out : Output} → pending.to ≡ l.from → count_prefix job.show count ≡ []
       → IsPending (span_of block pending ++ run_text job (run_of (first_of first block line) count)) block
       (record { from = pending.from; to = l.to }) out out
@@ -181,7 +170,7 @@ module _ {bytes block : List ℕ} {pending : Span} {was is : Output} (waits : Is
 
 -- ---- runs one after another
 
--- These lines were processed: some runs ended, and the current run is `after`.
+-- After these lines the runs `passed` ended, and `after` is the current one.
 pub record RunSteps (job : Uniq) (before after : Run) (ls : List (List ℕ)) (passed : List Run) : Type 0 where
   pub on : (more : List (List ℕ)) → runs_after job before (ls ++ more) ≡ passed ++ runs_after job after more
   pub count : after.count ≤ before.count + length ls
@@ -200,12 +189,12 @@ module _ {job : Uniq} {before after : Run} {ls : List (List ℕ)} {passed : List
     -- one line more, of the current run
     pub steps_more : (nat_lt 0 after.count && is_same job after.line line) ≡ true
         → RunSteps job before (run_of after.line (after.count + 1)) (ls ++ line ∷ []) passed
-    steps_more same = grind (arith, common_steps, one_more, steps, length-append)
+    steps_more same = grind (arith, common_steps, one_more, steps)
 
     -- one that ends it
     pub steps_next : (nat_lt 0 after.count && is_same job after.line line) ≡ false
         → RunSteps job before (run_of line 1) (ls ++ line ∷ []) (passed ++ current_run after)
-    steps_next other = grind (arith, common_steps, one_more, runs_after_next, append_assoc)
+    steps_next other = grind (arith, common_steps, one_more, runs_after_next)
 
   module _ {was is : Output} (wrote : PushEffect was is (output_of job passed)) where
     pub steps_written : {all : List (List ℕ)} → all ≡ ls → (was.write_failed ≡ false → is.write_failed ≡ false)
@@ -219,7 +208,7 @@ module _ {job : Uniq} {before after : Run} {ls : List (List ℕ)} {passed : List
       some = grind arith;
     }
 
-    -- a write failed before these lines
+    -- a write failed before the lines `later`
     pub steps_failed : {all : List (List ℕ)} (later : List (List ℕ)) → all ≡ ls ++ later → is.write_failed ≡ true
         → RunsFailed job before all was is
     steps_failed later split fault = record {
@@ -234,7 +223,7 @@ module _ {job : Uniq} {before after : Run} {ls : List (List ℕ)} {passed : List
 
 -- ---- between two lines of a block
 
--- These lines were processed. The output of the runs that ended was pushed, but for the deferred part.
+-- The output of the runs that ended was pushed, but for the deferred part.
 pub record RunsInvariant (job : Uniq) (first block rest : List ℕ) (start count : ℕ) (line : Option Span)
     (pending : Span) (run_key : List ℕ) (was is : Output) : Type 0 where
   pub front : List (List ℕ)
@@ -249,11 +238,11 @@ pub record RunsInvariant (job : Uniq) (first block rest : List ℕ) (start count
 pub runs_loop_starts : (job : Uniq) (first block : List ℕ) {start : ℕ} → 0 < start → {run_key : List ℕ}
     → run_key ≡ key job first → (was : Output)
     → RunsInvariant job first block block start start None (record { from = 0; to = 0 }) run_key was was
-runs_loop_starts job first block {start} some run_key_is was = record {
+runs_loop_starts job first _ {start} some run_key_is was = record {
   front = [];
   lies = record { lines = refl; bytes = refl };
   passed = [];
-  steps = steps_none job (run_of first start);
+  steps = steps_none job _;
   waits = grind (arith, common_steps);
   run_key_is = run_key_is;
   ready = grind arith;
@@ -263,9 +252,6 @@ runs_loop_starts job first block {start} some run_key_is was = record {
 module _ {job : Uniq} {first block rest : List ℕ} {start count : ℕ} {line : Option Span} {pending : Span}
     {run_key : List ℕ} {was is : Output}
     (so_far : RunsInvariant job first block rest start count line pending run_key was is) where
-  pub runs_loop_left : length rest ≤ length block
-  runs_loop_left = omega (arith, front_few so_far.lies)
-
   pub runs_loop_few : count + length rest ≤ start + length block
   runs_loop_few = omega (arith, front_few so_far.lies)
 
@@ -292,9 +278,8 @@ module _ {job : Uniq} {first block rest : List ℕ} {start count : ℕ} {line : 
       abbrev run : Run
       run = run_of (first_of first block line) count
 
-      -- the output of the run comes after that of the runs before it
       entries : output_of job (so_far.passed ++ current_run run) ≡ output_of job so_far.passed ++ run_text job run
-      entries = entries-append job so_far.passed (current_run run)
+      entries = entries-append job _ _
 
       steps : RunSteps job (run_of first start) (run_of (take at rest) 1) (so_far.front ++ take at rest ∷ [])
           (so_far.passed ++ current_run run)
@@ -317,7 +302,6 @@ module _ {job : Uniq} {first block rest : List ℕ} {start count : ℕ} {line : 
             some = omega arith;
           }
 
-      -- a write failed
       pub runs_loop_failed : {is' : Output} → PushEffect is is' (span_of block pending ++ run_text job run)
           → is'.write_failed ≡ true
           → RunsFailed job (run_of first start) (complete_lines job.terminator block) was is'
@@ -327,34 +311,16 @@ module _ {job : Uniq} {first block rest : List ℕ} {start count : ℕ} {line : 
 
   -- no complete line is left
   module _ (none : IsLine job.terminator rest) {is' : Output} (wrote : PushEffect is is' (span_of block pending)) where
-    all_lines : complete_lines job.terminator block ≡ so_far.front
+    pub all_lines : complete_lines job.terminator block ≡ so_far.front
     all_lines = grind (arith, complete_lines_none, append-nil)
-
-    all_wrote : PushEffect was is' (output_of job so_far.passed)
-    all_wrote = rw so_far.waits.all at (wrote_then _ _ _ so_far.waits.wrote wrote)
-
-    pub running_done : is'.write_failed ≡ false
-        → RunsWritten job (run_of first start) (run_of (first_of first block line) count)
-        (complete_lines job.terminator block) was is'
-    running_done clean = steps_written so_far.steps all_wrote all_lines (λ _. clean)
 
     pub running_unended : is'.write_failed ≡ true
         → RunsFailed job (run_of first start) (complete_lines job.terminator block) was is'
-    running_unended fault = search (rules, steps_failed, all_wrote)
-
-    pub runs_loop_passed : take (length block - length rest) block
-        ≡ unlines job.terminator (complete_lines job.terminator block)
-    runs_loop_passed = grind (arith, all_lines, passed_is, take_at)
+    running_unended fault = search (rules, steps_failed, rw so_far.waits.all at (wrote_then _ _ _ so_far.waits.wrote wrote))
 
 -- ---- the current run
 
--- after the first two slots were swapped
-pub swapped_first : (store : Slots) {after : Slots} → 1 < length store.lines
-    → after ≡ record store { lines = swap store.lines 0 1 } → line after 0 ≡ line store 1
-swapped_first store slots is = grind (arith, common_steps)
-
--- `uniq` is a line tool: the first of two slots may hold the first line of the current run, and the decided output
--- leaves out that run.
+-- The first of two slots may hold the first line of the current run, which the decided output leaves out.
 pub uniq_line_tool : {S : Type 0} (job : Uniq) (run : S → CurrentRun) (start : S) → (run start).count ≡ 0
     → IsLineFilter (uniq_tool job) (λ now. current_run_of (run now)) (runs_after job) (output_of job) count_of 2 start
 uniq_line_tool job run start none = record {
@@ -366,7 +332,7 @@ uniq_line_tool job run start none = record {
       let ls = known_lines job.terminator given in
       let all = ap (runs job) (sym (append-nil ls))
       ∙ ap (λ n. runs_after job (run_of (first_line (run start) store) n) (ls ++ [])) (sym none) ∙ on [] in
-      rw all (init_current job passed now);
+      rw all (init_current job _ now);
   size = λ bytes. refl;
   slots = refl;
   some = omega arith;
@@ -391,10 +357,9 @@ module _ {job : Uniq} {first block : List ℕ} {start : ℕ} {line : Option Span
   runs_loop_again zero rest so_far = grind arith
   runs_loop_again (suc n) rest {count} so_far =
       let bytes = l ++ job.terminator ∷ [] in
-      let once = counted_once (repeated n bytes ++ rest) (rw (append_assoc bytes (repeated n bytes) rest) at so_far) in
-      grind (arith, runs_loop_again n rest once)
+      let once = counted_once _ (rw (append_assoc bytes (repeated n bytes) rest) at so_far) in
+      grind (arith, runs_loop_again n _ once)
 
--- a line with the key of the run, and lines that repeat it
 pub runs_loop_repeats : {job : Uniq} {first block rest : List ℕ} {start count : ℕ} {line : Option Span} {pending : Span}
     {run_key : List ℕ} {was is : Output}
     → RunsInvariant job first block rest start count line pending run_key was is → {at : ℕ}
@@ -409,7 +374,6 @@ runs_loop_repeats {job} {rest = rest} {run_key = run_key} so_far {at} found key_
     let again = runs_loop_again (take at rest) (line_before_terminator job.terminator rest at found) own n left in
     grind (arith, again (rw split at (runs_loop_more so_far found key_is tested is_true)))
 
--- a block has no complete line
 pub not_found : (end : ℕ) (block : List ℕ) (r : Option ℕ) → IsFirstByte (is_byte end) block r → is_some r ≡ false
     → complete_lines end block ≡ []
 not_found end block None none said = grind (arith, complete_lines_none, line_if_not_found)
@@ -417,14 +381,12 @@ not_found end block (Some at) first said = cc
 
 -- ---- inputs in parts
 
--- `uniq` for a text that is cut between two runs, or whose lines are distributed by their keys. Lines with different
--- keys are in different runs, so no run is cut or merged.
+-- Lines with different keys are in different runs, so no run is cut or merged.
 
 module _ (job : Uniq) where
   other_key : (a b : List ℕ) → key job a ≢ key job b → is_same job a b ≡ false
   other_key a b differ = grind (arith, bytes_eq-Decides)
 
-  -- a line before some runs is the line of the first run
   onto_is : (line : List ℕ) (rs : List Run)
       → (count : ℕ) × (more : List Run) × (cons_run job line rs ≡ run_of line count ∷ more)
   onto_is line [] = (1, [], refl)
@@ -436,7 +398,6 @@ module _ (job : Uniq) where
       by_test true = (run.count + 1, more, refl)
       by_test false = (1, run ∷ more, refl)
 
-  -- the runs of lines, and of lines after them that begin with another key
   runs-append : (xs ys : List (List ℕ))
       → ((last first : List ℕ) → EndsWith last xs → BeginsWith first ys → key job last ≢ key job first)
       → runs job (xs ++ ys) ≡ runs job xs ++ runs job ys
@@ -454,7 +415,6 @@ uniq_of_parts job a b whole change = simp (the_lines_of_parts, runs-append, entr
 
 -- ---- lines that are distributed by their keys
 
--- a fact about all items is one about those that pass a test
 all_filter : {X : Type 0} (P : X → Type 0) (test : X → Bool) (xs : List X) → AllByRecursion P xs
     → AllByRecursion P (filter test xs)
 all_filter P test [] all = tt
@@ -467,7 +427,6 @@ module _ (job : Uniq) (taken : List ℕ → Bool) where
   abbrev run_taken : Run → Bool
   run_taken run = taken (key job run.line)
 
-  -- a fact about all lines is one about the lines of their runs
   all_runs : (P : List ℕ → Type 0) (ls : List (List ℕ)) → AllByRecursion P ls
       → AllByRecursion (λ run. P run.line) (runs job ls)
   all_runs P [] all = tt
@@ -478,20 +437,9 @@ module _ (job : Uniq) (taken : List ℕ → Bool) where
       → filter run_taken (cons_run job x rs) ≡ filter run_taken rs
   onto_dropped = grind (arith, bytes_eq-Decides)
 
-  -- a line of the part before a run of its key
   onto_same : (x : List ℕ) (r : Run) (rs : List Run) → line_taken x ≡ true → key job x ≡ key job r.line
       → cons_run job x (filter run_taken (r ∷ rs)) ≡ filter run_taken (cons_run job x (r ∷ rs))
   onto_same = grind arith
-
-  -- a line before runs of other keys
-  onto_other : (x : List ℕ) (rs : List Run) → AllByRecursion (λ run. key job x ≢ key job run.line) rs
-      → cons_run job x rs ≡ run_of x 1 ∷ rs
-  onto_other = grind (arith, other_key)
-
-  onto_apart : (x : List ℕ) (rs : List Run) → line_taken x ≡ true
-      → AllByRecursion (λ run. key job x ≢ key job run.line) rs
-      → cons_run job x (filter run_taken rs) ≡ filter run_taken (cons_run job x rs)
-  onto_apart = grind (arith, onto_other, all_filter)
 
   runs_taken : (ls : List (List ℕ)) → HasGroupedKeys job ls
       → runs job (filter line_taken ls) ≡ filter run_taken (runs job ls)
@@ -506,7 +454,7 @@ module _ (job : Uniq) (taken : List ℕ → Bool) where
       kept is (inl (next, (later, begins), same)) =
           let (count, more, onto) = onto_is job next (runs job later) in
           cc (onto_same x (run_of next count) more is same)
-      kept is (inr others) = onto_apart x (runs job ls) is (all_runs (λ other. key job x ≢ key job other) ls others)
+      kept is (inr others) = grind (arith, all_filter, other_key, x, is, (all_runs (λ other. key job x ≢ key job other) ls others))
 
 pub uniq_by_key : UniqByKey
 uniq_by_key = grind (arith, lines-unlines, all_filter, lines_are, runs_taken)

@@ -1,25 +1,24 @@
--- Compression. A row has the indices of the set flags of a mask, in order; a shuffle by it moves the selected lanes to
--- the front, and a mask of 16 flags is handled as two of eight. Then the bytes that a filter keeps. Each byte is kept
--- or removed by itself and the byte that it is compared with, so a text can be processed in pieces, one after another;
--- a piece is kept whole if all bits of its mask are set.
+-- Compression: a row has the indices of the set flags of a mask, in order, so a shuffle by it moves the selected lanes
+-- to the front. Then filters: a byte is kept or removed by itself and the byte that it is compared with, so a text can
+-- be processed in pieces.
 use Rattle.ptflow.proofs
 use proofs.Common.{common_steps, ◌≡◌, ℕ, zero, suc, ◌+◌, ◌*◌, ◌^◌, ◌/◌, ◌%◌, ◌<◌, ◌≤◌, Bool, true, false, cond, List, ℤ}
 use proofs.Common.{[], ◌∷◌, ◌++◌, map, length, take, drop, set, get_or, length-drop, drop-cons, append_assoc, add-one}
-use proofs.Common.{refl, sym, ◌∙◌, ap, arith, w8, All, nat_eq, range_with_len, mask_l, put_chunk, chunk, pick_l}
-use proofs.Common.{Each1, take_more_put_chunk, bit_mask_l, mask_l-lt, Each1-from_get_or, swz_l, ones-mask_l_cons, ◌&&◌}
+use proofs.Common.{length-append}
+use proofs.Common.{refl, ap, arith, w8, All, nat_eq, range_with_len, mask_l, put_chunk, chunk, pick_l}
+use proofs.Common.{Each1, take_more_put_chunk, bit_mask_l, mask_l-lt, Each1-from_get_or, swz_l, ones-mask_l_cons}
 use proofs.Common.{pick_l-range_with_len, take-map, take-append-le, drop-append-le, length-take-le, take-append-add}
-use proofs.Common.{length-range_with_len, get_or-range_with_len, and_numeral, pow-succ', select_by, not, eqb}
+use proofs.Common.{length-range_with_len, get_or-range_with_len, and_numeral, select_by, not, eqb}
 use proofs.Common.{true_indices, IsCompressRow, IsCompressTable, filter, append-nil, take-append-drop, take-add, zip2}
-use proofs.Common.{drop-drop, drop_all, length-chunk, mask_l-mod, length-zip2, bit_and, top, cast_unsigned, mask_of}
+use proofs.Common.{drop-drop, drop_all, length-chunk, length-zip2, bit_and, top, cast_unsigned, mask_of}
 use proofs.Common.{is_not_repeat, keep_flags, kept_bytes, FilterPre, bit_or, ◌-◌, rules}
-use proofs.Vectors.Lanes.{lanes_of, tops_of_lanes}
+pub use proofs.Vectors.Lanes.{shuffle_result}
 use Rattle.std.specs.Prelude.{slice_index_or, count_ones}
 use Rattle.ptlines.proofs.MatchMasks.{mask_append}
 use Rattle.std.proofs.lemmas.Nat.{and_le_l, and_le_r, le_or_l, le_or_r}
 
 -- ---- items that are selected by flags
 
--- the number of selected items is the number of set bits in the mask
 pub length-select_by : {X : Type 0} (flags : List Bool) (xs : List X) → length flags ≤ length xs
     → length (select_by flags xs) ≡ count_ones (mask_l flags)
 unfolding lib.Count.ones
@@ -37,7 +36,6 @@ map-select_by f (flag ∷ flags) [] = refl
 map-select_by f (true ∷ flags) (x ∷ xs) = ap (◌∷◌ (f x)) (map-select_by f flags xs)
 map-select_by f (false ∷ flags) (x ∷ xs) = map-select_by f flags xs
 
--- items after the last flag are not selected
 select_by_prefix : {X : Type 0} (flags : List Bool) (xs : List X)
     → select_by flags (take (length flags) xs) ≡ select_by flags xs
 select_by_prefix [] xs = refl
@@ -54,7 +52,6 @@ select_by_append (false ∷ front) back (x ∷ xs) = select_by_append front back
 
 -- ---- the mask of flags
 
--- the flags of a mask
 abbrev pub flags_of : ℕ → ℕ → List Bool
 flags_of zero m = []
 flags_of (suc n) m = nat_eq (m % 2) 1 ∷ flags_of n (m / 2)
@@ -69,24 +66,17 @@ mask_of_flags (suc n) m low = grind (arith, mask_of_flags n (m / 2))
 
 -- ---- lanes by their indices
 
--- lanes at indices below 16
-pub shuffle_result : (v : List ℕ) (i : ℕ) (row : List ℕ) → i + length row ≤ 16 → Each1 (λ place. place < 16) row
-    → swz_l w8 16 v i row ≡ pick_l 0 v row
-shuffle_result v i [] room lanes = refl
-shuffle_result v i (j ∷ js) room (low, lanes) = grind (arith, shuffle_result v (suc i) js)
-
 pub row_lanes : (row : List ℕ) → All (λ index. index < 16) row → Each1 (λ index. index < 16) row
 row_lanes row lanes = Each1-from_get_or (λ index. index < 16) row 0 (λ i low. lanes i 0 low)
 
--- the row of a mask
 pub row_of_mask : (rows : List (List ℕ)) (mask : ℕ) → IsCompressTable rows → mask < 256
     → IsCompressRow (flags_of 8 mask) (slice_index_or rows mask [])
 row_of_mask rows mask packing low = rw (mask_of_flags 8 _ low) at (packing (flags_of 8 mask) (length-flags_of 8 mask))
 
--- a shuffle by the row moves the selected lanes to the front
-pub row_selects : {flags : List Bool} {row : List ℕ} (v : List ℕ) → length flags ≤ length v → IsCompressRow flags row
-    → take (count_ones (mask_l flags)) (swz_l w8 16 v 0 row) ≡ select_by flags v
-row_selects {flags} {row} v room is =
+pub row_selects : (flags : List Bool) (rows : List (List ℕ)) {mask : ℕ} (v : List ℕ) → length v ≡ 16
+    → IsCompressTable rows → length flags ≡ 8 → mask ≡ mask_l flags
+    → take (count_ones mask) (swz_l w8 16 v 0 (slice_index_or rows mask [])) ≡ select_by flags v
+row_selects flags rows v wide table long is =
     grind (
       arith,
       length-select_by,
@@ -99,7 +89,6 @@ row_selects {flags} {row} v room is =
       select_by_prefix,
     )
 
--- the selected lanes are stored at an index
 pub selected_stored : (at n : ℕ) (into lanes : List ℕ) → length lanes ≡ 16 → n ≤ 16 → at + 16 ≤ length into
     → take (at + n) (put_chunk at into lanes) ≡ take at into ++ take n lanes
 selected_stored at n into lanes long few room =
@@ -112,7 +101,7 @@ selected_stored at n into lanes long few room =
 
 -- ---- the row of a mask, index by index
 
--- the indices below `index` were tested, and `count` of them written to the row
+-- the indices below `place` were tested, and `count` of them written to the row
 pub record RowPrefix (mask place count : ℕ) (row : List ℕ) : Type 0 where
   pub behind : count ≤ place
   pub lanes : All (λ p. p < 16) row
@@ -120,15 +109,13 @@ pub record RowPrefix (mask place count : ℕ) (row : List ℕ) : Type 0 where
   pub indices : (flags : List Bool) → length flags ≡ 8 → mask ≡ mask_l flags
       → take count row ≡ select_by (take place flags) (range_with_len 0 8)
 
--- one flag more
 next_place : (flags : List Bool) {place : ℕ} → length flags ≡ 8 → place < 8
     → select_by (take (place + 1) flags) (range_with_len 0 8) ≡ select_by (take place flags) (range_with_len 0 8)
     ++ cond (get_or flags place false) (place ∷ []) []
 next_place flags {place} long low =
     let indices = range_with_len 0 8 in
-    let front = take place flags in
     let here : 0 + place ≡ place = omega arith in
-    let behind : drop (length front) indices ≡ place ∷ drop (place + 1) indices =
+    let behind : drop (length (take place flags)) indices ≡ place ∷ drop (place + 1) indices =
     cc (
       length-take-le place flags (omega arith),
       drop-cons indices place 0 (omega arith),
@@ -153,32 +140,48 @@ row_complete {count} {row} {flags} long masked begun =
 pub mask_below : (flags : List Bool) → length flags ≡ 8 → mask_l flags < 256
 mask_below flags long = rw long at (mask_l-lt flags)
 
-halves : (front back : List Bool) → length front ≡ 8 → mask_l (front ++ back) ≡ mask_l front + 256 * mask_l back
-halves front back long = cc (mask_append front back)
+module _ (flags : List Bool) (long : length flags ≡ 16) where
+  pub front_long : length (take 8 flags) ≡ 8
+  front_long = length-take-le 8 flags (omega (arith, long))
 
-pub low_half : (front back : List Bool) → length front ≡ 8 → bit_and (mask_l (front ++ back)) 255 ≡ mask_l front
-low_half front back long = omega (arith, and_numeral, halves, mask_below)
+  pub back_long : length (drop 8 flags) ≡ 8
+  back_long = omega (arith, length-drop 8 flags, long)
 
-pub high_half : (front back : List Bool) → length front ≡ 8 → length back ≡ 8
-    → bit_and (mask_l (front ++ back) / 256) 255 ≡ mask_l back
-high_half front back long others = omega (arith, and_numeral, halves, mask_below)
+  halves : mask_l flags ≡ mask_l (take 8 flags) + 256 * mask_l (drop 8 flags)
+  halves = cc (mask_append (take 8 flags) (drop 8 flags), take-append-drop 8 flags, front_long)
 
--- of lanes that are rotated by eight, the flags select what they select of the last eight
-select_rotated : (flags : List Bool) (v turned : List ℕ) → length flags ≡ 8 → length v ≡ 16
-    → take 8 turned ≡ chunk 8 8 (v ++ v) → select_by flags turned ≡ select_by flags (drop 8 v)
-select_rotated flags v turned long lanes is =
-    cc (
-      select_by_prefix flags turned,
-      drop-append-le 8 v v (omega (arith, lanes)),
-      take-append-le 8 (drop 8 v) v (omega (arith, length-drop 8 v, lanes)),
-      select_by_prefix flags (drop 8 v),
-    )
+  pub low_half : {keep : ℕ} → keep ≡ mask_l flags → bit_and keep 255 ≡ mask_l (take 8 flags)
+  low_half is = omega (arith, and_numeral, halves, mask_below (take 8 flags) front_long)
 
-pub select_by_halves : (front back : List Bool) (before v turned : List ℕ) → length front ≡ 8 → length back ≡ 8
-    → length v ≡ 16 → take 8 turned ≡ chunk 8 8 (v ++ v)
-    → (before ++ select_by front v) ++ select_by back turned ≡ before ++ select_by (front ++ back) v
-select_by_halves front back before v turned few others lanes is =
-    grind (arith, append_assoc, select_by, select_rotated, select_by_append)
+  pub high_half : {keep : ℕ} → keep ≡ mask_l flags → bit_and (keep / 256) 255 ≡ mask_l (drop 8 flags)
+  high_half is = omega (
+    arith,
+    and_numeral,
+    halves,
+    mask_below (take 8 flags) front_long,
+    mask_below (drop 8 flags) back_long,
+  )
+
+  -- what is selected of the first eight lanes, and, after a rotation, of the last eight
+  pub select_by_halves : (before v : List ℕ) → length v ≡ 16
+      → (before ++ select_by (take 8 flags) v)
+      ++ select_by (drop 8 flags) (pick_l 0 (v ++ v) (range_with_len 8 8 ++ range_with_len 0 8))
+      ≡ before ++ select_by flags v
+  select_by_halves before v lanes =
+      let back = drop 8 flags in
+      let turned = pick_l 0 (v ++ v) (range_with_len 8 8 ++ range_with_len 0 8) in
+      cc (
+        pick_l-range_with_len 0 (v ++ v) 8 8 (omega (arith, length-append v v)),
+        select_by_prefix back turned,
+        drop-append-le 8 v v (omega (arith, lanes)),
+        take-append-le 8 (drop 8 v) v (omega (arith, length-drop 8 v, lanes)),
+        select_by_prefix back (drop 8 v),
+        select_by_append (take 8 flags) back v,
+        take-append-drop 8 flags,
+        append_assoc before (select_by (take 8 flags) v) (select_by back (drop 8 v)),
+        front_long,
+        back_long,
+      )
 
 -- ---- bytes that a filter keeps
 
@@ -186,10 +189,8 @@ chunk_parts : (at n m : ℕ) (from : List ℕ) → chunk at (n + m) from ≡ chu
 chunk_parts at n m from = simp (take-add, drop-drop)
 
 module _ (f : ℕ → ℕ → Bool) (before bytes : List ℕ) (paired : length bytes ≤ length before) where
-  -- a flag for each of 16 bytes
   pub pairs_long : (at : ℕ) → at + 16 ≤ length bytes → length (zip2 f (chunk at 16 before) (chunk at 16 bytes)) ≡ 16
   pairs_long at room =
-      let long = length-chunk at 16 before (omega arith) in
       search (rules, length-zip2, length-chunk)
 
 none_set : {a b c d : ℕ} → bit_or (bit_or (bit_or a b) c) d ≡ 0 → (a ≡ 0) × (b ≡ 0) × (c ≡ 0) × (d ≡ 0)
@@ -199,15 +200,7 @@ all_full : {a b c d : ℕ} → bit_and (bit_and (bit_and a b) c) d ≡ 65535
     → (65535 ≤ a) × (65535 ≤ b) × (65535 ≤ c) × (65535 ≤ d)
 all_full {a} {b} {c} {d} full = omega (arith, and_le_l, and_le_r)
 
-append_four : (t a b c d : List ℕ) → (((t ++ a) ++ b) ++ c) ++ d ≡ t ++ (((a ++ b) ++ c) ++ d)
-append_four t a b c d = simp (append_assoc)
-
 module _ (test : ℕ → Bool) where
-  pub kept_cons : (a b : ℕ) (before bytes : List ℕ)
-      → kept_bytes test (a ∷ before) (b ∷ bytes)
-      ≡ cond (is_not_repeat test (a, b)) (b ∷ kept_bytes test before bytes) (kept_bytes test before bytes)
-  kept_cons a b before bytes = grind arith
-
   kept_nil : (before : List ℕ) → kept_bytes test before [] ≡ []
   kept_nil [] = refl
   kept_nil (a ∷ before) = refl
@@ -219,36 +212,27 @@ module _ (test : ℕ → Bool) where
   kept_append (x ∷ xs) [] before bytes same = absurd (omega arith)
   kept_append (x ∷ xs) (y ∷ ys) before bytes same = grind (arith, kept_append xs ys before bytes)
 
-  -- the bytes whose flag is set
   pub select_kept : (before bytes : List ℕ)
       → select_by (keep_flags test before bytes) bytes ≡ kept_bytes test before bytes
   select_kept [] bytes = refl
   select_kept (a ∷ before) [] = refl
-  select_kept (a ∷ before) (b ∷ bytes) = cc (select_kept before bytes, kept_cons a b before bytes)
+  select_kept (a ∷ before) (b ∷ bytes) = grind (arith, select_kept before bytes)
 
-  -- bytes that are compared with themselves are removed if they pass the test
   pub kept_self : (bytes : List ℕ) → kept_bytes test bytes bytes ≡ filter (λ b. not (test b)) bytes
   kept_self [] = refl
   kept_self (b ∷ bytes) = grind (arith, kept_self bytes)
 
-  -- all bytes are kept if none is equal to the one that it is compared with
-  pub none_equal : (before bytes : List ℕ) → length before ≡ length bytes → mask_l (zip2 eqb before bytes) ≡ 0
-      → kept_bytes test before bytes ≡ bytes
-  none_equal [] [] same none = refl
-  none_equal [] (b ∷ bytes) same none = absurd (omega arith)
-  none_equal (a ∷ before) [] same none = absurd (omega arith)
-  none_equal (a ∷ before) (b ∷ bytes) same none = grind (arith, none_equal before bytes)
-
-  -- and if all bits of their mask are set
+  -- all bytes are kept if none is equal to the one that it is compared with, and if all bits of their mask are set
   all_kept : (before bytes : List ℕ) → length before ≡ length bytes
-      → mask_l (keep_flags test before bytes) + 1 ≡ 2 ^ length bytes → kept_bytes test before bytes ≡ bytes
-  all_kept [] [] same all = refl
-  all_kept [] (b ∷ bytes) same all = absurd (omega arith)
-  all_kept (a ∷ before) [] same all = absurd (omega arith)
-  all_kept (a ∷ before) (b ∷ bytes) same all = grind (arith, all_kept before bytes)
+      → (mask_l (zip2 eqb before bytes) ≡ 0 → kept_bytes test before bytes ≡ bytes)
+      × (mask_l (keep_flags test before bytes) + 1 ≡ 2 ^ length bytes → kept_bytes test before bytes ≡ bytes)
+  all_kept [] [] same = (λ none. refl, λ all. refl)
+  all_kept [] (b ∷ bytes) same = absurd (omega arith)
+  all_kept (a ∷ before) [] same = absurd (omega arith)
+  all_kept (a ∷ before) (b ∷ bytes) same =
+      let (none_equal, all_set) = all_kept before bytes (omega arith) in (λ none. grind arith, λ all. grind arith)
 
   module _ (before bytes : List ℕ) where
-    -- the bytes kept of `n` from index `at` on
     abbrev pub kept_at : ℕ → ℕ → List ℕ
     kept_at at n = kept_bytes test (chunk at n before) (chunk at n bytes)
 
@@ -257,32 +241,28 @@ module _ (test : ℕ → Bool) where
       pub is : take count into ++ kept_bytes test (drop at before) (drop at bytes) ≡ whole
       pub pre : FilterPre bytes at count
 
-    -- the flags of the bytes of a vector that are kept, and of those that are equal to what they are compared with
+    -- which bytes of a vector are kept, and which are equal to what they are compared with
     abbrev pub flags_at : ℕ → List Bool
     flags_at k = keep_flags test (chunk k 16 before) (chunk k 16 bytes)
 
     abbrev pub equal_at : ℕ → List Bool
     equal_at k = zip2 eqb (chunk k 16 before) (chunk k 16 bytes)
 
-    -- no byte is left
-    pub filter_done : {into : List ℕ} {at count : ℕ} {whole : List ℕ} → FilterInvariant into at count whole
-        → length bytes ≤ at → take count into ≡ whole
-    filter_done {into} {at} {count} k past = grind (arith, append-nil, drop_all, kept_nil)
-
     module _ (paired : length bytes ≤ length before) where
       same_length : (at n : ℕ) → at + n ≤ length bytes → length (chunk at n before) ≡ length (chunk at n bytes)
       same_length at n room = omega (arith, length-chunk)
 
-      -- the bytes of a vector are kept if its mask is full
-      kept_full : (k : ℕ) {mask : ℕ} → k + 16 ≤ length bytes → mask ≡ mask_l (flags_at k) → 65535 ≤ mask
-          → kept_at k 16 ≡ chunk k 16 bytes
-      kept_full k {mask} room is full =
+      -- the bytes of a vector are kept if none is equal to the one before, and if its mask is full
+      kept_none : (k : ℕ) → k + 16 ≤ length bytes → mask_l (equal_at k) ≡ 0 → kept_at k 16 ≡ chunk k 16 bytes
+      kept_none k room = (all_kept _ _ (same_length k 16 room)).0
+
+      kept_full : (k : ℕ) → k + 16 ≤ length bytes → 65535 ≤ mask_l (flags_at k) → kept_at k 16 ≡ chunk k 16 bytes
+      kept_full k room full =
           let long : 2 ^ 16 ≡ 2 ^ length (chunk k 16 bytes) = search (rules, length-chunk) in
           let flags_long = pairs_long (λ a b. is_not_repeat test (a, b)) before bytes paired k room in
           let low : mask_l (flags_at k) < 2 ^ 16 = rw flags_long at (mask_l-lt (flags_at k)) in
-          all_kept (chunk k 16 before) (chunk k 16 bytes) (same_length k 16 room) (omega arith)
+          (all_kept _ _ (same_length k 16 room)).1 (omega arith)
 
-      -- two pieces, one after another
       kept_two : (at n m : ℕ) → at + n + m ≤ length bytes → kept_at at (n + m) ≡ kept_at at n ++ kept_at (at + n) m
       kept_two at n m room = grind (arith, chunk_parts, kept_append, same_length)
 
@@ -291,12 +271,11 @@ module _ (test : ℕ → Bool) where
         four =
             cc (kept_two at 48 16 (omega arith), kept_two at 32 16 (omega arith), kept_two at 16 16 (omega arith))
 
-        -- the bytes kept of four vectors, appended one after another
         pub kept_in_four : (t : List ℕ) {a b c d : List ℕ} → a ≡ t ++ select_by (flags_at at) (chunk at 16 bytes)
             → b ≡ a ++ select_by (flags_at (at + 16)) (chunk (at + 16) 16 bytes)
             → c ≡ b ++ select_by (flags_at (at + 32)) (chunk (at + 32) 16 bytes)
             → d ≡ c ++ select_by (flags_at (at + 48)) (chunk (at + 48) 16 bytes) → d ≡ t ++ kept_at at 64
-        kept_in_four t ea eb ec ed = grind (arith, append_four, four, select_kept)
+        kept_in_four t ea eb ec ed = grind (arith, append_assoc, four, select_kept)
 
         whole : kept_at at 16 ≡ chunk at 16 bytes → kept_at (at + 16) 16 ≡ chunk (at + 16) 16 bytes
             → kept_at (at + 32) 16 ≡ chunk (at + 32) 16 bytes → kept_at (at + 48) 16 ≡ chunk (at + 48) 16 bytes
@@ -304,83 +283,62 @@ module _ (test : ℕ → Bool) where
         whole first second third last =
             cc (four, chunk_parts at 48 16 bytes, chunk_parts at 32 16 bytes, chunk_parts at 16 16 bytes)
 
-        -- no byte of four vectors is equal to the one that it is compared with
-        pub none_equal_in_four : {a b c d : ℕ} → a ≡ mask_l (equal_at at) → b ≡ mask_l (equal_at (at + 16))
-            → c ≡ mask_l (equal_at (at + 32)) → d ≡ mask_l (equal_at (at + 48))
-            → bit_or (bit_or (bit_or a b) c) d ≡ 0 → kept_at at 64 ≡ chunk at 64 bytes
-        none_equal_in_four ma mb mc md none =
-            let (za, zb, zc, zd) = none_set none in
-            let kept = λ (k : ℕ) (within : k + 16 ≤ length bytes).
-            none_equal (chunk k 16 before) (chunk k 16 bytes) (same_length k 16 within) in
-            whole (kept at (omega arith) (sym ma ∙ za)) (kept (at + 16) (omega arith) (sym mb ∙ zb))
-            (kept (at + 32) (omega arith) (sym mc ∙ zc)) (kept (at + 48) (omega arith) (sym md ∙ zd))
+        pub none_equal_in_four : bit_or (bit_or (bit_or (mask_l (equal_at at)) (mask_l (equal_at (at + 16))))
+            (mask_l (equal_at (at + 32)))) (mask_l (equal_at (at + 48))) ≡ 0 → kept_at at 64 ≡ chunk at 64 bytes
+        none_equal_in_four none = grind (arith, none_set, whole, kept_none)
 
-        -- the masks of four vectors are full
-        pub all_kept_in_four : {a b c d : ℕ} → a ≡ mask_l (flags_at at) → b ≡ mask_l (flags_at (at + 16))
-            → c ≡ mask_l (flags_at (at + 32)) → d ≡ mask_l (flags_at (at + 48))
-            → bit_and (bit_and (bit_and a b) c) d ≡ 65535 → kept_at at 64 ≡ chunk at 64 bytes
-        all_kept_in_four ma mb mc md full = grind (arith, all_full, whole, kept_full)
+        pub all_kept_in_four : bit_and (bit_and (bit_and (mask_l (flags_at at)) (mask_l (flags_at (at + 16))))
+            (mask_l (flags_at (at + 32)))) (mask_l (flags_at (at + 48))) ≡ 65535 → kept_at at 64 ≡ chunk at 64 bytes
+        all_kept_in_four full = grind (arith, all_full, whole, kept_full)
 
-      -- a piece more
-      pub filter_piece : {into : List ℕ} {at count : ℕ} {whole : List ℕ} → FilterInvariant into at count whole → (n : ℕ)
-          → {into' : List ℕ} {count' : ℕ} → at + n ≤ length bytes → count' ≤ count + n
-          → take count' into' ≡ take count into ++ kept_at at n → FilterInvariant into' (at + n) count' whole
-      filter_piece {into} {at} {count} k n room few stored = record {
-        is =
-            let before_rest = drop (at + n) before in
-            let rest = drop (at + n) bytes in
-            cc (
-              append_assoc (take count into) (kept_at at n) (kept_bytes test before_rest rest),
-              take-append-drop n (drop at before),
-              take-append-drop n (drop at bytes),
-              drop-drop n at before,
-              drop-drop n at bytes,
-              kept_append (chunk at n before) (chunk at n bytes) before_rest rest (same_length at n room),
-            );
-        pre = record { within = room; room = omega arith };
-      }
+module _ {test : ℕ → Bool} {before bytes into : List ℕ} {at count : ℕ} {whole : List ℕ}
+    (k : FilterInvariant test before bytes into at count whole) where
+  -- no byte is left
+  pub filter_done : length bytes ≤ at → take count into ≡ whole
+  filter_done past = grind (arith, append-nil, drop_all, kept_nil)
+
+  -- a piece more
+  pub filter_piece : length bytes ≤ length before → (n : ℕ) → {into' : List ℕ} {count' : ℕ} → at + n ≤ length bytes
+      → count' ≤ count + n → take count' into' ≡ take count into ++ kept_at test before bytes at n
+      → FilterInvariant test before bytes into' (at + n) count' whole
+  filter_piece paired n room few stored = record {
+    is =
+        let before_rest = drop (at + n) before in
+        let rest = drop (at + n) bytes in
+        cc (
+          append_assoc (take count into) (kept_at test before bytes at n) (kept_bytes test before_rest rest),
+          take-append-drop n (drop at before),
+          take-append-drop n (drop at bytes),
+          drop-drop n at before,
+          drop-drop n at bytes,
+          kept_append test _ _ before_rest rest (same_length test before bytes paired at n room),
+        );
+    pre = record { within = room; room = omega arith };
+  }
 
 -- ---- masks of lanes
 
--- the lanes that are removed
-removed_lanes : (test : ℕ → Bool) (before bytes : List ℕ)
-    → zip2 bit_and (zip2 (λ a b. cond (eqb a b) 255 0) before bytes) (map (cast_unsigned w8) (mask_of test bytes))
-    ≡ lanes_of (zip2 (λ a b. eqb a b && test b) before bytes)
-removed_lanes test [] bytes = refl
-removed_lanes test (a ∷ before) [] = refl
-removed_lanes test (a ∷ before) (b ∷ bytes) = grind (arith, removed_lanes test before bytes)
-
--- the mask of the flags that are not set, and those that are, are all
-not_mask : (flags : List Bool) → mask_l (map not flags) + mask_l flags + 1 ≡ 2 ^ length flags
-not_mask [] = refl
-not_mask (true ∷ flags) = omega (arith, not_mask flags, pow-succ' 2 (length flags))
-not_mask (false ∷ flags) = omega (arith, not_mask flags, pow-succ' 2 (length flags))
-
-not_removed : (test : ℕ → Bool) (before bytes : List ℕ)
-    → map not (zip2 (λ a b. eqb a b && test b) before bytes) ≡ keep_flags test before bytes
-not_removed test [] bytes = refl
-not_removed test (a ∷ before) [] = refl
-not_removed test (a ∷ before) (b ∷ bytes) = grind (arith, not_removed test before bytes)
+-- the masks of the bytes that are removed, and of those that are kept, are all
+both_masks : (test : ℕ → Bool) (before bytes : List ℕ)
+    → mask_l (map (top 7) (zip2 bit_and (zip2 (λ a b. cond (eqb a b) 255 0) before bytes)
+    (map (cast_unsigned w8) (mask_of test bytes)))) + mask_l (keep_flags test before bytes) + 1
+    ≡ 2 ^ length (keep_flags test before bytes)
+both_masks test [] bytes = refl
+both_masks test (a ∷ before) [] = refl
+both_masks test (a ∷ before) (b ∷ bytes) = grind (arith, both_masks test before bytes)
 
 module _ (test : ℕ → Bool) (before bytes : List ℕ) (paired : length bytes ≤ length before) (at : ℕ)
     (room : at + 16 ≤ length bytes) {lanes : List ℤ} (is : lanes ≡ mask_of test (chunk at 16 bytes))
   where
-    abbrev removed : List Bool
-    removed = zip2 (λ a b. eqb a b && test b) (chunk at 16 before) (chunk at 16 bytes)
-
     abbrev mask : ℕ
     mask = mask_l (map (top 7)
         (zip2 bit_and (zip2 (λ a b. cond (eqb a b) 255 0) (chunk at 16 before) (chunk at 16 bytes))
         (map (cast_unsigned w8) lanes))) % 2 ^ 64
 
-    long : length removed ≡ 16
-    long = search (rules, pairs_long)
-
-    mask_is : mask ≡ mask_l removed
-    mask_is = search (rules, is, removed_lanes, tops_of_lanes, mask_l-mod, long)
-
-    pub removed_small : mask < 65536
-    removed_small = grind (arith, long, mask_l-lt, mask_is)
-
-    pub keep_mask : 65535 - mask ≡ mask_l (keep_flags test (chunk at 16 before) (chunk at 16 bytes))
-    keep_mask = grind (arith, long, not_removed, mask_is, not_mask)
+    -- the mask of 16 bytes, from which it is subtracted
+    pub keep_mask : (mask < 65536) × (65535 - mask ≡ mask_l (keep_flags test (chunk at 16 before) (chunk at 16 bytes)))
+    keep_mask = grind (
+      arith,
+      pairs_long (λ a b. is_not_repeat test (a, b)) before bytes paired at room,
+      both_masks test (chunk at 16 before) (chunk at 16 bytes),
+    )

@@ -1,18 +1,19 @@
--- The n-th item of a list that passes a test, by the bits of a mask of which the lowest n are cleared; a field starts
--- after the n-th delimiter. Then the terminators in 64 bytes, which are processed in order by clearing the lowest bit.
+-- The n-th item of a list that passes a test: the lowest set bit of a mask of which the lowest n were cleared. The
+-- terminators in 64 bytes are processed in order by clearing the lowest bit.
 use Rattle.ptflow.proofs
 use proofs.Common.{◌≡◌, ℕ, zero, suc, ◌+◌, ◌-◌, ◌*◌, ◌/◌, ◌%◌, ◌^◌, ◌<◌, ◌≤◌, Bool, true, false, cond, not, Option}
 use proofs.Common.{Some, List, [], ◌∷◌, length, map, take, drop, get_or, refl, sym, ◌∙◌, ap, arith, get_or-take}
 use proofs.Common.{length-drop, count_ones, count_by, prefix_len, mask_l, chunk, take-add, take-take, length-take-le}
-use proofs.Common.{get_or-le-sum_by, sum_by-cons, sum_by-append, sum_by-take-le, trailing_mask_l, ones-mask_l}
+use proofs.Common.{get_or-le-sum_by, sum_by-append, sum_by-take-le, ones-mask_l}
 use proofs.Common.{get_or-chunk, length-chunk, IsFirstByte, NoneBefore, Passes, is_byte, line_before_terminator}
 use proofs.Common.{line_if_not_found, Nowhere, None, option_map, nowhere_trans, IsLine, byte_ne, IsNth}
-use proofs.Common.{IsTerminatorMask}
-use proofs.Common.{count_by_more_yes, common_steps, rules}
+use proofs.Common.{IsTerminatorMask, none_if_zero_mask}
+use proofs.Common.{count_by_more_yes, common_steps, take-map, get_or-map, length-map}
 use Rattle.std.proofs.lemmas.List.{get_or-drop, drop-map}
 use Rattle.std.proofs.Common.{pow-suc, div-one}
 use Rattle.std.proofs.Math.Nat.{div-div-eq-div-mul, zero-div}
 use proofs.Vectors.Lanes.{map-id}
+use Rattle.std.proofs.lemmas.Simd.{first_set_mask_l}
 use lib.Bits.{bit_and, and_step, and_self, and_zero_l}
 use lib.Count.{count_trailing_zeros}
 use proofs.CutLemmas.CutBytes.{rest_of}
@@ -56,47 +57,28 @@ pub cleared : (n : ℕ) {x : ℕ} (bits : List Bool) → x < 2 ^ 64 → x ≡ ma
     → bit_and x ((x + (2 ^ 64 - 1)) % 2 ^ 64) ≡ mask_l (without (suc n) bits)
 cleared n bits small is = grind (arith, and_less (without n bits))
 
-some_set : (bits : List Bool) → prefix_len not bits < length bits → 0 < mask_l bits
-some_set [] lt = absurd (omega arith)
-some_set (true ∷ bits) lt = omega arith
-some_set (false ∷ bits) lt = let some = some_set bits (omega arith) in omega arith
-
 lowest_set : (bits : List Bool) → length bits ≤ 64 → prefix_len not bits < length bits
     → count_trailing_zeros 64 (mask_l bits) ≡ prefix_len not bits
-lowest_set bits few some =
-    cc (map-id bits, trailing_mask_l (λ b. b) 64 bits few (rw (map-id bits) (some_set bits some)))
+lowest_set bits few some = grind (arith, map-id bits, first_set_mask_l (λ b. b) bits (length bits) refl few)
 
 -- ---- the item that passes after n others
 
-module _ {X : Type 0} (p : X → Bool) (d : X) where
-  one_more : (x : X) (xs : List X) {t : Bool} {r : ℕ} (s n m : ℕ) → p x ≡ t → r ≡ suc s → n ≡ cond t 1 0 + m
-      → IsNth p d m xs s → IsNth p d n (x ∷ xs) r
-  one_more x xs s n m e next count (within, passes, others) = grind (arith, common_steps)
+behind : (bits : List Bool) (n : ℕ) → n < count_by (λ t. t) bits
+    → IsNth (λ t. t) false n bits (prefix_len not (without n bits))
+behind [] n lt = absurd (omega arith)
+behind (true ∷ bits) zero lt = (omega arith, refl, refl)
+behind (true ∷ bits) (suc n) lt = grind (arith, common_steps, without_set n bits, behind bits n)
+behind (false ∷ bits) n lt = grind (arith, common_steps, without_clear n bits, behind bits n)
 
-  behind : (xs : List X) (n : ℕ) → n < count_by p xs → IsNth p d n xs (prefix_len not (without n (map p xs)))
-  behind [] n lt = absurd (omega arith)
-  behind (x ∷ xs) n lt =
-      by_test (λ m less. behind xs m less) (p x) refl n (search (rules, sum_by-cons))
-    where
-      by_test : ((m : ℕ) → m < count_by p xs → IsNth p d m xs (prefix_len not (without m (map p xs)))) → (t : Bool)
-          → p x ≡ t → (n : ℕ) → n < cond t 1 0 + count_by p xs
-          → IsNth p d n (x ∷ xs) (prefix_len not (without n (t ∷ map p xs)))
-      by_test more true e zero lt = (omega arith, e, refl)
-      by_test more true e (suc m) lt =
-          let next : prefix_len not (without (suc m) (true ∷ map p xs)) ≡ suc (prefix_len not (without m (map p xs))) =
-          grind (arith, without_set) in
-          one_more x xs (prefix_len not (without m (map p xs))) (suc m) m e next (omega arith) (more m (omega arith))
-      by_test more false e n lt =
-          let next : prefix_len not (without n (false ∷ map p xs)) ≡ suc (prefix_len not (without n (map p xs))) =
-          grind (arith, without_clear) in
-          one_more x xs (prefix_len not (without n (map p xs))) n n e next (omega arith) (more n (omega arith))
+count_bits : (p : ℕ → Bool) (xs : List ℕ) → count_by (λ t. t) (map p xs) ≡ count_by p xs
+count_bits p xs = cc (map-id (map p xs), ones-mask_l (λ t. t) (map p xs), ones-mask_l p xs)
 
--- the lowest set bit, after n bits were cleared
 pub after_set : (p : ℕ → Bool) (xs : List ℕ) (n : ℕ) {rest : ℕ} → length xs ≤ 64 → n < count_by p xs
     → rest ≡ mask_l (without n (map p xs)) → IsNth p 0 n xs (count_trailing_zeros 64 rest)
-after_set p xs n few lt is = let here = behind p 0 xs n lt in grind (arith, common_steps, length-without, lowest_set)
+after_set p xs n few lt is =
+    let (within, passes, before) = behind (map p xs) n (rw count_bits lt) in
+    grind (arith, common_steps, length-without, lowest_set, count_bits, take-map, get_or-map, length-map)
 
--- the lowest n bits are shifted out
 shifted : (n : ℕ) (bits : List Bool) → mask_l bits / 2 ^ n ≡ mask_l (drop n bits)
 shifted zero bits = div-one (mask_l bits)
 shifted (suc n) [] = zero-div (2 ^ suc n)
@@ -105,14 +87,18 @@ shifted (suc n) (b ∷ bits) =
     grind arith in
     grind (arith, half, pow-suc, div-div-eq-div-mul, shifted n bits)
 
--- the mask of the first bytes, without those before an index
 pub mask_from : (p : ℕ → Bool) (size from : ℕ) (bytes : List ℕ) {mask : ℕ} → mask ≡ mask_l (map p (take size bytes))
     → mask / 2 ^ from ≡ mask_l (map p (take (size - from) (drop from bytes)))
 mask_from p size from bytes is = grind (arith, shifted, drop-map, rest_of)
 
 -- the first item that passes if none of the first `size` does
-module _ (p : ℕ → Bool) (bytes : List ℕ) (size : ℕ) (within : size ≤ length bytes)
-    (front : Nowhere (Passes p bytes) 0 size) where
+module _ (p : ℕ → Bool) (bytes : List ℕ) (size : ℕ) {mask : ℕ} (within : size ≤ length bytes)
+    (is : mask ≡ mask_l (map p (take size bytes))) (none : mask ≡ 0) where
+  front : Nowhere (Passes p bytes) 0 size
+  front =
+      let start : 0 + size ≡ size = omega arith in
+      rw start at (none_if_zero_mask p bytes 0 size mask (omega arith) is none)
+
   there : (k : ℕ) → size ≤ k → Passes p bytes k → Passes p (drop size bytes) (k - size)
   there k low passes = grind (arith, common_steps)
 
@@ -148,12 +134,14 @@ module _ (p : ℕ → Bool) (bytes : List ℕ) where
     pub count_in_prefix : count_by p (take (at + k) bytes) ≡ count_by p (take at bytes) + m
     count_in_prefix = grind (arith, common_steps, take-add)
 
-    pub nth_in_prefix : {to : ℕ} → at + k < to → to ≤ length bytes
-        → IsNth p 0 (count_by p (take at bytes) + m) (take to bytes) (at + k)
-    nth_in_prefix {to} lt le =
-        grind (arith, common_steps, get_or-take, get_or-chunk, near, take-take, count_in_prefix)
+    -- among the first `to` bytes
+    module _ {to before index : ℕ} (is : index ≡ at + k) (counted : count_by p (take at bytes) + m ≡ before) where
+      pub nth_in_prefix : index < to → to ≤ length bytes → IsNth p 0 before (take to bytes) index
+      nth_in_prefix lt le = grind (arith, common_steps, get_or-take, get_or-chunk, near, take-take, count_in_prefix)
 
-  -- no item before the first one passes
+      pub none_in_prefix : to ≤ index → count_by p (take to bytes) ≤ before
+      none_in_prefix ge = grind (arith, count_up_to, count_in_prefix)
+
   pub first_is : (at : ℕ) → IsNth p 0 0 bytes at → NoneBefore (Passes p bytes) 0 (length bytes) at × Passes p bytes at
   first_is at (within, passes, none) =
       (grind (arith, get_or-take, get_or-le-sum_by, length-take-le), passes)
@@ -165,21 +153,26 @@ module _ (d : ℕ) (line : List ℕ) where
   none_counted [] free = refl
   none_counted (b ∷ bytes) (differs, free) = grind (arith, none_counted bytes free, byte_ne)
 
-  -- the first delimiter is the one after 0 others
-  module _ (to : ℕ) (le : to ≤ length line) where
-    pub first_is_nth : (at : ℕ) → IsFirstByte (is_byte d) line (Some at) → at < to
-        → IsNth (is_byte d) 0 0 (take to line) at
+  module _ {from before to : ℕ} (start : from ≡ 0) (zero : before ≡ 0) (le : to ≤ length line) where
+    abbrev part : List ℕ
+    part = take (to - from) (drop from line)
+
+    pub first_is_nth : (at : ℕ) → IsFirstByte (is_byte d) line (Some at) → at < to → IsNth (is_byte d) 0 before part at
     first_is_nth at first lt =
         grind (arith, common_steps, get_or-take, take-take, none_counted, line_before_terminator)
 
     pub no_nth_before_first : (at : ℕ) → IsFirstByte (is_byte d) line (Some at) → to ≤ at
-        → count_by (is_byte d) (take to line) ≤ 0
+        → count_by (is_byte d) part ≤ before
     no_nth_before_first at first ge = grind (arith, count_up_to, none_counted, line_before_terminator)
 
-    pub no_nth : IsFirstByte (is_byte d) line None → count_by (is_byte d) (take to line) ≤ 0
-    no_nth none = grind (arith, common_steps, none_counted, line_if_not_found)
+    pub no_nth : IsFirstByte (is_byte d) line None → count_by (is_byte d) part ≤ before
+    no_nth none =
+        let few : count_by (is_byte d) (take to line) ≤ 0 =
+        grind (arith, common_steps, none_counted, line_if_not_found) in
+        let whole : to - from ≡ to = omega arith in
+        rw (whole, start) (omega arith)
 
--- the next item that passes, if no item between an earlier index and this one passes
+-- no item from `start` on passes before the one at `end`
 module _ (p : ℕ → Bool) (bytes : List ℕ) (start end : ℕ) (fits : end < length bytes)
     (is : p (get_or bytes end 0) ≡ true) (same : count_by p (take end bytes) ≡ count_by p (take start bytes)) where
   pub one_after : count_by p (take (end + 1) bytes) ≡ count_by p (take end bytes) + 1
@@ -211,12 +204,11 @@ module _ {d : ℕ} {block : List ℕ} {from all marked : ℕ} (n start : ℕ) (h
       let v = chunk from 64 block in
       let bit = count_trailing_zeros 64 marked in
       let room : from + 64 ≤ length block = omega arith in
-      let nth : IsNth p 0 n v bit = after_set p v n (omega (arith, length-chunk from 64 block room))
+      let nth = after_set p v n (omega (arith, length-chunk from 64 block room))
       (grind (arith, ones-mask_l)) bits in
-      let close : bit < 64 = near p block 64 from n bit room nth in
+      let close = near p block 64 from n bit room nth in
       let fits : from + bit < length block = omega arith in
       let (_, passes, _) = nth in
       let is : p (get_or block (from + bit) 0) ≡ true = cc (get_or-chunk from 64 block bit 0 close) in
-      let as_many : count_by p (take (from + bit) block) ≡ count_by p (take start block) =
-      count_in_prefix p block 64 from n bit room nth ∙ sym ends in
+      let as_many = count_in_prefix p block 64 from n bit room nth ∙ sym ends in
       grind (arith, in_order, next_is, one_after)

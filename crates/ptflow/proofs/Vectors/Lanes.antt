@@ -1,8 +1,6 @@
--- Vector operations, byte by byte: values that are computed for each lane, and the lanes of flags. Each of them is a
--- `map` over the lanes, so facts about one byte carry over. The tables of a byte set are filled flag by flag, and each
--- flag is one bit of one entry; a test looks up the entry and the bit of each byte. Of a table of images, the vectors
--- that are left have in the row of each lane what was found for it. Each step halves the rows, and takes of two vectors
--- the one that the lowest bit of the row names.
+-- Vector operations. Each is a `map` over the lanes, so facts about one byte carry over. A flag of a byte set is one
+-- bit of one entry: the low nibble of a byte gives the entry, the high one the table and the bit. Images are looked up
+-- in every row of a table; then each step halves the rows, and the lowest bit of a lane's row picks one of two vectors.
 use Rattle.ptflow.proofs
 use proofs.Common.{common_steps, ◌≡◌, ℕ, ◌+◌, ◌<◌, ◌≤◌, ◌%◌, Bool, false, List, [], ◌∷◌, ◌++◌, Option, map, take, drop}
 use proofs.Common.{length, get_or, replicate, cond, refl, sym, ◌∙◌, ap, arith, w8, Fits, sum_by, zero, suc, slice_get}
@@ -10,10 +8,11 @@ use proofs.Common.{option_map, sel_l, zip2, top, Each1, take-add, false≢true, 
 use proofs.Common.{zip2_of_maps, splat_is_map, Each1-from_get_or, shift_at, stretch_delta, pos, negsuc, filter, mask_of}
 use proofs.Common.{cast_unsigned, true, set, take_more_set, take-set, append-nil, add-one, sum_by-append}
 use proofs.Common.{sum_by-cons, range_delta, shift_by_ranges, ◌*◌, ◌/◌, ◌^◌, ◌&&◌, ◌||◌, ltb, eqb, ◌≢◌, ⊎_elim}
-use proofs.Common.{get_or-drop, ◌-◌, bit_or, bit_and, cast_signed, bit_at, from_bool, swz_l, SwzOk, SwzOk-from_below}
+use proofs.Common.{bit_or, bit_and, cast_signed, bit_at, from_bool, swz_l, SwzOk, SwzOk-from_below, pick_l}
+use proofs.Common.{get_or-drop, ◌-◌}
 use proofs.Common.{map-map, and_mask, lt-ltb, le-ltb, cases_eq, cases_lt, pow_pos, length-map, set-get_or}
 use proofs.Common.{get_or-set_same, table_has, set_has, IsSetOf, All, not, length-set, get_or-chunk, get_or-map, chunk}
-use proofs.Common.{ext_get_or, get_or_default, get_or_past, inl, inr, ◌⊎◌, min, rules}
+use proofs.Common.{ext_get_or, get_or_default, get_or_past, min, rules}
 use Rattle.std.specs.Prelude.{is_some}
 use Rattle.ptflow.specs.declared.simd.shift.ShiftRange.{ShiftRange}
 use Rattle.ptlangs.specs.declared.tr.shifts.Stretch.{Stretch}
@@ -21,7 +20,8 @@ use Rattle.std.proofs.lemmas.Nat.Bits.{and_pow, bit_at_set_same, bit_at_set_othe
 use Rattle.std.specs.Int.Bits.{or_zero_r}
 use Rattle.ptflow.specs.declared.simd.byte_set.ByteSet.{ByteSet}
 use Rattle.std.proofs.lemmas.Simd.{Each1-get_or, get_or-sel_l, length-sel_l}
-use Rattle.ptflow.specs.Private.Vectors.Tables.{image_from, lane_of}
+use Rattle.ptflow.specs.Private.Vectors.Tables.{image_from, lane_of, HasMoved}
+use Rattle.ptflow.specs.declared.simd.table.MovedRange.{MovedRange}
 pub use Rattle.std.proofs.lemmas.List.{map-id}
 
 -- ---- lanes that are computed from bytes
@@ -35,19 +35,10 @@ pub sel_maps : (p : ℕ → Bool) (f g : ℕ → ℕ) (v : List ℕ) {ms : List 
     → ys ≡ map g v → sel_l ms xs ys ≡ map (λ b. cond (p b) (f b) (g b)) v
 sel_maps p f g v em ex ey = cc (sel_map p f g v)
 
-pub mask_right : (t : ℕ → ℕ → Bool) {n : ℕ} (v : List ℕ) (y : ℕ) → length v ≡ n
-    → map (top 7) (zip2 (λ a b. cond (t a b) 255 0) v (replicate n y)) ≡ map (λ b. t b y) v
-mask_right t {n} v y long = tops_compared w8 t v (replicate n y) ∙ zip2_splat t v n y long
-
--- a value that is computed for each byte, compared with one byte
 pub tests_are : (t : ℕ → ℕ → Bool) (f : ℕ → ℕ) (v : List ℕ) {xs : List ℕ} {n : ℕ} (y : ℕ) → length v ≡ n → xs ≡ map f v
     → map (top 7) (zip2 (λ a b. cond (t a b) 255 0) xs (replicate n y)) ≡ map (λ b. t (f b) y) v
 tests_are t f v {xs} {n} y long is = tops_compared w8 t xs (replicate n y)
     ∙ zip2_of_maps t f (λ _. y) v is (splat_is_map v n y long)
-
-pub added_lanes : (f g : ℕ → ℕ) (v : List ℕ) {xs ys : List ℕ} → xs ≡ map f v → ys ≡ map g v
-    → zip2 (λ a b. (a + b) % 256) xs ys ≡ map (λ b. (f b + g b) % 256) v
-added_lanes f g v ex ey = zip2_of_maps (λ a b. (a + b) % 256) f g v ex ey
 
 -- ---- the first bytes are mapped
 
@@ -56,7 +47,6 @@ pub mapped_more : (map_byte : ℕ → ℕ) (at next n : ℕ) (from to new : List
     → take next new ≡ map map_byte (take next from)
 mapped_more map_byte at next n from to new is begun more = grind (arith, map-append, take-add)
 
--- two functions that agree on bytes map lists of bytes to the same list
 pub bytes_same : {X : Type 0} (f g : ℕ → X) → ((b : ℕ) → b < 256 → f b ≡ g b) → (v : List ℕ) → Each1 (Fits w8) v
     → map f v ≡ map g v
 bytes_same f g same [] fit = refl
@@ -76,11 +66,10 @@ images_same {f = f} {g} v same fit = bytes_same f g same v (bytes_fit v fit)
 
 -- ---- ranges that are shifted
 
--- the range at an index, if there is one
 abbrev pub stretch_at : List Stretch → ℕ → Option (ℕ × ℕ × ℕ)
 stretch_at ss k = option_map (λ s. (s.first, s.last, s.by)) (slice_get ss k)
 
--- the values that all ranges, and all stretches, add to a byte
+-- what all ranges, and all stretches, add to a byte
 abbrev pub range_sum : List ShiftRange → ℕ → ℕ
 range_sum ranges b = sum_by (λ r. range_delta r b) ranges
 
@@ -89,41 +78,31 @@ stretch_sum ss b = sum_by (λ s. shift_at s b) ss
 
 stretch_taken : (ss : List Stretch) (i b : ℕ)
     → stretch_sum (take (suc i) ss) b ≡ stretch_sum (take i ss) b + stretch_delta (stretch_at ss i) b
-stretch_taken [] zero b = omega arith
-stretch_taken [] (suc i) b = omega arith
+stretch_taken [] i b = grind (arith, common_steps)
 stretch_taken (s ∷ ss) zero b = omega arith
 stretch_taken (s ∷ ss) (suc i) b = search (rules, stretch_taken ss i b, sum_by-cons)
 
-range_added : (ranges : List ShiftRange) (last : ShiftRange) (b : ℕ)
-    → range_sum (ranges ++ last ∷ []) b ≡ range_sum ranges b + range_delta last b
-range_added ranges last b = omega (arith, sum_by-append)
-
--- one range more adds what its stretch adds
 pub one_stretch_more : (ranges : List ShiftRange) (ss : List Stretch) (i : ℕ) (range : ShiftRange) (b : ℕ)
     → i < length ranges → range_sum (take i ranges) b ≡ stretch_sum (take i ss) b
     → range_delta range b ≡ stretch_delta (stretch_at ss i) b
     → range_sum (take (i + 1) (set ranges i range)) b ≡ stretch_sum (take (i + 1) ss) b
 one_stretch_more ranges ss i range b room before is =
-    grind (arith, common_steps, range_added, add-one, stretch_taken)
+    grind (arith, common_steps, sum_by-append, add-one, stretch_taken)
 
--- all stretches are among the first n
 pub all_stretches : (n : ℕ) (ss : List Stretch) → is_some (stretch_at ss n) ≡ false → length ss ≤ n
 all_stretches n [] none = omega arith
 all_stretches zero (s ∷ ss) none = absurd (false≢true (sym none))
 all_stretches (suc n) (s ∷ ss) none = grind (arith, all_stretches n ss none)
 
--- the shift of one range more is added to each lane
 pub one_range_more : (ranges : List ShiftRange) (i : ℕ) (default : ShiftRange) (v : List ℕ) {images deltas : List ℕ}
     → i < length ranges
     → images ≡ map (shift_by_ranges (take i ranges)) v → deltas ≡ map (range_delta (get_or ranges i default)) v
     → zip2 (λ a b. (a + b) % 256) images deltas ≡ map (shift_by_ranges (take (i + 1) ranges)) v
 one_range_more ranges i default v room before is =
-    added_lanes (shift_by_ranges (take i ranges)) (range_delta (get_or ranges i default)) v before is
-    ∙ grind (arith, common_steps)
+    zip2_of_maps (λ a b. (a + b) % 256) _ _ v before is ∙ grind (arith, common_steps)
 
 -- ---- masks of lanes
 
--- the lanes of flags
 abbrev pub lanes_of : List Bool → List ℕ
 lanes_of flags = map (λ t. cond t 255 0) flags
 
@@ -135,53 +114,39 @@ pub tops_of_lanes : (fs : List Bool) → map (top 7) (lanes_of fs) ≡ fs
 tops_of_lanes [] = refl
 tops_of_lanes (f ∷ fs) = grind (arith, tops_of_lanes fs)
 
--- ---- bytes that are stored if they pass a test
+-- ---- bytes that are stored, and count if their flag is set
 
--- a byte is stored, and counts if its flag is set
 pub stored_more : (flag : Bool) (row : List ℕ) (count place : ℕ) → count < length row
     → take (count + cond flag 1 0) (set row count place) ≡ take count row ++ cond flag (place ∷ []) []
 stored_more true row count place room = take_more_set row count place room
 stored_more false row count place room = grind (arith, take-set, append-nil)
 
--- ---- membership tests of a byte set
-
 -- ---- a table of 16 entries, indexed by a nibble of each byte
+
+-- lanes at indices below 16
+pub shuffle_result : (v : List ℕ) (i : ℕ) (row : List ℕ) → i + length row ≤ 16 → Each1 (λ place. place < 16) row
+    → swz_l w8 16 v i row ≡ pick_l 0 v row
+shuffle_result v i [] room lanes = refl
+shuffle_result v i (j ∷ js) room (low, lanes) = grind (arith, shuffle_result v (suc i) js)
 
 module _ (half : ℕ → ℕ) (small : (b : ℕ) → b < 256 → half b < 16) where
   halves_small : (v : List ℕ) → Each1 (Fits w8) v → Each1 (λ j. j < 16) (map half v)
   halves_small [] fit = tt
   halves_small (b ∷ v) (first, others) = (small b first.fits, halves_small v others)
 
-  pub nibbles_ok : {js : List ℕ} (v : List ℕ) → js ≡ map half v → length v ≡ 16 → Each1 (Fits w8) v
-      → SwzOk w8 16 16 0 js
-  nibbles_ok v is long fit =
-      rw is (SwzOk-from_below w8 16 1 16 0 (map half v) refl (omega (arith, length-map v half)) (halves_small v fit))
+  module _ {js : List ℕ} (v : List ℕ) (is : js ≡ map half v) (fit : (length v ≡ 16) × Each1 (Fits w8) v) where
+    pub nibbles_ok : SwzOk w8 16 16 0 js
+    nibbles_ok =
+        rw is (SwzOk-from_below w8 16 1 16 0 (map half v) refl (omega (arith, length-map v half))
+        (halves_small v fit.1))
 
-  looked_up_from : (table v : List ℕ) (i : ℕ) → i + length v ≤ 16 → Each1 (Fits w8) v
-      → swz_l w8 16 table i (map half v) ≡ map (λ b. get_or table (half b) 0) v
-  looked_up_from table [] i few fit = refl
-  looked_up_from table (b ∷ v) i few (first, others) =
-      grind (arith, looked_up_from table v (suc i))
-
-  pub looked_up : (table : List ℕ) {js : List ℕ} (v : List ℕ) → js ≡ map half v → length v ≡ 16 → Each1 (Fits w8) v
-      → swz_l w8 16 table 0 js ≡ map (λ b. get_or table (half b) 0) v
-  looked_up table v is long fit = cc (looked_up_from table v 0 (omega arith) fit)
-
-pub low_small : (b : ℕ) → b < 256 → b % 16 < 16
-low_small b byte = omega arith
-
-pub high_small : (b : ℕ) → b < 256 → b / 16 < 16
-high_small b byte = omega arith
+    pub looked_up : (table : List ℕ) → swz_l w8 16 table 0 js ≡ map (λ b. get_or table (half b) 0) v
+    looked_up table =
+        rw is (shuffle_result table 0 (map half v) (omega (arith, length-map v half)) (halves_small v fit.1)
+        ∙ map-map _ half v)
 
 pub low_nibbles : (v : List ℕ) → length v ≡ 16 → zip2 bit_and v (replicate 16 15) ≡ map (λ b. b % 16) v
-low_nibbles v long = zip2_splat bit_and v 16 15 long ∙ low v
-  where
-    low : (v : List ℕ) → map (λ b. bit_and b 15) v ≡ map (λ b. b % 16) v
-    low [] = refl
-    low (b ∷ v) = λ i. and_mask b 4 i ∷ low v i
-
-pub high_nibbles : (v : List ℕ) → length v ≡ 16 → zip2 (λ a b. a / 2 ^ b) v (replicate 16 4) ≡ map (λ b. b / 16) v
-high_nibbles v long = zip2_splat (λ a b. a / 2 ^ b) v 16 4 long
+low_nibbles v long = zip2_splat bit_and v 16 15 long ∙ (λ i. map (λ b. and_mask b 4 i) v)
 
 -- ---- the test
 
@@ -191,7 +156,6 @@ bits_in_order = 1 ∷ 2 ∷ 4 ∷ 8 ∷ 16 ∷ 32 ∷ 64 ∷ 128 ∷ 1 ∷ 2 ∷
 bit_of : {half : ℕ} → half < 16 → get_or bits_in_order half 0 ≡ 2 ^ (half % 8)
 bit_of {half} small = grind arith
 
--- either this bit of an entry is set, or the result is zero
 all_or_none : (row k : ℕ) → eqb (bit_and row (2 ^ k)) (2 ^ k) ≡ eqb (bit_at row k) 1
 all_or_none row k = grind (arith, and_pow, pow_pos)
 
@@ -210,26 +174,20 @@ pub tested : (set : ByteSet) (v : List ℕ) {low high bit : List ℕ} → length
     (zip2 bit_and (sel_l (map (top 7) (zip2 (λ a b. cond (ltb a b) 255 0) v (replicate 16 128))) low high) bit) bit)
     ≡ mask_of (set_has set) v
 tested set v long fit el eh eb =
-    let row_at = λ (b : ℕ). cond (ltb b 128) (get_or set.low (b % 16) 0) (get_or set.high (b % 16) 0) in
-    let bit_at_byte = λ (b : ℕ). get_or bits_in_order (b / 16) 0 in
-    let rows = sel_maps (λ b. ltb b 128) (λ b. get_or set.low (b % 16) 0) (λ b. get_or set.high (b % 16) 0) v
-    (mask_right ltb v 128 long) el eh in
-    let lanes = zip2_of_maps (λ a b. cond (eqb a b) 255 0) (λ b. bit_and (row_at b) (bit_at_byte b)) bit_at_byte v
-    (zip2_of_maps bit_and row_at bit_at_byte v rows eb) eb in
-    ap (map (cast_signed w8)) lanes
-    ∙ map-map (cast_signed w8) (λ b. cond (eqb (bit_and (row_at b) (bit_at_byte b)) (bit_at_byte b)) 255 0) v
+    let rows = sel_maps _ _ _ v
+    (tests_are ltb (λ b. b) v 128 long (sym (map-id v))) el eh in
+    ap (map (cast_signed w8)) (zip2_of_maps (λ a b. cond (eqb a b) 255 0) _ _ v
+    (zip2_of_maps bit_and _ _ v rows eb) eb)
+    ∙ map-map (cast_signed w8) _ v
     ∙ bytes_same _ _ (byte_tested set) v fit
 
 -- ---- a table that is filled flag by flag
 
--- the table with the bit of a byte set if x is 1, and unchanged if x is 0
+-- sets the bit of byte n if x is 1
 abbrev pub flags_set : List ℕ → ℕ → ℕ → List ℕ
 flags_set table n x = set table (n % 16) (bit_or (get_or table (n % 16) 0) (x * 2 ^ (n / 16) % 256))
 
 module _ (table : List ℕ) {n : ℕ} (long : length table ≡ 16) (within : n < 128) where
-  unset : flags_set table n 0 ≡ table
-  unset = grind (arith, or_zero_r, set-get_or)
-
   same_bit : n / 16 % 8 ≡ n / 16
   same_bit = omega arith
 
@@ -255,36 +213,38 @@ module _ (table : List ℕ) {n : ℕ} (long : length table ≡ 16) (within : n <
       → table_has (flags_set table n (from_bool flag)) b
       ≡ cond (eqb b n) (flag || table_has table n) (table_has table b)
   filled_is true {b} byte = grind (arith, set_here, set_there)
-  filled_is false {b} byte = grind (arith, unset)
+  filled_is false {b} byte = grind (arith, or_zero_r, set-get_or)
 
--- the table with the flag of one byte more
-pub one_more_flag : (table : List ℕ) (flags : List Bool) (n : ℕ) {x : ℕ} → length table ≡ 16 → n < 128
-    → x ≡ from_bool (get_or flags n false) → ((b : ℕ) → b < 128 → table_has table b ≡ (ltb b n && get_or flags b false))
-    → (b : ℕ) → b < 128 → table_has (flags_set table n x) b ≡ (ltb b (n + 1) && get_or flags b false)
-one_more_flag table flags n long within is marked b byte = grind (arith, filled_is)
+-- the table has the flags of the first n bytes
+pub record HasFlags (n : ℕ) (table : List ℕ) (flags : List Bool) : Type 0 where
+  pub long : length table ≡ 16
+  pub at : (b : ℕ) → b < 128 → table_has table b ≡ (ltb b n && get_or flags b false)
 
--- ---- a set of two tables
+pub one_more_flag : {n : ℕ} {table : List ℕ} {flags : List Bool} {x : ℕ} → HasFlags n table flags → n < 128
+    → x ≡ from_bool (get_or flags n false) → HasFlags (n + 1) (flags_set table n x) flags
+one_more_flag has within is =
+    let long = has.long in record { long = simp length-set long; at = λ b byte. grind (arith, filled_is, has.at) }
 
--- the tables have the flags of the bytes below 128, and of the others
-pub set_of_nibbles : (set : ByteSet) (flags : List Bool) (n : ℕ) → 128 ≤ n
-    → ((b : ℕ) → b < 128 → table_has set.low b ≡ (ltb b n && get_or flags b false))
-    → ((b : ℕ) → b < 128 → table_has set.high b ≡ (ltb b n && get_or (drop 128 flags) b false)) → IsSetOf set flags
+-- ---- a set of two tables, for the bytes below 128 and for the others
+
+pub set_of_nibbles : (set : ByteSet) (flags : List Bool) (n : ℕ) → 128 ≤ n → HasFlags n set.low flags
+    → HasFlags n set.high (drop 128 flags) → IsSetOf set flags
 set_of_nibbles set flags n all low high b byte = ⊎_elim
-    (grind arith)
+    (λ less. cc (lt-ltb b 128 less, low.at b less, lt-ltb b n (omega arith)))
     (λ more.
     let entry : b % 16 ≡ (b - 128) % 16 = omega arith in
     let bit : b / 16 % 8 ≡ (b - 128) / 16 % 8 = omega arith in
     let place : 128 + (b - 128) ≡ b = omega arith in
     cc (
       le-ltb b 128 more,
-      high (b - 128) (omega arith),
+      high.at (b - 128) (omega arith),
       lt-ltb (b - 128) n (omega arith),
       get_or-drop 128 flags (b - 128) false,
     )) (cases_lt b 128)
 
 -- ---- tables of images
 
--- of `n` vectors, the first ones are those of a function
+-- the first `index` of `n` vectors are those of a function
 pub record IsFilledTo (n : ℕ) (f : ℕ → List ℕ) (index : ℕ) (kept : List (List ℕ)) : Type 0 where
   pub long : length kept ≡ n
   pub lanes : All (λ v. length v ≡ 16) kept
@@ -299,80 +259,57 @@ module _ (rows : List ℕ) (found : List (List ℕ)) (count : ℕ) where
   abbrev pub odd : ℕ → ℕ
   odd i = min (2 * i + 1) (count - 1)
 
-  -- of two vectors, the lanes of the second one where the row is odd
+  -- the lanes of the second of two vectors where the row is odd
   abbrev pub halved : ℕ → List ℕ
   halved i = sel_l (map (λ row. not (eqb (bit_and row 1) 0)) rows) (get_or found (odd i) []) (get_or found (2 * i) [])
 
   module _ (long : length rows ≡ 16) (lanes : All (λ v. length v ≡ 16) found) (few : count ≤ length found) where
-    first_long : (i : ℕ) → 2 * i < count → length (get_or found (2 * i) []) ≡ 16
-    first_long i within = lanes (2 * i) [] (omega arith)
-
-    second_long : (i : ℕ) → 2 * i < count → length (get_or found (odd i) []) ≡ 16
-    second_long i within = lanes (odd i) [] (omega arith)
-
     bits_long : length (map (λ row. not (eqb (bit_and row 1) 0)) rows) ≡ 16
     bits_long = length-map rows (λ row. not (eqb (bit_and row 1) 0)) ∙ long
 
-    pub halved_long : (i : ℕ) → 2 * i < count → length (halved i) ≡ 16
-    halved_long i within = simp (first_long, second_long, length-sel_l, bits_long)
+    halved_long : (i : ℕ) → 2 * i < count → length (halved i) ≡ 16
+    halved_long i within =
+        let first = lanes (2 * i) [] (omega arith) in
+        grind (arith, length-sel_l, bits_long)
 
-    pub halved_is : (i : ℕ) {second : ℕ} → second ≡ odd i
-        → sel_l (map (top 7) (zip2 (λ a b. cond (not (eqb a b)) 255 0) (zip2 bit_and rows (replicate 16 1))
-        (replicate 16 0))) (get_or found second []) (get_or found (2 * i) []) ≡ halved i
-    halved_is i is =
-        let bits = tests_are (λ a b. not (eqb a b)) (λ row. bit_and row 1) rows 0 long
+    pub halved_next : {n i second : ℕ} {kept : List (List ℕ)} → IsFilledTo n halved i kept → i < n → 2 * i < count
+        → second ≡ odd i → IsFilledTo n halved (i + 1) (set kept i
+        (sel_l (map (top 7) (zip2 (λ a b. cond (not (eqb a b)) 255 0) (zip2 bit_and rows (replicate 16 1))
+        (replicate 16 0))) (get_or found second []) (get_or found (2 * i) [])))
+    halved_next filled room within is =
+        let bits = tests_are (λ a b. not (eqb a b)) _ rows 0 long
         (zip2_splat bit_and rows 16 1 long) in
-        cc is
+        filled_next filled room (cc is) (halved_long _ within)
 
     pub halved_lane : (lane : ℕ) → lane < 16 → get_or rows lane 0 < count
         → get_or (halved (get_or rows lane 0 / 2)) lane 0 ≡ lane_of found rows lane
     halved_lane lane low within =
         grind (arith, common_steps, get_or-sel_l)
 
-pub shifted_lane : (rows : List ℕ) (lane : ℕ) → length rows ≡ 16 → lane < 16
-    → get_or (zip2 (λ a b. a / 2 ^ b) rows (replicate 16 1)) lane 0 ≡ get_or rows lane 0 / 2
-shifted_lane rows lane long low =
-    cc (zip2_splat (λ a b. a / 2 ^ b) rows 16 1 long, get_or-map (λ b. b / 2 ^ 1) rows lane 0 0 (omega arith))
-
 -- ---- the images of 16 bytes
 
 module _ (first n : ℕ) (table : List (List ℕ)) (within : first + 16 * n ≤ 256) (size : length table ≡ n)
     (lanes : All (λ row. length row ≡ 16) table)
   where
-    -- the images of the rows that were made of a list, which has its own image at each byte out of them
-    pub image_is : (images : List ℕ) → ((i : ℕ) → i < n → get_or table i [] ≡ chunk (first + 16 * i) 16 images)
-        → length images ≡ 256
-        → ((b : ℕ) → b < 256 → (b < first) ⊎ (first + 16 * n ≤ b) → b ≡ get_or images b 0)
-        → (b : ℕ) → b < 256 → image_from first table b ≡ get_or images b 0
-    image_is images made long others b byte = ⊎_elim
-        (λ below. cc (lt-ltb b first below, others b byte (inl below)))
-        (λ above. ⊎_elim
-        (λ inside.
+    -- a byte out of the rows is its own image
+    pub image_is : {moved : MovedRange} {images : List ℕ} → HasMoved moved images → first ≤ moved.first
+        → moved.last < first + 16 * n → ((i : ℕ) → i < n → get_or table i [] ≡ chunk (first + 16 * i) 16 images)
+        → length images ≡ 256 → (b : ℕ) → b < 256 → image_from first table b ≡ get_or images b 0
+    image_is {images} has low high made long b byte =
         let i = (b - first) / 16 in
-        let few : i < n = omega arith in
-        let same : first + 16 * i + (b - first) % 16 ≡ b = omega arith in
-        cc (
-          le-ltb b first above,
-          made i few,
-          get_or-chunk (first + 16 * i) 16 images ((b - first) % 16) b (omega arith),
-          get_or_default images b b 0 (omega arith),
-        ))
-        (λ past. cc (
-          le-ltb b first above,
-          get_or_past table ((b - first) / 16) [] (omega arith),
-          others b byte (inr past),
-        ))
-        (cases_lt b (first + 16 * n)))
-        (cases_lt b first)
+        grind (
+          arith,
+          common_steps,
+          made i,
+          get_or-chunk (first + 16 * i) 16 images ((b - first) % 16) b,
+          get_or_default images b b 0,
+          get_or_past table i [],
+          has.others b byte,
+        )
 
     -- the distance from the first byte
     abbrev pub offset : ℕ → ℕ
     offset b = (b + (256 - first)) % 256
-
-    entry : (b : ℕ) → b < 256
-        → cond (ltb (offset b / 16) n) (get_or (get_or table (offset b / 16) []) (offset b % 16) 0) b
-        ≡ image_from first table b
-    entry b byte = grind (arith, get_or_default, get_or_past)
 
     module _ (v : List ℕ) (long : length v ≡ 16) (fit : Each1 (Fits w8) v) {offsets rows : List ℕ} (found : List ℕ)
         (found_in_rows : List (List ℕ)) (offsets_are : offsets ≡ map offset v)
@@ -383,25 +320,17 @@ module _ (first n : ℕ) (table : List (List ℕ)) (within : first + 16 * n ≤ 
         (selected : (lane : ℕ) → lane < 16 → get_or rows lane 0 < n
         → get_or found lane 0 ≡ lane_of found_in_rows rows lane)
       where
-        found_lane : (lane : ℕ) → lane < 16 → offset (get_or v lane 0) / 16 < n → get_or found lane 0
-            ≡ get_or (get_or table (offset (get_or v lane 0) / 16) []) (offset (get_or v lane 0) % 16) 0
-        found_lane lane low inside =
-            let b = get_or v lane 0 in
-            let is : get_or offsets lane 0 ≡ offset b = grind (arith, get_or-map) in
-            grind (arith, length-map, get_or-map)
+        lane_is : (lane : ℕ) → lane < 16 → let b = get_or v lane 0 in
+            cond (ltb (offset b / 16) n) (get_or found lane 0) b ≡ image_from first table b
+        lane_is lane low =
+            let byte = (Each1-get_or (Fits w8) v lane 0 (omega arith) fit).fits in
+            let is : get_or offsets lane 0 ≡ offset (get_or v lane 0) = grind (arith, get_or-map) in
+            grind (arith, length-map, get_or-map, get_or_default, get_or_past)
 
         pub images_of : {flags : List Bool} → flags ≡ map (λ b. ltb (offset b / 16) n) v
             → sel_l flags found v ≡ map (image_from first table) v
         images_of {flags} flags_are =
             let flags_long : length flags ≡ 16 = grind (arith, length-map) in
             let sizes = length-sel_l flags found v (omega arith) (omega arith) in
-            ext_get_or 0 (sel_l flags found v) (map (image_from first table) v)
-            (grind (arith, length-map)) (λ lane low.
-            let b = get_or v lane 0 in
-            let byte = (Each1-get_or (Fits w8) v lane 0 (omega arith) fit).fits in
-            let image = get_or-map (image_from first table) v lane 0 0 (omega arith) in
-            get_or-sel_l flags found v lane 0 (omega arith) (omega arith) (omega arith)
-            ∙ ap (λ flag. cond flag (get_or found lane 0) b)
-            (ap (λ l. get_or l lane false) flags_are
-            ∙ get_or-map (λ b. ltb (offset b / 16) n) v lane 0 false (omega arith))
-            ∙ grind (arith, found_lane, entry))
+            ext_get_or 0 _ _ (grind (arith, length-map))
+            (λ lane low. grind (arith, get_or-sel_l, get_or-map, lane_is lane (omega arith)))

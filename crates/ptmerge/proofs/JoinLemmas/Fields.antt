@@ -1,7 +1,6 @@
 -- Fields of a line of `join`: how they are found and written. A line is split by repeatedly taking the bytes before the
--- first separator, so a field starts at the index at which the split finds it, and its span is the difference of two
--- lengths. Writing the fields of a canonical line gives the line back, since joining undoes splitting; so the fields
--- after a field are the bytes after it.
+-- first separator, so a field starts where the split finds it. Joining undoes splitting, so the fields of a canonical
+-- line give the line back, and the fields after a field are the bytes after it.
 use Rattle.ptmerge.proofs
 use proofs.Common.{◌≡◌, ⊎_elim, false, ℕ, List, ◌++◌, Result, Ok, Err, IsErrAnd, true, Output, PushPost, PushEffect}
 use proofs.Common.{push_trans, ◌∷◌, refl, append_assoc, arith, length-drop, length-append, suc}
@@ -20,7 +19,7 @@ use Rattle.std.proofs.lemmas.List.{length-take-le, drop-map, map-id, take-map, d
 use Rattle.std.proofs.lemmas.List.Quantifiers.{position-Some}
 use Rattle.ptlangs.specs.declared.outlist.OutField.{OutField}
 use Rattle.ptmerge.specs.declared.key_order.Span.{Span}
-use Rattle.std.proofs.lemmas.Simd.{length-chunk, mask_l-mod, mask_l-lt, trailing_mask_l}
+use Rattle.std.proofs.lemmas.Simd.{mask_l-lt, trailing_mask_l}
 use Rattle.std.specs.Simd.Lanes.{chunk, mask_l, top, zip2}
 use Rattle.memchr.specs.Find.{is_byte, IsFirstByte}
 use Rattle.std.proofs.Math.Nat.{div-div-eq-div-mul, mul-lt-mul_of_pos_right, mul_assoc, one-le-pow}
@@ -36,27 +35,24 @@ use Rattle.ptmerge.specs.KeySpan.{IsKeySpan}
 
 -- ---- writes
 
--- Several writes, one after another, to an output that may have failed: their bytes are concatenated, and after a
--- failed write nothing more is written. The bytes written so far and the rest together are all bytes, so a call that
--- fails leaves a prefix, and the last call completes them.
+-- Several writes to an output that may have failed: after a failed write nothing more is written. The bytes written so
+-- far and the rest together are all bytes, so a call that fails leaves a prefix, and the last call completes them.
 
 pub wrote_then : {a b c : Output} {xs ys : List ℕ} → (a.write_failed ≡ false → b.write_failed ≡ false)
     → PushEffect a b xs → PushEffect b c ys → PushEffect a c (xs ++ ys)
 wrote_then {a} {b} {c} {xs} {ys} clean p q =
     ⊎_elim (λ fault. grind (arith, fault))
-    (λ fine. push_trans a b c xs ys (clean fine) p q) (cases_Bool a.write_failed)
+    (λ fine. push_trans a b c xs ys (clean fine) p q) (cases_Bool _)
 
 pub then_pushes : {E : Type 0} {a b c : Output} {xs ys : List ℕ} {r : Result (Unit {0}) E}
     → (a.write_failed ≡ false → b.write_failed ≡ false) → PushEffect a b xs → PushPost b c ys r
     → PushPost a c (xs ++ ys) r
 then_pushes clean p q = search (rules, wrote_then)
 
--- a push is a write of its bytes
 pub push_is_write : {E : Type 0} {a b : Output} {xs : List ℕ} {r : Result (Unit {0}) E} → PushPost a b xs r
     → WriteBytesPost a b xs r
 push_is_write = search rules
 
--- the fault of a push is the fault of the call
 pub push_fails : {E : Type 0} {a b : Output} {xs : List ℕ} {r : Result (Unit {0}) E} (P : E → Type 0) → IsErrAnd r P
     → b.write_failed ≡ true → PushEffect a b xs → PushPost a b xs r
 push_fails {r = Err e} P err_is fault wrote = search rules
@@ -72,12 +68,10 @@ pub record PartialWrite (was is : Output) (all left : List ℕ) : Type 0 where
 pub partial_starts : {was : Output} {all left : List ℕ} → all ≡ left → PartialWrite was was all left
 partial_starts = search rules
 
--- the first call succeeded
 pub partial_first : {was is : Output} {all bytes left : List ℕ} → all ≡ bytes ++ left → PushEffect was is bytes
     → is.write_failed ≡ false → PartialWrite was is all left
-partial_first {bytes = bytes} split wrote clean = grind arith
+partial_first split wrote clean = grind arith
 
--- a call failed, at the start or later
 module _ {E : Type 0} {r : Result (Unit {0}) E} (P : E → Type 0) (err_is : IsErrAnd r P)
     {was new : Output} {all bytes : List ℕ} (left : List ℕ) where
   pub first_fails : all ≡ bytes ++ left → PushEffect was new bytes → new.write_failed ≡ true
@@ -88,51 +82,43 @@ module _ {E : Type 0} {r : Result (Unit {0}) E} (P : E → Type 0) (err_is : IsE
       → PushEffect is new bytes → new.write_failed ≡ true → WriteBytesPost was new all r
   partial_fails e a wrote fault =
       push_is_write (push_fails P err_is fault (rw (a.split, e, ← append_assoc a.done bytes left)
-      (push_past_failure was new (a.done ++ bytes) left fault (wrote_then a.clean a.wrote wrote))))
+      (push_past_failure was new _ _ fault (wrote_then a.clean a.wrote wrote))))
 
 pub partial_more : {was is new : Output} {all bytes now left : List ℕ} → now ≡ bytes ++ left
     → PartialWrite was is all now → PushEffect is new bytes → new.write_failed ≡ false → PartialWrite was new all left
-partial_more {left = left} e a wrote clean = partial_first (grind (arith, common_steps))
+partial_more e a wrote clean = partial_first (grind (arith, common_steps))
     (wrote_then a.clean a.wrote wrote) clean
 
--- the last call succeeded or failed
 pub partial_ends : {E : Type 0} {r : Result (Unit {0}) E} {was is new : Output} {all bytes now : List ℕ} → now ≡ bytes
     → PartialWrite was is all now → WriteBytesPost is new bytes r → WriteBytesPost was new all r
-partial_ends e a m =
-    record {
-      wrote = rw (a.split, e) (wrote_then a.clean a.wrote m.wrote);
-      clean = λ fine. m.clean (a.clean fine);
-      fault = m.fault;
-    }
+partial_ends e a m = grind (arith, (wrote_then a.clean a.wrote m.wrote))
 
 -- one call for each item of a list
 module _ {X : Type 0} (f : X → List ℕ) {xs more : List X} {x : X} (is : xs ≡ x ∷ more) {was now new : Output}
     {all : List ℕ} (a : PartialWrite was now all (flat_map f xs)) (wrote : PushEffect now new (f x)) where
   pub each_more : new.write_failed ≡ false → PartialWrite was new all (flat_map f more)
-  each_more = partial_more (rw is refl) a wrote
+  each_more = partial_more (rw is) a wrote
 
   pub each_fails : new.write_failed ≡ true → {E : Type 0} {r : Result (Unit {0}) E} (P : E → Type 0) → IsErrAnd r P
       → WriteBytesPost was new all r
-  each_fails fault P err_is = partial_fails P err_is (flat_map f more) (rw is refl) a wrote fault
+  each_fails fault P err_is = partial_fails P err_is (flat_map f more) (rw is) a wrote fault
 
 -- ---- the end of a field
 
 pub first_is_position : (test : ℕ → Bool) (bytes : List ℕ) (r : Option ℕ) → IsFirstByte test bytes r
     → r ≡ position test bytes
 first_is_position test bytes None none =
-    let is = position_or_len_is test bytes (length bytes) 0 in grind (arith, is, none, nat_tests)
+    grind (arith, (position_or_len_is test bytes (length bytes) 0), none, nat_tests)
 first_is_position test bytes (Some at) (range, found) = grind (arith, position_or_len_is)
 
 -- ---- the field with a number
 
--- no fields are left after more fields than there are
 pub none_past : (fs : Lines) (i n : ℕ) → drop i fs ≡ [] → i ≤ n → drop n fs ≡ []
 none_past fs i n none le = grind (arith, drop-drop (n - i) i fs)
 
 pub drop_next : (fs more : Lines) (f : List ℕ) (i : ℕ) → drop i fs ≡ f ∷ more → drop (i + 1) fs ≡ more
-drop_next fs more f i some = rw (← drop-drop 1 i fs, some) refl
+drop_next fs more f i some = rw (← drop-drop 1 i fs, some)
 
--- the length of the rest of a line
 abbrev pub remaining_length : Option (List ℕ) → ℕ
 remaining_length None = 0
 remaining_length (Some bytes) = suc (length bytes)
@@ -144,7 +130,6 @@ abbrev pub AreFieldsOf : Option ℕ → Option (List ℕ) → Option (List ℕ) 
 AreFieldsOf separator line left = (field : List ℕ) (remainder : Option (List ℕ))
     → IsFieldIn separator left field remainder → IsFieldIn separator line field remainder
 
--- so it is for the rest after a field
 pub fields_after : (separator : Option ℕ) (line : Option (List ℕ)) (field : List ℕ) (remainder : Option (List ℕ))
     → IsFieldIn separator line field remainder → AreFieldsOf separator line remainder
 fields_after separator None field remainder p f r q = absurd p
@@ -160,7 +145,6 @@ fields_after separator (Some l) field (Some b) p f r q =
 
 -- ---- the first field
 
--- the bytes before the first separator, and the rest after it
 pub piece_at : (separator : Option ℕ) (bytes : List ℕ) (at : ℕ)
     → position (is_separator separator) bytes ≡ Some at → IsPiece separator bytes (take at bytes)
     (Some (take (length bytes - (at + 1)) (drop (at + 1) bytes)))
@@ -172,13 +156,11 @@ piece_at separator bytes at is = let (within, found, _) = position-Some _ bytes 
       ends = (get_or bytes at 0, grind (arith, common_steps), found);
     }
 
--- the index of the first separator is the end of the first field
 pub ends_at : (separator : Option ℕ) (bytes : List ℕ) (at : ℕ) (end : Option ℕ)
     → end ≡ position (is_separator separator) bytes → end ≡ Some at → IsFirstPieceEnd separator bytes at
 ends_at separator bytes at end first some =
     let is : position (is_separator separator) bytes ≡ Some at = cc in
-    let split = split_around (is_separator separator) bytes at is in
-    grind (arith, split)
+    grind (arith, (split_around (is_separator separator) bytes at is))
 
 pub ends_whole : (separator : Option ℕ) (bytes : List ℕ) (end : Option ℕ)
     → end ≡ position (is_separator separator) bytes → end ≡ None → IsFirstPieceEnd separator bytes (length bytes)
@@ -199,7 +181,6 @@ skip_empty_word = grind arith
 
 -- ---- writing lines field by field
 
--- a separator and then the line is each of its fields after a separator
 pub prefixed_fields : (c : ℕ) (bytes : List ℕ) → with_prefix c (slice_split (λ b. b == c) bytes) ≡ c ∷ bytes
 prefixed_fields c [] = refl
 prefixed_fields c (x ∷ xs) = search (rules, prefixed_fields c xs)
@@ -215,9 +196,8 @@ pub others_more : (count i : ℕ) {fs more : Lines} {f : List ℕ} → i < count
 others_more = search rules
 
 pub others_rest : (n : ℕ) {fs more : Lines} {f : List ℕ} → n ≡ 0 → fs ≡ f ∷ more → remove fs n ≡ more
-others_rest n last is = rw (is, last) refl
+others_rest n last is = rw (is, last)
 
--- the output line without an output list, and with one
 pub entry_plain : (job : Join) (k : List ℕ) (one two : Option (List ℕ)) → job.list ≡ None
     → entry job k (remaining_fields job.separator one) (remaining_fields job.separator two) ≡ k
     ++ (with_prefix (output_separator job.separator) (other_fields job.field1 (remaining_fields job.separator one))
@@ -227,18 +207,15 @@ entry_plain = grind (arith, join_is_prefixed, flat_map-append)
 pub between_is : (separator : Option ℕ) → output_separator separator ≡ unwrap_or separator 32
 between_is = grind arith
 
--- the first item of a list, and then each other item after a separator
 pub first_then_rest : (f : OutField → List ℕ) (items : List OutField) (d : OutField) → 1 ≤ length items
     → {bytes : List ℕ} → bytes ≡ f (get_or items 0 d)
     → map f items ≡ bytes ∷ map f (take (length items - 1) (drop 1 items))
 first_then_rest = grind (arith, common_steps)
 
--- the output for one item
 abbrev pub output_item : Join → List ℕ → Option (List ℕ) → Option (List ℕ) → OutField → List ℕ
 output_item job k one two i =
     or_filler job.empty (field_named i k (remaining_fields job.separator one) (remaining_fields job.separator two))
 
--- the output line for a list begins with its first item
 pub entry_listed : (job : Join) (k : List ℕ) (one two : Option (List ℕ)) (items : List OutField) (d : OutField)
     → 1 ≤ length items → {bytes : List ℕ} → bytes ≡ output_item job k one two (get_or items 0 d)
     → entry_with_list job (Some items) k one two ≡ bytes ++ with_prefix (output_separator job.separator)
@@ -280,20 +257,13 @@ module _ (job : Join) (key : List ℕ) (none : job.list ≡ None) where
   abbrev of : List ℕ → Lines
   of line = join_fields job.separator line
 
-  -- a canonical line, whose field with this number is the key
-  canonical_is : {n : ℕ} {line : List ℕ} → IsCanonical job.separator n line → nth_field n (of line) ≡ key
-      → line ≡ key ++ with_prefix prefix (other_fields n (of line))
-  canonical_is {n} {line} w keyed = grind arith
-
-  -- the output line for a pair of canonical lines
   pub pair_is : {one two : List ℕ} (end : ℕ) → IsCanonical job.separator job.field1 one
       → IsCanonical job.separator job.field2 two → nth_field job.field1 (of one) ≡ key
       → nth_field job.field2 (of two) ≡ key → one ++ take (length two - length key)
       (drop (length key) two) ++ end ∷ [] ≡ entry job key (of one) (of two) ++ end ∷ []
   pair_is {one} {two} end w1 w2 keyed1 keyed2 =
-      grind (arith, common_steps, canonical_is, append_assoc, entry_plain job key (Some one) (Some two))
+      grind (arith, common_steps, append_assoc, entry_plain job key (Some one) (Some two))
 
-  -- the output line for one canonical line
   pub first_is : {line : List ℕ} → IsCanonical job.separator job.field1 line → nth_field job.field1 (of line) ≡ key
       → line ≡ entry job key (of line) []
   first_is {line} w keyed = grind (arith, entry_plain job key (Some line) None, append-nil)
@@ -308,36 +278,28 @@ module _ (job : Join) (key : List ℕ) (none : job.list ≡ None) where
 abbrev equal_lanes : List ℕ → ℕ → ℕ → List ℕ
 equal_lanes v n byte = zip2 (λ a b. cond (eqb a b) 255 0) v (replicate n byte)
 
-blank_lanes : (v : List ℕ) (n : ℕ) → length v ≡ n
+pub blank_lanes : (v : List ℕ) (n : ℕ) → length v ≡ n
     → map (top 7) (zip2 bit_or (equal_lanes v n 32) (equal_lanes v n 9)) ≡ map is_blank v
 blank_lanes [] n long = refl
 blank_lanes (b ∷ v) zero long = absurd (omega arith)
 blank_lanes (b ∷ v) (suc n) long = grind (arith, blank_lanes v n (omega arith))
 
-pub blank_mask : (bytes : List ℕ) (at n : ℕ) → at + n ≤ length bytes → n ≤ 64
-    → mask_l (map (top 7) (zip2 bit_or (equal_lanes (chunk at n bytes) n 32)
-    (equal_lanes (chunk at n bytes) n 9))) % 2 ^ 64 ≡ mask_l (map is_blank (chunk at n bytes))
-blank_mask bytes at n within few = search (rules, length-chunk, blank_lanes, mask_l-mod, length-map)
-
--- a blank among single spaces is a space
 pub space_is : (blank : Bool) (b : ℕ) (v : List ℕ) → is_blank b ≡ true → is_single_spaced blank (b ∷ v) ≡ true
     → (b ≡ 32) × (is_single_spaced true v ≡ true)
 space_is blank b v here spaced = grind (arith, here, spaced)
 
 spaced_suffix : (blank : Bool) (xs : List ℕ) (b : ℕ) (ys : List ℕ) → is_single_spaced blank (xs ++ b ∷ ys) ≡ true
     → is_blank b ≡ true → (b ≡ 32) × (is_single_spaced true ys ≡ true)
-spaced_suffix blank [] b ys s here = space_is blank b ys here s
+spaced_suffix blank [] b ys s here = space_is _ b ys here s
 spaced_suffix blank (x ∷ xs) b ys s here = grind (arith, spaced_suffix (x == 32) xs b ys)
 
 -- ---- the bytes before a field and after it
 
--- one separator between each two fields
 pub even_prefixed : (separator : Option ℕ) (line : List ℕ) → is_evenly_separated separator line ≡ true
     → with_prefix (output_separator separator) (join_fields separator line) ≡ output_separator separator ∷ line
 even_prefixed (Some c) line even = prefixed_fields c line
 even_prefixed None line even = single_spaced_words true line even
 
--- the fields after a field are the bytes after it
 pub after_piece : (separator : Option ℕ) (line field : List ℕ) (remainder : Option (List ℕ)) (end : ℕ)
     → IsPiece separator line field remainder
     → MatchOption remainder (end ≡ length line) (λ bytes. end + 1 + length bytes ≡ length line)
@@ -349,7 +311,7 @@ after_piece separator line field (Some bytes) end p e even = grind (arith, commo
     by : (separator : Option ℕ) (byte : ℕ) → is_separator separator byte ≡ true
         → is_evenly_separated separator ((p.front ++ field) ++ byte ∷ bytes) ≡ true
         → with_prefix (output_separator separator) (join_fields separator bytes) ≡ byte ∷ bytes
-    by (Some c) byte test even = cc (prefixed_fields c bytes, eqb-true byte c test)
+    by (Some c) byte test even = cc (prefixed_fields c _, eqb-true byte c test)
     by None byte test even =
         let (is_space, spaced) = spaced_suffix true (p.front ++ field) byte bytes even test in
         cc (single_spaced_words true bytes spaced)
@@ -364,9 +326,8 @@ remove_at : (fs : Lines) (i : ℕ) (f : List ℕ) (more : Lines) → drop i fs �
 remove_at [] zero f more is = cc
 remove_at [] (suc i) f more is = cc
 remove_at (g ∷ fs) zero f more is = cc
-remove_at (g ∷ fs) (suc i) f more is = cc (remove_at fs i f more is)
+remove_at (g ∷ fs) (suc i) f more is = cc (remove_at fs i f _ is)
 
--- the bytes before a separator
 cut_before : (c : ℕ) (before more line : List ℕ) → before ++ (c ∷ more) ≡ c ∷ line → (rest : List ℕ)
     → before ++ rest ≡ cond (length before == 0) rest (c ∷ take (length before - 1) line ++ rest)
 cut_before c [] more line is rest = refl
@@ -413,9 +374,9 @@ pub ruleset plain_entry_steps = (first_fails, entry_plain)
 
 -- ---- words by masks
 
--- Words of a line by masks of its blanks. A mask is the number of a list of bits, so each fact is by induction on that
--- list: two masks that overlap make one; no blank is misplaced if a mask is zero; and the first run of set bits is the
--- first word, after which the words of the rest of the line follow.
+-- A mask is the number of a list of bits, so each fact is by induction on that list: two masks that overlap make one;
+-- no blank is misplaced if a mask is zero; and the first run of set bits is the first word, after which the words of
+-- the rest of the line follow.
 
 -- ---- the lowest bits of two numbers
 
@@ -445,7 +406,6 @@ or_ends zero n bits le = let one : 2 ^ 0 * mask_l bits ≡ mask_l bits = omega a
 or_ends (suc last) zero bits le = absurd (omega arith)
 or_ends (suc last) (suc n) [] le = grind arith
 or_ends (suc last) (suc n) (b ∷ bits) le =
-    let double : 2 ^ suc last ≡ 2 * 2 ^ last = omega arith in
     let twice : 2 ^ suc last * mask_l (drop last bits) ≡ bit false + 2 * (2 ^ last * mask_l _) =
     search (rules, mul_assoc) in
     ap (bit_or (mask_l (b ∷ take n bits))) twice ∙ or_bits b false (mask_l (take n bits))
@@ -463,7 +423,7 @@ ends_mask test bytes n first all few =
     let small = fits (mask_l (drop last bits)) n last (rw size at (mask_l-lt (drop last bits))) (omega arith) in
     let whole : mask_l (drop last bits) * 2 ^ last % 2 ^ 64 ≡ 2 ^ last * mask_l (drop last bits) =
     omega arith in
-    cc (take-map test n bytes, tail, or_ends last n bits (omega arith))
+    cc (take-map _ n _, tail, or_ends last n _ (omega arith))
   where
     fits : (m n last : ℕ) → m < 2 ^ n → n + last ≤ 64 → m * 2 ^ last < 2 ^ 64
     fits m n last low le = omega (
@@ -498,7 +458,6 @@ single_spaces_is any before bytes low few is =
     or_even : (any before : ℕ) → before ≤ 1 → bit_or (any * 2 % 2 ^ 64) before ≡ (any * 2 + before) % 2 ^ 64
     or_even any before low =
         let half = any % 2 ^ 63 in
-        let even : any * 2 % 2 ^ 64 ≡ 2 * half = omega arith in
         grind (arith, or_bits false (before == 1) half 0, or_zero_r half)
 
     and_low : (x y : ℕ) → x < 2 ^ 64 → bit_and x (y % 2 ^ 64) ≡ bit_and x y
@@ -538,9 +497,8 @@ last_blank blank (b ∷ bytes) = last_blank (b == 32) bytes
 pub spaced_append : (blank : Bool) (v back : List ℕ) → is_single_spaced blank (v ++ back) ≡ cond
     (has_single_spaces blank v) (is_single_spaced (last_blank blank v) back) false
 spaced_append blank [] back = refl
-spaced_append blank (b ∷ v) back = let ih = spaced_append (b == 32) v back in grind arith
+spaced_append blank (b ∷ v) back = grind (arith, spaced_append (b == 32) v back)
 
--- the highest bit says whether the last byte is a blank
 pub top_bit : (n : ℕ) (blank : Bool) (v : List ℕ) → length v ≡ suc n → has_single_spaces blank v ≡ true
     → mask_l (map is_blank v) / 2 ^ n ≡ bit (last_blank blank v)
 top_bit n blank [] size spaced = absurd (omega arith)
@@ -551,7 +509,7 @@ top_bit (suc n) blank (b ∷ v) size spaced =
     let twice : 2 ^ suc n ≡ 2 * 2 ^ n = omega arith in
     cc (
       top_bit n (b == 32) v (omega arith) (grind arith),
-      (halves (is_blank b) m).0,
+      (halves _ m).0,
       div-div-eq-div-mul (bit (is_blank b) + 2 * m) 2 (2 ^ n),
     )
 
@@ -559,13 +517,10 @@ pub chunk_spaced : (blank : Bool) (bytes : List ℕ) (at : ℕ) → at + 64 ≤ 
     → is_single_spaced blank (drop at bytes) ≡ cond (has_single_spaces blank (chunk at 64 bytes))
     (is_single_spaced (last_blank blank (chunk at 64 bytes)) (drop (at + 64) bytes)) false
 chunk_spaced blank bytes at room =
-    rw (← spaced_append, ← drop-drop 64 at bytes, take-append-drop 64 (drop at bytes)) refl
+    rw (← spaced_append, ← drop-drop 64 at bytes, take-append-drop 64 (drop at bytes))
 
 pub bit_is : (b : Bool) → (bit b == 1) ≡ b
 bit_is = grind arith
-
-pub bit_low : (b : Bool) → bit b ≤ 1
-bit_low = grind arith
 
 -- ---- the words of a line
 
@@ -646,7 +601,7 @@ from at v = replicate at false ++ map is_word (drop at v)
 
 split_byte : (b : ℕ) (v : List ℕ) {t : Bool} → is_blank b ≡ t
     → slice_split is_blank (b ∷ v) ≡ cond t ([] ∷ slice_split is_blank v) (onto_first b (slice_split is_blank v))
-split_byte b v e = rw e refl
+split_byte b v e = rw e
 
 one_more : (n : ℕ) → 1 + n ≡ suc n
 one_more n = omega arith
@@ -663,15 +618,15 @@ record InWord (v : List ℕ) (size : ℕ) (cleared : List Bool) : Type 0 where
 
 in_word : (v : List ℕ) → InWord v (prefix_len not (after_ones (from 0 v))) (clear_ones (from 0 v))
 in_word [] = grind arith
-in_word (b ∷ v) = by (in_word v) (is_blank b) refl
-  where
-    by : InWord v (prefix_len not (after_ones (from 0 v))) (clear_ones (from 0 v)) → (t : Bool) → is_blank b ≡ t
-        → InWord (b ∷ v) (prefix_len not (after_ones (not t ∷ from 0 v))) (clear_ones (not t ∷ from 0 v))
-    by w true e =
-        let split = split_byte b v e in
-        let more = slice_split is_blank v in
-        grind (arith, more, split, single_spaced_words true v)
-    by w false e = rw one_more (let more = w.more in grind (arith, more, w, e))
+in_word (b ∷ v) =
+    let w = in_word v in
+    ⊎_elim
+    (λ (e : is_blank b ≡ true).
+    let split = split_byte b v e in
+    let more = slice_split is_blank v in
+    simp e (grind (arith, more, split, single_spaced_words true v)))
+    (λ (e : is_blank b ≡ false). simp (e, one_more) (let more = w.more in grind (arith, more, w, e)))
+    (cases_Bool (is_blank b))
 
 -- the first word of `v` from the index `at` on is from `start` to before `end`
 pub record WordAt (at : ℕ) (v : List ℕ) (start end : ℕ) (cleared : List Bool) : Type 0 where
@@ -682,13 +637,12 @@ pub record WordAt (at : ℕ) (v : List ℕ) (start end : ℕ) (cleared : List Bo
   pub spaced : (blank : Bool) → is_single_spaced blank (drop at v) ≡ true
       → (is_single_spaced false (drop end v) ≡ true) × (with_prefix 32 (join_fields None (drop end v)) ≡ drop end v)
 
--- a byte before the word
 byte_before : {at to start end : ℕ} {v : List ℕ} {cleared : List Bool} (b : ℕ) → WordAt at v start end cleared
     → join_fields None (drop to (b ∷ v)) ≡ join_fields None (drop at v)
     → ((blank : Bool) → is_single_spaced blank (drop to (b ∷ v)) ≡ true
     → (left : Bool) × (is_single_spaced left (drop at v) ≡ true))
     → WordAt to (b ∷ v) (1 + start) (1 + end) (false ∷ cleared)
-byte_before {start = start} {end} b w same spaced = search rules
+byte_before b w same spaced = search rules
 
 word_at : (at : ℕ) (v : List ℕ) → at ≤ length v → 0 < mask_l (from at v)
     → WordAt at v (prefix_len not (from at v)) (prefix_len not (after_run (from at v))) (clear_run (from at v))
@@ -696,26 +650,23 @@ word_at zero [] low some = absurd (omega arith)
 word_at (suc at) [] low some = absurd (omega arith)
 word_at (suc at) (b ∷ v) low some =
     byte_before b (word_at at v (omega arith) (omega arith)) refl (λ blank s. (blank, s))
-word_at zero (b ∷ v) low some = by (word_at 0 v (omega arith)) (is_blank b) refl some
-  where
-    by : (0 < mask_l (from 0 v)
-        → WordAt 0 v (prefix_len not (from 0 v)) (prefix_len not (after_run (from 0 v))) (clear_run (from 0 v)))
-        → (t : Bool) → is_blank b ≡ t → 0 < mask_l (not t ∷ from 0 v)
-        → WordAt 0 (b ∷ v) (prefix_len not (not t ∷ from 0 v)) (prefix_len not (after_run (not t ∷ from 0 v)))
-        (clear_run (not t ∷ from 0 v))
-    by more true e some = byte_before b (more (omega arith)) (cc (split_byte b v e))
-        (λ blank s. (true, (space_is blank b v e s).1))
-    by more false e some =
-        let w = in_word v in
-        let n = prefix_len not (after_ones (from 0 v)) in
-        let size : suc n - 0 ≡ suc n = omega arith in
-        rw one_more (record {
-          low = omega arith;
-          high = omega arith;
-          is = cc size;
-          rest = cc w.rest;
-          spaced = λ blank s. w.spaced (grind (arith, s));
-        })
+word_at zero (b ∷ v) low some =
+    ⊎_elim
+    (λ (e : is_blank b ≡ true).
+    let more = simp e at some in
+    simp e (byte_before b (word_at 0 v (omega arith) (omega arith)) (cc (split_byte b v e))
+    (λ blank s. (true, (space_is _ b v e s).1))))
+    (λ (e : is_blank b ≡ false).
+    let w = in_word v in
+    let n = prefix_len not (after_ones (from 0 v)) in
+    let size : suc n - 0 ≡ suc n = omega arith in
+    simp (e, one_more) (record {
+      low = omega arith;
+      high = omega arith;
+      is = cc size;
+      rest = cc w.rest;
+      spaced = λ blank s. w.spaced (grind (arith, s));
+    })) (cases_Bool (is_blank b))
 
 no_words : (at : ℕ) (v : List ℕ) → mask_l (from at v) ≡ 0 → join_fields None (drop at v) ≡ []
 no_words zero [] none = refl
@@ -737,7 +688,7 @@ words_start = grind (arith, power_fits, word_mask)
 
 pub any_fits : (line : List ℕ) (any : ℕ) → length line < 64 → any ≡ mask_l (map is_blank line)
     → any ≤ 1 * 2 ^ length line % 2 ^ 64 - 1
-any_fits line any short is = omega (arith, power_fits line short, word_mask line)
+any_fits line any short is = omega (arith, power_fits _ short, word_mask line)
 
 module _ {line : List ℕ} {passed words : ℕ} (short : length line < 64) (left : WordsLeft line passed words) where
   abbrev bits : List Bool
@@ -749,7 +700,6 @@ module _ {line : List ℕ} {passed words : ℕ} (short : length line < 64) (left
   pub words_small : words < 2 ^ 63
   words_small = search (rules, bits_long, mask_l-lt)
 
-  -- no words are left
   pub none_left : (number : ℕ) → words ≡ 0 → passed ≤ number - 1 → drop (number - 1) (join_fields None line) ≡ []
   none_left = grind (arith, none_past, no_words)
 
@@ -758,13 +708,13 @@ module _ {line : List ℕ} {passed words : ℕ} (short : length line < 64) (left
     some_bits = search rules
 
     first_word : WordAt left.at line (prefix_len not bits) (prefix_len not (after_run bits)) (clear_run bits)
-    first_word = word_at left.at line left.within some_bits
+    first_word = word_at _ _ left.within some_bits
 
     abbrev after : ℕ
     after = bit_or words (words - 1) + 1
 
     after_is : after ≡ mask_l (after_run bits)
-    after_is = cc (or_less bits some_bits)
+    after_is = cc (or_less _ some_bits)
 
     start_is : count_trailing_zeros 64 words ≡ prefix_len not bits
     start_is = grind (arith, lowest, bits_long)
@@ -772,7 +722,6 @@ module _ {line : List ℕ} {passed words : ℕ} (short : length line < 64) (left
     end_is : count_trailing_zeros 64 after ≡ prefix_len not (after_run bits)
     end_is = grind (arith, after_is, lowest, length-after_run, bits_long, or_less)
 
-    -- the first of them is passed
     pub word_passed : WordsLeft line (passed + 1) (bit_and words after)
     word_passed = let w = first_word in
         record {
@@ -783,7 +732,6 @@ module _ {line : List ℕ} {passed words : ℕ} (short : length line < 64) (left
           spaced = search rules;
         }
 
-    -- the span of the first of them
     pub word_found : (number : ℕ) → passed ≡ number - 1 → IsFieldAt None number line
         (record { start = count_trailing_zeros 64 words; end = count_trailing_zeros 64 after })
     word_found number is = let w = first_word in

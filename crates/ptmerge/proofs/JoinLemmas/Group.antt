@@ -1,6 +1,6 @@
--- The group of one key: its lines are read, paired and then closed. Output during a group is a prefix of the output for
--- all inputs, since lesser keys are complete and the pairs of the group are written in their final order. Once both
--- inputs are past the key, the group is complete, and counts as processed.
+-- The group of one key: its lines are read, paired and then closed. Lesser keys are complete and the pairs of the group
+-- are written in their final order, so output during a group is a prefix of the output for all inputs. Once both inputs
+-- are past the key, the group counts as processed.
 use Rattle.ptmerge.proofs
 pub use proofs.Common.{◌≡◌, ⊎_elim, ℕ, ◌+◌, ◌-◌, ◌≤◌, ◌<◌, suc, true, false, length-drop, List, [], ◌∷◌, ◌++◌, length}
 pub use proofs.Common.{map, drop, get_or, set, max, refl, ap, ◌∙◌, arith, append_assoc, length-append, length-set}
@@ -17,7 +17,7 @@ pub use proofs.MergeLemmas.{EndsIfFails}
 use proofs.MergeLemmas.{line_other, HasLines, GroupStore, AllExtend, HasRoom, side_extends, group_store_next, put_each}
 use proofs.MergeLemmas.{put_same, put_both, put_other, side_case, EachKey, Bound, MayFollow, IsUnder, MergeInvariant}
 use proofs.MergeLemmas.{IsFuture, MayCome, write_least_run, all_wanted, written_is_wanted, LagInvariant, IsLater}
-use proofs.MergeLemmas.{EachKey-append, at_most-same, front_is, later_entries, lines_with_key-above, Each-weaker}
+use proofs.MergeLemmas.{EachKey-append, front_is, later_entries, lines_with_key-above, Each-weaker}
 use proofs.MergeLemmas.{AtMost, self_at_most, equal_is, SideAfterNext, IsAtCurrentLine, MatchesStatus}
 use proofs.MergeLemmas.{read_facts_after_line, IsOpenMerge, ReadFactsOf, SidesInvariant}
 use proofs.MergeLemmas.{current_key_is_above, next_at, sides_next, advance_fails}
@@ -31,32 +31,25 @@ pub use Rattle.ptmerge.specs.Join.{max_over_keys, max_group_bytes, max_group_lin
 
 -- ---- the slots of a group
 
--- In the store of `join` the slots 0 to 3 hold two lines of each input, and the slots from 4 on hold the group. It is a
--- part of the lines of one key, so it is bounded by the largest group.
+-- In the store of `join` the slots 0 to 3 hold two lines of each input, and those from 4 on hold the group. Its lines
+-- have one key, so it is at most the largest group.
 
--- the lines of the group, from a slot on
 pub group_from : (store : Slots) (end slot : ℕ) → end ≤ length store.lines → slot < end
     → group store slot end ≡ line store slot ∷ group store (slot + 1) end
 group_from store end slot fits low =
-    let more : end - slot ≡ suc (end - (slot + 1)) = omega arith in
     grind (arith, drop_more store.lines slot [])
-
-pub group_end : (store : Slots) (end slot : ℕ) → end ≤ slot → group store slot end ≡ []
-group_end store end slot past = let none : end - slot ≡ 0 = omega arith in rw none refl
 
 pub group_more : (store : Slots) (from end : ℕ) → from ≤ end → end < length store.lines
     → group store from (end + 1) ≡ group store from end ++ line store end ∷ []
 group_more store from end least within =
     let more = take_more (drop from store.lines) (end - from) [] in grind (arith, common_steps)
 
--- the lines of one slot
 pub group_one : (store : Slots) (slot : ℕ) → slot < length store.lines
     → group store slot (slot + 1) ≡ line store slot ∷ []
 group_one = grind (arith, group_more)
 
 -- ---- the output
 
--- the output line of a pair of lines with a key
 abbrev pub pair_of : Join → List ℕ → List ℕ → List ℕ → List ℕ
 pair_of job k first second = entry job k (join_fields job.separator first) (join_fields job.separator second)
 
@@ -76,21 +69,12 @@ clears_more a s t slot from within c is =
     let back : 4 + (slot - 4) ≡ slot = omega arith in
     let all = total_bytes_set s.lines slot [] (omega arith) in
     let at : get_or rest (slot - 4) [] ≡ line a slot = grind (arith, back) in
-    let d : drop 4 (set s.lines slot []) ≡ set rest (slot - 4) [] = grind arith in
     let here = total_bytes_set rest (slot - 4) [] (omega (arith, length-drop 4 s.lines)) in
     let grows = ap total_bytes (group_more a 4 slot from within) ∙ sum_by_push length (group a 4 slot) (line a slot) in
-    rw is (record {
-      slots = length-set s.lines slot [] ∙ c.slots;
-      others = λ i far. grind (arith, line_other);
-      emptied = grind arith;
-      less = omega arith;
-      peak = omega arith;
-      denied = c.denied;
-    })
+    rw is (grind (arith, line_other, length-set))
 
 -- ---- copying a line to the group
 
--- after `ensure_slot`, only empty slots were added
 record EnsuredSlot (before made : Slots) (slot : ℕ) : Type 0 where
   more : Lines
   lines : made.lines ≡ before.lines ++ more
@@ -102,7 +86,7 @@ record EnsuredSlot (before made : Slots) (slot : ℕ) : Type 0 where
 ensured_slot : (before made : Slots) (slot : ℕ) → EnsureSlotPost before made slot → EnsuredSlot before made slot
 ensured_slot before made slot g =
     ⊎_elim (λ e. let more : Lines = [] in grind (arith, common_steps))
-    (λ e. let more : Lines = [] ∷ [] in grind (arith, common_steps)) g.grown
+    (λ e. grind (arith, common_steps)) g.grown
 
 pub failed_copy : (before made : Slots) (to : ℕ) → EnsureSlotPost before made to
     → CopyToGroupErrPost before (with_denied (with_line made to [])) to
@@ -110,14 +94,13 @@ failed_copy = grind (arith, common_steps, total_bytes_set)
 
 -- ---- the largest group
 
--- a measure of lists of lines that is the sum of a weight of each line
+-- a measure that is the sum of a weight of each line
 record IsLineMeasure (m : Lines → ℕ) : Type 0 where
   weight : List ℕ → ℕ
   none : m [] ≡ 0
   more : (x : List ℕ) (xs : Lines) → m (x ∷ xs) ≡ weight x + m xs
 
 module _ (m : Lines → ℕ) (laws : IsLineMeasure m) (key : Key) where
-  -- lines of one key are at most all lines with this key
   group_measure_max : (k : List ℕ) (p g c : Lines) → EachKey (λ x. x ≡ k) key g
       → m g ≤ m (lines_with_key key (p ++ (g ++ c)) k)
   group_measure_max k [] [] c e = omega arith
@@ -129,7 +112,6 @@ module _ (m : Lines → ℕ) (laws : IsLineMeasure m) (key : Key) where
   greatest_has ls [] y w = omega arith
   greatest_has ls (x ∷ p) y w = omega (arith, greatest_has ls p y w)
 
-  -- lines of one key are at most the largest group
   measure_in : (k : List ℕ) (p g w : Lines) → EachKey (λ x. x ≡ k) key g → 0 < length g
       → m g ≤ max_over_keys m key ((p ++ g) ++ w) ((p ++ g) ++ w)
   measure_in k p [] w own some = absurd (omega arith)
@@ -139,7 +121,6 @@ module _ (m : Lines → ℕ) (laws : IsLineMeasure m) (key : Key) where
     rw is at (greatest_has (p ++ (x ∷ g ++ w)) p x (g ++ w)),
   ))
 
--- the lines of a group are at most the largest group of an input
 abbrev pub InLargest : Key → Lines → Lines → Type 0
 InLargest key g ls = (total_bytes g ≤ max_group_bytes key ls) × (length g ≤ max_group_lines key ls)
 
@@ -153,14 +134,12 @@ group_in key k p g w own some = (
 
 -- ---- the content of the slots
 
--- the first four slots are unchanged, and the others hold `now` bytes
 same_lines : (xs ys : Lines) (m : Side → ℕ) (more now : ℕ) → HasLines m more xs → 4 ≤ length ys
     → ((i : ℕ) → i < 4 → get_or ys i [] ≡ get_or xs i []) → total_bytes (drop 4 ys) ≡ now → HasLines m now ys
 same_lines = grind arith
 
 module _ {tool : MergeTool} {before store : Slots} {ls : Side → Lines} {g : Lines}
     (k : GroupStore tool before store ls g) where
-  -- the result of copying a line to the end of the group
   pub record CopiedLine (after : Slots) (y : List ℕ) : Type 0 where
     pub store_holds : GroupStore tool before after ls (g ++ y ∷ [])
     pub same : (i : ℕ) → i < 4 → line after i ≡ line store i
@@ -211,7 +190,6 @@ module _ {tool : MergeTool} {before store : Slots} {ls : Side → Lines} {g : Li
   group_store_copied {after} {from} {to} at low e {y} is largest = let w = ensured_slot store e.made to e.grown in
       rw (e.copied, made_same w from low, is) (kept w y at e.grown.within largest)
 
-  -- the lines of the group are in its slots
   pub kept_line : (slot : ℕ) → 4 ≤ slot → slot < 4 + length g → line store slot ≡ get_or g (slot - 4) []
   kept_line = grind (arith, common_steps)
 
@@ -221,7 +199,6 @@ module _ {tool : MergeTool} {before store : Slots} {ls : Side → Lines} {g : Li
   pub end_within : {end : ℕ} → end ≡ 4 + length g → end ≤ length store.lines
   end_within = grind (arith, length-append)
 
-  -- the group is emptied
   pub group_store_cleared : {after : Slots} {end : ℕ} → end ≡ 4 + length g → ClearGroupPost store after end
       → GroupStore tool before after ls []
   group_store_cleared = grind (arith, common_steps, group_is, total_within, same_lines)
@@ -230,10 +207,9 @@ pub ruleset pair_steps = (partial_starts, pairs_text)
 
 -- ---- a fault within a group
 
--- After a fault within a group, the output of all lesser keys is complete, and the output of the group's key is a
--- prefix.
+-- The output of all lesser keys is complete, and that of the group's key is a prefix.
 
--- the lines `p` are processed, the lines `g` are the group of the key `k`, and `d` bounds the lines that may follow
+-- the lines `p` are processed, `g` are the group of the key `k`, and `d` bounds the lines that may follow
 pub record OutputInGroup (tool : MergeTool) (was mid : Output) (p g : Side → Lines) (d : Side → Bound)
     (k : List ℕ) : Type 0 where
   pub merge_invariant : MergeInvariant tool (λ side. AtLeast k) p was mid
@@ -241,16 +217,11 @@ pub record OutputInGroup (tool : MergeTool) (was mid : Output) (p g : Side → L
   pub own : (side : Side) → EachKey (λ x. x ≡ k) (tool.key side) (g side)
   pub later : (side : Side) → IsLater tool.cmp (tool.key side) (AtLeast k) (d side)
 
--- the entries `extra` are a prefix of the group's output, for all lines that may follow
+-- `extra` is a prefix of the group's entries, for all lines that may follow
 pub record OutputStartsWith (tool : MergeTool) (g : Side → Lines) (d : Side → Bound) (k : List ℕ)
     (extra : Lines) : Type 0 where
   pub rest : (w : List ℕ → Bool) (r : Side → Lines) → MayCome tool d r → w k ≡ true → (rest : Lines)
       × (entries_by_key tool w (λ side. g side ++ r side) ≡ extra ++ rest)
-
--- the group has entries, for all lines that may follow
-abbrev pub HasEntries : MergeTool → (Side → Lines) → (Side → Bound) → List ℕ → Type 0
-HasEntries tool g d k = (w : List ℕ → Bool) (r : Side → Lines) → MayCome tool d r → w k ≡ true
-    → 0 < length (entries_by_key tool w (λ side. g side ++ r side))
 
 module _ {tool : MergeTool} {old : MergeState} (w : IsOpenMerge tool old) {mid : Output} {p g : Side → Lines}
     {d : Side → Bound} {k : List ℕ} (m : OutputInGroup tool old.out mid p g d k) where
@@ -262,9 +233,10 @@ module _ {tool : MergeTool} {old : MergeState} (w : IsOpenMerge tool old) {mid :
 
   rest_not_less : (side : Side) (r : Lines) → MayFollow cmp (key side) (d side) r
       → EachKey (AtMost cmp k) (key side) (g side ++ r)
-  rest_not_less side r c = at_most-same tool o (key side) k (g side) r (m.own side) ((m.later side).may_follow r c)
+  rest_not_less side r c = EachKey-append _ (key side) (g side) r
+      (Each-weaker _ _ (λ x is. rw is (self_at_most cmp o k)) _ (m.own side)) ((m.later side).may_follow r c)
 
-  -- two lists that continue the lines read so far: their sorted prefixes and their disorder
+  -- two lists that continue the lines read so far
   module _ (all : Side → Lines)
       (seen : (side : Side) → IsFuture cmp (key side) (all side) (p side ++ g side) (d side)) where
     abbrev coming : Side → Lines
@@ -274,7 +246,7 @@ module _ {tool : MergeTool} {old : MergeState} (w : IsOpenMerge tool old) {mid :
         p ++ entries_by_key tool w (λ side. g side ++ coming side)
     parts w = (λ i. entries_by_key tool w (λ side. ((seen side).is ∙ append_assoc (p side) (g side) (coming side)) i))
         ∙ m.merge_invariant.splits w (λ side. g side ++ coming side)
-        (λ side. rest_not_less side (coming side) (seen side).may_follow)
+        (λ side. rest_not_less _ _ (seen side).may_follow)
 
     wanted : (x : List ℕ) → AtMost cmp x k → is_up_to cmp (disorder tool all) x ≡ true
     wanted = search (rules, written_is_wanted)
@@ -282,7 +254,6 @@ module _ {tool : MergeTool} {old : MergeState} (w : IsOpenMerge tool old) {mid :
     abbrev is_wanted : List ℕ → Bool
     is_wanted = is_up_to cmp (disorder tool all)
 
-    -- the entries of all lesser keys come first
     front_is_first : entries_by_key tool is_wanted p ≡ front
     front_is_first = all_wanted tool is_wanted p (λ side. Each-weaker _ _ wanted _ (m.merge_invariant.under First side))
 
@@ -291,22 +262,8 @@ module _ {tool : MergeTool} {old : MergeState} (w : IsOpenMerge tool old) {mid :
     group_comes_first {extra} starts =
         let (rest, is) = starts.rest is_wanted coming (λ side. (seen side).may_follow)
         (wanted k (self_at_most cmp o k)) in
-        (rest, cc (parts is_wanted, front_is_first, append_assoc front extra rest))
+        (rest, cc (parts _, front_is_first, append_assoc front extra rest))
 
-    -- the text of the entries of lesser keys is not all, if the group has entries
-    pub front_is_not_all : HasEntries tool g d k
-        → ¬ (unlines terminator (front ++ []) ≡ unlines terminator (merged_entries tool all))
-    front_is_not_all has same =
-        some_text front (entries_by_key tool is_wanted (λ side. g side ++ coming side))
-        (has is_wanted coming (λ side. (seen side).may_follow) (wanted k (self_at_most cmp o k)))
-        (rw (append-nil front, parts is_wanted, front_is_first) at same)
-      where
-        some_text : (xs ys : Lines) → 0 < length ys → ¬ (unlines terminator xs ≡ unlines terminator (xs ++ ys))
-        some_text xs [] none same = absurd (omega arith)
-        some_text xs (y ∷ ys) some same =
-            absurd (omega (arith, simp (unlines-append, length-append) at (ap length same)))
-
-  -- the keys of the processed lines and of the group
   passed_keys : (of side : Side) → EachKey (λ x. AtMost cmp x k) (key side) (p side ++ g side)
   passed_keys of side =
       EachKey-append _ (key side) _ _ (m.merge_invariant.under of side)
@@ -345,7 +302,6 @@ pub record IsPairTool (tool : MergeTool) (pairs : List ℕ → Lines → Lines �
   pub largest : tool.keeps_groups ≡ true → (g : Lines) (ls : Side → Lines) → InLargest (tool.key Second) g (ls Second)
       → HasRoom tool g ls
 
--- a call of such a tool, with its initial state
 pub record JoinCall : Type 0 where
   pub tool : MergeTool
   pub open tool use *
@@ -355,15 +311,13 @@ pub record JoinCall : Type 0 where
   pub w : IsOpenMerge tool old
   pub open w use {o}
 
--- the current line of an input
 abbrev pub head_of : MergeState → (Side → Sorted) → Side → List ℕ
 head_of now cursor s = line now.store (cursor s).current_slot
 
--- the state after an input advanced, with this output and store
 abbrev pub state_after_read : MergeState → Side → Reader → Output → Slots → MergeState
 state_after_read now s reader out store = record { reader = with_side s reader now.reader; out = out; store = store }
 
--- the invariant of both inputs depends only on the first four slots
+-- only the first four slots matter
 pub same_cursors : (tool : MergeTool) {old now : Side → Reader} {cursor : Side → Sorted} {before after : Slots}
     {ls p : Side → Lines} {b : Side → Bound} → SidesInvariant tool old now cursor before ls p b
     → 4 ≤ length after.lines → ((i : ℕ) → i < 4 → line after i ≡ line before i)
@@ -376,13 +330,12 @@ module _ (call : JoinCall) {mid : Output} {p g : Side → Lines} {d : Side → B
     (m : OutputInGroup call.tool call.old.out mid p g d k) where
   open call use {cmp, entries, key, laws, o, pairs, tool}
 
-  -- no key that follows is less
   none_less : (r : Side → Lines) → MayCome tool d r → (side : Side) → EachKey (AtMost cmp k) (key side) (r side)
   none_less = grind arith
 
   -- the pairs of a group come first, for all lines of its key that the first input still has
   starts_pairs : (f c s : Lines) → 0 < length s → (rest : Lines) × (entries k (f ++ c) s ≡ pairs k f s ++ rest)
-  starts_pairs [] c s some = (entries k c s, rw (laws.none k s) refl)
+  starts_pairs [] c s some = (entries k c s, rw (laws.none k s))
   starts_pairs (a ∷ f) c s some =
       (pairs k c s, grind arith)
 
@@ -401,37 +354,49 @@ module _ (call : JoinCall) {mid : Output} {p g : Side → Lines} {d : Side → B
         );
   }
 
-  -- the entries of a group of lines of both inputs
-  pub has_entries : tool.keeps_groups ≡ true → ((side : Side) → 0 < length (g side)) → HasEntries tool g d k
-  has_entries keeps some w r c wanted =
+  -- the text of the entries of lesser keys is not all, if the group has lines of both inputs
+  pub front_is_not_all : tool.keeps_groups ≡ true → ((side : Side) → 0 < length (g side)) → (all : Side → Lines)
+      → ((side : Side) → IsFuture cmp (key side) (all side) (p side ++ g side) (d side))
+      → ¬ (unlines call.terminator (entries_by_key tool all_keys p ++ [])
+      ≡ unlines call.terminator (merged_entries tool all))
+  front_is_not_all keeps some all seen same =
+      let w = is_up_to cmp (disorder tool all) in
+      let r = λ (side : Side). (seen side).rest in
       let f = g First ++ lines_with_key (key First) (r First) k in
       let s = g Second ++ lines_with_key (key Second) (r Second) k in
       let some_first : 0 < length f = grind (arith, length-append) in
       let some_second : 0 < length s = grind (arith, length-append) in
-      let rest = later_entries tool o w k (call.w.alone.none k) r in
+      let has : 0 < length (entries_by_key tool w (λ side. g side ++ r side)) =
       rw (
-        front_is tool o w k (call.w.alone.none k) g r m.own (none_less r c),
-        wanted,
+        front_is tool o w k (call.w.alone.none k) g r m.own (none_less r (λ side. (seen side).may_follow)),
+        wanted call.w m all seen k (self_at_most cmp o k),
         laws.whole k f s some_first some_second,
-      ) (grind (arith, length-append))
+      ) (grind (arith, length-append)) in
+      some_text _ _ has (rw (
+        append-nil (entries_by_key tool all_keys p),
+        parts call.w m all seen w,
+        front_is_first
+            call.w m all seen,
+      ) at same)
+    where
+      some_text : (xs ys : Lines) → 0 < length ys
+          → ¬ (unlines call.terminator xs ≡ unlines call.terminator (xs ++ ys))
+      some_text xs [] none same = absurd (omega arith)
+      some_text xs (y ∷ ys) some same =
+          absurd (omega (arith, simp (unlines-append, length-append) at (ap length same)))
 
   -- a group is complete if only greater keys follow
   pub closes : {is : Output} → ((side : Side) → 0 < length (g side))
       → ((side : Side) → IsAbove cmp (key side) k (d side))
       → PushEffect mid is (unlines call.terminator (pairs k (g First) (g Second)))
       → MergeInvariant tool d (λ side. p side ++ g side) call.old.out is
-  closes some above wrote = (write_least_run o k _ g (λ side. record {
-    own = m.own side;
-    may_follow = rest_not_less call.w m side;
-    own_under = self_at_most cmp o k;
-    under = (m.later side).under;
-    later = m.later side;
-  }) (λ side. refl) (call.w.alone.none k)
+  closes some above wrote = (write_least_run o k _ g
+      (λ side. search (rules, m.own side, m.later side, rest_not_less call.w m, self_at_most)) (λ side. refl)
+      (call.w.alone.none k)
       (λ r c.
       let none = λ (side : Side). lines_with_key-above tool o (key side) k (r side) (above side (r side) (c side)) in
       simp (none First, none Second, call.w.alone.none k, append-nil)) m.clean m.merge_invariant (rw output_is wrote)).0
     where
-      -- the output of the group alone
       output_is : entries_by_key tool all_keys g ≡ pairs k (g First) (g Second)
       output_is =
           simp append-nil at (front_is tool o all_keys k (call.w.alone.none k) g (λ side. []) m.own (λ side. tt))
@@ -442,12 +407,10 @@ module _ (call : JoinCall) {mid : Output} {p g : Side → Lines} {d : Side → B
 has_key : (s : CursorStatus) (a b : List ℕ) → (is_head s && bytes_eq a b) ≡ true → (s ≡ Head) × (b ≡ a)
 has_key s a b h = grind (arith, bytes_decides a b)
 
--- the group with the current line of the input `s` added
 abbrev pub with_added_line : MergeState → (Side → Sorted) → Side → (Side → Lines) → Side → Lines
 with_added_line now cursor s g = with_side s (g s ++ head_of now cursor s ∷ []) g
 
--- the invariant during a group `g` of the key `k`: its output so far is written, and its copied lines end before slot
--- `end`
+-- in a group `g` of the key `k`: its output so far is written, and its copied lines end before slot `end`
 pub record GroupState (call : JoinCall) (now : MergeState) (cursor : Side → Sorted) (end : ℕ) (k : List ℕ)
     (g : Side → Lines) (kept : Lines) : Type 0 where
   pub ls : Side → Lines
@@ -464,7 +427,6 @@ module _ {call : JoinCall} {now : MergeState} {cursor : Side → Sorted} {end : 
     {kept : Lines} (q : GroupState call now cursor end k g kept) where
   open call use {cmp, key, o, old, tool}
 
-  -- an input is past a key if its current line does not have it
   pub is_past : (s : Side) → ((cursor s).status ≡ Head → ¬ (key s (head_of now cursor s) ≡ k))
       → IsAbove cmp (key s) k (q.d s)
   is_past s other = (current_key_is_above _ o _ k _ _ _ _ _
@@ -483,20 +445,18 @@ module _ {call : JoinCall} {now : MergeState} {cursor : Side → Sorted} {end : 
   pub end_in : (4 ≤ end) × (end ≤ length now.store.lines)
   end_in = (omega arith, end_within q.keeps q.at)
 
-  -- the facts of an input, if these lines of the group are processed
+  -- if these lines of the group are processed
   abbrev pub FactsWith : (Side → Lines) → Side → Type 0
   FactsWith lines side = ReadFactsOf tool old now.reader q.ls (λ t. q.p t ++ lines t) q.d side (now.reader side) []
 
   pub group_read_facts : (side : Side) → FactsWith g side
   group_read_facts side = (q.sides side).facts
 
-  -- the group after other lines were stored for it
   pub group_kept : {after : Slots} → ((i : ℕ) → i < 4 → line after i ≡ line now.store i)
       → {lines : Lines} → GroupStore tool old.store after q.ls lines → {to : ℕ} → to ≡ 4 + length lines
       → GroupState call (record now { store = after }) cursor to k g lines
   group_kept same holds at = search (rules, same_cursors)
 
-  -- the input `s` is at a further line of the group
   pub record IsAtGroupLine (s : Side) : Type 0 where
     pub head : (cursor s).status ≡ Head
     pub is : key s (head_of now cursor s) ≡ k
@@ -508,14 +468,12 @@ module _ {call : JoinCall} {now : MergeState} {cursor : Side → Sorted} {end : 
   abbrev x : List ℕ
   x = head_of now cursor s
 
-  -- the group with the current line
   abbrev added : Side → Lines
   added = with_added_line now cursor s g
 
   at_head : IsAtCurrentLine cmp (key s) (cursor s).number x (q.ls s) (q.p s ++ g s) (q.d s)
   at_head = at_current_line (q.sides s) l.head
 
-  -- all lines read, including the current one
   pub with_head : q.ls s ≡ q.p s ++ (g s ++ head_of now cursor s ∷ [])
   with_head = at_head.all ∙ append_assoc (q.p s) (g s) (x ∷ [])
 
@@ -526,42 +484,31 @@ module _ {call : JoinCall} {now : MergeState} {cursor : Side → Sorted} {end : 
   within_more = assumption (own_more, q.within)
 
   pub all_processed : q.p s ++ added s ≡ q.ls s
-  all_processed = cc (with_head, put_same s (g s ++ x ∷ []) g)
+  all_processed = cc (with_head, put_same s _ g)
 
-  -- the current line is processed
   pub passing_now : (side : Side) → FactsWith q added side
   passing_now = side_case _ s
       (rw all_processed (read_facts_after_line (q.sides s) o l.head)) (simp put_other (group_read_facts q (other s)))
 
-  -- writing failed, or reading the next line, after a prefix of the group's output was written
   pub group_breaks : {out : Output} {extra : Lines} → OutputStartsWith tool added q.d k extra
       → PushEffect q.mid out (unlines call.terminator extra) → EndsIfFails tool old now s (cursor s) out
-  group_breaks begins wrote = advance_fails w {now = now} {cursor = cursor s}
-      {p = λ t. q.p t ++ added t} (record {
-        facts = passing_now;
-        all = all_processed;
-        order = λ r piece free. both_begun (λ side. (q.sides side).begun);
-        kept = kept;
-        keeps = q.keeps;
-        slots = (q.sides s).slots;
-      }) (group_written w within_more begins wrote)
+  group_breaks begins wrote = advance_fails w now (cursor s)
+      {p = λ t. q.p t ++ added t} passing_now all_processed
+      (λ r piece free. both_begun (λ side. (q.sides side).begun)) q.keeps (q.sides s).slots
+      (group_written w within_more begins wrote)
 
-  -- the input advances
   module _ {reader : Reader} {next : Sorted} {after : Slots}
       (comes : NextOkPost (key s) cmp (cursor s) next (now.reader s) reader now.store after) where
     abbrev gone_to : SideAfterNext tool s (old.reader s) reader next (cursor s).previous_slot now.store after (q.ls s)
         (Some (key s (head_of now cursor s)))
     gone_to = next_at o q.sides s l.head comes
 
-    -- the previous line keeps its slot
     pub last_stays : line after next.previous_slot ≡ head_of now cursor s
     last_stays = grind (arith, gone_to.stored, line_other)
 
     says : next.same ≡ (is_head next.status && bytes_eq k (key s (line after next.current_slot)))
-    says = let h = at_head in let low = low_slot s (cursor s) (q.sides s).slots in
-        grind (arith, line_of_with_line, equal_is)
+    says = grind (arith, line_of_with_line, equal_is, low_slot, at_head, (q.sides s).slots)
 
-    -- whether the next line has the key of the group, too
     pub continues_key : next.same ≡ true → (next.status ≡ Head) × (key s (line after next.current_slot) ≡ k)
     continues_key same = grind (arith, has_key, says)
 
@@ -599,6 +546,6 @@ module _ {call : JoinCall} {now : MergeState} {cursor : Side → Sorted} {end : 
             wrote = wrote;
             at = q.at;
           };
-          bound = put_other s n.bound q.d;
-          more = side_extends s q.ls n.continues_key;
+          bound = put_other s _ q.d;
+          more = side_extends s _ n.continues_key;
         }

@@ -1,5 +1,5 @@
 -- Each input of a merge, and the exits of a tool. At an exit the lines read, the processed ones and a bound on the
--- others are known for each input, and the contract of the tool follows from these and from the output.
+-- others are known for each input; the contract of the tool follows from these and from the output.
 pub mod Invariant
 pub mod SlotLines
 use Rattle.std.proofs.lemmas.Grind.{common_steps}
@@ -28,23 +28,23 @@ pub use SlotLines.*
 
 -- ---- bounded lag
 
--- Bounded lag. Leave out the buffered bytes, at most a block, and the terminator of a line that is not yet processed:
--- the complete lines that remain are all processed. No key below the last of these can follow in either input, so with
--- any content of the other input they decide only output that is written.
+-- Leave out the buffered bytes, at most a block, and the terminator of a line that is not yet processed: the complete
+-- lines that remain are all processed. No key below the last of these can follow in either input, so with any content
+-- of the other input they decide only output that is written.
 
 -- ---- lines in order
 
 sorted_from_after : (cmp : Cmp) (key : Key) (last : Option (List ℕ)) (ls : Lines)
     → IsSortedFrom cmp key last (sorted_after cmp key last ls)
 sorted_from_after cmp key last [] = tt
-sorted_from_after cmp key last (x ∷ ls) = let ih = sorted_from_after cmp key (Some (key x)) ls in grind arith
+sorted_from_after cmp key last (x ∷ ls) = grind (arith, sorted_from_after cmp key (Some (key x)) ls)
 
 sorted_from_parts : (cmp : Cmp) (key : Key) (last : Option (List ℕ)) (xs ys : Lines)
     → IsSortedFrom cmp key last (xs ++ ys) → IsSortedFrom cmp key last xs
     × IsSortedFrom cmp key (last_or last (map key xs)) ys
 sorted_from_parts cmp key last [] ys r = (tt, r)
 sorted_from_parts cmp key last (x ∷ xs) ys (here, more) =
-    grind (arith, sorted_from_parts cmp key (Some (key x)) xs ys more)
+    grind (arith, sorted_from_parts cmp key _ xs ys more)
 
 module _ (cmp : Cmp) (o : IsKeyOrder cmp) (key : Key) where
   from_key : (k : List ℕ) (ls : Lines) → IsSortedFrom cmp key (Some k) ls → EachKey (AtMost cmp k) key ls
@@ -52,11 +52,10 @@ module _ (cmp : Cmp) (o : IsKeyOrder cmp) (key : Key) where
   from_key k (x ∷ ls) (here, more) =
       (here, Each-weaker _ _ (λ y h. at_most_trans cmp o k (key x) y here h) _ (from_key (key x) ls more))
 
-  -- no later key is below the last one
   none_below : (xs ys : Lines) → IsSortedFrom cmp key None (xs ++ ys)
       → EachKey (λ k. is_below cmp k (last_or None (map key xs)) ≡ false) key ys
   none_below xs ys r =
-      let (_, rest) = sorted_from_parts cmp key None xs ys r in by _ rest
+      let (_, rest) = sorted_from_parts cmp key _ xs ys r in by _ rest
     where
       by : (l : Option (List ℕ)) → IsSortedFrom cmp key l ys → EachKey (λ k. is_below cmp k l ≡ false) key ys
       by None h = Each-all _ (λ k. refl) (map key ys)
@@ -76,14 +75,12 @@ are_split : (end : ℕ) (xs : Lines) (x : List ℕ) → AreLines end (xs ++ x �
 are_split end [] x (line, _) = (tt, line)
 are_split end (y ∷ xs) x (line, more) = let (front, last) = are_split end xs x more in ((line, front), last)
 
--- the input as it was at most two blocks earlier: all its complete lines are processed, and it has not ended
+-- the input at most two blocks earlier: it had not ended, and all its complete lines are processed
 pub record LagPoint (end : ℕ) (given : Received) (p : Lines) : Type 0 where
   pub before : LaggedInput given
   pub going : before.earlier.eof ≡ false
-  pub whole : Lines
-  pub whole_is : known_lines end before.earlier ≡ whole
   pub rest : Lines
-  pub split : p ≡ whole ++ rest
+  pub split : p ≡ known_lines end before.earlier ++ rest
 
 -- at most one line that was read is not processed, and nothing is read after it
 abbrev pub ProcessedNearly : Lines → Lines → List ℕ → Type 0
@@ -107,10 +104,8 @@ module _ (end : ℕ) (given piece : List ℕ) (ls p : Lines) (now new : Reader) 
       eof = λ e. cc;
     };
     going = refl;
-    whole = whole;
-    whole_is = complete_lines_of_unlines end whole tail all line;
     rest = rest;
-    split = split;
+    split = rw (complete_lines_of_unlines end _ _ all line) split;
   }
 
   -- the last line lacks its terminator
@@ -144,7 +139,7 @@ module _ (end : ℕ) (given piece : List ℕ) (ls p : Lines) (now new : Reader) 
 
 -- ---- the decided output is a prefix of the output, if only processed lines decide it
 
--- two lists that differ only in lines whose keys are not below this one
+-- `xs` and `ys` differ only in lines whose keys are not below `last`
 pub record Differ (tool : MergeTool) (last : Option (List ℕ)) (key : Key) (xs ys : Lines) : Type 0 where
   pub rest : Lines
   pub tail : Lines
@@ -152,7 +147,7 @@ pub record Differ (tool : MergeTool) (last : Option (List ℕ)) (key : Key) (xs 
   pub none_rest : EachKey (λ k. is_below tool.cmp k last ≡ false) key rest
   pub none_tail : EachKey (λ k. is_below tool.cmp k last ≡ false) key tail
 
--- if one list is in order, a property of the reported disorder is one of the other list's disorder
+-- if one list is in order, the reported disorder is that of the other
 of_other : (cmp : Cmp) (s : Side) (f : Side → Option FirstDisorder) (test : Option MergeDisorder → Bool) → f s ≡ None
     → test None ≡ false
     → ((d : FirstDisorder) → f (other s) ≡ Some d → test (Some (record { file = other s; first_disorder = d })) ≡ false)
@@ -160,17 +155,14 @@ of_other : (cmp : Cmp) (s : Side) (f : Side → Option FirstDisorder) (test : Op
 of_other cmp First f test none calm some = grind (arith, some)
 of_other cmp Second f test none calm some = grind (arith, some)
 
--- one input is in order, and has not ended
 module _ (tool : MergeTool) (o : IsKeyOrder tool.cmp) (eof : Side → Bool) (ls : Side → Lines) (of : Side)
     (going : eof of ≡ false) (no_disorder : first_disorder tool.cmp (tool.key of) (ls of) ≡ None) where
   open tool use {cmp, terminator}
 
-  -- a key that is not below its last key is not decided
   undecided : (k : List ℕ) → is_below cmp k (last_or None (map (tool.key of) (ls of))) ≡ false
       → is_decided tool eof ls k ≡ false
   undecided k h = not_decided tool o eof ls of k (rw (going, no_disorder) h)
 
-  -- only processed lines decide the output
   pub decided_of_passed : (p : Side → Lines) → ((side : Side) → Differ tool (last_or None (map (tool.key of) (ls of)))
       (tool.key side) (sorted_prefix cmp (tool.key side) (ls side)) (p side))
       → IsPrefix (unlines terminator (decided_entries tool eof ls))
@@ -179,7 +171,7 @@ module _ (tool : MergeTool) (o : IsKeyOrder tool.cmp) (eof : Side → Bool) (ls 
       let dec = is_decided tool eof ls in
       let down = downward_decided tool o eof ls in
       let rest = entries_by_key tool (λ k. not (dec k)) p in
-      let is : entries_by_key tool all_keys p ≡ entries_by_key tool dec p ++ rest = downward_splits tool o all_keys
+      let is = downward_splits tool o all_keys
       dec down p in
       let none = λ (side : Side) (l : Lines) (e : EachKey _ (tool.key side) l). kept_none dec (tool.key side) l
       (Each-weaker _ _ undecided _ e) in
@@ -187,15 +179,15 @@ module _ (tool : MergeTool) (o : IsKeyOrder tool.cmp) (eof : Side → Bool) (ls 
       let kept = λ (side : Side). (let d = differ side in
       simp (filter-append, none side d.rest d.none_rest, none side d.tail d.none_tail, append-nil) at
       (ap (filter (λ line. dec (tool.key side line))) d.same)) in
-      let known : decided_entries tool eof ls ≡ entries_by_key tool dec p =
+      let known =
       sym (by_keys_kept dec tool o (λ side. sorted_prefix cmp (tool.key side) (ls side)) all_keys)
       ∙ (λ i. entries_by_key tool all_keys (λ side. kept side i)) ∙ by_keys_kept dec tool o p all_keys in
       record {
         rest = unlines terminator rest;
-        is = cc (is, unlines-append terminator (decided_entries tool eof ls) rest);
+        is = cc (is, unlines-append _ _ _);
       }
 
-  -- the disorder of the other input comes after its keys, so no disorder is decided
+  -- a disorder of the other input comes after the keys of this one, so none is decided
   not_settled : EachKey (λ k. IsDisorderFrom cmp k (first_disorder cmp (tool.key (other of)) (ls (other of))))
       (tool.key of) (ls of) → lines_decide_disorder tool eof ls (disorder tool ls) ≡ false
   not_settled up =
@@ -223,32 +215,27 @@ module _ {tool : MergeTool} (o : IsKeyOrder tool.cmp) (given : Side → Received
 
   module _ (of : Side) (point : LagPoint tool.terminator (given of) (q of)) where
     abbrev whole : Lines
-    whole = point.whole
+    whole = known_lines terminator point.before.earlier
 
-    -- the last key of the complete lines
     abbrev last : Option (List ℕ)
     last = last_or None (map (tool.key of) whole)
 
     in_order : IsSortedFrom cmp (tool.key of) None (whole ++ point.rest)
     in_order = rw (← point.split) (sorted_from_parts cmp (tool.key of) None (q of)
-        (seen of).rest (rw (← (seen of).is, sorted_prefix_is) (sorted_from_after cmp (tool.key of) None _))).0
+        (seen of).rest (rw (← (seen of).is, sorted_prefix_is) (sorted_from_after cmp _ _ _))).0
 
     ordered : (sorted_prefix cmp (tool.key of) whole ≡ whole) × (first_disorder cmp (tool.key of) whole ≡ None)
     ordered = grind (arith, sorted_from_parts, in_order, sorted_from_start)
 
-    -- no line that follows is below that key
     above : (side : Side) → EachKey (λ k. is_below cmp k last ≡ false) (tool.key side) (to_come side)
     above side =
-        past_none cmp o (tool.key of) _ (lag.bound side) whole _ (front_has _ (tool.key of) whole point.rest
+        past_none cmp o (tool.key of) _ (lag.bound side) whole _ (front_has _ _ _ _
         (rw point.split at (lag.under_bound side of))) (lag.may_follow side _ (seen side).may_follow)
 
-    -- the lines of an input are the processed ones, except for lines that are not below that key
+    -- only lines whose keys are not below `last` differ from the processed ones
     abbrev Differs : Side → Received → Type 0
     Differs side g =
         Differ tool last (tool.key side) (sorted_prefix cmp (tool.key side) (known_lines terminator g)) (lag.front side)
-
-    mine : Differs of point.before.earlier
-    mine = grind (arith, none_below, front_has, ordered, in_order, above of)
 
     others : (side : Side) → Differs side (given side)
     others side = record {
@@ -256,22 +243,22 @@ module _ {tool : MergeTool} (o : IsKeyOrder tool.cmp) (given : Side → Received
       tail = to_come side;
       same = grind (arith, append-nil, lag.split side, append_assoc);
       none_rest = tt;
-      none_tail = above side;
+      none_tail = above _;
     }
 
-    -- this input as it was then, with the other one
+    -- the input `of` as it was at `point`
     module _ (mix : Side → Received) (own : mix of ≡ point.before.earlier) where
       whole_now : known_lines terminator (mix of) ≡ whole
-      whole_now = rw own point.whole_is
+      whole_now = rw own
 
-      -- the output that this part decides was pushed
       decided_at : mix (other of) ≡ given (other of) → IsPrefix (decided_output tool mix) (output_of tool lag.front)
       decided_at rest = decided_of_passed tool o (λ side. (mix side).eof) (λ side. known_lines terminator (mix side)) of
-          (rw own point.going) (rw whole_now ordered.1) lag.front (rw whole_now
-          (side_case (λ side. Differs side (mix side)) of (rw own mine) (rw rest (others (other of)))))
+          (rw own point.going) (rw whole_now ordered.1) lag.front
+          (rw whole_now (side_case _ of
+          (rw own (grind (arith, none_below, front_has, ordered, in_order, above of))) (rw rest (others _))))
 
       pub decided_by : mix (other of) ≡ given (other of) → IsPrefix (decided_output tool mix) (unlines terminator done)
-      decided_by rest = let begins = decided_at rest in search (rules, begins, append_assoc)
+      decided_by rest = search (rules, (decided_at rest), append_assoc)
 
     pub lag_bound : ProcessLag {I = Unit {0}} (λ came. decided_output tool (with_input both_sides of (came tt) given))
         (λ u. given of) (output_of tool lag.front)
@@ -280,7 +267,6 @@ module _ {tool : MergeTool} (o : IsKeyOrder tool.cmp) (given : Side → Received
       begins = decided_at (with_input both_sides of point.before.earlier given) (grind arith) (grind arith);
     }
 
-    -- no disorder was decided
     pub unsettled : (before : LaggedInput (given of))
         × (disorder_is_decided tool (with_side of before.earlier given) ≡ false)
     unsettled =
@@ -288,7 +274,7 @@ module _ {tool : MergeTool} (o : IsKeyOrder tool.cmp) (given : Side → Received
         (known_lines terminator (given (other of)))))
         (λ k u. grind (arith, at_most_trans)) _ (lag.under (other of) of) in
         let mix = with_side of point.before.earlier given in
-        let own = put_same of point.before.earlier given in (
+        let own = put_same of _ _ in (
           point.before,
           not_settled tool o (λ side. (mix side).eof) (λ side. known_lines terminator (mix side)) of
               (rw own point.going) (rw (whole_now mix own) ordered.1) (rw (put_other, whole_now mix own)
@@ -297,15 +283,14 @@ module _ {tool : MergeTool} (o : IsKeyOrder tool.cmp) (given : Side → Received
 
 -- ---- the cursor of one input
 
--- the current line becomes a processed line
+-- all lines before the current line `x` are processed
 pub record IsAtCurrentLine (cmp : Cmp) (key : Key) (number : ℕ) (x : List ℕ) (ls p : Lines) (b : Bound) : Type 0 where
   pub all : ls ≡ p ++ x ∷ []
   pub sorted_up_to : IsSortedUpTo cmp key ls (Some (key x))
   pub bound : b ≡ AtLeast (key x)
   pub some : 0 < number
 
--- The lines `ls` are read and `p` of them are processed: the last one is the current line, or there is none, or it is
--- out of order.
+-- `ls` are read and `p` of them processed: the last line is the current one, or there is none, or it is out of order
 abbrev pub MatchesStatus : Cmp → Key → CursorStatus → Sorted → Slots → Reader → Lines → Lines → Bound → Type 0
 MatchesStatus cmp key Head cursor store now ls p b =
     IsAtCurrentLine cmp key cursor.number (line store cursor.current_slot) ls p b
@@ -313,7 +298,7 @@ MatchesStatus cmp key Ended cursor store now ls p b = (b ≡ NothingMore) × IsD
 MatchesStatus cmp key (Disorder n) cursor store now ls p b =
     b ≡ AfterDisorder (record { last_key = key (line store cursor.previous_slot); line = n })
 
--- an input at an exit: the lines `ls` are read, `p` of them are processed, and a piece of a further line is read
+-- at an exit `ls` are read, `p` of them are processed, and a piece of a further line is read
 pub record ReadFacts (tool : MergeTool) (s : Side) (old now new : Reader) (piece : List ℕ) (ls p : Lines)
     (b : Bound) : Type 0 where
   pub lines_read : LinesRead tool.terminator old now ls
@@ -324,7 +309,6 @@ pub record ReadFacts (tool : MergeTool) (s : Side) (old now new : Reader) (piece
   pub processed_prefix : IsProcessedPrefix tool.cmp (tool.key s) ls p b
   pub nothing_follows : b ≡ NothingMore → IsDone now
 
--- the invariant of one input
 pub record SideInvariant (tool : MergeTool) (s : Side) (old now : Reader) (cursor : Sorted) (store : Slots)
     (ls p : Lines) (b : Bound) : Type 0 where
   pub facts : ReadFacts tool s old now now [] ls p b
@@ -337,21 +321,13 @@ pub record SideInvariant (tool : MergeTool) (s : Side) (old now : Reader) (curso
 
 module _ {tool : MergeTool} {s : Side} {old now : Reader} {cursor : Sorted} {store : Slots} {ls p : Lines} {b : Bound}
     (i : SideInvariant tool s old now cursor store ls p b) where
-  -- other slots may change
-  pub side_invariant_kept : {after : Slots} → line after cursor.current_slot ≡ line store cursor.current_slot
-      → line after cursor.previous_slot ≡ line store cursor.previous_slot → 4 ≤ length after.lines
-      → SideInvariant tool s old now cursor after ls p b
-  side_invariant_kept = grind arith
-
   pub at_current_line : cursor.status ≡ Head
       → IsAtCurrentLine tool.cmp (tool.key s) cursor.number (line store cursor.current_slot) ls p b
   at_current_line head = rw head at i.status_is
 
-  -- the current line is processed
   pub read_facts_after_line : IsKeyOrder tool.cmp → cursor.status ≡ Head → ReadFacts tool s old now now [] ls ls b
-  read_facts_after_line o head = let h = at_current_line head in grind (arith, after_from)
+  read_facts_after_line o head = grind (arith, after_from)
 
--- the bound of an input after the last key, or before any line
 abbrev pub bound_after : Option (List ℕ) → Bound
 bound_after None = NoBound
 bound_after (Some k) = AtLeast k
@@ -367,7 +343,7 @@ reads_left Head = 1
 reads_left Ended = 0
 reads_left (Disorder n) = 0
 
--- the input after its next line was read, if all earlier lines are processed
+-- the next line is read, and all earlier ones are processed
 pub record SideAfterNext (tool : MergeTool) (s : Side) (old new : Reader) (cursor : Sorted) (slot : ℕ)
     (before after : Slots) (ls : Lines) (last : Option (List ℕ)) : Type 0 where
   pub now_ls : Lines
@@ -386,8 +362,7 @@ status_after_next = grind arith
 
 from_next : {cmp : Cmp} (o : IsKeyOrder cmp) (key : Key) (last : Option (List ℕ)) (x : List ℕ)
     → is_disordered cmp last (key x) ≡ false → IsLater cmp key (bound_after last) (AtLeast (key x))
-from_next o key None x h = record { may_follow = λ r c. tt; under = λ k u. absurd u }
-from_next {cmp} o key (Some j) x h = search (rules, Each-weaker)
+from_next = grind (arith, Each-weaker)
 
 module _ (tool : MergeTool) (o : IsKeyOrder tool.cmp) (s : Side) (old now new : Reader) (cursor next : Sorted)
     (before after : Slots) (ls : Lines) (slots : HasSlots s cursor) (four : 4 ≤ length before.lines) where
@@ -409,31 +384,29 @@ module _ (tool : MergeTool) (o : IsKeyOrder tool.cmp) (s : Side) (old now new : 
   abbrev Goal : Option (List ℕ) → Sorted → Type 0
   Goal last q = SideAfterNext tool s old new q cursor.previous_slot before after ls last
 
-  -- at most one more line was read
-  at_next : (last : Option (List ℕ)) (more : Lines) (bytes : List ℕ) (q : Sorted) (b : Bound)
+  at_next : (last : Option (List ℕ)) (more : Lines) (bytes : List ℕ) (status : CursorStatus) (number : ℕ) (same : Bool)
+      (b : Bound)
       → LinesRead tool.terminator old new (ls ++ more) → HasBegun new (ls ++ more) → IsSound new
-      → (q.current_slot ≡ cursor.previous_slot) × (q.previous_slot ≡ cursor.current_slot)
-      → ProcessedNearly (ls ++ more) ls [] → q.number ≡ length (ls ++ more)
-      → IsProcessedPrefix cmp own (ls ++ more) ls b → (b ≡ NothingMore → IsDone new)
-      → MatchesStatus cmp own q.status q after new (ls ++ more) ls b
+      → ProcessedNearly (ls ++ more) ls [] → number ≡ length (ls ++ more)
+      → IsProcessedPrefix cmp own (ls ++ more) ls b
+      → MatchesStatus cmp own status (next_cursor status number same) after new (ls ++ more) ls b
       → IsLater cmp own (bound_after last) b → after ≡ with_line before cursor.previous_slot bytes
-      → length bytes ≤ max_length (ls ++ more) → Goal last q
+      → length bytes ≤ max_length (ls ++ more) → Goal last (next_cursor status number same)
   at_next = grind (arith, reads_nothing, length-set)
 
   low : AreLow cursor
-  low = low_slot s cursor slots
+  low = low_slot s _ slots
 
-  -- a line was read
   module _ (e : FillLine now new before after cursor.previous_slot) (sound : IsSound new)
       (lines_read : LinesRead tool.terminator old now ls) (number : cursor.number ≡ length ls) (same : Bool) where
     at_status : (last : Option (List ℕ)) (status : CursorStatus) (b : Bound)
-        → IsProcessedPrefix cmp own (ls ++ e.line ∷ []) ls b → (b ≡ NothingMore → IsDone new)
+        → IsProcessedPrefix cmp own (ls ++ e.line ∷ []) ls b
         → MatchesStatus cmp own status (next_cursor status (cursor.number + 1) same) after new (ls ++ e.line ∷ []) ls b
         → IsLater cmp own (bound_after last) b → Goal last (next_cursor status (cursor.number + 1) same)
-    at_status last status b processed ended status_is later =
-        at_next last (e.line ∷ []) e.line (next_cursor status (cursor.number + 1) same) b (lines_read_more lines_read e)
-        (inr (omega (arith, length_push ls e.line))) sound (refl, refl) (inr (e.line, refl, refl))
-        (omega (arith, length_push ls e.line)) processed ended status_is later e.stored
+    at_status last status b processed status_is later =
+        at_next _ _ _ _ _ _ b (lines_read_more lines_read e)
+        (inr (omega (arith, length_push ls e.line))) sound (inr (e.line, refl, refl))
+        (omega (arith, length_push ls e.line)) processed status_is later e.stored
         (omega (arith, max_length-append ls (e.line ∷ [])))
 
     at_line : (last : Option (List ℕ)) → IsSortedUpTo cmp own ls last → IsLastKey own last cursor before
@@ -442,32 +415,29 @@ module _ (tool : MergeTool) (o : IsKeyOrder tool.cmp) (s : Side) (old now new : 
     at_line last sorted_up_to is false none =
         let more : IsSortedUpTo cmp own (ls ++ e.line ∷ []) (Some (own e.line)) =
         grind (arith, common_steps) in
-        let within : cursor.previous_slot < length before.lines = omega (arith, low) in
-        at_status last Head (AtLeast (own e.line)) (processed_before_line o more)
-        (λ ended. cc) (grind (arith, line_of_with_line)) (from_next o own last e.line none)
+        at_status _ _ _ (grind (arith, common_steps, after_from))
+        (grind (arith, line_of_with_line)) (from_next o own _ _ none)
     at_line None sorted_up_to is true disordered = cc
     at_line (Some k) sorted_up_to is true disordered =
         at_status (Some k) (Disorder (cursor.number + 1))
         (AfterDisorder (record { last_key = k; line = length ls + 1 }))
-        (grind (arith, common_steps)) (λ ended. cc) (grind (arith, line_other, low))
-        (record { may_follow = λ r none. rw none tt; under = λ j u. u })
+        (grind (arith, common_steps)) (grind (arith, line_other, low))
+        (grind arith)
 
   pub next_invariant : {last : Option (List ℕ)} → LinesRead tool.terminator old now ls → cursor.number ≡ length ls
       → IsSortedUpTo cmp own ls last → IsLastKey own last cursor before
       → NextOkPost own cmp cursor next now new before after → Goal last next
   next_invariant {last} lines_read number sorted_up_to is (inl e) =
-      let same = same_key_at own cmp cursor.number (line before cursor.current_slot) e.next_line.line in
       rw (e.cursor, status_after_next cmp own last cursor before e.next_line.line is)
-      (at_line e.next_line e.sound lines_read number same last sorted_up_to is _ refl)
-  next_invariant {last} lines_read number sorted_up_to is (inr e) =
-      rw e.cursor (at_next last [] [] (next_cursor Ended cursor.number false) NothingMore
-      (search rules) (inl e.done) e.sound (refl, refl)
-      (inl (append-nil ls)) (simp append-nil number) (grind (arith, common_steps)) (λ ended. e.done)
+      (at_line e.next_line e.sound lines_read number _ _ sorted_up_to is _ refl)
+  next_invariant lines_read number sorted_up_to is (inr e) =
+      rw e.cursor (at_next _ [] [] Ended cursor.number false NothingMore
+      (search rules) (inl e.done) e.sound
+      (inl (append-nil ls)) (simp append-nil number) (grind (arith, common_steps))
       (refl, e.done)
-      (record { may_follow = λ r none. rw none (may_follow_none cmp own (bound_after last)); under = λ k u. tt })
+      (grind (arith, may_follow_none))
       e.empty (omega arith))
 
--- an input advances
 pub group_store_next : {tool : MergeTool} {before store after : Slots} {ls : Side → Lines} {g : Lines}
     {old new : Reader} {next : Sorted} {last : Option (List ℕ)} (s : Side) (cursor : Sorted) → HasSlots s cursor
     → GroupStore tool before store ls g
@@ -480,7 +450,6 @@ group_store_next s cursor slots k n = search (rules, group_store_line, side_exte
 abbrev pub state_by_side : (Side → Reader) → Output → Slots → MergeState
 state_by_side reader out store = record { reader = reader; out = out; store = store }
 
--- reading an input failed after all its lines were processed
 pub record IsFailedRead (new : Reader) (ls p : Lines) : Type 0 where
   pub buffered : new.buffered ≡ []
   pub eof : new.eof ≡ false
@@ -496,41 +465,31 @@ extends w = record { more = w.continues.more; is = w.continues.is }
 
 module _ {tool : MergeTool} {before store : Slots} {ls : Side → Lines} {g : Lines}
     (k : GroupStore tool before store ls g) {now : Side → Reader} where
-  -- a piece of a further line stays within the measure
-  pub peak_line : (s : Side) (cursor : Sorted) → HasSlots s cursor → (piece : List ℕ)
-      → Fits tool before now ls (with_side s piece (λ t. [])) (with_line store cursor.previous_slot piece)
-  peak_line s cursor slots piece all holds =
-      let longest = rw (put_same s piece (λ t. [])) at (holds s).longest in
-      let next = group_store_line s cursor slots piece k (λ side. extends (holds side)) (omega arith) refl in
-      next.fits all (λ side. extends_itself (all side))
-
-  -- and so does a store whose slots are emptied
   pub fits_emptied : (after : Slots) → after.peak ≤ max store.peak (total_bytes store.lines)
       → length after.lines ≡ length store.lines → Fits tool before now ls (λ side. []) after
   fits_emptied = grind (arith, total_within)
 
--- The order of the first reads: the first input has begun, or the second is unread; and the second has begun, or at
--- most one line of the first was read.
+-- The second input is unread until the first has begun; until the second has, at most one line of the first was read.
 pub record FirstReads (end : ℕ) (old now new : Side → Reader) (ls : Side → Lines) (piece : Side → List ℕ) : Type 0 where
   pub first : HasBegun (now First) (ls First) ⊎ (new Second ≡ old Second)
   pub second : HasBegun (now Second) (ls Second) ⊎ (length (ls First) + length (lines end (piece First)) ≤ 1)
 
 pub both_begun : {end : ℕ} {old now new : Side → Reader} {ls : Side → Lines} {piece : Side → List ℕ}
     → ((side : Side) → HasBegun (now side) (ls side)) → FirstReads end old now new ls piece
-both_begun begun = record { first = inl (begun First); second = inl (begun Second) }
+both_begun = search rules
 
--- the output for a key of one input alone is the output of each line
+-- the output for a key of one input alone is the output of each line, and the measure has room for two lines of each
+-- input
 pub record IsLineByLine (tool : MergeTool) : Type 0 where
   pub none : (k : List ℕ) → tool.entries k [] [] ≡ []
   pub first : (k x : List ℕ) (g : Lines) → tool.entries k (x ∷ g) [] ≡ tool.entries k (x ∷ []) [] ++ tool.entries k g []
   pub second : (k x : List ℕ) (g : Lines)
       → tool.entries k [] (x ∷ g) ≡ tool.entries k [] (x ∷ []) ++ tool.entries k [] g
+  pub fits : (ls : Side → Lines) → HasRoom tool [] ls
 
--- the conditions at the start
 pub record IsOpenMerge (tool : MergeTool) (old : MergeState) : Type 0 where
   pub o : IsKeyOrder tool.cmp
   pub alone : IsLineByLine tool
-  pub fits : (ls : Side → Lines) → HasRoom tool [] ls
   pub terminator : (side : Side) → (old.reader side).terminator ≡ tool.terminator
   pub sound : (side : Side) → IsSound (old.reader side)
   pub readable : (side : Side) → (old.reader side).fault ≡ None
@@ -539,7 +498,6 @@ pub record IsOpenMerge (tool : MergeTool) (old : MergeState) : Type 0 where
   pub allowed : old.store.denied ≡ false
   pub empty : total_bytes old.store.lines ≡ 0
 
--- the facts of an input
 abbrev pub ReadFactsOf : MergeTool → MergeState → (Side → Reader) → (Side → Lines) → (Side → Lines) → (Side → Bound)
     → Side → Reader → List ℕ → Type 0
 ReadFactsOf tool old now ls p b side new piece =
@@ -568,7 +526,7 @@ module _ {tool : MergeTool} {old : MergeState} (w : IsOpenMerge tool old) (new :
 
   pub continues : (texts : Side → List ℕ) → AreAllConsistent both_sides given texts → (side : Side)
       → Continues (now side) (ls side) (lines tool.terminator (texts side))
-  continues texts agree side = (input_lines texts agree side).continues
+  continues texts agree side = (input_lines _ agree _).continues
 
   known : (side : Side) → KnownLines (g side).lines_read (g side).reads (g side).line
       (known_lines tool.terminator (given side))
@@ -576,19 +534,18 @@ module _ {tool : MergeTool} {old : MergeState} (w : IsOpenMerge tool old) (new :
 
   whole_input_split : (side : Side)
       → IsFuture cmp (key side) (known_lines tool.terminator (given side)) (p side) (b side)
-  whole_input_split = input_split_of (λ side. known_lines _ (given side)) (λ side. (known side).known)
+  whole_input_split = input_split_of _ (λ side. (known _).known)
 
   backs : (side : Side) → LagPoint tool.terminator (given side) (p side)
   backs side = back _ _ _ _ _ _ (new.reader side) (g side).lines_read.so_far
       (rw (g side).lines_read.terminator at (g side).line) (g side).sound.buffered (g side).processed_nearly
 
-  -- the output and the disorder of all possible inputs
   pub exact_output : {was is : Output} {found : Option (Side × ℕ)} → MergeInvariant tool b p was is
       → IsExactStop tool b found → (texts : Side → List ℕ) → AreAllConsistent both_sides given texts
       → (output_of tool p ≡ merge_output tool texts)
       × (option_map disordered_line (disorder tool (lines_of tool texts)) ≡ found)
   exact_output m stop texts agree =
-      let s = input_split_of (lines_of tool texts) (continues texts agree) in
+      let s = input_split_of _ (continues _ agree) in
       let (none, found) = stop (lines_of tool texts) (λ side. (s side).rest) (λ side. (s side).may_follow)
       (λ side. (s side).may_disorder) in (
         cc (ap (unlines tool.terminator) (input_split w.o m s), append-nil (entries_by_key tool all_keys p)),
@@ -596,7 +553,7 @@ module _ {tool : MergeTool} {old : MergeState} (w : IsOpenMerge tool old) (new :
       )
 
   module _ {done : Lines} (lag : LagInvariant tool b p old.out new.out done) where
-    -- everything is decided once the last line of an input is processed
+    -- once a read failed, what is decided was written
     decided : (side : Side) → IsFailedRead (new.reader side) (ls side) (p side)
         → IsPrefix (decided_output tool given) (unlines tool.terminator done)
     decided side f =
@@ -609,10 +566,8 @@ module _ {tool : MergeTool} {old : MergeState} (w : IsOpenMerge tool old) (new :
             eof = λ eof. eof;
           };
           going = f.eof;
-          whole = p side;
-          whole_is = (known side).exact f.buffered f.eof ∙ f.all;
           rest = [];
-          split = sym (append-nil (p side));
+          split = rw ((known side).exact f.buffered f.eof, f.all) (sym (append-nil (p side)));
         } in
         decided_by w.o given lag whole_input_split side point given refl refl
 
@@ -630,15 +585,15 @@ module _ {tool : MergeTool} {old : MergeState} (w : IsOpenMerge tool old) (new :
       -- everything was written that was decided two blocks of an input earlier
       bounded_lag = λ of read. rw lag.all at (bounded_lag_after _ _ old.out lag.mid _
           (lag_bound w.o given lag whole_input_split of (backs of)) lag.wrote lag.clean new.out lag.bytes lag.more);
-      peak = λ texts agree. (fits (lines_of tool texts) (input_lines texts agree)).0;
-      slots = λ texts agree. (fits (lines_of tool texts) (input_lines texts agree)).1;
+      peak = λ texts agree. (fits (lines_of tool texts) (input_lines _ agree)).0;
+      slots = λ texts agree. (fits (lines_of tool texts) (input_lines _ agree)).1;
       least = omega (arith, has);
       room = omega (arith, has);
     }
       where
         has : max (length old.store.lines) 4 ≤ length new.store.lines
         has = (fits (lines_of tool (λ side. (given side).bytes))
-            (input_lines (λ side. (given side).bytes) (λ side read. record
+            (input_lines _ (λ side read. record
             { rest = []; is = sym (append-nil (given side).bytes); whole = λ eof. refl }))).2
 
     pub exit_is_merge_post : Fits tool old.store now ls piece new.store
@@ -650,7 +605,6 @@ module _ {tool : MergeTool} {old : MergeState} (w : IsOpenMerge tool old) (new :
     unfolding call_ends
     exit_is_merge_post fits order failed result ends = record {
       call = grind (arith, call_ends, progress, by);
-      -- no disorder was decided two blocks of an input earlier
       stops_at_disorder = λ of clean_then. unsettled w.o given lag whole_input_split of (backs of);
       first_reads = λ clean_then. record {
         second_unread = λ none. ⊎_elim (λ begun. absurd (has_line First begun none))
@@ -663,7 +617,7 @@ module _ {tool : MergeTool} {old : MergeState} (w : IsOpenMerge tool old) (new :
       where
         by : (end : CallEnd Side)
             → DecidedIfReadFailed both_sides (merge_engine tool) old new took (unlines tool.terminator done) end
-        by (ReadFault input) = λ side read fail. decided side (failed side fail)
+        by (ReadFault input) = λ side read fail. decided _ (failed side fail)
         by other = tt
 
         has_line : (side : Side) → HasBegun (now side) (ls side) → ¬ HasNoLine tool.terminator (given side)
@@ -672,7 +626,6 @@ module _ {tool : MergeTool} {old : MergeState} (w : IsOpenMerge tool old) (new :
 
 -- ---- the ends before the start
 
--- the terminator of both readers was set
 pub merge_set : {tool : MergeTool} {first second set1 set2 : Reader} {out : Output} {store : Slots} {new : MergeState}
     → (zero_byte : Bool) → tool.terminator ≡ terminator zero_byte → out.write_failed ≡ false
     → set1 ≡ record first { terminator = cond zero_byte 0 10 }
@@ -688,24 +641,19 @@ merge_set {tool} {first} {second} {set1} {set2} {new = new} zero_byte end clean 
       first_reads = grind arith;
     }
 
--- the output had failed, and nothing was done
 pub merge_halted : {tool : MergeTool} {old : MergeState} → old.store.denied ≡ false → old.out.write_failed ≡ true
     → MergePost tool old old (Err Write)
 merge_halted = grind (arith, call_on_failed_output)
 
--- one of the first slots could not be added
 pub merge_without_slots : {tool : MergeTool} {old : MergeState} → IsOpenMerge tool old → {new : MergeState}
     → new.out ≡ old.out → ((side : Side) → new.reader side ≡ old.reader side)
     → EnsureFourSlotsErrPost old.store new.store → MergePost tool old new (Err Memory)
 unfolding call_without_slots
 merge_without_slots {tool} {old} w {new} same_output unread slots =
-    let set : (side : Side) → new.reader side ≡ record (old.reader side) { terminator = tool.terminator } =
-    search rules in
     let lag = lag_invariant_starts w.o (merge_invariant_starts tool old.out) w.writable (push_nothing old.out) in
     let seen : (side : Side)
     → IsFuture tool.cmp (tool.key side) (known_lines tool.terminator (given_before old side)) [] NoBound =
     λ side. record { rest = _; is = refl; may_follow = tt; may_disorder = tt } in
-    -- nothing is received
     let point : (side : Side) → LagPoint tool.terminator (given_before old side) [] =
     λ side. record {
       before = record {
@@ -716,13 +664,11 @@ merge_without_slots {tool} {old} w {new} same_output unread slots =
         eof = λ never. cc;
       };
       going = refl;
-      whole = [];
-      whole_is = refl;
       rest = [];
       split = refl;
     } in
     record {
-      call = call_without_slots both_sides (merge_engine tool) old new w.writable same_output (λ side read. set side)
+      call = call_without_slots both_sides (merge_engine tool) old new w.writable same_output (search rules)
           (λ side none. cc) (λ side read. w.sound side) (λ side read. w.unfailed side) slots.denied slots.peak
           slots.least
           slots.few (λ texts. omega arith)

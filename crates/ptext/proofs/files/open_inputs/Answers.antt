@@ -1,6 +1,5 @@
--- Each turn adds one new reader, opened or not, so in the end there is one more reader than names, and none was read.
--- The
--- first one stays that of standard input.
+-- Each turn adds one new reader, opened or not, so there is one more than names, and none was read. The first stays
+-- that of standard input.
 use Rattle.std.proofs.Common.{◌≡◌, ◌≤◌, ◌+◌, ℕ, List, [], ◌∷◌, length, arith, ap, sym, refl, ◌∙◌}
 use Rattle.std.specs.Borrow.{Bor}
 use Rattle.std.proofs.lemmas.List.{length-map, get_or_append_left}
@@ -49,7 +48,6 @@ loop-name-init g c = record {
 pub returns-clause-standard : goal.returns-clause-standard
 returns-clause-standard g c = c.loop-name.invariant.standard
 
--- one reader for each name, and standard input
 count_of_readers : (names : List (Bor (List ℕ))) (count i : ℕ) → count ≡ i + 1 → i ≤ length names → length names ≤ i
     → count ≡ length (words_view names) + 1
 count_of_readers names count i is within all =

@@ -1,5 +1,4 @@
--- Each run is one over the parsed command; whether it got standard output decides what becomes of that. An output file
--- that cannot be created is the one that the words name.
+-- Each run is one over the parsed command. An output file that cannot be created is the one that the words name.
 use Rattle.std.proofs.Common.{Bor, List, ℕ, inl, inr, refl, sym, ◌∙◌, ap, codes, option_map}
 use Rattle.std.proofs.lemmas.Bool.{false≢true}
 use Rattle.ptopts.specs.Commands.{command_of_args}

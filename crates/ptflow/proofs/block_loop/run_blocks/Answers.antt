@@ -1,14 +1,13 @@
--- Each iteration processes one block, and the contract of `process_block` preserves the invariant. Each exit is a lemma
--- of `Exits`. The budget decreases, since no block is empty.
+-- The contract of `process_block` preserves the invariant, and each exit is a lemma of `Exits`. No block is empty, so
+-- the budget decreases.
 use Rattle.ptflow.proofs
 use proofs.Common.{◌≡◌, [], refl, arith, reads_nothing, common_steps, rules}
-use proofs.Passes.Exits.{BlockLoopState, blocks_start, block_sent, block_taken, counted_more, block_read, ending}
+use proofs.Passes.Exits.{BlockLoopState, blocks_start, block_sent, block_taken, ending, pass_read}
 use proofs.Passes.Exits.{by_write, nothing_more, pass_write, pass_done, pass_unended}
 use Rattle.ptflow.proofs.block_loop.run_blocks.Given as given
 use Rattle.ptflow.proofs.block_loop.run_blocks.Goals as goal
 use Rattle.ptflow.proofs.block_loop.run_blocks.Goals.{In_ok-write_out_before_blocking}
 
--- the buffered output was written
 abbrev written_out : (g : given.Over) (c : In_ok-write_out_before_blocking g)
     → BlockLoopState g.T.BlockFilter.rest g.T.BlockFilter.IsUnchanged c.args.tool.now c.reading.tool c.args.reader.now
     c.reading.reader c.args.out.now c.write_out_before_blocking.new.out
@@ -31,7 +30,7 @@ returns-in-Err g c =
     let b = c.block.follows.holds-at-none in
     let run = written_out g (goal.at.returns-in-Err g c).In_ok-write_out_before_blocking in
     let (failed, cause, _) = (rw c.in-Err.is at b.shows) run.reached.advance_ok.fault in
-    λ t tool store ready. block_read run tool ready b.was_sound failed.reads b.is_sound cause
+    λ t tool store ready. (pass_read (ending run tool ready b.was_sound failed.reads b.is_sound) cause ready.not_denied (search rules))
 
 pub returns-in_err-process_block-in-Ok : goal.returns-in_err-process_block-in-Ok
 returns-in_err-process_block-in-Ok g c =
@@ -65,10 +64,9 @@ returns-in_err-finish-in-Ok g c =
 
 pub reading-preserved : goal.reading-preserved
 reading-preserved g c =
-    let b = c.block.follows.holds-at-none in
     let run = written_out g (goal.at.reading-preserved g c).In_ok-write_out_before_blocking in
-    let (refilled, shown, ended) = (rw c.in-Ok.is at b.shows) run.reached.advance_ok.fault in
-    record { run = grind (arith, block_taken); counted = grind (arith, counted_more) }
+    let (refilled, shown, ended) = (rw c.in-Ok.is at c.block.follows.holds-at-none.shows) run.reached.advance_ok.fault in
+    record { run = grind (arith, block_taken); counted = grind (arith, common_steps) }
 
 pub reading-smaller : goal.reading-smaller
 reading-smaller g c = grind (arith, common_steps)

@@ -1,4 +1,4 @@
-use Rattle.ptflow.proofs.PasteLemmas.Grid.{paste_of_parts}
+use Rattle.ptflow.proofs.PasteLemmas.BufferedRows.Rows.Grid.{paste_of_parts}
 use Rattle.ptflow.proofs.laws.parts_of_paste.Goals as goal
 
 pub returns : goal.returns

@@ -1,5 +1,4 @@
--- The items written for the lines so far, and then those of the rest in the current state, are the items of the whole.
--- An iteration adds the line in the last slot, and the lines of a block.
+-- An iteration adds the line in the last slot, and then the lines of a block.
 use Rattle.ptflow.proofs
 use proofs.Common.{◌≡◌, budget}
 use proofs.Passes.LineLoop.{LineLoopState}

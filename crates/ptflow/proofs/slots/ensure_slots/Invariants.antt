@@ -1,5 +1,4 @@
--- Slots are added one by one while there are too few, and each is empty. So the total is unchanged, and no slot too
--- many is added.
+-- Added slots are empty, so the total is unchanged; they are added only while there are too few.
 use Rattle.ptflow.proofs
 use proofs.Common.{◌≡◌, ◌≤◌, ◌-◌, false, length, max, total_bytes}
 use proofs.slots.ensure_slots.Given as goal

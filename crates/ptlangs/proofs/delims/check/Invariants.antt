@@ -1,4 +1,4 @@
--- The delimiters so far have no fault; so the first fault is that of the rest.
+-- The delimiters so far have no fault.
 use Rattle.ptlangs.proofs.Common.{delim_list, length, result_err, ◌≡◌}
 use Rattle.ptlangs.proofs.delims.check.Given as goal
 

@@ -1,4 +1,4 @@
--- A checked multiplication or addition fails only if the number is too large, which further digits do not change.
+-- A checked operation fails only if the number is too large, which further digits do not change.
 use Rattle.ptlangs.proofs
 use proofs.Common.{arith, common_steps, rules}
 use proofs.ListElements.{digit_at, too_large_at}
@@ -11,4 +11,4 @@ pub returns-in_err-value : goal.returns-in_err-value
 returns-in_err-value c = search (rules, digit_at, too_large_at)
 
 pub loop-byte-preserved : goal.loop-byte-preserved
-loop-byte-preserved c = grind (arith, common_steps, digit_at)
+loop-byte-preserved c = grind (arith, common_steps)

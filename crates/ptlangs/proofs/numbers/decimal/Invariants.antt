@@ -1,4 +1,3 @@
--- The value is that of the digits so far, and fits into 64 bits.
 use Rattle.ptlangs.proofs.Common.{digits_value_after, drop, max_u64, value, ◌≡◌, ◌≤◌}
 use Rattle.ptlangs.proofs.numbers.decimal.Given as goal
 

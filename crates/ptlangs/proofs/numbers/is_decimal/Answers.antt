@@ -1,5 +1,5 @@
 use Rattle.ptlangs.proofs
-use proofs.Common.{YieldsList-from_slice, is_ascii_digit, rules, sym, ◌∙◌}
+use proofs.Common.{YieldsList-from_slice, rules, sym, ◌∙◌}
 use proofs.ListElements.{is_empty_by_length}
 use Rattle.std.proofs.lemmas.Iterator.Search.{all_from_yields_List}
 use Rattle.ptlangs.proofs.numbers.is_decimal.Goals as goal
@@ -8,5 +8,5 @@ pub returns-then-not-is_empty : goal.returns-then-not-is_empty
 returns-then-not-is_empty c =
     let some = is_empty_by_length _ ∙ sym c.is_empty.ensures
     ∙ c.if-not-is_empty.true in
-    rw some (all_from_yields_List is_ascii_digit _ _ c.all.result c.all.ensures.ran
+    rw some (all_from_yields_List _ _ _ _ c.all.ensures.ran
     (YieldsList-from_slice c.args.text.now cc) (λ x b q k. search rules))

@@ -1,7 +1,7 @@
--- The fault that is found is that of the first element that has one.
+-- The fault is that of the first element that has one.
 use Rattle.ptlangs.proofs
 use proofs.Common.{YieldsList-at, YieldsList-from_map, YieldsList-from_slice_split, arith, element_interval, elements}
-use proofs.Common.{find_from_yields_List, is_err, is_list_separator, rules, tests}
+use proofs.Common.{find_from_yields_List, is_err, is_list_separator, rules}
 use proofs.ListElements.{first_fault_is}
 use Rattle.ptlangs.proofs.ranges.first_fault.Goals as goal
 
@@ -12,8 +12,8 @@ returns c =
     (YieldsList-from_map _ element_interval
     (YieldsList-at c.map-intervals.ensures.source
     (YieldsList-from_slice_split _ is_list_separator c.args.text.now s.rest s.done s.closure
-    (λ b r q k. search (rules, tests))))
+    (λ b r q k. search rules)))
     c.map-intervals.ensures.closure (λ x r q k. search rules))
-    (λ x b q k. search (rules, tests)) in
+    (λ x b q k. search rules) in
     let first = first_fault_is element_interval (elements c.args.text.now) in
     first_of (grind arith, search rules)

@@ -1,5 +1,4 @@
--- The next interval extends the current one if they overlap or are adjacent; otherwise the current one is complete, and
--- there is a gap before the next. Both keep the selected set.
+-- The next interval extends the current one if they overlap or are adjacent; otherwise there is a gap between them.
 use Rattle.ptlangs.proofs
 use proofs.Common.{arith, common_steps, drop_all, drop_more, refl, rules}
 use proofs.ListElements.{absorbs, starts_next}

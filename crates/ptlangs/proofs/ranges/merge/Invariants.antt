@@ -1,4 +1,3 @@
--- The merged intervals, the current one and the remaining ones select the same numbers as all sorted intervals.
 use Rattle.ptlangs.proofs
 use proofs.Common.{drop}
 use proofs.ListElements.{Merges}

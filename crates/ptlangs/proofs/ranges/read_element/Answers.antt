@@ -1,21 +1,21 @@
--- The position of the first dash splits the element into its two bounds; without a dash the element is both bounds.
+-- The first dash splits the element into its bounds; without a dash the element is both bounds.
 use Rattle.ptlangs.proofs
-use proofs.Common.{YieldsList-from_slice, is_dash, position_from_yields_List, rules, sym, ◌∙◌}
+use proofs.Common.{YieldsList-from_slice, position_from_yields_List, rules, sym, ◌∙◌}
 use proofs.ListElements.{is_empty_by_length, parts_around_dash, parts_without_dash}
 use Rattle.ptlangs.proofs.ranges.read_element.Goals as goal
 
 pub returns-in-None : goal.returns-in-None
 returns-in-None c =
-    let some = is_empty_by_length c.args.text.now ∙ sym c.is_empty.ensures
+    let some = is_empty_by_length _ ∙ sym c.is_empty.ensures
     ∙ c.if-is_empty.false in
-    let at = position_from_yields_List is_dash _ _ c.position.result c.position.ensures.ran
+    let at = position_from_yields_List _ _ _ _ c.position.ensures.ran
     (YieldsList-from_slice c.args.text.now (cc)) (λ x b q k. search rules) in
-    rw (some, parts_without_dash c.args.text.now (sym at ∙ c.in-None.is) some) c.read_bounds.ensures
+    rw (some, parts_without_dash _ (sym at ∙ c.in-None.is)) c.read_bounds.ensures
 
 pub returns-in-Some : goal.returns-in-Some
 returns-in-Some c =
-    let some = is_empty_by_length c.args.text.now ∙ sym c.is_empty.ensures
+    let some = is_empty_by_length _ ∙ sym c.is_empty.ensures
     ∙ c.if-is_empty.false in
-    let at = position_from_yields_List is_dash _ _ c.position.result c.position.ensures.ran
+    let at = position_from_yields_List _ _ _ _ c.position.ensures.ran
     (YieldsList-from_slice c.args.text.now (cc)) (λ x b q k. search rules) in
-    rw (some, parts_around_dash c.args.text.now c.in-Some.dash (sym at ∙ c.in-Some.is)) c.read_bounds-in-Some.ensures
+    rw (some, parts_around_dash _ _ (sym at ∙ c.in-Some.is)) c.read_bounds-in-Some.ensures

@@ -1,5 +1,4 @@
--- The loop stops at the first byte that differs, which decides. If none does, the shorter slice is a prefix of the
--- longer, so the lengths decide.
+-- The first byte that differs decides. If none does, one slice is a prefix of the other, so the lengths decide.
 use Rattle.std.proofs.Common.{◌∙◌, arith}
 use Rattle.ptlines.proofs.ByteOrder.{word_1, byte_at, words_differ, cmp_by_length}
 use Rattle.ptlines.proofs.cmp.compare_bytewise.Goals as goal

@@ -1,4 +1,3 @@
--- The first `at` bytes of both slices are equal, so a later byte decides.
 use Rattle.std.proofs.Common.{◌≡◌, take}
 use Rattle.ptlines.proofs.cmp.compare_bytewise.Given as goal
 

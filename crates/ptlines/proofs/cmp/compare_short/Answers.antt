@@ -1,6 +1,5 @@
--- Two numbers of 4 bytes differ exactly if the bytes do, and compare as the bytes do. The first 4 bytes and the last 4
--- cover the shorter slice; if all are equal, the lengths decide.
-use Rattle.ptlines.proofs.Common.{◌≡◌, ◌-◌, ◌+◌, take, ◌∙◌, refl, subst, arith}
+-- The first 4 bytes and the last 4, compared as numbers, cover the shorter slice; if all are equal, the lengths decide.
+use Rattle.ptlines.proofs.Common.{◌∙◌, refl, arith}
 use Rattle.ptlines.proofs.ByteOrder.{word_4, words_differ, words_same, shorter_prefix_same, cmp_by_length}
 use Rattle.ptlines.proofs.cmp.compare_short.Goals as goal
 
@@ -17,10 +16,9 @@ returns-then-x-y-2 c =
     let b = c.args.b.now in
     let first = words_same word_4 0 a b (omega arith)
     c.type_inv.a c.type_inv.b refl c.read_u32-x.ensures c.read_u32-y.ensures c.if-x-y.false in
-    let same = shorter_prefix_same (least - 4) 4 a b (omega arith) first in
-    c.cmp-then-x-y-2.ensures ∙ words_differ word_4 (least - 4) a b
+    c.cmp-then-x-y-2.ensures ∙ words_differ word_4 _ a b
     (omega arith)
-    c.type_inv.a c.type_inv.b same c.read_u32-x-2.ensures c.read_u32-y-2.ensures c.if-x-y-2.true
+    c.type_inv.a c.type_inv.b (shorter_prefix_same _ 4 a b (omega arith) first) c.read_u32-x-2.ensures c.read_u32-y-2.ensures c.if-x-y-2.true
 
 pub returns : goal.returns
 returns c =
@@ -29,8 +27,7 @@ returns c =
     let b = c.args.b.now in
     let first = words_same word_4 0 a b (omega arith)
     c.type_inv.a c.type_inv.b refl c.read_u32-x.ensures c.read_u32-y.ensures c.if-x-y.false in
-    let same = shorter_prefix_same (least - 4) 4 a b (omega arith) first in
-    let all = words_same word_4 (least - 4) a b (omega arith)
+    let same = shorter_prefix_same _ 4 a b (omega arith) first in
+    let all = words_same word_4 _ a b (omega arith)
     c.type_inv.a c.type_inv.b same c.read_u32-x-2.ensures c.read_u32-y-2.ensures c.if-x-y-2.false in
-    let whole : (least - 4) + 4 ≡ least = omega arith in
-    c.cmp-2.ensures ∙ cmp_by_length least a b c.min-least.ensures (subst (λ n. take n a ≡ take n b) whole all)
+    c.cmp-2.ensures ∙ cmp_by_length _ a b c.min-least.ensures (grind arith)

@@ -1,6 +1,5 @@
 use Rattle.ptlines.proofs.Common.{arith}
-use Rattle.ptlines.proofs.MatchMasks.{first_after}
 use Rattle.ptlines.proofs.find.find_long.Goals as goal
 
 pub returns : goal.returns
-returns c = grind (arith, first_after)
+returns c = grind arith

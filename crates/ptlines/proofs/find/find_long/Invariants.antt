@@ -1,4 +1,3 @@
--- The byte does not occur before the index `at`.
 use Rattle.ptlines.proofs.Common.{◌-◌, ◌≤◌, length, Nowhere, Passes, is_byte}
 use Rattle.ptlines.proofs.find.find_long.Given as goal
 

@@ -1,6 +1,5 @@
 use Rattle.ptlines.proofs.Common.{arith}
-use Rattle.ptlines.proofs.MatchMasks.{first_after}
 use Rattle.ptlines.proofs.find.find_overlapping.Goals as goal
 
 pub returns-in-None : goal.returns-in-None
-returns-in-None g c = grind (arith, first_after)
+returns-in-None g c = grind arith

@@ -1,4 +1,3 @@
--- The sink has accepted exactly the bytes before `rest`.
 use Rattle.ptlines.proofs.Common.{◌≡◌, ℕ, List, ◌++◌, length, WriteOutOk}
 use Rattle.ptlines.proofs.out.write_out.Given as goal
 

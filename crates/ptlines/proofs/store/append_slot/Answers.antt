@@ -1,11 +1,9 @@
--- The list of slots is split at the greater of the two numbers, so source and target lie in different parts. Setting
--- the target in its part sets it in the whole list.
-use Rattle.std.proofs.Common.{◌<◌, Result, Ok, Err, OnOk, OnErr, arith, rules, subst, sym}
+-- The slots are split at the greater of the two numbers, so source and target lie in different parts.
+use Rattle.std.proofs.Common.{◌<◌, Result, Ok, Err, OnOk, OnErr, arith, rules}
 use Rattle.ptlines.proofs.SlotTotals.{append_to_back, bounded_back, buffers_back, append_to_front}
-use Rattle.ptlines.proofs.SlotTotals.{bounded_front, buffers_front, set_after_split, set_before_split}
+use Rattle.ptlines.proofs.SlotTotals.{bounded_front, buffers_front}
 use Rattle.ptlines.proofs.store.append_slot.Goals as goal
 use Rattle.std.proofs.lemmas.Grind.{common_steps}
-use borrow.Author.Rules.{scaled_Fits}
 
 on_ok : {E : Type 0} (r : Result (Unit {0}) E) (P Q : Type 0) → (P → Q) → OnOk r P → OnOk r Q
 on_ok (Ok u) P Q f p = f p
@@ -16,7 +14,7 @@ on_err (Ok u) P Q f p = tt
 on_err (Err e) P Q f p = f p
 
 pub returns-then-from-to-clause-ok : goal.returns-then-from-to-clause-ok
-returns-then-from-to-clause-ok g c = grind (arith, on_ok, append_to_back)
+returns-then-from-to-clause-ok g c = grind (arith, append_to_back)
 
 pub returns-then-from-to-clause-short : goal.returns-then-from-to-clause-short
 returns-then-from-to-clause-short g c = grind (arith, bounded_back)
@@ -25,10 +23,10 @@ pub returns-then-from-to-clause-buffers : goal.returns-then-from-to-clause-buffe
 returns-then-from-to-clause-buffers g c = search (rules, buffers_back)
 
 pub returns-else-from-to-clause-ok : goal.returns-else-from-to-clause-ok
-returns-else-from-to-clause-ok g c = grind (arith, on_ok, append_to_front)
+returns-else-from-to-clause-ok g c = grind (arith, append_to_front)
 
 pub returns-else-from-to-clause-err : goal.returns-else-from-to-clause-err
-returns-else-from-to-clause-err g c = grind (arith, common_steps, on_err, set_before_split)
+returns-else-from-to-clause-err g c = grind (arith, common_steps, on_err)
 
 pub returns-else-from-to-clause-short : goal.returns-else-from-to-clause-short
 returns-else-from-to-clause-short g c = grind (arith, bounded_front)
@@ -42,12 +40,11 @@ returns-else-from-to-clause-buffers g c =
     c.append-else-from-to.ensures.buffer
 
 pub returns-then-from-to-clause-err : goal.returns-then-from-to-clause-err
-returns-then-from-to-clause-err g c = grind (arith, common_steps, on_err, set_after_split)
+returns-then-from-to-clause-err g c = grind (arith, common_steps, on_err)
 
 pub offset_bounds-front-from : goal.offset_bounds-front-from
 offset_bounds-front-from g c =
-    let low = subst (λ n. c.args.from < n) (sym c.split_at_mut-front.ensures.front_len) c.if-from-to.true in
-    search (scaled_Fits, low)
+    search rules
 
 pub offset_bounds-front-to : goal.offset_bounds-front-to
-offset_bounds-front-to g c = grind (arith, common_steps)
+offset_bounds-front-to g c = search rules

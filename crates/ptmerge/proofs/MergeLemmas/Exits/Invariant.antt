@@ -1,6 +1,5 @@
--- The invariant of a merge. Lines are processed in the order of their keys: no line that may still follow has a lesser
--- key than a processed line. So the output for the processed lines is a prefix of the output for all inputs that begin
--- with the lines read so far.
+-- The invariant of a merge. No line that may still follow has a lesser key than a processed line, so the output for the
+-- processed lines is a prefix of the output for all inputs that begin with the lines read so far.
 use Rattle.ptmerge.proofs
 pub use proofs.Common.{◌≡◌, ◌⊎◌, inr, ℕ, List, Bool, true, false, refl, ◌∙◌, ap, arith, bytes_eq, Less, Equal}
 pub use proofs.Common.{Greater, is_eq, is_gt, is_le, bytes_decides, tied_itself, Cmp, byte_cmp, line_cmp, ◌<◌, length}
@@ -24,14 +23,12 @@ pub use Rattle.ptmerge.specs.MergeSpec.{earlier_disorder, insert_key, is_below, 
 
 -- ---- keys in order
 
--- Consequences of the laws of an order of keys. Distinct keys are sorted, so the entries of the least key come first,
--- followed by the entries of the lines with other keys.
+-- Distinct keys are sorted, so the entries of the least key come first, and then those of the lines with other keys.
 
 pub record IsKeyOrder (cmp : Cmp) : Type 0 where
   pub total : IsTotalOrder cmp
   pub exact : (a b : List ℕ) → cmp a b ≡ Equal → a ≡ b
 
--- a is at most k
 abbrev pub AtMost : Cmp → List ℕ → List ℕ → Type 0
 AtMost cmp a b = is_gt (cmp a b) ≡ false
 
@@ -42,7 +39,6 @@ Above cmp k y = cmp y k ≡ Greater
 pub is_greater : (r : Ordering) → is_gt r ≡ true → r ≡ Greater
 is_greater = grind arith
 
--- equal keys have the same bytes
 pub same_bytes : {a b : List ℕ} → a ≡ b → bytes_eq a b ≡ true
 same_bytes = search rules
 
@@ -65,36 +61,11 @@ module _ (cmp : Cmp) (o : IsKeyOrder cmp) where
   pub less_flips : (a b : List ℕ) → cmp a b ≡ Less → cmp b a ≡ Greater
   less_flips = search rules
 
-  pub above_at_most : (k y : List ℕ) → cmp y k ≡ Greater → AtMost cmp k y
-  above_at_most k y g = ap is_gt (greater_flips y k g)
-
-  pub above_not_same : (k y : List ℕ) → cmp y k ≡ Greater → bytes_eq y k ≡ false
-  above_not_same k y g = grind (arith, not_same y k)
-
-  -- k equals y, or is less
-  pub least_or_above : (k y : List ℕ) → AtMost cmp k y
-      → ((bytes_eq y k ≡ true) × (y ≡ k)) ⊎ ((bytes_eq y k ≡ false) × (cmp y k ≡ Greater))
-  least_or_above = search (rules, less_flips, same_bytes)
-
-  -- a ≤ b < c
-  pub above_trans : (a b c : List ℕ) → AtMost cmp a b → cmp c b ≡ Greater → cmp c a ≡ Greater
-  above_trans = search (rules, greater_flips, less_flips)
-
-  -- a < b ≤ c
-  pub above_up : (a b c : List ℕ) → cmp b a ≡ Greater → AtMost cmp b c → cmp c a ≡ Greater
-  above_up = search (rules, greater_flips, less_flips)
-
-  pub at_most_is_le : (a b : List ℕ) → AtMost cmp a b → is_le (cmp a b) ≡ true
-  at_most_is_le = grind arith
-
--- both orders of lines satisfy the laws
 pub line_order : (descending : Bool) → IsKeyOrder (line_cmp descending)
-line_order true = record { total = back_total nat_list_cmp_total; exact = reversed_same_bytes byte_cmp byte_cmp_equal }
-line_order false = record { total = nat_list_cmp_total; exact = byte_cmp_equal }
+line_order = grind (arith, back_total, nat_list_cmp_total, reversed_same_bytes, byte_cmp_equal)
 
 -- ---- the least key
 
--- a property of each key, or of the key of each line
 abbrev pub Each : (List ℕ → Type 0) → Lines → Type 0
 Each P [] = Unit {0}
 Each P (x ∷ xs) = P x × Each P xs
@@ -131,7 +102,7 @@ EachKey-append = grind (arith, common_steps)
 pub Each-insert : (cmp : Cmp) (P : List ℕ → Type 0) (k : List ℕ) (xs : Lines) → P k → Each P xs
     → Each P (insert_key cmp k xs)
 Each-insert cmp P k [] h e = (h, tt)
-Each-insert cmp P k (x ∷ xs) h (here, more) = let ih = Each-insert cmp P k xs h more in grind arith
+Each-insert cmp P k (x ∷ xs) h (here, more) = grind (arith, Each-insert cmp P k xs h more)
 
 pub Each-distinct : (cmp : Cmp) (P : List ℕ → Type 0) (xs : Lines) → Each P xs → Each P (distinct_keys cmp xs)
 Each-distinct cmp P [] e = tt
@@ -141,9 +112,8 @@ Each-distinct cmp P (x ∷ xs) (here, more) =
 module _ (cmp : Cmp) (o : IsKeyOrder cmp) where
   pub insert_least : (k : List ℕ) (ds : Lines) → Each (Above cmp k) ds → insert_key cmp k ds ≡ k ∷ ds
   insert_least k [] a = refl
-  insert_least k (d ∷ ds) (here, _) = rw (greater_flips cmp o d k here) refl
+  insert_least k (d ∷ ds) (here, _) = rw (greater_flips cmp o d k here)
 
--- a test that no key passes keeps no line
 pub kept_none : (w : List ℕ → Bool) (key : Key) (ls : Lines) → EachKey (λ k. w k ≡ false) key ls
     → filter (λ line. w (key line)) ls ≡ []
 kept_none w key [] e = refl
@@ -152,16 +122,10 @@ kept_none w key (x ∷ ls) (here, more) = rw here (kept_none w key ls more)
 module _ (tool : MergeTool) (o : IsKeyOrder tool.cmp) where
   open tool use {cmp}
 
-  pub at_most-same : (key : Key) (k : List ℕ) (f r : Lines) → EachKey (λ x. x ≡ k) key f → EachKey (AtMost cmp k) key r
-      → EachKey (AtMost cmp k) key (f ++ r)
-  at_most-same key k f r e h =
-      EachKey-append _ key f r (Each-weaker _ _ (λ x is. rw is (self_at_most cmp o k)) _ e) h
-
-  -- no line with a greater key has the key
   pub lines_with_key-above : (key : Key) (k : List ℕ) (r : Lines) → EachKey (Above cmp k) key r
       → lines_with_key key r k ≡ []
   lines_with_key-above key k r a =
-      kept_none (λ y. bytes_eq y k) key r (Each-weaker _ _ (λ y g. above_not_same cmp o k y g) _ a)
+      kept_none (λ y. bytes_eq y k) key r (Each-weaker _ _ (λ y g. (grind (arith, not_same y k))) _ a)
 
 -- ---- lines in order
 
@@ -169,7 +133,7 @@ abbrev pub is_disordered : Cmp → Option (List ℕ) → List ℕ → Bool
 is_disordered cmp None k = false
 is_disordered cmp (Some l) k = is_gt (cmp l k)
 
--- the sorted prefix of the lines after a key, and the first disorder among them
+-- after a line with the key `last`, if there is one
 abbrev pub sorted_after : Cmp → Key → Option (List ℕ) → Lines → Lines
 sorted_after cmp key last [] = []
 sorted_after cmp key last (x ∷ w) = cond (is_disordered cmp last (key x)) [] (x ∷ sorted_after cmp key (Some (key x)) w)
@@ -185,7 +149,7 @@ disorder_after cmp key last n (x ∷ w) =
 pub sorted_prefix_is : (cmp : Cmp) (key : Key) (ls : Lines) → sorted_prefix cmp key ls ≡ sorted_after cmp key None ls
 sorted_prefix_is cmp key [] = refl
 sorted_prefix_is cmp key (x ∷ []) = refl
-sorted_prefix_is cmp key (x ∷ y ∷ more) = let ih = sorted_prefix_is cmp key (y ∷ more) in grind arith
+sorted_prefix_is cmp key (x ∷ y ∷ more) = grind (arith, sorted_prefix_is cmp key (y ∷ more))
 
 -- the first disorder, by the length of the sorted prefix
 abbrev by_length : Cmp → Key → Option (List ℕ) → ℕ → Lines → Lines → Option FirstDisorder
@@ -201,12 +165,10 @@ pub first_disorder_is : (cmp : Cmp) (key : Key) (ls : Lines)
     → first_disorder cmp key ls ≡ disorder_after cmp key None 0 ls
 first_disorder_is cmp key ls = grind (arith, sorted_prefix_is cmp key ls, by_length_is cmp key None 0 ls)
 
--- no line is out of order, after this key
 abbrev pub IsSortedFrom : Cmp → Key → Option (List ℕ) → Lines → Type 0
 IsSortedFrom cmp key last [] = Unit {0}
 IsSortedFrom cmp key last (x ∷ xs) = (is_disordered cmp last (key x) ≡ false) × IsSortedFrom cmp key (Some (key x)) xs
 
--- such lines are their own sorted prefix, without a disorder
 sorted_from_whole : (cmp : Cmp) (key : Key) (last : Option (List ℕ)) (n : ℕ) (ls : Lines) → IsSortedFrom cmp key last ls
     → (sorted_after cmp key last ls ≡ ls) × (disorder_after cmp key last n ls ≡ None)
 sorted_from_whole cmp key last n [] r = (refl, refl)
@@ -216,14 +178,13 @@ sorted_from_whole cmp key last n (x ∷ ls) (here, more) =
 pub sorted_from_start : (cmp : Cmp) (key : Key) (ls : Lines) → IsSortedFrom cmp key None ls
     → (sorted_prefix cmp key ls ≡ ls) × (first_disorder cmp key ls ≡ None)
 sorted_from_start cmp key ls r =
-    grind (arith, sorted_from_whole cmp key None 0 ls r, sorted_prefix_is)
+    grind (arith, sorted_from_whole cmp key _ 0 ls r, sorted_prefix_is)
 
 none_disordered : (cmp : Cmp) (key : Key) (last : Option (List ℕ)) (n : ℕ) (ls : Lines)
     → disorder_after cmp key last n ls ≡ None → IsSortedFrom cmp key last ls
 none_disordered cmp key last n [] e = tt
 none_disordered cmp key last n (x ∷ ls) e = grind (arith, none_disordered cmp key (Some (key x)) (n + 1) ls)
 
--- lines without a disorder are in order
 pub sorted_from_none : (cmp : Cmp) (key : Key) (ls : Lines) → first_disorder cmp key ls ≡ None
     → IsSortedFrom cmp key None ls
 sorted_from_none cmp key ls e = grind (arith, none_disordered, first_disorder_is)
@@ -232,9 +193,6 @@ sorted_from_none cmp key ls e = grind (arith, none_disordered, first_disorder_is
 pub record IsSortedUpTo (cmp : Cmp) (key : Key) (q : Lines) (last : Option (List ℕ)) : Type 0 where
   pub ordered : (w : Lines) → sorted_prefix cmp key (q ++ w) ≡ q ++ sorted_after cmp key last w
   pub may_disorder : (w : Lines) → first_disorder cmp key (q ++ w) ≡ disorder_after cmp key last (length q) w
-
-pub sorted_up_to_none : {cmp : Cmp} {key : Key} → IsSortedUpTo cmp key [] None
-sorted_up_to_none = grind (arith, sorted_prefix_is, first_disorder_is)
 
 -- the disorder, if there is one, comes after a key that is at least k
 abbrev pub IsDisorderFrom : Cmp → List ℕ → Option FirstDisorder → Type 0
@@ -252,29 +210,26 @@ after_from cmp o key k n (x ∷ w) =
     λ h. Each-weaker _ _ (λ y a. at_most_trans cmp o k (key x) y h a) _ more in
     grind (arith, weaker, at_most_trans)
 
--- The lines that may follow in an input: any lines; lines with keys of at least k; none, since the input is out of
--- order; none, since it has ended.
+-- The lines that may follow in an input: any; those with keys of at least k; none, after a disorder; none, at its end.
 pub data Bound : Type 0 where
   NoBound : Bound
   AtLeast : List ℕ → Bound
   AfterDisorder : FirstDisorder → Bound
   NothingMore : Bound
 
--- the lines `r` may follow
 abbrev pub MayFollow : Cmp → Key → Bound → Lines → Type 0
 MayFollow cmp key NoBound r = Unit {0}
 MayFollow cmp key (AtLeast k) r = EachKey (AtMost cmp k) key r
 MayFollow cmp key (AfterDisorder d) r = r ≡ []
 MayFollow cmp key NothingMore r = r ≡ []
 
--- the disorder may occur
 abbrev pub MayDisorder : Cmp → Bound → Option FirstDisorder → Type 0
 MayDisorder cmp NoBound f = Unit {0}
 MayDisorder cmp (AtLeast k) f = IsDisorderFrom cmp k f
 MayDisorder cmp (AfterDisorder d) f = f ≡ Some d
 MayDisorder cmp NothingMore f = f ≡ None
 
--- the key of a processed line is at most all keys that may follow
+-- `k` is at most all keys that may follow
 abbrev pub IsUnder : Cmp → Bound → List ℕ → Type 0
 IsUnder cmp NoBound k = ⊥
 IsUnder cmp (AtLeast l) k = AtMost cmp k l
@@ -290,24 +245,18 @@ pub record IsLater (cmp : Cmp) (key : Key) (b d : Bound) : Type 0 where
   pub under : (k : List ℕ) → IsUnder cmp b k → IsUnder cmp d k
 
 pub same_bound : {cmp : Cmp} {key : Key} {b : Bound} → IsLater cmp key b b
-same_bound = record { may_follow = λ r c. c; under = λ k u. u }
+same_bound = search rules
 
--- the sorted prefix of the lines `all` is `p`, followed by lines that the bound allows, and so is their disorder
+-- the sorted prefix of `all` is `p` and then lines that the bound allows, and it allows the disorder
 pub record IsFuture (cmp : Cmp) (key : Key) (all p : Lines) (b : Bound) : Type 0 where
   pub rest : Lines
   pub is : sorted_prefix cmp key all ≡ p ++ rest
   pub may_follow : MayFollow cmp key b rest
   pub may_disorder : MayDisorder cmp b (first_disorder cmp key all)
 
--- The lines `ls` are read, and `p` of them are processed: so it is for every list that continues `ls`. Nothing follows
--- after the end of the input.
+-- `p` of the lines read, `ls`, are processed, whatever follows `ls`; nothing follows the end of the input.
 pub record IsProcessedPrefix (cmp : Cmp) (key : Key) (ls p : Lines) (b : Bound) : Type 0 where
   pub future : (w : Lines) → (b ≡ NothingMore → w ≡ []) → IsFuture cmp key (ls ++ w) p b
-
--- the current line is not yet processed
-pub processed_before_line : {cmp : Cmp} (o : IsKeyOrder cmp) {key : Key} {p : Lines} {x : List ℕ}
-    → IsSortedUpTo cmp key (p ++ x ∷ []) (Some (key x)) → IsProcessedPrefix cmp key (p ++ x ∷ []) p (AtLeast (key x))
-processed_before_line = grind (arith, common_steps, after_from)
 
 -- ---- the output
 
@@ -322,12 +271,10 @@ filter_none : (w : List ℕ → Bool) (ks : Lines) → Each (λ k. w k ≡ false
 filter_none w [] e = refl
 filter_none w (k ∷ ks) (here, more) = rw here (filter_none w ks more)
 
--- keys in order, without repetition
 abbrev pub Ascends : Cmp → Lines → Type 0
 Ascends cmp [] = Unit {0}
 Ascends cmp (k ∷ ks) = Each (Above cmp k) ks × Ascends cmp ks
 
--- a test that holds for all keys below a key for which it holds
 abbrev pub IsDownwardClosed : Cmp → (List ℕ → Bool) → Type 0
 IsDownwardClosed cmp w = (a b : List ℕ) → cmp b a ≡ Greater → w b ≡ true → w a ≡ true
 
@@ -339,9 +286,8 @@ module _ (cmp : Cmp) (o : IsKeyOrder cmp) where
 
   pub ascends_distinct : (ks : Lines) → Ascends cmp (distinct_keys cmp ks)
   ascends_distinct [] = tt
-  ascends_distinct (k ∷ ks) = ascends_insert k (distinct_keys cmp ks) (ascends_distinct ks)
+  ascends_distinct (k ∷ ks) = ascends_insert k _ (ascends_distinct ks)
 
-  -- the keys that pass the test come first
   downward_first : (w p : List ℕ → Bool) → IsDownwardClosed cmp p → (ks : Lines) → Ascends cmp ks
       → filter w ks ≡ filter (λ k. w k && p k) ks ++ filter (λ k. w k && not (p k)) ks
   downward_first w p down [] a = refl
@@ -370,16 +316,13 @@ module _ (p : List ℕ → Bool) where
     insert_kept k (x ∷ xs) (above, more) =
         let least : cmp k x ≡ Less → insert_key cmp k (filter p xs) ≡ k ∷ filter p xs =
         grind (arith, insert_least, each_kept, Each-weaker) in
-        let same : cmp k x ≡ Equal → p k ≡ p x = λ e. ap p (o.exact k x e) in
-        grind (arith, insert_kept k xs more, same)
+        grind (arith, insert_kept k xs more)
 
-    -- filtering and computing the distinct keys commute
     distinct_kept : (ks : Lines) → filter p (distinct_keys cmp ks) ≡ distinct_keys cmp (filter p ks)
     distinct_kept [] = refl
     distinct_kept (k ∷ ks) =
-        grind (arith, distinct_kept ks, insert_kept k (distinct_keys cmp ks) (ascends_distinct cmp o ks))
+        grind (arith, distinct_kept ks, insert_kept k _ (ascends_distinct cmp o ks))
 
-  -- the lines whose keys pass the test
   abbrev kept : Key → Lines → Lines
   kept key ls = filter (λ line. p (key line)) ls
 
@@ -387,7 +330,6 @@ module _ (p : List ℕ → Bool) where
   keys_kept key [] = refl
   keys_kept key (x ∷ ls) = grind (arith, keys_kept key ls)
 
-  -- all lines of a key pass the test if the key does
   with_key_kept : (key : Key) (k : List ℕ) (ls : Lines) → p k ≡ true
       → lines_with_key key (kept key ls) k ≡ lines_with_key key ls k
   with_key_kept key k [] h = refl
@@ -406,7 +348,7 @@ module _ (p : List ℕ → Bool) where
     pub by_keys_kept : (w : List ℕ → Bool) → entries_by_key tool w (λ side. filter (λ line. p (key side line))
         (ls side)) ≡ entries_by_key tool (λ k. w k && p k) ls
     by_keys_kept w = (λ i. flat_map (entries_of_key tool part)
-        (filter w ((ap (distinct_keys cmp) keys_of_part ∙ sym (distinct_kept cmp o (keys tool ls))) i)))
+        (filter w ((ap (distinct_keys cmp) keys_of_part ∙ sym (distinct_kept cmp o _)) i)))
         ∙ each_of (distinct_keys cmp (keys tool ls))
       where
         each_of : (ds : Lines) → flat_map (entries_of_key tool part) (filter w (filter p ds))
@@ -431,11 +373,10 @@ module _ (cmp : Cmp) (o : IsKeyOrder cmp) where
       → LeastLines cmp key k f r
   least_lines key k [] [] e h = grind arith
   least_lines key k [] (x ∷ r) e (here, more) =
-      grind (arith, least_or_above, least_lines key k [] r tt more)
+      grind (arith, least_lines key k [] r tt more, rules, same_bytes)
   least_lines key k (x ∷ f) r (here, more) h =
       grind (arith, common_steps, same_bytes, least_lines key k f r more h)
 
-  -- the only key of these lines
   only_key : (key1 key2 : Key) (k : List ℕ) (xs ys : Lines) → EachKey (λ x. x ≡ k) key1 xs
       → EachKey (λ x. x ≡ k) key2 ys
       → (distinct_keys cmp (map key1 xs ++ map key2 ys) ≡ k ∷ []) ⊎ ((xs ≡ []) × (ys ≡ []))
@@ -443,9 +384,8 @@ module _ (cmp : Cmp) (o : IsKeyOrder cmp) where
   only_key key1 key2 k [] (y ∷ ys) e (here, more) =
       grind (arith, only_key key1 key2 k [] ys tt more)
   only_key key1 key2 k (x ∷ xs) ys (here, more) h =
-      grind (arith, only_key key1 key2 k xs ys more h)
+      grind (arith, only_key _ _ k xs ys more h)
 
--- the output for these lines, of all keys
 abbrev pub output_of : MergeTool → (Side → Lines) → List ℕ
 output_of tool p = unlines tool.terminator (entries_by_key tool all_keys p)
 
@@ -460,7 +400,6 @@ module _ (tool : MergeTool) where
       → EachKey (λ k. w k ≡ false) (key side) (r side)) → entries_by_key tool w r ≡ []
   none_wanted = grind (arith, filter_none, Each-distinct, Each-append)
 
-  -- the entries of the keys that pass the test come first
   pub downward_splits : IsKeyOrder cmp → (w p : List ℕ → Bool) → IsDownwardClosed cmp p → (ls : Side → Lines)
       → entries_by_key tool w ls ≡ entries_by_key tool (λ k. w k && p k) ls
       ++ entries_by_key tool (λ k. w k && not (p k)) ls
@@ -471,14 +410,12 @@ module _ (tool : MergeTool) where
 
   -- lines of the least key, followed by lines with no lesser keys
   module _ (o : IsKeyOrder cmp) (w : List ℕ → Bool) (k : List ℕ) (none : tool.entries k [] [] ≡ []) where
-    -- the entries of the lines of one key
     of_one_key : (ls : Side → Lines) → ((side : Side) → EachKey (λ x. x ≡ k) (key side) (ls side))
         → ((side : Side) → lines_with_key (key side) (ls side) k ≡ ls side)
         → entries_by_key tool w ls ≡ cond (w k) (tool.entries k (ls First) (ls Second)) []
     of_one_key ls own all =
         grind (arith, append-nil, none, all First, only_key cmp o _ _ k _ _ (own First) (own Second))
 
-    -- the entries of the other keys
     abbrev pub later_entries : (Side → Lines) → Lines
     later_entries r = entries_by_key tool (λ x. w x && not (is_le (cmp x k))) r
 
@@ -497,24 +434,22 @@ module _ (tool : MergeTool) where
         ∙ (λ i. entries_by_key tool w (λ side. (s side).other i)) ∙ by_keys_kept (λ x. not (p x)) tool o r w in
         downward_splits o w p (grind (arith, greater_flips)) ls ∙ (λ i. first i ++ rest i)
 
-  -- the lines that may follow in both inputs
   abbrev pub MayCome : (Side → Bound) → (Side → Lines) → Type 0
   MayCome b r = (side : Side) → MayFollow cmp (key side) (b side) (r side)
 
-  -- For all lines that may follow, and for every choice of keys, the entries of the processed lines come first.
+  -- for every choice of keys and all lines that may follow, the entries of the processed lines come first
   abbrev pub Splits : (Side → Bound) → (Side → Lines) → Type 0
   Splits b p = (w : List ℕ → Bool) (r : Side → Lines) → MayCome b r
       → entries_by_key tool w (λ side. p side ++ r side) ≡ entries_by_key tool w p ++ entries_by_key tool w r
 
 -- ---- the bytes written
 
--- the output is the output for the processed lines, which comes first for all lines that may follow
+-- the output is that of the processed lines, which comes first whatever follows
 pub record MergeInvariant (tool : MergeTool) (b : Side → Bound) (p : Side → Lines) (was is : Output) : Type 0 where
   pub splits : Splits tool b p
   pub under : (of side : Side) → EachKey (IsUnder tool.cmp (b of)) (tool.key side) (p side)
   pub wrote : PushEffect was is (output_of tool p)
 
--- before anything is read
 pub merge_invariant_starts : (tool : MergeTool) (was : Output)
     → MergeInvariant tool (λ side. NoBound) (λ side. []) was was
 merge_invariant_starts = search rules
@@ -524,7 +459,6 @@ pub both_under : (key : Key) (P Q R : List ℕ → Type 0) → ((k : List ℕ) �
 both_under key P Q R f [] p q = tt
 both_under key P Q R f (x ∷ xs) (p, more1) (q, more2) = (f (key x) p q, both_under key P Q R f xs more1 more2)
 
--- the entries of the processed lines come first, for all lists that continue those read so far
 pub input_split : {tool : MergeTool} (o : IsKeyOrder tool.cmp) {b : Side → Bound} {p ls : Side → Lines}
     {was is : Output} → MergeInvariant tool b p was is
     → (s : (side : Side) → IsFuture tool.cmp (tool.key side) (ls side) (p side) (b side))
@@ -564,15 +498,17 @@ pub record LagInvariant (tool : MergeTool) (b : Side → Bound) (p : Side → Li
       → MayFollow tool.cmp (tool.key side) (bound side) (tail side ++ r)
   pub first : ComeFirst tool b p done
 
--- the entries of all processed lines are written
 abbrev pub AllWritten : MergeTool → (Side → Bound) → (Side → Lines) → Output → Output → Type 0
 AllWritten tool b p was is = LagInvariant tool b p was is (entries_by_key tool all_keys p)
 
--- they were written by then, and nothing after it
+-- they are, and the invariant holds
+abbrev pub Written : MergeTool → (Side → Bound) → (Side → Lines) → Output → Output → Type 0
+Written tool b p was is = MergeInvariant tool b p was is × AllWritten tool b p was is
+
 pub lag_invariant_starts : {tool : MergeTool} → IsKeyOrder tool.cmp → {b : Side → Bound} {p : Side → Lines}
     {was mid is : Output} → MergeInvariant tool b p was mid → mid.write_failed ≡ false → PushEffect mid is []
     → AllWritten tool b p was is
-lag_invariant_starts {tool} o {b} {p} {mid = mid} m clean more = record {
+lag_invariant_starts o {b} {p} {mid = mid} m clean more = record {
   mid = mid;
   front = p;
   tail = λ side. [];
@@ -589,8 +525,7 @@ lag_invariant_starts {tool} o {b} {p} {mid = mid} m clean more = record {
   first = λ all s. (_, input_split o m s);
 }
 
--- the lines `f` of one key, processed by one input, may follow at the bound `b`, and precede all lines that may follow
--- at the bound `d`
+-- the lines `f`, all with the key `k`, may follow at the bound `b`, and precede all lines that may follow at `d`
 pub record IsLeastKeyRun (cmp : Cmp) (key : Key) (b d : Bound) (k : List ℕ) (f : Lines) : Type 0 where
   pub own : EachKey (λ y. y ≡ k) key f
   pub may_follow : (r : Lines) → MayFollow cmp key d r → MayFollow cmp key b (f ++ r)
@@ -598,12 +533,10 @@ pub record IsLeastKeyRun (cmp : Cmp) (key : Key) (b d : Bound) (k : List ℕ) (f
   pub under : (j : List ℕ) → IsUnder cmp b j → IsUnder cmp d j
   pub later : IsLater cmp key (AtLeast k) d
 
--- the current line, or no line
 pub line_is_least_run : {cmp : Cmp} (o : IsKeyOrder cmp) {key : Key} {b : Bound} {k x : List ℕ} → b ≡ AtLeast (key x)
     → key x ≡ k → IsLeastKeyRun cmp key b b k (x ∷ [])
 line_is_least_run = grind arith
 
--- such lines are processed
 pub write_least_run : {tool : MergeTool} (o : IsKeyOrder tool.cmp) (k : List ℕ) (q f : Side → Lines)
     {b d : Side → Bound} {p : Side → Lines} {was is new : Output}
     → ((side : Side) → IsLeastKeyRun tool.cmp (tool.key side) (b side) (d side) k (f side))
@@ -612,8 +545,7 @@ pub write_least_run : {tool : MergeTool} (o : IsKeyOrder tool.cmp) (k : List ℕ
     (f Second ++ lines_with_key (tool.key Second) (r Second) k) ≡ tool.entries k (f First) (f Second) ++ entries_of_key
     tool r k)
     → is.write_failed ≡ false → MergeInvariant tool b p was is
-    → PushEffect is new (output_of tool f) → MergeInvariant tool d q was new
-    × AllWritten tool d q was new
+    → PushEffect is new (output_of tool f) → Written tool d q was new
 write_least_run {tool} o k q f {b} {d} {p} {was} {is} {new} front all none law clean m wrote =
     let nothing =
     λ (side : Side). rw append-nil at
@@ -628,12 +560,11 @@ write_least_run {tool} o k q f {b} {d} {p} {was} {is} {new} front all none law c
           let own = λ (side : Side). (front side).own in
           let above = λ (side : Side). (front side).later.may_follow (r side) (c side) in
           let alone = simp append-nil at (front_is tool o w k none f (λ side. []) own (λ side. tt)) in
-          let rest = front_is tool o w k none (λ side. []) r (λ side. tt) above in
           (λ i. entries_by_key tool w (λ side. append_assoc (p side) (f side) (r side) i)) ∙ grind (
             arith,
             m.splits w (λ side. f side ++ r side) (λ side. (front side).may_follow (r side) (c side)),
             alone,
-            rest,
+            (front_is tool o w k none (λ side. []) r (λ side. tt) above),
             front_is tool o w k none f r own above,
             law r c,
             append_assoc (tool.entries k (f First) (f Second)) (entries_of_key tool r k)
@@ -643,8 +574,7 @@ write_least_run {tool} o k q f {b} {d} {p} {was} {is} {new} front all none law c
       under = λ of side. Each-weaker _ _ (front of).under _ (under of side);
       wrote = rw texts (push_trans _ _ _ _ _ clean m.wrote wrote);
     } in
-    subst (λ (l : Side → Lines). MergeInvariant tool d l was new × AllWritten tool d l was new)
-    (λ i side. sym (all side) i) (
+    subst (λ (l : Side → Lines). Written tool d l was new) (λ i side. sym (all side) i) (
       now,
       record {
         mid = is;
@@ -664,24 +594,19 @@ write_least_run {tool} o k q f {b} {d} {p} {was} {is} {new} front all none law c
       },
     )
 
--- the bounds are later
 pub bounds_change : {tool : MergeTool} {b d : Side → Bound} {p : Side → Lines} {was is : Output}
     → ((side : Side) → IsLater tool.cmp (tool.key side) (b side) (d side)) → MergeInvariant tool b p was is
     → MergeInvariant tool d p was is
-bounds_change later m = record {
-  splits = λ w r c. m.splits w r (λ side. (later side).may_follow (r side) (c side));
-  under = λ of side. Each-weaker _ _ (later of).under _ (m.under of side);
-  wrote = m.wrote;
-}
+bounds_change later m =
+    let under = λ (of side : Side). Each-weaker _ _ (later of).under _ (m.under of side) in search (rules, under)
 
--- an input advanced
 pub bound_changes : {tool : MergeTool} {b : Side → Bound} {p : Side → Lines} {was is : Output} (s : Side) {d : Bound}
     → MergeInvariant tool b p was is → IsLater tool.cmp (tool.key s) (b s) d
     → MergeInvariant tool (with_side s d b) p was is
-bound_changes {tool} {b} s {d} m later = bounds_change
+bound_changes s m later = bounds_change
     (grind (arith, put_each)) m
 
--- the merge is at its end: the disorder is the one found, if any, and no line that may follow changes the output
+-- the disorder is the one found, if any, and no line that may follow changes the output
 abbrev pub IsExactStop : MergeTool → (Side → Bound) → Option (Side × ℕ) → Type 0
 IsExactStop tool b found = (ls r : Side → Lines) → MayCome tool b r
     → ((s : Side) → MayDisorder tool.cmp (b s) (first_disorder tool.cmp (tool.key s) (ls s)))
@@ -690,7 +615,6 @@ IsExactStop tool b found = (ls r : Side → Lines) → MayCome tool b r
 
 -- ---- the decided output
 
--- a property of each key holds for the last key
 pub last_has : (key : Key) (P : List ℕ → Type 0) (last : Option (List ℕ)) (xs : Lines) (x : List ℕ)
     → last_or last (map key xs) ≡ Some x → ((y : List ℕ) → last ≡ Some y → P y) → EachKey P key xs → P x
 last_has key P last [] x e f h = f x e
@@ -701,13 +625,9 @@ module _ (cmp : Cmp) (o : IsKeyOrder cmp) where
   pub not_below : (k x : List ℕ) → AtMost cmp x k → is_lt (cmp k x) ≡ false
   not_below k x h = grind arith
 
-  -- no line that may follow is below the key of a processed line
   coming_under : (key : Key) (b : Bound) (x : List ℕ) (r : Lines) → IsUnder cmp b x → MayFollow cmp key b r
       → EachKey (AtMost cmp x) key r
-  coming_under key NoBound x r u c = absurd u
-  coming_under key (AtLeast l) x r u c = Each-weaker _ _ (λ k h. at_most_trans cmp o x l k u h) _ c
-  coming_under key (AfterDisorder d) x r u c = rw c tt
-  coming_under key NothingMore x r u c = rw c tt
+  coming_under = grind (arith, Each-weaker, at_most_trans)
 
   -- no line that may follow in one input is below the last processed key of the other
   pub past_none : (key other_key : Key) (b : Bound) (p r : Lines) → EachKey (IsUnder cmp b) key p
@@ -717,13 +637,7 @@ module _ (cmp : Cmp) (o : IsKeyOrder cmp) where
       by : (l : Option (List ℕ)) → last_or None (map key p) ≡ l → EachKey (λ k. is_below cmp k l ≡ false) other_key r
       by None e = Each-all _ (λ k. refl) _
       by (Some x) e = Each-weaker _ _ (λ k h. not_below k x h) _
-          (coming_under other_key b x r (last_has key (IsUnder cmp b) None p x e (λ y bad. cc) u) c)
-
-  downward_up_to : (d : Option MergeDisorder) → IsDownwardClosed cmp (is_up_to cmp d)
-  downward_up_to = grind (arith, greater_flips)
-
-  downward_past : (key : Key) (eof : Bool) (ls : Lines) → IsDownwardClosed cmp (is_past cmp key eof ls)
-  downward_past = grind (arith, less_flips, above_trans)
+          (coming_under _ b x r (last_has key _ _ p x e (λ y bad. cc) u) c)
 
 all_three : (x y z u v w : Bool) → (x ≡ true → u ≡ true) → (y ≡ true → v ≡ true) → (z ≡ true → w ≡ true)
     → (x && y && z) ≡ true → (u && v && w) ≡ true
@@ -733,9 +647,8 @@ module _ (tool : MergeTool) (o : IsKeyOrder tool.cmp) (eof : Side → Bool) (ls 
   open tool use {cmp}
 
   pub downward_decided : IsDownwardClosed cmp (is_decided tool eof ls)
-  downward_decided = search (rules, all_three, downward_up_to, downward_past)
+  downward_decided = grind (arith, common_steps, all_three, greater_flips)
 
-  -- no key is decided unless it is past in this input
   pub not_decided : (side : Side) (k : List ℕ) → is_past cmp (tool.key side) (eof side) (ls side) k ≡ false
       → is_decided tool eof ls k ≡ false
   not_decided First k e = grind arith

@@ -22,10 +22,9 @@ pub use Rattle.ptmerge.specs.MergeSlots.{EnsureFourSlotsPost, ClearFourSlotsPost
 
 -- ---- lines that were read
 
--- The lines read from a source. The bytes received are the lines read so far, and all but the last have their
--- terminator. So every input that begins with these bytes begins with these lines.
+-- The bytes received are the lines read so far, and all but the last have their terminator. So every input that begins
+-- with these bytes begins with these lines.
 
--- complete lines, and then the complete lines of the rest
 ended_more : (end : ℕ) (ls : List (List ℕ)) (bytes : List ℕ) → AreLines end ls
     → complete_lines end (unlines end ls ++ bytes) ≡ ls ++ complete_lines end bytes
 ended_more end [] bytes w = refl
@@ -38,66 +37,48 @@ ended_more end (line ∷ ls) bytes (free, more) = grind (
       ls bytes more,
 )
 
--- `ls` are the lines of the bytes `given`: all of them have their terminator, or the last one lacks it at the end of
--- the source
+-- `ls` are the lines of `given`: all have their terminator, or the last one lacks it at the end of the source
 abbrev pub IsReadAs : ℕ → List ℕ → List (List ℕ) → Reader → Type 0
 IsReadAs end given ls now = ((given ≡ unlines end ls) × AreLines end ls) ⊎ ((lines end given ≡ ls) × IsDone now)
 
--- the lines `ls` were read
 pub record LinesRead (end : ℕ) (old now : Reader) (ls : List (List ℕ)) : Type 0 where
   pub given : List ℕ
   pub so_far : IsReadAs end given ls now
   pub advance_ok : AdvanceOk old now given
   pub terminator : now.terminator ≡ end
 
--- nothing was read, and the end of the source was reached
 pub record GivesNothing (new : Reader) (bytes : List ℕ) : Type 0 where
   pub bytes_are : bytes ≡ []
   pub buffered : new.buffered ≡ []
   pub eof : new.eof ≡ true
 
--- at the end of a source nothing more is read
 pub done_gives_nothing : {now new : Reader} {bytes : List ℕ} → IsDone now → ReaderAdvance now new bytes
     → GivesNothing new bytes
 done_gives_nothing = grind (arith, common_steps)
 
--- a line was read, or the end of the source
 abbrev pub HasBegun : Reader → List (List ℕ) → Type 0
 HasBegun now ls = IsDone now ⊎ (0 < length ls)
 
--- a part of a line is at most one line
 pub one_line_at_most : (end : ℕ) (piece : List ℕ) → IsLine end piece → length (lines end piece) ≤ 1
 one_line_at_most end [] free = omega arith
 one_line_at_most end (b ∷ piece) free = grind (arith, common_steps, lines_of_last)
 
 pub lines_read_more : {end : ℕ} {old now new : Reader} {ls : List (List ℕ)} {before after : Slots} {slot : ℕ}
     → LinesRead end old now ls → (e : FillLine now new before after slot) → LinesRead end old new (ls ++ e.line ∷ [])
-lines_read_more {end} {old} {now} {new} {ls} c e =
-    let free : IsLine end e.line = rw c.terminator at e.whole in
+lines_read_more {end} {old} {now} {new} c e =
     record {
       given = c.given ++ (e.line ++ e.terminator);
-      so_far = search (
-        rules,
-        free,
-        done_gives_nothing,
-        unlines_push,
-        AreLines_push,
-        lines_of_unlines,
-        lines_of_last,
-        append-nil,
-        length-append,
-      );
-      advance_ok = advance_ok_trans old now new c.given _ c.advance_ok e.advance_ok;
+      so_far = search (rules, done_gives_nothing, unlines_push, AreLines_push, lines_of_unlines, lines_of_last, append-nil, length-append);
+      advance_ok = advance_ok_trans old now new _ _ c.advance_ok e.advance_ok;
       terminator = grind arith;
     }
 
--- the list `all` continues the lines `ls`
 pub record Continues (now : Reader) (ls all : List (List ℕ)) : Type 0 where
   pub more : List (List ℕ)
   pub is : all ≡ ls ++ more
   pub done : IsDone now → more ≡ []
 
--- such a list, in which neither the lines `ls` nor this piece of a further line are longer than the longest line
+-- no line of `ls`, nor this piece of a further line, is longer than the longest line of `all`
 pub record HoldsLines (now : Reader) (ls : List (List ℕ)) (piece : List ℕ) (all : List (List ℕ)) : Type 0 where
   pub continues : Continues now ls all
   pub longest : max (max_length ls) (length piece) ≤ max_length all
@@ -110,12 +91,10 @@ module _ {end : ℕ} {old now new : Reader} {ls : List (List ℕ)} {piece : List
   free : IsLine end piece
   free = rw c.terminator at line
 
-  -- the bytes after the lines
   front_of : c.given ≡ unlines end ls → (rest : List ℕ)
       → ((c.given ++ piece) ++ new.buffered) ++ rest ≡ unlines end ls ++ (piece ++ (new.buffered ++ rest))
   front_of is rest = rw is (simp append_assoc)
 
-  -- the lines of an input that is consistent with the bytes received
   pub lines_read_of_input : (input : List ℕ) → IsConsistent came input → HoldsLines now ls piece (lines end input)
   lines_read_of_input = search (
     rules,
@@ -144,35 +123,27 @@ module _ {end : ℕ} {old now new : Reader} {ls : List (List ℕ)} {piece : List
     append-nil,
   )
 
-  -- after the first line or the end was read, one of both was received
   pub begun_gives_line : HasBegun now ls → ¬ HasNoLine end came
   begun_gives_line begun none =
-      let known = lines_read_known.known in
       grind (
         arith,
         common_steps,
         complete_lines_none end _ none.unterminated,
         done_gives_nothing,
-        length-append ls known.more,
+        length-append ls lines_read_known.known.more,
       )
 
-  -- at most one line was read, or a part of it
   pub one_line_and_block : IsSound new → length ls + length (lines end piece) ≤ 1 → IsFirstLineAndBlock end came
   one_line_and_block = search (rules, lines_of_unlines, length-append, done_gives_nothing)
 
 -- ---- a function of the side
 
--- two functions of the side, each changed at the same side
 pub put_both : {X Y : Type 0} (P : Side → X → Y → Type 0) (s : Side) (x : X) (f : Side → X) (y : Y) (g : Side → Y)
     → P s x y → P (other s) (f (other s)) (g (other s))
     → (side : Side) → P side (with_side s x f side) (with_side s y g side)
 put_both P s x f y g p q side = grind (arith, p, q)
 
 module _ {X : Type 0} (P : Side → X → Type 0) where
-  pub both_each : (x y : X) → P First x → P Second y → (side : Side) → P side (both x y side)
-  both_each x y p q = elim [ First ↦ p | Second ↦ q ]
-
-  -- one function of the side, changed at one side
   pub put_each : (s : Side) (x : X) (f : Side → X) → P s x → ((side : Side) → P side (f side)) → (side : Side)
       → P side (with_side s x f side)
   put_each = search (rules, put_both)
@@ -183,13 +154,11 @@ put_same = grind arith
 pub put_other : {X : Type 0} (s : Side) (x : X) (f : Side → X) → with_side s x f (other s) ≡ f (other s)
 put_other = grind arith
 
--- a property of one side and of the other
 pub side_case : (Q : Side → Type 0) (s : Side) → Q s → Q (other s) → (side : Side) → Q side
 side_case = grind (arith, put_both)
 
 -- ---- the slots
 
--- the slots of an input are two of the first four
 pub record AreLow (cursor : Sorted) : Type 0 where
   pub current : cursor.current_slot < 4
   pub previous : cursor.previous_slot < 4
@@ -198,7 +167,6 @@ pub record AreLow (cursor : Sorted) : Type 0 where
 pub low_slot : (s : Side) (cursor : Sorted) → HasSlots s cursor → AreLow cursor
 low_slot = grind arith
 
--- the slots of the two inputs are distinct
 pub slots_apart : (s : Side) (a c : Sorted) → HasSlots s a → HasSlots (other s) c
     → (a.previous_slot ≢ c.current_slot) × (a.previous_slot ≢ c.previous_slot)
 slots_apart = grind arith
@@ -225,7 +193,6 @@ four_total : (a b c d : List ℕ) (rest : List (List ℕ))
     → total_bytes (a ∷ b ∷ c ∷ d ∷ rest) ≡ ((length a + length b) + length c) + length d + total_bytes rest
 four_total = grind (arith, common_steps)
 
--- the number of slots, and the bytes in all of them
 pub record LinesTotal (xs : List (List ℕ)) (m : Side → ℕ) (more : ℕ) : Type 0 where
   pub four : 4 ≤ length xs
   pub most : total_bytes xs ≤ 2 * m First + 2 * m Second + more
@@ -243,12 +210,10 @@ set_line = search rules
 
 -- ---- the store of a tool
 
--- the list `now` continues the list `was`
 pub record Extends (was now : Lines) : Type 0 where
   pub more : Lines
   pub is : now ≡ was ++ more
 
--- so do the lists of both inputs
 abbrev pub AllExtend : (Side → Lines) → (Side → Lines) → Type 0
 AllExtend was now = (side : Side) → Extends (was side) (now side)
 
@@ -261,25 +226,23 @@ extends_on = grind (arith, append_assoc)
 pub longer : {was now : Lines} → Extends was now → max_length was ≤ max_length now
 longer = grind (arith, max_length-append)
 
--- one input continues
 pub side_extends : (s : Side) (ls : Side → Lines) {now : Lines} → Extends (ls s) now
     → AllExtend ls (with_side s now ls)
 side_extends = search (rules, put_each, extends_itself)
 
--- the measure of a tool has room for two lines of each input and for the lines `g`
+-- two lines of each input and the lines `g` are within the measure
 abbrev pub HasRoom : MergeTool → Lines → (Side → Lines) → Type 0
 HasRoom tool g ls = (2 * max_length (ls First) + 2 * max_length (ls Second) + total_bytes g ≤ tool.size ls)
     × (4 + length g ≤ tool.slots ls)
 
--- the store never held more bytes than the measure of these lines, and has no more slots; it has the first four, and
--- those that it had
+-- the peak and the slots stay within the measure of these lines; the first four slots and the earlier ones are there
 abbrev pub FitsIn : MergeTool → Slots → Slots → (Side → Lines) → Type 0
 FitsIn tool before after ls =
     (after.peak ≤ max before.peak (tool.size ls)) × (length after.lines ≤ max (length before.lines) (tool.slots ls))
     × (max (length before.lines) 4 ≤ length after.lines)
 
--- The invariant of the store of a merge: two lines of each input, and then the lines `g` of a group. It stays within
--- the measure for all lines that the inputs may continue with.
+-- Two lines of each input, and then the lines `g` of a group, within the measure for all lines that the inputs may
+-- continue with.
 pub record GroupStore (tool : MergeTool) (before store : Slots) (ls : Side → Lines) (g : Lines) : Type 0 where
   pub tail : Lines
   pub split : drop 4 store.lines ≡ g ++ tail
@@ -295,21 +258,18 @@ pub store_starts : {tool : MergeTool} {before store : Slots} → ((ls : Side →
     → GroupStore tool before store (λ side. []) []
 store_starts = grind (arith, four_total)
 
--- all bytes in the slots are within the measure
 pub total_within : (tool : MergeTool) {ls all : Side → Lines} (g xs : Lines)
     → HasLines (λ side. max_length (ls side)) (total_bytes g) xs → AllExtend ls all → HasRoom tool g all
     → total_bytes xs ≤ tool.size all
 total_within = grind (arith, has_lines_total, longer)
 
--- the next line of an input replaces its previous line
 pub group_store_line : {tool : MergeTool} {before store after : Slots} {ls now : Side → Lines} {g : Lines} (s : Side)
     (cursor : Sorted) → HasSlots s cursor → (x : List ℕ) → GroupStore tool before store ls g → AllExtend ls now
     → length x ≤ max_length (now s) → after ≡ with_line store cursor.previous_slot x
     → GroupStore tool before after now g
-group_store_line {tool} {store = store} {ls = ls} {now} {g} s cursor slots x k up fit is =
+group_store_line {store = store} {ls = ls} {now} {g} s cursor slots x k up fit is =
     let inside = set_line s cursor store.lines (λ side. max_length (ls side)) (λ side. max_length (now side))
     (total_bytes g) x slots k.lines (λ side. longer (up side)) fit in
-    let size = length-set store.lines cursor.previous_slot x in
     let on = λ (all : Side → Lines) (more : AllExtend now all) (side : Side). extends_on (up side) (more side) in
     rw is (record {
       tail = k.tail;
@@ -318,11 +278,10 @@ group_store_line {tool} {store = store} {ls = ls} {now} {g} s cursor slots x k u
       lines = inside;
       room = λ all more. k.room all (on all more);
       fits = λ all more. grind (arith, more, total_within);
-      four = omega (arith, size);
+      four = omega (arith, (length-set store.lines cursor.previous_slot x));
       denied = k.denied;
     })
 
--- the first four slots were emptied
 cleared : (lines : List (List ℕ)) (peak : ℕ) (denied : Bool) → 4 ≤ length lines
     → let s : Slots = record { lines = lines; peak = peak; denied = denied } in
     ClearFourSlotsPost s (with_line (with_line (with_line (with_line s 0 []) 1 []) 2 []) 3 [])
@@ -331,4 +290,4 @@ cleared few peak denied four = absurd (omega arith)
 
 pub four_cleared : (s a b c d : Slots) → 4 ≤ length s.lines → a ≡ with_line s 0 [] → b ≡ with_line a 1 []
     → c ≡ with_line b 2 [] → d ≡ with_line c 3 [] → ClearFourSlotsPost s d
-four_cleared s a b c d four is0 is1 is2 is3 = rw (is3, is2, is1, is0) (cleared s.lines s.peak s.denied four)
+four_cleared s a b c d four is0 is1 is2 is3 = rw (is3, is2, is1, is0) (cleared _ _ _ four)

@@ -1,11 +1,13 @@
-use Rattle.ptopts.proofs.ParsedIsSpelled.{read_as_spelled, spelled_one_way, spelled_unless_faulty}
+use Rattle.ptopts.proofs.ParsedIsSpelled.{read_as_spelled, spelled_unless_faulty, options-map}
 use Rattle.ptopts.proofs.grammar.words_have_one_reading.Goals as goal
+use Rattle.ptopts.proofs.Common.{arith}
+use Rattle.ptopts.proofs.SpelledIsParsed.{spelled}
 
 pub returns-clause-matches_grammar : goal.returns-clause-matches_grammar
 returns-clause-matches_grammar c = read_as_spelled
 
 pub returns-clause-unambiguous : goal.returns-clause-unambiguous
-returns-clause-unambiguous c = spelled_one_way
+returns-clause-unambiguous c = grind (arith, spelled, options-map)
 
 pub returns-clause-faultless : goal.returns-clause-faultless
 returns-clause-faultless c = spelled_unless_faulty

@@ -1,5 +1,5 @@
 use Rattle.ptopts.proofs
-use proofs.Common.{YieldsList-from_slice, any_from_yields_List, rules, tests, ◌==◌, ◌∙◌}
+use proofs.Common.{YieldsList-from_slice, any_from_yields_List, rules, ◌==◌, ◌∙◌}
 use proofs.OptionViews.{has_option-view}
 use Rattle.ptopts.specs.declared.parsing.ParsedOption.{ParsedOption}
 use Rattle.ptopts.proofs.parsing.has_letter.Goals as goal
@@ -7,6 +7,6 @@ use Rattle.ptopts.proofs.parsing.has_letter.Goals as goal
 pub returns : goal.returns
 returns c =
     let all = c.args.options.now in
-    any_from_yields_List (λ (o : ParsedOption). o.letter == c.args.letter) _ _ c.any.result c.any.ensures.ran
-    (YieldsList-from_slice all cc) (λ x b q k. search (rules, tests))
-    ∙ has_option-view c.args.letter all
+    any_from_yields_List (λ (o : ParsedOption). o.letter == c.args.letter) _ _ _ c.any.ensures.ran
+    (YieldsList-from_slice all cc) (λ x b q k. search rules)
+    ∙ has_option-view _ all

@@ -1,13 +1,12 @@
--- A flag is appended and the loop continues. The first letter that is not a flag ends the word: it is an option with
--- its value, or its fault is returned, which is then the first of the word.
+-- A flag is appended. The first letter that is not a flag ends the word, as an option with its value or as a fault.
 use Rattle.ptopts.proofs
-use proofs.Common.{List, arith, common_steps, err_from_is_err_and, is_flag, length, refl, slice_index, subst, sym, true}
-use proofs.Common.{ℕ, ◌<◌, ◌∙◌, ◌≡◌}
+use proofs.Common.{arith, common_steps, is_flag, length, slice_index, true}
+use proofs.Common.{◌<◌, ◌≡◌}
 use proofs.GroupInvariant.{fault_read, flag_read, value_read}
 use Rattle.ptopts.proofs.parsing.read_group.Goals as goal
 
 pub returns-in_err-option-clause-err : goal.returns-in_err-option-clause-err
-returns-in_err-option-clause-err g c = grind (arith, fault_read, err_from_is_err_and)
+returns-in_err-option-clause-err g c = grind (arith, fault_read)
 
 pub returns-then-not-has_flag-clause-ok : goal.returns-then-not-has_flag-clause-ok
 returns-then-not-has_flag-clause-ok g c = grind (arith, value_read)
@@ -16,13 +15,12 @@ pub loop-index-preserved : goal.loop-index-preserved
 loop-index-preserved g c =
     let word = c.args.word.now in
     let within : c.loop-index.index < length word =
-    subst (λ (w : List ℕ). c.loop-index.index < length w) c.as_bytes-letters.ensures.value c.loop-index-test.true in
+    grind arith in
     let is : is_flag c.args.tool (slice_index word c.loop-index.index) ≡ true =
-    subst (λ (w : List ℕ). is_flag c.args.tool (slice_index w c.loop-index.index) ≡ true)
-    c.as_bytes-letters.ensures.value (sym c.has_flag.ensures ∙ c.if-not-has_flag.false) in
-    flag_read c.args.tool word _ _ c.loop-index.options.items c.push-in-loop-index.new.self.items c.loop-index.index _
+    grind (arith, is_flag, slice_index) in
+    flag_read c.args.tool word _ _ _ _ _ _
     within is
-    (rw c.as_bytes-letters.ensures.value refl) c.in_ok-push-2.ensures.items c.loop-index.invariant
+    (grind arith) c.in_ok-push-2.ensures.items c.loop-index.invariant
 
 pub returns-clause-ok : goal.returns-clause-ok
 returns-clause-ok g c = grind (arith, common_steps)

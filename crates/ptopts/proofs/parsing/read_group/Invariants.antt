@@ -1,4 +1,3 @@
--- The letters so far are options of the word; the other tokens of the word are those of the remaining letters.
 use Rattle.ptopts.proofs
 use proofs.Common.{drop, option_map, options_view}
 use proofs.GroupInvariant.{GroupRead}

@@ -1,4 +1,3 @@
--- The options so far and the parse of the remaining words are the parse of all words.
 use Rattle.ptopts.proofs
 use proofs.Common.{length, options_view, words_view}
 use proofs.ArgsInvariant.{ArgsRead}

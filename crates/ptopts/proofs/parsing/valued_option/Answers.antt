@@ -1,9 +1,8 @@
 use Rattle.ptopts.proofs
 use proofs.Common.{arith}
-use proofs.SpelledIsParsed.{valued_is_ascii}
 use Rattle.std.proofs.lemmas.Str.{IsCharBoundary-after_ascii}
 use Rattle.ptopts.proofs.parsing.valued_option.Goals as goal
 
 -- an option with a value is ASCII, so its word may be cut after it
 pub range_from-attached-requires : goal.range_from-attached-requires
-range_from-attached-requires c = grind (arith, IsCharBoundary-after_ascii, valued_is_ascii)
+range_from-attached-requires c = grind (arith, IsCharBoundary-after_ascii)

@@ -1,9 +1,8 @@
--- Each iteration reports one more operand if it could not be opened.
 use Rattle.ptrun.proofs
-use proofs.Common.{IsSound, Standard, ap, arith, get_or_default, is_reader_unopened, length, no_reader, positions}
-use proofs.Common.{reader_at, scaled_Fits, subst, sym, take, words_view, ◌∙◌}
+use proofs.Common.{IsSound, ap, arith, get_or_default, is_reader_unopened, no_reader, positions}
+use proofs.Common.{reader_at, subst, sym, take, words_view, ◌∙◌, common_steps}
 use proofs.MessageWrites.{said_nothing}
-use proofs.OperandInputs.{any_before, any_now, holds_more, names_counted, operand_step, position_in_range}
+use proofs.OperandInputs.{any_before, any_now, holds_more, operand_step, position_in_range}
 use proofs.OperandInputs.{positions_end, said_more}
 use Rattle.ptrun.proofs.driver.report_unopened.Goals.{else-is_refused, then-is_refused}
 use Rattle.ptrun.proofs.driver.report_unopened.Goals as goal
@@ -43,17 +42,17 @@ loop-input-preserved g c =
 
 pub bounds-inputs-position : goal.bounds-inputs-position
 bounds-inputs-position g c =
-    (operand_step c.args.order.now c.loop-input.input-index Standard c.requires.in_range c.loop-input-test.true
+    (operand_step _ _ _ c.requires.in_range c.loop-input-test.true
     c.position_of-position.ensures).low
 
 pub offset_bounds-inputs-position : goal.offset_bounds-inputs-position
-offset_bounds-inputs-position g c = let low = bounds-inputs-position g c in search (scaled_Fits, low, arith)
+offset_bounds-inputs-position g c = search ((bounds-inputs-position g c), arith)
 
 pub name_at-requires : goal.name_at-requires
 name_at-requires g c =
-    let turn = operand_step c.args.order.now c.loop-input.input-index _ c.requires.in_range c.loop-input-test.true
+    let turn = operand_step _ _ _ c.requires.in_range c.loop-input-test.true
     c.position_of-position.ensures in
-    omega (arith, turn.low, names_counted c.args.names.now (length c.args.inputs.now) c.requires.named)
+    grind (arith, common_steps)
 
 pub position_of-position-requires : goal.position_of-position-requires
 position_of-position-requires g c = grind (arith, position_in_range)

@@ -1,5 +1,4 @@
--- Of the operands so far, each that could not be opened was reported, in order, and the invariants of their readers
--- hold.
+-- Each of the operands so far that could not be opened was reported, in order.
 use Rattle.ptrun.proofs
 use proofs.Common.{AreSoundAt, HasSaid, is_reader_unopened, list_any, positions, take, unopened_messages, words_view}
 use proofs.Common.{◌≡◌}

@@ -1,20 +1,19 @@
--- Each iteration processes one more operand. If one fails, the run stops there, and the operands after it are
--- unchanged.
+-- If an operand fails, the run stops there, and the operands after it are unchanged.
+use Rattle.std.proofs.lemmas.Grind.{common_steps}
 use Rattle.ptrun.proofs
-use proofs.Common.{Standard, arith, drop, err_from_is_err_and, length, positions, scaled_Fits, sym, ◌+◌, ◌∙◌}
-use proofs.OperandInputs.{OperandStep, names_counted, only_within, operand_step, position_in_range, positions_end}
+use proofs.Common.{arith, drop, err_from_is_err_and, length, positions, scaled_Fits, sym, ◌+◌, ◌∙◌}
+use proofs.OperandInputs.{OperandStep, only_within, operand_step, position_in_range, positions_end}
 use proofs.Sequential.{done_all, done_nothing, done_operand, done_stopped, done_unopened, operand_ready}
-use proofs.ToolRuns.{decides_all, read_in_turn, sequential_post}
+use proofs.ToolRuns.{decides_all, read_in_turn}
 use Rattle.ptrun.proofs.driver.run_one_by_one.Given as given
 use Rattle.ptrun.proofs.driver.run_one_by_one.Goals.{After-position_of-position, then-is_refused}
 use Rattle.ptrun.proofs.driver.run_one_by_one.Goals.{else-is_refused+in_ok-run_on}
 use Rattle.ptrun.proofs.driver.run_one_by_one.Goals as goal
 
--- The operand of this iteration.
 turn : (g : given.Over) (c : After-position_of-position g)
     → OperandStep c.args.order.now c.loop-input.input-index c.position_of-position.result (length c.args.inputs.now)
 turn g c =
-    operand_step c.args.order.now c.loop-input.input-index Standard c.requires.ready.given.in_range
+    operand_step _ _ _ c.requires.ready.given.in_range
     c.loop-input-test.true c.position_of-position.ensures
 
 pub loop-input-init : goal.loop-input-init
@@ -23,23 +22,17 @@ loop-input-init g c =
     done_nothing ready.given.fresh ready.writable ready.not_denied ready.empty
 
 pub run_on-requires-clause-within : goal.run_on-requires-clause-within
-run_on-requires-clause-within g c = only_within (omega (
-  arith,
-  (turn g (goal.at.run_on-requires-clause-within g c).After-position_of-position).low,
-  c.loop-input.auto.inputs,
-))
+run_on-requires-clause-within g c = only_within (omega (arith, (turn g (goal.at.run_on-requires-clause-within g c).After-position_of-position).low))
 
 pub run_on-requires-clause-ready : goal.run_on-requires-clause-ready
 run_on-requires-clause-ready g c =
-    let s = g.T.Tool.tool c.args.tool.now in
     let turn = turn g (goal.at.run_on-requires-clause-ready g c).After-position_of-position in
-    rw (read_in_turn s c.requires.in_turn)
+    rw (read_in_turn (g.T.Tool.tool c.args.tool.now) c.requires.in_turn)
     (operand_ready c.requires.ready.given.fresh c.loop-input.invariant turn.low c.index-inputs-position.result
     (sym c.is_refused.ensures.refused ∙ c.if-is_refused.false))
 
 pub loop-input-preserved : goal.loop-input-preserved
 loop-input-preserved g c =
-    let s = g.T.Tool.tool c.args.tool.now in
     let k = c.loop-input.invariant in
     let d = c.index-inputs-position.result in
     let turn = turn g (goal.at.loop-input-preserved g c).After-position_of-position in
@@ -54,34 +47,33 @@ loop-input-preserved g c =
           (done_operand c.requires.ready.given.fresh k turn.low d (sym c.is_refused.ensures.refused
           ∙ w.if-is_refused.false)
           c.is_refused.ensures.sound
-          (rw (read_in_turn s c.requires.in_turn) at w.run_on.ensures) w.in_ok-run_on.was)
+          (rw (read_in_turn (g.T.Tool.tool c.args.tool.now) c.requires.in_turn) at w.run_on.ensures) w.in_ok-run_on.was)
     ]
 
 pub returns-in_err-run_on : goal.returns-in_err-run_on
 returns-in_err-run_on g c =
     let s = g.T.Tool.tool c.args.tool.now in
-    let i = c.loop-input.input-index in
     let in_turn = c.requires.in_turn in
     let turn = turn g (goal.at.returns-in_err-run_on g c).After-position_of-position in
     let e = err_from_is_err_and c.from_residual.result c.from_residual.ensures.1 in
     rw (e.1, e.2)
-    (sequential_post _ _ _ s in_turn
-    (rw turn.split at (done_stopped c.requires.ready.given.fresh c.loop-input.invariant turn.low
-    c.index-inputs-position.result (sym c.is_refused.ensures.refused ∙ c.if-is_refused.false)
-    c.is_refused.ensures.sound (rw (read_in_turn s in_turn) at c.run_on.ensures) (decides_all s)
-    (drop (i + 1) (positions c.args.order.now)) c.in_err-run_on.was)))
+    (rw (read_in_turn s in_turn) (rw turn.split at
+    (done_stopped c.requires.ready.given.fresh c.loop-input.invariant turn.low c.index-inputs-position.result
+    (sym c.is_refused.ensures.refused ∙ c.if-is_refused.false) c.is_refused.ensures.sound
+    (rw (read_in_turn s in_turn) at c.run_on.ensures) (decides_all s)
+    (drop (c.loop-input.input-index + 1) (positions c.args.order.now)) c.in_err-run_on.was)))
 
 pub returns : goal.returns
 returns g c =
     let s = g.T.Tool.tool c.args.tool.now in
-    sequential_post _ _ _ s c.requires.in_turn
+    rw (read_in_turn s c.requires.in_turn)
     (rw (positions_end c.args.order.now c.loop-input.input-index c.loop-input-test.false) at
     (done_all c.requires.ready.given.fresh c.loop-input.invariant (decides_all s)))
 
 pub bounds-inputs-position : goal.bounds-inputs-position
 bounds-inputs-position g c =
     let low = (turn g (goal.at.bounds-inputs-position g c).After-position_of-position).low in
-    omega (arith, low, c.loop-input.auto.inputs)
+    omega (arith, low)
 
 pub offset_bounds-inputs-position : goal.offset_bounds-inputs-position
 offset_bounds-inputs-position g c =
@@ -89,11 +81,7 @@ offset_bounds-inputs-position g c =
     search (scaled_Fits, arith)
 
 pub name_at-requires : goal.name_at-requires
-name_at-requires g c = omega (
-  arith,
-  (turn g (goal.at.name_at-requires g c).After-position_of-position).low,
-  names_counted c.args.names.now (length c.args.inputs.now) c.requires.ready.given.named,
-)
+name_at-requires g c = grind (arith, common_steps, (turn g (goal.at.name_at-requires g c).After-position_of-position).low)
 
 pub position_of-position-requires : goal.position_of-position-requires
 position_of-position-requires g c = grind (arith, position_in_range)

@@ -1,5 +1,4 @@
--- The operands so far were processed, or reported if they could not be opened, and the output contains what the tool
--- writes for them.
+-- The operands so far were processed, or reported if they could not be opened.
 use Rattle.ptrun.proofs
 use proofs.Common.{positions, take, words_view}
 use proofs.Sequential.{OperandsDone}

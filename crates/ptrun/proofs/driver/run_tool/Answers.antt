@@ -1,9 +1,9 @@
--- A tool that reads its operands together reads nothing if one could not be opened. Otherwise, and if it reads one
--- operand after another, its inputs are processed, and the end of the run follows from the result.
+-- A tool that reads its operands together reads nothing if one could not be opened. In all other cases its inputs are
+-- processed, and the end of the run follows from the result.
 use Rattle.ptrun.proofs
-use proofs.Common.{HasIndexBelow, Output, ap, arith, common_steps, false≢true, length, outcome, subst, sym, ℕ, ◌∙◌}
+use proofs.Common.{HasIndexBelow, Output, ap, arith, common_steps, false≢true, outcome, subst, sym, ℕ, ◌∙◌}
 use proofs.MessageWrites.{said_nothing}
-use proofs.OperandInputs.{names_counted, position_in_range}
+use proofs.OperandInputs.{position_in_range}
 use proofs.RunEnds.{run_in_store}
 use proofs.ToolRuns.{reads_if, together_post, together_says, unopened_run}
 use Rattle.ptrun.proofs.driver.run_tool.Goals as goal
@@ -11,7 +11,7 @@ use Rattle.ptrun.proofs.driver.run_tool.Goals as goal
 pub positions_of-requires-clause-in_range : goal.positions_of-requires-clause-in_range
 positions_of-requires-clause-in_range g c = rw c.deref-order.ensures.value (λ k d within. omega (
   arith,
-  position_in_range c.args.operands.now.order.items (length c.args.inputs.now) c.requires.given.in_range k d within,
+  position_in_range _ _ c.requires.given.in_range k d within,
 ))
 
 pub positions_of-requires-clause-few : goal.positions_of-requires-clause-few
@@ -32,7 +32,7 @@ end_run-requires g c =
     (rw (c.deref.ensures.0 ∙ c.positions_of.ensures, c.deref-order.ensures.value) at c.run_on-run_result.ensures) in
     subst (λ (n : ℕ). HasIndexBelow n c.run_on-run_result.result)
     (rw c.deref-names.ensures.value
-    (names_counted c.args.operands.now.names.items (length c.args.inputs.now) c.requires.given.named)) post.position
+    (grind (arith, common_steps))) post.position
 
 pub returns-then-report_unopened : goal.returns-then-report_unopened
 returns-then-report_unopened g c = grind (arith, unopened_run)
@@ -40,10 +40,9 @@ returns-then-report_unopened g c = grind (arith, unopened_run)
 pub returns-then-reads_together : goal.returns-then-reads_together
 returns-then-reads_together g c =
     let s = g.T.Tool.tool c.args.tool.now in
-    let in_together = sym c.reads_together.ensures ∙ c.if-reads_together.true in
     let reported = rw (c.name.ensures, c.deref-order.ensures.value, c.deref-names.ensures.value) at
     c.report_unopened.ensures in
-    let post = together_post _ _ _ s c.report_unopened.new.messages in_together c.requires.given reported
+    let post = together_post _ _ _ s c.report_unopened.new.messages (sym c.reads_together.ensures ∙ c.if-reads_together.true) c.requires.given reported
     c.if-report_unopened.false
     (ap (λ (o : Output). o.write_failed) c.new-out.ensures) c.requires.unused.store.not_denied
     c.requires.unused.store.empty
@@ -61,9 +60,8 @@ returns-then-reads_together g c =
 pub returns : goal.returns
 returns g c =
     let ran = rw (c.deref-order.ensures.value, c.deref-names.ensures.value) at c.run_one_by_one-run_result.ensures in
-    let in_turn = sym c.reads_together.ensures ∙ c.if-reads_together.false in
-    let reads = reads_if _ _ _ (g.T.Tool.tool c.args.tool.now) _ (λ together. absurd (false≢true (sym in_turn ∙
-    together))) in
+    let reads = reads_if _ _ _ (g.T.Tool.tool c.args.tool.now) _
+    (λ together. absurd (false≢true (sym (sym c.reads_together.ensures ∙ c.if-reads_together.false) ∙ together))) in
     record {
       run = run_in_store (g.W.Sink.state c.args.out) (outcome (g.W.Sink.state) (g.E.Sink.state) c.end_run-2.result)
           (said_nothing c.args.messages) ran

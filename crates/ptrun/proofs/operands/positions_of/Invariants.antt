@@ -1,4 +1,4 @@
--- The positions so far are those of the operands so far, in order.
+-- The positions of the operands so far, in order.
 use Rattle.ptrun.proofs.Common.{positions, take, ◌≡◌}
 use Rattle.ptrun.proofs.operands.positions_of.Given as goal
 

@@ -1,22 +1,22 @@
 -- If the arguments are no command, the message about them is the whole run. Otherwise the run is that of the command.
--- The main theorem follows from the run in both cases.
 use Rattle.ptrun.proofs
-use proofs.Common.{arith, words_view}
-use proofs.RunEnds.{exact_for_args, inputs_pre_of_parsed, message_only_run, spec_of_fault, spec_of_ok}
+use proofs.Common.{arith, words_view, command_view}
+use proofs.RunEnds.{exact_for_args, message_only_run, spec_of_fault, inputs_pre_of_spelled}
 use Rattle.ptrun.proofs.running.run_with_store.Goals as goal
+use Rattle.ptopts.proofs.CommandGrammar.{meant_as_spelled}
 
 pub run_command-requires-clause-given : goal.run_command-requires-clause-given
 run_command-requires-clause-given g c =
-    inputs_pre_of_parsed c.args.command (words_view c.args.words.now) c.in-Ok.command c.args.inputs.now c.in-Ok.is
-    c.requires.meant (rw c.in-Ok.is at c.requires.fresh)
+    inputs_pre_of_spelled (words_view c.args.words.now) (command_view c.in-Ok.command) c.args.inputs.now
+    (grind (arith, meant_as_spelled)) (rw c.in-Ok.is at c.requires.fresh)
 
 pub returns-in-Err-clause-run : goal.returns-in-Err-clause-run
 returns-in-Err-clause-run g c =
     let has_said = rw (c.new-messages.ensures, c.first_word.ensures) at c.say_usage_fault-status.ensures.message in
     rw (
       c.report_unread.ensures,
-      spec_of_fault c.args.command (words_view c.args.words.now)
-          c.in-Err.fault c.in-Err.is c.requires.meant,
+      spec_of_fault _ _
+          _ c.in-Err.is c.requires.meant,
     ) (record {
       run =
           message_only_run c.requires.fresh.1 c.requires.unused.writable has_said
@@ -25,10 +25,10 @@ returns-in-Err-clause-run g c =
     })
 
 pub returns-in-Ok-clause-run : goal.returns-in-Ok-clause-run
-returns-in-Ok-clause-run g c = grind (arith, spec_of_ok)
+returns-in-Ok-clause-run g c = grind arith
 
 pub returns-in-Ok-clause-reads_nothing : goal.returns-in-Ok-clause-reads_nothing
-returns-in-Ok-clause-reads_nothing g c = grind (arith, spec_of_ok)
+returns-in-Ok-clause-reads_nothing g c = grind arith
 
 pub returns-in-Err-clause-is_exact : goal.returns-in-Err-clause-is_exact
 returns-in-Err-clause-is_exact g c =

@@ -1,4 +1,3 @@
--- The row begins with the indices so far whose flag is set.
 use Rattle.ptflow.proofs
 use proofs.Vectors.Compress.{RowPrefix}
 use proofs.simd.compress.compress_row.Given as goal

@@ -1,4 +1,3 @@
--- The stored bytes, and then those that are kept of the rest, are the bytes that are kept.
 use Rattle.ptflow.proofs
 use proofs.Common.{◌≤◌, ◌+◌, ◌++◌, take, drop, kept_bytes, set_has}
 use proofs.Vectors.Compress.{FilterInvariant}

@@ -1,8 +1,8 @@
--- The first byte is kept or removed by the last one before; each other one by the byte before it.
+-- The first byte is compared with the last one before, each other one with the byte before it.
 use Rattle.ptflow.proofs
-use proofs.Common.{◌≡◌, ◌<◌, ℕ, zero, suc, eqb, false, length, arith, set_has, take_rest}
-use proofs.TrLemmas.TrFrom.{first_squeezed}
+use proofs.Common.{◌≡◌, ◌<◌, ℕ, zero, suc, eqb, false, arith, common_steps}
 use proofs.simd.filter.squeeze.Goals as goal
+use proofs.TrLemmas.TrFrom.{repeats}
 
 some : (n : ℕ) → false ≡ eqb n 0 → 0 < n
 some zero h = cc
@@ -10,9 +10,4 @@ some (suc n) h = omega arith
 
 pub returns : goal.returns
 returns c =
-    let from = c.args.from.now in
-    cc (
-      take_rest from 1,
-      first_squeezed (set_has c.args.by.set) c.args.last from c.args.into.now
-          (some (length from) c.if-is_empty.ensures) (omega arith) (cc) c.from.ensures,
-    )
+    grind (arith, common_steps, repeats)

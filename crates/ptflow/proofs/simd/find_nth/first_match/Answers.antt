@@ -1,7 +1,6 @@
 -- The first match is the lowest bit of the mask, or is after the first bytes.
 use Rattle.ptflow.proofs
-use proofs.Common.{◌≡◌, ℕ, List, ◌+◌, ◌≤◌, map, take, None, Some, arith, first_at_lowest_bit, is_byte}
-use proofs.Common.{none_if_zero_mask, Nowhere, Passes, take_rest, mask_l, length}
+use proofs.Common.{◌≡◌, ◌+◌, None, Some, arith, first_at_lowest_bit, is_byte, take_rest}
 use lib.Count.{count_trailing_zeros}
 use proofs.Vectors.FindNth.{first_in_rest}
 use proofs.simd.find_nth.first_match.Goals as goal
@@ -14,23 +13,10 @@ returns-then-mask-ne0 c =
     (omega arith) c.requires.is c.if-mask-ne0.true) in
     (record { low = first.low; high = omega arith; before = first.before }, found)
 
--- no match is among the first bytes
-front : (byte : ℕ) (bytes : List ℕ) (size : ℕ) {mask : ℕ} → size ≤ length bytes
-    → mask ≡ mask_l (map (is_byte byte) (take size bytes)) → mask ≡ 0 → Nowhere (Passes (is_byte byte) bytes) 0 size
-front byte bytes size {mask} within is none =
-    let start : 0 + size ≡ size = omega arith in
-    rw start at (none_if_zero_mask (is_byte byte) bytes 0 size mask (omega (arith, within)) is none)
-
 pub returns-in_err-at : goal.returns-in_err-at
-returns-in_err-at c =
-    let a = c.args in
-    rw c.from_residual.ensures (first_in_rest (is_byte a.byte) a.bytes.now a.size c.requires.within
-    (front a.byte a.bytes.now a.size c.requires.within c.requires.is c.if-mask-ne0.false) None
-    (rw take_rest at c.in_err-at.ensures))
+returns-in_err-at c = rw c.from_residual.ensures (first_in_rest _ _ _ c.requires.within c.requires.is
+    c.if-mask-ne0.false None (rw take_rest at c.in_err-at.ensures))
 
 pub returns : goal.returns
-returns c =
-    let a = c.args in
-    first_in_rest (is_byte a.byte) a.bytes.now a.size c.requires.within
-    (front a.byte a.bytes.now a.size c.requires.within c.requires.is c.if-mask-ne0.false) (Some c.in_ok-at.at)
+returns c = first_in_rest _ _ _ c.requires.within c.requires.is c.if-mask-ne0.false (Some c.in_ok-at.at)
     (rw take_rest at c.in_ok-at.ensures)

@@ -4,5 +4,4 @@ use proofs.simd.find_nth.match_mask.Goals as goal
 
 pub returns : goal.returns
 returns c =
-    let v = chunk c.args.at 64 c.args.bytes.now in
-    bitmask_splat w8 eqb v 64 c.args.byte (length-chunk c.args.at 64 c.args.bytes.now c.requires) (omega arith)
+    bitmask_splat w8 eqb (chunk c.args.at 64 c.args.bytes.now) 64 c.args.byte (length-chunk c.args.at 64 c.args.bytes.now c.requires) (omega arith)

@@ -1,4 +1,4 @@
--- The matches that were skipped and those still to be skipped add up to `before`.
+-- `left` matches are still to be skipped.
 use Rattle.ptflow.proofs
 use proofs.Common.{◌≡◌, ◌+◌, take, count_by, is_byte}
 use proofs.simd.find_nth.nth_tail.Given as goal

@@ -1,4 +1,3 @@
--- The images of the bytes so far were stored.
 use Rattle.ptflow.proofs
 use proofs.Common.{length, ◌-◌, IsMappedTo}
 use proofs.simd.shift.map_chunks.Given as goal

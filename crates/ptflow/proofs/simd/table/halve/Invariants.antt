@@ -1,4 +1,3 @@
--- The vectors so far were made of two each.
 use Rattle.ptflow.proofs
 use proofs.Common.{◌≡◌, length}
 use proofs.Vectors.Lanes.{IsFilledTo, halved}

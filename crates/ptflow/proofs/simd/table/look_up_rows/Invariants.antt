@@ -1,4 +1,3 @@
--- The rows so far were looked up.
 use Rattle.ptflow.proofs
 use proofs.Common.{[], ◌%◌, map, slice_index, slice_index_or}
 use proofs.Vectors.Lanes.{IsFilledTo}

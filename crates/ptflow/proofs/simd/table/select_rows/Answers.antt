@@ -1,6 +1,5 @@
 use Rattle.ptflow.proofs
-use proofs.Common.{[], ◌∙◌, ap, arith, get_or, rules}
-use proofs.Vectors.Lanes.{shifted_lane}
+use proofs.Common.{[], ◌∙◌, ◌/◌, ◌^◌, ap, arith, get_or, get_or-map, rules, zip2_splat, ℕ, List}
 use proofs.simd.table.select_rows.Goals as goal
 
 pub loop-count-preserved : goal.loop-count-preserved
@@ -12,14 +11,11 @@ loop-count-preserved g c =
       long = c.halve-left.ensures.lanes;
       lanes = λ lane low inside.
           let (below, same) = loop.invariant.lanes lane low inside in
-          let shifted = shifted_lane loop.rows lane loop.auto.rows.0 low in (
-            omega (arith, below, shifted),
-            ap (λ row. get_or (get_or c.halve-left.result row []) lane 0) shifted
-                ∙ c.halve-left.ensures.kept lane low below ∙ same,
-          );
+          let shifted = ap (λ (l : List ℕ). get_or l lane 0)
+          (zip2_splat (λ a b. a / 2 ^ b) loop.rows 16 1 loop.auto.rows.0)
+          ∙ get_or-map (λ b. b / 2 ^ 1) loop.rows lane 0 0 (omega arith) in
+          (omega arith, cc (c.halve-left.ensures.kept lane low below));
     }
 
 pub returns-clause-lanes : goal.returns-clause-lanes
-returns-clause-lanes g c =
-    let inv = c.loop-count.invariant in
-    inv.long 0 [] (omega arith)
+returns-clause-lanes g c = c.loop-count.invariant.long 0 [] (omega arith)

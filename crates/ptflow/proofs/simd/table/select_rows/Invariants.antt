@@ -1,4 +1,4 @@
--- Each lane of the vectors that are left has in its row what was found in its row at the start.
+-- Each lane has in its row what was found in its row at the start.
 use Rattle.ptflow.proofs
 use proofs.Common.{◌≡◌, ◌≤◌, ◌<◌, ℕ, All, length, slice_index}
 use Rattle.ptflow.specs.Private.Vectors.Tables.{lane_of}

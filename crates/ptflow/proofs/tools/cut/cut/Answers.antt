@@ -1,24 +1,23 @@
--- On an output that has failed nothing is done. `cut` by fields is a line tool, and `cut` by bytes a block tool: at
--- line offset 0 the output for the rest is that for a text, and the pushed bytes include the output that is decided.
--- Setting the terminator does not change the input, so the contract of each loop carries over.
+-- `cut` by fields is a line tool, and `cut` by bytes a block tool. Setting the terminator does not change the input, so
+-- the contract of each loop carries over.
 use Rattle.ptflow.proofs
 use proofs.Common.{Bool, true, false, ◌≡◌, ◌++◌, refl, sym, ◌∙◌, ap, cond, cut_job, cut_tool, cut_list_from, Reader}
-use proofs.Common.{terminator}
-use proofs.CutLemmas.CutBytes.{rest_is_cut, rest_is_decided}
-use proofs.CutLemmas.Fields.{cut_line_tool}
+use proofs.Common.{terminator, arith}
+use proofs.CutLemmas.CutBytes.{rest_is_decided, made_is, rest_of_all}
 use proofs.Passes.Exits.{pass_unchanged, pass_set, ready_set}
 use proofs.tools.cut.cut.Goals as goal
+use proofs.CutLemmas.Fields.{cut_sure}
 
 ends : (zero : Bool) → cond zero 0 10 ≡ terminator zero
 ends true = refl
 ends false = refl
 
 pub returns-then-has_failed : goal.returns-then-has_failed
-returns-then-has_failed g c = pass_unchanged (cut_tool (cut_job c.args.job.now)) _ c.args.out.now _ c.requires
+returns-then-has_failed g c = pass_unchanged _ _ _ _ c.requires
     (sym c.has_failed.ensures ∙ c.if-has_failed.true)
 
 pub run_lines-requires-clause-tool : goal.run_lines-requires-clause-tool
-run_lines-requires-clause-tool g c = cut_line_tool (cut_job c.new.result.by.job.now) _ c.new.result.by.by_fields
+run_lines-requires-clause-tool g c = grind (arith, (cut_sure (cut_job c.new.result.by.job.now)))
 
 pub returns-then-job : goal.returns-then-job
 returns-then-job g c =
@@ -29,15 +28,14 @@ pub returns : goal.returns
 returns g c =
     let job = cut_job c.args.job.now in
     let by = c.new-2.result.by in
-    let end : by.terminator ≡ job.terminator =
+    let end =
     c.new-2.ensures.terminator ∙ c.terminator-terminator.ensures
     ∙ ap (λ (r : Reader). r.terminator) c.set_ending.ensures.set ∙ ends _ in
     let list = c.new-2.ensures.selected in
     let start = c.new-2.ensures.start in
-    let ready = ready_set _ c.requires c.set_ending.ensures.set in
     let pass = c.run_blocks.ensures (cut_tool job)
     (record {
-      text = λ bytes. (λ i. cut_list_from (end i) (list i) (start i) bytes) ∙ rest_is_cut job c.if-job.false bytes;
+      text = λ bytes. (λ i. cut_list_from (end i) (list i) (start i) bytes) ∙ (simp (rest_of_all, (made_is job c.if-job.false)));
       decided = λ given pushed now holds on.
           rest_is_decided job c.if-job.false given pushed now.line_offset
           (λ rest. (λ i. cut_list_from (sym end i) (sym list i) (sym start i) (given ++ rest)) ∙ on rest
@@ -45,5 +43,5 @@ returns g c =
       holds = (refl, refl);
       slots = ap (λ b. cond b 1 0) c.if-job.false;
     })
-    c.args.store.now ready in
+    c.args.store.now (ready_set _ c.requires c.set_ending.ensures.set) in
     pass_set _ pass c.set_ending.ensures.set (ends _) (sym c.has_failed.ensures ∙ c.if-has_failed.false)

@@ -1,5 +1,5 @@
 use Rattle.ptflow.proofs.Common.{[], get_or-set_same, get_or-set_other, length-set, ◌∙◌, arith}
-use Rattle.ptflow.proofs.PasteLemmas.Rows.{slots_bound_line}
+use Rattle.ptflow.proofs.PasteLemmas.BufferedRows.Rows.{slots_bound_line}
 use Rattle.ptflow.proofs.tools.paste.clear_slots.Goals as goal
 
 pub loop-column-preserved : goal.loop-column-preserved
@@ -7,7 +7,7 @@ loop-column-preserved g c =
     let inv = c.loop-column.invariant in
     rw c.clear.ensures (record {
       empty = λ k under. grind (arith, inv.empty k, get_or-set_other, get_or-set_same);
-      kept = λ first top before. slots_bound_line (inv.kept first top before) c.loop-column.column []
+      kept = λ first top before. slots_bound_line (inv.kept first top before) _ []
           c.loop-column-test.true
           (omega arith);
       same = length-set _ _ [] ∙ inv.same;

@@ -1,4 +1,3 @@
--- The slots of the columns so far are empty.
 use Rattle.ptflow.proofs.Common.{◌≡◌, ◌<◌, ℕ, [], length, Slots, line, SlotsBound}
 use Rattle.ptflow.proofs.tools.paste.clear_slots.Given as goal
 

@@ -1,13 +1,12 @@
--- Each step reads the line of the next column into its slot. If the columns before it were all copied, it is copied
--- from there, and the further columns are from the buffers. A failed write, read or growth stops the row; nothing was
--- pushed.
+-- Each line is read into its slot. If the columns before it were all copied, it is copied from there, and the next
+-- columns from the buffers.
 use Rattle.ptflow.proofs
 use proofs.Common.{◌≡◌, ◌+◌, List, [], ◌++◌, length, take, get_or, set, ◌∙◌, arith, err_from_is_err_and, PushEffect}
 use proofs.Common.{Reader, Slots, push_nothing, push_trans, ◌||◌, BegunText, BufferedRowsPre, RowAmid, after_cell}
 use proofs.Common.{begun_in, shape_of, rules}
 use borrow.Author.Rules.{scaled_Fits}
-use proofs.PasteLemmas.Rows.{next_reader, amid_next, amid_failed, amid_resumed, with_slot, readable_after}
-use proofs.PasteLemmas.BufferedRows.{still_readable}
+use proofs.PasteLemmas.BufferedRows.{next_reader, amid_next, amid_failed, with_slot, readable_after, amid_columns}
+use proofs.PasteLemmas.BufferedRows.{amid_copied, still_readable}
 use Rattle.ptflow.proofs.tools.paste.fill_row.Goals.{After-fill_cell, In_ok-has_line}
 use Rattle.ptflow.proofs.tools.paste.fill_row.Given as given
 use Rattle.ptflow.proofs.tools.paste.fill_row.Goals as goal
@@ -39,7 +38,6 @@ returns-in_err-has_line-clause-fills g c =
     rw (same, is) (λ from first a. amid_failed (c.cells.invariant.amid from first a) (search (rules, next_reader)) _ _
     c.cells.into c.in_err-has_line.field-0.0 c.in_err-has_line.ensures.fills)
 
--- Nothing was pushed.
 sent : (g : given.Over) (c : After-fill_cell g) → PushEffect c.args.out.now c.fill_cell.new.out []
 sent g c = push_trans _ _ _ _ _ c.cells.invariant.clean c.cells.invariant.wrote c.fill_cell.ensures.wrote
 
@@ -63,8 +61,8 @@ module _ (g : given.Over) (c : In_ok-has_line g) where
       amid_next (c.cells.invariant.amid from first a) (search (rules, next_reader)) _ _ (omega arith) sound _ fills
 
   ready : BufferedRowsPre (shape_of c.args.row) filled.readers
-  ready = readable_after (search (rules, next_reader)) c.fill_cell.new.reader c.cells.invariant.readable _ _
-      c.cells.column c.in_ok-has_line.has_line c.in_ok-has_line.ensures.fills.0
+  ready = readable_after (search (rules, next_reader)) _ c.cells.invariant.readable _ _
+      _ _ c.in_ok-has_line.ensures.fills.0
 
 pub copy_columns-begun-requires-clause-readable : goal.copy_columns-begun-requires-clause-readable
 copy_columns-begun-requires-clause-readable g c = search (rules, ready)
@@ -81,7 +79,7 @@ cells-preserved-in-Some g c =
     ≡ with_slot (shape_of c.args.row) c.cells.column c.fill_cell.new.store row = λ i.
     record { readers = row.readers; count = count i; any_line = any_line i; text = text i } in
     record {
-      amid = λ from start a. amid_resumed (amid g at.In_ok-has_line from start a) first resumed p;
+      amid = λ from start a. amid_columns (amid_copied (amid g at.In_ok-has_line from start a) first) (rw resumed at p);
       readable = still_readable p.consumed (ready g at.In_ok-has_line);
       slots = omega arith;
       within = (omega arith, c.copy_columns-begun.ensures.within.0);

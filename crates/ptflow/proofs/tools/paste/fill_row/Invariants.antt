@@ -1,5 +1,4 @@
--- The columns so far are filled, regardless of how the first of them had been. Nothing was pushed, but buffered output
--- may have been written out.
+-- It does not matter how the first columns had been filled. Buffered output may have been written out.
 use Rattle.ptflow.proofs.Common.{◌≡◌, ◌≤◌, ◌-◌, List, false, [], length, PushEffect, Reader, Slots, BufferedRowsPre}
 use Rattle.ptflow.proofs.Common.{RowAmid, begun_in, shape_of}
 use Rattle.ptflow.proofs.tools.paste.fill_row.Given as goal

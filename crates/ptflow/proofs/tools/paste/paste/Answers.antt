@@ -1,15 +1,14 @@
--- Each iteration takes the rows that are complete in the buffers, and finishes the next row; then the invariant holds
--- again. If that row has no line, all readers are at the end of their inputs.
+-- Each iteration takes the complete rows in the buffers, and finishes the next row. If that has no line, all readers
+-- are at the end of their inputs.
 use Rattle.ptflow.proofs
 use proofs.Common.{sym, ap, subst, arith, length, paste_job, job_shape, RowShape, RowAmid, begun_in, shape_of, Write}
 use proofs.Common.{length-take-le, call_on_failed_output, push_nothing, refl, [], ◌∙◌}
 use Rattle.std.proofs.lemmas.Bool.{not-false, not-true}
-use proofs.PasteLemmas.Call.{by_fault, of_rows, row_job, paste_without_slots, rows_write_failed, paste_done}
-use proofs.PasteLemmas.Call.{paste_fill_failed, paste_row_write_failed, HasStarted, invariant_rows, invariant_written}
-use proofs.PasteLemmas.Call.{row_slots, invariant_slots, invariant_more, now_readable, RowsInvariant}
-use proofs.PasteLemmas.BufferedRows.{still_readable}
-use proofs.PasteLemmas.Rows.{amid_starts, nothing_taken, rows_taken_none, slots_bound_start}
-use Rattle.ptflow.proofs.tools.paste.paste.Goals.{After-ensure_slots, After-fill_row, In_ok-filled}
+use proofs.PasteLemmas.{by_fault, of_rows, row_job, paste_without_slots, rows_write_failed, paste_done}
+use proofs.PasteLemmas.{paste_fill_failed, paste_row_write_failed, HasStarted, invariant_rows, invariant_written}
+use proofs.PasteLemmas.{row_slots, invariant_slots, invariant_more, now_readable, RowsInvariant}
+use proofs.PasteLemmas.{still_readable, amid_starts, nothing_taken, rows_taken_none, slots_bound_start}
+use Rattle.ptflow.proofs.tools.paste.paste.Goals.{After-ensure_slots, In_ok-filled}
 use Rattle.ptflow.proofs.tools.paste.paste.Given as given
 use Rattle.ptflow.proofs.tools.paste.paste.Goals as goal
 
@@ -20,7 +19,6 @@ returns-then-has_failed g c =
 pub set_terminators-requires : goal.set_terminators-requires
 set_terminators-requires g c = c.requires.within
 
--- The terminators of the readers were set.
 starts : (g : given.Over) (c : After-ensure_slots g)
     → HasStarted (row_job (job_shape (paste_job c.args.job.now) c.args.cells.now)) c.args.cells.now c.args.readers.now
     c.set_terminators.new.readers c.args.out.now c.args.store.now
@@ -33,10 +31,10 @@ starts g c = record {
 
 pub returns-in_err-ensure_slots : goal.returns-in_err-ensure_slots
 returns-in_err-ensure_slots g c =
-    by_fault c.from_residual.result c.in_err-ensure_slots.field-0.0 c.from_residual.ensures
-    (paste_without_slots (starts g (goal.at.returns-in_err-ensure_slots g c).After-ensure_slots)
+    paste_without_slots (starts g (goal.at.returns-in_err-ensure_slots g c).After-ensure_slots)
     c.ensure_slots.ensures.adds c.ensure_slots.ensures.same_peak c.in_err-ensure_slots.ensures.denied
-    c.in_err-ensure_slots.ensures.few c.in_err-ensure_slots.ensures.err)
+    c.in_err-ensure_slots.ensures.few {result = c.from_residual.result}
+    (grind (arith, c.from_residual.ensures.1, c.in_err-ensure_slots.ensures.err))
 
 pub rows-init : goal.rows-init
 rows-init g c =
@@ -59,13 +57,12 @@ write_shared_rows-requires-clause-readable g c = now_readable c.rows.invariant
 pub returns-in_err-write_shared_rows : goal.returns-in_err-write_shared_rows
 returns-in_err-write_shared_rows g c =
     let p = c.write_shared_rows.ensures.rows in
-    of_rows c.row_format-row.ensures (by_fault c.from_residual-in_err-write_shared_rows.result Write
+    by_fault c.from_residual-in_err-write_shared_rows.result Write c.row_format-row.ensures
     c.from_residual-in_err-write_shared_rows.ensures (rows_write_failed c.rows.invariant p.rows 0
-    (λ input. nothing_taken refl) p.consumed p.wrote c.in_err-write_shared_rows.ensures.fault))
+    (λ input. nothing_taken refl) p.consumed p.wrote c.in_err-write_shared_rows.ensures.fault)
 
 pub copy_rows-copied-requires : goal.copy_rows-copied-requires
-copy_rows-copied-requires g c = now_readable (invariant_written c.rows.invariant
-    c.write_shared_rows.ensures.rows c.in_ok-write_shared_rows.ensures.clean)
+copy_rows-copied-requires g c = still_readable c.write_shared_rows.ensures.rows.consumed (now_readable c.rows.invariant)
 
 pub slice_bounds-push-end : goal.slice_bounds-push-end
 slice_bounds-push-end g c = sym (length-take-le _ c.copy_rows-copied.new.into (omega arith))
@@ -73,15 +70,14 @@ slice_bounds-push-end g c = sym (length-take-le _ c.copy_rows-copied.new.into (o
 pub returns-in_err-push : goal.returns-in_err-push
 returns-in_err-push g c =
     let p = c.copy_rows-copied.ensures.rows in
-    of_rows c.row_format-row.ensures (by_fault c.from_residual-in_err-push.result Write
+    by_fault c.from_residual-in_err-push.result Write c.row_format-row.ensures
     c.from_residual-in_err-push.ensures (rows_write_failed (invariant_written c.rows.invariant
     c.write_shared_rows.ensures.rows c.in_ok-write_shared_rows.ensures.clean) p.rows _ p.filled.consumed.lines_taken
-    p.consumed c.push.ensures.pushed.wrote c.in_err-push.ensures.pushed.fault))
+    p.consumed c.push.ensures.pushed.wrote c.in_err-push.ensures.pushed.fault)
 
 pub fill_row-requires-clause-readable : goal.fill_row-requires-clause-readable
 fill_row-requires-clause-readable g c = still_readable c.copy_rows-copied.ensures.rows.consumed
-    (now_readable (invariant_written c.rows.invariant c.write_shared_rows.ensures.rows
-    c.in_ok-write_shared_rows.ensures.clean))
+    (still_readable c.write_shared_rows.ensures.rows.consumed (now_readable c.rows.invariant))
 
 pub fill_row-requires-clause-within : goal.fill_row-requires-clause-within
 fill_row-requires-clause-within g c = omega (
@@ -92,22 +88,15 @@ fill_row-requires-clause-within g c = omega (
 pub fill_row-requires-clause-slots : goal.fill_row-requires-clause-slots
 fill_row-requires-clause-slots g c = invariant_slots c.rows.invariant
 
--- The invariant after the rows from the buffers.
-now : (g : given.Over) (c : After-fill_row g) → RowsInvariant (shape_of c.row_format-row.result) c.args.readers.now
-    c.set_terminators.new.readers c.copy_rows-copied.ensures.rows.mid c.args.out.now c.push.new.self c.args.store.now
-    c.rows.store
-now g c = invariant_rows (invariant_written c.rows.invariant c.write_shared_rows.ensures.rows
-    c.in_ok-write_shared_rows.ensures.clean) c.copy_rows-copied.ensures.rows.rows c.push.ensures.pushed.wrote
-    c.in_ok-push.ensures.pushed.clean
-
 pub returns-in_err-filled : goal.returns-in_err-filled
-returns-in_err-filled g c = of_rows c.row_format-row.ensures (by_fault c.from_residual-in_err-filled.result
-    c.in_err-filled.field-0.0 c.from_residual-in_err-filled.ensures (paste_fill_failed
-    (now g (goal.at.returns-in_err-filled g c).After-fill_row) c.fill_row.new.readers c.fill_row.new.into
+returns-in_err-filled g c = by_fault c.from_residual-in_err-filled.result
+    c.in_err-filled.field-0.0 c.row_format-row.ensures c.from_residual-in_err-filled.ensures (paste_fill_failed
+    (invariant_rows (invariant_written c.rows.invariant c.write_shared_rows.ensures.rows
+    c.in_ok-write_shared_rows.ensures.clean) c.copy_rows-copied.ensures.rows.rows c.push.ensures.pushed.wrote
+    c.in_ok-push.ensures.pushed.clean) c.fill_row.new.readers c.fill_row.new.into
     c.in_err-filled.field-0.0 (c.in_err-filled.ensures.fills _ _ (amid_starts c.copy_rows-copied.ensures.rows
-    (c.move_to_front-begun.ensures _))) c.in_err-filled.ensures.wrote c.in_err-filled.ensures.write_failed))
+    (c.move_to_front-begun.ensures _))) c.in_err-filled.ensures.wrote c.in_err-filled.ensures.write_failed)
 
--- The row that was filled.
 module _ (g : given.Over) (c : In_ok-filled g) where
   abbrev shape : RowShape
   shape = shape_of c.row_format-row.result
@@ -145,9 +134,9 @@ write_row-requires-clause-slots g c =
 pub returns-in_err-write_row : goal.returns-in_err-write_row
 returns-in_err-write_row g c =
     let here = (goal.at.returns-in_err-write_row g c).In_ok-filled in
-    of_rows c.row_format-row.ensures (by_fault c.from_residual-in_err-write_row.result Write
+    by_fault c.from_residual-in_err-write_row.result Write c.row_format-row.ensures
     c.from_residual-in_err-write_row.ensures (paste_row_write_failed (sent g here) (amid g here)
-    (not-false _ c.if-not-filled.false) c.write_row.ensures.wrote c.in_err-write_row.ensures.fault))
+    (not-false _ c.if-not-filled.false) c.write_row.ensures.wrote c.in_err-write_row.ensures.fault)
 
 pub rows-smaller : goal.rows-smaller
 rows-smaller g c = omega (

@@ -1,7 +1,6 @@
--- The rows so far were pushed; the remaining rows are those of the lines still to come, for each continuation of the
--- inputs.
+-- The rows so far were pushed; those left are the rows of the lines still to come.
 use Rattle.ptflow.proofs.Common.{sum_by, budget, shape_of}
-use Rattle.ptflow.proofs.PasteLemmas.Call.{RowsInvariant}
+use Rattle.ptflow.proofs.PasteLemmas.{RowsInvariant}
 use Rattle.ptflow.proofs.tools.paste.paste.Given as goal
 
 abbrev pub invariant-rows : goal.invariant-rows

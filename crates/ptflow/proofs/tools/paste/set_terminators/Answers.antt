@@ -1,21 +1,18 @@
--- Each step sets the terminator of one more reader. Setting it twice, for a reader that several columns use, has no
--- further effect.
+-- A reader that several columns use is set more than once, with no further effect.
 use Rattle.ptflow.proofs
-use proofs.Common.{◌≡◌, ◌<◌, Bool, true, false, cond, length, get_or, refl, arith, terminator, common_steps, rules}
-use proofs.PasteLemmas.Rows.{at_index, set_terminator_more}
+use proofs.Common.{◌≡◌, ◌<◌, Bool, cond, length, get_or, arith, terminator, common_steps, rules}
+use proofs.PasteLemmas.BufferedRows.Rows.{at_index, set_terminator_more}
 use Rattle.ptflow.proofs.tools.paste.set_terminators.Goals as goal
 
 ending_is : (zero : Bool) → cond zero 0 10 ≡ terminator zero
-ending_is true = refl
-ending_is false = refl
+ending_is = grind arith
 
 pub loop-input-preserved : goal.loop-input-preserved
 loop-input-preserved g c =
-    let cells = c.args.cells.now in
     let i = c.loop-input.input-index in
     let now = c.loop-input.readers in
-    let within : get_or cells i 0 < length now = omega (arith, c.requires i 0 c.loop-input-test.true) in
-    set_terminator_more (terminator _) cells i _ now _
+    let within : get_or c.args.cells.now i 0 < length now = omega (arith, c.requires i 0 c.loop-input-test.true) in
+    set_terminator_more _ _ i _ now _
     c.loop-input-test.true within c.loop-input.invariant
     (search (rules, at_index, ending_is)) c.set_ending.ensures.is_sound
 

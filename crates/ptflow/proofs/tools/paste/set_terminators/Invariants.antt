@@ -1,4 +1,3 @@
--- The readers of the columns so far have the terminator of the job. Nothing else has changed.
 use Rattle.ptflow.proofs.Common.{take, terminator, SetTerminatorsPost}
 use Rattle.ptflow.proofs.tools.paste.set_terminators.Given as goal
 

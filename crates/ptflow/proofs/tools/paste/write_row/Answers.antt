@@ -1,4 +1,4 @@
--- Each step writes the field of one more column. A failed write leaves a prefix of the row.
+-- A failed write leaves a prefix of the row.
 use Rattle.ptflow.proofs
 use proofs.Common.{◌≡◌, ℕ, ◌+◌, ◌<◌, ◌≤◌, [], ◌++◌, length, take, refl, ap, ◌∙◌, arith, append-nil, drop_all, drop_more}
 use proofs.Common.{length-take-le, get_or-take, err_from_is_err_and, Slots, line, RowShape, after_cell, cells_text}
@@ -7,7 +7,6 @@ use Rattle.std.proofs.lemmas.List.{length-take}
 use proofs.Passes.Exits.{prefix_starts, front_more, front_fails, push_failed}
 use Rattle.ptflow.proofs.tools.paste.write_row.Goals as goal
 
--- The field in the next slot comes first.
 slots_next : (row : RowShape) (column : ℕ) (store : Slots) → column < length row.cells
     → length row.cells ≤ length store.lines → slots_text row column store
     ≡ (line store column ++ after_cell row column) ++ slots_text row (column + 1) store
@@ -17,12 +16,6 @@ slots_next row column store low room =
     (omega (arith, length-take-le n store.lines room)))
     ∙ ap (λ field. (field ++ after_cell row column) ++ slots_text row (column + 1) store)
     (get_or-take n store.lines column [] low)
-
--- After the last column nothing is left.
-slots_end : (row : RowShape) (column : ℕ) (store : Slots) → length row.cells ≤ column
-    → slots_text row column store ≡ []
-slots_end row column store over = ap (cells_text row column)
-    (drop_all column _ (omega (arith, length-take (length row.cells) store.lines)))
 
 pub returns-in_err-push : goal.returns-in_err-push
 returns-in_err-push g c =
@@ -53,5 +46,8 @@ loop-column-preserved g c = record {
 
 pub returns : goal.returns
 returns g c =
-    let none = slots_end (shape_of c.args.row) c.loop-column.column c.args.store.now (omega arith) in
+    -- After the last column nothing is left.
+    let n = length c.args.row.cells.now in
+    let lines = c.args.store.now.lines in
+    let none = drop_all c.loop-column.column (take n lines) (omega (arith, length-take n lines)) in
     grind (arith, append-nil)

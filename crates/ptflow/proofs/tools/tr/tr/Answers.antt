@@ -1,5 +1,4 @@
--- `tr` is a block tool: without a last byte the output for the rest is that for a text, and all output is decided at
--- once. The store is never used, so `Memory` is never returned.
+-- `tr` is a block tool, all of whose output is decided at once. The store is never used, so `Memory` is never returned.
 use Rattle.ptflow.proofs
 use proofs.Common.{◌++◌, None, refl, sym, ◌∙◌, ap, no_store, tr_tool, tr_from}
 use proofs.Passes.Exits.{pass_unchanged, never_memory}
@@ -8,7 +7,7 @@ use proofs.tools.tr.tr.Goals as goal
 
 pub returns-then-has_failed-clause-pass : goal.returns-then-has_failed-clause-pass
 returns-then-has_failed-clause-pass g c =
-    λ store ready. pass_unchanged (tr_tool c.args.plan.now) _ c.args.out.now _ ready (cc)
+    λ store ready. pass_unchanged _ _ _ _ ready (cc)
 
 pub returns-clause-pass : goal.returns-clause-pass
 returns-clause-pass g c =
@@ -17,7 +16,7 @@ returns-clause-pass g c =
     c.run_blocks.ensures (tr_tool t)
     (record {
       text = λ bytes. ap (λ p. tr_from p None bytes) c.new.ensures;
-      decided = λ given pushed now holds on. rest_decided t given pushed now.last
+      decided = λ given pushed now holds on. rest_decided t _ _ _
           (λ rest. sym (ap (λ p. tr_from p None (given ++ rest)) c.new.ensures) ∙ on rest
           ∙ ap (λ p. pushed ++ tr_from p now.last rest) (holds ∙ c.new.ensures));
       holds = refl;

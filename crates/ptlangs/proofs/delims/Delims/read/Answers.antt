@@ -1,8 +1,7 @@
 use Rattle.ptlangs.proofs
 use proofs.Common.{rules}
-use proofs.DelimGrammar.{delims_of_some}
 use proofs.ListElements.{append_ok-cons_ok}
 use Rattle.ptlangs.proofs.delims.Delims.read.Goals as goal
 
 pub loop-kept-preserved : goal.loop-kept-preserved
-loop-kept-preserved g c = search (rules, append_ok-cons_ok, delims_of_some)
+loop-kept-preserved g c = search (rules, append_ok-cons_ok)

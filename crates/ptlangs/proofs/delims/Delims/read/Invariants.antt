@@ -1,4 +1,4 @@
--- The delimiters so far come before those of the rest; so a fault of the rest is the fault of the list.
+-- A fault of the rest is the fault of the list.
 use Rattle.ptlangs.proofs
 use proofs.Common.{delim_list, length, ◌≡◌}
 use proofs.ListElements.{append_ok}

@@ -1,7 +1,7 @@
--- Without a fault, the values that are collected are those of the elements.
+-- Without a fault, the values are those of the elements.
 use Rattle.ptlangs.proofs
-use proofs.Common.{YieldsList-at, YieldsList-from_filter_map, YieldsList-from_slice_split, arith, common_steps}
-use proofs.Common.{element_field, elements, is_list_separator, items_from_extend, result_ok, rules, tests}
+use proofs.Common.{YieldsList-at, YieldsList-from_filter_map, YieldsList-from_slice_split, arith}
+use proofs.Common.{element_field, elements, is_list_separator, items_from_extend, result_ok, rules}
 use proofs.ListElements.{fault_of_fields, values_are}
 use Rattle.ptlangs.proofs.outlist.OutList.read.Goals as goal
 
@@ -11,11 +11,11 @@ returns-in-Some g c = search (rules, fault_of_fields)
 pub returns : goal.returns
 returns g c =
     let s = c.split-elements.ensures in
-    let values = items_from_extend c.extend.result c.extend.ensures.ran
+    let values = items_from_extend _ c.extend.ensures.ran
     (YieldsList-from_filter_map _ (λ e. result_ok (element_field e))
     (YieldsList-at c.filter_map.ensures.source
     (YieldsList-from_slice_split _ is_list_separator c.args.text.now s.rest s.done s.closure
-    (λ b r q k. search (rules, tests))))
-    c.filter_map.ensures.closure (λ x r q k. search (rules, tests))) in
+    (λ b r q k. search rules)))
+    c.filter_map.ensures.closure (λ x r q k. search rules)) in
     let all = values_are element_field (elements c.args.text.now) (search rules) in
-    first_of (search rules, grind (arith, common_steps))
+    first_of (search rules, grind arith)

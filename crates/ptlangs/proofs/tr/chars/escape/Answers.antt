@@ -1,5 +1,5 @@
 use Rattle.ptlangs.proofs
-use proofs.Common.{None, Some, arith, common_steps, rules}
+use proofs.Common.{Some, arith, common_steps, rules}
 use proofs.TrGrammar.{octal_char}
 use Rattle.ptlangs.proofs.tr.chars.escape.Goals as goal
 
@@ -10,8 +10,7 @@ returns-in-Some-number-clause-denoted c =
 
 pub returns-in-None-clause-denoted : goal.returns-in-None-clause-denoted
 returns-in-None-clause-denoted c =
-    octal_char c.args.bytes.now c.in-Some.first c.octal_len-count.result None (search rules) (search rules)
-    (search rules) (search rules)
+    grind (arith, octal_char)
 
 pub number-requires-clause-digits : goal.number-requires-clause-digits
 number-requires-clause-digits c = grind (arith, common_steps)

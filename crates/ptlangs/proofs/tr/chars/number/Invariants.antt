@@ -1,4 +1,3 @@
--- The value is that of the digits so far, and is at most the limit.
 use Rattle.ptlangs.proofs.Common.{digits_value, take, ◌≡◌, ◌≤◌}
 use Rattle.ptlangs.proofs.tr.chars.number.Given as goal
 

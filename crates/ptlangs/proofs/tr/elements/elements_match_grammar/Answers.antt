@@ -1,12 +1,13 @@
 use Rattle.ptlangs.proofs
-use proofs.TrGrammar.{AreElements-set_elements, chars_are_spelled, faults_are_first, set_elements-AreElements}
+use proofs.TrGrammar.{AreElements-set_elements, set_elements-AreElements, chars_are, fault_is, is_fault, spelled}
 use Rattle.ptlangs.proofs.tr.elements.elements_match_grammar.Goals as goal
+use proofs.Common.{SpellsChars, arith, subst}
 
 pub returns : goal.returns
 returns c =
     record {
-      chars = chars_are_spelled;
+      chars = λ bs us. (chars_are bs us, λ e. subst (SpellsChars bs) e (spelled bs 0));
       elements = λ us ps. (set_elements-AreElements us ps, AreElements-set_elements ps us);
       faults =
-          faults_are_first;
+          grind (arith, fault_is, is_fault);
     }

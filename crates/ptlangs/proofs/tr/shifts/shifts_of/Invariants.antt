@@ -1,4 +1,4 @@
--- The loop goes from the end of the table to its start. The stretches are those of the bytes from the index on.
+-- The loop goes from the end of the table to its start.
 use Rattle.ptlangs.proofs.Common.{drop, stretches_from, ◌≡◌, ◌≤◌}
 use Rattle.ptlangs.proofs.tr.shifts.shifts_of.Given as goal
 

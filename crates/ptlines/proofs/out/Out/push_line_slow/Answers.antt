@@ -1,4 +1,4 @@
--- Three calls of `push` add the three slices in order. After the first that fails nothing more is written.
+-- The slices are pushed in order; after the first push that fails nothing more is written.
 use Rattle.ptlines.proofs.Common.{rules, arith}
 use Rattle.ptlines.proofs.Push.{push_post_trans, push_trans, push_past_failure}
 use Rattle.ptlines.proofs.out.Out.push_line_slow.Goals as goal
@@ -11,7 +11,7 @@ returns-in_err-push-2 g c =
     let two =
     push_trans _ _ _ _ _ c.in_ok-push.ensures.pushed.clean c.push.ensures.pushed.wrote c.push-2.ensures.pushed.wrote in
     record {
-      wrote = push_past_failure _ _ _ c.args.terminator.now c.in_err-push-2.ensures.pushed.fault two;
+      wrote = grind (arith, push_past_failure);
       clean = search rules;
       fault = search rules;
     }

@@ -1,5 +1,5 @@
-use Rattle.ptlines.proofs.Common.{arith, common_steps}
+use Rattle.ptlines.proofs.Common.{arith}
 use Rattle.ptlines.proofs.reader.LineReader.block.Goals as goal
 
 pub returns-in-Some : goal.returns-in-Some
-returns-in-Some c = grind (arith, common_steps)
+returns-in-Some c = grind arith

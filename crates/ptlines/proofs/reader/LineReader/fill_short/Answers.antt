@@ -1,9 +1,7 @@
--- The terminator that was found among the 64 bytes lies before the end of the buffered bytes, so it is the first one of
--- them. The line before it is copied at once.
-use Rattle.ptlines.proofs.Common.{◌≡◌, ◌+◌, ◌-◌, Some, subst, ◌<◌, ◌≤◌, ◌^◌, length, take, drop, ◌∙◌, ap, arith}
-use Rattle.ptlines.proofs.Common.{take-take, slice_range, IsFirst, Passes, is_byte, common_steps}
+-- The terminator that was found among 64 bytes lies within the buffered bytes, so it is the first one of them.
+use Rattle.ptlines.proofs.Common.{◌≡◌, ◌+◌, ◌-◌, Some, subst, ◌<◌, ◌≤◌, ◌^◌, length, take, drop, ap, arith}
+use Rattle.ptlines.proofs.Common.{take-take, IsFirst, Passes, is_byte, common_steps}
 use Rattle.ptlines.proofs.ReadLine.{fill_short_line}
-use Rattle.ptlines.proofs.Consume.{length_range, sound_shorter}
 use Rattle.ptlines.proofs.reader.LineReader.fill_short.Goals as goal
 
 pub returns-clause-line : goal.returns-clause-line
@@ -12,22 +10,20 @@ returns-clause-line g c given =
     let buffered = ap (λ r. r.buffered) c.self.view_is in
     let fits : r.end ≤ length r.block = omega arith in
     let high : r.start + c.in-Some.size < r.end = omega arith in
-    let clean = ap (λ r. r.fault) c.self.view_is ∙ c.requires.clean in
     let short : c.args.self.now.pulled < 2 ^ 63 =
-    omega (arith, c.self.invariant.sound.long clean, ap (λ r. r.pulled) c.self.view_is) in
+    grind arith in
     let front = take (8256 - r.start) (drop r.start r.block) in
     let is_front : take (r.end - r.start) front ≡ c.args.self.now.buffered =
-    take-take (r.end - r.start) (8256 - r.start) (drop r.start r.block) (omega arith)
-    ∙ buffered in
+    grind (arith, take-take) in
     let first = subst (λ b. IsFirst (Passes (is_byte b) front) 0 64 (Some c.in-Some.size))
-    (ap (λ r. r.terminator) c.self.view_is) c.in-Some.ensures in
+    (grind arith) c.in-Some.ensures in
     fill_short_line 64 c.args.self.now _ r.block front r.start r.end c.in-Some.size c.args.store.now
     c.set_short_line.new.self c.args.slot c.requires.clean short high fits buffered is_front first
-    (λ i. record (c.self.view_is i) { buffered = slice_range r.block (r.start + c.in-Some.size + 1) r.end })
+    (grind arith)
     c.set_short_line.ensures
 
 pub returns-clause-sound : goal.returns-clause-sound
-returns-clause-sound g c = grind (arith, length_range, sound_shorter)
+returns-clause-sound g c = grind (arith, common_steps)
 
 pub invariant_of-self : goal.invariant_of-self
 invariant_of-self g c = grind (arith, common_steps)

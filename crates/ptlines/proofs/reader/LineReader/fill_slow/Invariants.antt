@@ -1,5 +1,4 @@
--- The slot holds the bytes consumed so far, which are a prefix of one line. Each turn consumes bytes of the source, of
--- which there are fewer than 2^63.
+-- Each turn consumes bytes of the source, of which there are fewer than 2^63.
 use Rattle.std.proofs.Common.{◌+◌, ◌-◌, ◌^◌, length}
 use Rattle.ptlines.proofs.ReadLine.{LineSoFar}
 use Rattle.ptlines.specs.ReadLine.{FillPre}

@@ -1,38 +1,34 @@
--- Each exit is one of the results of a read: the end of input, the limit of 2^63 bytes, bytes, or a failed read.
-use Rattle.std.proofs.Common.{◌≤◌, arith}
-use Rattle.ptlines.proofs.Refill.{refill_more, refill_long, refill_end, refill_failed, filled_sound}
+-- Each exit is a result of a read: the end of input, the limit of 2^63 bytes, bytes, or a failed read.
+use Rattle.std.proofs.Common.{arith, rules}
+use Rattle.ptlines.proofs.Refill.{refill_more, refill_long}
 use Rattle.ptlines.proofs.reader.LineReader.refill.Goals as goal
 use Rattle.std.proofs.lemmas.Grind.{common_steps}
 
 pub returns-then-count-eq0-clause-refills : goal.returns-then-count-eq0-clause-refills
-returns-then-count-eq0-clause-refills g c = grind (arith, refill_end)
+returns-then-count-eq0-clause-refills g c = grind arith
 
 pub returns-then-self-clause-refills : goal.returns-then-self-clause-refills
 returns-then-self-clause-refills g c =
-    let small : c.in-Ok.count ≤ 8192 = c.in-Ok.ensures.few in
-    refill_long _ c.read_block.new.block c.in-Ok.count _ c.self.view_is
-    c.requires c.in-Ok.ensures.refused
-    c.in-Ok.ensures.pulled small (omega arith)
+    search (rules, c.in-Ok.count, c.in-Ok.ensures.few, refill_long, c.read_block.new.block, c.self.view_is, c.requires, c.in-Ok.ensures.pulled)
 
 pub returns-else-self-clause-refills : goal.returns-else-self-clause-refills
 returns-else-self-clause-refills g c =
-    let small : c.in-Ok.count ≤ 8192 = c.in-Ok.ensures.few in
+    let small = c.in-Ok.ensures.few in
     refill_more _ c.read_block.new.block c.in-Ok.count _ c.self.view_is
     c.requires c.in-Ok.ensures.refused
     c.in-Ok.ensures.pulled small (omega arith) (omega arith)
 
 pub returns-in-Err-clause-refills : goal.returns-in-Err-clause-refills
-returns-in-Err-clause-refills g c = grind (arith, refill_failed)
+returns-in-Err-clause-refills g c = grind arith
 
--- the invariant holds after the block was filled
 pub invariant_of-self-then-self : goal.invariant_of-self-then-self
-invariant_of-self-then-self g c = grind (arith, common_steps, filled_sound)
+invariant_of-self-then-self g c = grind (arith, common_steps)
 
 pub returns-then-self-clause-sound : goal.returns-then-self-clause-sound
 returns-then-self-clause-sound g c = (invariant_of-self-then-self g c).sound
 
 pub invariant_of-self-else-self : goal.invariant_of-self-else-self
-invariant_of-self-else-self g c = grind (arith, common_steps, filled_sound)
+invariant_of-self-else-self g c = grind (arith, common_steps)
 
 pub returns-else-self-clause-sound : goal.returns-else-self-clause-sound
 returns-else-self-clause-sound g c = (invariant_of-self-else-self g c).sound

@@ -1,5 +1,5 @@
--- A vector of 16 or 64 bytes is stored at the beginning of the buffer. Its first `size` bytes are the line.
-use Rattle.ptlines.proofs.Common.{◌≡◌, ◌≤◌, ℕ, List, length, take, ◌∙◌, ap, arith, with_items_is, length-put_chunk}
+-- A vector of 16 or 64 bytes is stored in the buffer. Its first `size` bytes are the line.
+use Rattle.ptlines.proofs.Common.{◌≡◌, ◌≤◌, ℕ, List, length, take, ◌∙◌, arith, with_items_is, length-put_chunk}
 use Rattle.ptlines.proofs.Common.{put_chunk}
 use Rattle.std.specs.Vec.{with_items}
 use Rattle.ptlines.proofs.CopyFacts.{copied_vector_prefix}
@@ -13,26 +13,17 @@ returns g c =
     let size = c.args.near.size in
     let stored : (n : ℕ) (was : List ℕ) → length was ≡ buffer.len → size ≤ n → n ≤ 64
     → take size (with_items buffer (put_chunk 0 was (take n bytes))).items ≡ take size bytes =
-    λ n was len few lanes.
-    ap (take size) (with_items_is buffer (put_chunk 0 was (take n bytes)) (length-put_chunk 0 was (take n bytes) ∙ len))
-    ∙ copied_vector_prefix size n was bytes few (omega (arith, lanes, len))
-    (omega (arith, lanes)) in
+    grind (arith, take, with_items_is, length-put_chunk, copied_vector_prefix) in
     elim c.if-size-lt16.branch [
       | then-size-lt16 w ↦
-          (λ i. record {
-            line = take size (w.self-inside-is i).buffer.items;
-            buffer_size = (w.self-inside-is i).buffer.len;
-          })
+          (grind arith)
           ∙ (λ i. record {
             line = stored 16 w.deref_mut.result.now w.deref_mut.ensures.len
                 (omega arith) (omega arith) i;
             buffer_size = (c.self.view_is i).buffer_size;
           })
       | else-size-lt16 w ↦
-          (λ i. record {
-            line = take size (w.self-inside-is i).buffer.items;
-            buffer_size = (w.self-inside-is i).buffer.len;
-          })
+          (grind arith)
           ∙ (λ i. record {
             line = stored 64 w.deref_mut-else-size-lt16.result.now w.deref_mut-else-size-lt16.ensures.len
                 (omega arith) (omega arith) i;

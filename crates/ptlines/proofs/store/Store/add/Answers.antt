@@ -1,10 +1,9 @@
-use Rattle.ptlines.proofs.SlotTotals.{counted_after_add}
 use Rattle.ptlines.proofs.store.Store.add.Goals as goal
 use Rattle.std.proofs.Common.{arith}
 use Rattle.std.proofs.lemmas.Grind.{common_steps}
 
 pub invariant_of-self : goal.invariant_of-self
-invariant_of-self g c = grind (arith, common_steps, counted_after_add)
+invariant_of-self g c = grind (arith, common_steps)
 
 pub returns-in-Ok-clause-added : goal.returns-in-Ok-clause-added
 returns-in-Ok-clause-added g c = grind (arith, common_steps)

@@ -1,8 +1,7 @@
--- The line of one slot grows by the appended bytes, and so does the total. If memory could not be allocated, the line
--- is as before.
+-- The line and the total grow by the appended bytes, unless memory could not be allocated.
 use Rattle.ptlines.proofs.Common.{◌<◌, ◌^◌, length, ◌++◌, ◌∙◌, ap, arith, length-append, length-map, common_steps}
 use Rattle.ptlines.specs.Slots.{slot_lines}
-use Rattle.ptlines.proofs.SlotTotals.{counted_after_set, total_fits, slot_in_range, line_before, denied_line}
+use Rattle.ptlines.proofs.SlotTotals.{counted_after_set, total_fits, slot_in_range, line_before}
 use Rattle.ptlines.proofs.SlotTotals.{store_after_set, line_of}
 use Rattle.ptlines.proofs.store.Store.append.Goals as goal
 
@@ -15,27 +14,25 @@ overflow_add-self g c =
 pub invariant_of-self : goal.invariant_of-self
 invariant_of-self g c =
     let s = c.self.inside in
-    let had = c.index_mut.result.now in
     let low = slot_in_range s.slots.items c.args.slot c.self.view_is c.requires in
-    counted_after_set s.slots.items c.args.slot had low c.index_mut.ensures.value c.self.invariant
-    c.append.new.self c.append.ensures.short c.append.ensures.buffer
-    (omega (arith, ap length c.in-Ok.ensures.ok, length-append had.line c.args.bytes.now))
+    counted_after_set s.slots.items c.args.slot c.index_mut.result.now low c.index_mut.ensures.value c.self.invariant
+    _ c.append.ensures.short c.append.ensures.buffer
+    (grind (arith, length-append))
     (omega arith) (omega arith)
 
 pub invariant_of-self-in-Err : goal.invariant_of-self-in-Err
-invariant_of-self-in-Err g c = grind (arith, common_steps, slot_in_range, counted_after_set)
+invariant_of-self-in-Err g c = grind (arith, common_steps, slot_in_range)
 
 pub index_mut-requires : goal.index_mut-requires
-index_mut-requires g c = grind (arith, common_steps, slot_in_range)
+index_mut-requires g c = grind (arith, common_steps)
 
 pub returns-in-Ok-clause-ok : goal.returns-in-Ok-clause-ok
 returns-in-Ok-clause-ok g c =
     let slots = c.self.inside.slots.items in
     let low = slot_in_range slots c.args.slot c.self.view_is c.requires in
     let had = line_before slots c.args.slot c.self.view_is low c.index_mut.ensures.value in
-    let bytes = c.in-Ok.ensures.ok ∙ ap (λ l. l ++ c.args.bytes.now) had in
-    store_after_set slots c.args.slot c.self.view_is c.append.new.self bytes
+    store_after_set slots c.args.slot c.self.view_is _ (c.in-Ok.ensures.ok ∙ ap (λ l. l ++ c.args.bytes.now) had)
     (invariant_of-self g c).total c.max-self-inside.ensures
 
 pub returns-in-Err-clause-err : goal.returns-in-Err-clause-err
-returns-in-Err-clause-err g c = grind (arith, common_steps, denied_line)
+returns-in-Err-clause-err g c = grind (arith, common_steps)

@@ -1,4 +1,4 @@
--- The line of the slot is part of the total, so the subtraction does not underflow and leaves the new total.
+-- The line of the slot is part of the total, so the subtraction does not underflow.
 use Rattle.ptlines.proofs.Common.{length, ap, arith, common_steps}
 use Rattle.ptlines.proofs.SlotTotals.{line_le_total, counted_after_set, store_after_set, slot_in_range, same_slot}
 use Rattle.ptlines.proofs.SlotTotals.{line_of}
@@ -9,7 +9,7 @@ overflow_sub-self g c =
     let s = c.self.inside in
     let low = slot_in_range s.slots.items c.args.slot c.self.view_is c.requires in
     let few = line_le_total s.slots.items c.args.slot c.index.result.now low c.index.ensures c.self.invariant in
-    omega (arith, few)
+    omega arith
 
 pub invariant_of-self : goal.invariant_of-self
 invariant_of-self g c =
@@ -18,21 +18,20 @@ invariant_of-self g c =
     let had = c.index_mut.result.now in
     let there = c.index_mut.ensures.value in
     let few = line_le_total slots c.args.slot had low there c.self.invariant in
-    let same = same_slot slots c.args.slot low c.index.ensures there in
+    let same = same_slot _ _ low c.index.ensures there in
     let none = ap (λ t. length (line_of t)) c.clear.ensures in
-    counted_after_set slots c.args.slot had low there c.self.invariant c.clear.new.self
-    (omega (arith, none)) (omega (arith, ap (λ t. t.buffer_size) c.clear.ensures))
-    (omega (arith, few, none, ap (λ t. length (line_of t)) same))
+    counted_after_set slots c.args.slot had low there c.self.invariant _
+    (omega arith) (grind arith)
+    (grind arith)
     (omega arith) (omega arith)
 
 pub returns : goal.returns
 returns g c =
-    let counted = invariant_of-self g c in
-    store_after_set c.self.inside.slots.items c.args.slot c.self.view_is c.clear.new.self (ap line_of c.clear.ensures)
-    counted.total (omega arith)
+    store_after_set c.self.inside.slots.items c.args.slot c.self.view_is _ (ap line_of c.clear.ensures)
+    (invariant_of-self g c).total (omega arith)
 
 pub index-requires : goal.index-requires
-index-requires g c = grind (arith, common_steps, slot_in_range)
+index-requires g c = grind (arith, common_steps)
 
 pub index_mut-requires : goal.index_mut-requires
-index_mut-requires g c = grind (arith, common_steps, slot_in_range)
+index_mut-requires g c = grind (arith, common_steps)

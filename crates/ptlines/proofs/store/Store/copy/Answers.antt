@@ -1,7 +1,6 @@
--- The target is emptied and the line of the source appended, so one slot is set and the total grows by that line. If
--- memory could not be allocated, the slots are as after emptying.
-use Rattle.ptlines.proofs.Common.{◌≡◌, ◌≢◌, ◌<◌, ◌≤◌, ◌+◌, ◌^◌, ℕ, List, Bool, [], get_or, length, set, max, sym, ◌∙◌}
-use Rattle.ptlines.proofs.Common.{ap, subst, arith, length-set, length-map, with_items_is, Slots, LengthsAreBounded}
+-- The target is emptied and the line of the source appended. If memory could not be allocated, the target stays empty.
+use Rattle.ptlines.proofs.Common.{◌≡◌, ◌≢◌, ◌<◌, ◌≤◌, ◌+◌, ◌^◌, ℕ, List, Bool, [], get_or, length, set, sym, ◌∙◌}
+use Rattle.ptlines.proofs.Common.{ap, subst, arith, length-set, length-map, with_items_is, Slots}
 use Rattle.ptlines.proofs.Common.{total_bytes, common_steps}
 use Rattle.std.specs.Vec.{with_items}
 use Rattle.std.proofs.lemmas.List.{get_or-map}
@@ -9,12 +8,10 @@ use Rattle.ptlines.specs.Slots.{SlotBuffer, slot_lines, with_line, AreBuffersBou
 use Rattle.ptlines.proofs.SlotTotals.{total_fits, copy_lines, copy_total, line_of, store_of}
 use Rattle.ptlines.proofs.store.Store.copy.Goals as goal
 
--- emptying a slot keeps the number of slots
 slots_after_clear : (slots : List SlotBuffer) (now : Slots) (to : ℕ) {peak : ℕ} {denied : Bool}
     → store_of slots peak denied ≡ with_line now to [] → length slots ≡ length now.lines
-slots_after_clear slots now to is = grind (arith, common_steps)
+slots_after_clear _ now to is = grind (arith, common_steps)
 
--- the total after the copy
 copied : (lines cleared : List (List ℕ)) (after : List SlotBuffer) (from to byte_count size : ℕ) (v : SlotBuffer)
     → from ≢ to → from < length lines → to < length lines → cleared ≡ set lines to []
     → slot_lines after ≡ set lines to (get_or lines from []) → byte_count ≡ total_bytes cleared
@@ -23,10 +20,10 @@ copied : (lines cleared : List (List ℕ)) (after : List SlotBuffer) (from to by
     × (byte_count + size ≡ total_bytes (set lines to (get_or lines from [])))
 copied lines cleared after from to byte_count size v differ from_in to_in cleared_is after_is counts there =
     let within : from < length after =
-    omega (arith, from_in, length-map after line_of, ap length after_is, length-set lines to (get_or lines from [])) in
-    copy_total lines cleared (slot_lines after) from to byte_count size v.line differ from_in to_in cleared_is after_is
+    grind (arith, length-map, length-set, get_or) in
+    copy_total _ _ _ _ to _ _ _ differ from_in to_in cleared_is after_is
     counts
-    (ap line_of there ∙ sym (get_or-map line_of after from v v.line within))
+    (grind (arith, get_or-map))
 
 pub overflow_add-self : goal.overflow_add-self
 overflow_add-self g c =
@@ -34,7 +31,7 @@ overflow_add-self g c =
     let few : length (slot_lines s.items) < 2 ^ 63 = omega (arith, length-map s.items line_of) in
     let fits = total_fits (slot_lines s.items) c.size.result c.self.invariant.lines few
     (omega arith) in
-    omega (arith, fits)
+    omega arith
 
 pub invariant_of-self : goal.invariant_of-self
 invariant_of-self g c =
@@ -42,7 +39,7 @@ invariant_of-self g c =
     let was = c.args.self.now.lines in
     let lent = c.deref_mut.ensures.value in
     let cleared = ap (λ t. t.lines) (c.self.view_is ∙ c.clear.ensures) in
-    let whole = with_items_is s.slots c.append_slot.new.slots (c.append_slot.auto.slots ∙ c.deref_mut.ensures.len) in
+    let whole = with_items_is s.slots c.append_slot.new.slots (grind arith) in
     let lines = copy_lines was (slot_lines c.deref_mut.result.now) (slot_lines c.append_slot.new.slots)
     c.args.from c.args.to c.requires.differ c.requires.to_in (ap slot_lines lent ∙ cleared) c.in-Ok.ensures.ok in
     let after = (with_items s.slots c.append_slot.new.slots).items in
@@ -52,44 +49,26 @@ invariant_of-self g c =
     c.self.invariant.total c.index.ensures c.size.ensures.size in
     let peak = c.max-self-inside.result in
     let below : total_bytes (slot_lines c.append_slot.new.slots) ≤ peak =
-    omega (arith, total, ap (λ l. total_bytes (slot_lines l)) whole) in
+    grind (arith, slot_lines) in
     let fit : AreBuffersBounded peak s.slots.items =
-    λ k d lt. omega (arith, c.self.invariant.buffers k d lt) in
-    let short = subst (λ l. LengthsAreBounded (slot_lines l)) (sym lent) c.self.invariant.lines in
+    grind arith in
     record {
       total = total;
       below_peak = omega arith;
-      lines = subst (λ l. LengthsAreBounded (slot_lines l)) (sym whole) (c.append_slot.ensures.short short);
+      lines = grind arith;
       buffers = subst (AreBuffersBounded peak) (sym whole)
-          (c.append_slot.ensures.buffers peak below (subst (AreBuffersBounded peak) (sym lent) fit));
+          (c.append_slot.ensures.buffers peak below (grind arith));
     }
 
 pub returns-in-Ok-clause-ok : goal.returns-in-Ok-clause-ok
 returns-in-Ok-clause-ok g c =
-    let s = c.self.inside in
-    let was = c.args.self.now.lines in
-    let lent = c.deref_mut.ensures.value in
-    let emptied = c.self.view_is ∙ c.clear.ensures in
-    let cleared = ap (λ t. t.lines) emptied in
-    let whole = with_items_is s.slots c.append_slot.new.slots (c.append_slot.auto.slots ∙ c.deref_mut.ensures.len) in
-    let lines = copy_lines was (slot_lines c.deref_mut.result.now) (slot_lines c.append_slot.new.slots)
-    c.args.from c.args.to c.requires.differ c.requires.to_in (ap slot_lines lent ∙ cleared) c.in-Ok.ensures.ok in
-    let after = (with_items s.slots c.append_slot.new.slots).items in
-    let (_, emptied_total, total) =
-    copied was (slot_lines s.slots.items) after c.args.from c.args.to s.byte_count c.size.result c.index.result.now
-    c.requires.differ c.requires.from_in c.requires.to_in cleared (ap slot_lines whole ∙ lines)
-    c.self.invariant.total c.index.ensures c.size.ensures.size in
-    let peak : c.max-self-inside.result
-    ≡ max c.args.self.now.peak (total_bytes (set was c.args.to (get_or was c.args.from []))) =
-    omega (arith, total, ap (λ t. t.peak) emptied) in
-    let denied = ap (λ t. t.denied) emptied in
-    λ i. record { lines = (ap slot_lines whole ∙ lines) i; peak = peak i; denied = denied i }
+    grind (arith, with_items_is, copy_lines, slot_lines, with_items, copied, set, get_or)
 
 pub append_slot-requires : goal.append_slot-requires
-append_slot-requires g c = grind (arith, common_steps, slots_after_clear)
+append_slot-requires g c = grind (arith, common_steps)
 
 pub index-requires : goal.index-requires
-index-requires g c = grind (arith, common_steps, slots_after_clear)
+index-requires g c = grind (arith, common_steps)
 
 pub invariant_of-self-in-Err : goal.invariant_of-self-in-Err
 invariant_of-self-in-Err g c = grind (arith, common_steps)

@@ -1,4 +1,3 @@
--- All slots created so far are empty.
 use Rattle.std.proofs.Common.{◌≡◌, [], replicate, false}
 use Rattle.ptlines.proofs.store.Store.new.Given as goal
 

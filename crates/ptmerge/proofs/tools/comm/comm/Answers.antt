@@ -1,4 +1,4 @@
--- If the output has failed, nothing is done. Otherwise both orders have one proof, over the order that the job selects.
+-- Both orders have one proof, over the order that the job selects.
 use Rattle.ptmerge.proofs
 use proofs.Common.{refl, sym, ◌∙◌}
 use proofs.MergeLemmas.Exits.{merge_halted, merge_set}

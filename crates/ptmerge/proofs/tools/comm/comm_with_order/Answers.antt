@@ -1,31 +1,34 @@
--- Each iteration preserves the invariant by one lemma of `CommLemmas`, and each exit has the postconditions by one of
--- `CommLemmas` or `MergeLemmas`.
+-- One lemma of `CommLemmas` for each iteration, and one of `CommLemmas` or `MergeLemmas` for each exit.
 use Rattle.std.proofs.Common.{rules}
 use Rattle.ptmerge.proofs
-use proofs.Common.{refl, ◌∙◌, comm_job}
-use proofs.MergeLemmas.{advance_pre, err_is, start_fault, start_ok, between_starts, reads_less, ends_well}
+use proofs.Common.{refl, ◌∙◌, comm_job, arith}
+use proofs.MergeLemmas.{advance_pre, err_is, start_fault, start_ok, open_merge, reads_less, ends_well, between_next}
 use proofs.MergeLemmas.{ends_fallen}
-use proofs.CommLemmas.{alone_continues, alone_fails, pair_decreases, pair_continues}
-use proofs.CommLemmas.{pair_fails, second_advance_pre, second_fails, opened}
+use proofs.CommLemmas.{alone_continues, alone_fails, pair_continues}
+use proofs.CommLemmas.{pair_fails, second_advance_pre, second_fails, is_line_by_line}
 use Rattle.ptmerge.proofs.tools.comm.comm_with_order.Goals as goal
 
 pub returns-in_err-merge : goal.returns-in_err-merge
 returns-in_err-merge g c =
-    let w = opened (comm_job c.args.job.now) (record
-    { total = g.met.K.KeyOrder.total _; exact = g.met.K.KeyOrder.exact _ }) c.requires.begins in
+    let w = open_merge (record { total = g.met.K.KeyOrder.total _; exact = g.met.K.KeyOrder.exact _ })
+    (is_line_by_line (comm_job c.args.job.now) _ _) c.requires.begins in
     rw (err_is c.from_residual.ensures.1) (start_fault w c.in_err-merge.ensures.fails)
 
 pub steps-init : goal.steps-init
 steps-init g c =
     let p = c.in_ok-merge.ensures in
-    let w = opened (comm_job c.args.job.now) (record
-    { total = g.met.K.KeyOrder.total _; exact = g.met.K.KeyOrder.exact _ }) c.requires.begins in
+    let w = open_merge (record { total = g.met.K.KeyOrder.total _; exact = g.met.K.KeyOrder.exact _ })
+    (is_line_by_line (comm_job c.args.job.now) _ _) c.requires.begins in
     rw p.order (record {
       iteration = record {
-        opened = w;
+        w = w;
         whole_line_keys = c.requires.whole_line_keys;
         loop_invariant = start_ok w p.starts;
-        between = between_starts (rw p.order at p.valid_cursors) p.own_reader c.requires.begins.writable;
+        between = record {
+          valid_cursors = rw p.order at p.valid_cursors;
+          own_reader = search (rules, p.own_reader);
+          clean = c.requires.begins.writable;
+        };
       };
       order = refl;
     })
@@ -62,12 +65,9 @@ pub steps-preserved : goal.steps-preserved
 steps-preserved g c =
     let p = c.write_head-in-Both.ensures in
     let q = c.write_out_and_advance.ensures in
-    rw (q.order ∙ p.order) (record {
-      iteration = pair_continues c.steps.invariant.iteration c.in-Both.ensures
-          c.tabs-tabs3.ensures p.wrote c.in_ok-write_head-in-Both.ensures.advances q.written_out (rw p.order at
-          c.in_ok-write_out_and_advance-in-Both.ensures.advances);
-      order = c.steps.invariant.order;
-    })
+    rw (q.order ∙ p.order) (assumption (pair_continues c.steps.invariant.iteration c.in-Both.ensures
+    c.tabs-tabs3.ensures p.wrote c.in_ok-write_head-in-Both.ensures.advances q.written_out
+    (rw p.order at c.in_ok-write_out_and_advance-in-Both.ensures.advances)))
 
 pub steps-smaller-in-Continue-branch-2 : goal.steps-smaller-in-Continue-branch-2
 steps-smaller-in-Continue-branch-2 g c = search (rules, reads_less)
@@ -76,9 +76,7 @@ pub steps-smaller-in-Continue-branch-3 : goal.steps-smaller-in-Continue-branch-3
 steps-smaller-in-Continue-branch-3 g c = search (rules, reads_less)
 
 pub steps-smaller : goal.steps-smaller
-steps-smaller g c = pair_decreases c.steps.invariant.iteration c.in-Both.ensures
-    c.in_ok-write_head-in-Both.ensures.advances
-    (rw c.write_head-in-Both.ensures.order at c.in_ok-write_out_and_advance-in-Both.ensures.advances)
+steps-smaller g c = grind (arith, reads_less, between_next)
 
 pub returns-in_err-write_head-in-First : goal.returns-in_err-write_head-in-First
 returns-in_err-write_head-in-First g c =

@@ -1,5 +1,4 @@
--- The output is that of the processed lines, which comes first for all lines that may follow. Each iteration processes
--- a line.
+-- The output is that of the processed lines, which comes first for all lines that may follow.
 use Rattle.ptmerge.proofs
 use proofs.Common.{◌≡◌, comm_job, merge_state, both}
 use proofs.CommLemmas.{IterationInvariant}

@@ -4,7 +4,6 @@ use proofs.Common.{push_trans, arith}
 use Rattle.ptmerge.proofs.tools.comm.write_head.Goals.{then-not-hidden+in_ok-push_line, else-not-hidden}
 use Rattle.ptmerge.proofs.tools.comm.write_head.Goals as goal
 
--- the line is pushed if its column is shown, and then buffered output may be written out
 pub returns-clause-wrote : goal.returns-clause-wrote
 returns-clause-wrote g c =
     let sent = c.write_out_and_advance.ensures.written_out in

@@ -1,13 +1,12 @@
--- Each iteration preserves the invariant by one lemma of `JoinLemmas`, and each exit has the postconditions by one of
--- `JoinLemmas` or `MergeLemmas`.
+-- One lemma of `JoinLemmas` for each iteration, and one of `JoinLemmas` or `MergeLemmas` for each exit.
 use Rattle.std.proofs.lemmas.Grind.{common_steps}
 use Rattle.std.proofs.Common.{rules}
 use Rattle.ptmerge.proofs
-use proofs.Common.{refl, sym, ◌∙◌, join_job, arith}
+use proofs.Common.{refl, Second, sym, ◌∙◌, join_job, arith}
 use proofs.JoinLemmas.{read_group_pre, read_group_fails, read_group_continues, group_closed, group_there}
 use proofs.JoinLemmas.{write_pairs_group, write_pairs_pre, pair_fails, write_pairs_next, write_pairs_continues}
-use proofs.JoinLemmas.{alone_continues, alone_fails, loop_invariant, measure_decreases, opened, group_opens}
-use proofs.MergeLemmas.{advance_pre, err_is, start_fault, start_ok, between_starts, ends_well, ends_fallen}
+use proofs.JoinLemmas.{alone_continues, alone_fails, loop_invariant, measure_decreases, is_line_by_line, group_opens}
+use proofs.MergeLemmas.{advance_pre, err_is, start_fault, start_ok, open_merge, ends_well, ends_fallen}
 use Rattle.ptmerge.specs.declared.key_order.Side.TheVariants as sides
 use Rattle.ptmerge.specs.declared.tools.join.JoinPhase.TheVariants as phases
 use Rattle.ptmerge.proofs.tools.join.join_with_order.Goals as goal
@@ -15,20 +14,25 @@ use proofs.JoinLemmas.{read_group_in}
 
 pub returns-in_err-merge : goal.returns-in_err-merge
 returns-in_err-merge g c =
-    let a = opened (join_job c.args.job.now) (record
-    { total = g.met.K.KeyOrder.total _; exact = g.met.K.KeyOrder.exact _ }) c.requires.keys c.requires.begins in
-    rw (err_is c.from_residual.ensures.1) (start_fault a.w c.in_err-merge.ensures.fails)
+    let w = open_merge (record { total = g.met.K.KeyOrder.total _; exact = g.met.K.KeyOrder.exact _ })
+    (is_line_by_line (join_job c.args.job.now) _ _) c.requires.begins in
+    rw (err_is c.from_residual.ensures.1) (start_fault w c.in_err-merge.ensures.fails)
 
 pub steps-init : goal.steps-init
 steps-init g c =
-    let a = opened (join_job c.args.job.now) (record
-    { total = g.met.K.KeyOrder.total _; exact = g.met.K.KeyOrder.exact _ }) c.requires.keys c.requires.begins in
+    let w = open_merge (record { total = g.met.K.KeyOrder.total _; exact = g.met.K.KeyOrder.exact _ })
+    (is_line_by_line (join_job c.args.job.now) _ _) c.requires.begins in
     let e = c.in_ok-merge.ensures in
     rw e.order (record {
       iteration = record {
-        opened = a;
-        phased = (start_ok a.w e.starts, refl);
-        between = between_starts (rw e.order at e.valid_cursors) e.own_reader c.requires.begins.writable;
+        w = w;
+        keys = c.requires.keys;
+        phased = (start_ok w e.starts, refl);
+        between = record {
+          valid_cursors = rw e.order at e.valid_cursors;
+          own_reader = search (rules, e.own_reader);
+          clean = c.requires.begins.writable;
+        };
       };
       order = refl;
     })
@@ -44,11 +48,8 @@ write_unpaired-requires-in-Second-clause-status_is g c =
 pub steps-preserved-in-Continue-branch-2 : goal.steps-preserved-in-Continue-branch-2
 steps-preserved-in-Continue-branch-2 g c =
     let p = c.write_unpaired.ensures in
-    rw p.order (record {
-      iteration = alone_continues c.steps.invariant.iteration c.in-BetweenGroups.is c.in-First.ensures
-          p.wrote c.in_ok-write_unpaired-in-First.ensures.advances;
-      order = c.steps.invariant.order;
-    })
+    rw p.order (assumption (alone_continues c.steps.invariant.iteration c.in-BetweenGroups.is c.in-First.ensures
+    p.wrote c.in_ok-write_unpaired-in-First.ensures.advances))
 
 pub steps-preserved-in-Continue-branch-3 : goal.steps-preserved-in-Continue-branch-3
 steps-preserved-in-Continue-branch-3 g c =
@@ -115,11 +116,8 @@ pub steps-preserved-else-not-has_same_key : goal.steps-preserved-else-not-has_sa
 steps-preserved-else-not-has_same_key g c =
     let p = c.read_group_line.ensures in
     let ok = c.in_ok-end-in-ReadGroup.ensures in
-    rw p.order (record {
-      iteration = read_group_continues c.steps.invariant.iteration c.in-ReadGroup.is p.written_out
-          ok.reads_line ok.continues (sym c.has_same_key.ensures ∙ c.if-not-has_same_key.false);
-      order = c.steps.invariant.order;
-    })
+    rw p.order (assumption (read_group_continues c.steps.invariant.iteration c.in-ReadGroup.is p.written_out
+    ok.reads_line ok.continues (sym c.has_same_key.ensures ∙ c.if-not-has_same_key.false)))
 
 pub steps-smaller-else-not-has_same_key : goal.steps-smaller-else-not-has_same_key
 steps-smaller-else-not-has_same_key g c =

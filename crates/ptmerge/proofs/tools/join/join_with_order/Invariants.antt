@@ -1,6 +1,5 @@
 -- Between groups, the output is that of the processed lines. While a group is read or its pairs are written, the
--- entries of its key so far are written too, and the rest of them come next, for all lines that may follow. Each
--- iteration processes a line, or moves on to the next phase of the group.
+-- entries of its key so far are written too, and the rest of them come next, for all lines that may follow.
 use Rattle.ptmerge.proofs
 use proofs.Common.{◌≡◌, ◌+◌, ◌*◌, join_job, merge_state, both}
 use proofs.JoinLemmas.{IterationInvariant, rank}

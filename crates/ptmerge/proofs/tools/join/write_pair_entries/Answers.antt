@@ -1,9 +1,9 @@
--- Each iteration writes the output line of one line of the group. A write that fails leaves a prefix of the pairs.
+-- A write that fails leaves a prefix of the pairs.
 use Rattle.std.proofs.Common.{rules}
 use Rattle.ptmerge.proofs
 use proofs.Common.{◌++◌, [], ◌∷◌, List, ℕ, ap, arith, sym, map, join_job}
 use proofs.JoinLemmas.Fields.{each_fails, each_more}
-use proofs.JoinLemmas.Group.{pair_of, group_from, group_end}
+use proofs.JoinLemmas.Group.{pair_of, group_from}
 use Rattle.ptmerge.proofs.tools.join.write_pair_entries.Goals as goal
 
 pub returns-in_err-write_entry : goal.returns-in_err-write_entry
@@ -19,11 +19,11 @@ pub loop-slot-preserved : goal.loop-slot-preserved
 loop-slot-preserved g c = record {
   amid = each_more (λ (l : List ℕ). l ++ c.args.terminator ∷ [])
       (ap (map (pair_of (join_job c.args.job.now) c.args.key.now c.args.line.now))
-      (group_from c.args.store.now c.args.end c.loop-slot.slot c.requires.group.within c.loop-slot-test.true))
+      (group_from c.args.store.now _ _ c.requires.group.within c.loop-slot-test.true))
       c.loop-slot.invariant.amid
       (rw (sym c.line-other.ensures) c.write_entry.ensures.wrote) c.in_ok-write_entry.ensures.clean;
   from = omega arith;
 }
 
 pub returns : goal.returns
-returns g c = search (rules, group_end)
+returns g c = search rules

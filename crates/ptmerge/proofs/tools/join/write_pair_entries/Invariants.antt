@@ -1,4 +1,4 @@
--- The pairs with the group's lines so far were written; those with the others are still to be written.
+-- The pairs with the group's lines so far were written.
 use Rattle.ptmerge.proofs
 use proofs.Common.{◌≤◌, [], ◌∷◌, map, join_job, unlines, group, pair_entries}
 use proofs.JoinLemmas.Fields.{PartialWrite}

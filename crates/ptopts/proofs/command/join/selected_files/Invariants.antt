@@ -1,4 +1,4 @@
--- The options so far have no fault, and name these files; the result depends on them and on the remaining options.
+-- The options so far have no fault, and name these files.
 use Rattle.ptopts.proofs.Common.{codes, drop, each_value_fault, is_file_number, names_file, options_view, ◌||◌, ◌≡◌}
 use Rattle.ptopts.proofs.command.join.selected_files.Given as goal
 

@@ -1,4 +1,3 @@
--- The inputs and names of the operands so far come before those of the remaining operands.
 use Rattle.ptopts.proofs.Common.{drop, file_names, order_from, vec_len, words_view, ◌++◌, ◌≡◌}
 use Rattle.ptopts.proofs.inputs.Inputs.of.Given as goal
 

@@ -1,8 +1,7 @@
--- The operands are the strings: `CharPlan::read` gives the plan, or the fault, that the definition gives for the
--- operands.
+-- The operands are the strings of the plan.
 use Rattle.ptopts.proofs
-use proofs.Common.{Bor, Err, List, None, Ok, Result, Some, [], arith, err_from_is_err_and, identity_plan, refl}
-use proofs.Common.{result_err, result_unwrap_or, slice_index_or, words_view, ℕ, ◌∷◌, ◌≡◌}
+use proofs.Common.{Bor, Err, List, None, Ok, Result, Some, [], arith, identity_plan, refl}
+use proofs.Common.{result_err, result_unwrap_or, slice_index_or, words_view, ℕ, ◌≡◌}
 use Rattle.ptlangs.specs.TrParsing.{ok_map}
 use Rattle.ptlangs.specs.TrPlan.{Plan}
 use Rattle.ptlangs.specs.TrTables.{Tables, tables}
@@ -13,7 +12,7 @@ use Rattle.ptopts.proofs.parsing.ParsedArgs.char_plan.Goals as goal
 first_word : (words : List (Bor (List ℕ))) (d : Bor (List ℕ)) → d.now ≡ []
     → (get_or words 0 d).now ≡ slice_index_or (words_view words) 0 []
 first_word [] d none = none
-first_word (w ∷ words) d none = refl
+first_word _ d none = refl
 
 read_plan : (p : Result Plan SetFault) (r : Result Tables SetFault) (t : Tables) → r ≡ ok_map tables p → r ≡ Ok t
     → (result_err p ≡ None) × (t ≡ tables (result_unwrap_or p identity_plan))
@@ -26,10 +25,10 @@ read_fault (Ok x) r e is read = cc
 read_fault (Err d) r e is read = cc
 
 pub returns-in_err-plan-clause-fault : goal.returns-in_err-plan-clause-fault
-returns-in_err-plan-clause-fault g c = grind (arith, err_from_is_err_and, first_word, read_fault)
+returns-in_err-plan-clause-fault g c = grind (arith, first_word, read_fault)
 
 pub returns-clause-fault : goal.returns-clause-fault
-returns-clause-fault g c = grind (arith, first_word, read_plan)
+returns-clause-fault g c = grind (arith, first_word)
 
 pub returns-clause-plan : goal.returns-clause-plan
-returns-clause-plan g c = grind (arith, first_word, read_plan)
+returns-clause-plan g c = grind (arith, first_word)

@@ -1,4 +1,4 @@
--- The constraints so far are met; so the first fault is that of the remaining ones.
+-- The constraints so far are met.
 use Rattle.ptopts.proofs.Common.{constraint_fault, constraints_fault, drop, first_some, map, options_of, ◌≡◌}
 use Rattle.ptopts.proofs.parsing.ParsedArgs.check_constraints.Given as goal
 

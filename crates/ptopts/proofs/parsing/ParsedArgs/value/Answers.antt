@@ -1,7 +1,6 @@
--- The first option with the letter is the one that the definition finds, if there is one.
 use Rattle.ptopts.proofs
 use proofs.Common.{Bor, List, YieldsList-from_slice, ap, find_from_yields_List, option_and_then, option_map, rules, sym}
-use proofs.Common.{tests, ℕ, ◌==◌, ◌∙◌}
+use proofs.Common.{ℕ, ◌==◌, ◌∙◌}
 use proofs.OptionViews.{value_of-view}
 use Rattle.ptopts.specs.declared.parsing.ParsedOption.{ParsedOption}
 use Rattle.ptopts.proofs.parsing.ParsedArgs.value.Goals as goal
@@ -10,17 +9,15 @@ pub returns-in_err-find : goal.returns-in_err-find
 returns-in_err-find g c =
     let all = c.args.self.now.options.items in
     let found = find_from_yields_List (λ (o : ParsedOption). o.letter == c.args.letter)
-    _ _ c.find.result c.find.ensures.ran (YieldsList-from_slice all cc) (λ x b q k. search (rules, tests)) in
-    let none = rw c.in_err-find.was at found in
+    _ _ c.find.result c.find.ensures.ran (YieldsList-from_slice all cc) (λ x b q k. search rules) in
     rw c.from_residual.ensures
-    (ap (option_and_then (λ (o : ParsedOption). option_map (λ (v : Bor (List ℕ)). v.now) o.value)) none
-    ∙ sym (value_of-view c.args.letter all))
+    (ap (option_and_then (λ (o : ParsedOption). option_map (λ (v : Bor (List ℕ)). v.now) o.value)) (rw c.in_err-find.was at found)
+    ∙ sym (value_of-view _ all))
 
 pub returns : goal.returns
 returns g c =
     let all = c.args.self.now.options.items in
     let found = find_from_yields_List (λ (o : ParsedOption). o.letter == c.args.letter)
-    _ _ c.find.result c.find.ensures.ran (YieldsList-from_slice all cc) (λ x b q k. search (rules, tests)) in
-    let some = rw c.in_ok-find.was at found in
-    ap (option_and_then (λ (o : ParsedOption). option_map (λ (v : Bor (List ℕ)). v.now) o.value)) some
-    ∙ sym (value_of-view c.args.letter all)
+    _ _ c.find.result c.find.ensures.ran (YieldsList-from_slice all cc) (λ x b q k. search rules) in
+    ap (option_and_then (λ (o : ParsedOption). option_map (λ (v : Bor (List ℕ)). v.now) o.value)) (rw c.in_ok-find.was at found)
+    ∙ sym (value_of-view _ all)

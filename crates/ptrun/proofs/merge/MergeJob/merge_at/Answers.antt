@@ -1,13 +1,11 @@
--- Two readers are lent from one list, split at the higher position. Either position may be the lower one, and both
--- cases are the same merge.
+-- Two readers are lent from one list, split at the higher position. Either one may be lower: it is the same merge.
 use Rattle.ptrun.proofs
-use proofs.Common.{arith, length, scaled_Fits, sym, ℕ, ◌<◌, ◌≡◌, ◌≤◌}
+use proofs.Common.{arith, scaled_Fits, sym, ℕ, ◌<◌, ◌≡◌, ◌≤◌}
 use proofs.JointRuns.{split_readers}
 use Rattle.ptrun.proofs.merge.MergeJob.merge_at.Goals as goal
 
--- the other position is the lower one
 below : (first second : ℕ) → second ≤ first → (first ≡ second → ⊥) → second < first
-below first second not_higher apart = omega (arith, not_higher, apart)
+below first second not_higher apart = omega (arith, apart)
 
 pub returns-then-first-second : goal.returns-then-first-second
 returns-then-first-second g c =
@@ -35,11 +33,8 @@ returns-else-first-second g c =
 
 pub offset_bounds-front-first : goal.offset_bounds-front-first
 offset_bounds-front-first g c =
-    let low : c.args.first < length c.split_at_mut-front.result.0.now = omega arith in
     search scaled_Fits
 
 pub offset_bounds-front-second : goal.offset_bounds-front-second
 offset_bounds-front-second g c =
-    let low : c.args.second < length c.split_at_mut-front-else-first-second.result.0.now =
-    omega (arith, below c.args.first c.args.second c.if-first-second.false c.requires.apart) in
     search scaled_Fits

@@ -5,4 +5,4 @@ pub returns : goal.returns
 returns g c = grind (arith, common_steps)
 
 pub offset_bounds-inputs-position : goal.offset_bounds-inputs-position
-offset_bounds-inputs-position g c = let low = c.requires.ready.within in search scaled_Fits
+offset_bounds-inputs-position g c = search scaled_Fits

@@ -3,7 +3,7 @@ use Rattle.ptrun.proofs.ToolRuns.{operand_passed}
 use Rattle.ptrun.proofs.tools.CutJobTool.run_on.Goals as goal
 
 pub returns : goal.returns
-returns g c = operand_passed c.requires.ready c.index-inputs-position.result c.cut.ensures c.completion_at.ensures
+returns g c = operand_passed c.requires.ready _ c.cut.ensures c.completion_at.ensures
 
 pub offset_bounds-inputs-position : goal.offset_bounds-inputs-position
-offset_bounds-inputs-position g c = let low = c.requires.ready.within in search scaled_Fits
+offset_bounds-inputs-position g c = search scaled_Fits

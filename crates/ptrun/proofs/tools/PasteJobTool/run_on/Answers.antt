@@ -1,7 +1,6 @@
--- In series, the pass over the reader of the only operand is that of the tool. In parallel each operand is a column, so
--- facts about columns are facts about operands.
+-- In series, the pass over the reader of the only operand is that of the tool. In parallel each operand is a column.
 use Rattle.ptrun.proofs
-use proofs.Common.{arith, common_steps, err_from_is_err_and, paste_job, scaled_Fits}
+use proofs.Common.{arith, err_from_is_err_and, paste_job, scaled_Fits}
 use proofs.JointRuns.{cells_ready, rows_post}
 use proofs.ToolRuns.{operand_passed}
 use Rattle.ptrun.proofs.tools.PasteJobTool.run_on.Goals as goal
@@ -13,7 +12,7 @@ offset_bounds-inputs-position g c =
 
 pub returns-then-self : goal.returns-then-self
 returns-then-self g c = rw c.if-self.true
-    (operand_passed (rw c.if-self.true at c.requires.ready) c.index-inputs-position.result c.paste_serial.ensures
+    (operand_passed (rw c.if-self.true at c.requires.ready) _ c.paste_serial.ensures
     c.completion_at.ensures)
 
 pub paste-requires : goal.paste-requires
@@ -32,7 +31,7 @@ returns g c = rw c.if-self.false
     c.paste.ensures))
 
 pub bounds-operands-0 : goal.bounds-operands-0
-bounds-operands-0 g c = grind (arith, common_steps)
+bounds-operands-0 g c = grind arith
 
 pub bounds-inputs-position : goal.bounds-inputs-position
-bounds-inputs-position g c = grind (arith, common_steps)
+bounds-inputs-position g c = grind arith

@@ -1,7 +1,7 @@
--- `uniq` accepts one operand only, so its pass over the reader of this operand is the pass over all operands.
+-- `uniq` accepts one operand only, so the pass over its reader is the pass over all operands.
 use Rattle.ptrun.proofs
 use proofs.Common.{arith, common_steps, scaled_Fits}
-use proofs.JointRuns.{only_operand_post, only_operand_ready, only_operand_within}
+use proofs.JointRuns.{only_operand_post, only_operand_within, opened}
 use Rattle.ptrun.proofs.tools.UniqJobTool.run_on.Goals as goal
 
 pub bounds-inputs-position : goal.bounds-inputs-position
@@ -14,7 +14,7 @@ offset_bounds-inputs-position g c =
 
 pub uniq-requires : goal.uniq-requires
 uniq-requires g c =
-    only_operand_ready c.requires.ready c.requires.ready.accepts_operands 0 c.index-inputs-position.result
+    grind (arith, common_steps, (opened c.requires.ready c.requires.ready.accepts_operands 0))
 
 pub returns : goal.returns
 returns g c =
@@ -23,4 +23,4 @@ returns g c =
     c.uniq.ensures)
 
 pub bounds-operands-0 : goal.bounds-operands-0
-bounds-operands-0 g c = grind (arith, common_steps)
+bounds-operands-0 g c = grind arith

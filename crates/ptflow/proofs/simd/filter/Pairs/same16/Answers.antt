@@ -8,5 +8,4 @@ returns c =
     let pairs = c.args.self in
     let before = chunk c.args.at 16 pairs.before.now in
     let bytes = chunk c.args.at 16 pairs.bytes.now in
-    let long = pairs_long eqb pairs.before.now pairs.bytes.now pairs.paired c.args.at c.requires in
-    cc (tops_compared w8 eqb before bytes, mask_l-mod (zip2 eqb before bytes) 64 (omega (arith, long)))
+    cc (tops_compared w8 eqb before bytes, mask_l-mod (zip2 eqb before bytes) 64 (omega (arith, (pairs_long eqb _ _ pairs.paired c.args.at c.requires))))

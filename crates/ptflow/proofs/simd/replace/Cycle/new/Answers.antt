@@ -11,15 +11,13 @@ invariant_of-result c =
         some = c.requires.0;
         few = c.requires.1;
         at = λ number low.
-            let less = mod-lt number c.requires.0 in
-            cc (at number (omega arith), at (number % len) (omega arith), mod-eq_of_lt less);
+            cc (at number (omega arith), at (number % len) (omega arith), mod-eq_of_lt (mod-lt number c.requires.0));
       };
     }
 
 pub returns-clause-bytes : goal.returns-clause-bytes
 returns-clause-bytes c = λ number.
-    let less = mod-lt number c.requires.0 in
     ap (λ x. x ∷ []) (cc (
       c.loop-number.invariant.at (number % length c.args.bytes.now) (omega arith),
-      mod-eq_of_lt less,
+      mod-eq_of_lt (mod-lt number c.requires.0),
     ))

@@ -1,4 +1,3 @@
--- The first entries of the unrolled cycle are set.
 use Rattle.ptflow.proofs
 use proofs.Common.{◌≡◌, ◌<◌, ◌%◌, ℕ, length, slice_index_or}
 use proofs.simd.replace.Cycle.new.Given as goal

@@ -1,4 +1,3 @@
--- Whole chunks come first, and then the bytes after them, one by one.
 use Rattle.ptflow.proofs
 use proofs.Common.{◌≡◌, ◌+◌, ◌%◌, ◌<◌, ℕ, [], ◌∷◌, refl, sym, ap, arith, length, length-set, slice_index_or, mod-lt}
 use proofs.Common.{mod-eq_of_lt, count_by, is_byte, take, ◌∙◌}

@@ -1,5 +1,4 @@
--- The terminators of a chunk are the bits of its mask, in order; each iteration replaces the lowest one by the next
--- byte of the cycle.
+-- Each iteration replaces the terminator of the lowest bit by the next byte of the cycle.
 use Rattle.ptflow.proofs
 use proofs.Common.{◌≡◌, ◌+◌, ◌<◌, arith, count_ones, chunk, count_by, count_by-le-length, length-chunk, ones-mask_l}
 use proofs.Common.{is_byte, refl}
@@ -16,18 +15,16 @@ pub loop-after-preserved : goal.loop-after-preserved
 loop-after-preserved c =
     let v = chunk c.args.at 64 c.args.from.now in
     let p = is_byte c.args.self.now.terminator in
-    let table = c.args.self.now.is_unrolled in
     let number = c.args.index + c.loop-after.after in
     let counted : count_ones c.match_mask-mask.result ≡ count_by p v = cc (ones-mask_l p v) in
     let low : number < c.args.self.now.len + 63 =
     omega (arith, count_by-le-length p v, length-chunk c.args.at 64 c.args.from.now c.requires.room) in
     replace_next c.loop-after.invariant c.match_mask-mask.ensures c.loop-after-test.true
-    c.loop-after.auto.mask-fits.fits (table.at number low) refl refl
+    c.loop-after.auto.mask-fits.fits (c.args.self.now.is_unrolled.at number low) refl refl
 
 pub returns-clause-next : goal.returns-clause-next
 returns-clause-next c =
-    let p = is_byte c.args.self.now.terminator in
-    cc (ones-mask_l p (chunk c.args.at 64 c.args.from.now))
+    cc (ones-mask_l (is_byte c.args.self.now.terminator) (chunk c.args.at 64 c.args.from.now))
 
 pub returns-clause-replaced : goal.returns-clause-replaced
 returns-clause-replaced c =

@@ -1,6 +1,6 @@
 use Rattle.ptflow.proofs
 use proofs.Common.{sym, eqb, splat_is_map}
-use proofs.Vectors.Lanes.{sel_maps, mask_right, map-id}
+use proofs.Vectors.Lanes.{sel_maps, tests_are, map-id}
 use proofs.simd.replace.ReplaceTerminatorByteMap.map16.Goals as goal
 
 pub returns : goal.returns
@@ -8,6 +8,7 @@ returns c =
     let v = c.args.v in
     let (long, _) = c.fits-v in
     let by = c.args.self in
-    sel_maps (λ b. eqb b by.terminator) (λ _. by.byte) (λ b. b) v (mask_right eqb v by.terminator long)
+    sel_maps _ _ _ v
+    (tests_are eqb (λ b. b) v by.terminator long (sym (map-id v)))
     (splat_is_map v 16 by.byte long)
     (sym (map-id v))

@@ -1,5 +1,5 @@
 use Rattle.ptflow.proofs
-use proofs.Common.{◌≡◌, ◌+◌, ◌%◌, length-set, take, take_all, arith, ap, ◌∙◌, stretch_delta}
+use proofs.Common.{common_steps, length-set, arith, ap, ◌∙◌, stretch_delta}
 use proofs.Vectors.Lanes.{one_stretch_more}
 use proofs.simd.shift.ShiftRanges.of.Goals as goal
 
@@ -14,10 +14,4 @@ loop-index-preserved g c =
     }
 
 pub returns : goal.returns
-returns g c = λ b byte.
-    let loop = c.loop-index in
-    let ranges = loop.ranges in
-    let ss = c.args.shifts.now in
-    let all : take loop.index ranges ≡ ranges = take_all loop.index ranges (omega arith) in
-    let every : take loop.index ss ≡ ss = take_all loop.index ss (omega arith) in
-    ap (λ sum. (b + sum) % 256) (cc (all, loop.invariant.added b byte))
+returns g c = λ b byte. grind (arith, common_steps, c.loop-index.invariant.added b byte)

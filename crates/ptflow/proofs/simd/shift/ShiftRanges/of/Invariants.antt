@@ -1,4 +1,4 @@
--- The ranges so far add to each byte what their stretches add; past the last stretch a range adds nothing.
+-- Past the last stretch a range adds nothing.
 use Rattle.ptflow.proofs
 use proofs.Common.{◌≡◌, ◌<◌, ℕ, length, take}
 use proofs.Vectors.Lanes.{range_sum, stretch_sum}

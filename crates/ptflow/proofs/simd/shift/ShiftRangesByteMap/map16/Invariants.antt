@@ -1,4 +1,3 @@
--- The shifts of the ranges so far were added.
 use Rattle.ptflow.proofs
 use proofs.Common.{◌≡◌, map, take, shift_by_ranges}
 use proofs.simd.shift.ShiftRangesByteMap.map16.Given as goal

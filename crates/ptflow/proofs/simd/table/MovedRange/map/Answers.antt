@@ -1,5 +1,5 @@
 use Rattle.ptflow.proofs
-use proofs.Common.{◌*◌, ◌+◌, ⊎_elim, arith, inl, inr, length-chunk, refl}
+use proofs.Common.{◌*◌, ◌+◌, arith, length-chunk, refl}
 use proofs.Vectors.Lanes.{filled_next, image_is}
 use proofs.simd.table.MovedRange.map.Goals as goal
 
@@ -10,6 +10,5 @@ loop-row-preserved g c = filled_next c.loop-row.invariant (omega arith) refl
 pub returns : goal.returns
 returns g c =
     let rows = c.loop-row.invariant in
-    image_is c.min-first.result g.row.N c.loop-row.rows (omega arith) rows.long rows.lanes c.args.images.now
-    (λ i few. rows.made i (omega (arith, few))) (omega arith) (λ b byte out. c.requires.moved.others b byte
-    (⊎_elim (λ low. inl (omega arith)) (λ high. inr (omega arith)) out))
+    image_is c.min-first.result g.row.N c.loop-row.rows (omega arith) rows.long rows.lanes c.requires.moved
+    (omega arith) (omega arith) (λ i few. rows.made i (omega (arith, few))) (omega arith)

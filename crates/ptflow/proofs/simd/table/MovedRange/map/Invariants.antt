@@ -1,4 +1,3 @@
--- The rows so far were taken from the table.
 use Rattle.ptflow.proofs
 use proofs.Common.{◌*◌, ◌+◌, chunk}
 use proofs.Vectors.Lanes.{IsFilledTo}

@@ -1,6 +1,6 @@
 use Rattle.ptflow.proofs
 use proofs.Common.{◌/◌, ◌^◌, ◌+◌, ◌-◌, ◌%◌, ltb, zip2_of_maps, zip2_splat, splat_is_map}
-use proofs.Vectors.Lanes.{tests_are, images_of, offset}
+use proofs.Vectors.Lanes.{tests_are, images_of}
 use proofs.simd.table.TableMapByteMap.map16.Goals as goal
 
 pub returns : goal.returns
@@ -10,9 +10,8 @@ returns g c =
     let (long, fit) = c.fits-v in
     let first = self.first in
     let n = g.row.N in
-    let by = offset first n self.rows self.within self.size self.lanes in
     let offsets = zip2_splat (λ a b. (a + (256 - b)) % 256) v 16 first long in
-    let rows = zip2_of_maps (λ a b. a / 2 ^ b) by (λ _. 4) v offsets (splat_is_map v 16 4 long) in
+    let rows = zip2_of_maps (λ a b. a / 2 ^ b) _ _ v offsets (splat_is_map v 16 4 long) in
     images_of first n self.rows self.within self.size self.lanes v long fit _ _ offsets rows
     c.look_up_rows.ensures.found c.select_rows-found.ensures.lanes c.select_rows-found.ensures.selected
-    (tests_are ltb (λ b. by b / 16) v n long rows)
+    (tests_are ltb _ v n long rows)

@@ -1,26 +1,27 @@
--- Each iteration copies the next slice. The copied bytes are not longer than the line, so there is room for the rest.
+-- The copied bytes are not longer than the line, so there is room for the rest.
 use Rattle.ptflow.proofs
-use proofs.Common.{◌≡◌, ◌+◌, ◌-◌, ◌≤◌, ◌++◌, length, take, drop, refl, ◌∙◌, ap, arith, append_assoc, length-take-le}
-use proofs.Common.{length-drop, is_selected, cut_job, cut_fields, output_from_cursor}
-use proofs.CutLemmas.Fields.{cursor_starts, selected_remaining, output_is_short, output_is_near, slice_of}
+use proofs.Common.{◌+◌, ◌-◌, ◌≤◌, ◌++◌, take, drop, refl, ◌∙◌, ap, arith, length-take-le}
+use proofs.Common.{length-drop, is_selected, cut_job, cut_fields, output_from_cursor, common_steps, take-take}
+use proofs.CutLemmas.Fields.{selected_remaining, output_is_short, output_is_near, offset_start}
 use Rattle.ptflow.proofs.tools.cut.fields.copy_fields.Given as given
 use Rattle.ptflow.proofs.tools.cut.fields.copy_fields.Goals as goal
 use Rattle.ptflow.proofs.tools.cut.fields.copy_fields.Goals.{In-Some}
+use proofs.CutLemmas.CutBytes.{rest_of}
 
 pub slices-init : goal.slices-init
 slices-init g c =
     let line = take c.args.to c.args.delimiters.now.bytes.now in
     let of = c.new-cursor.ensures in
-    let kept = ap is_selected (of.left ∙ c.intervals.ensures.kept) in record {
+    record {
       copied = ap (◌++◌ (take c.args.start c.args.room.now))
-          (selected_remaining c.new-cursor.result of.passed (cut_job c.args.job.now) line c.requires.delimiter kept);
-      cursor = cursor_starts c.new-cursor.result of.passed _ line of.at (rw of.left c.intervals.ensures.separated);
+          (selected_remaining c.new-cursor.result of.passed (cut_job c.args.job.now) line c.requires.delimiter
+          (ap is_selected (of.left ∙ c.intervals.ensures.kept)));
+      cursor = grind (arith, offset_start);
       low = omega arith;
       high = omega arith;
       long = refl;
     }
 
--- the next slice ends within the room for the line
 slice_near : (g : given.Over) (c : In-Some g)
     → c.slices.end + (c.in-Some.last - c.in-Some.first) ≤ c.args.start + c.args.to
 slice_near g c =
@@ -30,13 +31,13 @@ slice_near g c =
     let next = c.in-Some.ensures in
     let loop = c.slices in
     let part = take (c.in-Some.last - first) (drop first line) in
-    let long : length line ≡ c.args.to = length-take-le c.args.to c.args.delimiters.now.bytes.now (omega arith) in
-    let size : length part ≡ c.in-Some.last - first = length-take-le (c.in-Some.last - first) (drop first line)
+    let long = length-take-le c.args.to c.args.delimiters.now.bytes.now (omega arith) in
+    let size = length-take-le (c.in-Some.last - first) (drop first line)
     (omega (arith, length-drop first line)) in
     let rest = output_from_cursor c.args.delimiters.now.byte line c.next_slice.new.self in
     let near = output_is_near c.args.start loop.end c.args.room.now loop.room (cut_fields job line) part rest
-    (cc (loop.invariant.copied, next.output)) (omega arith) (omega arith) in
-    omega (arith, long, size, near, output_is_short job line)
+    (cc next.output) (omega arith) (omega arith) in
+    omega (arith, size, near, output_is_short job line)
 
 pub slices-preserved : goal.slices-preserved
 slices-preserved g c =
@@ -46,15 +47,11 @@ slices-preserved g c =
     let next = c.in-Some.ensures in
     let loop = c.slices in
     let size = c.in-Some.last - first in
-    let long : length (take to bytes) ≡ to = length-take-le to bytes (omega arith) in
-    let within : first + size ≤ to = omega (arith, long) in
+    let long = length-take-le to bytes (omega arith) in
     let rest = output_from_cursor c.args.delimiters.now.byte (take to bytes) c.next_slice.new.self in
     record {
       copied =
-          cc (
-            slice_of first size bytes within,
-            append_assoc (take loop.end loop.room) (take size (drop first bytes)) rest,
-          );
+          grind (arith, common_steps, rest_of, take-take);
       cursor = next.moved;
       low = omega arith;
       high = slice_near g (goal.at.slices-preserved g c).In-Some;

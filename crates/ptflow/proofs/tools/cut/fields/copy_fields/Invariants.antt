@@ -1,4 +1,3 @@
--- The copied bytes, and then the output that is left, are the selected fields of the line.
 use Rattle.ptflow.proofs
 use proofs.Common.{◌≡◌, ◌+◌, ◌≤◌, ◌++◌, length, take, cut_job, cut_fields, IsFieldCursor, output_from_cursor}
 use proofs.tools.cut.fields.copy_fields.Given as goal

@@ -1,21 +1,16 @@
--- For a line with the delimiter its fields are copied. Adjacent lines without it are copied at once, or skipped.
+-- Adjacent lines without the delimiter are copied at once, or skipped.
 use Rattle.ptflow.proofs
-use proofs.Common.{◌≡◌, ◌-◌, Some, take, arith, cut_job, cut_fields}
-use proofs.CutLemmas.Fields.{found, of_fields, puts_line, puts_kept, puts_dropped, free_before, first_within}
+use proofs.Common.{◌≡◌, ◌-◌, arith, cut_job, common_steps}
+use proofs.CutLemmas.Fields.{puts_kept, puts_dropped, free_before}
 use proofs.tools.cut.fields.copy_lines.Goals as goal
+use proofs.Passes.Exits.{ended_next}
 
 pub returns-then-first-to-clause-put : goal.returns-then-first-to-clause-put
 returns-then-first-to-clause-put g c =
-    let job = cut_job c.args.by.now.job.now in
     let d = c.args.by.now.job.now.delim in
     let bytes = c.args.bytes.now in
-    let line = take c.args.to bytes in
     let of = c.new-delimiters.ensures in
-    let first = first_within d bytes _ c.args.to (rw (of.byte, of.bytes) at c.first.ensures) (omega arith)
-    (omega arith) in
-    puts_line job c.args.by.now.by_fields c.args.by.now.ends bytes c.args.to c.requires.first (cut_fields job line)
-    (of_fields job c.args.by.now.by_fields line (found d line (Some _) first))
-    (rw of.bytes at c.copy_fields.ensures.put)
+    (grind (arith, common_steps, ended_next))
 
 pub returns-then-job-clause-put : goal.returns-then-job-clause-put
 returns-then-job-clause-put g c =
@@ -36,7 +31,6 @@ returns-clause-put g c =
     let free = rw (← c.unwrap_or-first.ensures)
     at (free_before _ bytes c.first.result (rw (of.byte, of.bytes) at c.first.ensures)) in
     let whole : size.result - 0 ≡ size.result = omega arith in
-    let copied = rw whole at c.copy_short.ensures.copied in
     puts_kept (cut_job c.args.by.now.job.now) c.args.by.now.by_fields c.args.by.now.ends bytes _ c.requires.first
     size.ensures.within.0 size.ensures.within.1 size.ensures.eof
-    size.ensures.up_to c.if-first-to.false free c.if-job.false copied
+    size.ensures.up_to c.if-first-to.false free c.if-job.false (rw whole at c.copy_short.ensures.copied)

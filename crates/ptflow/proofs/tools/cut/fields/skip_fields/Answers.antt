@@ -7,27 +7,24 @@ use proofs.tools.cut.fields.skip_fields.Goals as goal
 
 pub returns-then-count-eq0-clause-offset : goal.returns-then-count-eq0-clause-offset
 returns-then-count-eq0-clause-offset c =
-    let d = c.args.delimiters.now in
     let none : c.args.from - c.args.from ≡ 0 = omega arith in
-    rw (none, c.if-count-eq0.true) (offset_start d.byte (drop c.args.from (take c.args.to d.bytes.now)))
+    rw (none, c.if-count-eq0.true) (offset_start _ _)
 
 pub returns-in-Some-clause-offset : goal.returns-in-Some-clause-offset
 returns-in-Some-clause-offset c =
-    let d = c.args.delimiters.now in
     let passed : c.args.from + c.in-Some.at + 1 - c.args.from ≡ c.in-Some.at + 1 = omega arith in
-    rw passed (offset_after_nth d.byte (drop c.args.from (take c.args.to d.bytes.now)) _ (omega arith)
-    (rw (← (rest_of c.args.from c.args.to d.bytes.now)) at c.in-Some.ensures))
+    rw passed (offset_after_nth _ _ _ (omega arith)
+    (rw (← (rest_of _ _ _)) at c.in-Some.ensures))
 
 pub returns-in-None-clause-offset : goal.returns-in-None-clause-offset
 returns-in-None-clause-offset c =
     let d = c.args.delimiters.now in
-    let line = drop c.args.from (take c.args.to d.bytes.now) in
-    let few = rw (← (rest_of c.args.from c.args.to d.bytes.now)) at c.in-None.ensures in
-    let long : c.args.to + 1 - c.args.from ≡ length line + 1 =
+    let few = rw (← (rest_of _ _ _)) at c.in-None.ensures in
+    let long : c.args.to + 1 - c.args.from ≡ length (drop c.args.from (take c.args.to d.bytes.now)) + 1 =
     omega (
       arith,
       length-drop c.args.from (take c.args.to d.bytes.now),
       length-take-le c.args.to d.bytes.now
           c.requires.1,
     ) in
-    rw long (offset_end d.byte line (omega (arith, few)))
+    rw long (offset_end _ _ (omega arith))

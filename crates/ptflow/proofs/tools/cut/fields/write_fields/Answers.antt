@@ -1,9 +1,9 @@
--- Each iteration pushes the next slice. A push may fail: then the pushed bytes are a prefix of the selected fields.
+-- If the push of a slice fails, the pushed bytes are a prefix of the selected fields.
 use Rattle.ptflow.proofs
 use proofs.Common.{◌≡◌, ◌-◌, ◌++◌, take, drop, length, ◌∙◌, ap, arith, take_all, is_selected, cut_job}
 use proofs.Common.{output_from_cursor}
 use proofs.Passes.Exits.{prefix_starts, front_more, front_fails}
-use proofs.CutLemmas.Fields.{cursor_starts, selected_remaining}
+use proofs.CutLemmas.Fields.{selected_remaining, offset_start}
 use Rattle.ptflow.proofs.tools.cut.fields.write_fields.Given as given
 use Rattle.ptflow.proofs.tools.cut.fields.write_fields.Goals as goal
 use Rattle.ptflow.proofs.tools.cut.fields.write_fields.Goals.{In-Some}
@@ -13,14 +13,13 @@ slices-init g c =
     let line = c.args.delimiters.now.bytes.now in
     let of = c.new-cursor.ensures in
     let kept = ap is_selected (of.left ∙ c.intervals.ensures.kept) in
-    let all : take (length line) line ≡ line = take_all (length line) line (omega arith) in record {
+    let all = take_all (length line) line (omega arith) in record {
       front = prefix_starts (rw all
           (selected_remaining c.new-cursor.result of.passed (cut_job c.args.job.now) line c.requires kept));
-      cursor = cursor_starts c.new-cursor.result of.passed _ _ of.at (rw of.left c.intervals.ensures.separated);
+      cursor = grind (arith, offset_start);
       clean = λ clean. clean;
     }
 
--- the output that is left is the next slice, and then the rest
 next : (g : given.Over) (c : In-Some g) → let line = c.args.delimiters.now.bytes.now in
     output_from_cursor c.args.delimiters.now.byte (take (length line) line) c.slices.cursor
     ≡ take (c.in-Some.end - c.in-Some.start) (drop c.in-Some.start line)

@@ -1,4 +1,3 @@
--- The pushed bytes, and then the output that is left, are the selected fields of the line.
 use Rattle.ptflow.proofs
 use proofs.Common.{◌≡◌, false, length, take, cut_job, cut_fields, IsFieldCursor, output_from_cursor}
 use proofs.Passes.Exits.{WrittenPrefix}

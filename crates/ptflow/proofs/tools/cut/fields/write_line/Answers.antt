@@ -1,15 +1,13 @@
--- The output of a line that contains the delimiter is its selected fields; that of any other line is the line itself,
--- or nothing with `-s`. The terminator follows.
+-- The output of a line with the delimiter is its selected fields; any other line is unchanged, or dropped with `-s`.
 use Rattle.ptflow.proofs
-use proofs.Common.{◌≡◌, [], ◌∷◌, push_nothing, push_past_failure, sym, ◌∙◌, cut_job, cut_fields, list_any}
+use proofs.Common.{◌≡◌, push_nothing, push_past_failure, sym, ◌∙◌, cut_job, cut_fields, list_any, arith}
 use proofs.Common.{is_field_delimiter}
 use proofs.Passes.Exits.{wrote_then}
-use proofs.CutLemmas.Fields.{found, of_fields, of_line, of_none, line_written, line_dropped}
+use proofs.CutLemmas.Fields.{found, of_line, of_none, line_written, line_dropped}
 use Rattle.ptflow.proofs.tools.cut.fields.write_line.Given as given
 use Rattle.ptflow.proofs.tools.cut.fields.write_line.Goals as goal
 use Rattle.ptflow.proofs.tools.cut.fields.write_line.Goals.{After-is_some}
 
--- the delimiter is in the line, by a search
 has : (g : given.Over) (c : After-is_some g) → list_any (is_field_delimiter (cut_job c.args.by.now.job.now))
     c.args.line.now ≡ c.is_some.result
 has g c =
@@ -21,8 +19,8 @@ returns-in_err-write_fields-clause-wrote g c =
     let job = cut_job c.args.by.now.job.now in
     let line = c.args.line.now in
     let some = has g (goal.at.returns-in_err-write_fields-clause-wrote g c).After-is_some ∙ c.if-is_some.true in
-    rw (line_written job line (cut_fields job line) (of_fields job c.args.by.now.by_fields line some))
-    (push_past_failure _ _ _ (job.terminator ∷ []) c.in_err-write_fields.ensures.fault
+    rw (line_written job line (cut_fields job line) (grind arith))
+    (push_past_failure _ _ _ _ c.in_err-write_fields.ensures.fault
     (rw c.new-delimiters.ensures.bytes at c.in_err-write_fields.ensures.wrote))
 
 pub returns-then-by-clause-wrote : goal.returns-then-by-clause-wrote
@@ -30,14 +28,14 @@ returns-then-by-clause-wrote g c =
     let job = cut_job c.args.by.now.job.now in
     let none = has g (goal.at.returns-then-by-clause-wrote g c).After-is_some ∙ c.if-is_some.false in
     rw (line_dropped job c.args.line.now (of_none job c.args.by.now.by_fields c.args.line.now none c.if-by.true))
-    (push_nothing c.args.out.now)
+    (push_nothing _)
 
 pub returns-then-is_some-clause-wrote : goal.returns-then-is_some-clause-wrote
 returns-then-is_some-clause-wrote g c =
     let job = cut_job c.args.by.now.job.now in
     let line = c.args.line.now in
     let some = has g (goal.at.returns-then-is_some-clause-wrote g c).After-is_some ∙ c.if-is_some.true in
-    rw (line_written job line (cut_fields job line) (of_fields job c.args.by.now.by_fields line some))
+    rw (line_written job line (cut_fields job line) (grind arith))
     (wrote_then _ _ _ (rw c.new-delimiters.ensures.bytes at c.in_ok-write_fields.ensures.wrote)
     (rw c.args.by.now.ends at c.push.ensures.pushed.wrote))
 

@@ -1,9 +1,9 @@
--- Each step copies the field of one more column and the byte after it. It ends at a field that cannot be copied, and
--- then nothing was consumed.
+-- A field that cannot be copied ends the loop, and nothing of it was consumed.
 use Rattle.ptflow.proofs
 use proofs.Common.{◌≡◌, take, take_more_set, length, set, get_or, arith, set-get_or, mod-add-mod, rules}
+use proofs.Common.{eq-eqb, ne_eqb, refl}
 use borrow.Author.Rules.{scaled_Fits}
-use proofs.PasteLemmas.BufferedRows.{columns_start, columns_more, after_last, after_other}
+use proofs.PasteLemmas.BufferedRows.{columns_start, columns_more}
 use Rattle.ptflow.proofs.tools.paste.buffered_rows.copy_columns.Goals as goal
 
 pub cells-init : goal.cells-init
@@ -22,7 +22,7 @@ cells-preserved g c =
     record {
       copied = columns_more inv.copied c.requires.readable c.cells-test.true _ _ c.in-Some.ensures.was_sound _ _
           c.in-Some.ensures.cell c.copy_option.ensures.copied
-          (after_other _ c.cells.begun.0 _ c.if-begun-row.false inv.at);
+          (rw (ne_eqb _ _ c.if-begun-row.false, inv.at) refl);
       within = omega arith;
       grows = omega (arith, c.in-Some.ensures.size_bound);
       size_bound = omega (arith, c.in-Some.ensures.size_bound);
@@ -43,5 +43,5 @@ pub returns-then-begun-row-clause-cells : goal.returns-then-begun-row-clause-cel
 returns-then-begun-row-clause-cells g c =
     columns_more c.cells.invariant.copied c.requires.readable c.cells-test.true _ _ c.in-Some.ensures.was_sound _
     (take c.in-Some.end c.copy_cell.new.into) c.in-Some.ensures.cell
-    (take_more_set c.copy_cell.new.into c.in-Some.end c.args.row.terminator (omega arith))
-    (after_last _ c.cells.begun.0 c.if-begun-row.true)
+    (take_more_set _ _ _ (omega arith))
+    (rw (eq-eqb _ _ c.if-begun-row.true) refl)

@@ -1,5 +1,4 @@
--- The columns so far were copied, each with the byte after it. In the loop `begun` is a tuple: the number of columns,
--- the end of their copy, and whether one of them has a line.
+-- In the loop `begun` is a tuple: the number of copied columns, the end of their copy, and whether one has a line.
 use Rattle.ptflow.proofs.Common.{◌≡◌, ◌≤◌, ◌%◌, ◌-◌, length, take, CopyColumnsPost, begun_in, shape_of}
 use Rattle.ptflow.proofs.tools.paste.buffered_rows.copy_columns.Given as goal
 

@@ -1,7 +1,8 @@
-use Rattle.ptflow.proofs.Common.{◌-◌, arith, chunk, length-chunk, rules}
+use Rattle.ptflow.proofs.Common.{◌-◌, arith, rules, common_steps}
 use Rattle.ptlines.proofs.CopyFacts.{copied_prefix}
-use Rattle.ptflow.proofs.PasteLemmas.BufferedRows.{vector_stored}
 use Rattle.ptflow.proofs.tools.paste.buffered_rows.copy_line_in.Goals as goal
+use Rattle.ptflow.proofs.Common.{take-append-add, take_more_put_chunk}
+use borrow.Rule.Slice.PartMut.{mid_of}
 
 pub returns-clause-line : goal.returns-clause-line
 returns-clause-line g c =
@@ -10,11 +11,11 @@ returns-clause-line g c =
     let was = c.args.into.now in
     let bytes = c.buffered-bytes.result.now in
     let first = c.in_ok-count.ensures in
+    let mid = mid_of at (8208 - at) was in
     record {
       at = c.in_ok-count.count;
       found = search rules;
       consumed = c.consume.ensures.consumed;
-      is = rw (← c.buffered-bytes.ensures.buffered) (copied_prefix at c.in_ok-count.count n was _ bytes (omega arith)
-          (omega arith) (vector_stored at (8208 - at) n was (chunk 0 n bytes) (length-chunk 0 n bytes (omega arith))
-          (omega arith) (omega arith)));
+      is = rw (← c.buffered-bytes.ensures.buffered) (copied_prefix at _ n was _ _ (omega arith)
+          (omega arith) (grind (arith, common_steps, take-append-add, take_more_put_chunk)));
     }

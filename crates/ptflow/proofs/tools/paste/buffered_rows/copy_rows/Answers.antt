@@ -1,9 +1,10 @@
--- Each step copies one more row. The loop ends at a row that is not complete.
+-- The loop ends at a row that is not complete, or has no line.
 use Rattle.std.proofs.Math.Bool.{not-not}
 use Rattle.ptflow.proofs
-use proofs.Common.{◌≡◌, ◌∙◌, ap, not, [], sym, arith, rules, length, common_steps, cells_text}
-use proofs.PasteLemmas.Rows.{fill_starts, rows_taken_none, rows_taken_trans, row_taken}
-use proofs.PasteLemmas.BufferedRows.{consumed_none, consumed_trans, still_readable, prefix_is_kept}
+use proofs.Common.{◌≡◌, take, take-take, take-append-le, length-take-le, ◌∙◌, ap, not, [], sym, arith, rules, length}
+use proofs.Common.{common_steps}
+use proofs.PasteLemmas.BufferedRows.{fill_starts, rows_taken_none, rows_taken_trans, row_taken}
+use proofs.PasteLemmas.BufferedRows.{consumed_none, consumed_trans, still_readable}
 use Rattle.ptflow.proofs.tools.paste.buffered_rows.copy_rows.Goals as goal
 
 pub rows-init : goal.rows-init
@@ -16,8 +17,14 @@ copy_columns-begun-requires-clause-readable g c = still_readable
 pub returns-then-begun-row-clause-rows : goal.returns-then-begun-row-clause-rows
 returns-then-begun-row-clause-rows g c =
     let p = c.copy_columns-begun.ensures.cells in
-    let kept = prefix_is_kept c.rows.end c.copy_columns-begun.result.end c.copy_columns-begun.new.into c.rows.into
-    (cells_text _ 0 p.fields) c.copy_columns-begun.ensures.within.1 (omega arith) p.is in
+    let at = c.rows.end in
+    let now = c.copy_columns-begun.new.into in
+    let old = c.rows.into in
+    -- The bytes before the copy do not change.
+    let kept =
+    sym (take-take at _ now c.copy_columns-begun.ensures.within.1) ∙ ap (take at) p.is
+    ∙ take-append-le at (take at old) _ (omega (arith, length-take-le at old (omega arith)))
+    ∙ take-take at at old (omega arith) in
     record {
       mid = c.rows.readers;
       rows = rw kept c.rows.invariant.rows;

@@ -1,4 +1,4 @@
--- Rows were copied up to `end`, and their lines were consumed. Each row takes a line.
+-- Each row takes a line, so the budget decreases.
 use Rattle.ptflow.proofs.Common.{◌≡◌, ◌≤◌, length, take, sum_by, budget, AreConsumed, RowsTaken, shape_of}
 use Rattle.ptflow.proofs.tools.paste.buffered_rows.copy_rows.Given as goal
 

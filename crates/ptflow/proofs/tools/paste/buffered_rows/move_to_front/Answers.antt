@@ -10,7 +10,7 @@ moved at to bytes further fits =
     let split : at + (to - at) ≡ to = omega arith in
     cc (
       take-paste bytes 0 (drop at bytes) (to - at) (omega arith) (omega (arith, length-drop at bytes)),
-      drop-take at (to - at) bytes,
+      drop-take at _ _,
     )
 
 pub returns : goal.returns

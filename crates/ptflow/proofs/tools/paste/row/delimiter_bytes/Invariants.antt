@@ -1,4 +1,3 @@
--- The bytes of the delimiters so far.
 use Rattle.ptflow.proofs.Common.{◌≡◌, ◌<◌, ℕ, [], ◌∷◌, length, slice_index_or, delimiter}
 use Rattle.ptflow.proofs.tools.paste.row.delimiter_bytes.Given as goal
 

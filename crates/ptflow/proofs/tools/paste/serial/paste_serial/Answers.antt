@@ -1,5 +1,4 @@
--- `SerialPaste` is a block filter for `paste -s`: at the start of a row the rest of the row is the whole output, and
--- the delimiters and the terminator do not change from block to block.
+-- `SerialPaste` is a block filter: at the start of a row the rest of the row is the whole output.
 use Rattle.ptflow.proofs
 use proofs.Common.{◌≡◌, [], refl, paste_job, paste_serial_tool, row_rest, rules}
 use proofs.Passes.Exits.{pass_unchanged, pass_set, ready_set}
@@ -7,7 +6,7 @@ use proofs.PasteLemmas.Replaced.{serial_is_decided}
 use Rattle.ptflow.proofs.tools.paste.serial.paste_serial.Goals as goal
 
 pub returns-then-has_failed : goal.returns-then-has_failed
-returns-then-has_failed g c = pass_unchanged (paste_serial_tool (paste_job c.args.job.now)) _ _ _ c.requires (cc)
+returns-then-has_failed g c = pass_unchanged _ _ _ _ c.requires (cc)
 
 pub returns : goal.returns
 returns g c =
@@ -18,9 +17,9 @@ returns g c =
     (record {
       text = λ bytes i. row_rest (end i) (delims i) 0 bytes;
       decided = λ given pushed now same on.
-          serial_is_decided (paste_job c.args.job.now) _ now.format end delims same given pushed now.cell (on []);
+          serial_is_decided (paste_job c.args.job.now) _ _ end delims same _ _ _ (on []);
       holds = refl;
       slots = refl;
     })
-    c.args._store.now (ready_set c.args.reader.now c.requires c.set_ending.ensures.set))
+    c.args._store.now (ready_set _ c.requires c.set_ending.ensures.set))
     c.set_ending.ensures.set (search rules) (cc)

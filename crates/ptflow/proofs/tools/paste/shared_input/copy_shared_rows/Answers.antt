@@ -1,10 +1,10 @@
--- The buffer up to `rows_end` has a multiple of the row's number of terminators and ends with one, so it is complete
--- rows; and the copy up to there depends only on these bytes.
+-- Up to `rows_end` the buffer has a multiple of a row's number of terminators and ends with one, so it is complete
+-- rows.
 use Rattle.ptflow.proofs
-use proofs.Common.{◌≡◌, ◌+◌, ◌/◌, ◌-◌, length, take, ap, ◌∙◌, arith, get_or-take, take-append-le, length-take-le}
-use proofs.Common.{count_by, is_byte, rules}
+use proofs.Common.{◌+◌, ◌/◌, ◌-◌, length, take, ap, ◌∙◌, arith, get_or-take, take-append-le, length-take-le}
+use proofs.Common.{count_by, is_byte}
 use proofs.PasteLemmas.BufferedRows.{whole_rows_counted}
-use proofs.PasteLemmas.Replaced.{length-replaced, take-replaced}
+use proofs.PasteLemmas.Replaced.{take-replaced}
 use Rattle.ptflow.proofs.tools.paste.shared_input.copy_shared_rows.Goals as goal
 
 pub returns-clause-rows : goal.returns-clause-rows
@@ -28,7 +28,6 @@ returns-clause-copied g c =
     let bytes = c.buffered-bytes.result.now in
     let at = c.rows_end.result in
     let made = c.replace-extra in
-    let long : length made.new.to ≡ length bytes = search (rules, length-replaced) in
     rw (← c.buffered-bytes.ensures.buffered)
     (take-append-le at made.new.to _ (omega arith)
-    ∙ ap (take at) made.ensures.replaced ∙ take-replaced _ _ at 0 bytes c.rows_end.ensures.within)
+    ∙ ap (take at) made.ensures.replaced ∙ take-replaced _ _ at 0 _ c.rows_end.ensures.within)

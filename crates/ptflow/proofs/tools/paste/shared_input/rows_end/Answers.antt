@@ -1,18 +1,17 @@
--- Each search moves back to the last terminator before `at`; or there is none.
+-- Each search moves back to the last terminator before `at`.
 use Rattle.ptflow.proofs
 use proofs.Common.{◌≡◌, ℕ, zero, suc, ◌+◌, ◌-◌, ◌<◌, ◌≤◌, Bool, true, List, length, take, get_or, sym, ◌∙◌, ap, arith}
 use proofs.Common.{get_or-take, count_by, false_from_ne_true, length-take-le, take_all, take-take, count_by_more_no}
 use proofs.Common.{count_by_more_yes, eqb-true, is_byte}
 use Rattle.ptflow.proofs.tools.paste.shared_input.rows_end.Goals as goal
 
--- None of the last n items passes.
 none_after : (test : ℕ → Bool) (xs : List ℕ) (from n : ℕ) → from + n ≡ length xs
     → ((k : ℕ) → from ≤ k → k < length xs → test (get_or xs k 0) ≡ true → ⊥)
     → count_by test xs ≡ count_by test (take from xs)
 none_after test xs from zero all none = ap (count_by test) (sym (take_all from xs (omega arith)))
 none_after test xs from (suc n) all none =
-    none_after test xs (from + 1) n (omega arith) (λ k over. none k (omega arith))
-    ∙ count_by_more_no test xs from 0 (omega arith)
+    none_after _ xs (from + 1) n (omega arith) (λ k over. none k (omega arith))
+    ∙ count_by_more_no _ xs _ 0 (omega arith)
     (false_from_ne_true _ (none from (omega arith) (omega arith)))
 
 pub returns-in-None-clause-counted : goal.returns-in-None-clause-counted
@@ -27,9 +26,8 @@ loop-found-preserved c =
     let at = c.loop-found.at in
     let last = c.in-Some.last in
     let searched = take at bytes in
-    let inv = c.loop-found.invariant in
     let (highest, passes) = c.in-Some.ensures in
-    let low : last < at = omega (arith, length-take-le at bytes inv.within) in
+    let low : last < at = omega (arith, length-take-le at bytes c.loop-found.invariant.within) in
     record {
       counted = omega (
         arith,

@@ -1,4 +1,4 @@
--- As many terminators as were found are at or after the offset `at`, and one is there if any was found.
+-- `_found` terminators are at or after the offset `at`, and if there are any, one is at `at`.
 use Rattle.ptflow.proofs.Common.{◌≡◌, ◌+◌, ◌<◌, ◌≤◌, get_or, length, take, count_by, is_byte}
 use Rattle.ptflow.proofs.tools.paste.shared_input.rows_end.Given as goal
 

@@ -1,4 +1,4 @@
--- The bytes of the cycle are the delimiters between the columns, and the terminator.
+-- The cycle has the delimiters between the columns, then the terminator.
 use Rattle.ptflow.proofs
 use proofs.Common.{nat_tests, ◌≡◌, ◌<◌, [], ◌∷◌, length, get_or, sym, ◌∙◌, ap, arith, All-from_get_or, length-append}
 use proofs.Common.{get_or_append_left, get_or_push, mod-eq_of_lt, eqb-false, shape_of}
@@ -10,9 +10,8 @@ returns c =
     let n = length row.cells in
     let some : 0 < n = omega (arith, eqb-false n 0 (sym c.if-is_empty.ensures)) in
     let list = c.in_ok-bytes.ensures in
-    let items = c.deref.ensures.0 ∙ c.push.ensures.items in
     let long : length c.deref.result.now ≡ n =
-    omega (arith, ap length items, length-append c.in_ok-bytes.bytes.items (row.terminator ∷ [])) in
+    omega (arith, ap length (c.deref.ensures.0 ∙ c.push.ensures.items), length-append c.in_ok-bytes.bytes.items (row.terminator ∷ [])) in
     record {
       some = some;
       same = All-from_get_or (λ p. p ≡ get_or row.cells 0 0) _ 0

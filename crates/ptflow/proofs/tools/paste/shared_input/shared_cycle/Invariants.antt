@@ -1,4 +1,3 @@
--- The columns so far have the reader of the first one.
 use Rattle.ptflow.proofs.Common.{◌≡◌, ◌<◌, ℕ, get_or}
 use Rattle.ptflow.proofs.tools.paste.shared_input.shared_cycle.Given as goal
 

@@ -1,8 +1,7 @@
--- The buffer of the only reader begins with complete rows, and their copy is pushed.
+-- The complete rows at the start of the buffer are copied and pushed.
 use Rattle.ptflow.proofs
 use proofs.Common.{get_or, arith, set-get_or}
-use proofs.PasteLemmas.BufferedRows.{copied_rows, no_rows_written}
-use proofs.PasteLemmas.Rows.{next_reader}
+use proofs.PasteLemmas.BufferedRows.{copied_rows, no_rows_written, next_reader}
 use borrow.Author.Rules.{scaled_Fits}
 use Rattle.ptflow.proofs.tools.paste.shared_input.write_shared_rows.Goals as goal
 

@@ -6,8 +6,7 @@ use proofs.tools.tr.Translation.mapped.Goals as goal
 
 pub returns-in-Identity : goal.returns-in-Identity
 returns-in-Identity c =
-    let bytes = c.args.bytes.now in
-    sym (map-id bytes) ∙ images_same bytes (rw c.in-Identity.is at c.args.self.now.is_map_kind) c.type_inv.bytes
+    sym (map-id c.args.bytes.now) ∙ images_same _ (rw c.in-Identity.is at c.args.self.now.is_map_kind) c.type_inv.bytes
 
 pub returns : goal.returns
 returns c = search (rules, images_same)

@@ -1,15 +1,14 @@
--- A line with the key of the current run adds to its count. Any other line ends the run, whose output is pushed, and
--- becomes the first line of the next one by a swap of the two slots.
+-- A line with another key ends the current run, whose output is pushed, and becomes the first line of the next one by a
+-- swap of the two slots.
 use Rattle.ptflow.proofs
 use proofs.Common.{[], ◌∷◌, ◌&&◌, ◌≡◌, refl, sym, subst, arith, line, nat_lt, is_same, uniq_job, first_line}
-use proofs.Common.{RunsWritten, current_run_of, run_of, push_nothing, rules}
+use proofs.Common.{RunsWritten, current_run_of, run_of, push_nothing, rules, common_steps}
 use proofs.Passes.Exits.{on_err}
-use proofs.UniqLemmas.Runs.{RunSteps, steps_none, steps_more, steps_next, steps_written, steps_failed, swapped_first}
+use proofs.UniqLemmas.Runs.{RunSteps, steps_more, steps_next, steps_written, steps_failed}
 use Rattle.ptflow.proofs.tools.uniq.LineUniqLineFilter.process_line.Given as given
 use Rattle.ptflow.proofs.tools.uniq.LineUniqLineFilter.process_line.Goals as goal
 use Rattle.ptflow.proofs.tools.uniq.LineUniqLineFilter.process_line.Goals.{After-is_same_run}
 
--- whether the line belongs to the run
 test : (g : given.Over) (c : After-is_same_run g)
     → (nat_lt 0 c.args.self.now.run.count && is_same (uniq_job c.args.self.now.by.job.now)
     (first_line c.args.self.now.run c.args.store.now) (line c.args.store.now 1)) ≡ c.is_same_run.result
@@ -17,7 +16,7 @@ test g c = search rules
 
 before : (g : given.Over) (c : After-is_same_run g) → let run = current_run_of c.args.self.now.run c.args.store.now in
     RunSteps (uniq_job c.args.self.now.by.job.now) run run [] []
-before g c = search (rules, steps_none)
+before g c = search rules
 
 pub returns-then-is_same_run-clause-continues : goal.returns-then-is_same_run-clause-continues
 returns-then-is_same_run-clause-continues g c =
@@ -36,6 +35,6 @@ returns-clause-continues g c =
     let next = line c.args.store.now 1 in
     subst (λ l. RunsWritten (uniq_job c.args.self.now.by.job.now) (current_run_of c.args.self.now.run c.args.store.now)
     (run_of l 1) (next ∷ []) c.args.out.now c.write_run.new.out)
-    (sym (swapped_first c.args.store.now (omega arith) c.swap.ensures))
+    (sym (grind (arith, common_steps)))
     (steps_written (steps_next (before g at) next (cc (test g at)))
     (rw c.first_line-2.ensures at c.write_run.ensures.wrote) refl (λ _. c.in_ok-write_run.ensures.clean))

@@ -1,4 +1,4 @@
--- The runs that end in the block are written (`write_runs`), and the last run becomes the current one.
+-- The runs that end in the block are written, and the run after them becomes the current one.
 use Rattle.ptflow.proofs
 use proofs.Common.{[], ◌≡◌, complete_lines, uniq_job, current_run_of, push_nothing, rules}
 use proofs.UniqLemmas.Runs.{steps_none, steps_written, not_found}

@@ -1,4 +1,3 @@
--- The bytes after the line are copies of it, and then the rest.
 use Rattle.ptflow.proofs
 use proofs.Common.{◌≡◌, ◌≤◌, ◌+◌, ◌++◌, length, take, drop}
 use Rattle.ptflow.specs.Private.Uniq.BlockRuns.{repeated}

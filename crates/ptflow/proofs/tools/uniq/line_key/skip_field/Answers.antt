@@ -1,11 +1,10 @@
--- The blanks are skipped one by one, and then the bytes up to the next blank, which are the rest of the field.
 use Rattle.ptflow.proofs
-use proofs.Common.{◌≡◌, [], sym, ◌∙◌, ap, arith, nil_from_length, common_steps}
+use proofs.Common.{sym, ◌∙◌, ap, arith, nil_from_length, common_steps}
 use proofs.UniqLemmas.Keys.{suffix_at, suffix_none, after_one}
 use proofs.tools.uniq.line_key.skip_field.Goals as goal
 
 pub returns : goal.returns
-returns c = let none : c.blanks.rest.now ≡ [] = nil_from_length c.blanks.rest.now (omega arith) in
+returns c = let none = nil_from_length c.blanks.rest.now (omega arith) in
     none ∙ sym (ap (suffix_at 1) none ∙ suffix_none 1)
     ∙ c.blanks.invariant ∙ sym (after_one c.args.line.now)
 

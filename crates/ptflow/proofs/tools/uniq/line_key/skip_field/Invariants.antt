@@ -1,4 +1,4 @@
--- The blanks at the start belong to the first field, so skipping them does not change the result.
+-- Blanks at the start belong to the first field, so skipping them changes nothing.
 use Rattle.ptflow.proofs
 use Rattle.std.proofs.Common.{◌≡◌, length}
 use proofs.UniqLemmas.Keys.{suffix_at}

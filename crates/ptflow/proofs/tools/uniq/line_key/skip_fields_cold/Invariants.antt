@@ -1,4 +1,3 @@
--- After each field that was skipped, one field less is left to skip.
 use Rattle.ptflow.proofs
 use Rattle.std.proofs.Common.{◌≡◌, ◌-◌}
 use proofs.UniqLemmas.Keys.{suffix_at}

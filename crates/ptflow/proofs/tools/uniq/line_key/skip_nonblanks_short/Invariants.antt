@@ -1,4 +1,4 @@
--- No byte so far is a blank, so skipping them does not change the result.
+-- No byte so far is a blank, so skipping them changes nothing.
 use Rattle.ptflow.proofs
 use proofs.Common.{◌≡◌, drop, after_nonblanks}
 use proofs.tools.uniq.line_key.skip_nonblanks_short.Given as goal

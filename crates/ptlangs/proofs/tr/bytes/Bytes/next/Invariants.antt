@@ -1,4 +1,4 @@
--- The segments that were passed have no bytes left, so what is left to read is the same.
+-- The segments that were passed have no bytes left.
 use Rattle.ptlangs.proofs.Common.{bytes_left, length, most_left, ◌-◌, ◌≡◌, ◌≤◌}
 use Rattle.ptlangs.proofs.tr.bytes.Bytes.next.Given as goal
 

@@ -1,4 +1,3 @@
--- The byte with the index is the one with the index `left` in the remaining ranges.
 use Rattle.ptlangs.proofs.Common.{drop, flat_map, range_bytes, slice_get, ◌≡◌}
 use Rattle.ptlangs.proofs.tr.classes.CharClass.get.Given as goal
 

@@ -1,13 +1,13 @@
--- A byte is in the complement if the array does not contain it, so the tables and the lengths agree.
+-- A byte is in the complement exactly if the array does not contain it.
 use Rattle.ptlangs.proofs
-use proofs.Common.{count_by, false, get_or, not, rules, tests, ◌≡◌}
+use proofs.Common.{count_by, false, get_or, not, rules, ◌≡◌}
 use proofs.TrArrays.{complement-is}
 use Rattle.ptlangs.proofs.tr.contents.Contents.complement.Goals as goal
 
 pub returns-clause-is : goal.returns-clause-is
 returns-clause-is c = λ bytes e.
     let count : c.count.result ≡ count_by not c.args.self.now.has = search rules in
-    complement-is _ bytes _ _ e c.map.ensures.items.long (λ k h.
+    complement-is _ _ _ _ e c.map.ensures.items.long (λ k h.
     let (p, q, called) = c.map.ensures.items.at k false false h in
-    let same : get_or c.map.result k false ≡ not _ = search (rules, tests) in
+    let same : get_or c.map.result k false ≡ not _ = search rules in
     same) count

@@ -1,4 +1,4 @@
--- The fault of a byte is the fault of the string. At the end all bytes are read.
+-- The fault of a byte is that of the string. At the end all bytes are read.
 use Rattle.ptlangs.proofs
 use proofs.Common.{List, Ok, Segment, ap, arith, array, common_steps, contents_of, map-append, member_bytes, ok_map}
 use proofs.Common.{plain_members, refl, replicate, string_segments, sym, ◌++◌, ◌∙◌, ◌∷◌, ◌≡◌}
@@ -9,12 +9,12 @@ use Rattle.ptlangs.proofs.tr.contents.Contents.read.Goals as goal
 pub returns-in_err-member-clause-is : goal.returns-in_err-member-clause-is
 returns-in_err-member-clause-is c =
     let k = c.in_err-member.field-0.0 in
-    let fault = string-fault _ _ c.args.fill k c.if-is_empty.ensures
+    let fault = string-fault _ _ _ k c.if-is_empty.ensures
     (items_fault c.loop-member.invariant.read c.in_err-member.ensures.steps) in
     let (_, is) = c.from_residual.ensures in
     on_fault
     (λ r. r ≡ ok_map (λ (ps : List Segment). contents_of (array c.args.fill ps))
-    (string_segments c.args.role c.args.text.now)) c.from_residual.result k is (rw fault refl)
+    (string_segments c.args.role c.args.text.now)) _ k is (rw fault refl)
 
 pub loop-member-init : goal.loop-member-init
 loop-member-init c = grind (arith, common_steps, contents-new)
@@ -35,7 +35,7 @@ loop-member-preserved c =
       read =
           items_more read _
           (m ∷ plain_members copies)
-          (step ∙ ap (λ rs. Ok m ∷ rs) c.skip_repeats-more.ensures.passed)
+          (grind arith)
           (λ h. c.push.ensures.is _ h ∙ ap contents_of (sym bytes));
       most = omega arith;
     }
@@ -44,6 +44,6 @@ pub returns-clause-is : goal.returns-clause-is
 returns-clause-is c =
     let read = c.loop-member.invariant.read in
     let (end, _) = rw c.in_default.is at c.in_ok-member.ensures.steps in
-    let (ps, whole, bytes) = string-read c.args.role c.args.text.now c.args.fill read.done c.if-is_empty.ensures
+    let (ps, whole, bytes) = string-read _ _ _ _ c.if-is_empty.ensures
     (items_end read end) in
-    rw whole (ap Ok (read.holds ∙ ap contents_of (ap member_bytes (sym bytes) ∙ member_bytes-array c.args.fill ps)))
+    rw whole (ap Ok (read.holds ∙ ap contents_of (ap member_bytes (sym bytes) ∙ member_bytes-array _ ps)))

@@ -1,4 +1,4 @@
--- The contents are those of the bytes so far; with the bytes that are left, these are no more than the text allows.
+-- The bytes so far and those that are left are together no more than the text allows.
 use Rattle.ptlangs.proofs
 use proofs.Common.{List, Member, bytes_left, contents_of, length, member_bytes, member_results, most_left, segments_of}
 use proofs.Common.{◌*◌, ◌+◌, ◌≡◌, ◌≤◌}

@@ -1,22 +1,21 @@
 -- A class that starts after the end of the first array has no other case.
 use Rattle.ptlangs.proofs
-use proofs.Common.{rules, sym, ◌∙◌}
-use proofs.TrArrays.{never_fault, passing-copies, passing-end, passing-next, passing-unpaired}
+use proofs.Common.{rules}
+use proofs.TrArrays.{never_fault, passing-copies, passing-end, passing-next, split_ok}
 use Rattle.ptlangs.proofs.tr.images.Images.finish.Goals as goal
+use Rattle.std.proofs.Common.{arith}
 
 pub returns-in_err-member : goal.returns-in_err-member
 returns-in_err-member c = λ from to h.
-    let p = c.loop-member.invariant from to h in
-    never_fault p.rest _ p.left c.in_err-member.ensures.steps
+    never_fault _ _ (c.loop-member.invariant from to h).left c.in_err-member.ensures.steps
 
 pub returns-then-is_some : goal.returns-then-is_some
-returns-then-is_some c = search (rules, passing-unpaired)
+returns-then-is_some c = search (rules, split_ok)
 
 pub loop-member-preserved : goal.loop-member-preserved
 loop-member-preserved c = λ from to h.
-    let step = rw c.in-Some.is at c.in_ok-member.ensures.steps in
-    let next = passing-next (c.loop-member.invariant from to h) c.next.new.self c.in-Some.member step
-    (sym c.is_some.ensures ∙ c.if-is_some.false) in
+    let next = passing-next (c.loop-member.invariant from to h) c.next.new.self c.in-Some.member (grind arith)
+    (grind arith) in
     passing-copies next c.skip_repeats.new.self _
     c.skip_repeats.ensures.passed
 

@@ -1,4 +1,3 @@
--- No class starts in the bytes of the second array that were passed after the end of the first one.
 use Rattle.ptlangs.proofs
 use proofs.Common.{HasPaired, List, Member, most_left}
 use proofs.TrArrays.{IsPassing}

@@ -1,29 +1,27 @@
--- The bytes of the string are paired in order; as the string has no fault, these are all of its array.
+-- As the string has no fault, the bytes that are paired are all of its array.
 use Rattle.ptlangs.proofs
 use proofs.Common.{First, PairPost, all_paired, ap, marked_array, member_results, refl, segments_of, sequence, ◌∙◌}
 use proofs.TrArrays.{items_at, items_end, items_fault, items_more, never_fault, on_fault, paired_same, sequence-ok}
 use proofs.TrArrays.{string-ok}
 use Rattle.ptlangs.proofs.tr.images.Images.push_string.Goals as goal
+use Rattle.std.proofs.Common.{arith}
 
 pub returns-in_err-member : goal.returns-in_err-member
 returns-in_err-member c = λ ps to e h.
-    let all = member_results 0 (segments_of First c.args.text.now) in
-    never_fault _ all (string-ok First c.args.text.now 0 ps e)
+    never_fault _ (member_results 0 (segments_of First c.args.text.now)) (string-ok First c.args.text.now 0 ps e)
     (items_fault c.loop-member.invariant c.in_err-member.ensures.steps)
 
 pub loop-member-preserved : goal.loop-member-preserved
 loop-member-preserved c =
-    let step = rw c.in-Some.is at c.in_ok-member.ensures.steps in
     let read = c.loop-member.invariant in
-    items_more read _ _ step
+    items_more read _ _ (grind arith)
     (λ holds to h. c.in_ok-push.ensures read.done to (holds to h))
 
 pub returns-in_err-push : goal.returns-in_err-push
 returns-in_err-push c = λ ps to e h.
-    let step = rw c.in-Some.is at c.in_ok-member.ensures.steps in
     let read = c.loop-member.invariant in
     let whole = ap sequence (string-ok First c.args.text.now 0 ps e) ∙ sequence-ok _ in
-    let (more, is) = items_at read step whole in
+    let (more, is) = items_at read (rw c.in-Some.is at c.in_ok-member.ensures.steps) whole in
     let (kind, wrong) = c.in_err-push.ensures read.done to (read.holds to h) in
     let (_, fault) = c.from_residual-in_err-push.ensures in
     on_fault (PairPost _ to c.push.new.self) c.from_residual-in_err-push.result _ fault
@@ -34,4 +32,4 @@ returns c = λ ps to e h.
     let read = c.loop-member.invariant in
     let (end, _) = rw c.in_default.is at c.in_ok-member.ensures.steps in
     let whole = ap sequence (string-ok First c.args.text.now 0 ps e) ∙ sequence-ok (marked_array 0 ps) in
-    paired_same read.done to (cc (whole, items_end read end)) refl (read.holds to h)
+    paired_same read.done to (cc (items_end read end)) refl (read.holds to h)

@@ -1,4 +1,3 @@
--- The bytes so far are paired.
 use Rattle.ptlangs.proofs
 use proofs.Common.{First, HasPaired, List, Member, [], bytes_left, member_results, most_left, segments_of}
 use proofs.TrArrays.{ItemsRead}

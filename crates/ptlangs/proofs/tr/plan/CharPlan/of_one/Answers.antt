@@ -14,4 +14,4 @@ pub returns-in_default : goal.returns-in_default
 returns-in_default c = λ bytes e.
     c.new-in_default.ensures ∙ tables_are (plan_of Squeeze bytes []) none_contained
     (c.identity-in_default.ensures []) (ap (λ (q : Contents). q.has) e)
-    ∙ ap (λ (f : Form). tables (plan_of f bytes [])) (sym (is_squeeze c.args.form c.requires c.in_default.not-Delete))
+    ∙ ap (λ (f : Form). tables (plan_of f bytes [])) (sym (is_squeeze _ c.requires c.in_default.not-Delete))

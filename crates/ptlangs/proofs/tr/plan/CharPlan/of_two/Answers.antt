@@ -1,11 +1,11 @@
--- The second string is read without a fill, to find the number of bytes that a fill has, and then with it. The segments
--- are the same each time, so the plan is that of the definition.
+-- The second string is read first without a fill, to find how many bytes a fill has. Both times it has the same
+-- segments.
 use Rattle.ptlangs.proofs
-use proofs.Common.{Contents, DeleteSqueeze, Err, Form, List, Ok, Segment, Translate, TranslateSqueeze, [], all_bytes}
-use proofs.Common.{ap, array, contents_of, false, first_array, image_by, map, ok_map, plan_of, rules, string_segments}
-use proofs.Common.{sym, tables, ◌∙◌, ◌≡◌}
+use proofs.Common.{Contents, DeleteSqueeze, Form, List, Ok, Segment, Translate, TranslateSqueeze, [], all_bytes}
+use proofs.Common.{ap, array, contents_of, first_array, image_by, map, ok_map, plan_of, rules, string_segments}
+use proofs.Common.{tables, ◌∙◌, ◌≡◌, arith}
 use proofs.TrArrays.{answer_fault, answer_ok, member_bytes-array, none_contained, on_fault, string-ok}
-use proofs.TrPlans.{SecondRead, is_translate, mapped_at, planned, second_read, tables_are, valid-paired}
+use proofs.TrPlans.{SecondRead, planned, second_read, tables_are, valid-paired}
 use Rattle.ptlangs.proofs.tr.plan.CharPlan.of_two.Goals.{After-saturating_sub-fill, In_ok-second}
 use Rattle.ptlangs.specs.TrPlan.{class_offsets, has_valid_classes, second_plan}
 use Rattle.ptlangs.proofs.tr.plan.CharPlan.of_two.Goals as goal
@@ -16,11 +16,10 @@ seen : (c : After-saturating_sub-fill) (firsts : List Segment)
     c.saturating_sub-fill.result
 seen c firsts f = search (rules, second_read)
 
--- which bytes the second array contains
 squeezed : (c : In_ok-second) (ps : List Segment)
     → string_segments c.second_role-role.result c.args.s2.now ≡ Ok ps
     → c.in_ok-second.second.has ≡ (contents_of (array c.saturating_sub-fill.result ps)).has
-squeezed c ps read = search (rules, mapped_at)
+squeezed c ps read = search rules
 
 pub returns-in-DeleteSqueeze : goal.returns-in-DeleteSqueeze
 returns-in-DeleteSqueeze c = λ firsts e f.
@@ -43,7 +42,7 @@ returns-in_err-table c = λ firsts e f.
     let valid = valid-paired c.args.form c.args.complement firsts r.ps fill c.in_default.not-DeleteSqueeze ∙ unpaired in
     let (_, fault) = c.from_residual-in_err-table.ensures in
     on_fault (λ q. q ≡ ok_map tables (second_plan c.args.form c.args.complement firsts c.args.s2.now))
-    c.from_residual-in_err-table.result _ fault (ap Err kind ∙ sym (ap (ok_map tables) (r.plan false valid)))
+    c.from_residual-in_err-table.result _ fault (grind (arith, ok_map, tables))
 
 pub returns-in-TranslateSqueeze : goal.returns-in-TranslateSqueeze
 returns-in-TranslateSqueeze c = λ firsts e f.
@@ -70,7 +69,7 @@ returns-in_default-form c = λ firsts e f.
     answer_ok _ (c.in_ok-table.ensures firsts _ e f
     (c.new-2.ensures.all ∙ string-ok c.second_role-role.result c.args.s2.now fill r.ps r.read)) in
     planned c.args.form Translate c.args.complement firsts c.args.s2.now r
-    (is_translate c.args.form c.requires.form c.in_default.not-DeleteSqueeze c.in_default-form.not-TranslateSqueeze)
+    (grind arith)
     (valid-paired c.args.form c.args.complement firsts r.ps fill c.in_default.not-DeleteSqueeze ∙ paired)
     (c.new-in_default-form.ensures ∙ tables_are (plan_of Translate from _) none_contained
     (table ∙ ap (λ to. map (image_by from to) all_bytes) (member_bytes-array fill r.ps)) none_contained)

@@ -4,12 +4,13 @@ use proofs.TrPlans.{in_string-ok, mapped_ok, plan_two}
 use Rattle.std.specs.Option.{option_copied}
 use Rattle.ptlangs.specs.declared.faults.SetString.TheVariants as string
 use Rattle.ptlangs.proofs.tr.plan.CharPlan.read.Goals as goal
+use Rattle.std.proofs.Common.{arith}
 
 pub returns : goal.returns
 returns c =
     let (firsts, read, first) = mapped_ok _ c.in_ok-first.first
     (in_string-ok _ _ _ c.in_ok-first.ensures ∙ c.read_first.ensures.is) in
-    c.in_string-2.ensures ∙ ap (in_string string.Second) (c.of_two-plan.ensures firsts read first)
+    c.in_string-2.ensures ∙ ap (in_string string.Second) (grind arith)
     ∙ plan_two c.args.form c.args.complement c.args.s1.now c.in-Some.s2.now firsts read
     ∙ ap (λ o. result_map_both tables (λ (f : SetFault). f)
     (plan c.args.form c.args.complement c.args.s1.now (option_copied o))) (sym c.in-Some.is)

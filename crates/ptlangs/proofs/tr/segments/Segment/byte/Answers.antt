@@ -5,7 +5,7 @@ use Rattle.ptlangs.proofs.tr.segments.Segment.byte.Goals as goal
 
 pub returns-in-Range-clause-room : goal.returns-in-Range-clause-room
 returns-in-Range-clause-room c = room _ c.args.index _ c.span_get.ensures
-    (omega (arith, length-span c.in-Range.first c.in-Range.last))
+    (grind (arith, length-span))
 
 pub returns-in-Class-clause-room : goal.returns-in-Class-clause-room
-returns-in-Class-clause-room c = room _ c.args.index _ c.get.ensures (omega (arith, class_bytes-short c.in-Class.class))
+returns-in-Class-clause-room c = grind (arith, room, class_bytes-short)

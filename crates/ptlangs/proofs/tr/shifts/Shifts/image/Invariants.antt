@@ -1,4 +1,3 @@
--- The byte plus the numbers that the stretches so far add to it, modulo 256.
 use Rattle.ptlangs.proofs.Common.{shift_at, sum_by, take, ◌%◌, ◌+◌, ◌≡◌}
 use Rattle.ptlangs.proofs.tr.shifts.Shifts.image.Given as goal
 

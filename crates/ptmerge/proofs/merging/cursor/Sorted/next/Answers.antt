@@ -1,5 +1,5 @@
--- The stored span of the current line becomes the span of the previous line, since that line keeps its slot. So the two
--- keys that are compared are the keys of both lines.
+-- The current line keeps its slot when its span becomes that of the previous line, so the two keys that are compared
+-- are those of both lines.
 use Rattle.std.proofs.lemmas.Grind.{common_steps}
 use Rattle.ptmerge.proofs
 use proofs.Common.{◌≡◌, ◌<◌, ◌+◌, sym, ap, ◌∙◌, inl, arith, if◌then◌else◌, nat_tests, line, line_of_with_line, Head}
@@ -14,7 +14,6 @@ returns-clause-moves g c =
     let old = c.args.self.now in
     let before = c.args.store.now in
     let after = c.fill.new.store in
-    let span = c.span-self.result in
     let some : 0 < old.number = grind (arith, nat_tests) in
     let swap = c.swap.ensures in
     let e = rw (c.in-Ok-true.field-0-test, swap.x_after) at (c.in-Ok-true.ensures.fills c.requires.own_reader.clean) in
@@ -23,8 +22,7 @@ returns-clause-moves g c =
     let next_is : line after c.swap.new.x ≡ e.line = rw (swap.x_after, e.stored)
     (line_of_with_line before _ e.line c.requires.distinct_slots.previous_slot) in
     let is : c.cmp-ordering.result ≡ cmp (key (line before old.current_slot)) (key e.line) = cc in
-    let status_is =
-    later_status key cmp _ (line before _) e.line _ some is in
+    let status_is = later_status key cmp _ _ _ _ some is in
     let status = c.status_at-self.ensures ∙ ap (λ t. if t then Disorder (old.number + 1) else Head) c.is_gt.ensures
     ∙ status_is.0 in
     let same = c.is_eq-self.ensures ∙ status_is.1 in
@@ -36,7 +34,7 @@ returns-clause-moves g c =
         number = old.number + 1;
         status = status i;
         same = same i;
-        key = span;
+        key = c.span-self.result;
       };
       sound = c.fill.ensures.is_sound;
     })

@@ -1,5 +1,4 @@
--- A field of the rest of a line is a field of the line. An empty word between two blanks is skipped, and does not
--- change the remaining fields.
+-- An empty word between two blanks is skipped, and does not change the remaining fields.
 use Rattle.ptmerge.proofs
 use proofs.Common.{◌≡◌, ◌∷◌, [], None, Some, option_copied, sym, ◌∙◌, MatchOption, slice_split, is_separator}
 use proofs.Common.{remaining_fields}

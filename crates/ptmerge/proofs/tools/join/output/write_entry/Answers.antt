@@ -7,7 +7,6 @@ use proofs.JoinLemmas.Fields.{then_pushes, first_is, pair_is, second_is}
 use Rattle.ptmerge.specs.JoinFields.{IsKeyOf}
 use Rattle.ptmerge.proofs.tools.join.output.write_entry.Goals as goal
 
--- these bytes are the output line of the lines that are there
 pushes_entry : {E : Type 0} {was is : Output} {r : Result (Unit {0}) E} (job : Join) (k : List ℕ) (end : ℕ)
     {one one2 two two2 : Option (List ℕ)} → one2 ≡ one → two2 ≡ two → {bytes : List ℕ}
     → bytes ≡ entry_with_list job job.list k one two ++ end ∷ [] → PushPost was is bytes r
@@ -33,7 +32,7 @@ returns-in-None-Some-None g c =
     let one = ap option_copied at.is-1 in
     let is = first_is job _ at.is-0 (c.if-is_canonical-3.ensures refl)
     (subst (IsKeyOf job First c.args.key.now) one c.requires.one) in
-    pushes_entry job c.args.key.now c.args.terminator one (ap option_copied at.is-2) (cc (is, append-nil at.line.now))
+    pushes_entry job _ _ one (ap option_copied at.is-2) (cc (is, append-nil at.line.now))
     c.push_line-in-None-Some-None.ensures.pushed
 
 pub returns-in-None-None-Some : goal.returns-in-None-None-Some
@@ -41,10 +40,9 @@ returns-in-None-None-Some g c =
     let job = join_job c.args.job.now in
     let key = c.args.key.now in
     let at = c.in-None-None-Some in
-    let one = ap option_copied at.is-1 in
     let two = ap option_copied at.is-2 in
-    pushes_entry job key c.args.terminator one two (ap (λ (l : List ℕ). l ++ c.args.terminator ∷ [])
-    (second_is job key at.is-0 (c.if-is_canonical-4.ensures refl) (subst (IsKeyOf job Second key) two c.requires.two)))
+    pushes_entry job key _ (ap option_copied at.is-1) two (cc (second_is job key at.is-0 (c.if-is_canonical-4.ensures refl)
+    (subst (IsKeyOf job Second key) two c.requires.two)))
     c.push_line-in-None-None-Some.ensures.pushed
 
 pub returns : goal.returns

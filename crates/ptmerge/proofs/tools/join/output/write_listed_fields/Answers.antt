@@ -1,5 +1,4 @@
--- The first item of a list has no separator before it, so it is written before the loop. Each iteration writes one more
--- item.
+-- The first item has no separator before it, so it is written before the loop.
 use Rattle.std.proofs.lemmas.Grind.{common_steps}
 use Rattle.ptmerge.proofs
 use proofs.Common.{◌∷◌, ℕ, List, sym, ◌∙◌, join_job, output_separator, arith}

@@ -1,4 +1,4 @@
--- The items so far were written, with separators between them; the others are still to be written.
+-- The items so far were written, with separators between them.
 use Rattle.ptmerge.proofs
 use proofs.Common.{option_copied, map, length, join_job, output_separator, entry_with_list, with_prefix, Some}
 use proofs.JoinLemmas.Fields.{PartialWrite, output_item}

@@ -1,7 +1,7 @@
--- A write that fails leaves a prefix of the words; one that succeeds takes the first of the remaining words.
+-- A write that fails leaves a prefix of the words.
 use Rattle.std.proofs.lemmas.Grind.{common_steps}
 use Rattle.ptmerge.proofs
-use proofs.Common.{◌-◌, ◌∷◌, ℕ, List, ap, arith, with_prefix}
+use proofs.Common.{◌∷◌, ℕ, List, ap, arith, with_prefix}
 use proofs.JoinLemmas.Fields.{partial_ends, each_fails, each_more, others_more, others_rest}
 use Rattle.ptmerge.proofs.tools.join.output.write_other_words.Goals as goal
 
@@ -13,14 +13,13 @@ returns-in_err-write_prefixed_field g c =
 
 pub loop-passed-preserved : goal.loop-passed-preserved
 loop-passed-preserved g c =
-    each_more (λ (l : List ℕ). 32 ∷ l) (others_more (c.args.number - 1) c.loop-passed._passed
-    (omega arith) c.in-Some.ensures.first)
+    each_more (λ (l : List ℕ). 32 ∷ l) (others_more _ _ (omega arith) c.in-Some.ensures.first)
     c.loop-passed.invariant
     c.write_prefixed_field.ensures.wrote c.in_ok-write_prefixed_field.ensures.clean
 
 pub returns-in-Some-next_field : goal.returns-in-Some-next_field
 returns-in-Some-next_field g c =
-    partial_ends (ap (with_prefix 32) (others_rest ((c.args.number - 1) - c.loop-passed._passed)
+    partial_ends (ap (with_prefix 32) (others_rest _
     (omega arith) c.in-Some-next_field.ensures.first))
     c.loop-passed.invariant c.write_words.ensures
 

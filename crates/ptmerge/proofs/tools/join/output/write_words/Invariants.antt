@@ -1,4 +1,4 @@
--- The words so far were written, each after a space; the others are still to be written.
+-- The words so far were written, each after a space.
 use Rattle.ptmerge.proofs
 use proofs.Common.{None, option_copied, length, remaining_fields, with_prefix}
 use proofs.JoinLemmas.Fields.{PartialWrite}

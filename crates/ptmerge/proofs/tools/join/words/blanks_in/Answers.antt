@@ -1,14 +1,15 @@
-use Rattle.std.proofs.lemmas.Simd.{bitmask_splat, length-chunk}
-use Rattle.std.specs.Simd.Lanes.{chunk}
+use Rattle.std.proofs.lemmas.Simd.{bitmask_splat, length-chunk, mask_l-mod}
 use Rattle.ptmerge.proofs
 use proofs.Common.{eqb}
-use proofs.JoinLemmas.Fields.{blank_mask}
 use Rattle.ptmerge.proofs.tools.join.words.blanks_in.Goals as goal
 use mir.Syntax.{w8}
+use proofs.JoinLemmas.Fields.{blank_lanes}
+use Rattle.std.proofs.Common.{rules}
+use Rattle.std.proofs.lemmas.List.{length-map}
 
 pub returns : goal.returns
 returns g c = record {
-  any = blank_mask _ _ g.row.N c.requires.within c.requires.lanes;
-  tabs = bitmask_splat w8 eqb (chunk c.args.at g.row.N c.args.bytes.now) g.row.N 9
-      (length-chunk _ g.row.N _ c.requires.within) c.requires.lanes;
+  any = search (rules, length-chunk, blank_lanes, mask_l-mod, length-map);
+  tabs = bitmask_splat w8 eqb _ _ 9
+      (length-chunk _ _ _ c.requires.within) c.requires.lanes;
 }

@@ -1,7 +1,7 @@
 use Rattle.std.proofs.Common.{◌/◌}
 use Rattle.ptmerge.proofs
 use proofs.Common.{◌==◌, ◌∙◌, ◌+◌, ◌^◌, ◌≤◌, length, ap, arith, sym}
-use proofs.JoinLemmas.Fields.{bit_is, bit_low, chunk_spaced, last_blank, top_bit}
+use proofs.JoinLemmas.Fields.{bit_is, chunk_spaced, last_blank, top_bit}
 use Rattle.std.proofs.lemmas.Simd.{length-chunk}
 use Rattle.std.specs.Simd.Lanes.{chunk}
 use Rattle.ptmerge.proofs.tools.join.words.is_single_spaced_long.Goals as goal
@@ -10,13 +10,12 @@ pub returns-then-not-are_single_spaces : goal.returns-then-not-are_single_spaces
 returns-then-not-are_single_spaces c =
     let bytes = c.args.bytes.now in
     let at = c.loop-at.at in
-    let blank = c.loop-at.before == 1 in
     let v = chunk at 64 bytes in
     let room : at + 64 ≤ length bytes = omega arith in
     let few : length v ≤ 64 = omega (arith, length-chunk at 64 bytes room) in
     let misplaced = sym (c.are_single_spaces.ensures v few c.blanks_in-blanks.ensures)
     ∙ c.if-not-are_single_spaces.true in
-    sym (c.loop-at.invariant.same ∙ rw misplaced at (chunk_spaced blank bytes at room))
+    sym (c.loop-at.invariant.same ∙ rw misplaced at (chunk_spaced (c.loop-at.before == 1) bytes at room))
 
 pub loop-at-preserved : goal.loop-at-preserved
 loop-at-preserved c =
@@ -32,7 +31,7 @@ loop-at-preserved c =
     ∙ top_bit 63 blank v (length-chunk at 64 bytes room) spaced in
     record {
       within = room;
-      bit = omega (arith, before, bit_low (last_blank blank v));
+      bit = omega (arith, before);
       same = c.loop-at.invariant.same
           ∙ rw (spaced, ← bit_is (last_blank blank v), ← before) at (chunk_spaced blank bytes at room);
     }

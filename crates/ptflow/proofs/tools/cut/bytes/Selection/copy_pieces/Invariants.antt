@@ -1,4 +1,3 @@
--- The selected bytes of the pieces so far were copied.
 use Rattle.ptflow.proofs
 use proofs.Common.{◌≡◌, ◌≤◌, ◌+◌, ◌*◌, ◌++◌, take, select_from, is_selected}
 use proofs.tools.cut.bytes.Selection.copy_pieces.Given as goal

@@ -1,9 +1,10 @@
--- Each iteration copies the slice of one interval; an interval that reaches the end of the piece is the last one.
+-- An interval that reaches the end of the piece is the last one.
 use Rattle.ptflow.proofs
-use proofs.Common.{arith, common_steps, ◌≤◌, drop, length, length-drop, take_rest, ℕ, ◌∙◌, ap, min}
-use proofs.CutLemmas.CutBytes.{copied_done, copied_ends, copied_more}
+use proofs.Common.{arith, common_steps, ◌≤◌, drop, length, length-drop, take_rest, ℕ, ◌∙◌, ap, min, append-nil}
+use proofs.CutLemmas.CutBytes.{copied_ends, copied_more, select_none}
 use Rattle.ptflow.proofs.tools.cut.bytes.Selection.copy_selected.Goals as goal
 use Rattle.ptflow.proofs.tools.cut.bytes.Selection.copy_selected.Goals.{Start}
+use proofs.Common.{drop_all}
 
 fits : (c : Start) → c.args.count ≤ length (drop c.args.line.start c.args.block.now)
 fits c = omega (arith, length-drop c.args.line.start c.args.block.now)
@@ -23,7 +24,7 @@ loop-interval-preserved c =
 
 pub returns-clause-copied : goal.returns-clause-copied
 returns-clause-copied c =
-    copied_done _ (fits (goal.at.returns-clause-copied c).Start) c.loop-interval.invariant c.loop-interval-test.false
+    grind (arith, select_none, drop_all, append-nil)
 
 pub loop-interval-init : goal.loop-interval-init
 loop-interval-init c = grind arith

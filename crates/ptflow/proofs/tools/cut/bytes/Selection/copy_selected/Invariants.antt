@@ -1,5 +1,3 @@
--- The selected bytes so far were copied, and the intervals that are left select among the bytes after them
--- (`CopyInvariant`).
 use Rattle.ptflow.proofs
 use Rattle.std.proofs.Common.{take, drop}
 use proofs.CutLemmas.CutBytes.{CopyInvariant}

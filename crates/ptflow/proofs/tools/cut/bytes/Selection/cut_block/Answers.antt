@@ -1,6 +1,6 @@
--- A chunk without a terminator is skipped, and the line continues, as the last line of another chunk does.
+-- In a chunk without a terminator the line continues.
 use Rattle.ptflow.proofs
-use proofs.Common.{[], ap, arith, ◌∙◌, count_ones, chunk, ones-mask_l, is_byte}
+use proofs.Common.{[], ap, arith, ◌∙◌, count_ones, ones-mask_l, is_byte}
 use proofs.Vectors.FindNth.{count_chunk}
 use proofs.tools.cut.bytes.Selection.cut_block.Goals as goal
 use proofs.tools.cut.bytes.Selection.cut_block.Goals.{then-mask-ne0, else-mask-ne0}
@@ -21,7 +21,7 @@ loop-from-preserved c =
           })
       | else-mask-ne0 w ↦
           let none = ap count_ones w.if-mask-ne0.false ∙ ones-mask_l p [] in
-          let counted = ap count_ones c.match_mask-mask.ensures ∙ ones-mask_l p (chunk loop.from 64 c.args.block.now) in
+          let counted = ap count_ones c.match_mask-mask.ensures ∙ ones-mask_l p _ in
           rw (w.into-is, w.line-is) (record {
             within = omega arith;
             same = (omega arith, omega (arith, count_chunk p c.args.block.now loop.from));

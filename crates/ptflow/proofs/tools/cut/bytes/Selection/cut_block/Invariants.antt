@@ -1,4 +1,4 @@
--- The output is that of the block up to the start of a line, and no terminator is between that start and this chunk.
+-- No terminator is between the start of the line and this chunk.
 use Rattle.ptflow.proofs
 use proofs.Common.{◌-◌, ◌≤◌, length, take, drop, IsCutPart, IsSameLine}
 use proofs.tools.cut.bytes.Selection.cut_block.Given as goal

@@ -1,5 +1,4 @@
--- The set bits are the terminators that are left. The output is that of the lines before the current one, which after
--- the first iteration is in this chunk.
+-- The set bits are the terminators that are left, and the lines before the current one were cut.
 use Rattle.ptflow.proofs
 use proofs.Common.{◌≡◌, ◌+◌, ◌≤◌, map, take, count_by, mask_l, chunk, is_byte, CutPost}
 use proofs.Vectors.FindNth.{without}

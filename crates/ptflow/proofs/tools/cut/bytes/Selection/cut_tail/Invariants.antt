@@ -1,4 +1,3 @@
--- The output is that of the lines so far.
 use Rattle.ptflow.proofs
 use proofs.Common.{◌-◌, ◌≤◌, length, take, CutPost}
 use proofs.tools.cut.bytes.Selection.cut_tail.Given as goal

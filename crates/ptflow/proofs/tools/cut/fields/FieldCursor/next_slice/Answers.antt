@@ -1,32 +1,32 @@
--- An interval takes two steps: to the start of its first field, and to the end of its last one. The bytes between are
--- the slice, with a delimiter before it if it is not the first.
+-- An interval takes two steps: to the start of its first field, and to the end of its last one.
 use Rattle.ptflow.proofs
-use proofs.Common.{◌≡◌, ◌∙◌, refl, sym, arith, length, take, length-take-le, take_rest, common_steps, eqb-true}
+use proofs.Common.{◌∙◌, refl, sym, arith, length, take, length-take-le, take_rest, common_steps}
 use proofs.Common.{eqb-false}
-use proofs.CutLemmas.Fields.{no_interval, no_field, ends_before, next_slice}
+use proofs.CutLemmas.Fields.{ends_before, next_slice, none_left, none_selected}
 use proofs.tools.cut.fields.FieldCursor.next_slice.Goals as goal
 use proofs.tools.cut.fields.FieldCursor.next_slice.Goals.{then-is_empty-via-then-is_empty}
 use proofs.tools.cut.fields.FieldCursor.next_slice.Goals.{then-is_empty-via-else-is_empty+then-self-to}
+use proofs.CutLemmas.CutBytes.{select_none}
 
 pub returns-then-is_empty : goal.returns-then-is_empty
 returns-then-is_empty c =
     let d = c.args.delimiters.now in
     let line = take c.args.to d.bytes.now in
-    let long : length line ≡ c.args.to = length-take-le c.args.to d.bytes.now c.requires.within in
+    let long = length-take-le c.args.to d.bytes.now c.requires.within in
     elim c.then-is_empty.branch [
       | then-is_empty-via-then-is_empty w ↦
-          no_interval d.byte line c.args.self.now (eqb-true _ 0 (sym c.is_empty.ensures ∙ w.if-is_empty.true))
+          (grind (arith, common_steps, select_none))
       | then-is_empty-via-else-is_empty+then-self-to w ↦
-          no_field d.byte line c.args.self.now c.requires.cursor (omega arith)
+          (grind (arith, (none_selected d.byte line c.args.self.now), none_left))
     ]
 
 pub returns-then-from-to : goal.returns-then-from-to
 returns-then-from-to c =
     let d = c.args.delimiters.now in
     let line = take c.args.to d.bytes.now in
-    let long : length line ≡ c.args.to = length-take-le _ _ c.requires.within in
+    let long = length-take-le _ _ c.requires.within in
     let some = eqb-false (length c.args.self.now.left.now) 0 (sym c.is_empty.ensures ∙ c.if-is_empty.false) in
-    ends_before d.byte line _ c.requires.cursor (omega arith) (omega (arith, some))
+    ends_before d.byte line _ c.requires.cursor (omega arith) (omega arith)
     c.skip_fields-from.ensures.near.0 c.skip_fields-from.ensures.offset (omega arith)
 
 pub overflow_add-last : goal.overflow_add-last
@@ -36,9 +36,9 @@ pub returns : goal.returns
 returns c =
     let d = c.args.delimiters.now in
     let line = take c.args.to d.bytes.now in
-    let long : length line ≡ c.args.to = length-take-le c.args.to d.bytes.now c.requires.within in
+    let long = length-take-le c.args.to d.bytes.now c.requires.within in
     let some = eqb-false (length c.args.self.now.left.now) 0 (sym c.is_empty.ensures ∙ c.if-is_empty.false) in
     let from = c.skip_fields-from.ensures in
     let at = c.skip_fields-self.ensures in
-    rw c.min.ensures (next_slice d.byte line c.args.self.now c.requires.cursor (omega arith) (omega (arith, some))
-    from.near.0 from.offset (omega arith) at.near.0 at.offset _ (take_rest c.args.self.now.left.now 1) refl refl)
+    rw c.min.ensures (next_slice d.byte line c.args.self.now c.requires.cursor (omega arith) (omega arith)
+    from.near.0 from.offset (omega arith) at.near.0 at.offset _ (take_rest _ 1) refl refl)

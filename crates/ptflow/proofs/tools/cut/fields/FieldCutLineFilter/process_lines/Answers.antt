@@ -1,8 +1,8 @@
--- Each iteration copies the output of the first lines of the rest to the buffer, which is pushed at the end.
+-- Each iteration copies output to the buffer, which is pushed at the end.
 use Rattle.ptflow.proofs
-use proofs.Common.{ℕ, List, ◌+◌, ◌≤◌, length, drop, ◌++◌, take, ◌∙◌, ap, arith, length-drop, take_rest, IsLine}
-use proofs.Common.{complete_lines, line_if_not_found, complete_lines_none, cut_job, cut_lines}
-use proofs.Passes.Exits.{on_err, taken_more, taken_all}
+use proofs.Common.{ℕ, List, ◌+◌, ◌≤◌, length, drop, ◌++◌, take, ◌∙◌, ap, arith, length-drop, take_rest, IsLine, take_at}
+use proofs.Common.{complete_lines, line_if_not_found, complete_lines_none, cut_job, cut_lines, append-nil, common_steps}
+use proofs.Passes.Exits.{on_err, taken_more}
 use Rattle.ptflow.proofs.tools.cut.fields.FieldCutLineFilter.process_lines.Given as given
 use Rattle.ptflow.proofs.tools.cut.fields.FieldCutLineFilter.process_lines.Goals as goal
 use Rattle.ptflow.proofs.tools.cut.fields.FieldCutLineFilter.process_lines.Goals.{In_default}
@@ -38,7 +38,6 @@ returns-in_err-push-clause-halts g c =
       );
     })
 
--- no complete line is left
 none_left : (g : given.Over) (c : In_default g)
     → IsLine (cut_job c.args.self.now.by.job.now).terminator c.lines.rest.now
 none_left g c = line_if_not_found _ _
@@ -47,13 +46,12 @@ none_left g c = line_if_not_found _ _
 pub returns-clause-continues : goal.returns-clause-continues
 returns-clause-continues g c =
     let l = c.lines in
-    let job = cut_job c.args.self.now.by.job.now in
     let none = complete_lines_none _ _
     (none_left g (goal.at.returns-clause-continues g c).In_default) in record {
       passed = take l.end l.self.buffer;
       wrote = c.in_ok-push.ensures.pushed.wrote;
       clean = λ was_clean. c.in_ok-push.ensures.pushed.clean;
-      on = λ more. l.invariant.on more ∙ ap (λ ls. take l.end l.self.buffer ++ cut_lines job (ls ++ more)) none;
+      on = λ more. l.invariant.on more ∙ ap (λ ls. take l.end l.self.buffer ++ cut_lines (cut_job c.args.self.now.by.job.now) (ls ++ more)) none;
       count = omega arith;
       some = λ h. omega arith;
     }
@@ -61,6 +59,5 @@ returns-clause-continues g c =
 pub returns-clause-passed : goal.returns-clause-passed
 returns-clause-passed g c = (
   omega arith,
-  taken_all _ (none_left g (goal.at.returns-clause-passed g c).In_default)
-      c.lines.invariant.taken,
+  grind (arith, common_steps, take_at, complete_lines_none, append-nil, (none_left g (goal.at.returns-clause-passed g c).In_default)),
 )

@@ -1,4 +1,4 @@
--- The buffer has the output of the lines so far, for every continuation, and is not longer than they are.
+-- The output in the buffer is not longer than the lines so far.
 use Rattle.ptflow.proofs
 use proofs.Common.{◌≡◌, ◌+◌, ◌≤◌, ◌++◌, ℕ, List, length, take, complete_lines, cut_job, cut_lines}
 use proofs.Passes.Exits.{TakenLines}

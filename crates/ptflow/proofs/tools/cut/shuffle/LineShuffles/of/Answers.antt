@@ -1,4 +1,3 @@
--- The next piece gets its shuffle, and the others keep theirs.
 use Rattle.ptflow.proofs
 use proofs.Common.{⊎_elim, arith, cases_eq, get_or-set_other, get_or-set_same, length-set}
 use proofs.tools.cut.shuffle.LineShuffles.of.Goals as goal
@@ -13,6 +12,6 @@ loop-index-preserved g c =
           (λ same. rw same (rw (get_or-set_same pieces loop.index c.of.result _ (omega arith))
           c.of.ensures))
           (λ other.
-          rw (get_or-set_other pieces loop.index k c.of.result _ other) (before.pieces k (omega (arith, other))))
-          (cases_eq k loop.index);
+          rw (get_or-set_other pieces loop.index k c.of.result _ other) (before.pieces k (omega arith)))
+          (cases_eq k _);
     }

@@ -1,4 +1,3 @@
--- Each piece so far has its shuffle.
 use Rattle.ptflow.proofs
 use proofs.Common.{◌≡◌, ◌<◌, ◌*◌, ℕ, length, is_selected}
 use Rattle.ptflow.specs.Private.Cut.ShortLines.{IsPieceShuffle, piece_at, selected_after}

@@ -1,4 +1,3 @@
--- The row begins with the selected indices so far, and the counts are the number of selected ones before each index.
 use Rattle.ptflow.proofs
 use Rattle.ptlangs.specs.CutLists.{is_selected}
 use Rattle.ptflow.specs.Private.Cut.ShortLines.{selected_after}

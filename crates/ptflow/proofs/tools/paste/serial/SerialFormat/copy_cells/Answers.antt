@@ -19,11 +19,10 @@ returns-clause-copied c =
     let format = c.args.self.now in
     let cycle = c.in-Some.cycle in
     let bytes = c.args.bytes.now in
-    let made = c.replace.new.to in
     let is = format.is_cycle cycle c.in-Some.is in
     record {
-      is = put_taken c.args.at c.args.into.now made (ap length c.replace.ensures.replaced
-          ∙ length-replaced cycle.terminator _ c.args.index bytes) (omega arith)
+      is = put_taken _ _ _ (ap length c.replace.ensures.replaced
+          ∙ length-replaced _ _ _ _) (omega arith)
           ∙ ap (◌++◌ (take c.args.at c.args.into.now))
           (c.replace.ensures.replaced ∙ (λ i. with_replacements (is.terminator i)
           (λ n. is.bytes n i) c.args.index bytes));

@@ -1,8 +1,7 @@
--- Each step copies one line and the delimiter after its column. After the last terminator the rest is a part of a line,
--- which is copied as it is.
+-- After the last terminator the rest is a part of a line, which is copied as it is.
 use Rattle.ptflow.proofs
 use proofs.Common.{◌≡◌, ◌+◌, ◌-◌, ◌++◌, length, take, sym, ◌∙◌, ap, arith, length-drop, take_rest, take_all}
-use proofs.Common.{line_if_not_found, mod-eq_of_lt, delimiter, count_by, is_byte, take-append-drop}
+use proofs.Common.{line_if_not_found, mod-eq_of_lt, count_by, is_byte, take-append-drop}
 use proofs.Vectors.FindNth.{none_counted}
 use proofs.PasteLemmas.Replaced.{replaced_none, line_copied, copied_more}
 use Rattle.ptflow.proofs.tools.paste.serial.SerialFormat.copy_cells_slow.Goals as goal
@@ -31,11 +30,11 @@ returns-clause-copied c =
     let free = line_if_not_found end rest c.in_default.ensures in
     let none : c.pieces.index + count_by (is_byte end) rest ≡ c.pieces.index = omega (
       arith,
-      none_counted end rest rest free,
+      none_counted end rest _ free,
     ) in
     inv.on _ _ (record {
       is = rw all at c.copy_short-2.ensures.copied
           ∙ ap (◌++◌ (take c.pieces.at c.pieces.into)) (take_all (length rest) rest (omega arith)
-          ∙ sym (replaced_none end (delimiter c.args.self.now.delims.now) c.pieces.index rest free));
+          ∙ sym (replaced_none end _ _ _ free));
       later = cc (mod-eq_of_lt inv.low);
     })

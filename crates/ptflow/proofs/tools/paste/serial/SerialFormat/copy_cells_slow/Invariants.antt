@@ -1,4 +1,4 @@
--- If the copy of `rest` is appended, all bytes are copied. Each byte of `rest` has room.
+-- Only `rest` is left to be copied, and has room.
 use Rattle.ptflow.proofs.Common.{◌≡◌, ◌<◌, ◌≤◌, ◌+◌, ℕ, List, length, take}
 use Rattle.ptflow.specs.Private.Paste.SerialRest.{CopyCellsPost}
 use Rattle.ptflow.proofs.tools.paste.serial.SerialFormat.copy_cells_slow.Given as goal

@@ -1,4 +1,3 @@
--- The map has the image of each byte that was checked.
 use Rattle.ptflow.proofs
 use proofs.Common.{◌≡◌, ◌<◌, ℕ, false, get_or, if◌then◌else◌, length}
 use proofs.tools.tr.map_kind.MapSetToByte.of.Given as goal

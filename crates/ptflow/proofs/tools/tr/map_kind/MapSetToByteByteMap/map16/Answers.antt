@@ -7,7 +7,7 @@ pub returns : goal.returns
 returns c =
     let v = c.args.v in
     let set_map = c.args.self in
-    sel_maps (set_has set_map.set) (λ _. set_map.byte) (λ b. b) v
+    sel_maps _ _ _ v
     (cc (lanes_of_mask (set_has set_map.set) v, tops_of_lanes (map (set_has set_map.set) v)))
-    (splat_is_map v 16 set_map.byte c.fits-v.0)
+    (splat_is_map v 16 _ c.fits-v.0)
     (sym (map-id v))

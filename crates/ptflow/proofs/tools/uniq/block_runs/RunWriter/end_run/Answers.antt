@@ -1,10 +1,9 @@
--- Two adjacent ranges are one range, so the run joins the deferred output. Otherwise that is pushed, and a failed push
--- leaves a prefix of both.
+-- A run whose line follows the deferred output joins it. Otherwise that is pushed, and a failed push leaves a prefix of
+-- both.
 use Rattle.ptflow.proofs
 use proofs.Common.{ℕ, true, not, ◌≡◌, [], refl, sym, ◌∙◌, subst, PushEffect, push_past_failure, append_assoc, span_of}
-use proofs.Common.{uniq_job, arith, common_steps, push_nothing, append-nil, false, has_output, run_of}
+use proofs.Common.{uniq_job, arith, common_steps, push_nothing, append-nil}
 use Rattle.ptflow.specs.Private.Uniq.RunsFrom.{count_prefix}
-use Rattle.ptflow.specs.Private.Uniq.BlockRuns.{first_of}
 use proofs.Passes.Exits.{on_err}
 use proofs.UniqLemmas.Runs.{due_is, pending_joined, current_run_is}
 use proofs.tools.uniq.block_runs.RunWriter.end_run.Goals as goal
@@ -22,11 +21,11 @@ no_count Single differs count = refl
 pub returns-then-not-has_output-clause-waits : goal.returns-then-not-has_output-clause-waits
 returns-then-not-has_output-clause-waits g c =
     let job = uniq_job c.args.self.now.job.now in
-    let none : has_output job.show c.args.count ≡ false = sym c.has_output.ensures ∙ c.if-not-has_output.true in
+    let none = sym c.has_output.ensures ∙ c.if-not-has_output.true in
     record {
       pushed = [];
       wrote = push_nothing _;
-      all = rw (current_run_is job (run_of (first_of c.args.first.now c.args.block.now c.args.line) c.args.count), none)
+      all = rw (current_run_is job _, none)
           (sym (append-nil (span_of c.args.block.now c.args.pending)));
       span = c.requires.pending_in;
     }

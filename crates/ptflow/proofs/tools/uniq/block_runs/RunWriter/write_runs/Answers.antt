@@ -1,11 +1,11 @@
--- A line with the key of the current run adds to its count, and so do copies of it. Any other line ends it and starts
--- the next one, and the output of the run that ended is pushed or deferred. Each case preserves `RunsInvariant`.
+-- A line with the key of the current run, and copies of it, add to its count. Any other line ends the run, whose output
+-- is pushed or deferred.
 use Rattle.ptflow.proofs
 use proofs.Common.{◌+◌, IsLine, length, refl, ap, arith, length-append, length-drop, take_rest, line_if_not_found}
-use proofs.Common.{uniq_job, common_steps, rules}
-use proofs.Passes.Exits.{on_err}
-use proofs.UniqLemmas.Runs.{RunsInvariant, runs_loop_starts, runs_loop_few, runs_loop_left, runs_loop_next}
-use proofs.UniqLemmas.Runs.{runs_loop_failed, runs_loop_repeats, running_done, running_unended, runs_loop_passed}
+use proofs.Common.{uniq_job, common_steps, rules, take_at}
+use proofs.Passes.Exits.{on_err, wrote_then}
+use proofs.UniqLemmas.Runs.{RunsInvariant, runs_loop_starts, runs_loop_few, runs_loop_next, all_lines}
+use proofs.UniqLemmas.Runs.{runs_loop_failed, runs_loop_repeats, running_unended, passed_is, steps_written}
 use Rattle.ptflow.proofs.tools.uniq.block_runs.RunWriter.write_runs.Given as given
 use Rattle.ptflow.proofs.tools.uniq.block_runs.RunWriter.write_runs.Goals as goal
 use Rattle.ptflow.proofs.tools.uniq.block_runs.RunWriter.write_runs.Goals.{In_default, After-left-1}
@@ -13,7 +13,6 @@ use Rattle.ptflow.proofs.tools.uniq.block_runs.RunWriter.write_runs.Goals.{In_de
 pub lines-init : goal.lines-init
 lines-init g c = search (rules, runs_loop_starts)
 
--- after a line with the key of the run, and those that repeat it
 after : (g : given.Over) (c : After-left-1 g)
     → RunsInvariant (uniq_job c.args.self.now.job.now) c.args.first.now c.args.block.now
     c.skip_repeats-repeats.result.1.now c.args.carried (c.lines.count + (1 + c.skip_repeats-repeats.result.0))
@@ -22,15 +21,14 @@ after g c = runs_loop_repeats c.lines.invariant (rw c.args.self.now.ends at c.in
     c.eq.ensures c.if-eq.true _ c.skip_repeats-repeats.ensures
 
 pub overflow_add-count : goal.overflow_add-count
-overflow_add-count g c = omega (arith, runs_loop_few (after g c), c.requires.few)
+overflow_add-count g c = omega (arith, runs_loop_few (after g c))
 
 pub overflow_add-count-then-eq : goal.overflow_add-count-then-eq
-overflow_add-count-then-eq g c = omega (arith, runs_loop_few (after g c), c.requires.few)
+overflow_add-count-then-eq g c = omega (arith, runs_loop_few (after g c))
 
 pub lines-smaller-then-eq : goal.lines-smaller-then-eq
 lines-smaller-then-eq g c =
-    let copies = ap length c.skip_repeats-repeats.ensures in
-    grind (arith, copies, length-append, length-drop)
+    grind (arith, (ap length c.skip_repeats-repeats.ensures), length-append, length-drop)
 
 pub lines-preserved-then-eq : goal.lines-preserved-then-eq
 lines-preserved-then-eq g c = after g c
@@ -47,7 +45,7 @@ lines-preserved g c =
     c.eq.ensures c.if-eq.false c.in_ok-pending.ensures.waits refl refl)
 
 pub overflow_sub-len : goal.overflow_sub-len
-overflow_sub-len g c = search (rules, runs_loop_left)
+overflow_sub-len g c = grind (arith, common_steps)
 
 none_left : (g : given.Over) (c : In_default g) → IsLine (uniq_job c.args.self.now.job.now).terminator c.lines.rest.now
 none_left g c = search (rules, line_if_not_found)
@@ -60,14 +58,16 @@ returns-in_err-push-clause-halts g c =
 
 pub returns-clause-continues : goal.returns-clause-continues
 returns-clause-continues g c =
-    running_done c.lines.invariant (none_left g (goal.at.returns-clause-continues g c).In_default)
-    c.push.ensures.pushed.wrote c.in_ok-push.ensures.pushed.clean
+    let wrote = c.push.ensures.pushed.wrote in
+    steps_written c.lines.invariant.steps
+    (rw c.lines.invariant.waits.all at (wrote_then _ _ _ c.lines.invariant.waits.wrote wrote))
+    (all_lines c.lines.invariant (none_left g (goal.at.returns-clause-continues g c).In_default) wrote)
+    (λ _. c.in_ok-push.ensures.pushed.clean)
 
 pub returns-clause-passed : goal.returns-clause-passed
 returns-clause-passed g c = (
   omega arith,
-  runs_loop_passed c.lines.invariant (none_left g (goal.at.returns-clause-passed g c).In_default)
-      c.push.ensures.pushed.wrote,
+  grind (arith, (all_lines c.lines.invariant (none_left g (goal.at.returns-clause-passed g c).In_default) c.push.ensures.pushed.wrote), passed_is, take_at),
 )
 
 pub overflow_add-at : goal.overflow_add-at

@@ -1,5 +1,3 @@
--- Of the lines so far, the output of the runs that ended was pushed, except for the deferred part; the others are one
--- run, which has the key `run_key`.
 use Rattle.ptflow.proofs
 use proofs.Common.{length, uniq_job}
 use proofs.UniqLemmas.Runs.{RunsInvariant}

@@ -1,55 +1,43 @@
--- Lines that were taken from a reader, and rows whose lines were taken. They compose: if lines or rows are taken and
--- then more, the concatenation is taken. A row is filled column by column: a field comes from the slot of its column,
--- or from the buffer of its reader. The text of the first fields was copied, and the slots hold the others. Each step
--- changes one reader, so the lines of the columns before it stay as they are. One filled row is a row that was taken,
--- since each column takes one line. Its fields, each with the byte after it, are the joined fields and the terminator.
--- The slots hold all bytes of the store, so the total is at most the sum of the columns' bounds.
+-- Lines and rows that were taken from readers compose. A row is filled column by column: the copied text holds its
+-- first fields, the slots hold the others. A step changes one reader only, so earlier columns keep their lines. A
+-- filled row is a row that was taken, since each column takes one line. All bytes of the store are in the slots, so
+-- they are at most the sum of the columns' bounds.
+pub mod Grid
 use Rattle.ptflow.proofs
-use proofs.Common.{slice_index_or, Bool, Err, List, None, Ok, [], ap, arith, cond, drop, false, get_or, get_or-take}
-use proofs.Common.{inl, length, length-append, map, refl, set, suc, take, take-append-drop, true, zero, ℕ, ◌*◌, ◌++◌}
-use proofs.Common.{◌+◌, ◌<◌, ◌==◌, ◌||◌, ◌∙◌, ◌∷◌, ◌≡◌, ◌≢◌, ◌≤◌, ◌⊎◌, eq-eqb, common_steps, append-nil, drop-set-lt}
-use proofs.Common.{ext_get_or, get_or-set_other, get_or-set_same, get_or_append_left, get_or_default, get_or_push}
-use proofs.Common.{length-set, length-take-le, take-take, take_all, sum_by-append, sum_by-cons, sum_by, top}
-use proofs.Common.{advance_trans, lines_of_unlines, unlines-append, FillPost, AdvanceOk, IsDone, IsSound, Reader}
-use proofs.Common.{ReaderAdvance, budget, no_reader, reader_at, Slots, line, total_bytes, with_line, AddedSlots}
-use proofs.Common.{AreLines, max_length, unlines, columns, join_with_cycle, rows, uses_of, SetTerminatorsPost}
-use proofs.Common.{FillCellPost, SlotsBound, SlotsKept, RowAmid, RowFilled, RowShape, BegunText, CellsFilled}
-use proofs.Common.{CellsTaken, after_cell, cells_text, slots_text, AreReceivedLines, LinesTaken, BufferedRowsPre}
-use proofs.Common.{AreFirstRows, RowsTaken, CopyColumnsPost, CopyRowsPost, FlowFault, Memory, Read, Write, rules}
-use proofs.Passes.Exits.{lines_none, lines_are_given, lines_more, eof_gives_nothing}
-use proofs.PasteLemmas.Grid.{Column, for_each_cell_unique, grid_step, grid_none, after_row, rows-append, uses_before_lt}
-use proofs.PasteLemmas.Grid.{lines_of_input, uses_more, update_here, top_of}
-use Rattle.std.proofs.Math.Bool.{or-true, or-false}
+pub use proofs.Common.{Err, None, Ok, get_or-take, set, take-append-drop, ◌||◌, ◌≢◌, drop-set-lt, get_or-set_other}
+pub use proofs.Common.{get_or-set_same, get_or_append_left, get_or_default, get_or_push, length-set, length-take-le}
+pub use proofs.Common.{take-take, take_all, sum_by-append, sum_by, advance_trans, lines_of_unlines, unlines-append}
+pub use proofs.Common.{FillPost, AdvanceOk, IsDone, IsSound, Reader, ReaderAdvance, budget, reader_at, Slots, line}
+pub use proofs.Common.{total_bytes, with_line, AddedSlots, AreLines, max_length, SetTerminatorsPost, FillCellPost}
+pub use proofs.Common.{SlotsBound, SlotsKept, RowAmid, RowFilled, RowShape, BegunText, CellsFilled, CellsTaken}
+pub use proofs.Common.{after_cell, cells_text, slots_text, AreReceivedLines, LinesTaken, BufferedRowsPre, AreFirstRows}
+pub use proofs.Common.{RowsTaken, CopyColumnsPost, CopyRowsPost, FlowFault, Memory, Read, Write, rules}
+pub use proofs.Passes.Exits.{lines_none, lines_are_given, lines_more, eof_gives_nothing}
+pub use Rattle.std.proofs.Math.Bool.{or-true, or-false}
+pub use Grid.*
+use Rattle.std.proofs.Common.{arith}
+use Rattle.std.proofs.lemmas.Grind.{common_steps}
 
-AreLines-append : (end : ℕ) (xs ys : List (List ℕ)) → AreLines end xs → AreLines end ys → AreLines end (xs ++ ys)
+pub AreLines-append : (end : ℕ) (xs ys : Lines) → AreLines end xs → AreLines end ys → AreLines end (xs ++ ys)
 AreLines-append end [] ys p q = q
 AreLines-append end (x ∷ xs) ys (line, more) q = (line, AreLines-append end xs ys more q)
 
--- A reader at the end of its input gives no lines.
-none_received : {end : ℕ} {b c : Reader} {bytes : List ℕ} {ls : List (List ℕ)} → IsDone b → ReaderAdvance b c bytes
+pub none_received : {end : ℕ} {b c : Reader} {bytes : List ℕ} {ls : Lines} → IsDone b → ReaderAdvance b c bytes
     → AreReceivedLines end c bytes ls → ls ≡ []
 none_received done reads k =
     let (none, empty, eof) = eof_gives_nothing _ _ _ done reads in
     cc (lines_are_given _ _ _ _ k)
 
--- Lines were received, and then more.
-pub lines_trans : {end : ℕ} {b c : Reader} {bs cs : List ℕ} {xs ys : List (List ℕ)} → AreReceivedLines end b bs xs
-    → ReaderAdvance b c cs → AreReceivedLines end c cs ys
-    → AreReceivedLines end c (bs ++ cs) (xs ++ ys)
-lines_trans = search (rules, unlines-append, AreLines-append, lines_of_unlines, eof_gives_nothing, none_received)
-
--- At most the requested number of lines is taken.
-pub taken_at_most : {end : ℕ} {b c : Reader} {n : ℕ} {ys : List (List ℕ)} → LinesTaken end b c n ys → length ys ≤ n
+pub taken_at_most : {end : ℕ} {b c : Reader} {n : ℕ} {ys : Lines} → LinesTaken end b c n ys → length ys ≤ n
 taken_at_most t = grind arith
 
--- Nothing is taken from a reader at the end of its input.
-pub none_at_eof : {end : ℕ} {b c : Reader} {n : ℕ} {ys : List (List ℕ)} → LinesTaken end b c n ys → IsDone b → ys ≡ []
+pub none_at_eof : {end : ℕ} {b c : Reader} {n : ℕ} {ys : Lines} → LinesTaken end b c n ys → IsDone b → ys ≡ []
 none_at_eof t done = none_received done t.reads t.came
 
 pub nothing_taken : {end : ℕ} {r : Reader} {n : ℕ} → n ≡ 0 → LinesTaken end r r n []
 nothing_taken = grind arith
 
-abbrev pub taken_more : {end : ℕ} {a b c : Reader} {k m n : ℕ} {xs ys : List (List ℕ)} → k ≡ m + n
+abbrev pub taken_more : {end : ℕ} {a b c : Reader} {k m n : ℕ} {xs ys : Lines} → k ≡ m + n
     → LinesTaken end a b m xs → LinesTaken end b c n ys → LinesTaken end a c k (xs ++ ys)
 taken_more all p q = record {
   bytes = p.bytes ++ q.bytes;
@@ -59,31 +47,25 @@ taken_more all p q = record {
   short = λ h. q.short (p.short h);
   buffered = λ h. q.buffered (p.buffered h);
   none = search rules;
-  came = lines_trans p.came q.reads q.came;
+  came = search (rules, unlines-append, AreLines-append, lines_of_unlines, eof_gives_nothing, none_received);
   enough = grind (arith, common_steps);
 }
 
--- Lines were requested: so many were taken, or fewer at the end of the input.
-pub taken_by : {end n : ℕ} {b c : Reader} {bytes : List ℕ} {ls : List (List ℕ)} → AdvanceOk b c bytes → b.fault ≡ None
+pub taken_by : {end n : ℕ} {b c : Reader} {bytes : List ℕ} {ls : Lines} → AdvanceOk b c bytes → b.fault ≡ None
     → IsSound c → AreReceivedLines end c bytes ls → (length ls ≡ n) ⊎ (IsDone c × (length ls ≤ n)) → (n ≡ 0 → c ≡ b)
     → LinesTaken end b c n ls
 taken_by = grind arith
 
--- ---- the text of a row, column by column
+-- ---- the text of a row
 
 module _ (row : RowShape) where
-  pub cells_text-append : (c : ℕ) (xs ys : List (List ℕ))
+  pub cells_text-append : (c : ℕ) (xs ys : Lines)
       → cells_text row c (xs ++ ys) ≡ cells_text row c xs ++ cells_text row (c + length xs) ys
   cells_text-append c [] ys = search rules
   cells_text-append c (x ∷ xs) ys = grind (arith, common_steps, cells_text-append (c + 1) xs ys)
 
-  -- One more field.
-  pub cells_text-push : (c : ℕ) (xs : List (List ℕ)) (x : List ℕ) {k : ℕ} → c + length xs ≡ k
-      → cells_text row c (xs ++ x ∷ []) ≡ cells_text row c xs ++ (x ++ after_cell row k)
-  cells_text-push = search (rules, cells_text-append)
-
-  -- The columns from c to the last one.
-  pub row_text : (c : ℕ) (xs : List (List ℕ)) → c + length xs ≡ length row.cells → 0 < length xs
+  -- From column c to the last one.
+  pub row_text : (c : ℕ) (xs : Lines) → c + length xs ≡ length row.cells → 0 < length xs
       → cells_text row c xs ≡ join_with_cycle row.delims c xs ++ row.terminator ∷ []
   row_text c [] all some = absurd (omega arith)
   row_text c (x ∷ []) all some = search rules
@@ -97,9 +79,9 @@ module _ (row : RowShape) where
 -- ---- rows that were taken
 
 module _ {row : RowShape} where
-  -- They are the first rows, for each continuation of the inputs.
-  pub rows_on : {old new : List Reader} {ls : ℕ → Column} {taken_rows : List (List (List ℕ))}
-      → AreFirstRows row old new ls taken_rows → (more : ℕ → Column)
+  -- They come first for every continuation of the inputs.
+  pub rows_on : {old new : List Reader} {ls : ℕ → Lines} {taken_rows : List Lines}
+      → AreFirstRows row old new ls taken_rows → (more : ℕ → Lines)
       → ((input : ℕ) → 0 < uses_of row.cells input → IsDone (reader_at new input) → more input ≡ [])
       → rows (columns row.cells (λ input. ls input ++ more input)) ≡ taken_rows ++ rows (columns row.cells more)
   rows_on {ls = ls} {taken_rows} t more may = cc (
@@ -119,7 +101,6 @@ module _ {row : RowShape} where
     is = refl;
   }
 
-  -- Rows are taken, and then more.
   abbrev pub rows_taken_trans : {a b c : List Reader} {xs ys : List ℕ} → RowsTaken row a b xs → RowsTaken row b c ys
       → RowsTaken row a c (xs ++ ys)
   rows_taken_trans p q = record {
@@ -139,40 +120,31 @@ module _ {row : RowShape} where
     is = grind (arith, common_steps);
   }
 
-module _ {row : RowShape} {old new : List Reader} {fields : List (List ℕ)}
+module _ {row : RowShape} {old new : List Reader} {fields : Lines}
     {any_line : Bool} (r : CellsFilled row (length row.cells) old new fields any_line) (some : any_line ≡ true) where
-  -- A filled row in which some column has a line is the next row.
-  pub filled_row_is_first : AreFirstRows row old new r.input_lines (fields ∷ [])
-  filled_row_is_first =
-      let (c, low, first) = r.some some in
-      let row_is = for_each_cell_unique (top_of row.cells r.input_lines) row.cells fields [] r.consumed.width
-      r.consumed.fields_taken in
-      record {
-        lines_taken = λ p. grind (arith, common_steps);
-        are = cc (
-          grid_step row.cells r.input_lines c low (omega arith),
-          grid_none row.cells (after_row row.cells r.input_lines)
-              (grind (arith, common_steps)),
-        );
-        count = r.consumed.count;
-      }
-
-  pub filled_row_text : cells_text row 0 fields
-      ≡ unlines row.terminator (map (join_with_cycle row.delims 0) (fields ∷ []))
-  filled_row_text = search (rules, row_text)
-
   abbrev pub row_taken : RowsTaken row old new (cells_text row 0 fields)
   row_taken = record {
     ls = r.input_lines;
     taken_rows = fields ∷ [];
-    first_rows = filled_row_is_first;
+    first_rows = record {
+      lines_taken = λ p. grind (arith, common_steps);
+      are =
+          let (c, low, first) = r.some some in
+          cc (
+            for_each_cell_unique (top_of row.cells r.input_lines) row.cells fields [] r.consumed.width
+                r.consumed.fields_taken,
+            grid_step row.cells r.input_lines c low (omega arith),
+            grid_none row.cells (after_row row.cells r.input_lines) (grind (arith, common_steps)),
+          );
+      count = r.consumed.count;
+    };
     least = r.least;
-    is = filled_row_text;
+    is = search (rules, row_text);
   }
 
 -- ---- the slots of a row
 
-pub cells_total : (cells : List ℕ) (top : ℕ → ℕ) (ls : List (List ℕ)) → ((c : ℕ) → c < length cells
+pub cells_total : (cells : List ℕ) (top : ℕ → ℕ) (ls : Lines) → ((c : ℕ) → c < length cells
     → length (get_or ls c []) ≤ top (get_or cells c 0))
     → total_bytes (drop (length cells) ls) ≡ 0 → total_bytes ls ≤ sum_by top cells
 cells_total [] top ls short others = omega arith
@@ -204,7 +176,6 @@ slots_bound_start {cells} {store = store} adds denied empty peak = record {
   peak = omega arith;
 }
 
--- The slot of one column gets another line.
 pub slots_bound_line : {cells : List ℕ} {top : ℕ → ℕ} {before store : Slots} → SlotsBound cells top before store
     → (column : ℕ) (bytes : List ℕ) → column < length cells
     → length bytes ≤ top (get_or cells column 0) → SlotsBound cells top before (with_line store column bytes)
@@ -213,10 +184,10 @@ slots_bound_line {cells} {top} {before} {store} k column bytes within fits = rec
   adds = search rules;
   short = short;
   others = others;
-  peak = omega (arith, cells_total cells top lines short others);
+  peak = omega (arith, cells_total _ top _ short others);
 }
   where
-    lines : List (List ℕ)
+    lines : Lines
     lines = set store.lines column bytes
 
     short : (c : ℕ) → c < length cells → length (get_or lines c []) ≤ top (get_or cells c 0)
@@ -229,36 +200,26 @@ slots_bound_line {cells} {top} {before} {store} k column bytes within fits = rec
     others : total_bytes (drop (length cells) lines) ≡ 0
     others = ap total_bytes (drop-set-lt (length cells) store.lines column bytes within) ∙ k.others
 
--- ---- the slots of a row that is being filled
+-- ---- the slots while a row is filled
 
-pub line_le_max_length : (ls : List (List ℕ)) (j : ℕ) → length (get_or ls j []) ≤ max_length ls
+pub line_le_max_length : (ls : Lines) (j : ℕ) → length (get_or ls j []) ≤ max_length ls
 line_le_max_length [] j = omega arith
 line_le_max_length (line ∷ ls) zero = omega arith
 line_le_max_length (line ∷ ls) (suc j) = omega (arith, line_le_max_length ls j)
 
-module _ {cells : List ℕ} {fields : List (List ℕ)} {before store : Slots} (s : SlotsKept cells fields before store)
-  where
-    -- More fields that are in no slot.
-    pub slots_kept_more : (more : List (List ℕ)) → SlotsKept cells (fields ++ more) before store
-    slots_kept_more more = grind (arith, common_steps)
-
-    -- One more field, which is in the slot of its column.
-    pub slots_kept_line : {n : ℕ} (field : List ℕ) → length fields ≡ n → n < length cells
-        → SlotsKept cells (fields ++ field ∷ []) before (with_line store n field)
-    slots_kept_line {n} field width low = record {
-      same = length-set _ n field ∙ s.same;
-      kept = λ first top k high. slots_bound_line ((slots_kept_more (field ∷ [])).kept first top k high) n field low
-          (grind (arith, common_steps));
-    }
+-- Fields that are in no slot.
+slots_kept_more : {cells : List ℕ} {fields : Lines} {before store : Slots} → SlotsKept cells fields before store
+    → (more : Lines) → SlotsKept cells (fields ++ more) before store
+slots_kept_more s more = grind (arith, common_steps)
 
 -- ---- readers by their indices
 
 -- The reader that an index expression read.
 pub at_index : (readers : List Reader) (input : ℕ) (r : Reader) → input < length readers
     → get_or readers input r ≡ reader_at readers input
-at_index readers input r low = get_or_default readers input r no_reader low
+at_index readers input r low = get_or_default _ _ r _ low
 
--- The next column of a row has a readable reader, which is `b`.
+-- Column n is read next, from the readable reader `b`.
 pub record IsNextReader (row : RowShape) (now : List Reader) (n : ℕ) (b : Reader) : Type 0 where
   pub low : n < length row.cells
   pub within : get_or row.cells n 0 < length now
@@ -271,8 +232,8 @@ pub next_reader : {row : RowShape} {now : List Reader} {n : ℕ} → BufferedRow
 next_reader {row} {now} {n} ready low unread =
     let input = get_or row.cells n 0 in
     let within = ready.within n 0 low in
-    let is = at_index now input unread within in
-    let used : 0 < uses_of row.cells input = omega (arith, uses_before_lt row.cells n low) in
+    let is = at_index now _ _ within in
+    let used : 0 < uses_of row.cells input = omega (arith, uses_before_lt _ n low) in
     record {
       low = low;
       within = within;
@@ -281,7 +242,6 @@ next_reader {row} {now} {n} ready low unread =
       ends = rw is (ready.same_end input used);
     }
 
--- The terminator of one more reader is set.
 pub set_terminator_more : (end : ℕ) (cells : List ℕ) (i : ℕ) (old now : List Reader) (r : Reader) → i < length cells
     → get_or cells i 0 < length now → SetTerminatorsPost end (take i cells) old now
     → r ≡ record (reader_at now (get_or cells i 0)) { terminator = end } → IsSound r
@@ -290,18 +250,17 @@ set_terminator_more = grind (arith, common_steps)
 
 -- ---- the lines of a row
 
--- Lines were taken from one reader, and none from the others.
-pub taken_from_one : {end : ℕ} (now : List Reader) {input : ℕ} {r : Reader} {ls : List (List ℕ)} (most : ℕ → ℕ)
+pub taken_from_one : {end : ℕ} (now : List Reader) {input : ℕ} {r : Reader} {ls : Lines} (most : ℕ → ℕ)
     → input < length now → LinesTaken end (reader_at now input) r (most input) ls
     → ((q : ℕ) → q ≢ input → most q ≡ 0) → (q : ℕ)
     → LinesTaken end (reader_at now q) (reader_at (set now input r) q) (most q) (lines_of_input input ls q)
 taken_from_one now most within t none = search rules
 
-module _ {row : RowShape} {n : ℕ} {old now : List Reader} {fields : List (List ℕ)} {input_lines : ℕ → List (List ℕ)}
+module _ {row : RowShape} {n : ℕ} {old now : List Reader} {fields : Lines} {input_lines : ℕ → Lines}
     (t : CellsTaken row n old now fields input_lines) (low : n < length row.cells)
-    (within : get_or row.cells n 0 < length now) {r : Reader} {ls : List (List ℕ)} {field : List ℕ}
+    (within : get_or row.cells n 0 < length now) {r : Reader} {ls : Lines} {field : List ℕ}
     (lines_taken : LinesTaken row.terminator (reader_at now (get_or row.cells n 0)) r 1 ls)
-    (there : field ≡ slice_index_or (input_lines (get_or row.cells n 0) ++ ls)
+    (there : field ≡ get_or (input_lines (get_or row.cells n 0) ++ ls)
     (uses_of (take n row.cells) (get_or row.cells n 0)) []) where
   abbrev cells : List ℕ
   cells = row.cells
@@ -309,17 +268,16 @@ module _ {row : RowShape} {n : ℕ} {old now : List Reader} {fields : List (List
   abbrev input : ℕ
   input = get_or cells n 0
 
-  abbrev more_lines : ℕ → List (List ℕ)
+  abbrev more_lines : ℕ → Lines
   more_lines = lines_of_input input ls
 
   taken_next : (q : ℕ) → LinesTaken row.terminator (reader_at now q) (reader_at (set now input r) q)
       (cond (input == q) 1 0) (more_lines q)
-  taken_next = taken_from_one now (λ q. cond (input == q) 1 0) within (rw (eq-eqb input input refl) lines_taken)
+  taken_next = taken_from_one now _ within (rw (eq-eqb input input refl) lines_taken)
       (grind arith)
 
-  -- The line of a column before this one does not change.
   earlier_cell : (c : ℕ) → c < n → let p = get_or cells c 0 in let j = uses_of (take c cells) p in
-      slice_index_or (input_lines p ++ more_lines p) j [] ≡ slice_index_or (input_lines p) j []
+      get_or (input_lines p ++ more_lines p) j [] ≡ get_or (input_lines p) j []
   earlier_cell c less =
       let p = get_or cells c 0 in
       let below = rw (take-take c n cells (omega arith), get_or-take n cells c 0 less) at
@@ -330,7 +288,7 @@ module _ {row : RowShape} {n : ℕ} {old now : List Reader} {fields : List (List
   cells_taken_more : CellsTaken row (n + 1) old (set now input r) (fields ++ field ∷ [])
       (λ q. input_lines q ++ more_lines q)
   cells_taken_more = record {
-    lines_taken = λ q. taken_more (uses_more cells n q low) (t.lines_taken q) (taken_next q);
+    lines_taken = λ q. taken_more (uses_more _ n q low) (t.lines_taken q) (taken_next q);
     width = omega (arith, length-append fields (field ∷ []));
     fields_taken = search (rules, get_or_push, get_or_append_left, earlier_cell);
     count = length-set now input r ∙ t.count;
@@ -346,12 +304,11 @@ fill_starts = record {
   less = λ any_line. cc;
 }
 
--- A column took its field from a reader: a line, or nothing at the end of the input.
+-- A line, or nothing at the end of the input.
 abbrev pub FieldTaken : ℕ → Reader → Reader → List ℕ → Bool → Type 0
 FieldTaken end b r field true = LinesTaken end b r 1 (field ∷ []) × (budget r < budget b)
 FieldTaken end b r field false = LinesTaken end b r 1 [] × (field ≡ []) × (budget r ≤ budget b)
 
--- The field was read into a slot.
 field_in_slot : (end : ℕ) (b r : Reader) (before after : Slots) (slot : ℕ) (has : Bool) → b.fault ≡ None
     → b.terminator ≡ end → IsSound r → FillPost b r before after slot (Ok has)
     → (field : List ℕ) × (after ≡ with_line before slot field) × FieldTaken end b r field has
@@ -366,7 +323,7 @@ field_in_slot end b r before after slot true clean same sound e = (
 )
 field_in_slot end b r before after slot false clean same sound (advance_ok, done, kept) = search rules
 
-module _ {row : RowShape} {n : ℕ} {old now : List Reader} {fields : List (List ℕ)} {any_line : Bool}
+module _ {row : RowShape} {n : ℕ} {old now : List Reader} {fields : Lines} {any_line : Bool}
     (f : CellsFilled row n old now fields any_line) {b : Reader} (x : IsNextReader row now n b) where
   abbrev p : ℕ
   p = get_or row.cells n 0
@@ -375,13 +332,10 @@ module _ {row : RowShape} {n : ℕ} {old now : List Reader} {fields : List (List
     all_budgets : sum_by budget (set now p r) + budget b ≡ sum_by budget now + budget r
     all_budgets = grind (arith, common_steps)
 
-    -- The column is filled.
     pub fill_next : (field : List ℕ) (has : Bool) → FieldTaken row.terminator b r field has
         → CellsFilled row (n + 1) old (set now p r) (fields ++ field ∷ []) (any_line || has)
     fill_next field true (t, fewer) =
         let lines_taken = rw x.is_read at t in
-        let all : length (f.input_lines p) ≡ uses_of (take n row.cells) p =
-        grind arith in
         let here = update_here p (field ∷ []) (λ q. []) p refl in
         let less : sum_by budget (set now p r) < sum_by budget old = omega (arith, all_budgets) in
         rw or-true (record {
@@ -409,36 +363,37 @@ module _ {row : RowShape} {n : ℕ} {old now : List Reader} {fields : List (List
           less = λ h. omega (arith, all_budgets);
         })
 
--- The row after the field in the slot of column n, and the byte after it, were copied.
+-- After the copy of the field in the slot of column n.
 abbrev pub with_slot : RowShape → ℕ → Slots → BegunText → BegunText
 with_slot row n store now = record now { count = n + 1; text = now.text ++ (line store n ++ after_cell row n) }
 
 module _ {row : RowShape} where
-  -- All fields were copied from the buffers, and then the row was moved.
+  -- The begun row was moved to the front of the buffer.
   pub amid_starts : {old : List Reader} {copied : List ℕ} {begun moved : BegunText} {store : Slots}
       (p : CopyRowsPost row old copied begun) → moved ≡ begun → RowAmid row moved.count p.mid store moved store
   amid_starts p same = grind (arith, common_steps)
 
   module _ {n : ℕ} {from : List Reader} {first store : Slots} {now : BegunText} (a : RowAmid row n from first now store)
       {b : Reader} (x : IsNextReader row now.readers n b) where
-    -- The field of the next column is in its slot.
     pub amid_next : (r : Reader) (after : Slots) → n < length store.lines → IsSound r → (has : Bool)
         → FillPost b r store after n (Ok has)
         → RowAmid row (n + 1) from first
         (record now { readers = set now.readers (get_or row.cells n 0) r; any_line = now.any_line || has }) after
     amid_next r after room sound has e =
         let (field, stored, taken) = field_in_slot row.terminator b r store after n has x.clean x.ends sound e in
-        let width = a.filled.consumed.width in
         rw stored (record {
           fields = a.fields ++ field ∷ [];
           filled = fill_next a.filled x r field has taken;
           within = omega arith;
           is = grind (arith, common_steps);
           held = grind (arith, common_steps);
-          slots = slots_kept_line a.slots field width x.low;
+          slots = record {
+            same = length-set _ n field ∙ a.slots.same;
+            kept = λ start top k high. slots_bound_line ((slots_kept_more a.slots _).kept start top k high) n _ x.low
+                (grind (arith, common_steps));
+          };
         })
 
-    -- The step for the next column failed.
     pub amid_failed : (r : Reader) (after : Slots) (into : List ℕ) (e : FlowFault)
         → FillCellPost (get_or row.cells n 0) n b r store after (Err e)
         → RowFilled row from first (set now.readers (get_or row.cells n 0) r) after into (Err e)
@@ -458,13 +413,12 @@ module _ {row : RowShape} where
     amid_failed r after into Write (same, kept, going) = search rules
     amid_failed r after into Memory (p, sound) = search rules
 
-  amid_copied : {n : ℕ} {from : List Reader} {first store : Slots} {now : BegunText}
+  pub amid_copied : {n : ℕ} {from : List Reader} {first store : Slots} {now : BegunText}
       → RowAmid row (n + 1) from first now store → now.count ≡ n
       → RowAmid row (n + 1) from first (with_slot row n store now) store
-  amid_copied = grind (arith, common_steps, cells_text-push)
+  amid_copied = grind (arith, common_steps, cells_text-append)
 
-  -- More fields were copied from the buffers.
-  amid_columns : {from : List Reader} {first store : Slots} {now next : BegunText}
+  pub amid_columns : {from : List Reader} {first store : Slots} {now next : BegunText}
       → RowAmid row now.count from first now store → CopyColumnsPost row now next
       → RowAmid row next.count from first next store
   amid_columns a p = record {
@@ -476,13 +430,6 @@ module _ {row : RowShape} where
     slots = slots_kept_more a.slots p.fields;
   }
 
-  -- The field in a slot was copied, and then more fields from the buffers.
-  pub amid_resumed : {n : ℕ} {from : List Reader} {first store : Slots} {now middle next : BegunText}
-      → RowAmid row (n + 1) from first now store → now.count ≡ n → middle ≡ with_slot row n store now
-      → CopyColumnsPost row middle next → RowAmid row next.count from first next store
-  amid_resumed a here is p = amid_columns (amid_copied a here) (rw is at p)
-
-  -- The text that was copied, and that of the fields in the slots, are the row.
   pub amid_text : {from : List Reader} {first store : Slots} {now : BegunText}
       (a : RowAmid row (length row.cells) from first now store) → length row.cells ≤ length store.lines
       → now.text ++ slots_text row now.count store ≡ cells_text row 0 a.fields
@@ -492,14 +439,13 @@ module _ {row : RowShape} where
       let front = take k a.fields in
       let slots = take n store.lines in
       let long = length-take-le k a.fields (omega arith) in
-      let size = length-take-le n _ room in
       let same = ext_get_or [] (drop k slots) (drop k a.fields)
       (grind (arith, common_steps))
       (grind (arith, common_steps)) in
       let here : k ≡ 0 + length front = omega arith in
       cc (cells_text-append row 0 front (drop k a.fields), take-append-drop k a.fields)
 
--- ---- the readers, after a line was read
+-- ---- the readers after a read
 
 pub readable_after : {row : RowShape} {now : List Reader} {n : ℕ} {b : Reader} → IsNextReader row now n b → (r : Reader)
     → BufferedRowsPre row now → (before after : Slots) (slot : ℕ) (has : Bool)
