@@ -191,7 +191,7 @@ def main():
     crates, uses = crates_of_program()
     progress = Progress(len(crates))
     say(
-        f"proving {len(crates)} crates and building the program. From nothing this takes 12 to 18 minutes on four "
+        f"proving {len(crates)} crates and building the program. From nothing this takes 11 to 18 minutes on four "
         "processors; the first crate alone takes 2 to 3 minutes"
         + ("; nothing that was proved on this machine is proved again." if keeps() else ".")
     )

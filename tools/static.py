@@ -113,7 +113,7 @@ def main():
         if not is_current():
             say(
                 "there is no object file of the program as it is now: the libraries below it are "
-                + ("taken from what was proved on this machine" if keeps() else "proved, which takes 12 to 18 minutes")
+                + ("taken from what was proved on this machine" if keeps() else "proved, which takes 11 to 18 minutes")
             )
             why = make_object(kit, place)
             if why:
