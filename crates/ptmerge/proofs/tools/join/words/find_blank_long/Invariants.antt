@@ -1,6 +1,7 @@
 -- No blank is among the bytes that were searched.
-use Rattle.ptmerge.proofs.Common.{◌-◌, ◌≤◌, length, is_blank}
-use Rattle.ptmerge.proofs.tools.join.words.find_blank_long.Given as goal
+use Rattle.ptmerge.proofs
+use proofs.Common.{◌-◌, ◌≤◌, length, is_blank}
+use proofs.tools.join.words.find_blank_long.Given as goal
 use Rattle.memchr.specs.Find.{Nowhere, Passes}
 
 abbrev pub invariant-loop-at : goal.invariant-loop-at
