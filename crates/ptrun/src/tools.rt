@@ -8,7 +8,6 @@ ghost use Rattle.ptrun.specs.Runs.{RunPre, sinks, outcome};
 ghost use Rattle.ptrun.specs.SpecOfArgs.{command_spec};
 
 use crate::driver::run_tool;
-use crate::merge::MergeJob;
 use crate::messages::Messages;
 use crate::report::Report;
 use crate::tool::{Completion, Tool};
@@ -44,14 +43,8 @@ pub(crate) fn run_command<
         Command::Paste(tool, operands) => run_tool(store, &tool, &operands, inputs, out, messages),
         Command::Tr(tool, operands) => run_tool(store, &tool, &operands, inputs, out, messages),
         Command::Uniq(tool, operands) => run_tool(store, &tool, &operands, inputs, out, messages),
-        Command::Comm(job, operands) => {
-            let tool: MergeJob<B> = MergeJob::Comm(job);
-            run_tool(store, &tool, &operands, inputs, out, messages)
-        }
-        Command::Join(job, operands) => {
-            let tool = MergeJob::Join(job);
-            run_tool(store, &tool, &operands, inputs, out, messages)
-        }
+        Command::Comm(tool, operands) => run_tool(store, &tool, &operands, inputs, out, messages),
+        Command::Join(tool, operands) => run_tool(store, &tool, &operands, inputs, out, messages),
     }
 }
 
