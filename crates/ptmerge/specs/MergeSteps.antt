@@ -42,7 +42,7 @@ pub record IsReaderOf (cursor : Sorted) (reader : Reader) : Type 0 where
   pub counted : cursor.number + budget reader ≤ 2 ^ 63
 
 -- The precondition of `next`: the cursor's slots exist, `reader` is its reader, and its span is that of the current
--- line's key. Every reader is sound, but a caller learns this only from a call of it, and so need not show it.
+-- line's key. Every reader is sound, but a caller learns that only by calling it; so `next` may assume it.
 pub record NextPre (key : Key) (cursor : Sorted) (reader : Reader) (store : Slots) : Type 0 where
   pub distinct_slots : HasDistinctSlots cursor store
   pub own_reader : IsSound reader → IsReaderOf cursor reader

@@ -29,13 +29,6 @@ some_same same = cc
 pub same_here : (p : ℕ) → (p == p) ≡ true
 same_here p = grind arith
 
-pub neither : (a b : Bool) → (a || b) ≡ false → (a ≡ false) × (b ≡ false)
-neither true b is = absurd (false≢true (sym is))
-neither false b is = (refl, is)
-
-pub by_position : (P : ℕ → Type 0) (p : ℕ) → P p → ((q : ℕ) → p ≢ q → P q) → (q : ℕ) → P q
-by_position P p here others q = grind arith
-
 pub each_listed : (P : ℕ → Type 0) (ps : List ℕ) → All P ps → (q : ℕ) → is_in ps q ≡ true → P q
 each_listed P ps all q named = let a = Any-from_list_any (λ p. p == q) ps named in
     search rules

@@ -4,16 +4,15 @@
 use Rattle.ptrun.proofs
 use Rattle.ptrun.specs
 use proofs.Common.{All, All-map, AreInputsConsistent, AreReadToEnd, Bool, Command, CommandPost, CommandSpec, Completion}
-use proofs.Common.{EndRunPost, Err, FinishPost, FlowFault, HasCause, HasSaid, Input, InputBytes}
-use proofs.Common.{InputsPre, IsPrefix, IsRun, IsTooLong, Job, List, Memory, None, Ok, Option}
-use proofs.Common.{Output, PushEffect, Read, Reader, Received, ReceivedInputs, Result, RunComm, RunCut, RunInputsEnd}
-use proofs.Common.{RunInputsPost, RunJoin, RunPaste, RunTr, RunUniq, SinkState, Slots, Some, Write, [], ap, append-nil}
-use proofs.Common.{append_known, arith, cases_Bool, command_of_args, command_spec, common_steps, cond, ended_operands}
-use proofs.Common.{false, false≢true, fault_view, is_memory_fault, is_reader_unopened, is_unopened, length}
-use proofs.Common.{length-append, map, message_only, messages, position, positions, push_trans}
-use proofs.Common.{reader_at, refl, result_message, rules, sinks, spec_of_args, spec_of_parsed, spec_of_tool, sym}
-use proofs.Common.{tool_name, tool_of_job, true, usage_message, usage_status, word_of_job, ℕ, ⊎_elim, ◌++◌, ◌<◌, ◌==◌}
-use proofs.Common.{◌∙◌, ◌≡◌, ◌≤◌}
+use proofs.Common.{EndRunPost, Err, FinishPost, FlowFault, HasCause, HasSaid, Input, InputBytes, InputsPre, IsPrefix}
+use proofs.Common.{IsRun, IsTooLong, Job, List, Memory, None, Ok, Option, Output, PushEffect, Read, Reader, Received}
+use proofs.Common.{ReceivedInputs, Result, RunComm, RunCut, RunInputsEnd, RunInputsPost, RunJoin, RunPaste, RunTr}
+use proofs.Common.{RunUniq, SinkState, Slots, Some, Write, [], ap, append-nil, append_known, arith, cases_Bool}
+use proofs.Common.{command_of_args, command_spec, common_steps, cond, ended_operands, false, false≢true, fault_view}
+use proofs.Common.{is_memory_fault, is_reader_unopened, is_unopened, length, length-append, map, message_only, messages}
+use proofs.Common.{position, positions, push_trans, reader_at, refl, result_message, rules, sinks, spec_of_args}
+use proofs.Common.{spec_of_parsed, spec_of_tool, sym, tool_name, tool_of_job, true, usage_message, usage_status}
+use proofs.Common.{word_of_job, ℕ, ⊎_elim, ◌++◌, ◌<◌, ◌==◌, ◌∙◌, ◌≡◌, ◌≤◌}
 use proofs.MessageWrites.{said_trans}
 use proofs.OperandInputs.{earlier_map, fresh_all, kept_up, nothing_decided, nothing_read, positions_within, received_at}
 use proofs.OperandInputs.{received_of, some_same}

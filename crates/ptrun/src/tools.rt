@@ -1,5 +1,5 @@
-//! Runs a command with its tool, and the tools that a run can drive: `cut`, `paste`, `tr` and `uniq`. `merge` has `comm`
-//! and `join`.
+//! Runs a command with its tool, and the tools that a run can drive: `cut`, `paste`, `tr` and `uniq`. `merge` has
+//! `comm` and `join`.
 
 ghost use Rattle.std.specs.Prelude.{◌≡◌};
 ghost use Rattle.ptopts.specs.View.{command_view};

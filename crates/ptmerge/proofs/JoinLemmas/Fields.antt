@@ -249,9 +249,6 @@ single_spaced_words false (b ∷ bytes) tidy =
 -- ---- canonical lines
 
 module _ (job : Join) (key : List ℕ) (none : job.list ≡ None) where
-  abbrev prefix : ℕ
-  prefix = output_separator job.separator
-
   abbrev of : List ℕ → Lines
   of line = join_fields job.separator line
 

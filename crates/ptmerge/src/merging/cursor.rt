@@ -21,9 +21,10 @@ pub enum CursorStatus {
 }
 
 // An input of a merge, with its order check. `same` is true if the current line has the key of the previous one,
-// `current_slot` and `previous_slot` are the slots of these two lines, `number` is the count of lines read, and `key` is
-// the span of the key in the current line. The reader is passed to each call that reads. (`same` comes first for speed:
-// the compiler splits the first field of a merge, since a result of `Merge::start` keeps a fault in the same bytes.)
+// `current_slot` and `previous_slot` are the slots of these two lines, `number` is the count of lines read, and `key`
+// is the span of the key in the current line. The reader is passed to each call that reads. (`same` comes first for
+// speed: the compiler splits the first field of a merge, since a result of `Merge::start` keeps a fault in the same
+// bytes.)
 #[derive(Clone, Copy, Drop)]
 pub struct Sorted {
     pub same: bool,

@@ -10,8 +10,8 @@ use Rattle.ptlines.specs.Readers.{no_reader}
 use Rattle.ptlines.specs.Sources.{SourceState}
 use Rattle.ptopts.specs.View.{words_view}
 use Rattle.ptrun.specs.Files.{IsNewOrUnopened}
-use Rattle.ptext.proofs.files.open_inputs.Goals as goal
 use Rattle.ptext.proofs.files.open_inputs.Goals.{in-Ok, in-Err}
+use Rattle.ptext.proofs.files.open_inputs.Goals as goal
 
 pub loop-name-preserved : goal.loop-name-preserved
 loop-name-preserved g c = record {

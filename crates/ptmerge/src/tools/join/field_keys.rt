@@ -5,7 +5,8 @@ use crate::tools::join::fields::field_span;
 use ptlines::compare;
 use std::cmp::Ordering;
 
-// The key of a line is the field with the number of its input, counted from 1. Keys are compared byte by byte.
+// The key of a line of the first input is its field number `first`, counted from 1, and of one of the second input its
+// field number `second`. Keys are compared byte by byte.
 #[derive(Drop)]
 pub(crate) struct FieldKeys {
     pub separator: Option<u8>,

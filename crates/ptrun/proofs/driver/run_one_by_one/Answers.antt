@@ -1,7 +1,7 @@
 -- If an operand fails, the run stops there, and the operands after it are unchanged.
 use Rattle.ptrun.proofs
-use Rattle.std.proofs.lemmas.Grind.{common_steps}
 use proofs.Common.{arith, drop, err_from_is_err_and, length, positions, scaled_Fits, sym, ◌+◌, ◌∙◌}
+use Rattle.std.proofs.lemmas.Grind.{common_steps}
 use proofs.OperandInputs.{OperandStep, only_within, operand_step, position_in_range, positions_end}
 use proofs.Sequential.{done_all, done_nothing, done_operand, done_stopped, done_unopened, operand_ready}
 use proofs.ToolRuns.{decides_all, read_in_turn}

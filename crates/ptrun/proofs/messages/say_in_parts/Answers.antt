@@ -2,8 +2,8 @@
 use Rattle.ptrun.proofs
 use proofs.Common.{arith, common_steps, rules}
 use proofs.MessageWrites.{joined_all, joined_more, line_split, say_post_all, say_post_part}
-use proofs.messages.say_in_parts.Goals as goal
 use Rattle.ptlines.proofs.KnownBytes.{append_known-append}
+use proofs.messages.say_in_parts.Goals as goal
 
 pub returns-in-Err : goal.returns-in-Err
 returns-in-Err g c =

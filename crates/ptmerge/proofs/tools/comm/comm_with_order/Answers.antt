@@ -1,7 +1,7 @@
 -- One lemma of `CommLemmas` for each iteration, and one of `CommLemmas` or `MergeLemmas` for each exit.
 use Rattle.ptmerge.proofs
-use Rattle.std.proofs.Common.{rules}
 use proofs.Common.{refl, ◌∙◌, comm_job, arith}
+use Rattle.std.proofs.Common.{rules}
 use proofs.MergeLemmas.{advance_pre, err_is, start_fault, start_ok, open_merge, reads_less, ends_well, between_next}
 use proofs.MergeLemmas.{ends_fallen}
 use proofs.CommLemmas.{alone_continues, alone_fails, pair_continues, pair_fails, second_advance_pre, second_fails}

@@ -1,9 +1,9 @@
 -- One lemma of `JoinLemmas` for each iteration, and one of `JoinLemmas` or `MergeLemmas` for each exit.
 use Rattle.ptmerge.proofs
 use Rattle.ptmerge.specs
+use proofs.Common.{refl, Second, sym, ◌∙◌, join_job, arith}
 use Rattle.std.proofs.lemmas.Grind.{common_steps}
 use Rattle.std.proofs.Common.{rules}
-use proofs.Common.{refl, Second, sym, ◌∙◌, join_job, arith}
 use proofs.JoinLemmas.{read_group_pre, read_group_fails, read_group_continues, group_closed, group_there}
 use proofs.JoinLemmas.{write_pairs_group, write_pairs_pre, pair_fails, write_pairs_next, write_pairs_continues}
 use proofs.JoinLemmas.{alone_continues, alone_fails, loop_invariant, measure_decreases, is_line_by_line, group_opens}

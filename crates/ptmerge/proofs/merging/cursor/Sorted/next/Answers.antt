@@ -1,9 +1,9 @@
 -- The current line keeps its slot when its span becomes that of the previous line, so the two keys that are compared
 -- are those of both lines.
 use Rattle.ptmerge.proofs
-use Rattle.std.proofs.lemmas.Grind.{common_steps}
 use proofs.Common.{◌≡◌, ◌<◌, ◌+◌, sym, ap, ◌∙◌, inl, arith, if◌then◌else◌, nat_tests, line, line_of_with_line, Head}
 use proofs.Common.{Disorder}
+use Rattle.std.proofs.lemmas.Grind.{common_steps}
 use proofs.MergeLemmas.{later_status, line_other}
 use proofs.merging.cursor.Sorted.next.Goals as goal
 

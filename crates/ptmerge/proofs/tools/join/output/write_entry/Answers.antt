@@ -1,8 +1,8 @@
 -- A canonical line is its key and its other fields, so it is written unchanged.
 use Rattle.ptmerge.proofs
-use Rattle.std.proofs.lemmas.Grind.{common_steps}
 use proofs.Common.{◌≡◌, List, [], ◌∷◌, ◌++◌, ℕ, Option, Result, append-nil, ap, refl, subst, First, Join, Output, arith}
 use proofs.Common.{PushPost, Second, entry_with_list, join_job, option_copied}
+use Rattle.std.proofs.lemmas.Grind.{common_steps}
 use proofs.JoinLemmas.Fields.{then_pushes, first_is, pair_is, second_is}
 use Rattle.ptmerge.specs.JoinFields.{IsKeyOf}
 use proofs.tools.join.output.write_entry.Goals as goal

@@ -1,7 +1,7 @@
 -- The first item has no separator before it, so it is written before the loop.
 use Rattle.ptmerge.proofs
-use Rattle.std.proofs.lemmas.Grind.{common_steps}
 use proofs.Common.{◌∷◌, ℕ, List, sym, ◌∙◌, join_job, output_separator, arith}
+use Rattle.std.proofs.lemmas.Grind.{common_steps}
 use proofs.JoinLemmas.Fields.{partial_first, each_fails, each_more, between_is, entry_listed, first_then_rest}
 use proofs.tools.join.output.write_listed_fields.Goals as goal
 

@@ -1,7 +1,7 @@
 -- A write that fails leaves a prefix of the words.
 use Rattle.ptmerge.proofs
-use Rattle.std.proofs.lemmas.Grind.{common_steps}
 use proofs.Common.{◌∷◌, ℕ, List, ap, arith, with_prefix}
+use Rattle.std.proofs.lemmas.Grind.{common_steps}
 use proofs.JoinLemmas.Fields.{partial_ends, each_fails, each_more, others_more, others_rest}
 use proofs.tools.join.output.write_other_words.Goals as goal
 

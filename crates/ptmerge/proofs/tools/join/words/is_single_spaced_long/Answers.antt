@@ -1,6 +1,6 @@
 use Rattle.ptmerge.proofs
-use Rattle.std.proofs.Common.{◌/◌}
 use proofs.Common.{◌==◌, ◌∙◌, ◌+◌, ◌^◌, ◌≤◌, length, ap, arith, sym}
+use Rattle.std.proofs.Common.{◌/◌}
 use proofs.JoinLemmas.Fields.{bit_is, chunk_spaced, last_blank, top_bit}
 use Rattle.std.proofs.lemmas.Simd.{length-chunk}
 use Rattle.std.specs.Simd.Lanes.{chunk}
