@@ -1,13 +1,13 @@
 -- The words and the parsed command agree on the number of files and on whether standard output is used, unless memory
 -- ran out. So a run over the parsed command is one that the words ask for.
-use Rattle.std.specs.Prelude.{◌≡◌, ℕ, Bool, true, false, List, Option, Some, None, Result, Ok, Err, codes, is_none}
+use Rattle.ptext.specs
+use Rattle.std.specs.Prelude.{◌≡◌, ℕ, true, false, List, Option, Some, None, Result, Ok, Err, codes, is_none}
 use Rattle.std.specs.Prelude.{option_map, if◌then◌else◌}
 use Rattle.std.proofs.Common.{sym, ◌∙◌, ap, refl, subst}
-use Rattle.std.specs.List.{list_any}
 use Rattle.std.proofs.lemmas.Bool.{false≢true}
 use Rattle.ptopts.specs.Commands.{Command, command_of_args}
 use Rattle.ptopts.specs.Faults.{Fault}
-use Rattle.ptopts.specs.View.{CommandPost, command_view, fault_view}
+use Rattle.ptopts.specs.View.{CommandPost, fault_view}
 use Rattle.ptopts.specs.declared.command.Command as code
 use Rattle.ptopts.specs.declared.fault.UseFault.{UseFault}
 use Rattle.ptlangs.specs.Results.{IsFault}
@@ -17,8 +17,8 @@ use Rattle.ptrun.specs.Files.{AreNewInputs}
 use Rattle.ptrun.specs.Messages.{unopened_message}
 use Rattle.ptrun.specs.Runs.{Outcome, IsRun, IsUnchangedIfUnread, sinks}
 use Rattle.ptrun.specs.SpecOfArgs.{is_memory_fault, named_file_count, file_count, spec_of_parsed}
-use Rattle.ptext.specs.CommandOutput.{has_standard_output, means_standard_output, output_file}
-use Rattle.ptext.specs.Perform.{HasRun, IsOutputUnopened}
+use specs.CommandOutput.{has_standard_output, means_standard_output, output_file}
+use specs.Perform.{HasRun, IsOutputUnopened}
 
 pub files_of_parsed : {A : Type 0} (command : Result (code.Command A) UseFault) (meaning : Result Command Fault)
     → CommandPost command meaning
@@ -74,15 +74,7 @@ has_run command words {old} {new} {out} {messages} {sink} {Unused} {o} {ran} sam
     }
 
 pub names_output : {A : Type 0} (command : Result (code.Command A) UseFault) (meaning : Result Command Fault)
-    (inputs : List Reader) (name : List ℕ)
-    → CommandPost command meaning → Some name ≡ output_file command inputs
+    (name : List ℕ) → CommandPost command meaning → output_file command ≡ Some name
     → IsOutputUnopened meaning (unopened_message (codes "uniq") name)
-names_output (Ok command) meaning inputs name meant is =
-    rw meant (by_unopened (list_any (λ (r : Reader). r.refused) inputs) is)
-  where
-    by_unopened : (b : Bool) → Some name ≡ (if b then None else (command_view command).output)
-        → option_map (unopened_message (codes "uniq")) (command_view command).output
-        ≡ Some (unopened_message (codes "uniq") name)
-    by_unopened true is = cc
-    by_unopened false is = ap (option_map (unopened_message (codes "uniq"))) (sym is)
-names_output (Err fault) meaning inputs name meant is = cc
+names_output (Ok command) meaning name meant is = rw meant (ap (option_map (unopened_message (codes "uniq"))) is)
+names_output (Err fault) meaning name meant is = cc

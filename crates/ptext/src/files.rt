@@ -1,9 +1,9 @@
 //! `perform`, which runs a command over real files, and the reports of runs that cannot start. `main` calls it.
 
-ghost use Rattle.std.specs.Prelude.{◌≡◌, ◌+◌, false, [], ◌∷◌, codes, length, All, IfOk, Err, vec_len, option_map};
+ghost use Rattle.std.specs.Prelude.{◌≡◌, ◌+◌, false, [], ◌∷◌, codes, length, All, IfOk, Err, vec_len};
 ghost use Rattle.std.specs.List.{list_any};
 ghost use Rattle.ptlines.specs.Readers.{Reader, new_reader, reader_at};
-ghost use Rattle.ptext.specs.CommandOutput.{output_file, has_standard_output, means_standard_output};
+ghost use Rattle.ptext.specs.CommandOutput.{IsDestination, means_standard_output};
 ghost use Rattle.ptext.specs.Perform.{PerformPost, RunOverInputsPost};
 ghost use Rattle.ptopts.specs.Commands.{command_of_args};
 ghost use Rattle.ptopts.specs.View.{words_view, CommandPost, HasToolName};
@@ -50,6 +50,13 @@ pub fn perform<'a, R: Files, A: Allocator + Copy, S: Source, W: Sink, E: Sink>(
     }
 }
 
+// Where a command writes: to standard output, to the file with this name, or nowhere, as it will not run.
+enum Destination<'a> {
+    Standard,
+    File(&'a str),
+    Nowhere,
+}
+
 // Runs a command over its inputs, and returns `out` as `perform` does. The inputs are borrowed, so that the exits of
 // this function need not drop them.
 fn run_with_inputs<R: Files, A: Allocator + Copy, S: Source, W: Sink, E: Sink>(
@@ -70,34 +77,33 @@ fn run_with_inputs<R: Files, A: Allocator + Copy, S: Source, W: Sink, E: Sink>(
     ensures performed { RunOverInputsPost (words_view words.now) inputs.old inputs.new (W.state out) (E.state messages)
         (result.out ≡ out) (outcome W.state E.state result) }
 {
-    if writes_to_stdout(&command) {
-        return run(alloc, command, words, inputs, out, messages);
-    }
-    let output = match output_name(&command, inputs) {
-        Some(name) => match fs::create(rt, name) {
+    let output = match destination_of(&command, inputs) {
+        Destination::Standard => return run(alloc, command, words, inputs, out, messages),
+        Destination::File(name) => match fs::create(rt, name) {
             Ok(file) => Output::File(FromWrite::new(file)),
             Err(_) => return report_output_unopened(name, out, messages),
         },
-        None => Output::Closed(false),
+        Destination::Nowhere => Output::Closed(false),
     };
     let report = run(alloc, command, words, inputs, output, messages);
     replace_output(report, out)
 }
 
-// Returns the name of the file that the command writes to, if all its inputs could be opened.
-fn output_name<'a, A: Allocator, S: Source, R: Source>(
+// Returns where the command writes. Its output file is to be created only if all its inputs could be opened.
+fn destination_of<'a, A: Allocator, S: Source, R: Source>(
     command: &Result<Command<'a, A>, UseFault<'a>>,
     inputs: &[LineReader<S, R>],
-) -> Option<&'a str>
-    ensures { option_map (λ name. name.now) result ≡ output_file command.now inputs.now }
+) -> Destination<'a>
+    ensures { IsDestination command.now inputs.now result }
 {
     let Ok(command) = command else {
-        return None;
+        return Destination::Nowhere;
     };
-    if is_any_unopened(inputs) {
-        return None;
+    match command.output() {
+        None => Destination::Standard,
+        Some(_) if is_any_unopened(inputs) => Destination::Nowhere,
+        Some(name) => Destination::File(name),
     }
-    command.output()
 }
 
 // Returns whether an input could not be opened.
@@ -105,16 +111,6 @@ fn is_any_unopened<S: Source, R: Source>(inputs: &[LineReader<S, R>]) -> bool
     ensures { result ≡ list_any (λ r. r.refused) inputs.now }
 {
     inputs.iter().any(|input| input.is_refused())
-}
-
-// Returns whether the words mean a command that writes to standard output.
-fn writes_to_stdout<A: Allocator>(command: &Result<Command<'_, A>, UseFault<'_>>) -> bool
-    ensures { result ≡ has_standard_output command.now }
-{
-    match command {
-        Ok(command) => command.output().is_none(),
-        Err(_) => false,
-    }
 }
 
 // Puts `out` in place of the output of a report.

@@ -12,11 +12,8 @@ use proofs.Common.{cases_Bool, cases_eq, filter, get_or-range_with_len, length-m
 use proofs.Common.{length-range_with_len, received_with, complete_lines_cons, complete_lines_of_unlines, IsPrefix}
 use proofs.Common.{known_lines, IsLine, complete_lines, rows_text}
 use proofs.Passes.Exits.{max_length-append, lines_on, piece_longest, complete_prefix, line_split}
-use Rattle.std.specs.Prelude.{IsErrAnd}
 use proofs.CutLemmas.CutBytes.{select_append}
 pub use BufferedRows.*
-use Rattle.std.proofs.Common.{arith}
-use Rattle.std.proofs.lemmas.Grind.{common_steps}
 
 -- Output that was determined two blocks of an input earlier is pushed: without these blocks that input has fewer lines
 -- than one more row takes, so only rows that were already pushed are determined.
@@ -117,8 +114,7 @@ module _ (f : ℕ → Bool) (down : (r : ℕ) → f r ≡ false → f (r + 1) �
       let differ : a ≢ length taken = λ last. cc in
       let (rest, more) = known_first row taken none same (a + 1) h (omega arith) in
       (grind (arith, common_steps)))
-      (λ is. (drop a taken, rw is (rw (none_known (a + 1) h (down a is)) refl)))
-      (cases_Bool (f a))
+      (λ is. (drop a taken, rw is (rw (none_known (a + 1) h (down a is)) refl))) (cases_Bool (f a))
 
 known_down : (cols : List Lines) (eof : List Bool) (r : ℕ) → is_row_known cols eof r ≡ false
     → is_row_known cols eof (r + 1) ≡ false
@@ -154,8 +150,7 @@ module _ (job : Paste) (cells : List ℕ) (came : ℕ → Received) where
         → is_row_known (grid earlier) ends r ≡ false
     unknown r c low is few =
         is_row_unknown (grid earlier) ends r c (grind (arith, common_steps, length-enumerate_from))
-        (grind (arith, common_steps))
-        (grind (arith, column_at))
+        (grind (arith, common_steps)) (grind (arith, column_at))
 
     abbrev cell : ℕ → ℕ → ℕ → List ℕ
     cell r c p = get_or (column_of cells (known_of came) c p) r []
@@ -202,17 +197,10 @@ module _ (job : Paste) (cells : List ℕ) (came : ℕ → Received) where
 abbrev pub row_job : RowShape → Paste
 row_job row = record { serial = false; delimiters = row.delims; terminator = row.terminator }
 
-pub of_rows : {row same : RowShape} {old new : CallState ℕ} {end : CallEnd ℕ} → row ≡ same
-    → CallPost (inputs_at row.cells) (paste_engine (row_job row) row.cells) old new end
-    → CallPost (inputs_at same.cells) (paste_engine (row_job same) same.cells) old new end
-of_rows is post = grind arith
-
--- `?` returns a fault.
-pub by_fault : {A : Type 0} {row same : RowShape} {old new : CallState ℕ} (result : Result (Unit {0}) FlowFault)
-    (e : FlowFault) → row ≡ same → A × IsErrAnd result (λ fault. fault ≡ e)
-    → CallPost (inputs_at row.cells) (paste_engine (row_job row) row.cells) old new (paste_end (Err e))
+pub of_rows : {row same : RowShape} {old new : CallState ℕ} {result r : Result (Unit {0}) FlowFault} → row ≡ same
+    → result ≡ r → CallPost (inputs_at row.cells) (paste_engine (row_job row) row.cells) old new (paste_end r)
     → CallPost (inputs_at same.cells) (paste_engine (row_job same) same.cells) old new (paste_end result)
-by_fault = grind arith
+of_rows = grind arith
 
 -- ---- all that was received, if some rows were taken
 
@@ -248,15 +236,13 @@ module _ {job : Paste} {cells : List ℕ} {old set : List Reader} {was : Output}
       → CallPost (inputs_at cells) (paste_engine job cells) (call_state (reader_at set) was first) new end
       → CallPost (inputs_at cells) (paste_engine job cells) (call_state (reader_at old) was first) new end
   since_set = call_set _ _ (call_state (reader_at old) was first) (call_state (reader_at set) was first) _ s.writable
-      refl refl (λ p named. (s.are_set p).set (is_in_used _ p named)) (λ p other. (s.are_set p).left
-      (not_in _ p other))
+      refl refl (λ p named. (s.are_set p).set (is_in_used _ p named)) (λ p other. (s.are_set p).left (not_in _ p other))
 
   pub paste_without_slots : {store : Slots} → AddedSlots first store (length cells) → store.peak ≡ first.peak
       → store.denied ≡ true → length store.lines < length cells → {result : Result (Unit {0}) FlowFault}
       → result ≡ Err Memory → PastePost job cells old set was was first store result
   paste_without_slots adds same denied missing is =
-      rw (is, paste_end) (since_set (call_without_slots _ _ _ _ s.writable refl
-      (grind (arith, is_in_used))
+      rw (is, paste_end) (since_set (call_without_slots _ _ _ _ s.writable refl (grind (arith, is_in_used))
       (λ p other. refl) (λ p named. (s.are_set p).sound (is_in_used _ p named)) never_failed denied same
       adds.least missing (λ texts. omega arith) (λ p named. let some = is_in_used _ p named in
       begins_earlier job cells (λ q. received_with [] (reader_at set q)) []
@@ -461,8 +447,7 @@ module _ {job : Paste} {cells : List ℕ} {old set now : List Reader} {was is : 
           → DecidedIfReadFailed (inputs_at cells) (paste_engine job cells) begin end bytes pushed (paste_end result)
           → Ends new is' after result
       exit result ends decided =
-          let (size, peak) : (length after.lines ≡ length stored.lines) × (after.peak ≡ stored.peak) =
-          grind arith in
+          let (size, peak) : (length after.lines ≡ length stored.lines) × (after.peak ≡ stored.peak) = grind arith in
           let now_bound = kept_now _ bound in
           let progress : CallProgress (inputs_at cells) (paste_engine job cells) begin end bytes pushed = record {
             reads = λ p named. advance_trans _ _ _ _ _ (all_taken p).reads (q.reads p);
@@ -517,15 +502,14 @@ module _ {job : Paste} {cells : List ℕ} {old set now : List Reader} {was is : 
       not_denied = (kept_now _ bound).denied;
     }) tt
 
-  -- By then the first columns of the next row were copied too.
+  -- the push of whole rows failed, after the first columns of the next row were read
   pub rows_write_failed : {mid new : List Reader} {copied : List ℕ} → RowsTaken shape now mid copied
       → (n : ℕ) {taken : ℕ → Lines}
       → ((p : ℕ) → LinesTaken job.terminator (reader_at mid p) (reader_at new p) (uses_of (take n cells) p) (taken p))
       → AreConsumed now new → {is' : Output} → PushEffect is is' copied → is'.write_failed ≡ true
       → Ends new is' store (Err Write)
   rows_write_failed {new = new} rows n b consumed wrote fault =
-      write_exit rows (whole_columns n b) wrote fault (λ top high. s.kept top
-      (grind (arith, max_length-append)))
+      write_exit rows (whole_columns n b) wrote fault (λ top high. s.kept top (grind (arith, max_length-append)))
       -- Without the bytes that came from the buffers.
       (λ p some.
       let given = (so_far p).bytes in
@@ -571,8 +555,7 @@ module _ {job : Paste} {cells : List ℕ} {old set now : List Reader} {was is : 
       paste_row_write_failed fault =
           let g = row_taken a.filled some in
           let q = whole_columns 0 (λ (p : ℕ). nothing_taken {end = job.terminator} {r = reader_at begun.readers p} refl)
-          in
-          write_exit g q row_wrote fault
+          in write_exit g q row_wrote fault
           (λ top high. row_kept a (omega arith) top (grind (arith, max_length-append)))
           (λ p some. cut_line g q p some refl refl (omega arith)) (λ p. refl)
 
@@ -681,8 +664,7 @@ module _ {job : Paste} {cells : List ℕ} {old set now : List Reader} {was is : 
     }
 
     cut_to : (p : ℕ) → 0 < uses_of cells p → Cut no_more row_to p
-    cut_to p some = ⊎_elim
-        (λ same. rw same cut_here)
+    cut_to p some = ⊎_elim (λ same. rw same cut_here)
         (λ differ. cut_line no_more row_to p some (b.others p differ) (rw (ne_eqb p here differ) refl)
         (omega (arith, uses_before cells b.column p)))
         (cases_eq p _)

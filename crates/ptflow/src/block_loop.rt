@@ -1,6 +1,6 @@
 //! The loop of the tools that work block by block, and keep nothing in a store: `cut` by bytes, `tr`, and `paste -s`.
 
-ghost use Rattle.std.specs.Prelude.{◌<◌, ◌≤◌, ◌+◌, ℕ, List, [], length, OnOk, OnErr};
+ghost use Rattle.std.specs.Prelude.{◌≡◌, ◌<◌, ◌≤◌, ◌+◌, ℕ, List, [], length, false, OnOk, OnErr};
 ghost use Rattle.ptlines.specs.Outputs.{PushPost};
 ghost use Rattle.ptflow.specs.Private.Passes.BlockLoop.{HasRoom, RunBlocksPre, RunBlocksPost};
 ghost use Rattle.ptflow.specs.Private.Passes.StepOutput.{OutputPart, OutputFailed};
@@ -30,6 +30,7 @@ pub(crate) trait BlockFilter: Drop {
 
     /// Pushes the output that is due at the end of the input.
     fn finish<W: Sink>(&self, out: &mut Out<W>) -> Result<(), WriteFault>
+        requires { out.old.write_failed ≡ false }
         ensures { PushPost out.old out.new (rest self.now []) result };
 }
 

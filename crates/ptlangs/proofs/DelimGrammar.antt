@@ -1,13 +1,13 @@
 -- Each escape of `paste` is one case of the grammar, so `delim_list` agrees with it in both directions. The fault of a
 -- list is the first from left to right.
 use Rattle.ptlangs.proofs
-use proofs.Common.{Err, List, Ok, Option, Result, Some, [], append-nil, arith}
-use proofs.Common.{cond_both, cons_ok, delim_list, eqb-true, length, refl, result_err, subst, ℕ, ◌++◌}
-use proofs.Common.{◌<◌, ◌∷◌, ◌≡◌}
+use Rattle.ptlangs.specs
+use proofs.Common.{Err, List, Ok, Option, Result, Some, [], append-nil, arith, cond_both, cons_ok, delim_list, eqb-true}
+use proofs.Common.{length, refl, result_err, subst, ℕ, ◌++◌, ◌<◌, ◌∷◌, ◌≡◌}
 use proofs.ListElements.{reads_first}
-use Rattle.ptlangs.specs.DelimLists.{Backslash, DelimListMatchesGrammar, IsDelim, IsDelimList, Last, More, Newline}
-use Rattle.ptlangs.specs.DelimLists.{Nothing, Plain, Tab, backslash, delim_list_fault, delims, escape}
-use Rattle.ptlangs.specs.declared.delims.DelimFault.{DelimFault}
+use specs.DelimLists.{Backslash, DelimListMatchesGrammar, IsDelim, IsDelimList, Last, More, Newline, Nothing, Plain}
+use specs.DelimLists.{Tab, backslash, delim_list_fault, delims, escape}
+use specs.declared.delims.DelimFault.{DelimFault}
 
 -- ---- from the grammar to `delim_list`
 
@@ -17,9 +17,6 @@ element_is_read e rest d Newline = refl
 element_is_read e rest d Tab = refl
 element_is_read e rest d Backslash = refl
 element_is_read e rest d Nothing = refl
-
-is_some : (bs : List ℕ) (ds : List (Option ℕ)) → delim_list bs ≡ Ok ds → delims bs ≡ Ok ds
-is_some = grind arith
 
 accepts : (bs : List ℕ) (ds : List (Option ℕ)) → IsDelimList bs ds → delim_list bs ≡ Ok ds
 accepts bs ds (Last e d is) = grind (arith, append-nil, element_is_read e [] d is)
@@ -44,8 +41,7 @@ list_is_spelled [] ds h = cc
 list_is_spelled (b ∷ []) ds h = grind (arith, Last, Plain)
 list_is_spelled (b ∷ c ∷ more) ds h =
     cond_both _ _ _ (λ (r : Result _ DelimFault). r ≡ Ok ds
-    → IsDelimList (b ∷ c ∷ more) ds)
-    (λ t e.
+    → IsDelimList (b ∷ c ∷ more) ds) (λ t e.
     let f = reads_first _ _ ds e in
     rw (eqb-true b backslash t) (subst (IsDelimList _) f.is
     (more_delims _ _ _ _ (escape_is_spelled c _ f.read) f.rest

@@ -2,29 +2,30 @@
 -- no dash, so splitting an interval at its dashes gives its bounds back. The lists of `cut` and `join` agree with the
 -- grammar in both directions. Merging sorted intervals keeps the set that they select.
 use Rattle.ptlangs.proofs
+use Rattle.ptlangs.specs
+use Rattle.std.proofs.lemmas
 use proofs.Common.{Bool, Err, Interval, IsValidInterval, List, None, Ok, Option, Result, Some, [], and_then, ap, arith}
 use proofs.Common.{common_steps, cond, cond_both, cons_ok, digits_value_after, drop, element_field, element_interval}
 use proofs.Common.{elements, eqb, eqb-true, false, get_or, is_ascii_digit, is_dash, is_err, is_list_separator, length}
-use proofs.Common.{length-drop, ltb-true, map, max_u64, refl, result_err, result_ok, rules, subst, suc, take}
-use proofs.Common.{take_all, true, value, ℕ, ◌*◌, ◌++◌, ◌+◌, ◌-◌, ◌<◌, ◌∙◌, ◌∷◌, ◌≡◌, ◌≤◌}
-use Rattle.ptlangs.specs.CutLists.{AreSeparated, AreSortedFrom, CutListMatchesGrammar, From, FromTo, IsIntervalElement}
-use Rattle.ptlangs.specs.CutLists.{One, SpellsInterval, UpTo, checked_interval, cut_list, cut_list_fault}
-use Rattle.ptlangs.specs.CutLists.{interval_of_bounds, interval_of_parts, is_bound, is_selected, selection}
-use Rattle.ptlangs.specs.Numbers.{IsListOf, Last, More, is_empty, is_number, number, traverse}
-use Rattle.ptlangs.specs.OutLists.{FirstFileField, IsFieldElement, IsValidField, JoinField, OutListMatchesGrammar}
-use Rattle.ptlangs.specs.OutLists.{SecondFileField, SpellsField, field_of, out_list_fault}
-use Rattle.ptlangs.specs.declared.outlist.File.{File}
-use Rattle.ptlangs.specs.declared.outlist.OutFault.{OutFault}
-use Rattle.ptlangs.specs.declared.outlist.OutField.TheVariants.{Field}
-use Rattle.ptlangs.specs.declared.outlist.OutField.{OutField}
-use Rattle.ptlangs.specs.declared.ranges.ListFault.{ListFault}
-use Rattle.std.proofs.Common.{max, ◌&&◌}
-use Rattle.std.proofs.lemmas.Bool.{and_parts, cases_Bool, ltb-false, not-false}
-use Rattle.std.proofs.lemmas.List.Elements.{All-cons}
-use Rattle.std.proofs.lemmas.List.Sorted.{list_any-IsPermutation}
-use Rattle.std.proofs.lemmas.List.Splits.{join_with_byte-slice_split, slice_split_at}
-use Rattle.std.proofs.lemmas.List.Splits.{slice_split_first, slice_split_none}
-use Rattle.std.proofs.lemmas.List.Sums.{fails_before_first}
+use proofs.Common.{length-drop, ltb-true, map, max_u64, refl, result_err, result_ok, rules, subst, suc, take, take_all}
+use proofs.Common.{true, value, ℕ, ◌*◌, ◌++◌, ◌+◌, ◌-◌, ◌<◌, ◌∙◌, ◌∷◌, ◌≡◌, ◌≤◌}
+use specs.CutLists.{AreSeparated, AreSortedFrom, CutListMatchesGrammar, From, FromTo, IsIntervalElement, One}
+use specs.CutLists.{SpellsInterval, UpTo, checked_interval, cut_list, cut_list_fault, interval_of_bounds}
+use specs.CutLists.{interval_of_parts, is_bound, is_selected, selection}
+use specs.Numbers.{IsListOf, Last, More, is_empty, is_number, number, traverse}
+use specs.OutLists.{FirstFileField, IsFieldElement, IsValidField, JoinField, OutListMatchesGrammar, SecondFileField}
+use specs.OutLists.{SpellsField, field_of, out_list_fault}
+use specs.declared.outlist.File.{File}
+use specs.declared.outlist.OutFault.{OutFault}
+use specs.declared.outlist.OutField.TheVariants.{Field}
+use specs.declared.outlist.OutField.{OutField}
+use specs.declared.ranges.ListFault.{ListFault}
+use Rattle.std.proofs.Common.{max}
+use lemmas.Bool.{and_parts, cases_Bool, ltb-false, not-false}
+use lemmas.List.Elements.{All-cons}
+use lemmas.List.Sorted.{list_any-IsPermutation}
+use lemmas.List.Splits.{join_with_byte-slice_split, slice_split_at, slice_split_first, slice_split_none}
+use lemmas.List.Sums.{fails_before_first}
 use Rattle.std.specs.Char.{digit_value}
 use Rattle.std.specs.List.Sorted.{IsNonDecreasingBy, IsPermutation}
 use Rattle.std.specs.List.{All, filter_map, find, onto_first, position, slice_split}
@@ -123,8 +124,7 @@ module _ {A E : Type 0} (read : List ℕ → Result A E) (Spells : List ℕ → 
   module _ (a : Accepts) where
     from_grammar : (bs : List ℕ) (xs : List A) → IsListOf Spells bs xs → traverse read (elements bs) ≡ Ok xs
     from_grammar bs xs (Last e x says) = grind (arith, slice_split_none)
-    from_grammar bs xs (More e s others x xs' says sep list) =
-        grind (arith, slice_split_at, from_grammar _ xs' list)
+    from_grammar bs xs (More e s others x xs' says sep list) = grind (arith, slice_split_at, from_grammar _ xs' list)
 
     reads_parts : (bs : List ℕ) (parts : List (List ℕ)) (xs : List A) → IsSplit is_list_separator bs parts
         → traverse read parts ≡ Ok xs → IsListOf Spells bs xs
@@ -165,12 +165,6 @@ bound_is_one_part = grind (arith, common_steps, slice_split_none)
 parts_after_dash : (n m : List ℕ) → interval_of_parts (n ∷ slice_split is_dash m) ≡ interval_of_bounds n m
 parts_after_dash n m = grind (arith, cases_Bool (is_bound m), bound_is_one_part, join_with_byte-slice_split 45 m)
 
-twice : {X : Type 0} (b : Bool) (x y : X) → cond b x y ≡ cond ((b && b) && true) x y
-twice = grind arith
-
-pub parts_without_dash : (bs : List ℕ) → position is_dash bs ≡ None → interval_of_parts (slice_split is_dash bs) ≡ interval_of_bounds bs bs
-parts_without_dash = grind (arith, split_whole)
-
 pub parts_around_dash : (bs : List ℕ) (i : ℕ) → position is_dash bs ≡ Some i
     → interval_of_parts (slice_split is_dash bs)
     ≡ interval_of_bounds (take i bs) (take (length bs - (i + 1)) (drop (i + 1) bs))
@@ -195,8 +189,7 @@ each_proper [] [] h = λ k d below. absurd (omega arith)
 each_proper [] (r ∷ rs) h = cc
 each_proper (x ∷ all) rs h =
     let f = reads_first _ _ rs h in
-    subst (All IsValidInterval) f.is (All-cons IsValidInterval f.head f.tail (search rules)
-    (each_proper all _ f.rest))
+    subst (All IsValidInterval) f.is (All-cons IsValidInterval f.head f.tail (search rules) (each_proper all _ f.rest))
 
 sorted_after : (x : Interval) (xs : List Interval) → All IsValidInterval (x ∷ xs)
     → IsNonDecreasingBy (λ (r : Interval). r.first) (x ∷ xs) → AreSortedFrom x.first xs
@@ -341,8 +334,7 @@ reads_field (b ∷ []) f = grind (arith, JoinField)
 reads_field (b ∷ c ∷ n) f =
     cond_both _ _ _ (Spelled _ f) (λ t h. cc)
     (λ point. cond_both _ _ _ (Spelled _ f)
-    (λ t. rw (eqb-true b 49 t, eqb-true c 46 (not-false (eqb c 46) point))
-    (spelled_field _ 49 n f (FirstFileField n)))
+    (λ t. rw (eqb-true b 49 t, eqb-true c 46 (not-false (eqb c 46) point)) (spelled_field _ 49 n f (FirstFileField n)))
     (λ other. cond_both _ _ _ (Spelled _ f)
     (λ t. rw (eqb-true b 50 t, eqb-true c 46 (not-false (eqb c 46) point))
     (spelled_field _ 50 n f (SecondFileField n))) (λ t h. cc)))

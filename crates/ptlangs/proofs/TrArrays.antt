@@ -2,32 +2,34 @@
 -- image of a byte is the byte of the second array, extended by its last byte, at the index that was pushed last for it.
 -- After the end of the first array, no class may start in the rest of the second one.
 use Rattle.ptlangs.proofs
+use Rattle.ptlangs.specs
+use Rattle.std.proofs.lemmas
 use proofs.Common.{Bool, Bytes, CharClass, Contents, Err, HasPaired, IsErrAnd, List, Member, None, Ok, Option, Result}
 use proofs.Common.{Segment, SetElement, SetFaultKind, SetRole, Some, [], all_paired, ap, append-nil, arith, array}
 use proofs.Common.{bytes_left, common_steps, complement_of, cond, contents_of, count_by, drop, drop_all, drop_more, eqb}
-use proofs.Common.{false, first_array, first_members, image_by, is_fill, length, length-append, map}
-use proofs.Common.{map-append, marked_array, member_bytes, member_results, ne_eqb, not, plain_members}
-use proofs.Common.{refl, replicate, result_map_both, rules, segments_of, sequence, slice_get, string_segments, subst}
-use proofs.Common.{suc, sym, take, take_all, true, zero, ℕ, ◌++◌, ◌+◌, ◌-◌, ◌<◌, ◌||◌, ◌∙◌, ◌∷◌, ◌≡◌, ◌≢◌, ◌≤◌}
+use proofs.Common.{false, first_array, first_members, image_by, is_fill, length, length-append, map, map-append}
+use proofs.Common.{marked_array, member_bytes, member_results, ne_eqb, not, plain_members, refl, replicate}
+use proofs.Common.{result_map_both, rules, segments_of, sequence, slice_get, string_segments, subst, suc, sym, take}
+use proofs.Common.{take_all, true, zero, ℕ, ◌++◌, ◌+◌, ◌-◌, ◌<◌, ◌||◌, ◌∙◌, ◌∷◌, ◌≡◌, ◌≢◌, ◌≤◌}
 use proofs.ListElements.{append_ok as onto}
-use Rattle.ptlangs.specs.TrClasses.{all_bytes, class_bytes, span}
-use Rattle.ptlangs.specs.TrParsing.{classes_match, marked_members, members_from}
-use Rattle.ptlangs.specs.TrPlan.{are_paired, class_offsets, has_byte, has_other_case_at, last_position, members}
-use Rattle.ptlangs.specs.TrPlan.{next_index_or, padded_to, segment}
-use Rattle.ptlangs.specs.declared.faults.SetFaultKind.TheVariants.{ClassPlace}
-use Rattle.ptlangs.specs.declared.tr.images.Images.{Images}
+use specs.TrClasses.{all_bytes, class_bytes, span}
+use specs.TrParsing.{classes_match, marked_members, members_from}
+use specs.TrPlan.{are_paired, class_offsets, has_byte, has_other_case_at, last_position, members, next_index_or}
+use specs.TrPlan.{padded_to, segment}
+use specs.declared.faults.SetFaultKind.TheVariants.{ClassPlace}
+use specs.declared.tr.images.Images.{Images}
 use Rattle.std.proofs.Common.{inl, inr, min, ◌&&◌, ◌⊎◌}
 use Rattle.std.proofs.Math.ListN.{get_or, set}
-use Rattle.std.proofs.lemmas.Bool.{cases_lt, eq-eqb}
-use Rattle.std.proofs.lemmas.List.Elements.{filter-append, filter_more}
-use Rattle.std.proofs.lemmas.List.Folds.{list_any-append, list_any_at}
-use Rattle.std.proofs.lemmas.List.FromFn.{get_or-map-range_with_len, get_or-range_with_len, length-map-range_with_len}
-use Rattle.std.proofs.lemmas.List.FromFn.{length-range_with_len}
-use Rattle.std.proofs.lemmas.List.{drop-map, drop-replicate, get_or-replicate, get_or_default, length-map}
-use Rattle.std.proofs.lemmas.List.{length-replicate, length-set, same_lists, take-append-drop, take-map}
-use Rattle.std.proofs.lemmas.Map.Views.{any-filter_same}
-use Rattle.std.proofs.lemmas.Option.{slice_get-get_or, slice_get_cases, slice_get_past, slice_get_within}
-use Rattle.std.proofs.lemmas.List.Sums.{length-filter}
+use lemmas.Bool.{cases_lt, eq-eqb}
+use lemmas.List.Elements.{filter-append, filter_more}
+use lemmas.List.Folds.{list_any-append, list_any_at}
+use lemmas.List.FromFn.{get_or-map-range_with_len, get_or-range_with_len, length-map-range_with_len}
+use lemmas.List.FromFn.{length-range_with_len}
+use lemmas.List.{drop-map, drop-replicate, get_or-replicate, get_or_default, length-map, length-replicate, length-set}
+use lemmas.List.{same_lists, take-append-drop, take-map}
+use lemmas.Map.Views.{any-filter_same}
+use lemmas.Option.{slice_get-get_or, slice_get_cases, slice_get_past, slice_get_within}
+use lemmas.List.Sums.{length-filter}
 use Rattle.std.specs.List.{last_or}
 use Rattle.std.specs.Option.{option_and_then}
 use Rattle.std.specs.Prelude.{IfSome, filter, is_some, unwrap_or, ◌^◌}
@@ -140,8 +142,6 @@ pub segment-passed : (n : ℕ) (x : Segment) (i : ℕ) (rs : List (Result Segmen
     → map {B = Result Member SetFaultKind} Ok (drop i (marked_members n x)) ++ member_results n rs ≡ member_results n rs
 segment-passed = grind (arith, slice_get_cases, drop_all)
 
--- ---- the copies of a byte, passed at once
-
 -- ---- the string of the segments
 
 pub string-fault : (role : SetRole) (text : List ℕ) (n : ℕ) (k : SetFaultKind) → false ≡ eqb (length text) 0
@@ -198,21 +198,18 @@ offsets-members = grind (arith, offsets-plain)
 
 pub class_offsets-are : (n : ℕ) (ps : List Segment) (at : ℕ) → class_offsets n at ps ≡ offsets at (marked_array n ps)
 class_offsets-are n [] at = refl
-class_offsets-are n (x ∷ ps) at =
-    grind (arith, common_steps, offsets-members, class_offsets-are n ps)
+class_offsets-are n (x ∷ ps) at = grind (arith, common_steps, offsets-members, class_offsets-are n ps)
 
 none_before : (ms : List Member) (at k : ℕ) (class : CharClass) → k < at
     → has_other_case_at (offsets at ms) k class ≡ false
 none_before [] at k class low = refl
-none_before (m ∷ ms) at k class low =
-    grind (arith, ne_eqb, none_before ms (suc at) k class (omega arith))
+none_before (m ∷ ms) at k class low = grind (arith, ne_eqb, none_before ms (suc at) k class (omega arith))
 
 stands_here : (ms : List Member) (at i k : ℕ) (class : CharClass) → at + i ≡ k
     → has_other_case_at (offsets at ms) k class ≡ classes_match (class_here ms i) (Some class)
 stands_here [] at i k class e = refl
 stands_here (m ∷ ms) at zero k class e = grind (arith, eq-eqb, none_before)
-stands_here (m ∷ ms) at (suc i) k class e =
-    grind (arith, ne_eqb, stands_here ms (suc at) i k class (omega arith))
+stands_here (m ∷ ms) at (suc i) k class e = grind (arith, ne_eqb, stands_here ms (suc at) i k class (omega arith))
 
 all_paired-more : (i : ℕ) (from : List Member) (t : Member) (to : List Member)
     → all_paired (drop i from) (t ∷ to)
@@ -228,14 +225,14 @@ paired_first : (from : List Member) (i : ℕ) (o : Option CharClass) (later : Li
 paired_first from i None later = cc
 paired_first from i (Some c) later = grind (arith, stands_here)
 
-pub paired_from : (from to : List Member) (i : ℕ) → are_paired (offsets 0 from) (offsets i to) ≡ all_paired (drop i from) to
+pub paired_from : (from to : List Member) (i : ℕ) → are_paired (offsets 0 from) (offsets i to)
+    ≡ all_paired (drop i from) to
 paired_from from [] i = refl
 paired_from from (t ∷ to) i = grind (arith, paired_first, paired_from from to (suc i), all_paired-more)
 
 pub paired-plain : (n : ℕ) (bytes : List ℕ) (seconds : List Segment)
     → are_paired [] (class_offsets n 0 seconds) ≡ all_paired (plain_members bytes) (marked_array n seconds)
-paired-plain n bytes _ =
-    grind (arith, offsets-plain 0 bytes [], class_offsets-are, paired_from, append-nil)
+paired-plain n bytes _ = grind (arith, offsets-plain 0 bytes [], class_offsets-are, paired_from, append-nil)
 
 length-table : {X : Type 0} (f : ℕ → X) → length (map f all_bytes) ≡ 256
 unfolding all_bytes
@@ -255,8 +252,7 @@ none_contained = same_table _ _ _ (length-replicate 256 false) (λ i h. get_or-r
 set-table : {X : Type 0} (f g : ℕ → X) (i : ℕ) (v : X) → g i ≡ v → ((k : ℕ) → k ≢ i → g k ≡ f k)
     → set (map f all_bytes) i v ≡ map g all_bytes
 set-table f g i v e others =
-    same_table _ g v (length-set _ i v ∙ length-table f)
-    (grind (arith, common_steps, get_or-table))
+    same_table _ g v (length-set _ i v ∙ length-table f) (grind (arith, common_steps, get_or-table))
 
 -- ---- appending a byte
 
@@ -330,8 +326,7 @@ complement-is old bytes has count e long flips counted =
     let table =
     same_table has _ false long (λ k low.
     flips k low ∙ ap not (get_or-has old bytes k false low e) ∙ sym (has_byte-complement bytes k low)) in
-    let all =
-    counted ∙ ap (λ (q : Contents). count_by not q.has) e ∙ (grind (arith, common_steps, length-filter)) in
+    let all = counted ∙ ap (λ (q : Contents). count_by not q.has) e ∙ (grind (arith, common_steps, length-filter)) in
     rw (table, all) refl
 
 pub is_kept : (first : Contents) (bytes : List ℕ) (b i : ℕ) (t : Bool) → i ≡ b → b < 256 → get_or first.has i false ≡ t
@@ -419,8 +414,7 @@ images-push : (from to : List ℕ) (b : ℕ) (last : Option ℕ) → b < 256
     → last ≡ last_or None (take (suc (length from)) to)
     → set (map (image_by from to) all_bytes) b (unwrap_or last b) ≡ map (image_by (from ++ b ∷ []) to) all_bytes
 images-push from to b last h e =
-    set-table _ _ b _
-    (search (rules, image-same)) (λ k n. image-other from to b k n)
+    set-table _ _ b _ (search (rules, image-same)) (λ k n. image-other from to b k n)
 
 abbrev AllOk : List Member → List (Result Member SetFaultKind)
 AllOk ms = map Ok ms
@@ -538,14 +532,6 @@ module _ {from to : List Member} {old : Images} (p : IsPassing from to old) wher
 
 abbrev pub answer_of : Bool → List ℕ → Result (List ℕ) SetFaultKind
 answer_of paired images = cond paired (Ok images) (Err ClassPlace)
-
-pub answer_ok : (paired : Bool) {images table : List ℕ} → Ok table ≡ answer_of paired images
-    → (paired ≡ true) × (table ≡ images)
-answer_ok = grind arith
-
-pub answer_fault : (paired : Bool) (images : List ℕ) (k : SetFaultKind) → Err k ≡ answer_of paired images
-    → (paired ≡ false) × (k ≡ ClassPlace)
-answer_fault = grind arith
 
 pub first-bytes : (complement : Bool) (ps : List Segment)
     → member_bytes (first_members complement ps) ≡ first_array complement ps

@@ -3,32 +3,34 @@
 -- definition looks at characters. Each bracketed form, range and single character is one case of both the definition
 -- and the grammar.
 use Rattle.ptlangs.proofs
+use Rattle.ptlangs.specs
+use Rattle.std.proofs.lemmas
 use proofs.Common.{Bool, CharClass, Err, Invalid, List, NoChar, None, Ok, Option, Plain, Result, Segment, SetChar}
 use proofs.Common.{SetElement, SetFaultKind, SetRole, Some, SpellsChar, SpellsChars, [], after_backslash, ap, arith}
 use proofs.Common.{byte_of, char_at, chars, chars_after, common_steps, cond, cond_both, digits_value, drop, drop_all}
-use proofs.Common.{drop_more, false, get_or, is_ascii_digit, is_fill, length, ltb-true, map, ne_eqb}
-use proofs.Common.{octal, refl, rules, segments, sequence, set_elements, slice_get, subst, suc, sym}
-use proofs.Common.{take, true, value, zero, ℕ, ◌*◌, ◌++◌, ◌+◌, ◌-◌, ◌<◌, ◌||◌, ◌∙◌, ◌∷◌, ◌≡◌, ◌≢◌, ◌≤◌}
-use Rattle.ptlangs.specs.TrChars.{AChar, ALargeOctal, ALoneBackslash, APlainByte, AnEscape, AnOctal}
-use Rattle.ptlangs.specs.TrChars.{Escaped, IsOctalRun, OneDigit, ThreeDigits, TwoDigits, is_octal_digit, octal_run}
-use Rattle.ptlangs.specs.TrClasses.{class_named}
-use Rattle.ptlangs.specs.TrElements.{AClass, ADescendingRange, ARange, ARepeat, Alone, AnEquivalence, AnInvalidChar}
-use Rattle.ptlangs.specs.TrElements.{AnInvalidEnd, AreElements, ByEscape, ByItself, DenotesByte, HasBracketed}
-use Rattle.ptlangs.specs.TrElements.{InBrackets, StartsBracketed, StartsElement, StartsInvalid, after_plain, after_run}
-use Rattle.ptlangs.specs.TrElements.{after_two, bracketed_at, char_or_range, class_at, class_with_name, elements_after}
-use Rattle.ptlangs.specs.TrElements.{equivalence_after_equals, equivalence_at, first_set_element, or_char, plain_run}
-use Rattle.ptlangs.specs.TrElements.{range_to, repeat_after_star, repeat_at, repeat_count, single_or_range, with_rest}
-use Rattle.ptlangs.specs.TrParsing.{char_from}
-use Rattle.ptlangs.specs.TrPlan.{FirstFault, LaterFault, NoElement, NoSegment, segment}
-use Rattle.ptlangs.specs.declared.faults.SetFaultKind.TheVariants.{Octal}
-use Rattle.ptlangs.specs.declared.tr.elements.SetElement.TheVariants.{Class, Equivalence, Repeat, Single}
+use proofs.Common.{drop_more, false, get_or, is_ascii_digit, is_fill, length, ltb-true, map, ne_eqb, octal, refl, rules}
+use proofs.Common.{segments, sequence, set_elements, slice_get, subst, suc, sym, take, true, value, zero, ℕ, ◌*◌, ◌++◌}
+use proofs.Common.{◌+◌, ◌-◌, ◌<◌, ◌||◌, ◌∙◌, ◌∷◌, ◌≡◌, ◌≢◌, ◌≤◌}
+use specs.TrChars.{AChar, ALargeOctal, ALoneBackslash, APlainByte, AnEscape, AnOctal, Escaped, IsOctalRun, OneDigit}
+use specs.TrChars.{ThreeDigits, TwoDigits, is_octal_digit, octal_run}
+use specs.TrClasses.{class_named}
+use specs.TrElements.{AClass, ADescendingRange, ARange, ARepeat, Alone, AnEquivalence, AnInvalidChar, AnInvalidEnd}
+use specs.TrElements.{AreElements, ByEscape, ByItself, DenotesByte, HasBracketed, InBrackets, StartsBracketed}
+use specs.TrElements.{StartsElement, StartsInvalid, after_plain, after_run, after_two, bracketed_at, char_or_range}
+use specs.TrElements.{class_at, class_with_name, elements_after, equivalence_after_equals, equivalence_at}
+use specs.TrElements.{first_set_element, or_char, plain_run, range_to, repeat_after_star, repeat_at, repeat_count}
+use specs.TrElements.{single_or_range, with_rest}
+use specs.TrParsing.{char_from}
+use specs.TrPlan.{FirstFault, LaterFault, NoElement, NoSegment, segment}
+use specs.declared.faults.SetFaultKind.TheVariants.{Octal}
+use specs.declared.tr.elements.SetElement.TheVariants.{Class, Equivalence, Repeat, Single}
 use Rattle.std.proofs.Common.{All, inl, inr, nat_le, nat_lt}
-use Rattle.std.proofs.lemmas.Bool.{cases_Bool, le-leb, le-ltb, lt-leb}
-use Rattle.std.proofs.lemmas.Int.Digits.{digits_value_more}
-use Rattle.std.proofs.lemmas.List.Folds.{length-prefix_len}
-use Rattle.std.proofs.lemmas.List.Sums.{AllPass-from_list_all, prefix_len_passes, take_while-cons}
-use Rattle.std.proofs.lemmas.List.{drop_at, get_or-take, length-take, take-append-drop, take-take, take_rest}
-use Rattle.std.proofs.lemmas.Str.Parse.{digit_from_value, digits_value-take-le}
+use lemmas.Bool.{cases_Bool, le-leb, le-ltb, lt-leb}
+use lemmas.Int.Digits.{digits_value_more}
+use lemmas.List.Folds.{length-prefix_len}
+use lemmas.List.Sums.{AllPass-from_list_all, prefix_len_passes, take_while-cons}
+use lemmas.List.{drop_at, get_or-take, length-take, take-append-drop, take-take, take_rest}
+use lemmas.Str.Parse.{digit_from_value, digits_value-take-le}
 use Rattle.std.specs.Char.{digit_value, is_ascii_lowercase}
 use Rattle.std.specs.List.{AllPass, list_all, prefix_len, slice_range, take_while}
 use Rattle.std.specs.Option.{option_and_then}
@@ -47,12 +49,10 @@ too_large = search (rules, digits_value-take-le)
 pub number_step : (base : ℕ) (ds : List ℕ) (i value digit : ℕ) → i < length ds → base ≤ 10
     → digit_value (get_or ds i 0) < base → value ≡ digits_value base (take i ds) → digit ≡ get_or ds i 0 - 48
     → value * base + digit ≡ digits_value base (take (i + 1) ds)
-number_step base ds i value digit h ten below v d =
-    search (rules, digit_from_value, digits_value_more)
+number_step base ds i value digit h ten below v d = search (rules, digit_from_value, digits_value_more)
 
 pub length-octal_run : (bs : List ℕ) → length (octal_run bs) ≤ length bs
-length-octal_run bs =
-    grind (arith, common_steps, length-prefix_len is_octal_digit (take 3 bs), length-take 3 bs)
+length-octal_run bs = grind (arith, common_steps, length-prefix_len is_octal_digit (take 3 bs), length-take 3 bs)
 
 pub take-octal_run : (bs : List ℕ) → take (length (octal_run bs)) bs ≡ octal_run bs
 take-octal_run bs =
@@ -110,8 +110,7 @@ run_is digits rest (ThreeDigits a b c more ha hb hc) = rw (ha, hb, hc) refl
 
 escape_is : (digits rest : List ℕ) {u : SetChar} → IsOctalRun digits rest → octal (digits_value 8 digits) ≡ u
     → chars (92 ∷ digits ++ rest) ≡ u ∷ chars rest
-escape_is digits rest run is =
-    rw (chars-cons 92 _, run_is _ _ run, is, drop_at digits rest _ refl) refl
+escape_is digits rest run is = rw (chars-cons 92 _, run_is _ _ run, is, drop_at digits rest _ refl) refl
 
 char_is : (bs : List ℕ) (u : SetChar) (rest : List ℕ) → SpellsChar bs u rest → chars bs ≡ u ∷ chars rest
 char_is = grind (arith, ne_eqb, escape_is, le-leb, lt-leb)
@@ -134,8 +133,7 @@ escape_spelled (b ∷ more) = elim (cases_Bool (is_octal_digit b)) [
   | inl h ↦
       let digits = octal_run (b ∷ more) in
       let rest = drop (length digits) (b ∷ more) in
-      let all =
-      ap (λ ds. ds ++ rest) (sym (take-octal_run (b ∷ more))) ∙ take-append-drop (length digits) (b ∷ more) in
+      let all = ap (λ ds. ds ++ rest) (sym (take-octal_run (b ∷ more))) ∙ take-append-drop (length digits) (b ∷ more) in
       rw (after_backslash-octal (b ∷ more) b refl h)
       (subst (λ xs. SpellsChar (92 ∷ xs) (octal (digits_value 8 digits)) rest) all
       (elim (cases_Bool (nat_le (digits_value 8 digits) 255)) [
@@ -150,12 +148,6 @@ spelled [] zero = NoChar
 spelled [] (suc skip) = NoChar
 spelled (b ∷ bs) zero = AChar (b ∷ bs) _ _ _ (grind (arith, escape_spelled, APlainByte)) (spelled bs _)
 spelled (b ∷ bs) (suc skip) = spelled bs _
-
--- the character starts with a backslash
-abbrev IsEscape : SetChar → Type 0
-IsEscape (Plain b) = ⊥
-IsEscape (Escaped b) = Unit {0}
-IsEscape (Invalid k) = Unit {0}
 
 -- ---- one plain byte
 
@@ -335,8 +327,7 @@ starts_as u us e = subst (StartsAs _) e (by_form _ refl)
   where
     by_form : (o : Option (SetElement × List SetChar)) → bracketed_at (u ∷ us) ≡ o → StartsAs (u ∷ us) (or_char o u us)
     by_form None f = char_starts u us (bracketed_at-none _ f)
-    by_form (Some (p, rest)) f =
-        InBrackets _ p rest (subst (StartsFound _) f (bracketed_starts (u ∷ us)))
+    by_form (Some (p, rest)) f = InBrackets _ p rest (subst (StartsFound _) f (bracketed_starts (u ∷ us)))
 
 first_set_element-found : (us : List SetChar) (p : SetElement) (rest : List SetChar) → bracketed_at us ≡ Some (p, rest)
     → first_set_element us ≡ Ok (p, rest)
@@ -412,8 +403,7 @@ by_first : {P : Type 0} (u : SetChar) (us : List SetChar)
     → ((p : SetElement) (rest : List SetChar) → StartsElement (u ∷ us) p rest
     → set_elements (u ∷ us) ≡ Ok p ∷ set_elements rest → P)
     → ((k : SetFaultKind) → StartsInvalid (u ∷ us) k → set_elements (u ∷ us) ≡ Err k ∷ [] → P) → P
-by_first u us element fault = by_result _
-    (λ (p, rest) e. search (rules, starts_as, set_elements-first))
+by_first u us element fault = by_result _ (λ (p, rest) e. search (rules, starts_as, set_elements-first))
     (λ k e. fault k (starts_as u us e) (set_elements-fault (u ∷ us) k (omega arith) e))
 
 pub set_elements-AreElements : (us : List SetChar) (ps : List SetElement) → AreElements us ps
@@ -429,8 +419,7 @@ set_elements-AreElements us (p ∷ ps) (rest, begins, more) = grind (
 pub AreElements-set_elements : (ps : List SetElement) (us : List SetChar) → set_elements us ≡ map Ok ps
     → AreElements us ps
 AreElements-set_elements [] [] e = refl
-AreElements-set_elements [] (u ∷ us) e =
-    by_first u us (λ p rest b is. let never = sym is ∙ e in cc) (λ k b is. cc)
+AreElements-set_elements [] (u ∷ us) e = by_first u us (λ p rest b is. let never = sym is ∙ e in cc) (λ k b is. cc)
 AreElements-set_elements (p ∷ ps) [] e = absurd (cc)
 AreElements-set_elements (p ∷ ps) (u ∷ us) e = by_first u us
     (λ q rest b is.
@@ -450,8 +439,7 @@ pub class_at-found : (us : List SetChar) {inside : List SetChar} (after : List S
     → Some inside ≡ after_plain 58 us → name ≡ plain_run is_ascii_lowercase inside
     → after ≡ after_run is_ascii_lowercase inside → 0 < length name → Some rest ≡ after_two 58 93 after
     → found ≡ class_named name → Some (Class found, rest) ≡ class_at us
-class_at-found us after name found e n a h r f =
-    rw (← e, ← a, ← n, (class_with_name-named name after h), ← r, f) refl
+class_at-found us after name found e n a h r f = rw (← e, ← a, ← n, (class_with_name-named name after h), ← r, f) refl
 
 pub chars-some : (bs : List ℕ) (i : ℕ) → i < length bs → 0 < length (chars (drop i bs))
 chars-some bs i h = rw (drop_more bs i 0 h) (omega arith)
@@ -498,8 +486,7 @@ module _ (role : SetRole) where
       → set_elements us ≡ xs → sequence (segments role has_fill xs) ≡ Err k → FirstFault role has_fill us k
   is_fault [] has_fill us k all e = cc
   is_fault (y ∷ ys) has_fill [] k all e = cc
-  is_fault (Err j ∷ ys) has_fill (u ∷ us) k all e = by_first u us
-      (grind arith)
+  is_fault (Err j ∷ ys) has_fill (u ∷ us) k all e = by_first u us (grind arith)
       (λ i b is.
       let both = sym all ∙ is in
       let same : i ≡ k = cc in
@@ -509,8 +496,7 @@ module _ (role : SetRole) where
       let same : p ≡ q = cc in
       let begins = subst (λ (x : SetElement). StartsElement (u ∷ us) x rest) same b in
       by_result _
-      (λ x got. LaterFault has_fill _ rest q x k begins got
-      (is_fault ys _ _ k (cc) (grind arith)))
+      (λ x got. LaterFault has_fill _ rest q x k begins got (is_fault ys _ _ k (cc) (grind arith)))
       (λ j got.
       let last : j ≡ k = cc in NoSegment has_fill _ rest q k begins (got ∙ ap Err last)))
       (grind arith)

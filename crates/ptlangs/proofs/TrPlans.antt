@@ -1,19 +1,21 @@
 -- The plan of two strings, step by step, and its tables. Reading never fails for lack of memory.
 use Rattle.ptlangs.proofs
-use proofs.Common.{Bool, Contents, Delete, DeleteSqueeze, Err, First, Form, List, None, Ok, Option, Result, Segment}
-use proofs.Common.{SetChar, SetElement, SetFault, SetFaultKind, SetRole, Some, Squeeze, []}
-use proofs.Common.{all_bytes, all_paired, and_then, ap, arith, array, byte_of, chars, chars_after, cond}
-use proofs.Common.{cons_ok, contents_of, false, first_array, first_members, in_string, length, map, marked_array}
-use proofs.Common.{ok_map, plan, plan_of, refl, result_map_both, rules, segments, sequence, string_segments, suc, sym}
-use proofs.Common.{tables, true, zero, ℕ, ◌-◌, ◌∙◌, ◌∷◌, ◌≡◌, ◌≢◌}
-use proofs.TrArrays.{paired-plain, class_offsets-are, paired_from}
-use Rattle.ptlangs.specs.TrElements.{elements_after, elements_from, or_char}
-use Rattle.ptlangs.specs.TrPlan.{NoMemoryFault, Plan, class_offsets, fill_count, has_valid_classes, image_of}
-use Rattle.ptlangs.specs.TrPlan.{is_deleted, is_squeezed, plan_from, second_plan, second_role, segment, takes_second}
-use Rattle.ptlangs.specs.TrTables.{Tables}
-use Rattle.ptlangs.specs.declared.faults.SetFaultKind.TheVariants.{ClassPlace, Memory}
-use Rattle.ptlangs.specs.declared.faults.SetString.{SetString}
-use Rattle.ptlangs.specs.declared.faults.SetString.TheVariants as string
+use Rattle.ptlangs.specs
+use proofs.Common.{Bool, Contents, Delete, DeleteSqueeze, Err, First, Form, List, Member, None, Ok, Option, Result}
+use proofs.Common.{Segment, SetChar, SetElement, SetFault, SetFaultKind, SetRole, Some, Squeeze, [], all_bytes}
+use proofs.Common.{all_paired, and_then, ap, arith, array, byte_of, chars, chars_after, cond, cons_ok, contents_of}
+use proofs.Common.{false, first_array, first_members, image_by, in_string, length, map, marked_array, member_bytes}
+use proofs.Common.{member_results, ok_map, plan, plan_of, refl, replicate, result_map_both, rules, segments}
+use proofs.Common.{segments_of, sequence, string_segments, suc, sym, tables, true, zero, ℕ, ◌-◌, ◌∙◌, ◌∷◌, ◌≡◌, ◌≢◌}
+use proofs.TrArrays.{answer_of, class_offsets-are, member_bytes-array, none_contained, paired-plain, paired_from}
+use proofs.TrArrays.{string-ok}
+use specs.TrElements.{elements_after, elements_from, or_char}
+use specs.TrPlan.{NoMemoryFault, Plan, class_offsets, fill_count, has_valid_classes, image_of, is_deleted, is_squeezed}
+use specs.TrPlan.{plan_from, second_plan, second_role, segment, takes_second}
+use specs.TrTables.{Tables}
+use specs.declared.faults.SetFaultKind.TheVariants.{ClassPlace, Memory}
+use specs.declared.faults.SetString.{SetString}
+use specs.declared.faults.SetString.TheVariants as string
 
 -- ---- strings without a fault
 
@@ -21,36 +23,60 @@ pub mapped_ok : (r : Result (List Segment) SetFaultKind) {f : List Segment → C
     → Ok y ≡ result_map_both f (λ (k : SetFaultKind). k) r → (ps : List Segment) × (r ≡ Ok ps) × (y ≡ f ps)
 mapped_ok = grind arith
 
--- the segments of the second string, and the plan if a fill has `fill` bytes
-pub record SecondRead (form : Form) (complement : Bool) (firsts : List Segment) (text : List ℕ) (role : SetRole)
-    (fill : ℕ) : Type 0 where
-  pub ps : List Segment
-  pub read : string_segments role text ≡ Ok ps
-  pub plan : (valid : Bool)
-      → has_valid_classes form complement (class_offsets 0 0 firsts) (class_offsets fill 0 ps) ≡ valid
-      → second_plan form complement firsts text
-      ≡ cond {A = Result Plan SetFaultKind} valid (Ok (plan_of form (first_array complement firsts) (array fill ps)))
-      (Err ClassPlace)
-
-pub second_read : (form : Form) (complement : Bool) (firsts : List Segment) (text : List ℕ) (role : SetRole)
-    (fill : ℕ) (first unfilled : Contents)
-    → role ≡ second_role form
-    → Ok unfilled ≡ result_map_both (λ ps. contents_of (array 0 ps)) (λ (k : SetFaultKind). k)
-    (string_segments role text)
-    → fill ≡ first.length - unfilled.length → first ≡ contents_of (first_array complement firsts)
-    → SecondRead form complement firsts text role fill
-second_read form complement firsts text role fill first unfilled at was e f =
-    let (ps, read, is) = mapped_ok _ _ was in
-    let has_fill : fill ≡ fill_count (length (first_array complement firsts)) ps =
-    cc in
-    record { ps = ps; read = read; plan = λ valid is. rw ((ap (λ q. string_segments q text) (sym at) ∙ read), ← has_fill, is) refl }
-
 -- the classes of a second string that translates are valid if they are paired
-pub valid-paired : (form : Form) (complement : Bool) (firsts ps : List Segment) (n : ℕ) → (form ≡ DeleteSqueeze → ⊥)
+valid-paired : (form : Form) (complement : Bool) (firsts ps : List Segment) (n : ℕ) → (form ≡ DeleteSqueeze → ⊥)
     → has_valid_classes form complement (class_offsets 0 0 firsts) (class_offsets n 0 ps)
     ≡ all_paired (first_members complement firsts) (marked_array n ps)
 valid-paired form true firsts ps n other = search (rules, paired-plain)
 valid-paired form false firsts ps n other = search (rules, class_offsets-are, paired_from)
+
+-- the tables of a form that translates
+abbrev pub translating : List Bool → List ℕ → Tables
+translating squeezed images = record { deleted = replicate 256 false; images = images; squeezed = squeezed }
+
+translated : (form : Form) → takes_second form ≡ true → (form ≡ DeleteSqueeze → ⊥) → (from to : List ℕ) (paired : Bool)
+    (answer : Result (List ℕ) SetFaultKind) {squeezed : List Bool}
+    → answer ≡ answer_of paired (map (image_by from to) all_bytes)
+    → squeezed ≡ map (is_squeezed (plan_of form from to)) all_bytes
+    → ok_map (translating squeezed) answer
+    ≡ ok_map {A = Plan} tables (cond paired (Ok (plan_of form from to)) (Err ClassPlace))
+translated form two other from to true = grind (arith, none_contained)
+translated form two other from to false = grind (arith, none_contained)
+
+-- What reading the second string gives: its array `to`, which is all of `items`, and the tables of the plan or their
+-- fault, `plan`, for a form that deletes and for one that translates, where reading the images gives `answer`.
+-- `squeezed` is the table of the squeezed bytes.
+pub record SecondRead (form : Form) (from : List ℕ) (firsts : List Member) (items : List (Result Member SetFaultKind))
+    (squeezed : List Bool) (plan : Result Tables SetFaultKind) : Type 0 where
+  pub to : List Member
+  pub left : items ≡ map Ok to
+  pub deletes : {images : List ℕ} → form ≡ DeleteSqueeze → images ≡ map (image_by [] []) all_bytes
+      → Ok (record { deleted = (contents_of from).has; images = images; squeezed = squeezed }) ≡ plan
+  pub translates : {answer : Result (List ℕ) SetFaultKind} → (form ≡ DeleteSqueeze → ⊥)
+      → answer ≡ answer_of (all_paired firsts to) (map (image_by from (member_bytes to)) all_bytes)
+      → ok_map (translating squeezed) answer ≡ plan
+
+pub second_read : (form : Form) (complement : Bool) (firsts : List Segment) (text : List ℕ) (role : SetRole)
+    (fill : ℕ) (squeezed : List Bool) (first unfilled : Contents)
+    → takes_second form ≡ true → role ≡ second_role form
+    → Ok unfilled ≡ ok_map (λ (ps : List Segment). contents_of (array 0 ps)) (string_segments role text)
+    → fill ≡ first.length - unfilled.length → first ≡ contents_of (first_array complement firsts)
+    → ((ps : List Segment) → string_segments role text ≡ Ok ps
+    → squeezed ≡ map (is_squeezed (plan_of form (first_array complement firsts) (array fill ps))) all_bytes)
+    → SecondRead form (first_array complement firsts) (first_members complement firsts)
+    (member_results fill (segments_of role text)) squeezed (ok_map tables (second_plan form complement firsts text))
+second_read form complement firsts text role fill squeezed first unfilled two at was e f s =
+    let (ps, read, is) = mapped_ok _ _ was in
+    let has_fill : fill ≡ fill_count (length (first_array complement firsts)) ps = cc in
+    let parts = ap (λ q. string_segments q text) (sym at) ∙ read in
+    record {
+      to = marked_array fill ps;
+      left = string-ok role text fill ps read;
+      deletes = λ is e. rw (parts, ← has_fill, s ps read, e, is) refl;
+      translates = λ other is.
+          rw (parts, ← has_fill, valid-paired form complement firsts ps fill other)
+          (translated form two other _ _ _ _ (rw (← member_bytes-array fill ps) is) (s ps read));
+    }
 
 -- `in_string` changes only a fault
 pub in_string-ok : {A : Type 0} (string : SetString) (r : Result A SetFaultKind) (x : A) → Ok x ≡ in_string string r
@@ -70,14 +96,6 @@ pub tables_are : (p : Plan) {deleted : List Bool} {images : List ℕ} {squeezed 
     → squeezed ≡ map (is_squeezed p) all_bytes
     → record { deleted = deleted; images = images; squeezed = squeezed } ≡ tables p
 tables_are p d i s = rw (d, i, s) refl
-
-pub planned : (form like : Form) (complement : Bool) (firsts : List Segment) (text : List ℕ) {role : SetRole}
-    {fill : ℕ} (r : SecondRead form complement firsts text role fill) {t : Tables}
-    → form ≡ like
-    → has_valid_classes form complement (class_offsets 0 0 firsts) (class_offsets fill 0 r.ps) ≡ true
-    → t ≡ tables (plan_of like (first_array complement firsts) (array fill r.ps))
-    → Ok t ≡ ok_map tables (second_plan form complement firsts text)
-planned form like complement firsts text r same valid is = cc (r.plan true valid)
 
 -- ---- the form in the last arm of a match
 
@@ -144,5 +162,4 @@ never_memory form complement s1 s2 fault e = by_first _ s2 (string_not_memory Fi
         → fault.kind ≢ Memory
     by_first (Err k) s2 first is = grind arith
     by_first (Ok firsts) None first is = cc
-    by_first (Ok firsts) (Some text) first is =
-        of_string _ _ _ (second_not_memory _ _ firsts text) is
+    by_first (Ok firsts) (Some text) first is = of_string _ _ _ (second_not_memory _ _ firsts text) is

@@ -1,12 +1,13 @@
 -- The stretches of a table of images give these images: a prepended byte is below all stretches after it, so only its
 -- own stretch adds to it.
 use Rattle.ptlangs.proofs
-use proofs.Common.{Bool, List, Stretch, [], ap, arith, common_steps, cond_both, drop, get_or}
-use proofs.Common.{length, prepend_shift, refl, shift_at, shift_of, stretches_from, suc}
-use proofs.Common.{sum_by, zero, ℕ, ◌%◌, ◌+◌, ◌-◌, ◌<◌, ◌∙◌, ◌∷◌, ◌≡◌, ◌≤◌}
+use Rattle.std.proofs.lemmas
+use proofs.Common.{Bool, List, Stretch, [], ap, arith, common_steps, cond_both, drop, get_or, length, prepend_shift}
+use proofs.Common.{refl, shift_at, shift_of, stretches_from, suc, sum_by, zero, ℕ, ◌%◌, ◌+◌, ◌-◌, ◌<◌, ◌∙◌, ◌∷◌, ◌≡◌}
+use proofs.Common.{◌≤◌}
 use Rattle.std.proofs.Common.{reverse, ◌&&◌, ◌==◌, rules}
-use Rattle.std.proofs.lemmas.List.Sorted.{IsPermutation-reverse, sum_by-IsPermutation}
-use Rattle.std.proofs.lemmas.List.Sums.{sum_by-cons}
+use lemmas.List.Sorted.{IsPermutation-reverse, sum_by-IsPermutation}
+use lemmas.List.Sums.{sum_by-cons}
 
 -- the sum of what the stretches add to a byte
 abbrev pub moved : List Stretch → ℕ → ℕ
@@ -77,5 +78,4 @@ moved_one = grind (arith, common_steps)
 
 pub no_more_behind : (n : ℕ) (images : List ℕ)
     → length (stretches_from n (drop n images)) ≤ length (stretches_from 0 images)
-no_more_behind n images =
-    grind (arith, no_more 0 n images, ap)
+no_more_behind n images = grind (arith, no_more 0 n images, ap)

@@ -1,10 +1,10 @@
 //! The list of `cut` (options `-b`, `-c` and `-f`), as `ptopts` reads it and `ptflow` uses it.
-ghost use Rattle.std.specs.Prelude.{◌≡◌, ◌≤◌, ◌<◌, None, IfOk, IsTrue, MatchResult, Ok};
+ghost use Rattle.std.specs.Prelude.{◌≡◌, ◌≤◌, ◌<◌, ◌∷◌, [], None, Some, IfOk, IsTrue, MatchResult, Ok};
 ghost use Rattle.std.specs.Result.{result_err};
 ghost use Rattle.ptlangs.specs.Results.{ValidatedParsePost};
 ghost use Rattle.ptlangs.specs.CutLists.{CutListMatchesGrammar, cut_list_fault, is_bound, value_or, interval_of_bounds};
 ghost use Rattle.ptlangs.specs.CutLists.{checked_interval, element_interval, cut_list, is_selected, selection};
-ghost use Rattle.ptlangs.specs.CutLists.{AreSeparated, AreSortedFrom};
+ghost use Rattle.ptlangs.specs.CutLists.{AreSeparated, AreSortedFrom, interval_of_parts};
 ghost use Rattle.ptlangs.specs.Numbers.{max_u64};
 
 use crate::numbers::{decimal, is_decimal, is_list_separator};
@@ -16,6 +16,21 @@ use std::marker::Model;
 pub struct Interval {
     pub first: u64,
     pub last: u64,
+}
+
+impl Interval {
+    /// The interval from `first` to `last`, if it is valid.
+    fn checked(first: u64, last: u64) -> Result<Interval, ListFault>
+        ensures { result ≡ checked_interval (Some (record { first = first; last = last })) }
+    {
+        if first == 0 || last == 0 {
+            return Err(ListFault::Zero);
+        }
+        if last < first {
+            return Err(ListFault::Descending);
+        }
+        Ok(Interval { first, last })
+    }
 }
 
 /// Why a list is rejected: the fault of its first faulty element, from left to right.
@@ -137,8 +152,19 @@ fn read_element(text: &[u8]) -> Result<Interval, ListFault>
         return Err(ListFault::Empty);
     }
     match text.iter().position(|byte| *byte == b'-') {
-        None => read_bounds(text, text),
+        None => read_single(text),
         Some(dash) => read_bounds(&text[..dash], &text[dash + 1..]),
+    }
+}
+
+/// The interval of one number.
+fn read_single(text: &[u8]) -> Result<Interval, ListFault>
+    ensures { result ≡ checked_interval (interval_of_parts (text.now ∷ [])) }
+{
+    match decimal(text) {
+        Some(number) => Interval::checked(number, number),
+        None if is_decimal(text) => Err(ListFault::TooLarge),
+        None => Err(ListFault::Malformed),
     }
 }
 
@@ -151,13 +177,7 @@ fn read_bounds(first: &[u8], last: &[u8]) -> Result<Interval, ListFault>
     }
     let first = read_bound(first, 1)?;
     let last = read_bound(last, u64::MAX)?;
-    if first == 0 || last == 0 {
-        return Err(ListFault::Zero);
-    }
-    if last < first {
-        return Err(ListFault::Descending);
-    }
-    Ok(Interval { first, last })
+    Interval::checked(first, last)
 }
 
 /// Whether the text is a bound of an element: a number, or nothing.

@@ -1,7 +1,7 @@
 -- Big-endian numbers of equally many bytes compare as the bytes do, since the first digit that differs decides.
-use Rattle.ptlines.proofs.Common.{◌≡◌, ℕ, zero, suc, ◌+◌, ◌*◌, ◌<◌, ◌≤◌, List, [], ◌∷◌, length, take, drop, min}
-use Rattle.ptlines.proofs.Common.{refl, sym, ◌∙◌, ap, arith, get_or, Fits, take-add, take-take, chunk-fits}
-use Rattle.ptlines.proofs.Common.{length-chunk, Each1, common_steps}
+use Rattle.ptlines.proofs
+use proofs.Common.{◌≡◌, ℕ, zero, suc, ◌+◌, ◌*◌, ◌<◌, ◌≤◌, List, [], ◌∷◌, length, take, drop, min, refl, sym, ◌∙◌, ap}
+use proofs.Common.{arith, get_or, Fits, take-add, take-take, chunk-fits, length-chunk, Each1, common_steps}
 use Rattle.std.proofs.lemmas.Cmp.{nat_list_cmp_total, tied_itself}
 use Rattle.std.specs.Int.{w8, w32, w64, from_be_bytes}
 use Rattle.std.specs.Ordering.{nat_cmp, ordering_then}
@@ -62,8 +62,7 @@ first_decides = grind arith
 -- Words of `n` bytes at the same index of two slices.
 module _ {n : ℕ} {read : List ℕ → ℕ} (is_number : (xs : List ℕ) → length xs ≡ n → read xs ≡ number 0 xs)
     (at : ℕ) (a b : List ℕ) {x y : ℕ} (fits : at + n ≤ min (length a) (length b))
-    (fa : (k : ℕ) → Fits w8 (get_or a k 0))
-    (fb : (k : ℕ) → Fits w8 (get_or b k 0)) (same : take at a ≡ take at b)
+    (fa : (k : ℕ) → Fits w8 (get_or a k 0)) (fb : (k : ℕ) → Fits w8 (get_or b k 0)) (same : take at a ≡ take at b)
     (first : x ≡ read (take n (drop at a))) (second : y ≡ read (take n (drop at b))) where
   abbrev xs : List ℕ
   xs = take n (drop at a)
@@ -88,8 +87,7 @@ module _ {n : ℕ} {read : List ℕ → ℕ} (is_number : (xs : List ℕ) → le
       (ap (byte_cmp (take at a)) (sym same) ∙ tied_itself nat_list_cmp_total (take at a)))
 
   pub words_same : x ≡ y → take (at + n) a ≡ take (at + n) b
-  words_same is =
-      grind (arith, nat_cmp, take-add, xs, take, byte_cmp_equal, ys, words_cmp)
+  words_same is = grind (arith, nat_cmp, take-add, xs, take, byte_cmp_equal, ys, words_cmp)
 
 pub shorter_prefix_same : (m n : ℕ) (a b : List ℕ) → m ≤ n → take n a ≡ take n b → take m a ≡ take m b
 shorter_prefix_same m n a b less same = sym (take-take m n a less) ∙ ap (take m) same ∙ take-take m n b less

@@ -1,14 +1,15 @@
 -- The ends of a call of any engine: the output had failed before, a first slot could not be added, or there was
 -- progress.
-use Rattle.ptlines.proofs.Common.{◌≡◌, ℕ, ◌<◌, ◌≤◌, true, false, List, [], Option, length, max, refl, ◌∙◌, ap, arith}
-use Rattle.ptlines.proofs.Common.{Reader, ReaderAdvance, IsSound, Received, IsPrefix, PushEffect}
-use Rattle.ptlines.specs.Calls.{InputNames, EngineSpec, CallState, CallEnd, Complete, OutOfOrder, ReadFault}
-use Rattle.ptlines.specs.Calls.{WriteFault, MemoryFault, CallPost, CallOutcome, AreAllConsistent, AllPushed}
-use Rattle.ptlines.specs.Calls.{with_input}
-use Rattle.ptlines.specs.Lag.{BoundedLag}
-use Rattle.ptlines.proofs.Lag.{bounded_lag_now}
-use Rattle.ptlines.proofs.Push.{push_nothing}
-use Rattle.ptlines.proofs.Received.{received_with, has_received, has_received_set}
+use Rattle.ptlines.proofs
+use Rattle.ptlines.specs
+use proofs.Common.{◌≡◌, ℕ, ◌<◌, ◌≤◌, true, false, List, [], Option, length, max, refl, ◌∙◌, ap, arith, Reader}
+use proofs.Common.{ReaderAdvance, IsSound, Received, IsPrefix, PushEffect}
+use specs.Calls.{InputNames, EngineSpec, CallState, CallEnd, Complete, OutOfOrder, ReadFault, WriteFault, MemoryFault}
+use specs.Calls.{CallPost, CallOutcome, AreAllConsistent, AllPushed, with_input}
+use specs.Lag.{BoundedLag}
+use proofs.Lag.{bounded_lag_now}
+use proofs.Push.{push_nothing}
+use proofs.Received.{received_with, has_received, has_received_set}
 
 pub reads_nothing : (r : Reader) → ReaderAdvance r r []
 reads_nothing r = grind arith
@@ -37,8 +38,7 @@ module _ {I : Type 0} (names : InputNames I) (engine : EngineSpec I) where
     slots = grind arith;
     added = λ clean. cc;
     unread = λ clean few. cc;
-    unchanged_if_failed =
-        grind arith;
+    unchanged_if_failed = grind arith;
   }
 
   -- A first slot could not be added: only the terminator of the readers was set.

@@ -1,6 +1,7 @@
 -- Consuming moves the start of the block, so the bytes consumed and those left are the two parts of what was buffered.
-use Rattle.ptlines.proofs.Common.{◌≡◌, ℕ, ◌+◌, ◌-◌, ◌≤◌, List, length, drop, sym, arith, slice_range}
-use Rattle.ptlines.proofs.Common.{drop-drop, drop-take, common_steps}
+use Rattle.ptlines.proofs
+use proofs.Common.{◌≡◌, ℕ, ◌+◌, ◌-◌, ◌≤◌, List, length, drop, sym, arith, slice_range, drop-drop, drop-take}
+use proofs.Common.{common_steps}
 
 pub range_drop : (b : List ℕ) (s e n : ℕ) → s + n ≤ e → slice_range b (s + n) e ≡ drop n (slice_range b s e)
 range_drop b s e n fits =

@@ -1,8 +1,8 @@
 -- A copy of a whole vector copies its first bytes too; the others do not matter. Two vectors that overlap copy all
 -- bytes.
-use Rattle.ptlines.proofs.Common.{◌≡◌, ℕ, ◌+◌, ◌≤◌, List, length, take, drop, ◌++◌, sym, ◌∙◌, ap, arith}
-use Rattle.ptlines.proofs.Common.{length-take-le, take-take, take_more_put_chunk, put_chunk, take-append-add}
-use Rattle.ptlines.proofs.Common.{common_steps}
+use Rattle.ptlines.proofs
+use proofs.Common.{◌≡◌, ℕ, ◌+◌, ◌≤◌, List, length, take, drop, ◌++◌, sym, ◌∙◌, ap, arith, length-take-le, take-take}
+use proofs.Common.{take_more_put_chunk, put_chunk, take-append-add, common_steps}
 
 pub copied_prefix : (at few many : ℕ) (was is bytes : List ℕ) → at ≤ length was → few ≤ many
     → take (at + many) is ≡ take at was ++ take many bytes → take (at + few) is ≡ take at was ++ take few bytes

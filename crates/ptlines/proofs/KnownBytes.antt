@@ -1,6 +1,7 @@
 -- Appending twice is appending the concatenation, also to bytes that may be unknown.
-use Rattle.ptlines.proofs.Common.{◌≡◌, ℕ, Bool, List, [], ◌++◌, Option, append_known, prepend_known, unflushed_after}
-use Rattle.ptlines.proofs.Common.{arith, rules, common_steps}
+use Rattle.ptlines.proofs
+use proofs.Common.{◌≡◌, ℕ, Bool, List, [], ◌++◌, Option, append_known, prepend_known, unflushed_after, arith, rules}
+use proofs.Common.{common_steps}
 
 pub append_known-append : (known : Option (List ℕ)) (xs ys : List ℕ)
     → append_known (append_known known xs) ys ≡ append_known known (xs ++ ys)

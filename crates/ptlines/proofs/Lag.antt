@@ -1,9 +1,10 @@
 -- All output that was pushed while no write had failed, except for at most one block of 8,192 bytes, is in the sink.
-use Rattle.ptlines.proofs.Common.{◌≡◌, ℕ, ◌+◌, ◌≤◌, false, List, ◌++◌, Option, None, Some, length, max, sym, ◌∙◌, ap}
-use Rattle.ptlines.proofs.Common.{arith, length-append, append_known, Received, IsPrefix, Output, IsKnownPrefix}
-use Rattle.ptlines.proofs.Common.{PushEffect, rules, common_steps}
+use Rattle.ptlines.proofs
+use proofs.Common.{◌≡◌, ℕ, ◌+◌, ◌≤◌, false, List, ◌++◌, Option, None, Some, length, max, sym, ◌∙◌, ap, arith}
+use proofs.Common.{length-append, append_known, Received, IsPrefix, Output, IsKnownPrefix, PushEffect, rules}
+use proofs.Common.{common_steps}
 use Rattle.ptlines.specs.Lag.{ProcessLag, BufferLag, BoundedLag}
-use Rattle.ptlines.proofs.Push.{known_prefix_refl}
+use proofs.Push.{known_prefix_refl}
 
 unfoldable pub known_length : Option (List ℕ) → ℕ
 known_length None = 0
@@ -39,8 +40,7 @@ buffer_lag : (was mid is : Output) (pushed bytes : List ℕ) → PushEffect was 
     → IsKnownPrefix mid.accepted is.accepted → IsPrefix bytes pushed → BufferLag was is bytes
 buffer_lag was mid is _ _ wrote clean kept front =
     let (written_out, accepted, most) =
-    buffer_lag_bytes _ _ _ _ _ _
-    wrote.kept kept (wrote.whole clean) wrote.buffered in
+    buffer_lag_bytes _ _ _ _ _ _ wrote.kept kept (wrote.whole clean) wrote.buffered in
     grind (arith, length-append)
 
 module _ {I : Type 0} (decided : (I → Received) → List ℕ) (came : I → Received) (was mid : Output) (pushed : List ℕ)

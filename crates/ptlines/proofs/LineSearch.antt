@@ -1,8 +1,8 @@
 -- The bytes before the first terminator are a line; if there is none, all bytes are a part of one.
-use Rattle.ptlines.proofs.Common.{◌≡◌, ℕ, suc, ◌+◌, ◌<◌, ◌≤◌, List, [], ◌∷◌, ◌++◌, None, Some, length, get_or, take}
-use Rattle.ptlines.proofs.Common.{drop, arith, IsFirstByte, is_byte, IsLine}
-use Rattle.ptlines.proofs.Common.{Reader, AdvanceOk, common_steps}
-use Rattle.ptlines.proofs.KnownBytes.{prepend_known-append}
+use Rattle.ptlines.proofs
+use proofs.Common.{◌≡◌, ℕ, suc, ◌+◌, ◌<◌, ◌≤◌, List, [], ◌∷◌, ◌++◌, None, Some, length, get_or, take, drop, arith}
+use proofs.Common.{IsFirstByte, is_byte, IsLine, Reader, AdvanceOk, common_steps}
+use proofs.KnownBytes.{prepend_known-append}
 
 pub is_line_if_none : (end : ℕ) (bytes : List ℕ) → ((k : ℕ) → k < length bytes → get_or bytes k 0 ≡ end → ⊥)
     → IsLine end bytes

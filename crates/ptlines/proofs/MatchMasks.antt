@@ -1,9 +1,9 @@
 -- The trailing zeros of a match mask count the bytes before the first match; a mask of zero means that there is none.
-use Rattle.ptlines.proofs.Common.{◌≡◌, ℕ, ◌+◌, ◌*◌, ◌^◌, ◌%◌, ◌<◌, ◌≤◌, Bool, not, List, [], ◌∷◌, ◌++◌, rules}
-use Rattle.ptlines.proofs.Common.{Option, Some, length, map, refl, sym, ◌∙◌, ap, subst, arith, bit_or}
-use Rattle.ptlines.proofs.Common.{take-add, drop-drop, length-map, none_from_empty_mask, trailing_mask_l}
-use Rattle.ptlines.proofs.Common.{run_in_chunk_fails, run_in_chunk_stops, length-chunk, mask_l-lt}
-use Rattle.ptlines.proofs.Common.{prefix_len, mask_l, chunk, Nowhere, Passes, IsFirst}
+use Rattle.ptlines.proofs
+use proofs.Common.{◌≡◌, ℕ, ◌+◌, ◌*◌, ◌^◌, ◌%◌, ◌<◌, ◌≤◌, Bool, not, List, [], ◌∷◌, ◌++◌, rules, Option, Some, length}
+use proofs.Common.{map, refl, sym, ◌∙◌, ap, subst, arith, bit_or, take-add, drop-drop, length-map, none_from_empty_mask}
+use proofs.Common.{trailing_mask_l, run_in_chunk_fails, run_in_chunk_stops, length-chunk, mask_l-lt, prefix_len, mask_l}
+use proofs.Common.{chunk, Nowhere, Passes, IsFirst}
 use Rattle.std.proofs.Math.Nat.{pow-succ'}
 use Rattle.std.proofs.lemmas.Grind.{or_before_shift, common_steps}
 use lib.Count.{count_trailing_zeros}
@@ -22,7 +22,8 @@ none_if_zero_mask = grind (arith, none_from_empty_mask)
 pub first_at_lowest_bit : (test : ℕ → Bool) (hay : List ℕ) (i n m : ℕ) → n ≤ 64 → i + n ≤ length hay
     → m ≡ mask_l (map test (chunk i n hay)) → (m ≡ 0 → ⊥)
     → IsFirst (Passes test hay) i (i + n) (Some (i + count_trailing_zeros 64 m))
-first_at_lowest_bit = grind (arith, length-chunk, trailing_mask_l, prefix_len_lt, run_in_chunk_fails, run_in_chunk_stops)
+first_at_lowest_bit =
+    grind (arith, length-chunk, trailing_mask_l, prefix_len_lt, run_in_chunk_fails, run_in_chunk_stops)
 
 -- ---- a search that continues after indices without a match
 
@@ -62,14 +63,12 @@ mask_48 test hay i a b c room first second third =
     let low : a < 65536 = search (rules, mask_16_lt) in
     let mid : b < 65536 = search (rules, mask_16_lt) in
     let high : c < 65536 = search (rules, mask_16_lt) in
-    let two : bit_or a (b * 65536 % 18446744073709551616) ≡ b * 65536 + a =
-    grind (arith, or_before_shift) in
+    let two : bit_or a (b * 65536 % 18446744073709551616) ≡ b * 65536 + a = grind (arith, or_before_shift) in
     let three = or_before_shift (bit_or a (b * 65536 % 18446744073709551616)) c 4294967296 18446744073709551616 refl
     (grind arith) (omega arith) in
     let mask : ℕ → ℕ → ℕ = λ k n. mask_l (map test (chunk k n hay)) in
     let all = mask_16_append test hay i 32 (omega arith) in
-    let rest =
-    mask_16_append test hay (i + 16) 16 (omega arith) in
+    let rest = mask_16_append test hay (i + 16) 16 (omega arith) in
     grind arith
 
 -- ---- the first match among 64 bytes, by the mask of the first 16 if that is not zero
@@ -99,7 +98,7 @@ module _ (test : ℕ → Bool) (hay : List ℕ) where
       → far * 65536 % 18446744073709551616 ≡ mask_l (map test (chunk 0 64 hay))
   mask_64 near far room is none rest =
       let all : mask_l (map test (chunk 0 64 hay)) ≡ mask_l (map test (chunk 0 16 hay))
-      + 65536 * mask_l (map test (chunk 16 48 hay)) = grind (arith, mask_16_append) in
+      + 65536 * mask_l (map test (chunk 16 48 hay)) = mask_16_append test hay 0 48 (omega (arith, room)) in
       let flags = map test (chunk 16 48 hay) in
       let few : far < 2 ^ 48 = subst (λ m. m < 2 ^ 48) (sym rest)
       (subst (λ n. mask_l flags < 2 ^ n)

@@ -1,7 +1,8 @@
 -- A text of complete lines is the text of its lines, so the lines of a concatenation are those of both parts.
-use Rattle.ptlines.proofs.Common.{◌++◌, sym, ◌∙◌, ap, lines, arith}
+use Rattle.ptlines.proofs
+use proofs.Common.{◌++◌, sym, ◌∙◌, ap, lines, arith}
 use Rattle.ptlines.specs.Parts.{LinesOfParts}
-use Rattle.ptlines.proofs.TextLaws.{lines_are, lines_of_unlines, unlines-lines}
+use proofs.TextLaws.{lines_are, lines_of_unlines, unlines-lines}
 
 pub the_lines_of_parts : LinesOfParts
 the_lines_of_parts end a b whole =

@@ -1,11 +1,12 @@
 -- Two pushes are one push of the concatenation, and after a failed write nothing changes any more.
-use Rattle.ptlines.proofs.Common.{◌≡◌, ℕ, true, false, List, [], ◌++◌, Option, arith}
-use Rattle.ptlines.proofs.Common.{Result, Ok, OnOk, OnErr, append_known, Output, with_written_out}
-use Rattle.ptlines.proofs.Common.{with_direct_write, IsKnownPrefix, PushEffect, PushPost, OutputErr, rules}
-use Rattle.ptlines.proofs.Common.{common_steps}
-use Rattle.ptlines.specs.declared.out.WriteFault.{WriteFault}
-use Rattle.ptlines.specs.Outputs.{output_bytes}
-use Rattle.ptlines.proofs.KnownBytes.{append_known-append, append_known-nil}
+use Rattle.ptlines.proofs
+use Rattle.ptlines.specs
+use proofs.Common.{◌≡◌, ℕ, true, false, List, [], ◌++◌, Option, arith, Result, Ok, OnOk, OnErr, append_known, Output}
+use proofs.Common.{with_written_out, with_direct_write, IsKnownPrefix, PushEffect, PushPost, OutputErr, rules}
+use proofs.Common.{common_steps}
+use specs.declared.out.WriteFault.{WriteFault}
+use specs.Outputs.{output_bytes}
+use proofs.KnownBytes.{append_known-append, append_known-nil}
 
 pub known_prefix_refl : (known : Option (List ℕ)) → IsKnownPrefix known known
 known_prefix_refl = grind (arith, append_known-nil)

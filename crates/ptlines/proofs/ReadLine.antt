@@ -1,14 +1,14 @@
 -- A line is read piece by piece: what several calls consumed is the concatenation of what each consumed. A line whose
 -- terminator is among the next 64 bytes is copied at once.
-use Rattle.ptlines.proofs.Common.{◌≡◌, ℕ, ◌+◌, ◌-◌, ◌^◌, ◌<◌, ◌≤◌, None, Some, take, Bool, List, [], ◌∷◌, ◌++◌}
-use Rattle.ptlines.proofs.Common.{length, sym, ◌∙◌, ap, subst, arith, length-append, set-set}
-use Rattle.ptlines.proofs.Common.{Slots, line, with_line, not, ◌==◌, Ok, IsLine, Reader, ReaderAdvance}
-use Rattle.ptlines.proofs.Common.{AdvanceOk, IsDone, PiecePartial, PieceLine, FillLine, FillPost, IsAppended}
-use Rattle.ptlines.proofs.Common.{IsFirst, IsFirstByte, Passes, is_byte, slice_range, rules, common_steps}
-use Rattle.ptlines.proofs.KnownBytes.{prepend_known-append}
-use Rattle.ptlines.proofs.SlotTotals.{total_bytes_set}
-use Rattle.ptlines.proofs.LineSearch.{IsLine-append, line_before_terminator, advance_ok_take}
-use Rattle.ptlines.proofs.Consume.{rest_of_range}
+use Rattle.ptlines.proofs
+use proofs.Common.{◌≡◌, ℕ, ◌+◌, ◌-◌, ◌^◌, ◌<◌, ◌≤◌, None, Some, take, Bool, List, [], ◌∷◌, ◌++◌, length, sym, ◌∙◌, ap}
+use proofs.Common.{subst, arith, length-append, set-set, Slots, line, with_line, not, ◌==◌, Ok, IsLine, Reader}
+use proofs.Common.{ReaderAdvance, AdvanceOk, IsDone, PiecePartial, PieceLine, FillLine, FillPost, IsAppended, IsFirst}
+use proofs.Common.{IsFirstByte, Passes, is_byte, slice_range, rules, common_steps}
+use proofs.KnownBytes.{prepend_known-append}
+use proofs.SlotTotals.{total_bytes_set}
+use proofs.LineSearch.{IsLine-append, line_before_terminator, advance_ok_take}
+use proofs.Consume.{rest_of_range}
 
 pub advance_trans : (a b c : Reader) (xs ys : List ℕ) → ReaderAdvance a b xs → ReaderAdvance b c ys
     → ReaderAdvance a c (xs ++ ys)
@@ -63,7 +63,8 @@ pub fill_eof : (old now new : Reader) (before so_far after : Slots) (slot : ℕ)
     → slot < length before.lines → old.pulled < 2 ^ 63 → LineSoFar old now before so_far slot → AdvanceOk now new []
     → IsDone new → after ≡ so_far → empty ≡ (length (line after slot) == 0)
     → FillPost old new before after slot (Ok (not empty))
-fill_eof old now new before so_far after slot empty within short begun advance_ok done same is = grind (arith, line_of_with_line, by_piece)
+fill_eof old now new before so_far after slot empty within short begun advance_ok done same is =
+    grind (arith, line_of_with_line, by_piece)
   where
     by_piece : (piece : List ℕ) → AdvanceOk old new piece → IsLine old.terminator piece
         → after ≡ with_line before slot piece → empty ≡ (length piece == 0)

@@ -1,7 +1,7 @@
 -- A call receives the bytes that it consumes and those that it leaves buffered. The terminator plays no part in that.
-use Rattle.ptlines.proofs.Common.{◌≡◌, ℕ, List, ◌++◌, arith, length-append, Reader, ReaderAdvance}
-use Rattle.ptlines.proofs.Common.{Received, HasReceived}
-use Rattle.ptlines.proofs.KnownBytes.{prepend_known-append}
+use Rattle.ptlines.proofs
+use proofs.Common.{◌≡◌, ℕ, List, ◌++◌, arith, length-append, Reader, ReaderAdvance, Received, HasReceived}
+use proofs.KnownBytes.{prepend_known-append}
 
 -- what was received if these bytes were consumed
 abbrev pub received_with : List ℕ → Reader → Received

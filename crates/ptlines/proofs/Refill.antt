@@ -1,9 +1,9 @@
 -- One read into an empty block: the bytes that the source gives become the buffered ones, so nothing is consumed or
 -- lost.
-use Rattle.ptlines.proofs.Common.{◌≡◌, ℕ, ◌+◌, ◌<◌, ◌≤◌, Bool, List, [], Option, take, refl, arith}
-use Rattle.ptlines.proofs.Common.{length-take-le, take-take, SourceState, PullOk, ◌^◌, true, Some, Ok}
-use Rattle.ptlines.proofs.Common.{Err, inr, slice_range, LineFault, Read, Reader, reader_of}
-use Rattle.ptlines.proofs.Common.{ReaderAdvance, RefillPost, rules}
+use Rattle.ptlines.proofs
+use proofs.Common.{◌≡◌, ℕ, ◌+◌, ◌<◌, ◌≤◌, Bool, List, [], Option, take, refl, arith, length-take-le, take-take}
+use proofs.Common.{SourceState, PullOk, ◌^◌, true, Some, Ok, Err, inr, slice_range, LineFault, Read, Reader, reader_of}
+use proofs.Common.{ReaderAdvance, RefillPost, rules}
 use Rattle.std.proofs.lemmas.Slice.{between_from_start}
 use Rattle.ptlines.specs.Readers.{RefillPre}
 
@@ -23,5 +23,4 @@ module _ {old : Reader} {was : SourceState} (is : SourceState) (block : List ℕ
 
   pub refill_long : PullOk was is (take 8192 block) n → n ≤ 8192 → 2 ^ 63 ≤ p + n
       → RefillPost old (reader_of is (slice_range block 0 n) (p + n) (Some Read) q' end) (Err Read)
-  refill_long gives small long =
-      (search (rules, filled), inr (long, cc), refl)
+  refill_long gives small long = (search (rules, filled), inr (long, cc), refl)

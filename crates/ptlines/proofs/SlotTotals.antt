@@ -1,14 +1,15 @@
 -- The total length of the lines in a store, and the bounds of lines and buffers, after one slot is set, added or
 -- exchanged. The total changes by the difference of two lengths, and always fits 128 bits.
-use Rattle.ptlines.proofs.Common.{◌≡◌, ◌≢◌, ℕ, zero, suc, ◌+◌, ◌*◌, ◌^◌, ◌<◌, ◌≤◌, List, [], ◌∷◌, ◌++◌, length, take}
-use Rattle.ptlines.proofs.Common.{drop, get_or, sym, ◌∙◌, ap, arith, set, Bool, subst, refl, max, set-get_or, set-set}
-use Rattle.ptlines.proofs.Common.{swap, length-map, Slots, LengthsAreBounded, line, total_bytes, with_line}
-use Rattle.ptlines.proofs.Common.{rules, common_steps}
+use Rattle.ptlines.proofs
+use Rattle.std.proofs.lemmas
+use proofs.Common.{◌≡◌, ◌≢◌, ℕ, zero, suc, ◌+◌, ◌*◌, ◌^◌, ◌<◌, ◌≤◌, List, [], ◌∷◌, ◌++◌, length, take, drop, get_or}
+use proofs.Common.{sym, ◌∙◌, ap, arith, set, Bool, subst, refl, max, set-get_or, set-set, swap, length-map, Slots}
+use proofs.Common.{LengthsAreBounded, line, total_bytes, with_line, rules, common_steps}
 use Rattle.ptlines.specs.Slots.{SlotBuffer, slot_lines, AreBuffersBounded, AreCounted}
-use Rattle.std.proofs.lemmas.List.{map-set, get_or-map}
-use Rattle.std.proofs.lemmas.List.Elements.{All-set}
-use Rattle.std.proofs.lemmas.List.Sums.{sum_by-le}
-use Rattle.std.proofs.lemmas.List.Sorted.{sum_by-IsPermutation, IsPermutation-swap}
+use lemmas.List.{map-set, get_or-map}
+use lemmas.List.Elements.{All-set}
+use lemmas.List.Sums.{sum_by-le}
+use lemmas.List.Sorted.{sum_by-IsPermutation, IsPermutation-swap}
 
 pub total_bytes_set : (lines : List (List ℕ)) (slot : ℕ) (bytes : List ℕ) → slot < length lines
     → total_bytes (set lines slot bytes) + length (get_or lines slot []) ≡ total_bytes lines + length bytes
@@ -44,22 +45,19 @@ module _ {X : Type 0} where
   All-swap P [] a b a_in b_in all = all
   All-swap P (x ∷ more) a b a_in b_in all =
       let xs = x ∷ more in
-      All-set P _ b _ (grind arith)
-      (All-set P xs a _ (grind arith) all)
+      All-set P _ b _ (grind arith) (All-set P xs a _ (grind arith) all)
 
 abbrev pub line_of : SlotBuffer → List ℕ
 line_of slot = slot.line
 
 pub total_bytes_swap : (lines : List (List ℕ)) (a b : ℕ) → a < length lines → b < length lines
     → total_bytes (swap lines a b) ≡ total_bytes lines
-total_bytes_swap _ a b a_in b_in =
-    sum_by-IsPermutation _ _ _ (IsPermutation-swap _ _ a b a_in b_in refl)
+total_bytes_swap _ a b a_in b_in = sum_by-IsPermutation _ _ _ (IsPermutation-swap _ _ a b a_in b_in refl)
 
 pub slot_lines-swap : (slots : List SlotBuffer) (a b : ℕ) → a < length slots → b < length slots
     → slot_lines (swap slots a b) ≡ swap (slot_lines slots) a b
 slot_lines-swap [] a b a_in b_in = refl
-slot_lines-swap _ a b a_in b_in =
-    grind (arith, map-set, get_or-map)
+slot_lines-swap _ a b a_in b_in = grind (arith, map-set, get_or-map)
 
 pub counted_after_swap : (slots : List SlotBuffer) (a b : ℕ) {byte_count peak : ℕ} → a < length slots → b < length slots
     → AreCounted byte_count peak slots → AreCounted byte_count peak (swap slots a b)
@@ -133,9 +131,6 @@ pub same_slot : (slots : List SlotBuffer) (slot : ℕ) {a b : SlotBuffer} → sl
     → b ≡ get_or slots slot b → a ≡ b
 same_slot = grind (arith, common_steps)
 
-abbrev pub empty_slot : SlotBuffer
-empty_slot = record { line = []; buffer_size = 128 }
-
 -- the model of a store
 abbrev pub store_of : List SlotBuffer → ℕ → Bool → Slots
 store_of slots peak denied = record { lines = slot_lines slots; peak = peak; denied = denied }
@@ -151,13 +146,11 @@ module _ (slots : List SlotBuffer) {peak : ℕ} {denied : Bool} {now : Slots} (s
   pub store_after_set : (new : SlotBuffer) {bytes : List ℕ} {byte_count peak_now : ℕ} → new.line ≡ bytes
       → byte_count ≡ total_bytes (slot_lines (set slots slot new)) → peak_now ≡ max peak byte_count
       → store_of (set slots slot new) peak_now denied ≡ with_line now slot bytes
-  store_after_set new {bytes} new_is counts peak_is =
-      grind (arith, map-set)
+  store_after_set new {bytes} new_is counts peak_is = grind (arith, map-set)
 
 -- Split at `to`: the target is the first slot of the back part.
 module _ (slots front back : List SlotBuffer) (from to : ℕ) (d e new : SlotBuffer) (more : List ℕ) (near : from < to)
-    (within : to < length slots)
-    (front_is : front ≡ take to slots) (back_is : back ≡ drop to slots) where
+    (within : to < length slots) (front_is : front ≡ take to slots) (back_is : back ≡ drop to slots) where
   back_set : front ++ set back 0 new ≡ set slots to new
   back_set = grind (arith, set_after_split)
 
@@ -182,8 +175,7 @@ module _ (slots front back : List SlotBuffer) (from to : ℕ) (d e new : SlotBuf
 
 -- Split at `from`: the target lies in the front part.
 module _ (slots front back : List SlotBuffer) (from to : ℕ) (d e new : SlotBuffer) (more : List ℕ) (near : to < from)
-    (within : from < length slots)
-    (front_is : front ≡ take from slots) (back_is : back ≡ drop from slots) where
+    (within : from < length slots) (front_is : front ≡ take from slots) (back_is : back ≡ drop from slots) where
   front_set : set front to new ++ back ≡ set slots to new
   front_set = grind (arith, set_before_split)
 
@@ -212,8 +204,7 @@ module _ (slots front back : List SlotBuffer) (from to : ℕ) (d e new : SlotBuf
 pub copy_lines : (lines cleared after : List (List ℕ)) (from to : ℕ) → from ≢ to → to < length lines
     → cleared ≡ set lines to [] → after ≡ set cleared to (get_or cleared to [] ++ get_or cleared from [])
     → after ≡ set lines to (get_or lines from [])
-copy_lines _ _ _ _ to differ to_in cleared_is after_is =
-    search (rules, set-set)
+copy_lines _ _ _ _ to differ to_in cleared_is after_is = search (rules, set-set)
 
 pub copy_total : (lines cleared after : List (List ℕ)) (from to byte_count size : ℕ) (v : List ℕ) → from ≢ to
     → from < length lines → to < length lines → cleared ≡ set lines to [] → after ≡ set lines to (get_or lines from [])

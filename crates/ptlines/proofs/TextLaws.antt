@@ -1,9 +1,10 @@
 -- Splitting the text of lines gives these lines, and the text of the lines of a text is that text, perhaps with one
 -- more terminator.
-use Rattle.ptlines.proofs.Common.{◌≡◌, ◌≢◌, ◌⊎◌, inl, inr, ℕ, ◌==◌, ◌<◌, Bool, true, false, cond, List, [], ◌∷◌, ◌++◌}
-use Rattle.ptlines.proofs.Common.{length, drop, get_or, refl, sym, ◌∙◌, ap, arith, onto_first, eq-eqb}
-use Rattle.ptlines.proofs.Common.{eqb-false, append-nil, unlines, lines, complete_lines, IsLine, AreLines}
-use Rattle.ptlines.proofs.Common.{EndsWithByte, LinesAreUnique, CompleteLinesAreLines, rules, common_steps}
+use Rattle.ptlines.proofs
+use proofs.Common.{◌≡◌, ◌≢◌, ◌⊎◌, inl, inr, ℕ, ◌==◌, ◌<◌, Bool, true, false, cond, List, [], ◌∷◌, ◌++◌, length, drop}
+use proofs.Common.{get_or, refl, sym, ◌∙◌, ap, arith, onto_first, eq-eqb, eqb-false, append-nil, unlines, lines}
+use proofs.Common.{complete_lines, IsLine, AreLines, EndsWithByte, LinesAreUnique, CompleteLinesAreLines, rules}
+use proofs.Common.{common_steps}
 
 pub byte_eq : (end : ℕ) → (end == end) ≡ true
 byte_eq end = eq-eqb end end refl
@@ -35,7 +36,8 @@ AreLines_push = grind (arith, common_steps)
 pub lines_of_unlines : (end : ℕ) (ls : List (List ℕ)) (bytes : List ℕ) → AreLines end ls
     → lines end (unlines end ls ++ bytes) ≡ ls ++ lines end bytes
 lines_of_unlines end [] bytes w = refl
-lines_of_unlines end (line ∷ ls) bytes (first, others) = grind (arith, common_steps, lines_cons, lines_of_unlines end ls bytes others)
+lines_of_unlines end (line ∷ ls) bytes (first, others) =
+    grind (arith, common_steps, lines_cons, lines_of_unlines end ls bytes others)
 
 pub lines-unlines : (end : ℕ) (ls : List (List ℕ)) → AreLines end ls → lines end (unlines end ls) ≡ ls
 lines-unlines end ls w = ap (lines end) (sym (append-nil (unlines end ls))) ∙ lines_of_unlines end ls [] w
@@ -96,11 +98,9 @@ unlines-lines end (b ∷ c ∷ bytes) = put (b == end) refl (unlines-lines end (
         × (unlines end (cond t ([] ∷ lines end (c ∷ bytes)) (onto_first b (lines end (c ∷ bytes))))
         ≡ (b ∷ c ∷ bytes) ++ end ∷ []))
     put true e (inl h) = grind arith
-    put true e (inr (n, u, h)) =
-        inr ((λ z. cc), (λ x. u (tail_ends end b c _ x)), grind arith)
+    put true e (inr (n, u, h)) = inr ((λ z. cc), (λ x. u (tail_ends end b c _ x)), grind arith)
     put false e (inl h) = grind arith
-    put false e (inr (n, u, h)) =
-        inr ((λ z. cc), (λ x. u (tail_ends end b c _ x)), grind arith)
+    put false e (inr (n, u, h)) = inr ((λ z. cc), (λ x. u (tail_ends end b c _ x)), grind arith)
 
 pub the_lines : LinesAreUnique
 the_lines = grind (arith, lines_are, unlines-lines, lines-unlines, lines_extra_terminator)
@@ -109,8 +109,7 @@ complete_lines_up_to_last : (end : ℕ) (front rest : List ℕ) → IsLine end r
     → complete_lines end (front ++ end ∷ rest) ≡ lines end (front ++ end ∷ [])
 complete_lines_up_to_last end front rest free =
     let all = front ++ end ∷ [] in
-    let whole : unlines end (lines end all) ≡ all =
-    grind (arith, unlines-lines) in
+    let whole : unlines end (lines end all) ≡ all = grind (arith, unlines-lines) in
     ap (complete_lines end) (grind (arith, common_steps))
     ∙ complete_lines_of_unlines end _ _ (lines_are end all) free
 

@@ -221,6 +221,7 @@ impl<S: Source, R: Source> LineReader<S, R> {
     fn has_more(&mut self) -> Result<bool, LineFault>
         requires { self.old.fault ≡ None }
         ensures refills { RefillPost self.old self.new result }
+        ensures buffered { 0 < length self.old.buffered → self.new ≡ self.old }
         ensures sound { IsSound self.new }
     {
         if !self.buffered().is_empty() {
@@ -421,9 +422,7 @@ impl<S: Source, R: Source> LineReader<S, R> {
         if let Some(fault) = self.fault() {
             return Err(fault);
         }
-        if self.buffered().is_empty() && !self.at_eof() {
-            self.refill()?;
-        }
+        self.has_more()?;
         Ok(self.buffered())
     }
 }

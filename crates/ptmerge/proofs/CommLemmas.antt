@@ -1,16 +1,14 @@
 -- Proofs for `comm`. A line adds one output line if one input has it alone, and one common output line if both have it:
 -- each step of the merge extends the output by the entries of its key, so the loop invariant of the merge carries over.
 use Rattle.ptmerge.proofs
-use proofs.Common.{◌≡◌, ℕ, List, [], ◌∷◌, ◌++◌, refl, sym, arith, Comm, Output, PushEffect, Reader, Slots}
-use proofs.Common.{line, unlines, Side, First, Second, Sorted, Lines, MergeTool, entries_by_key, AdvanceOkPost}
-use proofs.Common.{AdvancePre, MergeState, Cmp, Key, both, with_side, HaveEqualKeys}
-use proofs.Common.{HasOnlyLeastKey, suc, append-nil, Bool}
-use proofs.MergeLemmas.{BetweenSteps, between_next, advance_pre, EndsIfFails}
-use proofs.MergeLemmas.{LoopInvariant, advance_ok, goes_merging, passing_now, runs_on, read_facts_current}
-use proofs.MergeLemmas.{iteration_fails, alone, wrote_alone, alone_breaks, place_is, wrote_and_sent}
-use proofs.MergeLemmas.{IsKeyOrder}
-use proofs.MergeLemmas.{same_bytes, Written, MergeInvariant, line_is_least_run, lag_invariant_starts}
-use proofs.MergeLemmas.{write_least_run, all_keys, at_current_line, state_by_side, IsOpenMerge, IsLineByLine}
+use proofs.Common.{◌≡◌, ℕ, List, [], ◌∷◌, ◌++◌, refl, sym, arith, Comm, Output, PushEffect, Reader, Slots, line}
+use proofs.Common.{unlines, Side, First, Second, Sorted, Lines, MergeTool, entries_by_key, AdvanceOkPost, AdvancePre}
+use proofs.Common.{MergeState, Cmp, Key, both, with_side, HaveEqualKeys, HasOnlyLeastKey, suc, append-nil, Bool}
+use proofs.MergeLemmas.{BetweenSteps, between_next, advance_pre, EndsIfFails, LoopInvariant, advance_ok, goes_merging}
+use proofs.MergeLemmas.{passing_now, runs_on, read_facts_current, iteration_fails, alone, wrote_alone, alone_breaks}
+use proofs.MergeLemmas.{place_is, wrote_and_sent, IsKeyOrder, same_bytes, Written, MergeInvariant, line_is_least_run}
+use proofs.MergeLemmas.{lag_invariant_starts, write_least_run, all_keys, at_current_line, state_by_side, IsOpenMerge}
+use proofs.MergeLemmas.{IsLineByLine}
 use Rattle.std.proofs.Common.{rules}
 use Rattle.ptmerge.specs.Comm.{comm_with, entries, column_entries, tab_if_shown}
 
@@ -114,9 +112,11 @@ module _ {job : Comm} {cmp : Cmp} {key : Side → Key} {old now : MergeState} {o
         let h2 = at_current_line (sides Second) step.second in
         let x = head First in
         write_least_run w.o (key First x) both_written (both (x ∷ []) (head Second ∷ []))
-        (elim [ First ↦ line_is_least_run w.o (at_current_line (sides First) step.first).bound refl | Second ↦ line_is_least_run w.o h2.bound (sym step.same) ])
-        (grind arith) (w.alone.none (key First x))
-        (λ r c. entries_both job _ _ _) between.clean merge_invariant wrote
+        (elim [
+          | First ↦ line_is_least_run w.o (at_current_line (sides First) step.first).bound refl
+          | Second ↦ line_is_least_run w.o h2.bound (sym step.same)
+        ])
+        (grind arith) (w.alone.none (key First x)) (λ r c. entries_both job _ _ _) between.clean merge_invariant wrote
 
     module _ {mid : Output} {tabs : List ℕ} (led : tabs ≡ tab_if_shown job.hide1 ++ tab_if_shown job.hide2)
         (pushed : PushEffect now.out mid (unlines (now.reader First).terminator

@@ -1,17 +1,19 @@
 -- Names of other crates and of this crate's definitions that many of its proofs import from here.
+use Rattle.ptmerge.specs
+use Rattle.std.proofs.lemmas
 pub use Rattle.std.proofs.Common.{Bool, Err, IsErrAnd, List, None, Ok, Option, Result, Some, [], ap, append_assoc}
 pub use Rattle.std.proofs.Common.{arith, cond, drop, eqb, false, get_or, inl, inr, length, ◌++◌, ◌+◌, length-append}
 pub use Rattle.std.proofs.Common.{length-drop, map, max, not, option_copied, refl, set, subst, suc, sym, true, zero, ℕ}
 pub use Rattle.std.proofs.Common.{⊎_elim, ◌&&◌, ◌*◌, ◌-◌, ◌<◌, ◌==◌, ◌^◌, ◌∙◌, ◌∷◌, ◌≡◌, ◌≢◌, ◌≤◌, ◌⊎◌}
-pub use Rattle.std.proofs.lemmas.Bool.Decides.{nat_tests}
-pub use Rattle.std.proofs.lemmas.Cmp.{tied_itself}
-pub use Rattle.std.proofs.lemmas.List.{append-nil, drop_more, length-set, length_push, nil_from_length}
-pub use Rattle.std.proofs.lemmas.List.Concat.{flat_map-append}
+pub use lemmas.Bool.Decides.{nat_tests}
+pub use lemmas.Cmp.{tied_itself}
+pub use lemmas.List.{append-nil, drop_more, length-set, length_push, nil_from_length}
+pub use lemmas.List.Concat.{flat_map-append}
 pub use Rattle.std.specs.Cmp.Lexicographic.{bytes_decides}
 pub use Rattle.std.specs.List.{last_or, range_with_len, slice_split}
 pub use Rattle.std.specs.Ordering.{is_eq, is_gt, is_le, is_lt}
-pub use Rattle.std.specs.Prelude.{MatchOption, bytes_eq, filter, flat_map, if◌then◌else◌, is_some, nat_lt}
-pub use Rattle.std.specs.Prelude.{option_map, position, remove, unwrap_or}
+pub use Rattle.std.specs.Prelude.{MatchOption, bytes_eq, filter, flat_map, if◌then◌else◌, is_some, nat_lt, option_map}
+pub use Rattle.std.specs.Prelude.{position, remove, unwrap_or}
 pub use Rattle.std.specs.declared.cmp.Ordering.TheVariants.{Equal, Greater, Less}
 pub use Rattle.ptlangs.specs.Jobs.{Comm, Join, comm_job, terminator, join_job}
 pub use Rattle.ptlines.proofs.ReadLine.{advance_ok_trans, line_of_with_line, advance_trans}
@@ -22,25 +24,23 @@ pub use Rattle.ptlines.specs.Outputs.{Output, PushPost, PushEffect}
 pub use Rattle.ptlines.specs.Readers.{Reader, budget}
 pub use Rattle.ptlines.specs.Slots.{Slots, line, total_bytes, with_new_slot, with_denied, with_line}
 pub use Rattle.ptlines.specs.Text.{AreLines, IsLine, complete_lines, lines, max_length, unlines, is_blank}
-pub use Rattle.ptmerge.specs.JoinGroup.{ClearGroupPost, CopyToGroupPost, group}
-pub use Rattle.ptmerge.specs.Join.{output_separator, entry, join_fields}
-pub use Rattle.ptmerge.specs.Join.{other_fields, pair_entries}
-pub use Rattle.ptmerge.specs.JoinFields.{is_separator, entry_with_list, remaining_fields, is_single_spaced, with_prefix}
-pub use Rattle.ptmerge.specs.MergeSpec.{FirstDisorder, Lines, MergeTool, entries_by_key, disorder}
-pub use Rattle.ptmerge.specs.MergeSpec.{distinct_keys, entries_of_key, first_disorder}
-pub use Rattle.ptmerge.specs.MergeSpec.{keys, lines_of, merged_entries, sorted_prefixes, sorted_prefix, is_up_to}
-pub use Rattle.ptmerge.specs.MergeSpec.{lines_with_key}
-pub use Rattle.ptmerge.specs.WriteAndAdvance.{IsReadyToContinue, AdvanceOkPost, WriteFaultPost, AdvancePre}
-pub use Rattle.ptmerge.specs.MergeCall.{MergeRunPre, MergePost, MergeState, merge_state, both_sides, merge_engine}
-pub use Rattle.ptmerge.specs.MergeCall.{merge_end, disordered_line, HasNoLine, IsFirstLineAndBlock}
-pub use Rattle.ptmerge.specs.Orders.{Cmp, Key, byte_cmp, line_cmp}
-pub use Rattle.ptmerge.specs.Cursor.{NextOkPost, HasSlots, same_key_at, status_at}
-pub use Rattle.ptmerge.specs.Sides.{both, other, with_side}
-pub use Rattle.ptmerge.specs.MergeSteps.{HaveEqualKeys, PrecedesInput, HasOnlyLeastKey}
-pub use Rattle.ptmerge.specs.declared.faults.MergeFault.{MergeFault}
-pub use Rattle.ptmerge.specs.declared.faults.MergeFault.TheVariants.{Memory, Write}
-pub use Rattle.ptmerge.specs.declared.merging.cursor.Sorted.{Sorted}
-pub use Rattle.ptmerge.specs.declared.merging.cursor.CursorStatus.{CursorStatus}
-pub use Rattle.ptmerge.specs.declared.merging.cursor.CursorStatus.TheVariants.{Disorder, Ended, Head}
-pub use Rattle.ptmerge.specs.declared.key_order.Side.{Side}
-pub use Rattle.ptmerge.specs.declared.key_order.Side.TheVariants.{First, Second}
+pub use specs.JoinGroup.{ClearGroupPost, CopyToGroupPost, group}
+pub use specs.Join.{output_separator, entry, join_fields, other_fields, pair_entries}
+pub use specs.JoinFields.{is_separator, entry_with_list, remaining_fields, is_single_spaced, with_prefix}
+pub use specs.MergeSpec.{FirstDisorder, Lines, MergeTool, entries_by_key, disorder, distinct_keys, entries_of_key}
+pub use specs.MergeSpec.{first_disorder, keys, lines_of, merged_entries, sorted_prefixes, sorted_prefix, is_up_to}
+pub use specs.MergeSpec.{lines_with_key}
+pub use specs.WriteAndAdvance.{IsReadyToContinue, AdvanceOkPost, WriteFaultPost, AdvancePre}
+pub use specs.MergeCall.{MergeRunPre, MergePost, MergeState, merge_state, both_sides, merge_engine, merge_end}
+pub use specs.MergeCall.{disordered_line, HasNoLine, IsFirstLineAndBlock}
+pub use specs.Orders.{Cmp, Key, byte_cmp, line_cmp}
+pub use specs.Cursor.{NextOkPost, HasSlots, same_key_at, status_at}
+pub use specs.Sides.{both, other, with_side}
+pub use specs.MergeSteps.{HaveEqualKeys, PrecedesInput, HasOnlyLeastKey}
+pub use specs.declared.faults.MergeFault.{MergeFault}
+pub use specs.declared.faults.MergeFault.TheVariants.{Memory, Write}
+pub use specs.declared.merging.cursor.Sorted.{Sorted}
+pub use specs.declared.merging.cursor.CursorStatus.{CursorStatus}
+pub use specs.declared.merging.cursor.CursorStatus.TheVariants.{Disorder, Ended, Head}
+pub use specs.declared.key_order.Side.{Side}
+pub use specs.declared.key_order.Side.TheVariants.{First, Second}

@@ -3,23 +3,20 @@
 -- decreases.
 pub mod Group
 pub mod Fields
-use Rattle.std.proofs.Common.{rules}
-use Rattle.std.proofs.Common.{arith}
 use Rattle.ptmerge.proofs
+use Rattle.ptmerge.specs
 use proofs.Common.{cond, ◌*◌, Err, flat_map-append, Cmp, MergeFault, IsReadyToContinue, AdvanceOkPost, MergePost}
-use proofs.Common.{merge_state, both, lines_of, Memory, HaveEqualKeys, HasOnlyLeastKey}
-use proofs.Common.{◌⊎◌, MergeRunPre, AdvancePre, push_nothing, inl, inr, ◌==◌}
-use proofs.Common.{nat_tests, length_push, nil_from_length}
-use Rattle.ptmerge.specs.JoinGroup.{IsInItsSlot, IsCopiedToGroup, ReadGroupLineOkPost, ReadGroupLinePost, IsGroup}
-use Rattle.ptmerge.specs.JoinGroup.{JoinStepPre, JoinLinePre, group_end_slot, group_first_slot}
+use proofs.Common.{merge_state, both, lines_of, Memory, HaveEqualKeys, HasOnlyLeastKey, ◌⊎◌, MergeRunPre, AdvancePre}
+use proofs.Common.{push_nothing, inl, inr, ◌==◌, nat_tests, length_push, nil_from_length}
+use specs.JoinGroup.{IsInItsSlot, IsCopiedToGroup, ReadGroupLineOkPost, ReadGroupLinePost, IsGroup, JoinStepPre}
+use specs.JoinGroup.{JoinLinePre, group_end_slot, group_first_slot}
 use proofs.MergeLemmas.{BetweenSteps, between_next, advance_pre, reads_less, open_merge, alone, wrote_alone}
-use proofs.MergeLemmas.{alone_breaks, reads_ahead, place_is, LoopInvariant, Extends, input_split_of}
-use proofs.MergeLemmas.{extends, extends_on, runs_on, valid_cursors_kept, wrote_and_sent}
-use proofs.MergeLemmas.{others_stay, IsLineByLine, IsOpenMerge, exit_is_merge_post, continues}
-use proofs.MergeLemmas.{same_bound, bounds_change, IsKeyOrder, EachKey-at, Continues}
-use Rattle.ptmerge.specs.declared.tools.join.JoinPhase.{JoinPhase}
-use Rattle.ptmerge.specs.declared.tools.join.JoinPhase.TheVariants as phases
-use Rattle.ptmerge.specs.Join.{unpaired_entries1, unpaired_entry, join_with, join_entries, join_key}
+use proofs.MergeLemmas.{alone_breaks, reads_ahead, place_is, LoopInvariant, Extends, input_split_of, extends}
+use proofs.MergeLemmas.{extends_on, runs_on, valid_cursors_kept, wrote_and_sent, others_stay, IsLineByLine, IsOpenMerge}
+use proofs.MergeLemmas.{exit_is_merge_post, continues, same_bound, bounds_change, IsKeyOrder, EachKey-at, Continues}
+use specs.declared.tools.join.JoinPhase.{JoinPhase}
+use specs.declared.tools.join.JoinPhase.TheVariants as phases
+use specs.Join.{unpaired_entries1, unpaired_entry, join_with, join_entries, join_key}
 use Group.*
 
 -- ---- the output, by lines and by pairs
@@ -65,6 +62,7 @@ pub record IsOneForAll (call : JoinCall) (k last : List ℕ) (kept g : Lines) : 
   pub own : call.key Second last ≡ k
   pub same_pairs : (f : Lines) → call.pairs k f (last ∷ []) ≡ call.pairs k f g
 
+-- the lines of the group are copied, or its last line stands for all
 abbrev pub IsGroupIn : JoinCall → List ℕ → List ℕ → Lines → Lines → Type 0
 IsGroupIn call k last kept g = (kept ≡ g) ⊎ IsOneForAll call k last kept g
 
@@ -107,8 +105,7 @@ pub record IterationInvariant (job : Join) (cmp : Cmp) (key : Side → Key) (old
   pub open between use *
 
 module _ {job : Join} {cmp : Cmp} {key : Side → Key} {old : MergeState} {phase : JoinPhase} {now : MergeState}
-    {one two : Sorted} {end : ℕ}
-    (t : IterationInvariant job cmp key old phase now one two end) where
+    {one two : Sorted} {end : ℕ} (t : IterationInvariant job cmp key old phase now one two end) where
   open t.w use {o}
 
   abbrev call : JoinCall
@@ -161,8 +158,7 @@ module _ {job : Join} {cmp : Cmp} {key : Side → Key} {old : MergeState} {phase
           → IterationInvariant job cmp key old phase (state_after_read now s reader new after) one2 two2 end
       alone_continues h =
           let (m, _) = wrote_alone loop_invariant t.clean step wrote_unpaired in
-          iteration_continues s h.continues
-          (rw is (runs_on lines_before s step.status_is h.came m, between.1))
+          iteration_continues s h.continues (rw is (runs_on lines_before s step.status_is h.came m, between.1))
 
       pub alone_fails : EndsIfFails (join_with job cmp key) old now s (both one two s) new
       alone_fails = alone_breaks loop_invariant t.clean step wrote_unpaired
@@ -425,8 +421,7 @@ module _ {job : Join} {cmp : Cmp} {key : Side → Key} {old : MergeState} {phase
         call.laws.more state.k (state.g First) z (state.g Second),
         unlines-append job.terminator
             (pair_entries job state.k (state.g First) (state.g Second)) (pair_entries job state.k z (state.g Second)),
-      )
-          (push_trans _ _ _ _ _ t.clean state.q.wrote
+      ) (push_trans _ _ _ _ _ t.clean state.q.wrote
           (rw ((state.q.sides First).lines_read.terminator, state.head.is, group_pairs_are z) at pushed))
 
       pub pair_fails : EndsIfFails (join_with job cmp key) old now First one new

@@ -1,16 +1,14 @@
 -- The steps of a merge. A line that precedes everything in the other input is processed, and its input advances; the
 -- next line has no lesser key, so the invariant holds again. A fault ends the loop with a prefix of the output.
 pub mod Exits
-use Rattle.std.proofs.Common.{rules}
-use Rattle.std.proofs.Common.{arith}
 use Rattle.ptmerge.proofs
-use proofs.Common.{AdvancePre, IsReadyToContinue, PrecedesInput, MergeRunPre, WriteFaultPost, budget}
-use proofs.Common.{CopyToGroupPost, Ok, IsErrAnd, HasOnlyLeastKey}
-use Rattle.ptmerge.specs.declared.faults.MergeFault.TheVariants as faults
-use Rattle.ptmerge.specs.Cursor.{NextErrPost, initial_cursor, base_slot}
-use Rattle.ptmerge.specs.MergeSteps.{StartErrPost, StartFirstPost, MergeInputs, IsReaderOf, IsReportable}
-use Rattle.ptmerge.specs.MergeSteps.{AreValidCursors, StartOkPost, merge_inputs, previous_key}
-use Rattle.ptmerge.specs.MergeSteps.{IsDisorderDecided}
+use Rattle.ptmerge.specs
+use proofs.Common.{AdvancePre, IsReadyToContinue, PrecedesInput, MergeRunPre, WriteFaultPost, budget, CopyToGroupPost}
+use proofs.Common.{Ok, IsErrAnd, HasOnlyLeastKey}
+use specs.declared.faults.MergeFault.TheVariants as faults
+use specs.Cursor.{NextErrPost, initial_cursor, base_slot}
+use specs.MergeSteps.{StartErrPost, StartFirstPost, MergeInputs, IsReaderOf, IsReportable, AreValidCursors, StartOkPost}
+use specs.MergeSteps.{merge_inputs, previous_key, IsDisorderDecided}
 use Rattle.ptlines.specs.Calls.{AllPushed}
 pub use Exits.*
 
@@ -131,7 +129,7 @@ pub open_merge : {tool : MergeTool} {first second : Reader} {out : Output} {stor
     → IsOpenMerge tool (merge_state first second out store)
 open_merge = grind arith
 
--- the invariant without the output
+-- what the loop invariant says of the cursors and the store
 pub record CursorsInvariant {tool : MergeTool} {old : MergeState} (w : IsOpenMerge tool old) (reader : Side → Reader)
     (cursor : Side → Sorted) (store : Slots) (ls p : Side → Lines) (b : Side → Bound) : Type 0 where
   pub sides : SidesInvariant tool old.reader reader cursor store ls p b
@@ -210,16 +208,14 @@ module _ {tool : MergeTool} {old : MergeState} {w : IsOpenMerge tool old} {now :
     wrote_alone =
         let x = line now.store (cursor s).current_slot in
         let h = at_current_line (sides s) step.status_is in
-        let (above, later) =
-        current_key_is_above _ w.o _ _ _ _ _ _ _ _ _ step.before (sides (other s)).status_is in
+        let (above, later) = current_key_is_above _ w.o _ _ _ _ _ _ _ _ _ step.before (sides (other s)).status_is in
         let none = lines_with_key-above tool w.o (key (other s)) (key s x) in
         write_least_run w.o (key s x) (with_side s (ls s) p) (alone s x)
         (side_case _ s (simp put_same (line_is_least_run w.o h.bound refl)) (simp put_other
         -- no line of the other input has the key, and only greater keys follow
         (search (rules, later, self_at_most))))
         (side_case _ s (simp put_same h.all) (simp (put_other, append-nil))) (w.alone.none (key s x))
-        (λ r c. grind (arith, w.alone)) clean m
-        (rw (sides s).lines_read.terminator at wrote)
+        (λ r c. grind (arith, w.alone)) clean m (rw (sides s).lines_read.terminator at wrote)
 
     pub alone_breaks : EndsIfFails tool old now s (cursor s) new
     alone_breaks = iteration_fails a s step.status_is wrote_alone.1 (put_same s _ p)
@@ -231,8 +227,7 @@ module _ {tool : MergeTool} {old : MergeState} {w : IsOpenMerge tool old} {now :
       let d : FirstDisorder = record { last_key = previous_key key cursor now.store s; line = n } in
       let disordered : b s ≡ AfterDisorder d = rw dec.status_is at (sides s).status_is in
       let st = (sides (other s)).status_is in
-      let (above, _) = current_key_is_above _ w.o _ _ _ _ _ _ _ _ _
-      (grind (arith, is_greater, dec.named)) st in
+      let (above, _) = current_key_is_above _ w.o _ _ _ _ _ _ _ _ _ (grind (arith, is_greater, dec.named)) st in
       rw (named_is _ w.o _ s d _ _ _ _ _ _ _ dec.named st (λ side. first_disorder cmp (key side) (l side))
       (rw disordered at (f s)) (f (other s))) (
         none_wanted tool (λ k. is_le (cmp k d.last_key)) r
@@ -267,8 +262,7 @@ module _ {tool : MergeTool} {old : MergeState} {w : IsOpenMerge tool old} {now :
         → MergePost tool old last result
     concludes result ends = exit_is_merge_post w _ (read_facts_current a)
         (lag_invariant_starts w.o m clean (push_nothing now.out)) (fits_emptied a.keeps after clear.peak clear.slots)
-        (both_begun (begun a))
-        (λ side fail. cc (none_failed a _, w.unfailed side)) result ends
+        (both_begun (begun a)) (λ side fail. cc (none_failed a _, w.unfailed side)) result ends
 
     pub ends_well : ((side : Side) → (cursor side).status ≡ Ended) → MergePost tool old last (Ok tt)
     ends_well step =
@@ -414,5 +408,4 @@ module _ {tool : MergeTool} {old : MergeState} (w : IsOpenMerge tool old) where
         advance_fails w (state_by_side (both new1 (old.reader Second)) old.out s.mid) {s = Second}
         (initial_cursor Second) (elim [ First ↦ (began s).side_invariant.facts | Second ↦ unread Second ]) refl
         (λ r piece free. grind arith) (half_store s) (fresh_slots Second)
-        (lag_invariant_starts w.o (half_invariant s) w.writable (push_nothing _)) _ _ _
-        (inr (w.writable, s.later))
+        (lag_invariant_starts w.o (half_invariant s) w.writable (push_nothing _)) _ _ _ (inr (w.writable, s.later))

@@ -3,28 +3,28 @@
 -- the key: a filter by keys commutes with computing the distinct keys, so each part has the entries of its keys, and
 -- the entries of all parts are a permutation of all entries.
 use Rattle.ptmerge.proofs
-use proofs.Common.{arith, ◌≡◌, ℕ, ◌+◌, List, [], ◌∷◌, ◌++◌, Bool, true, false, Option, Some, None, refl, ap, sym}
-use proofs.Common.{◌∙◌, filter, Less, Side, First, Second, Lines, MergeTool, FirstDisorder, entries_by_key, disorder}
+use Rattle.ptmerge.specs
+use Rattle.std.proofs.lemmas
+use proofs.Common.{arith, ◌≡◌, ℕ, ◌+◌, List, [], ◌∷◌, ◌++◌, Bool, true, false, Option, Some, None, refl, ap, sym, ◌∙◌}
+use proofs.Common.{filter, Less, Side, First, Second, Lines, MergeTool, FirstDisorder, entries_by_key, disorder}
 use proofs.Common.{first_disorder, keys, merged_entries, sorted_prefixes, sorted_prefix, is_up_to, lines_of, Cmp, Key}
-use proofs.Common.{unlines, unlines-append, ◌&&◌, not, map, tied_itself, flat_map, is_lt}
-use proofs.Common.{distinct_keys, entries_of_key, IsLine, zero, suc, ◌<◌, ◌==◌, nat_lt}
-use proofs.Common.{append_assoc, nat_tests, range_with_len, lines}
+use proofs.Common.{unlines, unlines-append, ◌&&◌, not, map, tied_itself, flat_map, is_lt, distinct_keys, entries_of_key}
+use proofs.Common.{IsLine, zero, suc, ◌<◌, ◌==◌, nat_lt, append_assoc, nat_tests, range_with_len, lines}
 use proofs.MergeLemmas.Exits.Invariant.{IsDisorderFrom, after_from, disorder_after, first_disorder_is, IsSortedFrom}
 use proofs.MergeLemmas.Exits.Invariant.{sorted_from_start, sorted_from_none, is_disordered, sorted_after}
-use proofs.MergeLemmas.Exits.Invariant.{sorted_prefix_is, IsDownwardClosed, all_keys, all_wanted}
-use proofs.MergeLemmas.Exits.Invariant.{by_keys_kept, downward_splits, up_to_from, Each, Each-weaker, EachKey}
-use proofs.MergeLemmas.Exits.Invariant.{Each-all, Each-parts, IsKeyOrder, AtMost}
-use proofs.MergeLemmas.Exits.Invariant.{at_most_trans, greater_flips, line_order}
-use Rattle.std.proofs.lemmas.List.Elements.{All-filter, recursion_from_All}
-use Rattle.std.proofs.lemmas.List.Sorted.{IsPermutation-refl, IsPermutation-trans, IsPermutation-append_left}
-use Rattle.std.proofs.lemmas.List.Sorted.{IsPermutation-append_right, IsPermutation-append_comm}
+use proofs.MergeLemmas.Exits.Invariant.{sorted_prefix_is, IsDownwardClosed, all_keys, all_wanted, by_keys_kept}
+use proofs.MergeLemmas.Exits.Invariant.{downward_splits, up_to_from, Each, Each-weaker, EachKey, Each-all, Each-parts}
+use proofs.MergeLemmas.Exits.Invariant.{IsKeyOrder, AtMost, at_most_trans, greater_flips, line_order}
+use lemmas.List.Elements.{All-filter, recursion_from_All}
+use lemmas.List.Sorted.{IsPermutation-refl, IsPermutation-trans, IsPermutation-append_left, IsPermutation-append_right}
+use lemmas.List.Sorted.{IsPermutation-append_comm}
 use Rattle.std.specs.List.Sorted.{IsPermutation}
 use Rattle.ptlines.proofs.TextLaws.{lines-unlines, lines_are}
 use Rattle.std.proofs.Common.{rules}
-use Rattle.std.proofs.lemmas.Grind.{common_steps}
+use lemmas.Grind.{common_steps}
 use Rattle.ptlines.proofs.PartLaws.{the_lines_of_parts}
-use Rattle.ptmerge.specs.Parts.{CommByKey, IsSplittableByKey, IsConcatOfParts, JoinByKey, CommOfParts, JoinOfParts}
-use Rattle.ptmerge.specs.Parts.{text_of_part, output_lines}
+use specs.Parts.{CommByKey, IsSplittableByKey, IsConcatOfParts, JoinByKey, CommOfParts, JoinOfParts, text_of_part}
+use specs.Parts.{output_lines}
 
 kept_parts : (p : List ℕ → Bool) (key : Key) (xs ys : Lines) → EachKey (λ k. p k ≡ true) key xs
     → EachKey (λ k. p k ≡ false) key ys
@@ -86,8 +86,7 @@ module _ (cmp : Cmp) (o : IsKeyOrder cmp) (key : Key) where
       → (sorted_prefix cmp key (xs ++ ys) ≡ xs ++ sorted_prefix cmp key ys)
       × (without_line_number (first_disorder cmp key (xs ++ ys)) ≡ without_line_number (first_disorder cmp key ys))
   together xs ys e b =
-      let all = appended _ 0 xs ys (sorted_from_none cmp key xs e)
-      (Each-all _ (λ k. refl) (map key ys)) b in
+      let all = appended _ 0 xs ys (sorted_from_none cmp key xs e) (Each-all _ (λ k. refl) (map key ys)) b in
       grind (arith, all, first_disorder_is, sorted_prefix_is)
 
   each_ordered : (P : List ℕ → Type 0) (ys : Lines) → EachKey P key ys → EachKey P key (sorted_prefix cmp key ys)
@@ -98,8 +97,7 @@ module _ (cmp : Cmp) (o : IsKeyOrder cmp) (key : Key) where
   from_below : (k : List ℕ) (ys : Lines) → EachKey (AtMost cmp k) key ys
       → IsDisorderFrom cmp k (first_disorder cmp key ys)
   from_below k [] e = tt
-  from_below k (y ∷ ys) (here, _) =
-      rw (first_disorder_is cmp key _) (grind (arith, after_from))
+  from_below k (y ∷ ys) (here, _) = rw (first_disorder_is cmp key _) (grind (arith, after_from))
 
   kept_after : (p : List ℕ → Bool) (last from : Option (List ℕ)) (xs : Lines)
       → ((k : List ℕ) → is_disordered cmp last k ≡ false → is_disordered cmp from k ≡ false)

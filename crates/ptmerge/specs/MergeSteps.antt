@@ -1,7 +1,7 @@
 -- The contracts of `Merge::start` and `Merge::step`.
 use Rattle.std.specs.Prelude.{◌≡◌, ◌⊎◌, ℕ, ◌+◌, ◌^◌, ◌<◌, ◌≤◌, List, None, true, false, length}
 use Rattle.std.specs.Ordering.{is_gt}
-use Rattle.ptlines.specs.Readers.{Reader, budget}
+use Rattle.ptlines.specs.Readers.{Reader, IsSound, budget}
 use Rattle.ptlines.specs.Slots.{Slots, line}
 use Rattle.ptmerge.specs.declared.faults.MergeFault.{MergeFault}
 use Rattle.ptmerge.specs.declared.faults.MergeFault.TheVariants as faults
@@ -42,10 +42,10 @@ pub record IsReaderOf (cursor : Sorted) (reader : Reader) : Type 0 where
   pub counted : cursor.number + budget reader ≤ 2 ^ 63
 
 -- The precondition of `next`: the cursor's slots exist, `reader` is its reader, and its span is that of the current
--- line's key.
+-- line's key. Every reader is sound, but a caller learns that only by calling it; so `next` may assume it.
 pub record NextPre (key : Key) (cursor : Sorted) (reader : Reader) (store : Slots) : Type 0 where
   pub distinct_slots : HasDistinctSlots cursor store
-  pub own_reader : IsReaderOf cursor reader
+  pub own_reader : IsSound reader → IsReaderOf cursor reader
   pub cursor_valid : 0 < cursor.number
       → IsKeySpan (line store cursor.current_slot) (key (line store cursor.current_slot)) cursor.key
 

@@ -1,5 +1,5 @@
-//! `Side`, which names one of the two inputs of a merge, and the orders of keys: `comm` compares whole lines, `join`
-//! compares fields.
+//! `Side`, which names one of the two inputs of a merge, and `KeyOrder`, an order of lines by keys. `comm` compares
+//! whole lines; the order of `join` is `FieldKeys`, in `tools`. `Descending` is the reverse of either.
 
 ghost use Rattle.std.specs.Prelude.{◌≡◌, ◌≤◌, ℕ, List, length};
 ghost use Rattle.std.specs.List.{slice_range};
@@ -9,7 +9,6 @@ ghost use Rattle.ptmerge.specs.Orders.{Cmp, Key};
 ghost use Rattle.ptmerge.specs.KeySpan.{IsKeySpan};
 ghost use Rattle.ptmerge.specs.declared.key_order.Side.{Side as SideType};
 
-use crate::tools::join::fields::field_span;
 use ptlines::compare;
 use std::cmp::Ordering;
 
@@ -143,47 +142,4 @@ impl<K: KeyOrder> KeyOrder for Descending<K> {
     ghost total = { λ s. back_total (K.total s.of) };
 
     ghost exact = { λ s. reversed_same_bytes (K.order s.of) (K.exact s.of) };
-}
-
-/// The order of join fields, for `join`: the key of a line is the field with this number, counted from 1, in byte
-/// order.
-#[derive(Drop)]
-pub(crate) struct FieldKeys {
-    pub separator: Option<u8>,
-    pub first: u64,
-    pub second: u64,
-}
-
-impl KeyOrder for FieldKeys {
-    ghost use Rattle.std.specs.Cmp.Lexicographic.{nat_list_cmp_total};
-    ghost use Rattle.ptmerge.specs.Join.{field_keys};
-    ghost use Rattle.ptmerge.specs.Orders.{byte_cmp};
-    ghost use Rattle.ptmerge.specs.OrderLaws.{byte_cmp_equal};
-
-    ghost key_of = { λ s. field_keys s.separator s.first s.second };
-
-    ghost order = { λ s. byte_cmp };
-
-    #[inline(always)]
-    fn span(&self, side: Side, line: &[u8]) -> Span {
-        let number = match side {
-            Side::First => self.first,
-            Side::Second => self.second,
-        };
-        field_span(self.separator, number, line)
-    }
-
-    #[inline(always)]
-    fn key<'a>(&self, _side: Side, span: Span, line: &'a [u8]) -> &'a [u8] {
-        span.of(line)
-    }
-
-    #[inline(always)]
-    fn cmp(&self, one: &[u8], two: &[u8]) -> Ordering {
-        compare(one, two)
-    }
-
-    ghost total = { λ s. nat_list_cmp_total };
-
-    ghost exact = { λ s. byte_cmp_equal };
 }

@@ -1,7 +1,8 @@
 //! The engines of `comm` and `join`: a merge of two sorted inputs by the keys of their lines.
 //!
-//! - `merging` is the merge itself, which reads both inputs and selects the least key; `key_order` compares keys.
-//! - `tools` has a module for each tool, with its engine and its private functions.
+//! - `merging` is the merge itself, which reads both inputs and selects the least key.
+//! - `key_order` has what an order of lines is, and that of `comm`.
+//! - `tools` has a module for each tool, with its engine and its private functions, and the order of `join`.
 //! - `laws` states how both tools may be run on parts of their inputs.
 #![tactic(auto)]
 

@@ -79,8 +79,8 @@ impl<K: KeyOrder> Merge<K> {
         ensures own_reader { IfOk result (λ m. IsReaderOf m.first first.new × IsReaderOf m.second second.new) }
         ensures order { IfOk result (λ m. m.order ≡ order) }
     {
-        let mut one = Sorted::unread(Side::First, first);
-        let mut two = Sorted::unread(Side::Second, second);
+        let mut one = Sorted::unread(Side::First);
+        let mut two = Sorted::unread(Side::Second);
         ensure_four_slots(store).map_err(|_| MergeFault::Memory)?;
         one.next(&order, Side::First, first, store)?;
         two.next(&order, Side::Second, second, store)?;

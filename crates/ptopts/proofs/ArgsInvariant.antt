@@ -1,9 +1,8 @@
 -- The loop over the words: the options so far and the parse of the remaining words are the parse of all words.
 use Rattle.ptopts.proofs
-use proofs.Common.{Bool, Bor, Fault, List, None, OnSome, Option, ParsedOption, Token, Tool, [], arith}
-use proofs.Common.{common_steps, false, is_end_of_options, is_option_arg, length, options, parse_fault}
-use proofs.Common.{parsed_args, slice_get, tokens_of, true}
-use proofs.Common.{words_view, ℕ, ◌++◌, ◌<◌, ◌∷◌, ◌≡◌}
+use proofs.Common.{Bool, Bor, Fault, List, None, OnSome, Option, ParsedOption, Token, Tool, [], arith, common_steps}
+use proofs.Common.{false, is_end_of_options, is_option_arg, length, options, parse_fault, parsed_args, slice_get}
+use proofs.Common.{tokens_of, true, words_view, ℕ, ◌++◌, ◌<◌, ◌∷◌, ◌≡◌}
 use Rattle.ptopts.specs.ParseSteps.{words_after_value}
 
 pub record ArgsRead (tool : Tool) (words : List (List ℕ)) (os : List ParsedOption) (left : List (List ℕ)) : Type 0 where

@@ -1,12 +1,13 @@
 -- Without a fault of parsing and of the constraints, `command_of_args` reduces to `checked_command`; a fault of the
 -- constraints is the first fault.
 use Rattle.ptopts.proofs
-use proofs.Common.{AreInputs, ArgsPost, Fault, Job, List, None, Ok, Option, ParsedOption, Some, Tool, ap}
-use proofs.Common.{arith, checked_command, command_of_args, constraints_fault, input_operands, job}
-use proofs.Common.{operands_fault, output, sym, tool_of_name, values_fault, with_inputs, ℕ, ◌∙◌, ◌∷◌, ◌≡◌}
+use Rattle.ptopts.specs
+use proofs.Common.{AreInputs, ArgsPost, Fault, Job, List, None, Ok, Option, ParsedOption, Some, Tool, ap, arith}
+use proofs.Common.{checked_command, command_of_args, constraints_fault, input_operands, job, operands_fault, output}
+use proofs.Common.{sym, tool_of_name, values_fault, with_inputs, ℕ, ◌∙◌, ◌∷◌, ◌≡◌}
 use Rattle.ptlangs.specs.Results.{IsFault}
-use Rattle.ptopts.specs.Faults.{strings_fault}
-use Rattle.ptopts.specs.declared.inputs.Inputs.{Inputs}
+use specs.Faults.{strings_fault}
+use specs.declared.inputs.Inputs.{Inputs}
 
 pub checked_command_ok : {A : Type 0} (tool : Tool) (os : List ParsedOption) (operands : List (List ℕ))
     (i : Inputs A) {told : Job}

@@ -1,11 +1,10 @@
 -- Words specify a command exactly if the grammar gives them options and operands that the tool allows: each of the five
 -- faults is a condition that is not met.
 use Rattle.ptopts.proofs
-use proofs.Common.{Command, CommandsMatchGrammar, IsTrue, List, None, Ok, Option}
-use proofs.Common.{ParsedOption, Some, Spelled, SpellsCommand, Tool, Valid, [], ap, append-nil, append_assoc}
-use proofs.Common.{arith, command_of_args, command_of_tool, false, first_some}
-use proofs.Common.{is_repeated, is_some, map, ok_unless, options, parse_fault, parsed_args, refl, rules, sym}
-use proofs.Common.{token_fault, tool_of_name, true, ℕ, ◌++◌, ◌∷◌, ◌≡◌}
+use proofs.Common.{Command, CommandsMatchGrammar, IsTrue, List, None, Ok, Option, ParsedOption, Some, Spelled}
+use proofs.Common.{SpellsCommand, Tool, Valid, [], ap, append-nil, append_assoc, arith, command_of_args}
+use proofs.Common.{command_of_tool, false, first_some, is_repeated, is_some, map, ok_unless, options, parse_fault}
+use proofs.Common.{parsed_args, refl, rules, sym, tool_of_name, ℕ, ◌++◌, ◌∷◌, ◌≡◌}
 use proofs.ParsedIsSpelled.{options-map, spelled_unless_faulty}
 use proofs.SpelledIsParsed.{spelled}
 
@@ -19,11 +18,8 @@ once_from : (tool : Tool) (first os : List ParsedOption) → parse_fault tool fi
 once_from _ _ [] none [] after o is some = cc
 once_from _ _ [] none (b ∷ before) after o is some = cc
 once_from _ _ _ none [] after o is some = search rules
-once_from tool first (x ∷ os) none (b ∷ before) after o is some = grind (arith, append_assoc, once_from tool (first ++ x ∷ []) os)
-
-fresh : (tool : Tool) (first : List ParsedOption) (o : ParsedOption)
-    → (is_some o.value ≡ true → is_repeated tool first o.letter ≡ false) → token_fault tool first (Valid o) ≡ None
-fresh _ _ o once = grind (arith, is_some)
+once_from tool first (x ∷ os) none (b ∷ before) after o is some =
+    grind (arith, append_assoc, once_from tool (first ++ x ∷ []) os)
 
 once_to : (tool : Tool) (first os : List ParsedOption) → AreGivenOnceAfter tool first os
     → parse_fault tool first (map Valid os) ≡ None

@@ -1,10 +1,11 @@
 -- The options `-b` (98), `-c` (99) and `-f` (102) of `cut` conflict: beside one, the others are absent and have no
 -- fault.
 use Rattle.ptopts.proofs
+use Rattle.ptopts.specs
 use proofs.Common.{Bool, Cut, Fault, IsSome, List, None, ParsedOption, Some, [], arith, constraint_fault}
 use proofs.Common.{constraints_fault, false, has_option, if◌then◌else◌, refl, true, value_of, ℕ, ◌&&◌, ◌∷◌, ◌≡◌}
-use Rattle.ptopts.specs.Faults.{is_cut_list, value_fault}
-use Rattle.ptopts.specs.declared.tool.Constraint.TheVariants.{Conflict}
+use specs.Faults.{is_cut_list, value_fault}
+use specs.declared.tool.Constraint.TheVariants.{Conflict}
 use Rattle.std.specs.Prelude.{All}
 
 valueless : (letter : ℕ) (os : List ParsedOption) → has_option letter os ≡ false → value_of letter os ≡ None

@@ -1,9 +1,8 @@
 -- The number of inputs if the operands have no fault. Each operand is one input.
 use Rattle.ptopts.proofs
-use proofs.Common.{Bool, Input, List, None, Operands, ParsedOption, Paste, Some, StandardTwice, [], arith, cond, false}
+use proofs.Common.{Input, List, None, Operands, ParsedOption, Paste, Some, StandardTwice, [], arith, cond}
 use proofs.Common.{is_standard, is_within, length, list_all, nat_le, operands_fault, or_stdin, order_from, refl, take}
 use proofs.Common.{true, ℕ, ◌&&◌, ◌+◌, ◌∙◌, ◌∷◌, ◌≡◌}
-use Rattle.ptopts.specs.declared.inputs.Input.TheVariants.{File, Standard}
 use Rattle.std.specs.Prelude.{not}
 
 order_length : (n : ℕ) (operands : List (List ℕ)) → length (order_from n operands) ≡ length operands
@@ -27,13 +26,6 @@ pub record AreTwo (order : List Input) : Type 0 where
   pub second : Input
   pub are : order ≡ first ∷ second ∷ []
   pub differ : first ≡ second → ⊥
-
-two_of : (a b : Bool) → (a && (b && true)) ≡ false
-    → AreTwo (cond a (Standard ∷ cond b (Standard ∷ []) (File 0 ∷ [])) (File 0 ∷ cond b (Standard ∷ []) (File 1 ∷ [])))
-two_of true true once = cc
-two_of true false once = grind arith
-two_of false true once = grind arith
-two_of false false once = grind arith
 
 -- `comm` and `join` have two inputs
 pub two_inputs : (operands : List (List ℕ)) → cond (not (is_within 2 2 (length operands) && true)) (Some Operands)

@@ -1,6 +1,5 @@
 pub mod Common
 pub mod CommandGrammar
-pub mod FirstOption
 pub mod EachTool
 pub mod GroupInvariant
 pub mod CheckedCommand

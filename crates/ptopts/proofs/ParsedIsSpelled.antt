@@ -1,16 +1,16 @@
 -- A parse without a faulty token is one of the grammar: each word of options is flags, perhaps with an option that
 -- takes the rest of the word or the next word as its value.
 use Rattle.ptopts.proofs
-use proofs.Common.{AreFlags, Bool, EndOfOptions, FaultlessIsSpelled, Flags, List, MissingValue}
-use proofs.Common.{None, OperandsAlone, ParseMatchesGrammar, ParsedOption, Spells, Token, Tool}
-use proofs.Common.{Valid, ValueAttached, ValueNext, [], and_from, ap, append_assoc, arith, cases_Bool}
-use proofs.Common.{codes, false, filter_map, flag, is_empty, is_end_of_options, is_flag, is_option_arg}
-use proofs.Common.{is_some, list_all, map, not_from_false, option_of_token, options, parse_fault}
-use proofs.Common.{parsed_args_from, refl, rules, slice_get, subst, sym, takes_next, takes_value, tokens_in, true}
-use proofs.Common.{value_token, ℕ, ⊎_elim, ◌&&◌, ◌++◌, ◌==◌, ◌∷◌, ◌≡◌}
+use Rattle.std.proofs.lemmas
+use proofs.Common.{AreFlags, Bool, EndOfOptions, FaultlessIsSpelled, Flags, List, MissingValue, None, OperandsAlone}
+use proofs.Common.{ParseMatchesGrammar, ParsedOption, Spells, Token, Tool, Valid, ValueAttached, ValueNext, []}
+use proofs.Common.{and_from, ap, append_assoc, arith, cases_Bool, codes, false, filter_map, flag, is_empty}
+use proofs.Common.{is_end_of_options, is_flag, is_option_arg, is_some, list_all, map, not_from_false, option_of_token}
+use proofs.Common.{options, parse_fault, parsed_args_from, refl, rules, slice_get, subst, sym, takes_next, takes_value}
+use proofs.Common.{tokens_in, true, value_token, ℕ, ⊎_elim, ◌&&◌, ◌++◌, ◌==◌, ◌∷◌, ◌≡◌}
 use proofs.SpelledIsParsed.{spelled, takes_next-all_flags, takes_next-flags, tokens_in-all_flags, tokens_in-flags}
-use Rattle.std.proofs.lemmas.Slice.Eq.{bytes_eq-Decides}
-use Rattle.std.proofs.lemmas.Grind.{common_steps}
+use lemmas.Slice.Eq.{bytes_eq-Decides}
+use lemmas.Grind.{common_steps}
 
 abbrev all_given : List Token → Bool
 all_given tokens = list_all (λ e. is_some (option_of_token e)) tokens
@@ -40,13 +40,11 @@ data Split (tool : Tool) : List ℕ → Type 0 where
 
 split_behind : (tool : Tool) (l : ℕ) {ls : List ℕ} → is_flag tool l ≡ true → Split tool ls → Split tool (l ∷ ls)
 split_behind _ l is (AllFlags fs a) = AllFlags (l ∷ fs) (grind (arith, and_from, is_flag, list_all))
-split_behind _ l is (OneMore fs m rest a n) =
-    OneMore (l ∷ fs) m rest (grind (arith, and_from, is_flag, list_all)) n
+split_behind _ l is (OneMore fs m rest a n) = OneMore (l ∷ fs) m rest (grind (arith, and_from, is_flag, list_all)) n
 
 split : (tool : Tool) (letters : List ℕ) → Split tool letters
 split _ [] = AllFlags [] refl
-split tool (l ∷ ls) = ⊎_elim (λ is. split_behind tool l is (split _ ls)) (λ n. OneMore [] l ls refl n)
-    (cases_Bool _)
+split tool (l ∷ ls) = ⊎_elim (λ is. split_behind tool l is (split _ ls)) (λ n. OneMore [] l ls refl n) (cases_Bool _)
 
 -- the words without the first one if that is a value
 abbrev untaken : Bool → List (List ℕ) → List (List ℕ)
@@ -81,9 +79,11 @@ valued_spelled : (tool : Tool) (fs : List ℕ) (l : ℕ) (rest : List ℕ) (ws :
     → GroupIsSpelled tool (45 ∷ fs ++ l ∷ rest) ws
     (map Valid (map flag fs) ++ value_token tool (45 ∷ fs ++ l ∷ rest) l rest (slice_get ws 0) ∷ [])
     (takes_value tool l && is_empty rest)
-valued_spelled tool fs l (b ∷ bs) ws a n more = grind (arith, append_assoc, all_given-prefixed, options-prefixed, ValueAttached)
+valued_spelled tool fs l (b ∷ bs) ws a n more =
+    grind (arith, append_assoc, all_given-prefixed, options-prefixed, ValueAttached)
 valued_spelled tool fs l [] [] a n more = grind (arith, not_all_given)
-valued_spelled _ fs l [] (value ∷ ws) a n more = grind (arith, append_assoc, all_given-prefixed, options-prefixed, ValueNext)
+valued_spelled _ fs l [] (value ∷ ws) a n more =
+    grind (arith, append_assoc, all_given-prefixed, options-prefixed, ValueNext)
 
 group_spelled : (tool : Tool) {letters : List ℕ} (ws : List (List ℕ)) → is_empty letters ≡ false → Split tool letters
     → ((taken : Bool) → IsSpelled tool ws taken)
@@ -91,8 +91,7 @@ group_spelled : (tool : Tool) {letters : List ℕ} (ws : List (List ℕ)) → is
     (takes_next tool letters)
 group_spelled _ ws some (AllFlags [] a) more = cc
 group_spelled _ ws some (AllFlags (f ∷ fs) a) more =
-    rw (tokens_in-all_flags _ _ _ _ a, takes_next-all_flags _ _ a)
-    (flags_spelled _ f fs ws a (more false))
+    rw (tokens_in-all_flags _ _ _ _ a, takes_next-all_flags _ _ a) (flags_spelled _ f fs ws a (more false))
 group_spelled _ ws some (OneMore fs l rest a n) more = grind (
   arith,
   tokens_in-flags,
@@ -102,8 +101,7 @@ group_spelled _ ws some (OneMore fs l rest a n) more = grind (
 
 operand_spelled : (tool : Tool) (word : List ℕ) (ws : List (List ℕ)) → is_end_of_options word ≡ false
     → is_option_arg word ≡ false → IsSpelled tool (word ∷ ws) false
-operand_spelled tool word ws ends plain =
-    rw (ends, plain) (λ given. OperandsAlone (word ∷ ws) (not_from_false _ plain))
+operand_spelled tool word ws ends plain = rw (ends, plain) (λ given. OperandsAlone (word ∷ ws) (not_from_false _ plain))
 
 word_spelled : (tool : Tool) (word : List ℕ) (ws : List (List ℕ)) → is_end_of_options word ≡ false
     → ((taken : Bool) → IsSpelled tool ws taken) → IsSpelled tool (word ∷ ws) false
@@ -118,11 +116,9 @@ built _ [] true = λ given. OperandsAlone [] refl
 built _ [] false = λ given. OperandsAlone [] refl
 built tool (word ∷ ws) true = built tool ws false
 built tool (word ∷ ws) false =
-    ⊎_elim
-    (λ ends. let (same, _) = bytes_eq-Decides word (codes "--") in
+    ⊎_elim (λ ends. let (same, _) = bytes_eq-Decides word (codes "--") in
     rw ends (λ given. subst (λ (w : List ℕ). Spells tool (w ∷ ws) [] ws) (sym (same ends)) (EndOfOptions ws)))
-    (λ ends. word_spelled _ _ ws ends (built _ ws))
-    (cases_Bool _)
+    (λ ends. word_spelled _ _ ws ends (built _ ws)) (cases_Bool _)
 
 pub read_as_spelled : ParseMatchesGrammar
 read_as_spelled tool words os operands = grind (arith, spelled, built, all_given-map, options-map)
@@ -130,7 +126,8 @@ read_as_spelled tool words os operands = grind (arith, spelled, built, all_given
 all_given_unless_faulty : (tool : Tool) (before : List ParsedOption) (tokens : List Token)
     → parse_fault tool before tokens ≡ None → all_given tokens ≡ true
 all_given_unless_faulty _ _ [] none = refl
-all_given_unless_faulty tool before (Valid o ∷ tokens) none = grind (arith, all_given_unless_faulty tool (before ++ o ∷ []) tokens)
+all_given_unless_faulty tool before (Valid o ∷ tokens) none =
+    grind (arith, all_given_unless_faulty tool (before ++ o ∷ []) tokens)
 all_given_unless_faulty tool before (MissingValue letter ∷ tokens) none = grind arith
 all_given_unless_faulty _ _ _ none = cc
 

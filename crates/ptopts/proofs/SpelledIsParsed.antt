@@ -12,8 +12,7 @@ pub all_of : (p : ℕ → Bool) (cs : List ℕ) (l : ℕ) → list_all p cs ≡ 
 all_of p [] l a h = cc
 all_of p (c ∷ cs) l a h =
     let (first, others) = and_parts (p c) (list_all p cs) a in
-    ⊎_elim (grind (arith, eqb-true)) (all_of p cs l others)
-    (or_cases (c == l) (has_letter l cs) h)
+    ⊎_elim (grind (arith, eqb-true)) (all_of p cs l others) (or_cases (c == l) (has_letter l cs) h)
 
 pub no_flag : (tool : Tool) (l : ℕ) → takes_value tool l ≡ true → is_flag tool l ≡ false
 no_flag _ l h = grind (arith, not-true, all_of)
@@ -88,8 +87,7 @@ spelled tool (Flags f fs words options operands a s) =
     group_is_read tool f fs words (grind (arith, syntax, syntax_is))
     ∙ rw (tokens, takes_next-all_flags _ _ a, spelled _ s) (grind (arith, map-Valid-append))
 spelled _ (ValueAttached fs l b bs words options operands a t s) =
-    valued _ fs l _ _ _ _ _ _ a t (rw (no_flag _ l t, t) refl)
-    (rw (no_flag _ l t, t) refl) (spelled _ s)
+    valued _ fs l _ _ _ _ _ _ a t (rw (no_flag _ l t, t) refl) (rw (no_flag _ l t, t) refl) (spelled _ s)
 spelled _ (ValueNext fs l value words options operands a t s) =
     valued _ fs l [] (value ∷ words) (with_value l value) true options operands a t (rw (no_flag _ l t, t) refl)
     (rw (no_flag _ l t, t) refl) (spelled _ s)

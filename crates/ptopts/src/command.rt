@@ -1,4 +1,5 @@
-//! The command of a command line: the job of a tool, and its inputs. `ptext` and `ptrun` use it.
+//! The command of a command line: the job of a tool, which the module of that tool gives, and its inputs. `ptext` and
+//! `ptrun` use it.
 
 ghost use Rattle.std.specs.Prelude.{◌≡◌, IfOk, None, option_map};
 ghost use Rattle.ptopts.specs.Faults.{constraints_fault, operands_fault};
@@ -98,22 +99,26 @@ impl<'a, A: Allocator> Command<'a, A> {
 
 impl<'a, A: Allocator + Copy> ParsedArgs<'a, A> {
     /// Makes the command of a tool. Its values are checked first, then its operands, then the strings of `tr`.
+    #[tactic(auto, using(crate::proofs::CheckedCommand::checked_command_ok))]
     fn read_command(&self, alloc: A, tool: Tool) -> Result<Command<'a, A>, UseFault<'a>>
         requires { constraints_fault tool (options_of self.now) ≡ None }
         ensures { CommandPost result (checked_command tool (options_of self.now) (operands_of self.now)) }
     {
-        match tool {
-            Tool::Cut => self.cut_command(alloc),
-            Tool::Paste => self.paste_command(alloc),
-            Tool::Uniq => self.uniq_command(alloc),
-            Tool::Comm => self.comm_command(alloc),
-            Tool::Join => self.join_command(alloc),
-            Tool::Tr => self.tr_command(alloc),
-        }
+        Ok(match tool {
+            Tool::Cut => Command::Cut(self.cut_job(alloc)?, self.read_inputs(alloc, tool)?),
+            Tool::Paste => Command::Paste(self.paste_job(alloc)?, self.read_inputs(alloc, tool)?),
+            Tool::Uniq => Command::Uniq(self.uniq_job()?, self.read_inputs(alloc, tool)?),
+            Tool::Comm => Command::Comm(self.comm_job(), self.read_inputs(alloc, tool)?),
+            Tool::Join => Command::Join(self.join_job(alloc)?, self.read_inputs(alloc, tool)?),
+            Tool::Tr => {
+                let inputs = self.read_inputs(alloc, tool)?;
+                Command::Tr(self.char_plan()?, inputs)
+            }
+        })
     }
 
     /// Checks the operands, and makes the inputs of the tool.
-    pub(crate) fn read_inputs(&self, alloc: A, tool: Tool) -> Result<Inputs<'a, A>, UseFault<'a>>
+    fn read_inputs(&self, alloc: A, tool: Tool) -> Result<Inputs<'a, A>, UseFault<'a>>
         ensures fault { CheckThenMemoryPost result
             (operands_fault tool (options_of self.now) (operands_of self.now)) }
         ensures inputs { IfOk result

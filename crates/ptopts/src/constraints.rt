@@ -1,6 +1,6 @@
 //! Constraints between options: pairs that conflict, and options of which one is required. `command` checks them.
 
-ghost use Rattle.std.specs.Prelude.{option_map, ◌≡◌, ◌∷◌, []};
+ghost use Rattle.std.specs.Prelude.{is_some, ◌≡◌, ◌∷◌, []};
 ghost use Rattle.ptopts.specs.Faults.{first_some, constraint_fault, constraints_fault, first_value};
 ghost use Rattle.ptopts.specs.ParseSteps.{CheckPost, options_of};
 
@@ -33,17 +33,17 @@ impl<'a, A: Allocator> ParsedArgs<'a, A> {
             Constraint::Conflict(a, b) if self.has(a) && self.has(b) => {
                 Err(UseFault::Together(a, b))
             }
-            Constraint::Required(a, b, c) if self.first_value(a, b, c).is_none() => {
+            Constraint::Required(a, b, c) if !self.has_value(a, b, c) => {
                 Err(UseFault::NeedsList)
             }
             _ => Ok(()),
         }
     }
 
-    /// The value of the first of the three options that is present.
-    fn first_value(&self, a: u8, b: u8, c: u8) -> Option<&'a str>
-        ensures { option_map (λ v. v.now) result ≡ first_value (a ∷ b ∷ c ∷ []) (options_of self.now) }
+    /// Whether one of the three options has a value.
+    fn has_value(&self, a: u8, b: u8, c: u8) -> bool
+        ensures { result ≡ is_some (first_value (a ∷ b ∷ c ∷ []) (options_of self.now)) }
     {
-        self.value(a).or(self.value(b)).or(self.value(c))
+        self.value(a).is_some() || self.value(b).is_some() || self.value(c).is_some()
     }
 }

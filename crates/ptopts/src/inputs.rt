@@ -1,4 +1,4 @@
-//! The inputs of a command in the order of its operands, which `ptext` opens and `ptrun` reads.
+//! The inputs of a command in the order of its operands, which `command` makes, `ptext` opens and `ptrun` reads.
 
 ghost use Rattle.std.specs.Prelude.{IfOk, [], ◌∷◌, codes, option_map};
 ghost use Rattle.ptopts.specs.View.{words_view};

@@ -1,5 +1,5 @@
 //! Parses the words of a command line from left to right into options and operands (POSIX.1-2017, XBD 12.2). `command`
-//! uses it.
+//! calls `read_words`. The modules that check options and operands have methods of its result, `ParsedArgs`.
 
 ghost use Rattle.std.specs.Prelude.{◌≡◌, ◌<◌, length, IfOk, IfErr};
 ghost use Rattle.ptopts.specs.Args.{is_option_arg, has_option, is_flag, Valid};

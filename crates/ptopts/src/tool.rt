@@ -1,4 +1,5 @@
-//! The tools, and the options and operands that each accepts. All other modules of this crate use it.
+//! The tools, and the options and operands that each accepts. `parsing`, `constraints`, `operand_checks` and `command`
+//! use it.
 
 ghost use Rattle.std.specs.Prelude.{◌≡◌, Bool};
 ghost use Rattle.ptopts.specs.Syntax.{syntax, syntax_view};

@@ -1,4 +1,4 @@
-//! The values of options, which `command` and its modules check.
+//! The values of options. `constraints` asks whether they are there, and the modules of `command` check them.
 
 ghost use Rattle.std.specs.Prelude.{◌≡◌, IfOk, if◌then◌else◌, option_map};
 ghost use Rattle.ptopts.specs.Args.{value_of};

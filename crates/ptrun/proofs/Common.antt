@@ -1,4 +1,6 @@
 -- Names of other crates and of this crate's specs that many of its proofs import from here.
+use Rattle.ptrun.specs
+use Rattle.std.proofs.lemmas
 pub use Rattle.ptflow.specs.Passes.{PassPost, PassPre, only_input, pass_end, pass_engine}
 pub use Rattle.ptflow.specs.ToolSpec.{ToolSpec}
 pub use Rattle.ptflow.specs.declared.faults.FlowFault.{FlowFault}
@@ -19,37 +21,37 @@ pub use Rattle.ptopts.specs.Commands.{file_names, order_from}
 pub use Rattle.ptopts.specs.View.{CommandPost, command_view, fault_view, words_view}
 pub use Rattle.ptopts.specs.declared.inputs.Input.{Input}
 pub use Rattle.ptopts.specs.declared.inputs.Input.TheVariants.{File, Standard}
-pub use Rattle.ptrun.specs.CommandSpec.{CommandSpec, ended_operands, messages, unopened_messages}
-pub use Rattle.ptrun.specs.Driver.{AreSoundAt, EndRunPost, FinishPost, HasIndexBelow, InputsPre, OperandPost}
-pub use Rattle.ptrun.specs.Driver.{RunInputsEnd, RunInputsPost, result_message, result_status}
-pub use Rattle.ptrun.specs.Files.{AreInputsConsistent, AreReadToEnd, HasReadFailed, HaveReceived, InputBytes, IsTooLong}
-pub use Rattle.ptrun.specs.Files.{ReceivedInputs, is_reader_unopened, is_unopened}
-pub use Rattle.ptrun.specs.Joint.{JointTool, bytes_of, has_unopened, joint_spec}
-pub use Rattle.ptrun.specs.Joint.{one_input_tool, only_operand, operand, paste_rows_tool, received_in, two_input_tool}
-pub use Rattle.ptrun.specs.Lag.{BoundedLagAs, HasBoundedLag, IsPushedUpToBlock, IsWrittenUpToBlock, LagOfAny, LagOfLast}
-pub use Rattle.ptrun.specs.MessageWrites.{HasSaid, SayPost, line_of, texts}
-pub use Rattle.ptrun.specs.Messages.{name_of, unopened_message, usage_message, usage_status}
-pub use Rattle.ptrun.specs.Operands.{DecidesAll, decided_in_order, position, positions, sequential_spec, up_to_unended}
-pub use Rattle.ptrun.specs.Runs.{HasCause, IsRun, outcome, sinks}
-pub use Rattle.ptrun.specs.SpecOfArgs.{command_spec, is_memory_fault, message_only, spec_of_args, spec_of_parsed}
-pub use Rattle.ptrun.specs.SpecOfArgs.{spec_of_result, tool_name, tool_of_job, word_of_job}
-pub use Rattle.ptrun.specs.Tools.{OneByOne, Together, ToolInRun, reads_together, spec_of_tool}
-pub use Rattle.ptrun.specs.declared.tool.Completion.{Completion}
-pub use Rattle.ptrun.specs.declared.tool.Completion.TheVariants.{AllWritten, Disorder, Unopened}
+pub use specs.CommandSpec.{CommandSpec, ended_operands, messages, unopened_messages}
+pub use specs.Driver.{AreSoundAt, EndRunPost, FinishPost, HasIndexBelow, InputsPre, OperandPost, RunInputsEnd}
+pub use specs.Driver.{RunInputsPost, result_message, result_status}
+pub use specs.Files.{AreInputsConsistent, AreReadToEnd, HasReadFailed, HaveReceived, InputBytes, IsTooLong}
+pub use specs.Files.{ReceivedInputs, is_reader_unopened, is_unopened}
+pub use specs.Joint.{JointTool, bytes_of, has_unopened, joint_spec, one_input_tool, only_operand, operand}
+pub use specs.Joint.{paste_rows_tool, received_in, two_input_tool}
+pub use specs.Lag.{BoundedLagAs, HasBoundedLag, IsPushedUpToBlock, IsWrittenUpToBlock, LagOfAny, LagOfLast}
+pub use specs.MessageWrites.{HasSaid, SayPost, line_of, texts}
+pub use specs.Messages.{name_of, unopened_message, usage_message, usage_status}
+pub use specs.Operands.{DecidesAll, decided_in_order, position, positions, sequential_spec, up_to_unended}
+pub use specs.Runs.{HasCause, IsRun, outcome, sinks}
+pub use specs.SpecOfArgs.{command_spec, is_memory_fault, message_only, spec_of_args, spec_of_parsed, spec_of_result}
+pub use specs.SpecOfArgs.{tool_name, tool_of_job, word_of_job}
+pub use specs.Tools.{OneByOne, Together, ToolInRun, reads_together, spec_of_tool}
+pub use specs.declared.tool.Completion.{Completion}
+pub use specs.declared.tool.Completion.TheVariants.{AllWritten, Disorder, Unopened}
 pub use Rattle.std.proofs.Common.{Bool, Err, List, None, Ok, Option, Result, Some, [], ap, append_assoc, arith, cond}
 pub use Rattle.std.proofs.Common.{drop, false, get_or, inl, inr, length, length-append, length-drop, length-set, map}
 pub use Rattle.std.proofs.Common.{max, refl, rules, set, subst, suc, sym, take, take-append-drop, true, zero, ℕ, ⊎_elim}
 pub use Rattle.std.proofs.Common.{◌&&◌, ◌++◌, ◌+◌, ◌-◌, ◌<◌, ◌==◌, ◌^◌, ◌||◌, ◌∙◌, ◌∷◌, ◌≡◌, ◌≢◌, ◌≤◌, ◌⊎◌}
 pub use Rattle.std.proofs.Math.Bool.{or-false}
-pub use Rattle.std.proofs.lemmas.Bool.{cases_Bool, cases_eq, cases_lt, eqb-true, false≢true, or_left, or_right}
-pub use Rattle.std.proofs.lemmas.Bool.Decides.{eqb_tells, nat_tests}
-pub use Rattle.std.proofs.lemmas.Grind.{common_steps}
-pub use Rattle.std.proofs.lemmas.List.{append-nil, get_or-map, get_or_default, length-map, length-take-le, map-append}
-pub use Rattle.std.proofs.lemmas.List.{take_all, take_more}
-pub use Rattle.std.proofs.lemmas.List.Concat.{flat_map-append}
-pub use Rattle.std.proofs.lemmas.List.Elements.{All-map, filter_map-append}
-pub use Rattle.std.proofs.lemmas.List.Folds.{Any-from_list_any, list_any-append}
-pub use Rattle.std.proofs.lemmas.Result.{err_from_is_err_and}
+pub use lemmas.Bool.{cases_Bool, cases_eq, cases_lt, eqb-true, false≢true, or_left, or_right}
+pub use lemmas.Bool.Decides.{eqb_tells, nat_tests}
+pub use lemmas.Grind.{common_steps}
+pub use lemmas.List.{append-nil, get_or-map, get_or_default, length-map, length-take-le, map-append, take_all}
+pub use lemmas.List.{take_more}
+pub use lemmas.List.Concat.{flat_map-append}
+pub use lemmas.List.Elements.{All-map, filter_map-append}
+pub use lemmas.List.Folds.{Any-from_list_any, list_any-append}
+pub use lemmas.Result.{err_from_is_err_and}
 pub use Rattle.std.specs.Borrow.{Bor}
 pub use Rattle.std.specs.Io.KnownBytes.{IsAtEnd, append_known, prepend_known}
 pub use Rattle.std.specs.List.{list_any}

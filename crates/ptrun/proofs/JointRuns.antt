@@ -2,35 +2,33 @@
 -- these names: with one operand, the pass over its reader; in `paste`, each operand is a column; in a merge, only the
 -- two readers change. If an operand could not be opened, nothing but messages is required.
 use Rattle.ptrun.proofs
-use proofs.Common.{AllPushed, AllWritten, AreInputsConsistent, AreReadToEnd, Bool, BoundedLag}
-use proofs.Common.{CallOutcome, Completion, Disorder, Err, First, FlowFault, HasIndexBelow, HasReadFailed}
-use proofs.Common.{HaveReceived, InputBytes, IsDone, IsTooLong, JointTool, List, Memory, MergeTool, None, Ok}
-use proofs.Common.{Option, Output, PassPost, Paste, Read, Reader, Received, ReceivedInputs, Result}
-use proofs.Common.{RunInputsEnd, RunInputsPost, Second, SinkState, Slots, Some, ToolSpec, Write, [], ap, arith}
-use proofs.Common.{bytes_of, call_state, cases_eq, common_steps, cond}
-use proofs.Common.{drop, ended_operands, eqb-true, eqb_tells, false, false≢true, get_or, get_or_default, has_unopened}
-use proofs.Common.{inl, inr, is_in, is_reader_unopened, is_unopened, joint_spec, length}
-use proofs.Common.{list_any, list_any-append, no_reader, not, one_input_tool, only_input, operand}
-use proofs.Common.{option_map, pass_end, pass_engine, paste_rows_tool, positions, reader_at, received_in}
-use proofs.Common.{refl, result_status, rules, set, slice_get, subst, suc, sym, take, take-append-drop}
-use proofs.Common.{true, two_input_tool, unopened_messages, zero, ℕ, ⊎_elim, ◌&&◌, ◌++◌, ◌+◌, ◌-◌, ◌<◌, ◌==◌}
-use proofs.Common.{◌∙◌, ◌∷◌, ◌≡◌, ◌≤◌, ◌⊎◌}
+use Rattle.ptrun.specs
+use proofs.Common.{AllPushed, AllWritten, AreInputsConsistent, AreReadToEnd, Bool, BoundedLag, CallOutcome, Completion}
+use proofs.Common.{Disorder, Err, First, FlowFault, HasIndexBelow, HasReadFailed, HaveReceived, InputBytes, IsDone}
+use proofs.Common.{IsTooLong, JointTool, List, Memory, MergeTool, None, Ok, Option, Output, PassPost, Paste, Read}
+use proofs.Common.{Reader, Received, ReceivedInputs, Result, RunInputsEnd, RunInputsPost, Second, SinkState, Slots}
+use proofs.Common.{Some, ToolSpec, Write, [], ap, arith, bytes_of, call_state, cases_eq, common_steps, cond, drop}
+use proofs.Common.{ended_operands, eqb-true, eqb_tells, false, false≢true, get_or, get_or_default, has_unopened, inl}
+use proofs.Common.{inr, is_in, is_reader_unopened, is_unopened, joint_spec, length, length-set, list_any}
+use proofs.Common.{list_any-append, no_reader, one_input_tool, only_input, operand, option_map, pass_end, pass_engine}
+use proofs.Common.{paste_rows_tool, positions, reader_at, received_in, refl, result_status, rules, set, slice_get}
+use proofs.Common.{subst, suc, sym, take, take-append-drop, true, two_input_tool, unopened_messages, zero, ℕ, ⊎_elim}
+use proofs.Common.{◌++◌, ◌+◌, ◌<◌, ◌==◌, ◌∙◌, ◌∷◌, ◌≡◌, ◌≤◌, ◌⊎◌}
 use proofs.MessageWrites.{said_nothing}
-use proofs.OperandInputs.{any_same, at_set, each_listed, fresh_all, is_in-same}
-use proofs.OperandInputs.{lagged_output, none_passes, none_received, opened_set}
-use proofs.OperandInputs.{put_here, put_other, received_of, same_here, some_same}
+use proofs.OperandInputs.{any_same, at_set, each_listed, fresh_all, is_in-same, lagged_output, none_passes}
+use proofs.OperandInputs.{none_received, opened_set, put_here, put_other, received_of, same_here, some_same}
 use Rattle.ptflow.proofs.PasteLemmas.BufferedRows.Rows.Grid.{cell_in, decided_same}
 use Rattle.ptflow.specs.PasteCall.{PastePost, PastePre, paste_end, paste_engine, update_at}
 use Rattle.ptlines.specs.Calls.{AreAllConsistent, CallEnd, CallPost, Complete, EngineSpec, InputNames, IsCallUnfinished}
 use Rattle.ptlines.specs.Calls.{MemoryFault, NoReadFailed, OutOfOrder, ReadFault, WriteFault, inputs_at, with_input}
-use Rattle.ptmerge.specs.MergeCall.{MergePost, both_sides, is_same_side, merge_end, merge_engine, merge_state}
+use Rattle.ptmerge.specs.MergeCall.{MergePost, MergePre, both_sides, is_same_side, merge_end, merge_engine, merge_state}
 use Rattle.ptmerge.specs.Sides.{both}
 use Rattle.ptmerge.specs.declared.faults.MergeFault.{MergeFault}
 use Rattle.ptmerge.specs.declared.key_order.Side.{Side}
-use Rattle.ptrun.specs.Driver.{JointPost, JointPre, merge_completion, operand_completion, result_of_end, run_state}
-use Rattle.ptrun.specs.Engines.{at_positions, end_at, in_run, line_at}
-use Rattle.ptrun.specs.Files.{IsNew, IsNewOrUnopened, at}
-use Rattle.std.proofs.lemmas.List.{get_or-set_other, get_or-set_same}
+use specs.Driver.{JointPost, JointPre, merge_completion, operand_completion, result_of_end, run_state}
+use specs.Engines.{at_positions, end_at, in_run, line_at}
+use specs.Files.{IsNew, IsNewOrUnopened, at}
+use Rattle.std.proofs.lemmas.List.{get_or-set_other, get_or-set_same, set-append_left, set-append_right}
 
 -- The names that are read are those of the positions in a list, one for each.
 pub record Placement {I : Type 0} (names : InputNames I) (position : I → ℕ) (positions : List ℕ) : Type 0 where
@@ -46,11 +44,6 @@ module _ {I : Type 0} {names : InputNames I} {position : I → ℕ} {positions :
   each : (P : ℕ → Type 0) → ((i : I) → names.is_read i ≡ true → P (position i)) → (q : ℕ) → is_in positions q ≡ true
       → P q
   each P all q named = search rules
-
-none_found : {I : Type 0} (position : I → ℕ) (found : Option (I × ℕ))
-    → option_map (line_at position) found ≡ None → found ≡ None
-none_found position None none = refl
-none_found position (Some f) none = cc
 
 module _ {I : Type 0} {names : InputNames I} (engine : EngineSpec I) (position : I → ℕ) {positions : List ℕ}
     (by : Placement names position positions) (old new : List Reader) {was is : Output} {before store : Slots}
@@ -72,13 +65,6 @@ module _ {I : Type 0} {names : InputNames I} (engine : EngineSpec I) (position :
       → AllPushed (inputs_at positions) (in_run (at_positions engine position)) (run_state old was before)
       (run_state new is store) given call.pushed (option_map (line_at position) found)
   placed_pushed found e = grind (arith, each)
-
-  unfinished : IsCallUnfinished names engine (call_state (λ i. reader_at new (position i)) is store) call.given
-      call.pushed
-      → IsCallUnfinished (inputs_at positions) (in_run (at_positions engine position)) (run_state new is store) given
-      call.pushed
-  unfinished (inl (i, read, left)) = search rules
-  unfinished (inr (keeps, unwritten)) = grind arith
 
   -- without its first slots the call has read nothing, and all inputs are new
   unread : length store.lines < engine.first_slots
@@ -165,8 +151,7 @@ module _ {j : JointTool} {positions : List ℕ} {old : List Reader} {was : Outpu
           end = end_at (λ u. p) (pass_end result);
           result_is = refl;
           call = placed_call (pass_engine t) (λ u. p) (one_placed p) old (set old p new)
-              (λ q other. get_or-set_other old p q new no_reader
-              (λ same. false≢true (grind arith))) ready.writable
+              (λ q other. get_or-set_other old p q new no_reader (λ same. false≢true (grind arith))) ready.writable
               (λ few. (tt, refl, new_here.eof))
               (rw here (rw (get_or_default old p e no_reader (only_operand_within d)) at pass).call);
           same = λ f g same. ap t.decided (same p (is_in-same [] p));
@@ -203,111 +188,107 @@ module _ (job : Paste) {positions : List ℕ} {old : List Reader} {was : Output}
       placed = λ f. f;
       placed_at = λ f q. refl;
     }) old new k.untouched ready.writable
-        (λ few. let first = cell_in positions 0 (omega arith) in ((get_or positions 0 0), first, grind (arith, rules, none_passes))) k;
+        (λ few. let first = cell_in positions 0 (omega arith) in
+        ((get_or positions 0 0), first, grind (arith, rules, none_passes))) k;
     same = decided_same job positions;
   }
 
 -- ---- two operands
 
-pub record TwoPositions (positions : List ℕ) (p q : ℕ) : Type 0 where
-  pub are : positions ≡ p ∷ q ∷ []
-  pub apart : p ≡ q → ⊥
+-- a list that is split at the higher of two positions, and an item set at each of them
+module _ {X : Type 0} {xs : List X} (front back : List X) {low high : ℕ} (split : xs ≡ front ++ back)
+    (size : length front ≡ high) (below : low < high) (x y : X) where
+  pub low_first : set front low x ++ set back 0 y ≡ set (set xs low x) high y
+  low_first = grind (arith, length-set, set-append_left, set-append_right (set front low x) back high high y)
 
-abbrev AcceptsTwo : List ℕ → Type 0
-AcceptsTwo positions =
-    ((length positions == 2) && not (operand positions First == operand positions Second)) ≡ true
+  pub high_first : set front low x ++ set back 0 y ≡ set (set xs high y) low x
+  high_first = grind (arith, set-append_left, set-append_right front back high high y)
 
-pub two_of : (positions : List ℕ) (d : ℕ) → AcceptsTwo positions
-    → TwoPositions positions (get_or positions 0 d) (get_or positions 1 d)
-two_of (p ∷ q ∷ []) d accepts_operands = grind arith
-two_of positions d accepts_operands = grind arith
+two_of : (t : MergeTool) (positions : List ℕ) → (two_input_tool t).accepts positions ≡ true
+    → positions ≡ operand positions First ∷ operand positions Second ∷ []
+two_of t (p ∷ q ∷ []) accepts_operands = refl
+two_of t positions accepts_operands = grind arith
 
-pub length_two : (positions : List ℕ) → AcceptsTwo positions → length positions ≡ 2
-length_two positions accepts_operands = search rules
+module _ (t : MergeTool) {positions : List ℕ} {old : List Reader} {was : Output} {before : Slots}
+    (ready : JointPre (two_input_tool t) positions old was before) where
+  abbrev at_side : Side → ℕ
+  at_side = operand positions
 
-module _ (t : MergeTool) {old : List Reader} {was : Output} {before : Slots} {p q : ℕ} (apart : p ≡ q → ⊥)
-    (ready : JointPre (two_input_tool t) (p ∷ q ∷ []) old was before) where
-  abbrev two : List ℕ
-  two = p ∷ q ∷ []
+  are : positions ≡ at_side First ∷ at_side Second ∷ []
+  are = two_of t positions ready.accepts_operands
 
-  side_named : (side : Side) → is_in two (operand two side) ≡ true
-  side_named First = search rules
-  side_named Second = is_in-same (p ∷ []) q
+  pub two_within : (at_side First < length old) × (at_side Second < length old)
+  two_within = (ready.in_range 0 0 (grind (arith, are)), ready.in_range 1 0 (grind (arith, are)))
 
-  new_at : (side : Side) → IsNew (reader_at old (operand two side))
-  new_at side = search rules
+  pub two_apart : at_side First ≡ at_side Second → ⊥
+  two_apart same = grind arith
 
-  not_same : (a b : ℕ) → (a ≡ b → ⊥) → (a == b) ≡ false
-  not_same a b differs = grind arith
+  side_named : (side : Side) → is_in positions (at_side side) ≡ true
+  side_named First = grind (arith, are)
+  side_named Second = grind (arith, are)
 
-  two_placed : Placement both_sides (operand two) two
+  open_side : (side : Side) → (reader_at old (at_side side)).refused ≡ false
+  open_side side = none_passes _ positions ready.opened _ (side_named side)
+
+  new_at : (side : Side) → IsNew (reader_at old (at_side side))
+  new_at side = fresh_all old ready.fresh (at_side side) (open_side side)
+
+  two_placed : Placement both_sides at_side positions
   two_placed = record {
     listed = λ side read. side_named side;
-    name_at = grind arith;
+    name_at = grind (arith, are);
     same = same;
-    placed = λ f. update_at p (f First) (λ k. f Second);
+    placed = λ f. update_at (at_side First) (f First) (λ k. f Second);
     placed_at = placed_at;
   }
     where
-      same : (i j : Side) → (operand two i == operand two j) ≡ is_same_side i j
-      same First First = same_here p
-      same First Second = not_same p q apart
-      same Second First = not_same q p (λ is. apart (sym is))
-      same Second Second = same_here q
+      same : (i j : Side) → (at_side i == at_side j) ≡ is_same_side i j
+      same First First = same_here (at_side First)
+      same First Second = grind (arith, two_apart)
+      same Second First = grind (arith, two_apart)
+      same Second Second = same_here (at_side Second)
 
-      placed_at : (f : Side → Received) (side : Side) → update_at p (f First) (λ k. f Second) (operand two side)
-          ≡ f side
-      placed_at f First = put_here p (f First) (λ k. f Second)
-      placed_at f Second = put_other p q (f First) (λ k. f Second) apart
+      placed_at : (f : Side → Received) (side : Side)
+          → update_at (at_side First) (f First) (λ k. f Second) (at_side side) ≡ f side
+      placed_at f First = put_here (at_side First) (f First) (λ k. f Second)
+      placed_at f Second = put_other (at_side First) (at_side Second) (f First) (λ k. f Second) two_apart
 
-  by_side : {X : Type 0} (f : ℕ → X) (side : Side) → both (f p) (f q) side ≡ f (operand two side)
-  by_side f First = refl
-  by_side f Second = refl
+  by_side : {X : Type 0} (f : ℕ → X) (a b : X) → (f (at_side First) ≡ a) × (f (at_side Second) ≡ b)
+      → both a b ≡ (λ side. f (at_side side))
+  by_side f a b is = λ i side. at_each side i
+    where
+      at_each : (side : Side) → both a b side ≡ f (at_side side)
+      at_each First = sym is.0
+      at_each Second = sym is.1
 
-  pub two_inputs_post : {new : List Reader} {is : Output} {store : Slots} {result : Result (Unit {0}) MergeFault}
-      → ((k : ℕ) → (p ≡ k → ⊥) → (q ≡ k → ⊥) → reader_at new k ≡ reader_at old k)
-      → MergePost t (merge_state (reader_at old p) (reader_at old q) was before)
-      (merge_state (reader_at new p) (reader_at new q) is store) result
-      → JointPost (two_input_tool t) two old new was is before store (merge_completion (both p q) result)
-  two_inputs_post {new} {is} {store} {result} others post = record {
-    end = end_at (operand two) (merge_end result);
-    result_is = λ i. result_of_end (end_at (λ side. by_side (λ k. k) side i) (merge_end result));
-    call = placed_call (merge_engine t) (operand two) two_placed old new (λ k other. others k
-        (λ same. false≢true (grind arith))
-        (λ same. false≢true (grind arith))) ready.writable
-        (λ few. (First, refl, (new_at First).eof))
-        (subst (λ (rs : Side → Reader). CallPost both_sides (merge_engine t) (call_state rs was before)
-        (call_state (λ side. reader_at new (operand two side)) is store) (merge_end result))
-        (λ i side. by_side (reader_at old) side i)
-        (subst (λ (rs : Side → Reader). CallPost both_sides (merge_engine t)
-        (call_state (both (reader_at old p) (reader_at old q)) was before) (call_state rs is store) (merge_end result))
-        (λ i side. by_side (reader_at new) side i)
-        post.call));
-    same = λ f g same. search (rules, same, side_named);
-  }
+  module _ {a b : Reader}
+      (were : (d : Reader) → (get_or old (at_side First) d ≡ a) × (get_or old (at_side Second) d ≡ b)) where
+    pub two_ready : MergePre a b before
+    two_ready = grind (arith, were no_reader, open_side First, open_side Second, new_at First, new_at Second)
 
--- ---- two readers of a list that was split between them
+    module _ (x y : Reader) where
+      abbrev new : List Reader
+      new = set (set old (at_side First) x) (at_side Second) y
 
--- the readers that were lent from the two parts, and the list after the call
-pub record SplitReaders (inputs new : List Reader) (low high : ℕ) (a b x y : Reader) : Type 0 where
-  pub was_low : a ≡ reader_at inputs low
-  pub was_high : b ≡ reader_at inputs high
-  pub is_low : reader_at new low ≡ x
-  pub is_high : reader_at new high ≡ y
-  pub others : (k : ℕ) → (low ≡ k → ⊥) → (high ≡ k → ⊥) → reader_at new k ≡ reader_at inputs k
+      others : (q : ℕ) → is_in positions q ≡ false → reader_at new q ≡ reader_at old q
+      others q other = grind (arith, common_steps, side_named)
 
-module _ {inputs : List Reader} (front back : List Reader) {low high : ℕ} (split : inputs ≡ front ++ back)
-    (size : length front ≡ high) (below : low < high) (within : high < length inputs) where
-  none_left : high - high ≡ 0
-  none_left = omega arith
-
-  pub were : (d e : Reader) → (get_or front low d ≡ reader_at inputs low) × (get_or back 0 e ≡ reader_at inputs high)
-  were d e = grind (arith, common_steps)
-
-  module _ (x y : Reader) where
-    pub split_readers : (d e : Reader)
-        → SplitReaders inputs (set front low x ++ set back 0 y) low high (get_or front low d) (get_or back 0 e) x y
-    split_readers d e = grind (arith, common_steps)
+      pub merge_post : {is : Output} {store : Slots} {result : Result (Unit {0}) MergeFault}
+          {completion : Result Completion FlowFault}
+          → MergePost t (merge_state a b was before) (merge_state x y is store) result
+          → completion ≡ merge_completion (both (at_side First) (at_side Second)) result
+          → JointPost (two_input_tool t) positions old new was is before store completion
+      merge_post {result = result} post is_completion = record {
+        end = end_at at_side (merge_end result);
+        result_is = rw (is_completion, by_side (λ q. q) _ _ (refl, refl)) refl;
+        call = placed_call (merge_engine t) at_side two_placed old new others ready.writable
+            (λ few. (First, refl, (new_at First).eof))
+            (rw (
+              by_side (reader_at old) _ _ (were no_reader),
+              by_side (reader_at new) x y (grind (arith, common_steps, two_within, two_apart)),
+            ) at post.call);
+        same = λ f g same. search (rules, same, side_named);
+      }
 
 -- ---- an operand could not be opened
 
@@ -341,7 +322,7 @@ at_received given n (r ∷ readers) (suc q) m is = at_received given (n + 1) rea
 
 -- ---- processing the inputs
 
--- of a line out of order, if there is one: its position and its number
+-- how a run ends that found a line out of order, given by position and number, or none
 abbrev completion_of : Option (ℕ × ℕ) → Completion
 completion_of None = AllWritten
 completion_of (Some found) = Disorder found.0 found.1
@@ -452,8 +433,7 @@ module _ (word : List ℕ) {t : JointTool} (names : List (List ℕ)) {positions 
       (each_listed (λ q. q < length old) positions start.in_range p e.named)
   ending (ReadFault p) e =
       let f = first_at positions p e.named in
-      let cause : HasReadFailed old new p ⊎ IsTooLong (at received p) =
-      grind (arith, open_at, fresh, at_listed) in
+      let cause : HasReadFailed old new p ⊎ IsTooLong (at received p) = grind (arith, open_at, fresh, at_listed) in
       record {
         operands_done = f.0;
         within = f.1;

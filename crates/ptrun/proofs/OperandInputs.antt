@@ -2,25 +2,25 @@
 -- the sink. Two calls receive the concatenation of what each receives, and at most one block of the output is buffered.
 -- Then the operands of a command, by induction on their list.
 use Rattle.ptrun.proofs
-use proofs.Common.{All, AllWritten, Any-from_list_any, AreInputsConsistent, Bool, BoundedLag, BoundedLagAs}
-use proofs.Common.{BufferLag, CommandSpec, Completion, DecidesAll, HasBoundedLag, HasReceived, HasSaid, HaveReceived}
-use proofs.Common.{Input, InputBytes, IsConsistent, IsDone, IsKnownPrefix, IsPrefix, IsPushedUpToBlock}
-use proofs.Common.{IsWrittenUpToBlock, LagOfAny, LagOfLast, LaggedInput, List, None, Option, Output, PushEffect, Reader}
-use proofs.Common.{Received, ReceivedInputs, SinkState, Some, ToolSpec, Unopened, [], ap, append-nil, append_assoc}
-use proofs.Common.{append_known, arith, common_steps, cond, decided_in_order, drop, empty_input}
-use proofs.Common.{false, false≢true, file_names, filter_map-append, flat_map, flat_map-append, get_or}
-use proofs.Common.{get_or-map, is_in, is_unopened, length, length-append, length-drop, length-map, list_any}
-use proofs.Common.{map, max, name_of, no_reader, option_map, order_from}
-use proofs.Common.{position, positions, reader_at, refl, rules, set, slice_get, suc, sym, take, take-append-drop}
-use proofs.Common.{take_more, true, unopened_message, unopened_messages, up_to_unended, zero, ℕ, ◌++◌, ◌+◌}
-use proofs.Common.{◌<◌, ◌==◌, ◌^◌, ◌||◌, ◌∙◌, ◌∷◌, ◌≡◌, ◌≢◌, ◌≤◌}
+use Rattle.ptrun.specs
+use proofs.Common.{All, AllWritten, Any-from_list_any, AreInputsConsistent, Bool, BoundedLag, BoundedLagAs, BufferLag}
+use proofs.Common.{CommandSpec, Completion, DecidesAll, HasBoundedLag, HasReceived, HasSaid, HaveReceived, Input}
+use proofs.Common.{InputBytes, IsConsistent, IsDone, IsKnownPrefix, IsPrefix, IsPushedUpToBlock, IsWrittenUpToBlock}
+use proofs.Common.{LagOfAny, LagOfLast, LaggedInput, List, None, Option, Output, PushEffect, Reader, Received}
+use proofs.Common.{ReceivedInputs, SinkState, Some, ToolSpec, Unopened, [], ap, append-nil, append_assoc, append_known}
+use proofs.Common.{arith, common_steps, cond, decided_in_order, drop, empty_input, false, false≢true, file_names}
+use proofs.Common.{filter_map-append, flat_map, flat_map-append, get_or, get_or-map, is_in, is_unopened, length}
+use proofs.Common.{length-append, length-drop, length-map, list_any, map, max, name_of, no_reader, option_map}
+use proofs.Common.{order_from, position, positions, reader_at, refl, rules, set, slice_get, suc, sym, take}
+use proofs.Common.{take-append-drop, take_more, true, unopened_message, unopened_messages, up_to_unended, zero, ℕ, ◌++◌}
+use proofs.Common.{◌+◌, ◌<◌, ◌==◌, ◌^◌, ◌||◌, ◌∙◌, ◌∷◌, ◌≡◌, ◌≢◌, ◌≤◌}
 use proofs.MessageWrites.{said_trans}
 use Rattle.ptflow.specs.PasteCall.{update_at}
 use Rattle.ptlines.proofs.KnownBytes.{append_known-append}
 use Rattle.ptlines.proofs.Lag.{bounded_lag_now, known_length}
-use Rattle.ptrun.specs.Files.{HasReceivedAt, IsConsistentAt, IsNewOrUnopened, at, input_of_operand}
-use Rattle.ptrun.specs.Files.{inputs_of_operands, opened_inputs, opened_values}
-use Rattle.ptrun.specs.Operands.{maximum}
+use specs.Files.{HasReceivedAt, IsConsistentAt, IsNewOrUnopened, at, input_of_operand, inputs_of_operands}
+use specs.Files.{opened_inputs, opened_values}
+use specs.Operands.{maximum}
 use Rattle.std.proofs.Math.ListN.{get_or-map as get_or-map_any}
 
 pub some_same : {X : Type 0} {a b : X} → Some a ≡ Some b → a ≡ b
@@ -28,13 +28,6 @@ some_same same = cc
 
 pub same_here : (p : ℕ) → (p == p) ≡ true
 same_here p = grind arith
-
-pub neither : (a b : Bool) → (a || b) ≡ false → (a ≡ false) × (b ≡ false)
-neither true b is = absurd (false≢true (sym is))
-neither false b is = (refl, is)
-
-pub by_position : (P : ℕ → Type 0) (p : ℕ) → P p → ((q : ℕ) → p ≢ q → P q) → (q : ℕ) → P q
-by_position P p here others q = grind arith
 
 pub each_listed : (P : ℕ → Type 0) (ps : List ℕ) → All P ps → (q : ℕ) → is_in ps q ≡ true → P q
 each_listed P ps all q named = let a = Any-from_list_any (λ p. p == q) ps named in
@@ -123,7 +116,7 @@ IsEndedAt (Some g) = g.eof ≡ true
 
 abbrev bytes_at : Option Received → Option (List ℕ)
 bytes_at None = None
-bytes_at (Some g) = Some (g.bytes)
+bytes_at (Some g) = Some g.bytes
 
 -- the shortest inputs that are consistent with what was received
 abbrev pub least_bytes : ReceivedInputs → InputBytes
@@ -290,8 +283,7 @@ last_same xs ys x y is = grind (arith, common_steps)
 
 pub all_earlier : (t : ToolSpec) (came : List Received) (P : List ℕ → Type 0) → P (decided_in_order t came)
     → LagOfLast t came P
-all_earlier t came P holds done last is =
-    (same_before last, grind arith)
+all_earlier t came P holds done last is = (same_before last, grind arith)
 
 pub last_earlier : (t : ToolSpec) (came : List Received) (g : Received) (b : LaggedInput g) (P : List ℕ → Type 0)
     → P (decided_in_order t (came ++ b.earlier ∷ [])) → LagOfLast t (came ++ g ∷ []) P
@@ -302,8 +294,7 @@ last_earlier t came g b P holds done last is = let (before, same) = last_same _ 
 pub lagged_output : (f : Received → List ℕ) {came : Received} {was is : Output} {pushed : List ℕ}
     → BoundedLag {I = Unit {0}} (λ given. f (given tt)) (λ u. came) was is pushed
     → (cut : LaggedInput came) × IsPushedUpToBlock (f cut.earlier) was is pushed
-lagged_output f up =
-    (up.processing.before tt, grind arith)
+lagged_output f up = (up.processing.before tt, grind arith)
 
 -- ---- less was received from one input
 
@@ -363,8 +354,7 @@ sends_after was mid is pushed bytes wrote clean s = by_known was.accepted refl
     by_known (Some known) is_known = record {
       written_out = wrote.kept.front ++ s.written_out;
       accepted = grind (arith, append_known-append);
-      most =
-          grind (arith, rw (wrote.kept.is, is_known) at (ap known_length (wrote.whole clean)), length-append);
+      most = grind (arith, rw (wrote.kept.is, is_known) at (ap known_length (wrote.whole clean)), length-append);
     }
 
 -- ---- the output that was written in the end
@@ -392,5 +382,3 @@ module _ (bytes : List ℕ) (was is is' : Output) (pushed front rest : List ℕ)
   kept_up failed whole =
       let (more, is) = take_front (length front) bytes k.begins.rest in
       grind (arith, common_steps, few)
-
--- ---- membership

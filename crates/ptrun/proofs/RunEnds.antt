@@ -2,27 +2,26 @@
 -- theorem is that the result of such a run is exact unless a call failed: the bytes that the readers have are
 -- consistent with the bytes received, and each cause of a failure contradicts a premise. Then the same for arguments.
 use Rattle.ptrun.proofs
+use Rattle.ptrun.specs
 use proofs.Common.{All, All-map, AreInputsConsistent, AreReadToEnd, Bool, Command, CommandPost, CommandSpec, Completion}
-use proofs.Common.{EndRunPost, Err, FinishPost, FlowFault, HasCause, HasReadFailed, HasSaid, Input, InputBytes}
-use proofs.Common.{InputsPre, IsAtEnd, IsConsistent, IsPrefix, IsRun, IsTooLong, Job, List, Memory}
-use proofs.Common.{None, Ok, Option, Output, PushEffect, Read, Reader, Received, ReceivedInputs}
-use proofs.Common.{Result, RunComm, RunCut, RunInputsEnd, RunInputsPost, RunJoin, RunPaste, RunTr, RunUniq, SinkState}
-use proofs.Common.{Slots, Some, Write, [], ap, append-nil, append_known, arith, cases_Bool}
-use proofs.Common.{command_of_args, command_spec, common_steps, cond, ended_operands, false}
-use proofs.Common.{false≢true, fault_view, is_memory_fault, is_reader_unopened, is_unopened, length}
-use proofs.Common.{length-append, map, message_only, messages, position, positions, prepend_known}
-use proofs.Common.{push_trans, reader_at, refl, result_message, rules, sinks, spec_of_args}
-use proofs.Common.{spec_of_parsed, spec_of_tool, sym, tool_name, tool_of_job, true}
-use proofs.Common.{usage_message, usage_status, word_of_job, ℕ, ⊎_elim, ◌++◌, ◌<◌, ◌==◌, ◌∙◌, ◌≡◌, ◌≤◌}
+use proofs.Common.{EndRunPost, Err, FinishPost, FlowFault, HasCause, HasSaid, Input, InputBytes, InputsPre, IsPrefix}
+use proofs.Common.{IsRun, IsTooLong, Job, List, Memory, None, Ok, Option, Output, PushEffect, Read, Reader, Received}
+use proofs.Common.{ReceivedInputs, Result, RunComm, RunCut, RunInputsEnd, RunInputsPost, RunJoin, RunPaste, RunTr}
+use proofs.Common.{RunUniq, SinkState, Slots, Some, Write, [], ap, append-nil, append_known, arith, cases_Bool}
+use proofs.Common.{command_of_args, command_spec, common_steps, cond, ended_operands, false, false≢true, fault_view}
+use proofs.Common.{is_memory_fault, is_reader_unopened, is_unopened, length, length-append, map, message_only, messages}
+use proofs.Common.{position, positions, push_trans, reader_at, refl, result_message, rules, sinks, spec_of_args}
+use proofs.Common.{spec_of_parsed, spec_of_tool, sym, tool_name, tool_of_job, true, usage_message, usage_status}
+use proofs.Common.{word_of_job, ℕ, ⊎_elim, ◌++◌, ◌<◌, ◌==◌, ◌∙◌, ◌≡◌, ◌≤◌}
 use proofs.MessageWrites.{said_trans}
-use proofs.OperandInputs.{earlier_map, fresh_all, kept_up, nothing_decided, nothing_read, positions_within}
-use proofs.OperandInputs.{received_at, received_of, some_same}
+use proofs.OperandInputs.{earlier_map, fresh_all, kept_up, nothing_decided, nothing_read, positions_within, received_at}
+use proofs.OperandInputs.{received_of, some_same}
 use Rattle.ptlines.proofs.KnownBytes.{append_known-nil}
 use Rattle.ptopts.proofs.EachTool.{AreInputsOf, are_inputs}
 use Rattle.ptopts.specs.Theorems.{Spelled, SpellsCommand}
 use Rattle.ptopts.specs.declared.fault.UseFault.{UseFault}
-use Rattle.ptrun.specs.Files.{AreNewInputs, HasBytesAt, HasReceivedAt, IsConsistentAt, IsNewOrUnopened}
-use Rattle.ptrun.specs.Runs.{IsExact, IsExactUnlessFailed, IsRunInStore, Outcome, RunEnd, Sinks}
+use specs.Files.{AreNewInputs, HasBytesAt, HasReceivedAt, IsConsistentAt, IsNewOrUnopened}
+use specs.Runs.{IsExact, IsExactUnlessFailed, IsRunInStore, Outcome, RunEnd, Sinks}
 use Rattle.std.proofs.lemmas.List.{append_cancel_left, nil_from_length}
 use Rattle.ptopts.specs.declared.command.Command as code
 
@@ -72,13 +71,7 @@ bytes_consistent_at : (old new : Reader) (o : Option Received) (v : Option (List
 bytes_consistent_at old new None None fresh k bytes = tt
 bytes_consistent_at old new None (Some b) fresh (unopened, same) (opened, left, short) = cc
 bytes_consistent_at old new (Some g) None fresh (opened, received) unopened = cc
-bytes_consistent_at old new (Some g) (Some b) fresh (opened, received) (_, left, short) =
-    grind arith
-  where
-    by_left : (left : Option (List ℕ)) → Some b ≡ prepend_known g.bytes left → (new.eof ≡ true → IsAtEnd left)
-        → IsConsistent g b
-    by_left None is end = cc
-    by_left (Some rest) is end = record { rest = rest; is = cc; whole = λ eof. end (sym received.eof ∙ eof) }
+bytes_consistent_at old new (Some g) (Some b) fresh (opened, received) (_, left, short) = grind arith
 
 not_too_long : (o : Option Received) (v : Option (List ℕ)) (old : Reader) → IsConsistentAt o v → HasBytesAt old v
     → IsTooLong o → ⊥
@@ -93,13 +86,11 @@ exact_of_run : (m : CommandSpec) (old new : List Reader) (before : Sinks) (o : O
 exact_of_run m old new before o fresh k w bytes none fine not_denied = by_fault k.fault k.ends
   where
     agrees : AreInputsConsistent k.received w
-    agrees q = bytes_consistent_at _ _ _ _
-        (fresh_all old fresh q) (k.came q) (bytes q)
+    agrees q = bytes_consistent_at _ _ _ _ (fresh_all old fresh q) (k.came q) (bytes q)
 
     unfailed : (n : ℕ) (fault : FlowFault) → HasCause m k.received old new o.out.failed o.denied n fault → ⊥
     unfailed n (Read p) c =
-        ⊎_elim (λ failed. none p failed) (λ long. not_too_long _ _ (reader_at old p) (agrees p)
-        (bytes p) long) c.2
+        ⊎_elim (λ failed. none p failed) (λ long. not_too_long _ _ (reader_at old p) (agrees p) (bytes p) long) c.2
     unfailed n Write c = false≢true (sym fine ∙ c)
     unfailed n Memory c = false≢true (sym not_denied ∙ c.0)
 
@@ -114,9 +105,6 @@ exact_of_run m old new before o fresh k w bytes none fine not_denied = by_fault 
     by_fault (Some fault) e = absurd (unfailed k.operands_done fault e.cause)
 
 -- ---- a run that reads nothing
-
-none_failed : (old : List Reader) (q : ℕ) → HasReadFailed old old q → ⊥
-none_failed old q failed = false≢true (sym failed.1 ∙ failed.2)
 
 -- There is nothing to read, the output is unchanged, and `text` is the only message.
 pub unread : (m : CommandSpec) {old : List Reader} {out messages_old messages_new : SinkState} {text : List ℕ}
@@ -160,8 +148,7 @@ pub message_only_run : {text : List ℕ} {is : ℕ} {old : List Reader} {out mes
     → IsRun (message_only text is) old old (sinks out messages_old)
     (record { out = out; messages = messages_new; status = status; peak = 0; denied = false })
 message_only_run {text} {is} {old = old} {status = status} fresh fine has_said status_is = unread _
-    _ refl refl (λ r same. refl) fresh fine has_said (λ w agrees. (refl, refl, status_is))
-    (no_operand (status == 0))
+    _ refl refl (λ r same. refl) fresh fine has_said (λ w agrees. (refl, refl, status_is)) (no_operand (status == 0))
   where
     no_operand : (b : Bool) → AreReadToEnd old (cond b [] [])
     no_operand true q named = absurd (false≢true named)
@@ -200,8 +187,7 @@ module _ {m : CommandSpec} {old new : List Reader} {was is : Output}
 
   wrote : PushEffect was sent k.pushed
   wrote =
-      ⊎_elim (grind arith)
-      (λ clean. rw (append-nil k.pushed) at (push_trans was is _ _ [] clean k.wrote f.wrote))
+      ⊎_elim (grind arith) (λ clean. rw (append-nil k.pushed) at (push_trans was is _ _ [] clean k.wrote f.wrote))
       (cases_Bool _)
 
   reached : Reached was sent k.pushed
@@ -218,10 +204,6 @@ module _ {m : CommandSpec} {old new : List Reader} {was is : Output}
       → RunEnd m k.received old new reached.front (k.message ++ last_message) o k.operands_done (fault_of r)
   ends_as (Ok done) same (complete, says) = grind (arith, rules)
   ends_as (Err fault) same e = grind arith
-
-  err_of : (r : Result Completion FlowFault) → fault_of r ≡ Some Memory → r ≡ Err Memory
-  err_of (Ok done) same = cc
-  err_of (Err fault) same = ap (λ f. Err f) (some_same same)
 
   run_of : IsRun m old new (sinks out messages_first) o
   run_of = record {
@@ -242,8 +224,7 @@ module _ {m : CommandSpec} {old new : List Reader} {was is : Output}
     is_prefix = begins;
     names_failed_read = grind arith;
     decided_is_written = grind (arith, rules);
-    bounded_lag = earlier_map m _ _ _
-        _
+    bounded_lag = earlier_map m _ _ _ _
         (λ bytes up. kept_up bytes was is is' k.pushed reached.front reached.rest up (ap (λ o. o.buffered) made)
         reached.split reached.accepted f.wrote.kept reached.unknown o.out.failed (grind arith))
         k.bounded_lag;

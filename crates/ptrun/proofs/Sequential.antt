@@ -2,28 +2,27 @@
 -- operand whose input was read by an earlier one receives nothing more. An operand that fails leaves a prefix of the
 -- output, with all that was decided by then.
 use Rattle.ptrun.proofs
-use proofs.Common.{All, AllPushed, AllWritten, AreInputsConsistent, BoundedLag, CallOutcome, CallState}
-use proofs.Common.{Completion, DecidesAll, Err, FlowFault, HasCause, HasIndexBelow, HasReadCause, HasReadFailed}
-use proofs.Common.{HasReceived, HasSaid, HaveReceived, InputBytes, IsConsistent, IsDone, IsPrefix, IsPushedUpToBlock}
-use proofs.Common.{IsSound, IsTooLong, List, Memory, None, Ok, OperandPost, Output, PassPost, PushEffect, Read, Reader}
-use proofs.Common.{Received, ReceivedInputs, Result, RunInputsPost, SinkState, Slots, Some, ToolSpec, Unopened, Write}
-use proofs.Common.{[], ap, append-nil, append_assoc, arith, call_state, cases_Bool, cases_lt, common_steps}
-use proofs.Common.{cond, decided_in_order, empty_input, false, false≢true, flat_map, flat_map-append, get_or}
-use proofs.Common.{is_in, is_reader_unopened, length, length-append, length-map, length-set, list_any, map}
-use proofs.Common.{map-append, max, name_of, only_input, pass_end, pass_engine, push_nothing, push_trans, reader_at}
-use proofs.Common.{refl, rules, sequential_spec, set, subst, sym, take, take_all}
-use proofs.Common.{total_bytes, true, unopened_message, unopened_messages, up_to_unended, ℕ, ⊎_elim, ◌++◌, ◌+◌, ◌<◌}
-use proofs.Common.{◌∙◌, ◌∷◌, ◌≡◌, ◌≢◌, ◌≤◌, ◌⊎◌}
+use Rattle.ptrun.specs
+use proofs.Common.{All, AllPushed, AllWritten, AreInputsConsistent, BoundedLag, CallOutcome, CallState, Completion}
+use proofs.Common.{DecidesAll, Err, FlowFault, HasCause, HasIndexBelow, HasReadCause, HasReadFailed, HasReceived}
+use proofs.Common.{HasSaid, HaveReceived, InputBytes, IsConsistent, IsDone, IsPrefix, IsPushedUpToBlock, IsSound}
+use proofs.Common.{IsTooLong, List, Memory, None, Ok, OperandPost, Output, PassPost, PushEffect, Read, Reader, Received}
+use proofs.Common.{ReceivedInputs, Result, RunInputsPost, SinkState, Slots, Some, ToolSpec, Unopened, Write, [], ap}
+use proofs.Common.{append-nil, append_assoc, arith, call_state, cases_Bool, cases_lt, common_steps, cond}
+use proofs.Common.{decided_in_order, empty_input, false, false≢true, flat_map, flat_map-append, get_or, is_in}
+use proofs.Common.{is_reader_unopened, length, length-append, length-map, length-set, list_any, map, map-append, max}
+use proofs.Common.{name_of, only_input, pass_end, pass_engine, push_nothing, push_trans, reader_at, refl, rules}
+use proofs.Common.{sequential_spec, set, subst, sym, take, take_all, total_bytes, true, unopened_message}
+use proofs.Common.{unopened_messages, up_to_unended, ℕ, ⊎_elim, ◌++◌, ◌+◌, ◌<◌, ◌∙◌, ◌∷◌, ◌≡◌, ◌≢◌, ◌≤◌, ◌⊎◌}
 use proofs.MessageWrites.{said_nothing}
-use proofs.OperandInputs.{IsAtEof, IsEndedAt, OpenedInput, all_earlier, any_before, any_now}
-use proofs.OperandInputs.{completion_with, consistent_before, consistent_bytes, decided_inputs}
-use proofs.OperandInputs.{fresh_all, holds_more, is_in-same, last_earlier}
-use proofs.OperandInputs.{least_bytes, least_consistent, maximum-append, none_received}
-use proofs.OperandInputs.{not_more, nothing_read, nth_here, opened_inputs_none, opened_inputs_some, opened_receives}
-use proofs.OperandInputs.{received_at, received_of, said_more, sends_after, sends_now}
-use Rattle.ptrun.specs.Driver.{OperandPre, fault_at, operand_completion}
-use Rattle.ptrun.specs.Files.{IsNewOrUnopened, at, input_of_operand, inputs_of_operands, opened_inputs, opened_values}
-use Rattle.ptrun.specs.Operands.{sequential_bound, sequential_decided, sequential_output, sequential_slots}
+use proofs.OperandInputs.{IsAtEof, IsEndedAt, OpenedInput, all_earlier, any_before, any_now, completion_with}
+use proofs.OperandInputs.{consistent_before, consistent_bytes, decided_inputs, fresh_all, holds_more, is_in-same}
+use proofs.OperandInputs.{last_earlier, least_bytes, least_consistent, maximum-append, none_received, not_more}
+use proofs.OperandInputs.{nothing_read, nth_here, opened_inputs_none, opened_inputs_some, opened_receives, received_at}
+use proofs.OperandInputs.{received_of, said_more, sends_after, sends_now}
+use specs.Driver.{OperandPre, fault_at, operand_completion}
+use specs.Files.{IsNewOrUnopened, at, input_of_operand, inputs_of_operands, opened_inputs, opened_values}
+use specs.Operands.{sequential_bound, sequential_decided, sequential_output, sequential_slots}
 use Rattle.std.proofs.Math.Seq.{take-append-add, take-append_seam, take-length}
 
 pub record OperandsDone (word : List ℕ) (t : ToolSpec) (names : List (List ℕ)) (old now : List Reader) (was is : Output)
@@ -111,8 +110,7 @@ module _ {word : List ℕ} {t : ToolSpec} {names : List (List ℕ)} {old : List 
       within = omega arith;
       message = unopened_messages word names (is_reader_unopened old) done;
       has_said = k.has_said;
-      names =
-          grind (arith, take-length);
+      names = grind (arith, take-length);
       ends = (
         record {
           all = refl;
@@ -151,7 +149,8 @@ module _ {word : List ℕ} {t : ToolSpec} {names : List (List ℕ)} {old : List 
             ∙ sym (grind (arith, least_consistent)) in
             record {
               rest = [];
-              is = sym all ∙ ap (λ l. flat_map t.decided (up_to_unended l)) (append-nil (opened_inputs empty_input k.inputs_read done))
+              is = sym all ∙ ap (λ l. flat_map t.decided (up_to_unended l))
+                  (append-nil (opened_inputs empty_input k.inputs_read done))
                   ∙ sym (append-nil (sequential_decided t k.inputs_read done));
             }
 
@@ -262,9 +261,7 @@ module _ {word : List ℕ} {t : ToolSpec} {names : List (List ℕ)} {old : List 
       -- its input was read to its end before and gives nothing now, or it was not read before
       turn : ((is_in done p ≡ true) × (given_here ≡ empty_input) × IsAtEof (reader_at now p))
           ⊎ ((is_in done p ≡ false) × (y.given ≡ none_received))
-      turn = ⊎_elim
-          (grind (arith, still))
-          (λ unseen. grind (arith, unseen, old_open)) (cases_Bool (is_in done p))
+      turn = ⊎_elim (grind (arith, still)) (λ unseen. grind (arith, unseen, old_open)) (cases_Bool (is_in done p))
 
       unseen : HasReadCause (reader_at now p) new → is_in done p ≡ false
       unseen cause = grind (arith, still, turn)
@@ -324,8 +321,7 @@ module _ {word : List ℕ} {t : ToolSpec} {names : List (List ℕ)} {old : List 
             (λ i. k.out w (back w agrees) i
             ++ (end.out (λ u. f.bytes) (λ u read. f.agree) ∙ sym (append-nil (t.text f.bytes))) i)
             ∙ sym (out_here w [] f);
-        has_said =
-            grind (arith, said_more, old_open, said_nothing);
+        has_said = grind (arith, said_more, old_open, said_nothing);
         so_far_is = grind (arith, any_before, old_open);
         clean = end.clean;
         not_denied = end.not_denied;
@@ -389,7 +385,7 @@ module _ {word : List ℕ} {t : ToolSpec} {names : List (List ℕ)} {old : List 
         abbrev earlier : Received
         earlier = (one_keeps.processing.before tt).earlier
 
-        input_given : input_of_operand empty_input inputs_read' done p ≡ Some (given_here)
+        input_given : input_of_operand empty_input inputs_read' done p ≡ Some given_here
         input_given = grind (arith, read_here, turn)
 
         begins_after : (bytes : List ℕ) {all : List ℕ} → all ≡ k.pushed ++ bytes → IsPrefix bytes e.call.pushed
@@ -412,8 +408,7 @@ module _ {word : List ℕ} {t : ToolSpec} {names : List (List ℕ)} {old : List 
           within = omega (arith, length-append done (p ∷ more));
           message = unopened_messages word names (is_reader_unopened old) done;
           has_said = k.has_said;
-          names =
-              grind (arith, take-append_seam, received');
+          names = grind (arith, take-append_seam, received');
           ends = cause_of more fault end;
           position = index_within fault;
           untouched = grind (arith, not_more, take-append-add, reader_other);

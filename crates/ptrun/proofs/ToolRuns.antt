@@ -1,15 +1,16 @@
 -- The steps of the driver, by how a tool reads its operands: one after another, or together.
 use Rattle.ptrun.proofs
-use proofs.Common.{All, Bool, Completion, DecidesAll, FlowFault, HasSaid, InputsPre, IsRun, List, OneByOne}
-use proofs.Common.{OperandPost, Output, PassPost, Reader, Result, RunInputsPost, SinkState, Slots, Together, ToolInRun}
-use proofs.Common.{ToolSpec, [], append-nil, arith, common_steps, false, false≢true, get_or, is_reader_unopened}
-use proofs.Common.{is_unopened, list_any, only_operand, reads_together, refl}
-use proofs.Common.{set, sinks, spec_of_tool, sym, total_bytes, true, unopened_messages, ℕ, ◌∙◌, ◌≡◌}
+use Rattle.ptrun.specs
+use proofs.Common.{All, Bool, Completion, DecidesAll, FlowFault, HasSaid, InputsPre, IsRun, List, OneByOne, OperandPost}
+use proofs.Common.{Output, PassPost, Reader, Result, RunInputsPost, SinkState, Slots, Together, ToolInRun, ToolSpec, []}
+use proofs.Common.{append-nil, arith, common_steps, false, false≢true, get_or, is_reader_unopened, is_unopened}
+use proofs.Common.{list_any, only_operand, reads_together, refl, set, sinks, spec_of_tool, sym, total_bytes, true}
+use proofs.Common.{unopened_messages, ℕ, ◌∙◌, ◌≡◌}
 use proofs.JointRuns.{joint_post, none_unopened}
 use proofs.OperandInputs.{any_same, fresh_all, nothing_read, unopened_agrees}
 use proofs.RunEnds.{unread}
-use Rattle.ptrun.specs.Driver.{OperandPre, ReportUnopenedPost, RunOnPost, RunOnPre, operand_completion}
-use Rattle.ptrun.specs.Files.{IsNewOrUnopened}
+use specs.Driver.{OperandPre, ReportUnopenedPost, RunOnPost, RunOnPre, operand_completion}
+use specs.Files.{IsNewOrUnopened}
 use Rattle.std.proofs.Math.Seq.{take-length}
 
 abbrev pub one_tool : ToolInRun → ToolSpec
@@ -34,11 +35,9 @@ module _ (word : List ℕ) (names : List (List ℕ)) (positions : List ℕ) wher
       (record { out = out; messages = messages_new; status = 1; peak = 0; denied = false })
   unopened_run (OneByOne t law) together fresh fine k some = absurd (false≢true together)
   unopened_run (Together t) {inputs} together fresh fine k some =
-      unread _ 1 refl any
-      (λ r same. rw (any_of (is_unopened r) same) refl) fresh fine k.has_said
+      unread _ 1 refl any (λ r same. rw (any_of (is_unopened r) same) refl) fresh fine k.has_said
       (λ w agrees.
-      let same = unopened_agrees _ _ _ w (nothing_read _ (fresh_all _ fresh))
-      agrees in
+      let same = unopened_agrees _ _ _ w (nothing_read _ (fresh_all _ fresh)) agrees in
       rw (any_of (is_unopened w) same) (
         refl,
         rw (take-length positions, append-nil (unopened_messages word names (is_unopened w) positions))

@@ -47,8 +47,8 @@ operand_messages m w n = unopened_messages m.tool m.names (is_unopened w) (take 
 abbrev pub messages : CommandSpec → InputBytes → List ℕ
 messages m w = operand_messages m w (length m.positions) ++ m.final_message w
 
--- The operands that were read to their end once `n` of them are done, given the exit status: those `n`, if the tool reads
--- its operands one after another. If it reads them together, all of them after status 0.
+-- The operands that were read to their end once `n` of them are done, given the exit status: those `n`, if the tool
+-- reads its operands one after another. If it reads them together, all of them after status 0.
 abbrev pub ended_operands : CommandSpec → ℕ → ℕ → List ℕ
 ended_operands m n status =
     if is_none m.sequential then (if status == 0 then m.positions else []) else take n m.positions
@@ -58,8 +58,8 @@ abbrev pub IsUnwritten : CommandSpec → ReceivedInputs → List ℕ → Type 0
 IsUnwritten m r written = (w : InputBytes) → AreInputsConsistent r w → written ≢ m.out w
 
 -- A command that stopped after `n` operands, with this output, had something left to do: one of the inputs that it may
--- have begun was opened, and was not read to its end. If the tool keeps groups, all inputs may have ended, but then some
--- output was left to write.
+-- have begun was opened, and was not read to its end. If the tool keeps groups, all inputs may have ended, but then
+-- some output was left to write.
 abbrev pub IsUnfinished : CommandSpec → ReceivedInputs → List Reader → List ℕ → ℕ → Type 0
 IsUnfinished m r new written n =
     IsOneUnended new (m.may_touch n) ⊎ ((m.keeps_groups ≡ true) × IsUnwritten m r written)

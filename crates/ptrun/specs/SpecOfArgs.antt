@@ -76,8 +76,8 @@ abbrev pub is_memory_fault : {A : Type 0} → Result (code.Command A) UseFault �
 is_memory_fault (Ok command) = false
 is_memory_fault (Err fault) = is_none (fault_view fault)
 
--- The specification for the arguments, unless parsing them ran out of memory: this is then the only message, with status
--- 1.
+-- The specification for the arguments, unless parsing them ran out of memory: this is then the only message, with
+-- status 1.
 abbrev pub spec_unless_memory : List (List ℕ) → Bool → CommandSpec
 spec_unless_memory words out_of_memory =
     if out_of_memory then message_only (usage_message (tool_name words) None) 1 else spec_of_args words

@@ -1,5 +1,5 @@
 //! Runs a tool over its operands: reports unopened files, processes the inputs, finishes the output and says the last
-//! message. Used by `running`.
+//! message. Used by `tools`.
 
 ghost use Rattle.std.specs.Prelude.{◌≡◌, ◌<◌, ◌+◌, false, length, All};
 ghost use Rattle.ptopts.specs.View.{words_view};

@@ -1,11 +1,9 @@
 //! The tools that merge two sorted inputs by their keys: `comm` and `join`.
 
-ghost use Rattle.std.specs.Prelude.{◌≡◌, ◌<◌, ℕ, length};
-ghost use Rattle.ptlines.specs.Readers.{reader_at};
-ghost use Rattle.ptmerge.specs.MergeCall.{MergePost, MergePre, merge_state};
+ghost use Rattle.std.specs.Borrow.{Array, LendsBoth, sem};
+ghost use Rattle.std.specs.Prelude.{◌≡◌, ◌<◌, length, set, slice_index_or};
 ghost use Rattle.ptmerge.specs.Sides.{both};
 ghost use Rattle.ptrun.specs.Driver.{merge_completion};
-ghost use Rattle.ptrun.specs.Merges.{merge_tool, merge_word};
 
 use crate::tool::{Completion, Tool};
 use ptflow::FlowFault;
@@ -14,75 +12,19 @@ use ptlines::{LineReader, Out, Sink, Source, Store};
 use ptmerge::{MergeFault, Side, comm, join};
 use std::alloc::Allocator;
 
-/// A tool that merges two inputs, with its options.
-#[derive(Drop)]
-pub(crate) enum MergeJob<B: Allocator + Copy> {
-    Comm(CommJob),
-    Join(JoinJob<B>),
-}
-
-impl<B: Allocator + Copy> MergeJob<B> {
-    // Merges two inputs.
-    fn merge<A: Allocator + Copy, S: Source, R: Source, W: Sink>(
-        &self,
-        first: &mut LineReader<S, R>,
-        second: &mut LineReader<S, R>,
-        store: &mut Store<A>,
-        out: &mut Out<W>,
-    ) -> Result<(), MergeFault>
-        requires { MergePre first.old second.old store.old }
-        ensures { MergePost (merge_tool self.now) (merge_state first.old second.old out.old store.old)
-            (merge_state first.new second.new out.new store.new) result }
-    {
-        match self {
-            MergeJob::Comm(job) => comm(job, first, second, store, out),
-            MergeJob::Join(job) => join(job, first, second, store, out),
-        }
-    }
-
-    // Merges the inputs at two different positions.
-    #[tactic(auto, using(crate::proofs::JointRuns::were))]
-    fn merge_at<A: Allocator + Copy, S: Source, R: Source, W: Sink>(
-        &self,
-        inputs: &mut [LineReader<S, R>],
-        first: usize,
-        second: usize,
-        store: &mut Store<A>,
-        out: &mut Out<W>,
-    ) -> Result<(), MergeFault>
-        requires within { (first < length inputs.old) × (second < length inputs.old) }
-        requires apart { first ≡ second → ⊥ }
-        requires ready { MergePre (reader_at inputs.old first) (reader_at inputs.old second) store.old }
-        ensures merged { MergePost (merge_tool self.now)
-            (merge_state (reader_at inputs.old first) (reader_at inputs.old second) out.old store.old)
-            (merge_state (reader_at inputs.new first) (reader_at inputs.new second) out.new store.new) result }
-        ensures others { (position : ℕ) → (first ≡ position → ⊥) → (second ≡ position → ⊥)
-            → reader_at inputs.new position ≡ reader_at inputs.old position }
-    {
-        if first < second {
-            let (front, back) = inputs.split_at_mut(second);
-            self.merge(&mut front[first], &mut back[0], store, out)
-        } else {
-            let (front, back) = inputs.split_at_mut(first);
-            self.merge(&mut back[0], &mut front[second], store, out)
-        }
-    }
-}
-
-impl<A: Allocator + Copy, B: Allocator + Copy> Tool<A> for MergeJob<B> {
+impl<A: Allocator + Copy> Tool<A> for CommJob {
+    ghost use Rattle.std.specs.Prelude.{codes};
+    ghost use Rattle.ptlangs.specs.Jobs.{comm_job};
+    ghost use Rattle.ptmerge.specs.Comm.{comm_tool};
     ghost use Rattle.ptrun.specs.Joint.{two_input_tool};
     ghost use Rattle.ptrun.specs.Tools.{Together};
-    ghost use Rattle.ptrun.specs.Merges.{merge_tool, merge_word};
 
-    ghost tool = { λ job. Together (two_input_tool (merge_tool job)) };
+    ghost tool = { λ job. Together (two_input_tool (comm_tool (comm_job job))) };
 
-    ghost word = { λ job. merge_word job };
+    ghost word = { λ job. codes "comm" };
 
     fn name(&self) -> &str {
-        match self {
-            MergeJob::Comm(_) => "comm",
-            MergeJob::Join(_) => "join",
-        }
+        "comm"
     }
 
     fn reads_together(&self) -> bool {
@@ -96,10 +38,60 @@ impl<A: Allocator + Copy, B: Allocator + Copy> Tool<A> for MergeJob<B> {
         store: &mut Store<A>,
         out: &mut Out<W>,
     ) -> Result<Completion, FlowFault> {
-        let first = operands[0];
-        let second = operands[1];
-        let merge_result = self.merge_at(inputs, first, second, store, out);
-        completion_at(merge_result, first, second)
+        let (first, second) = (operands[0], operands[1]);
+        let (one, two) = two_mut(inputs, first, second);
+        completion_at(comm(self, one, two, store, out), first, second)
+    }
+}
+
+impl<A: Allocator + Copy, B: Allocator + Copy> Tool<A> for JoinJob<B> {
+    ghost use Rattle.std.specs.Prelude.{codes};
+    ghost use Rattle.ptlangs.specs.Jobs.{join_job};
+    ghost use Rattle.ptmerge.specs.Join.{join_tool};
+    ghost use Rattle.ptrun.specs.Joint.{two_input_tool};
+    ghost use Rattle.ptrun.specs.Tools.{Together};
+
+    ghost tool = { λ job. Together (two_input_tool (join_tool (join_job job))) };
+
+    ghost word = { λ job. codes "join" };
+
+    fn name(&self) -> &str {
+        "join"
+    }
+
+    fn reads_together(&self) -> bool {
+        true
+    }
+
+    fn run_on<S: Source, R: Source, W: Sink>(
+        &self,
+        operands: &[usize],
+        inputs: &mut [LineReader<S, R>],
+        store: &mut Store<A>,
+        out: &mut Out<W>,
+    ) -> Result<Completion, FlowFault> {
+        let (first, second) = (operands[0], operands[1]);
+        let (one, two) = two_mut(inputs, first, second);
+        completion_at(join(self, one, two, store, out), first, second)
+    }
+}
+
+// Borrows two different elements of a slice at once.
+#[tactic(auto, using(crate::proofs::JointRuns::low_first, crate::proofs::JointRuns::high_first))]
+fn two_mut<T>(items: &mut [T], first: usize, second: usize) -> (&mut T, &mut T)
+    requires within { (first < length items.old) × (second < length items.old) }
+    requires apart { first ≡ second → ⊥ }
+    ensures value { (d : T) → (slice_index_or items.old first d ≡ result.0.now)
+        × (slice_index_or items.old second d ≡ result.1.now) }
+    ensures* writes_back { sem 𝓛 (LendsBoth (Array T.row 0) T.row T.row items.entry result
+        (λ x y. set (set items.old first x) second y)) }
+{
+    if first < second {
+        let (front, back) = items.split_at_mut(second);
+        (&mut front[first], &mut back[0])
+    } else {
+        let (front, back) = items.split_at_mut(first);
+        (&mut back[0], &mut front[second])
     }
 }
 

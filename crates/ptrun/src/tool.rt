@@ -36,8 +36,8 @@ pub(crate) trait Tool<A: Allocator + Copy>: Drop {
     fn reads_together(&self) -> bool
         ensures { result ≡ reads_together (tool self.now) };
 
-    /// Runs the tool over the inputs at these positions, each of which was opened: those of all its operands, or that of
-    /// one if it reads them one after another.
+    /// Runs the tool over the inputs at these positions, each of which was opened: those of all its operands, or that
+    /// of one if it reads them one after another.
     fn run_on<S: Source, R: Source, W: Sink>(
         &self,
         operands: &[usize],

@@ -1,5 +1,5 @@
-//! Runs a command with its tool, and the tools that a run can drive: `cut`, `paste`, `tr` and `uniq`. `merge` has `comm`
-//! and `join`.
+//! Runs a command with its tool, and the tools that a run can drive: `cut`, `paste`, `tr` and `uniq`. `merge` has
+//! `comm` and `join`.
 
 ghost use Rattle.std.specs.Prelude.{◌≡◌};
 ghost use Rattle.ptopts.specs.View.{command_view};
@@ -8,7 +8,6 @@ ghost use Rattle.ptrun.specs.Runs.{RunPre, sinks, outcome};
 ghost use Rattle.ptrun.specs.SpecOfArgs.{command_spec};
 
 use crate::driver::run_tool;
-use crate::merge::MergeJob;
 use crate::messages::Messages;
 use crate::report::Report;
 use crate::tool::{Completion, Tool};
@@ -44,14 +43,8 @@ pub(crate) fn run_command<
         Command::Paste(tool, operands) => run_tool(store, &tool, &operands, inputs, out, messages),
         Command::Tr(tool, operands) => run_tool(store, &tool, &operands, inputs, out, messages),
         Command::Uniq(tool, operands) => run_tool(store, &tool, &operands, inputs, out, messages),
-        Command::Comm(job, operands) => {
-            let tool: MergeJob<B> = MergeJob::Comm(job);
-            run_tool(store, &tool, &operands, inputs, out, messages)
-        }
-        Command::Join(job, operands) => {
-            let tool = MergeJob::Join(job);
-            run_tool(store, &tool, &operands, inputs, out, messages)
-        }
+        Command::Comm(tool, operands) => run_tool(store, &tool, &operands, inputs, out, messages),
+        Command::Join(tool, operands) => run_tool(store, &tool, &operands, inputs, out, messages),
     }
 }
 

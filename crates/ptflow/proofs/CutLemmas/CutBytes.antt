@@ -1,23 +1,23 @@
 -- The output of `cut` by bytes for the rest of a text. It depends on the line offset; at offset 0 the rest is a text of
 -- its own.
 use Rattle.ptflow.proofs
+use Rattle.ptflow.specs
 use proofs.Common.{◌≡◌, ℕ, ◌+◌, ◌-◌, ◌≤◌, ◌^◌, Bool, false, List, [], ◌∷◌, ◌++◌, map, length, take, drop, Some, refl}
 use proofs.Common.{ap, arith, append_assoc, common_steps, flat_map, mask_l, chunk, length-chunk, chunk-drop}
 use proofs.Common.{IsFirstByte, is_byte, unlines, lines, IsLine, complete_lines, lines_cons, byte_ne, lines_of_unlines}
-use proofs.Common.{line_before_terminator, select_from, cut_line, cut, cut_decided, cut_lines_from}
-use proofs.Common.{cut_bytes_from, cut_list_from, IsPrefix, Cut, Interval, ExtendsCut, CutPost, selected_bytes}
-use proofs.Common.{is_selected, zero, suc, ◌<◌, true, set, ◌&&◌, get_or, length-append, sym}
-use proofs.Common.{◌∙◌, w8, All, nat_le, range_with_len, take-add}
-use proofs.Common.{swz_l, pick_l-range_with_len, take-map, take-take, take-append-le, take_all}
-use proofs.Common.{length-take-le, append-nil, length-range_with_len, cases_eq, put_chunk, length-drop}
-use proofs.Common.{length-swz_l, slice_get, min, drop_more, AreSeparated}
-use Rattle.ptflow.specs.declared.tools.cut.bytes.Line.{Line}
+use proofs.Common.{line_before_terminator, select_from, cut_line, cut, cut_decided, cut_lines_from, cut_bytes_from}
+use proofs.Common.{cut_list_from, IsPrefix, Cut, Interval, ExtendsCut, CutPost, selected_bytes, is_selected, zero, suc}
+use proofs.Common.{◌<◌, set, ◌&&◌, get_or, length-append, sym, ◌∙◌, w8, All, nat_le, range_with_len, take-add}
+use proofs.Common.{swz_l, pick_l-range_with_len, take-map, take-take, take-append-le, take_all, length-take-le}
+use proofs.Common.{append-nil, length-range_with_len, cases_eq, put_chunk, length-drop, length-swz_l, slice_get, min}
+use proofs.Common.{drop_more, AreSeparated}
+use specs.declared.tools.cut.bytes.Line.{Line}
 use proofs.Passes.Exits.{split_of, LineSplit, line_split}
 use Rattle.std.proofs.Common.{length-set}
 use proofs.Vectors.Lanes.{stored_more}
 use mir.Val.{bool_byte}
-use Rattle.ptflow.specs.Private.Cut.ShortLines.{selected_indices, selected_after, IsPieceShuffle}
-use Rattle.ptflow.specs.declared.tools.cut.shuffle.PieceShuffle.{PieceShuffle}
+use specs.Private.Cut.ShortLines.{selected_indices, selected_after, IsPieceShuffle}
+use specs.declared.tools.cut.shuffle.PieceShuffle.{PieceShuffle}
 use proofs.Vectors.Compress.{row_lanes, selected_stored, shuffle_result}
 use lib.Seq.{take-nil}
 use Rattle.std.proofs.lemmas.List.{length-take}
@@ -29,22 +29,15 @@ use Rattle.std.proofs.lemmas.List.{length-take}
 abbrev pub is_within : Interval → ℕ → Bool
 is_within r n = nat_le r.first n && nat_le n r.last
 
-inside : (r : Interval) (n : ℕ) → r.first ≤ n → n ≤ r.last → is_within r n ≡ true
-inside r n low high = grind arith
-
 below : (r : Interval) (n : ℕ) → n < r.first → is_within r n ≡ false
 below r n low = grind arith
-
-last_of : (r : Interval) (n : ℕ) → is_within r n ≡ true → n ≤ r.last
-last_of r n inside = grind arith
 
 pub above : (r : Interval) (n : ℕ) → r.last < n → is_within r n ≡ false
 above r n high = grind arith
 
 pub not_selected : (rs : List Interval) (low n : ℕ) → AreSeparated low rs → n ≤ low → is_selected rs n ≡ false
 not_selected [] low n apart out = refl
-not_selected (r ∷ rs) low n apart out =
-    grind (arith, not_selected rs _ n apart.2 (omega arith), below, apart)
+not_selected (r ∷ rs) low n apart out = grind (arith, not_selected rs _ n apart.2 (omega arith), below, apart)
 
 pub select_none : {X : Type 0} (test : ℕ → Bool) (n : ℕ) (xs : List X)
     → ((k : ℕ) → n ≤ k → k < n + length xs → test k ≡ false) → select_from test n xs ≡ []
@@ -54,8 +47,7 @@ select_none test n (x ∷ xs) out = grind (arith, select_none test (n + 1) xs (g
 pub select_first : {X : Type 0} (r : Interval) (rs : List Interval) (n : ℕ) (xs : List X) → AreSeparated (r.last + 1) rs
     → select_from (is_selected (r ∷ rs)) n xs ≡ select_from (is_within r) n xs ++ select_from (is_selected rs) n xs
 select_first r rs n [] apart = refl
-select_first r rs n (x ∷ xs) apart =
-    grind (arith, select_first r rs (n + 1) xs apart, not_selected, select_none)
+select_first r rs n (x ∷ xs) apart = grind (arith, select_first r rs (n + 1) xs apart, not_selected, select_none)
 
 pub select_skip : {X : Type 0} (test : ℕ → Bool) (n count : ℕ) (xs : List X)
     → ((k : ℕ) → n ≤ k → k < n + count → test k ≡ false)
@@ -85,8 +77,8 @@ rest_is : (r : Interval) (before count : ℕ) (bytes : List ℕ) → count ≤ l
     take (count - from) (drop from bytes) ≡ select_from (is_within r) (before + 1) (take count bytes)
 rest_is r before count bytes within reaches = grind (arith, common_steps, select_slice, rest_of)
 
--- The invariant of `copy_selected`: the intervals from `i` on are left. The copied bytes are not longer than the part
--- of the piece that the others cover.
+-- The invariant of `copy_selected`: the intervals from `i` on are left. What was copied is not longer than the part of
+-- the piece before them.
 pub record CopyInvariant (all : List Interval) (i before : ℕ) (piece was is : List ℕ) (start at : ℕ) : Type 0 where
   pub front : is ++ select_from (is_selected (drop i all)) (before + 1) piece ≡ was
       ++ select_from (is_selected all) (before + 1) piece

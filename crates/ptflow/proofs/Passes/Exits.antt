@@ -3,24 +3,24 @@
 -- the output for every continuation of the input. So the output is exact at the end of the input, it is a
 -- prefix of the output for each consistent input, and decided output is written.
 use Rattle.ptflow.proofs
+use Rattle.ptflow.specs
 use proofs.Common.{◌≡◌, ℕ, ◌≤◌, ◌<◌, ◌^◌, true, false, List, [], ◌++◌, length, None, Result, Ok, Err, max, arith, Slots}
-use proofs.Common.{append_assoc, common_steps, append-nil, Reader, ReaderAdvance, AdvanceOk, IsDone}
-use proofs.Common.{IsSound, HasReadCause, Received, IsPrefix, IsConsistent, Output, PushEffect, total_bytes, push_trans}
+use proofs.Common.{append_assoc, common_steps, append-nil, Reader, ReaderAdvance, AdvanceOk, IsDone, IsSound}
+use proofs.Common.{HasReadCause, Received, IsPrefix, IsConsistent, Output, PushEffect, total_bytes, push_trans}
 use proofs.Common.{received_with, advance_trans, push_nothing, ToolSpec, PassPre, PassPost, only_input, pass_end, Read}
 use proofs.Common.{pass_engine, CallState, call_state, CallOutcome, AddedSlots, CallProgress, DecidedIfReadFailed, take}
 use proofs.Common.{call_ends, call_on_failed_output, call_set, call_without_slots, ProcessLag, bounded_lag_after, Write}
-use proofs.Common.{FlowFault, Memory, rules, drop, advance_ok_take, Bool, refl, push_past_failure}
-use proofs.Common.{OnErr, err_from_is_err_and, ◌+◌, ◌-◌, take_all, inl, inr, zero, suc, ◌∷◌, unlines}
-use proofs.Common.{take-append-drop, false≢true, lines, IsLine, AreLines, max_length, max_line_length}
-use proofs.Common.{known_lines, FillLine, lines_of_unlines, lines_of_last, lines_cons, lines-unlines, ◌==◌}
-use proofs.Common.{complete_lines_of_unlines, AreReceivedLines, Some, eqb-true, eqb-false, complete_lines}
-use proofs.Common.{complete_lines_cons, IsFirstByte, is_byte}
-use proofs.Common.{line_before_terminator, drop_at_terminator}
+use proofs.Common.{FlowFault, Memory, rules, drop, advance_ok_take, Bool, refl, push_past_failure, OnErr}
+use proofs.Common.{◌+◌, ◌-◌, take_all, inl, inr, zero, suc, ◌∷◌, unlines, take-append-drop}
+use proofs.Common.{false≢true, lines, IsLine, AreLines, max_length, max_line_length, known_lines, FillLine}
+use proofs.Common.{lines_of_unlines, lines_of_last, lines_cons, lines-unlines, ◌==◌, complete_lines_of_unlines}
+use proofs.Common.{AreReceivedLines, Some, eqb-true, eqb-false, complete_lines, complete_lines_cons, IsFirstByte}
+use proofs.Common.{is_byte, line_before_terminator, drop_at_terminator}
 use Rattle.std.specs.Prelude.{IsErrAnd}
 use Rattle.std.proofs.lemmas.Bool.{cases_Bool}
 use Rattle.ptlines.specs.Outputs.{PushPost}
-use Rattle.ptflow.specs.Private.Passes.BlockLoop.{IsBlockFilter}
-use Rattle.ptflow.specs.Private.Passes.StepOutput.{OutputPart}
+use specs.Private.Passes.BlockLoop.{IsBlockFilter, RunBlocksPost}
+use specs.Private.Passes.StepOutput.{OutputPart}
 pub use Rattle.ptlines.proofs.MaxLength.{max_length-append, piece_le_max_length}
 
 -- ---- readers
@@ -61,13 +61,6 @@ pub record StoreBounds (tool : ToolSpec) (before store : Slots) (given : Receive
   pub peak : (input : List ℕ) → IsConsistent given input → store.peak ≤ max before.peak (tool.size input)
   pub size : length store.lines ≡ max (length before.lines) tool.slots
 
--- `?` returns the failed write
-pub by_write : {A : Type 0} {tool : ToolSpec} {old new : Reader} {was is : Output} {before store : Slots}
-    {result : Result (Unit {0}) FlowFault}
-    → A × IsErrAnd result (λ fault. fault ≡ Write)
-    → PassPost tool old new was is before store (Err Write) → PassPost tool old new was is before store result
-by_write = grind arith
-
 pub pass_unchanged : (tool : ToolSpec) (old : Reader) (was : Output) (before : Slots) → PassPre old before
     → was.write_failed ≡ true → PassPost tool old old was was before before (Err Write)
 pass_unchanged = grind (arith, call_on_failed_output)
@@ -95,8 +88,8 @@ pub never_memory : {tool : ToolSpec} {old new : Reader} {was is : Output} {store
     → store.denied ≡ false → PassPost tool old new was is store store result → result ≡ Err Memory → ⊥
 never_memory = grind arith
 
--- After the last step, these bytes were given and pushed, and `left` is the output for the rest, which is empty after
--- the end of the input, and else any text. A call reads a piece then, and ends.
+-- The end of a call. The bytes `given` were processed, and `pushed` was pushed for them. For any rest of the input,
+-- which is empty if the input has ended, the output goes on with `left` of that rest. Last, `piece` was read.
 pub record PassEnding (tool : ToolSpec) (left : List ℕ → List ℕ) (old reader new : Reader) (was is : Output)
     (before store : Slots) (given piece pushed : List ℕ) : Type 0 where
   pub reached : Progress old reader was is given pushed
@@ -158,9 +151,7 @@ module _ {tool : ToolSpec} {left : List ℕ → List ℕ} {old reader new : Read
 
     pub pass_write : is'.write_failed ≡ true → new.failed ≡ reader.failed → store.denied ≡ false
         → PassPost tool old new was is' before store (Err Write)
-    pass_write fault same not_denied = pass _
-        (grind arith) tt
-        (λ index is. cc)
+    pass_write fault same not_denied = pass _ (grind arith) tt (λ index is. cc)
 
   pub nothing_more : (rest : List ℕ) → (new.eof ≡ true → rest ≡ [])
       → IsPrefix [] (left (piece ++ (new.buffered ++ rest)))
@@ -169,16 +160,12 @@ module _ {tool : ToolSpec} {left : List ℕ → List ℕ} {old reader new : Read
   pub pass_read : HasReadCause reader new → store.denied ≡ false
       → (new.buffered ≡ [] → new.eof ≡ false → IsPrefix (tool.decided received) pushed)
       → PassPost tool old new was is before store (Err (Read 0))
-  pass_read cause not_denied decided = pass (push_nothing is) nothing_more (Err (Read 0))
-      (grind arith)
-      (search rules)
+  pass_read cause not_denied decided = pass (push_nothing is) nothing_more (Err (Read 0)) (grind arith) (search rules)
       (λ index is. cc)
 
   pub pass_memory : new.failed ≡ reader.failed → store.denied ≡ true → 0 < length new.buffered
       → PassPost tool old new was is before store (Err Memory)
-  pass_memory same denied left = pass (push_nothing is) nothing_more (Err Memory)
-      (grind arith)
-      tt (λ index is. cc)
+  pass_memory same denied left = pass (push_nothing is) nothing_more (Err Memory) (grind arith) tt (λ index is. cc)
 
   -- the end of the input was reached
   module _ {is' : Output} (wrote : PushEffect is is' (left [])) (done : IsDone new) (none : piece ≡ [])
@@ -189,9 +176,7 @@ module _ {tool : ToolSpec} {left : List ℕ → List ℕ} {old reader new : Read
 
     pub pass_done : is'.write_failed ≡ false → new.fault ≡ None → new.pulled < 2 ^ 63 → total_bytes store.lines ≡ 0
         → PassPost tool old new was is' before store (Ok tt)
-    pass_done clean fault short empty = pass wrote all_of_it (Ok tt)
-        (search rules)
-        tt (λ index is. cc)
+    pass_done clean fault short empty = pass wrote all_of_it (Ok tt) (search rules) tt (λ index is. cc)
 
     -- a write failed there
     pub pass_unended : is'.write_failed ≡ true → PassPost tool old new was is' before store (Err Write)
@@ -201,7 +186,7 @@ module _ {tool : ToolSpec} {left : List ℕ → List ℕ} {old reader new : Read
 
 -- Bytes that are pushed piece by piece. A failed push leaves a prefix too, so several pushes have the result of one.
 
--- even if a push failed
+-- two pushes are one, even if the first failed
 pub wrote_then : (a b c : Output) {xs ys : List ℕ} → PushEffect a b xs → PushEffect b c ys → PushEffect a c (xs ++ ys)
 wrote_then a b c {xs} {ys} p q = elim (cases_Bool _) [
   | inl fault ↦ rw (q.stays fault) (push_past_failure a b xs ys fault p)
@@ -239,8 +224,8 @@ on_err (Ok u) p = tt
 on_err (Err e) p = p
 
 -- what `?` returns on an error
-pub returned_err : {T E A : Type 0} {Q : E → Type 0} (r : Result T E) → A × IsErrAnd r Q → (e : E) × (r ≡ Err e) × Q e
-returned_err r (_, is_err) = err_from_is_err_and r is_err
+pub is_fault : {A T E : Type 0} {r : Result T E} {e : E} → A × IsErrAnd r (λ fault. fault ≡ e) → r ≡ Err e
+is_fault = grind arith
 
 -- ---- the loop over blocks
 
@@ -296,34 +281,36 @@ module _ {X : Type 0} {rest_from : X → List ℕ → List ℕ} {IsUnchanged : X
       holds = λ same. unchanged (run.holds same);
     }
 
-    -- the block was read
-    module _ {tool : ToolSpec} (block_filter : IsBlockFilter tool rest_from IsUnchanged start) {store : Slots}
-        (ready : PassPre old store) (sound : IsSound reader) {new : Reader} (reads : ReaderAdvance reader new [])
-        (is_sound : IsSound new) where
-      pub ending : PassEnding tool (rest_from now) old reader new was is store store run.given [] run.pushed
-      ending = record {
-        reached = run.reached;
-        on = λ rest may. cc (block_filter.text (run.given ++ rest), run.on rest);
-        ready = ready;
-        sound = sound;
-        reads = reads;
-        stored = search rules;
-        keeps_store = λ none. refl;
-        processing = record {
-          before = λ u. record {
-            earlier = record { bytes = run.given; eof = false };
-            last = new.buffered;
-            split = cc (append-nil _);
-            short = omega arith;
-            eof = λ never. cc;
-          };
-          begins = grind arith;
+    -- the end of a pass after a block was read, or a read failed
+    abbrev pub Ending : Reader → Type 0
+    Ending new = (tool : ToolSpec) → IsBlockFilter tool rest_from IsUnchanged start → (store : Slots)
+        → PassPre old store → PassEnding tool (rest_from now) old reader new was is store store run.given [] run.pushed
+
+    pub ending : IsSound reader → {new : Reader} → ReaderAdvance reader new [] → IsSound new → Ending new
+    ending sound {new} reads is_sound tool filter store ready = record {
+      reached = run.reached;
+      on = λ rest may. cc (filter.text (run.given ++ rest), run.on rest);
+      ready = ready;
+      sound = sound;
+      reads = reads;
+      stored = search rules;
+      keeps_store = λ none. refl;
+      processing = record {
+        before = λ u. record {
+          earlier = record { bytes = run.given; eof = false };
+          last = new.buffered;
+          split = cc (append-nil _);
+          short = omega arith;
+          eof = λ never. cc;
         };
-      }
+        begins = grind arith;
+      };
+    }
 
--- ---- lines that were read
-
--- A line that was read is complete, so it is a line of the input for every continuation.
+    pub block_failed : {new : Reader} → Ending new → HasReadCause reader new
+        → RunBlocksPost rest_from IsUnchanged start old new was is (Err (Read 0))
+    block_failed end cause tool filter store ready =
+        pass_read (end tool filter store ready) cause ready.not_denied (search rules)
 
 -- ---- lines of a text
 

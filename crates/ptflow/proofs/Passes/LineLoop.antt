@@ -2,24 +2,23 @@
 -- the whole for every continuation; so each exit is a lemma of `Exits`. At most one line is in each slot of the tool,
 -- and nothing in the others, so the store holds at most `width` times the maximum length of these lines.
 use Rattle.ptflow.proofs
-use proofs.Common.{◌≡◌, ℕ, zero, suc, ◌+◌, ◌-◌, ◌*◌, ◌<◌, ◌≤◌, false, List, [], ◌∷◌, length, drop, set, get_or}
-use proofs.Common.{max, refl, ◌∙◌, ap, arith, inl, inr, common_steps}
-use proofs.Common.{length-set, drop-set-lt, sum_by-cons, Slots, total_bytes, with_line}
-use proofs.Common.{AddedSlots, IsSwapped, SlotsCleared, ◌^◌, true, ◌++◌, Ok, Err, append_assoc, length-append}
-use proofs.Common.{nil_from_length, lines, complete_lines, IsLine, max_length, max_line_length}
-use proofs.Common.{Received, known_lines, IsPrefix, IsConsistent, Output, PushEffect, Reader, ReaderAdvance, AdvanceOk}
+use Rattle.std.proofs.lemmas
+use proofs.Common.{◌≡◌, ℕ, zero, suc, ◌+◌, ◌-◌, ◌*◌, ◌<◌, ◌≤◌, false, List, [], ◌∷◌, length, drop, set, get_or, max}
+use proofs.Common.{refl, ◌∙◌, ap, arith, inl, inr, common_steps, length-set, drop-set-lt, sum_by-cons, Slots}
+use proofs.Common.{total_bytes, with_line, AddedSlots, IsSwapped, SlotsCleared, ◌^◌, true, ◌++◌, Ok, Err, append_assoc}
+use proofs.Common.{length-append, nil_from_length, lines, complete_lines, IsLine, max_length, max_line_length, Received}
+use proofs.Common.{known_lines, IsPrefix, IsConsistent, Output, PushEffect, Reader, ReaderAdvance, AdvanceOk, IsDone}
+use proofs.Common.{IsSound, advance_ok_take, unlines, line, FillLine, advance_ok_trans, push_trans, ToolSpec, PassPost}
+use proofs.Common.{AreReceivedLines, LinesWritten, LinesFailed, IsLinesLength, IsLineFilter, Read, Write, Memory}
+use proofs.Common.{received_with, reads_nothing, rules}
 use Rattle.ptlines.specs.ReadLine.{FillReadErr, FillMemoryErr}
-use proofs.Common.{IsDone, IsSound, advance_ok_take, unlines, line, FillLine, advance_ok_trans, push_trans}
-use proofs.Common.{ToolSpec, PassPost, AreReceivedLines, LinesWritten, LinesFailed, IsLinesLength}
-use proofs.Common.{IsLineFilter, Read, Write, Memory, received_with, reads_nothing, rules}
 use proofs.Passes.Exits.{line_split, complete_prefix, max_length-append, lines_none, lines_few, lines_on, lines_more}
-use proofs.Passes.Exits.{lines_block, line_prefix, received_longest, piece_longest, whole_before, before_line}
-use proofs.Passes.Exits.{Progress, progress_flushed, StoreBounds}
-use proofs.Passes.Exits.{PassEnding, nothing_more, pass_unslotted, pass_read, pass_memory, pass_write, pass_done}
-use proofs.Passes.Exits.{pass_unended}
+use proofs.Passes.Exits.{lines_block, line_prefix, received_longest, piece_longest, whole_before, before_line, Progress}
+use proofs.Passes.Exits.{progress_flushed, StoreBounds, PassEnding, nothing_more, pass_unslotted, pass_read}
+use proofs.Passes.Exits.{pass_memory, pass_write, pass_done, pass_unended}
 use Rattle.ptflow.specs.Private.Passes.LineLoop.{RunLinesPre}
-use Rattle.std.proofs.lemmas.List.Edits.{swap_is}
-use Rattle.std.proofs.lemmas.List.Sums.{sum_by-drop_more, sum_by-take-drop}
+use lemmas.List.Edits.{swap_is}
+use lemmas.List.Sums.{sum_by-drop_more, sum_by-take-drop}
 
 -- ---- the slots
 
@@ -76,8 +75,7 @@ bounds_swapped {width} {most} {before} {store} new some bounds either = elim eit
       let last = get_or store.lines (width - 1) [] in
       let same : new.lines ≡ set (set store.lines 0 last) (width - 1) first = grind (arith, swap_is) in
       let both : SlotBounds width most before (with_line (with_line store 0 last) (width - 1) first) =
-      bounds_line _ _ _
-      (bounds_line _ 0 _ bounds some (bounds.short (width - 1) (omega arith)) refl)
+      bounds_line _ _ _ (bounds_line _ 0 _ bounds some (bounds.short (width - 1) (omega arith)) refl)
       (omega arith) (bounds.short 0 some) refl in
       search rules
 ]
@@ -133,8 +131,7 @@ module _ {S X E : Type 0} {tool : ToolSpec} {state : S → Slots → X} {rest_fr
 
   none_written : written [] ≡ []
   none_written =
-      nil_from_length _
-      (omega (arith, ap length (line_filter.apart [] []), length-append (written []) (written [])))
+      nil_from_length _ (omega (arith, ap length (line_filter.apart [] []), length-append (written []) (written [])))
 
   module _ {old : Reader} {was : Output} {before : Slots} where
     pub run_starts : {store : Slots} → RunLinesPre end old was before → SlotBounds width 0 before store
@@ -240,8 +237,7 @@ module _ {S X E : Type 0} {tool : ToolSpec} {state : S → Slots → X} {rest_fr
 
       keeps_last : {after : Slots} (bytes : List ℕ) → after ≡ with_line store (width - 1) bytes
           → SlotBounds width (max (max_length run.ls) (length bytes)) before after
-      keeps_last bytes told =
-          bounds_line _ _ _ (grind arith) (omega arith) (omega arith) told
+      keeps_last bytes told = bounds_line _ _ _ (grind arith) (omega arith) (omega arith) told
 
       same_end : reader.terminator ≡ end
       same_end = grind arith
@@ -343,10 +339,10 @@ module _ {S X E : Type 0} {tool : ToolSpec} {state : S → Slots → X} {rest_fr
             → On (state now after) next (line after (width - 1) ∷ []) is is' → IsSwapped width after after'
             → Run old new was is' before after' next
         run_line {next} {is'} {after'} processed swapped =
-            run_more run (next_line.line ∷ []) next_line.advance_ok
-            (lines_more _ _ _ _ run.came _ _ _ _ next_line (cc))
+            run_more run (next_line.line ∷ []) next_line.advance_ok (lines_more _ _ _ _ run.came _ _ _ _ next_line (cc))
             (bounds_swapped _ line_filter.some
-            (bounds_weaker (max (max_length run.ls) (max_length (next_line.line ∷ []))) (keeps_last run _ next_line.stored) (omega arith)) swapped)
+            (bounds_weaker (max (max_length run.ls) (max_length (next_line.line ∷ [])))
+            (keeps_last run _ next_line.stored) (omega arith)) swapped)
             (grind (arith, filled))
 
         pub run_line_halts : IsSound reader → IsSound new → {is' : Output}
@@ -358,10 +354,10 @@ module _ {S X E : Type 0} {tool : ToolSpec} {state : S → Slots → X} {rest_fr
             let bounds = keeps_last run _ next_line.stored in
             halts run
             (ending run sound next_line.advance_ok.reads next_line.line (next_line.terminator ++ new.buffered)
-            (grind (arith, common_steps)) (rw ends at next_line.whole) (grind arith) (kept run (received run (next_line.line ++ next_line.terminator) new)
+            (grind (arith, common_steps)) (rw ends at next_line.whole) (grind arith)
+            (kept run (received run (next_line.line ++ next_line.terminator) new)
             (grind (arith, bounds, max_length-append)) (received_longest _ _ _ _ more))) next_line.advance_ok.failed
-            bounds.denied
-            (rw (same_state _ next_line.stored) at (rw (filled _ next_line.stored) at halted))
+            bounds.denied (rw (same_state _ next_line.stored) at (rw (filled _ next_line.stored) at halted))
             (λ rest may. (
               lines end (new.buffered ++ rest),
               line_prefix _ _ _ _ run.came _ _ _ _ next_line ends _

@@ -1,6 +1,6 @@
 -- Rows that are copied from the buffers of the readers. If all n columns read one input, a row takes n of its lines;
 -- with their terminators replaced by the cycle (the delimiters of the row, then its terminator) these are the row. So
--- bytes that end with a terminator and have count * n of them are `count` rows.
+-- bytes that end with a terminator, and in which there are count * n terminators, are `count` rows.
 pub mod Rows
 use Rattle.ptflow.proofs
 pub use proofs.Common.{ne_eqb, append_assoc, nat_tests, mod-mul-add, count_by, is_byte, advance_ok_take}
@@ -11,8 +11,6 @@ pub use proofs.Vectors.FindNth.{none_counted}
 pub use proofs.PasteLemmas.Replaced.{counted, replaced-append, replaced_line}
 pub use Rattle.ptflow.specs.declared.simd.replace.Cycle.{Cycle}
 pub use Rows.*
-use Rattle.std.proofs.Common.{arith, rules}
-use Rattle.std.proofs.lemmas.Grind.{common_steps}
 
 sound_after_consume : {b r : Reader} → IsSound b → IsConsumed b r → IsSound r
 sound_after_consume s step = grind (arith, common_steps)
@@ -119,8 +117,7 @@ pub whole_rows_counted : (end n count : ℕ) (bytes : List ℕ)
     → IsWholeRows end n bytes
 whole_rows_counted end n count bytes last counted =
     let ((are_lines, text), only) = the_lines end bytes in
-    let is : unlines end (lines end bytes) ≡ bytes =
-    grind (arith, common_steps) in
+    let is : unlines end (lines end bytes) ≡ bytes = grind (arith, common_steps) in
     record {
       count = count;
       ls = lines end bytes;
@@ -151,7 +148,8 @@ module _ (cells : List ℕ) (input : ℕ) (same : (c : ℕ) → c < length cells
       cc (
         grid_step cells ins 0 some (grind arith),
         for_each_cell_unique (top_of cells ins) cells (take n ls) [] (length-take-le n ls long)
-            (λ c low. rw (same c low) (rw ((update_here input ls (λ q. [])) input refl, uses_before_column c (omega arith))
+            (λ c low. rw (same c low)
+            (rw ((update_here input ls (λ q. [])) input refl, uses_before_column c (omega arith))
             (get_or-take n ls c [] low))),
         columns_same cells (after_row cells ins) (lines_of_input input (drop n ls))
             (λ q used. grind (arith, uses_all)),
@@ -166,7 +164,7 @@ module _ {row : RowShape} {cycle : Cycle} (t : IsSharedCycle row cycle) where
   abbrev all_replaced : ℕ → List ℕ → List ℕ
   all_replaced = with_replacements row.terminator (cycle_byte cycle)
 
-  -- In row k, from column c on.
+  -- the lines of row k from column c on
   row_replaced : (k c : ℕ) (ls : Lines) → AreLines row.terminator ls → c + length ls ≡ n
       → all_replaced (k * n + c) (unlines row.terminator ls) ≡ cells_text row c ls
   row_replaced k c [] are_lines all = refl
@@ -174,8 +172,7 @@ module _ {row : RowShape} {cycle : Cycle} (t : IsSharedCycle row cycle) where
       let rest = unlines row.terminator ls in
       let low : c < n = omega arith in
       let less : c < cycle.len = omega arith in
-      let index : (k * n + c) % cycle.len ≡ c % cycle.len =
-      cc (mod-mul-add k n c low, mod-eq_of_lt less) in
+      let index : (k * n + c) % cycle.len ≡ c % cycle.len = cc (mod-mul-add k n c low, mod-eq_of_lt less) in
       let number : k * n + c + 1 ≡ k * n + (c + 1) = omega arith in
       let more = ap (λ m. all_replaced m rest) number ∙ row_replaced k (c + 1) ls are_lines (omega arith) in
       grind (arith, append_assoc, replaced_line)
@@ -183,7 +180,7 @@ module _ {row : RowShape} {cycle : Cycle} (t : IsSharedCycle row cycle) where
   abbrev rows_of : Lines → List Lines
   rows_of ls = rows (columns row.cells (lines_of_input (get_or row.cells 0 0) ls))
 
-  -- From row k on.
+  -- the lines of all rows from row k on
   rows_replaced : (k more : ℕ) (ls : Lines) → AreLines row.terminator ls → length ls ≡ more * n
       → (length (rows_of ls) ≡ more) × (all_replaced (k * n) (unlines row.terminator ls)
       ≡ unlines row.terminator (map (join_with_cycle row.delims 0) (rows_of ls)))
@@ -216,8 +213,7 @@ module _ {row : RowShape} {cycle : Cycle} (t : IsSharedCycle row cycle) where
 
 module _ {row : RowShape} {cycle : Cycle} (t : IsSharedCycle row cycle) {old : List Reader}
     {b r : Reader} (x : IsNextReader row old 0 b) (sound : IsSound b) {count : ℕ} (some : 0 < count)
-    (within : count ≤ length b.buffered)
-    (rs : IsWholeRows row.terminator (length row.cells) (take count b.buffered))
+    (within : count ≤ length b.buffered) (rs : IsWholeRows row.terminator (length row.cells) (take count b.buffered))
     (step : r ≡ record b { buffered = drop count b.buffered }) where
   abbrev end : ℕ
   end = row.terminator

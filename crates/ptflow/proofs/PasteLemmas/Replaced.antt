@@ -1,21 +1,22 @@
 -- Bytes whose terminators are replaced: 64 at a time, where the terminators are the bits of a mask, then byte by byte.
 use Rattle.ptflow.proofs
-use proofs.Common.{◌≡◌, ◌≢◌, ℕ, zero, suc, ◌+◌, ◌-◌, ◌%◌, ◌^◌, ◌==◌, ◌<◌, ◌≤◌, Bool, cond, List, []}
-use proofs.Common.{◌∷◌, ◌++◌, length, map, take, drop, get_or, slice_set, refl, sym, ◌∙◌, ap, arith, bit_and, count_by}
-use proofs.Common.{count_ones, mask_l, chunk, mod-add-mod, mod-eq_of_lt, take-add, take_at, take-append-drop}
-use proofs.Common.{take-set-lt, eq-eqb, set-append_right, drop_more, take_more_set, length-set, common_steps, is_byte}
-use proofs.Common.{byte_ne, IsLine, IsNth, length-take-le, length-chunk, length-put_chunk, take_more_put_chunk}
-use proofs.Common.{put_chunk, ones-mask_l, with_replacements, cycle_byte, IsReplacedTo, true, false, Option}
-use proofs.Common.{append_assoc, onto_first, append-nil, append_cancel_right, lines, complete_lines, IsPrefix, Paste}
-use proofs.Common.{delimiter, join_with_cycle, paste_serial_decided, row_rest, option_to_list, None, Some, IsFirstByte}
-use proofs.Common.{line_before_terminator, mod-lt, serial_rest, take_with_terminator}
+use Rattle.ptflow.specs
+use proofs.Common.{◌≡◌, ◌≢◌, ℕ, zero, suc, ◌+◌, ◌-◌, ◌%◌, ◌^◌, ◌==◌, ◌<◌, ◌≤◌, Bool, cond, List, [], ◌∷◌, ◌++◌, length}
+use proofs.Common.{map, take, drop, get_or, slice_set, refl, sym, ◌∙◌, ap, arith, bit_and, count_by, count_ones, mask_l}
+use proofs.Common.{chunk, mod-add-mod, mod-eq_of_lt, take-add, take_at, take-append-drop, take-set-lt, eq-eqb}
+use proofs.Common.{set-append_right, drop_more, take_more_set, length-set, common_steps, is_byte, byte_ne, IsLine}
+use proofs.Common.{IsNth, length-take-le, length-chunk, length-put_chunk, take_more_put_chunk, put_chunk, ones-mask_l}
+use proofs.Common.{with_replacements, cycle_byte, IsReplacedTo, true, false, Option, append_assoc, onto_first}
+use proofs.Common.{append-nil, append_cancel_right, lines, complete_lines, IsPrefix, Paste, delimiter, join_with_cycle}
+use proofs.Common.{paste_serial_decided, row_rest, option_to_list, None, Some, IsFirstByte, line_before_terminator}
+use proofs.Common.{mod-lt, serial_rest, take_with_terminator}
 use lib.Count.{count_trailing_zeros}
 use proofs.Vectors.FindNth.{after_set, cleared, without, none_counted}
-use Rattle.ptflow.specs.declared.simd.replace.Cycle.{Cycle}
+use specs.declared.simd.replace.Cycle.{Cycle}
 use proofs.Passes.Exits.{line_split, complete_prefix}
-use Rattle.ptflow.specs.declared.tools.paste.serial.ColumnPos.{ColumnPos}
-use Rattle.ptflow.specs.Private.Paste.SerialRest.{CopyCellsPost}
-use Rattle.ptflow.specs.declared.tools.paste.serial.SerialFormat.{SerialFormat}
+use specs.declared.tools.paste.serial.ColumnPos.{ColumnPos}
+use specs.Private.Paste.SerialRest.{CopyCellsPost}
+use specs.declared.tools.paste.serial.SerialFormat.{SerialFormat}
 
 module _ (end : ℕ) where
   pub counted : (b : ℕ) (bytes : List ℕ) {t : Bool} → (b == end) ≡ t
@@ -154,8 +155,7 @@ module _ {end : ℕ} {byte : ℕ → ℕ} where
       bit = count_trailing_zeros 64 marked
 
       nth : IsNth (is_byte end) 0 n ends bit
-      nth = after_set _ _ n (omega (arith, length-chunk at 64 _ r.room))
-          (omega (arith, ends_counted)) r.bits
+      nth = after_set _ _ n (omega (arith, length-chunk at 64 _ r.room)) (omega (arith, ends_counted)) r.bits
 
       low : bit < 64
       low = let (within, _, _) = nth in omega (arith, length-chunk at 64 _ r.room)
@@ -223,8 +223,7 @@ module _ {cycle : Cycle} {first index at : ℕ} {from to to' : List ℕ} (long :
     replaced_terminator is_end is later set =
         let test = eq-eqb (get_or from at 0) _ is_end in
         let one = ap (take 1) (drop_more _ at 0 room) in
-        replaced_more 1 (omega arith) (cc)
-        (grind (arith, common_steps))
+        replaced_more 1 (omega arith) (cc) (grind (arith, common_steps))
 
     pub replaced_other : get_or from at 0 ≢ cycle.terminator → to' ≡ slice_set to at (get_or from at 0)
         → index < cycle.len → IsReplacedTo cycle first index (at + 1) from to'
@@ -232,10 +231,8 @@ module _ {cycle : Cycle} {first index at : ℕ} {from to to' : List ℕ} (long :
         let x = get_or from at 0 in
         let test = byte_ne _ x other in
         let one = ap (take 1) (drop_more _ at 0 room) in
-        let number : index + ends_in cycle (take 1 (drop at from)) ≡ index =
-        grind arith in
-        replaced_more 1 (omega arith) (cc (mod-eq_of_lt less))
-        (cc (take_more_set to at x (omega arith)))
+        let number : index + ends_in cycle (take 1 (drop at from)) ≡ index = grind arith in
+        replaced_more 1 (omega arith) (cc (mod-eq_of_lt less)) (cc (take_more_set to at x (omega arith)))
 
 -- ---- the rest of a series
 
@@ -319,8 +316,7 @@ pub copied_on : {format : SerialFormat} {index : ℕ} {bytes before : List ℕ} 
     → 0 < length more → CopyCellsPost format index bytes before next after
     → before ++ row_rest format.terminator format.delims.now index (bytes ++ more)
     ≡ after ++ row_rest format.terminator format.delims.now next more
-copied_on more some p =
-    grind (arith, mod-eq_of_lt, mod-lt, row_rest_on, joined_mod, append_assoc)
+copied_on more some p = grind (arith, mod-eq_of_lt, mod-lt, row_rest_on, joined_mod, append_assoc)
 
 -- The output for the received bytes begins with their complete lines.
 pub serial_is_decided : (job : Paste) (format now : SerialFormat) → format.terminator ≡ job.terminator
@@ -331,7 +327,6 @@ serial_is_decided job format now ends are same given pushed cell on =
     let end = format.terminator in
     let delims = format.delims.now in
     let text = join_with_cycle delims 0 (lines end (given ++ [])) in
-    let is : text ≡ pushed = append_cancel_right text pushed (end ∷ [])
-    (grind arith) in
+    let is : text ≡ pushed = append_cancel_right text pushed (end ∷ []) (grind arith) in
     let b = joined_begins end delims 0 (complete_lines end given) (lines end ((line_split end given).piece ++ [])) in
     rw (← ends, ← are) (grind (arith, common_steps, complete_prefix, append-nil))

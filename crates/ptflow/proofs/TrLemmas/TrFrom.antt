@@ -1,12 +1,11 @@
 -- The output of `tr` for the rest of a text, and for one that is cut anywhere. The last output byte is the only state,
 -- since squeezing looks back no further.
 use Rattle.ptflow.proofs
-use proofs.Common.{common_steps, ◌≡◌, ℕ, ◌-◌, not, Bool, false, List, [], ◌∷◌, ◌++◌, Option}
-use proofs.Common.{None, Some, length, refl, ap, arith, filter, slice_get, last_or, option_or}
-use proofs.Common.{append-nil, map-append, filter-append, IsPrefix, Tables, deletes, image, squeezes, is_not_repeat}
-use proofs.Common.{squeeze_after, tr, tr_decided, squeeze_from, tr_from, eq-eqb, squeeze}
-use proofs.Common.{BeginsWith, Each1, Fits, w8, suc, ◌<◌, get_or, EndsWith}
-use proofs.Common.{TrOfAnyParts, TrOfParts, TrAfterByte, TrMeetsTwice}
+use proofs.Common.{common_steps, ◌≡◌, ℕ, ◌-◌, not, Bool, false, List, [], ◌∷◌, ◌++◌, Option, None, Some, length, refl}
+use proofs.Common.{ap, arith, filter, slice_get, last_or, option_or, append-nil, map-append, filter-append, IsPrefix}
+use proofs.Common.{Tables, deletes, image, squeezes, is_not_repeat, squeeze_after, tr, tr_decided, squeeze_from}
+use proofs.Common.{tr_from, eq-eqb, squeeze, BeginsWith, Each1, Fits, w8, suc, ◌<◌, get_or, EndsWith, TrOfAnyParts}
+use proofs.Common.{TrOfParts, TrAfterByte, TrMeetsTwice}
 use proofs.Vectors.Lanes.{bytes_fit}
 
 module _ (squeezed : ℕ → Bool) where
@@ -93,8 +92,7 @@ from_two_parts squeezed (b ∷ written) bytes apart =
     grind (arith, common_steps)
 
 pub tr_of_parts : TrOfParts
-tr_of_parts tables a b apart =
-    cc (front_on _ None a b, from_two_parts _ _ _ apart)
+tr_of_parts tables a b apart = cc (front_on _ None a b, from_two_parts _ _ _ apart)
 
 pub tr_of_any_parts : TrOfAnyParts
 tr_of_any_parts = grind (arith, tr_of_parts)
@@ -123,8 +121,6 @@ tr_after_byte tables byte a b (front, ends) kept unsqueezed =
 pub tr_meets_twice : TrMeetsTwice
 tr_meets_twice tables byte a b rest is (front, ends) begins =
     grind (arith, front_on tables None a b, last_after None front byte, eq-eqb)
-
--- ---- a block of which the first byte was stored, if it is kept
 
 -- ---- tests that agree on bytes
 

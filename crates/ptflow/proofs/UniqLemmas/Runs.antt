@@ -2,22 +2,22 @@
 -- or ends it. Output that is contiguous in the block is deferred, so the output so far is the pushed bytes and then the
 -- deferred ones.
 use Rattle.ptflow.proofs
+use Rattle.ptflow.specs
 use proofs.Common.{◌≡◌, ℕ, ◌+◌, ◌&&◌, Bool, true, false, cond, List, [], ◌∷◌, ◌++◌, refl, ap, arith, common_steps}
-use proofs.Common.{nat_lt, append-nil, bytes_eq-Decides, IsPrefix, Uniq, Run, key, is_same, cons_run, runs}
-use proofs.Common.{output_of, init, run_of, current_run, runs_from, runs_after, run_output, ◌-◌, ◌<◌, ◌≤◌, Some, None}
-use proofs.Common.{Option, length, take, drop, subst, append_assoc, length-append, bytes_eq, slice_range, drop_split}
-use proofs.Common.{length-drop, drop_at, IsFirstByte, is_byte, Output, PushEffect, unlines, complete_lines}
-use proofs.Common.{IsLine, unlines_push, complete_lines_none, has_output, RunsWritten, RunsFailed}
-use proofs.Common.{span_of, IsSpan, IsPending, sym, ◌∙◌, is_some, known_lines, line, line_if_not_found}
-use proofs.Common.{uniq_tool, IsLineFilter, first_line, current_run_of, count_of, rules, ◌⊎◌, inl, inr, ⊎_elim, filter}
-use proofs.Common.{AllByRecursion, cases_Bool, the_lines_of_parts, lines-unlines, lines_are, BeginsWith, EndsWith}
-use proofs.Common.{HasGroupedKeys, UniqOfParts, UniqByKey}
-use proofs.Common.{line_before_terminator, take_with_terminator}
+use proofs.Common.{nat_lt, append-nil, bytes_eq-Decides, IsPrefix, Uniq, Run, key, is_same, cons_run, runs, output_of}
+use proofs.Common.{init, run_of, current_run, runs_from, runs_after, run_output, ◌-◌, ◌<◌, ◌≤◌, Some, None, Option}
+use proofs.Common.{length, take, drop, subst, append_assoc, length-append, bytes_eq, slice_range, drop_split}
+use proofs.Common.{length-drop, drop_at, IsFirstByte, is_byte, Output, PushEffect, unlines, complete_lines, IsLine}
+use proofs.Common.{unlines_push, complete_lines_none, has_output, RunsWritten, RunsFailed, span_of, IsSpan, IsPending}
+use proofs.Common.{sym, ◌∙◌, known_lines, line, uniq_tool, IsLineFilter, first_line}
+use proofs.Common.{current_run_of, count_of, rules, ◌⊎◌, inl, inr, ⊎_elim, filter, AllByRecursion, cases_Bool}
+use proofs.Common.{the_lines_of_parts, lines-unlines, lines_are, BeginsWith, EndsWith, HasGroupedKeys, UniqOfParts}
+use proofs.Common.{UniqByKey, line_before_terminator, take_with_terminator}
 use proofs.Passes.Exits.{wrote_then, split_of, ended_next}
-use Rattle.ptflow.specs.Private.Uniq.BlockRuns.{EndRunPre, IsLineSpan, first_of, repeated}
-use Rattle.ptflow.specs.Private.Uniq.RunsFrom.{count_prefix, run_text}
-use Rattle.ptflow.specs.declared.tools.uniq.block_runs.Span.{Span}
-use Rattle.ptflow.specs.declared.tools.uniq.CurrentRun.{CurrentRun}
+use specs.Private.Uniq.BlockRuns.{EndRunPre, first_of, repeated}
+use specs.Private.Uniq.RunsFrom.{count_prefix, run_text}
+use specs.declared.tools.uniq.block_runs.Span.{Span}
+use specs.declared.tools.uniq.CurrentRun.{CurrentRun}
 use Rattle.std.specs.Prelude.{◌≢◌, zero, suc}
 
 module _ (job : Uniq) where
@@ -141,9 +141,6 @@ span_join {block} {a} {b} fits next touch =
 module _ (job : Uniq) (first : List ℕ) (count : ℕ) {block : List ℕ} {line : Option Span} {l pending : Span}
     (pre : EndRunPre job.terminator block line pending) (is : line ≡ Some l)
     (shown : has_output job.show count ≡ true) where
-  line_in : IsLineSpan job.terminator block l
-  line_in = rw is at pre.line_in
-
   pub due_is : run_text job (run_of (first_of first block line) count) ≡ count_prefix job.show count ++ span_of block l
   due_is = grind (arith, current_run_is)
 
@@ -164,9 +161,7 @@ module _ {bytes block : List ℕ} {pending : Span} {was is : Output} (waits : Is
   }
 
   pending_pushed : PushEffect is is' (span_of block pending ++ more) → PushEffect was is' (bytes ++ more)
-  pending_pushed wrote = subst (PushEffect was is')
-      (grind (arith, common_steps))
-      (wrote_then _ _ _ waits.wrote wrote)
+  pending_pushed wrote = subst (PushEffect was is') (grind (arith, common_steps)) (wrote_then _ _ _ waits.wrote wrote)
 
 -- ---- runs one after another
 
@@ -305,8 +300,7 @@ module _ {job : Uniq} {first block rest : List ℕ} {start count : ℕ} {line : 
       pub runs_loop_failed : {is' : Output} → PushEffect is is' (span_of block pending ++ run_text job run)
           → is'.write_failed ≡ true
           → RunsFailed job (run_of first start) (complete_lines job.terminator block) was is'
-      runs_loop_failed wrote fault = steps_failed steps
-          (search (rules, entries, pending_pushed))
+      runs_loop_failed wrote fault = steps_failed steps (search (rules, entries, pending_pushed))
           (complete_lines job.terminator (drop (at + 1) rest)) (front_more so_far.lies at found).lines fault
 
   -- no complete line is left
@@ -316,7 +310,8 @@ module _ {job : Uniq} {first block rest : List ℕ} {start count : ℕ} {line : 
 
     pub running_unended : is'.write_failed ≡ true
         → RunsFailed job (run_of first start) (complete_lines job.terminator block) was is'
-    running_unended fault = search (rules, steps_failed, rw so_far.waits.all at (wrote_then _ _ _ so_far.waits.wrote wrote))
+    running_unended fault =
+        search (rules, steps_failed, rw so_far.waits.all at (wrote_then _ _ _ so_far.waits.wrote wrote))
 
 -- ---- the current run
 
@@ -373,11 +368,6 @@ runs_loop_repeats {job} {rest = rest} {run_key = run_key} so_far {at} found key_
     grind (arith, take_with_terminator) in
     let again = runs_loop_again (take at rest) (line_before_terminator job.terminator rest at found) own n left in
     grind (arith, again (rw split at (runs_loop_more so_far found key_is tested is_true)))
-
-pub not_found : (end : ℕ) (block : List ℕ) (r : Option ℕ) → IsFirstByte (is_byte end) block r → is_some r ≡ false
-    → complete_lines end block ≡ []
-not_found end block None none said = grind (arith, complete_lines_none, line_if_not_found)
-not_found end block (Some at) first said = cc
 
 -- ---- inputs in parts
 
@@ -454,7 +444,8 @@ module _ (job : Uniq) (taken : List ℕ → Bool) where
       kept is (inl (next, (later, begins), same)) =
           let (count, more, onto) = onto_is job next (runs job later) in
           cc (onto_same x (run_of next count) more is same)
-      kept is (inr others) = grind (arith, all_filter, other_key, x, is, (all_runs (λ other. key job x ≢ key job other) ls others))
+      kept is (inr others) =
+          grind (arith, all_filter, other_key, x, is, (all_runs (λ other. key job x ≢ key job other) ls others))
 
 pub uniq_by_key : UniqByKey
 uniq_by_key = grind (arith, lines-unlines, all_filter, lines_are, runs_taken)

@@ -4,14 +4,13 @@
 use Rattle.ptflow.proofs
 use proofs.Common.{common_steps, ◌≡◌, ℕ, zero, suc, ◌+◌, ◌*◌, ◌^◌, ◌/◌, ◌%◌, ◌<◌, ◌≤◌, Bool, true, false, cond, List, ℤ}
 use proofs.Common.{[], ◌∷◌, ◌++◌, map, length, take, drop, set, get_or, length-drop, drop-cons, append_assoc, add-one}
-use proofs.Common.{length-append}
-use proofs.Common.{refl, ap, arith, w8, All, nat_eq, range_with_len, mask_l, put_chunk, chunk, pick_l}
+use proofs.Common.{length-append, refl, ap, arith, w8, All, nat_eq, range_with_len, mask_l, put_chunk, chunk, pick_l}
 use proofs.Common.{Each1, take_more_put_chunk, bit_mask_l, mask_l-lt, Each1-from_get_or, swz_l, ones-mask_l_cons}
 use proofs.Common.{pick_l-range_with_len, take-map, take-append-le, drop-append-le, length-take-le, take-append-add}
-use proofs.Common.{length-range_with_len, get_or-range_with_len, and_numeral, select_by, not, eqb}
-use proofs.Common.{true_indices, IsCompressRow, IsCompressTable, filter, append-nil, take-append-drop, take-add, zip2}
-use proofs.Common.{drop-drop, drop_all, length-chunk, length-zip2, bit_and, top, cast_unsigned, mask_of}
-use proofs.Common.{is_not_repeat, keep_flags, kept_bytes, FilterPre, bit_or, ◌-◌, rules}
+use proofs.Common.{length-range_with_len, get_or-range_with_len, and_numeral, select_by, not, eqb, true_indices}
+use proofs.Common.{IsCompressRow, IsCompressTable, filter, append-nil, take-append-drop, take-add, zip2, drop-drop}
+use proofs.Common.{drop_all, length-chunk, length-zip2, bit_and, top, cast_unsigned, mask_of, is_not_repeat, keep_flags}
+use proofs.Common.{kept_bytes, FilterPre, bit_or, ◌-◌, rules}
 pub use proofs.Vectors.Lanes.{shuffle_result}
 use Rattle.std.specs.Prelude.{slice_index_or, count_ones}
 use Rattle.ptlines.proofs.MatchMasks.{mask_append}
@@ -131,8 +130,7 @@ row_next {place} {count} {row} low is begun = grind (arith, common_steps, bit_ma
 pub row_complete : {mask count : ℕ} {row : List ℕ} {flags : List Bool} → length flags ≡ 8 → mask ≡ mask_l flags
     → RowPrefix mask 8 count row → IsCompressRow flags row
 row_complete {count} {row} {flags} long masked begun =
-    let all : take count row ≡ true_indices flags =
-    grind (arith, common_steps) in
+    let all : take count row ≡ true_indices flags = grind (arith, common_steps) in
     grind (arith, length-take-le)
 
 -- ---- the halves of a mask and of lanes
@@ -190,8 +188,7 @@ chunk_parts at n m from = simp (take-add, drop-drop)
 
 module _ (f : ℕ → ℕ → Bool) (before bytes : List ℕ) (paired : length bytes ≤ length before) where
   pub pairs_long : (at : ℕ) → at + 16 ≤ length bytes → length (zip2 f (chunk at 16 before) (chunk at 16 bytes)) ≡ 16
-  pairs_long at room =
-      search (rules, length-zip2, length-chunk)
+  pairs_long at room = search (rules, length-zip2, length-chunk)
 
 none_set : {a b c d : ℕ} → bit_or (bit_or (bit_or a b) c) d ≡ 0 → (a ≡ 0) × (b ≡ 0) × (c ≡ 0) × (d ≡ 0)
 none_set {a} {b} {c} {d} none = omega (arith, le_or_l, le_or_r)
@@ -252,7 +249,7 @@ module _ (test : ℕ → Bool) where
       same_length : (at n : ℕ) → at + n ≤ length bytes → length (chunk at n before) ≡ length (chunk at n bytes)
       same_length at n room = omega (arith, length-chunk)
 
-      -- the bytes of a vector are kept if none is equal to the one before, and if its mask is full
+      -- a vector is kept whole if no byte equals the one it is compared with, or if the mask of those kept is full
       kept_none : (k : ℕ) → k + 16 ≤ length bytes → mask_l (equal_at k) ≡ 0 → kept_at k 16 ≡ chunk k 16 bytes
       kept_none k room = (all_kept _ _ (same_length k 16 room)).0
 
@@ -268,8 +265,7 @@ module _ (test : ℕ → Bool) where
 
       module _ (at : ℕ) (room : at + 64 ≤ length bytes) where
         four : kept_at at 64 ≡ ((kept_at at 16 ++ kept_at (at + 16) 16) ++ kept_at (at + 32) 16) ++ kept_at (at + 48) 16
-        four =
-            cc (kept_two at 48 16 (omega arith), kept_two at 32 16 (omega arith), kept_two at 16 16 (omega arith))
+        four = cc (kept_two at 48 16 (omega arith), kept_two at 32 16 (omega arith), kept_two at 16 16 (omega arith))
 
         pub kept_in_four : (t : List ℕ) {a b c d : List ℕ} → a ≡ t ++ select_by (flags_at at) (chunk at 16 bytes)
             → b ≡ a ++ select_by (flags_at (at + 16)) (chunk (at + 16) 16 bytes)

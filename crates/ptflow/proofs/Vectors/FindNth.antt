@@ -1,19 +1,19 @@
 -- The n-th item of a list that passes a test: the lowest set bit of a mask of which the lowest n were cleared. The
 -- terminators in 64 bytes are processed in order by clearing the lowest bit.
 use Rattle.ptflow.proofs
+use Rattle.std.proofs.lemmas
 use proofs.Common.{◌≡◌, ℕ, zero, suc, ◌+◌, ◌-◌, ◌*◌, ◌/◌, ◌%◌, ◌^◌, ◌<◌, ◌≤◌, Bool, true, false, cond, not, Option}
 use proofs.Common.{Some, List, [], ◌∷◌, length, map, take, drop, get_or, refl, sym, ◌∙◌, ap, arith, get_or-take}
 use proofs.Common.{length-drop, count_ones, count_by, prefix_len, mask_l, chunk, take-add, take-take, length-take-le}
-use proofs.Common.{get_or-le-sum_by, sum_by-append, sum_by-take-le, ones-mask_l}
-use proofs.Common.{get_or-chunk, length-chunk, IsFirstByte, NoneBefore, Passes, is_byte, line_before_terminator}
-use proofs.Common.{line_if_not_found, Nowhere, None, option_map, nowhere_trans, IsLine, byte_ne, IsNth}
-use proofs.Common.{IsTerminatorMask, none_if_zero_mask}
+use proofs.Common.{get_or-le-sum_by, sum_by-append, sum_by-take-le, ones-mask_l, get_or-chunk, length-chunk}
+use proofs.Common.{IsFirstByte, NoneBefore, Passes, is_byte, line_before_terminator, line_if_not_found, Nowhere, None}
+use proofs.Common.{option_map, nowhere_trans, IsLine, byte_ne, IsNth, IsTerminatorMask, none_if_zero_mask}
 use proofs.Common.{count_by_more_yes, common_steps, take-map, get_or-map, length-map}
-use Rattle.std.proofs.lemmas.List.{get_or-drop, drop-map}
+use lemmas.List.{get_or-drop, drop-map}
 use Rattle.std.proofs.Common.{pow-suc, div-one}
 use Rattle.std.proofs.Math.Nat.{div-div-eq-div-mul, zero-div}
 use proofs.Vectors.Lanes.{map-id}
-use Rattle.std.proofs.lemmas.Simd.{first_set_mask_l}
+use lemmas.Simd.{first_set_mask_l}
 use lib.Bits.{bit_and, and_step, and_self, and_zero_l}
 use lib.Count.{count_trailing_zeros}
 use proofs.CutLemmas.CutBytes.{rest_of}
@@ -83,8 +83,7 @@ shifted : (n : ℕ) (bits : List Bool) → mask_l bits / 2 ^ n ≡ mask_l (drop 
 shifted zero bits = div-one (mask_l bits)
 shifted (suc n) [] = zero-div (2 ^ suc n)
 shifted (suc n) (b ∷ bits) =
-    let half : (b : Bool) → (cond b 1 0 + 2 * mask_l bits) / 2 ≡ mask_l bits =
-    grind arith in
+    let half : (b : Bool) → (cond b 1 0 + 2 * mask_l bits) / 2 ≡ mask_l bits = grind arith in
     grind (arith, half, pow-suc, div-div-eq-div-mul, shifted n bits)
 
 pub mask_from : (p : ℕ → Bool) (size from : ℕ) (bytes : List ℕ) {mask : ℕ} → mask ≡ mask_l (map p (take size bytes))
@@ -120,8 +119,7 @@ module _ (p : ℕ → Bool) (bytes : List ℕ) (size : ℕ) {mask : ℕ} (within
 
 module _ (p : ℕ → Bool) (bytes : List ℕ) where
   pub count_up_to : (i j : ℕ) → i ≤ j → count_by p (take i bytes) ≤ count_by p (take j bytes)
-  count_up_to i j le =
-      grind (arith, sum_by-take-le (λ b. cond (p b) 1 0) (take j bytes) i, take-take)
+  count_up_to i j le = grind (arith, sum_by-take-le (λ b. cond (p b) 1 0) (take j bytes) i, take-take)
 
   pub count_chunk : (at : ℕ)
       → count_by p (take (at + 64) bytes) ≡ count_by p (take at bytes) + count_by p (chunk at 64 bytes)
@@ -143,8 +141,7 @@ module _ (p : ℕ → Bool) (bytes : List ℕ) where
       none_in_prefix ge = grind (arith, count_up_to, count_in_prefix)
 
   pub first_is : (at : ℕ) → IsNth p 0 0 bytes at → NoneBefore (Passes p bytes) 0 (length bytes) at × Passes p bytes at
-  first_is at (within, passes, none) =
-      (grind (arith, get_or-take, get_or-le-sum_by, length-take-le), passes)
+  first_is at (within, passes, none) = (grind (arith, get_or-take, get_or-le-sum_by, length-take-le), passes)
 
 -- ---- by the first match
 
@@ -158,8 +155,7 @@ module _ (d : ℕ) (line : List ℕ) where
     part = take (to - from) (drop from line)
 
     pub first_is_nth : (at : ℕ) → IsFirstByte (is_byte d) line (Some at) → at < to → IsNth (is_byte d) 0 before part at
-    first_is_nth at first lt =
-        grind (arith, common_steps, get_or-take, take-take, none_counted, line_before_terminator)
+    first_is_nth at first lt = grind (arith, common_steps, get_or-take, take-take, none_counted, line_before_terminator)
 
     pub no_nth_before_first : (at : ℕ) → IsFirstByte (is_byte d) line (Some at) → to ≤ at
         → count_by (is_byte d) part ≤ before
@@ -195,8 +191,7 @@ pub record NextTerminator (d : ℕ) (block : List ℕ) (from n bit start : ℕ) 
   pub counted : count_by (is_byte d) (take (from + bit + 1) block) ≡ count_by (is_byte d) (take from block) + (n + 1)
 
 module _ {d : ℕ} {block : List ℕ} {from all marked : ℕ} (n start : ℕ) (h : IsTerminatorMask d block from all)
-    (some : n < count_ones all)
-    (bits : marked ≡ mask_l (without n (map (is_byte d) (chunk from 64 block))))
+    (some : n < count_ones all) (bits : marked ≡ mask_l (without n (map (is_byte d) (chunk from 64 block))))
     (ends : count_by (is_byte d) (take start block) ≡ count_by (is_byte d) (take from block) + n) where
   pub next_terminator : NextTerminator d block from n (count_trailing_zeros 64 marked) start
   next_terminator =
@@ -204,8 +199,7 @@ module _ {d : ℕ} {block : List ℕ} {from all marked : ℕ} (n start : ℕ) (h
       let v = chunk from 64 block in
       let bit = count_trailing_zeros 64 marked in
       let room : from + 64 ≤ length block = omega arith in
-      let nth = after_set p v n (omega (arith, length-chunk from 64 block room))
-      (grind (arith, ones-mask_l)) bits in
+      let nth = after_set p v n (omega (arith, length-chunk from 64 block room)) (grind (arith, ones-mask_l)) bits in
       let close = near p block 64 from n bit room nth in
       let fits : from + bit < length block = omega arith in
       let (_, passes, _) = nth in

@@ -2,27 +2,28 @@
 -- bit of one entry: the low nibble of a byte gives the entry, the high one the table and the bit. Images are looked up
 -- in every row of a table; then each step halves the rows, and the lowest bit of a lane's row picks one of two vectors.
 use Rattle.ptflow.proofs
+use Rattle.ptflow.specs
+use Rattle.std.proofs.lemmas
 use proofs.Common.{common_steps, ◌≡◌, ℕ, ◌+◌, ◌<◌, ◌≤◌, ◌%◌, Bool, false, List, [], ◌∷◌, ◌++◌, Option, map, take, drop}
 use proofs.Common.{length, get_or, replicate, cond, refl, sym, ◌∙◌, ap, arith, w8, Fits, sum_by, zero, suc, slice_get}
 use proofs.Common.{option_map, sel_l, zip2, top, Each1, take-add, false≢true, map-append, tops_compared, zip2_splat}
 use proofs.Common.{zip2_of_maps, splat_is_map, Each1-from_get_or, shift_at, stretch_delta, pos, negsuc, filter, mask_of}
-use proofs.Common.{cast_unsigned, true, set, take_more_set, take-set, append-nil, add-one, sum_by-append}
-use proofs.Common.{sum_by-cons, range_delta, shift_by_ranges, ◌*◌, ◌/◌, ◌^◌, ◌&&◌, ◌||◌, ltb, eqb, ◌≢◌, ⊎_elim}
-use proofs.Common.{bit_or, bit_and, cast_signed, bit_at, from_bool, swz_l, SwzOk, SwzOk-from_below, pick_l}
-use proofs.Common.{get_or-drop, ◌-◌}
-use proofs.Common.{map-map, and_mask, lt-ltb, le-ltb, cases_eq, cases_lt, pow_pos, length-map, set-get_or}
-use proofs.Common.{get_or-set_same, table_has, set_has, IsSetOf, All, not, length-set, get_or-chunk, get_or-map, chunk}
-use proofs.Common.{ext_get_or, get_or_default, get_or_past, min, rules}
+use proofs.Common.{cast_unsigned, true, set, take_more_set, take-set, append-nil, add-one, sum_by-append, sum_by-cons}
+use proofs.Common.{range_delta, shift_by_ranges, ◌*◌, ◌/◌, ◌^◌, ◌&&◌, ◌||◌, ltb, eqb, ◌≢◌, ⊎_elim, bit_or, bit_and}
+use proofs.Common.{cast_signed, bit_at, from_bool, swz_l, SwzOk, SwzOk-from_below, pick_l, get_or-drop, ◌-◌, map-map}
+use proofs.Common.{and_mask, lt-ltb, le-ltb, cases_eq, cases_lt, pow_pos, length-map, set-get_or, get_or-set_same}
+use proofs.Common.{table_has, set_has, IsSetOf, All, not, length-set, get_or-chunk, get_or-map, chunk, ext_get_or}
+use proofs.Common.{get_or_default, get_or_past, min, rules}
 use Rattle.std.specs.Prelude.{is_some}
-use Rattle.ptflow.specs.declared.simd.shift.ShiftRange.{ShiftRange}
+use specs.declared.simd.shift.ShiftRange.{ShiftRange}
 use Rattle.ptlangs.specs.declared.tr.shifts.Stretch.{Stretch}
-use Rattle.std.proofs.lemmas.Nat.Bits.{and_pow, bit_at_set_same, bit_at_set_other}
+use lemmas.Nat.Bits.{and_pow, bit_at_set_same, bit_at_set_other}
 use Rattle.std.specs.Int.Bits.{or_zero_r}
-use Rattle.ptflow.specs.declared.simd.byte_set.ByteSet.{ByteSet}
-use Rattle.std.proofs.lemmas.Simd.{Each1-get_or, get_or-sel_l, length-sel_l}
-use Rattle.ptflow.specs.Private.Vectors.Tables.{image_from, lane_of, HasMoved}
-use Rattle.ptflow.specs.declared.simd.table.MovedRange.{MovedRange}
-pub use Rattle.std.proofs.lemmas.List.{map-id}
+use specs.declared.simd.byte_set.ByteSet.{ByteSet}
+use lemmas.Simd.{Each1-get_or, get_or-sel_l, length-sel_l}
+use specs.Private.Vectors.Tables.{image_from, lane_of, HasMoved}
+use specs.declared.simd.table.MovedRange.{MovedRange}
+pub use lemmas.List.{map-id}
 
 -- ---- lanes that are computed from bytes
 
@@ -86,8 +87,7 @@ pub one_stretch_more : (ranges : List ShiftRange) (ss : List Stretch) (i : ℕ) 
     → i < length ranges → range_sum (take i ranges) b ≡ stretch_sum (take i ss) b
     → range_delta range b ≡ stretch_delta (stretch_at ss i) b
     → range_sum (take (i + 1) (set ranges i range)) b ≡ stretch_sum (take (i + 1) ss) b
-one_stretch_more ranges ss i range b room before is =
-    grind (arith, common_steps, sum_by-append, add-one, stretch_taken)
+one_stretch_more ranges ss i range b room before is = grind (arith, common_steps, sum_by-append, add-one, stretch_taken)
 
 pub all_stretches : (n : ℕ) (ss : List Stretch) → is_some (stretch_at ss n) ≡ false → length ss ≤ n
 all_stretches n [] none = omega arith
@@ -174,10 +174,8 @@ pub tested : (set : ByteSet) (v : List ℕ) {low high bit : List ℕ} → length
     (zip2 bit_and (sel_l (map (top 7) (zip2 (λ a b. cond (ltb a b) 255 0) v (replicate 16 128))) low high) bit) bit)
     ≡ mask_of (set_has set) v
 tested set v long fit el eh eb =
-    let rows = sel_maps _ _ _ v
-    (tests_are ltb (λ b. b) v 128 long (sym (map-id v))) el eh in
-    ap (map (cast_signed w8)) (zip2_of_maps (λ a b. cond (eqb a b) 255 0) _ _ v
-    (zip2_of_maps bit_and _ _ v rows eb) eb)
+    let rows = sel_maps _ _ _ v (tests_are ltb (λ b. b) v 128 long (sym (map-id v))) el eh in
+    ap (map (cast_signed w8)) (zip2_of_maps (λ a b. cond (eqb a b) 255 0) _ _ v (zip2_of_maps bit_and _ _ v rows eb) eb)
     ∙ map-map (cast_signed w8) _ v
     ∙ bytes_same _ _ (byte_tested set) v fit
 
@@ -277,14 +275,12 @@ module _ (rows : List ℕ) (found : List (List ℕ)) (count : ℕ) where
         (sel_l (map (top 7) (zip2 (λ a b. cond (not (eqb a b)) 255 0) (zip2 bit_and rows (replicate 16 1))
         (replicate 16 0))) (get_or found second []) (get_or found (2 * i) [])))
     halved_next filled room within is =
-        let bits = tests_are (λ a b. not (eqb a b)) _ rows 0 long
-        (zip2_splat bit_and rows 16 1 long) in
+        let bits = tests_are (λ a b. not (eqb a b)) _ rows 0 long (zip2_splat bit_and rows 16 1 long) in
         filled_next filled room (cc is) (halved_long _ within)
 
     pub halved_lane : (lane : ℕ) → lane < 16 → get_or rows lane 0 < count
         → get_or (halved (get_or rows lane 0 / 2)) lane 0 ≡ lane_of found rows lane
-    halved_lane lane low within =
-        grind (arith, common_steps, get_or-sel_l)
+    halved_lane lane low within = grind (arith, common_steps, get_or-sel_l)
 
 -- ---- the images of 16 bytes
 

@@ -20,7 +20,7 @@ use crate::tools::uniq::block_runs::{LastRun, RunWriter};
 use crate::tools::uniq::line_key::key;
 use arrayvec::ArrayVec;
 use ptlangs::jobs::UniqJob;
-use ptlines::{LineReader, Out, Sink, Source, Store, WriteFault, find_byte};
+use ptlines::{LineReader, Out, Sink, Source, Store, WriteFault};
 use std::alloc::Allocator;
 
 // The current run: how many lines it has, and its first line if that was copied from a block. Otherwise the first slot
@@ -128,9 +128,6 @@ impl<'a> LineFilter for LineUniq<'a> {
         store: &Store<A>,
         out: &mut Out<W>,
     ) -> Result<usize, WriteFault> {
-        if find_byte(self.by.terminator, block).is_none() {
-            return Ok(0);
-        }
         let last = self
             .by
             .write_runs(self.run.count, self.first_line(store), block, out)?;

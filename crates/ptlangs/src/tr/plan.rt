@@ -170,15 +170,15 @@ impl CharPlan {
         let role = form.second_role();
         let unfilled = Contents::read(role, s2, 0)?;
         let fill = first.length.saturating_sub(unfilled.length);
-        let second = Contents::read(role, s2, fill)?;
+        let squeezed = match form {
+            Form::Translate => [false; 256],
+            _ => Contents::read(role, s2, fill)?.has,
+        };
         if let Form::DeleteSqueeze = form {
-            return Ok(CharPlan::new(first.has, identity(), second.has));
+            return Ok(CharPlan::new(first.has, identity(), squeezed));
         }
         let table = read_images(complement, s1, first, Bytes::new(role, s2, fill))?;
-        match form {
-            Form::TranslateSqueeze => Ok(CharPlan::new([false; 256], table, second.has)),
-            _ => Ok(CharPlan::new([false; 256], table, [false; 256])),
-        }
+        Ok(CharPlan::new([false; 256], table, squeezed))
     }
 
     /// Whether `byte` is deleted.

@@ -1,5 +1,6 @@
-use Rattle.ptlines.proofs.TextLaws.{the_lines, the_complete_lines}
-use Rattle.ptlines.proofs.lines_are_unique.Goals as goal
+use Rattle.ptlines.proofs
+use proofs.TextLaws.{the_lines, the_complete_lines}
+use proofs.lines_are_unique.Goals as goal
 
 pub returns : goal.returns
 returns c = record { unique = the_lines; eof = the_complete_lines }

@@ -2,36 +2,37 @@
 -- first separator, so a field starts where the split finds it. Joining undoes splitting, so the fields of a canonical
 -- line give the line back, and the fields after a field are the bytes after it.
 use Rattle.ptmerge.proofs
+use Rattle.ptmerge.specs
+use Rattle.std.proofs.lemmas
 use proofs.Common.{◌≡◌, ⊎_elim, false, ℕ, List, ◌++◌, Result, Ok, Err, IsErrAnd, true, Output, PushPost, PushEffect}
-use proofs.Common.{push_trans, ◌∷◌, refl, append_assoc, arith, length-drop, length-append, suc}
-use proofs.Common.{◌+◌, ◌-◌, ◌≤◌, Bool, [], Option, None, Some, length, drop, get_or, sym, ap, zero, ◌<◌, ◌==◌, cond}
-use proofs.Common.{position, MatchOption, filter, is_some, slice_split, nat_tests, is_blank, Lines}
-use proofs.Common.{is_separator, entry_with_list, remaining_fields, map, remove, unwrap_or, append-nil, flat_map-append}
-use proofs.Common.{Join, output_separator, entry, join_fields, other_fields, is_single_spaced, with_prefix, ◌^◌, eqb}
-use proofs.Common.{◌≢◌, ◌*◌, not, ◌&&◌, ◌∙◌}
-use Rattle.std.proofs.lemmas.Bool.{cases_Bool, eqb-true}
+use proofs.Common.{push_trans, ◌∷◌, refl, append_assoc, arith, length-drop, length-append, suc, ◌+◌, ◌-◌, ◌≤◌, Bool, []}
+use proofs.Common.{Option, None, Some, length, drop, get_or, sym, ap, zero, ◌<◌, ◌==◌, cond, position, MatchOption}
+use proofs.Common.{filter, is_some, slice_split, nat_tests, is_blank, Lines, is_separator, entry_with_list}
+use proofs.Common.{remaining_fields, map, remove, unwrap_or, append-nil, flat_map-append, Join, output_separator, entry}
+use proofs.Common.{join_fields, other_fields, is_single_spaced, with_prefix, ◌^◌, eqb, ◌≢◌, ◌*◌, not, ◌&&◌, ◌∙◌}
+use lemmas.Bool.{cases_Bool, eqb-true}
 use Rattle.ptlines.proofs.Push.{push_past_failure}
 use Rattle.std.specs.List.{flat_map, slice_range, prefix_len, join_with_byte, onto_first}
 use Rattle.std.proofs.Common.{rules, ◌/◌, bit_and, bit_or, replicate, take, ◌%◌, ◌||◌}
-use Rattle.std.proofs.lemmas.Grind.{common_steps}
-use Rattle.ptmerge.specs.Write.{WriteBytesPost}
-use Rattle.std.proofs.lemmas.List.{length-take-le, drop-map, map-id, take-map, drop-drop, length-map, take-append-drop}
-use Rattle.std.proofs.lemmas.List.Quantifiers.{position-Some}
+use lemmas.Grind.{common_steps}
+use specs.Write.{WriteBytesPost}
+use lemmas.List.{length-take-le, drop-map, map-id, take-map, drop-drop, length-map, take-append-drop}
+use lemmas.List.Quantifiers.{position-Some}
 use Rattle.ptlangs.specs.declared.outlist.OutField.{OutField}
-use Rattle.ptmerge.specs.declared.key_order.Span.{Span}
-use Rattle.std.proofs.lemmas.Simd.{mask_l-lt, trailing_mask_l}
+use specs.declared.key_order.Span.{Span}
+use lemmas.Simd.{mask_l-lt, trailing_mask_l}
 use Rattle.std.specs.Simd.Lanes.{chunk, mask_l, top, zip2}
 use Rattle.memchr.specs.Find.{is_byte, IsFirstByte}
 use Rattle.std.proofs.Math.Nat.{div-div-eq-div-mul, mul-lt-mul_of_pos_right, mul_assoc, one-le-pow}
 use Rattle.std.proofs.Math.Pow.{pow-add, pow-lt, pow_mono}
 use lib.Bits.{and_step, or_step, or_zero_l, or_zero_r, and_zero_l, or_shifted_r, and_mod, and_le_l, and_self, or_self}
 use lib.Count.{count_trailing_zeros}
-use Rattle.std.proofs.lemmas.List.Sums.{position_or_len_is}
+use lemmas.List.Sums.{position_or_len_is}
 use Rattle.ptlangs.proofs.ListElements.{split_around, split_whole}
-use Rattle.ptmerge.specs.Join.{or_filler, is_nonempty, field_named, nth_field}
-use Rattle.ptmerge.specs.JoinFields.{IsFieldAt, IsFieldFound, IsFirstPieceEnd, IsCanonical, IsFieldIn, IsPiece, around}
-use Rattle.ptmerge.specs.JoinFields.{is_evenly_separated, has_single_spaces}
-use Rattle.ptmerge.specs.KeySpan.{IsKeySpan}
+use specs.Join.{or_filler, is_nonempty, field_named, nth_field}
+use specs.JoinFields.{IsFieldAt, IsFieldFound, IsFirstPieceEnd, IsCanonical, IsFieldIn, IsPiece, around}
+use specs.JoinFields.{is_evenly_separated, has_single_spaces}
+use specs.KeySpan.{IsKeySpan}
 
 -- ---- writes
 
@@ -41,8 +42,7 @@ use Rattle.ptmerge.specs.KeySpan.{IsKeySpan}
 pub wrote_then : {a b c : Output} {xs ys : List ℕ} → (a.write_failed ≡ false → b.write_failed ≡ false)
     → PushEffect a b xs → PushEffect b c ys → PushEffect a c (xs ++ ys)
 wrote_then {a} {b} {c} {xs} {ys} clean p q =
-    ⊎_elim (λ fault. grind (arith, fault))
-    (λ fine. push_trans a b c xs ys (clean fine) p q) (cases_Bool _)
+    ⊎_elim (λ fault. grind (arith, fault)) (λ fine. push_trans a b c xs ys (clean fine) p q) (cases_Bool _)
 
 pub then_pushes : {E : Type 0} {a b c : Output} {xs ys : List ℕ} {r : Result (Unit {0}) E}
     → (a.write_failed ≡ false → b.write_failed ≡ false) → PushEffect a b xs → PushPost b c ys r
@@ -86,8 +86,7 @@ module _ {E : Type 0} {r : Result (Unit {0}) E} (P : E → Type 0) (err_is : IsE
 
 pub partial_more : {was is new : Output} {all bytes now left : List ℕ} → now ≡ bytes ++ left
     → PartialWrite was is all now → PushEffect is new bytes → new.write_failed ≡ false → PartialWrite was new all left
-partial_more e a wrote clean = partial_first (grind (arith, common_steps))
-    (wrote_then a.clean a.wrote wrote) clean
+partial_more e a wrote clean = partial_first (grind (arith, common_steps)) (wrote_then a.clean a.wrote wrote) clean
 
 pub partial_ends : {E : Type 0} {r : Result (Unit {0}) E} {was is new : Output} {all bytes now : List ℕ} → now ≡ bytes
     → PartialWrite was is all now → WriteBytesPost is new bytes r → WriteBytesPost was new all r
@@ -244,16 +243,12 @@ single_spaced_words true (b ∷ bytes) tidy =
 single_spaced_words false [] tidy = λ c. refl
 single_spaced_words false (b ∷ bytes) tidy =
     λ c.
-    let more = λ (h : is_single_spaced false bytes ≡ true). word_more c b _
-    (single_spaced_words false bytes h b) in
+    let more = λ (h : is_single_spaced false bytes ≡ true). word_more c b _ (single_spaced_words false bytes h b) in
     grind (arith, more, single_spaced_words true bytes)
 
 -- ---- canonical lines
 
 module _ (job : Join) (key : List ℕ) (none : job.list ≡ None) where
-  abbrev prefix : ℕ
-  prefix = output_separator job.separator
-
   abbrev of : List ℕ → Lines
   of line = join_fields job.separator line
 
@@ -421,8 +416,7 @@ ends_mask test bytes n first all few =
     let tail : map test (chunk last n bytes) ≡ drop last bits = grind (arith, common_steps, drop-map) in
     let size : length (drop last bits) ≡ n = grind (arith, common_steps) in
     let small = fits (mask_l (drop last bits)) n last (rw size at (mask_l-lt (drop last bits))) (omega arith) in
-    let whole : mask_l (drop last bits) * 2 ^ last % 2 ^ 64 ≡ 2 ^ last * mask_l (drop last bits) =
-    omega arith in
+    let whole : mask_l (drop last bits) * 2 ^ last % 2 ^ 64 ≡ 2 ^ last * mask_l (drop last bits) = omega arith in
     cc (take-map _ n _, tail, or_ends last n _ (omega arith))
   where
     fits : (m n last : ℕ) → m < 2 ^ n → n + last ≤ 64 → m * 2 ^ last < 2 ^ 64
@@ -516,8 +510,7 @@ top_bit (suc n) blank (b ∷ v) size spaced =
 pub chunk_spaced : (blank : Bool) (bytes : List ℕ) (at : ℕ) → at + 64 ≤ length bytes
     → is_single_spaced blank (drop at bytes) ≡ cond (has_single_spaces blank (chunk at 64 bytes))
     (is_single_spaced (last_blank blank (chunk at 64 bytes)) (drop (at + 64) bytes)) false
-chunk_spaced blank bytes at room =
-    rw (← spaced_append, ← drop-drop 64 at bytes, take-append-drop 64 (drop at bytes))
+chunk_spaced blank bytes at room = rw (← spaced_append, ← drop-drop 64 at bytes, take-append-drop 64 (drop at bytes))
 
 pub bit_is : (b : Bool) → (bit b == 1) ≡ b
 bit_is = grind arith

@@ -2,32 +2,33 @@
 -- are written in their final order, so output during a group is a prefix of the output for all inputs. Once both inputs
 -- are past the key, the group counts as processed.
 use Rattle.ptmerge.proofs
+use Rattle.ptmerge.specs
+use Rattle.std.proofs.lemmas
 pub use proofs.Common.{◌≡◌, ⊎_elim, ℕ, ◌+◌, ◌-◌, ◌≤◌, ◌<◌, suc, true, false, length-drop, List, [], ◌∷◌, ◌++◌, length}
 pub use proofs.Common.{map, drop, get_or, set, max, refl, ap, ◌∙◌, arith, append_assoc, length-append, length-set}
 pub use proofs.Common.{drop_more, Slots, line, total_bytes, with_line, with_denied, unlines, max_length, Join}
-pub use proofs.Common.{ClearGroupPost, group, CopyToGroupPost, entry, join_fields, pair_entries}
-pub use proofs.Common.{Lines, lines_with_key, Reader, Side, First, Second, Sorted}
-pub use proofs.Common.{Key, with_side, MergeTool, ◌&&◌, Bool, Some, sym, subst, bytes_eq, bytes_decides, append-nil}
-pub use proofs.Common.{Output, PushEffect, push_trans, unlines-append, CursorStatus, Head, Ended, Disorder}
-pub use proofs.Common.{entries_by_key, MergeState, NextOkPost, other, PrecedesInput, disorder}
-pub use proofs.Common.{merged_entries, sorted_prefixes, is_up_to, line_of_with_line}
+pub use proofs.Common.{ClearGroupPost, group, CopyToGroupPost, entry, join_fields, pair_entries, Lines, lines_with_key}
+pub use proofs.Common.{Reader, Side, First, Second, Sorted, Key, with_side, MergeTool, ◌&&◌, Bool, Some, sym, subst}
+pub use proofs.Common.{bytes_eq, bytes_decides, append-nil, Output, PushEffect, push_trans, unlines-append}
+pub use proofs.Common.{CursorStatus, Head, Ended, Disorder, entries_by_key, MergeState, NextOkPost, other}
+pub use proofs.Common.{PrecedesInput, disorder, merged_entries, sorted_prefixes, is_up_to, line_of_with_line}
 use proofs.JoinLemmas.Fields.{partial_starts}
 pub use proofs.MergeLemmas.{total_within, low_slot, same_bytes, AtLeast, all_keys, at_current_line, both_begun, IsAbove}
 pub use proofs.MergeLemmas.{EndsIfFails}
 use proofs.MergeLemmas.{line_other, HasLines, GroupStore, AllExtend, HasRoom, side_extends, group_store_next, put_each}
 use proofs.MergeLemmas.{put_same, put_both, put_other, side_case, EachKey, Bound, MayFollow, IsUnder, MergeInvariant}
 use proofs.MergeLemmas.{IsFuture, MayCome, write_least_run, all_wanted, written_is_wanted, LagInvariant, IsLater}
-use proofs.MergeLemmas.{EachKey-append, front_is, later_entries, lines_with_key-above, Each-weaker}
-use proofs.MergeLemmas.{AtMost, self_at_most, equal_is, SideAfterNext, IsAtCurrentLine, MatchesStatus}
-use proofs.MergeLemmas.{read_facts_after_line, IsOpenMerge, ReadFactsOf, SidesInvariant}
-use proofs.MergeLemmas.{current_key_is_above, next_at, sides_next, advance_fails}
-use Rattle.std.proofs.lemmas.Grind.{common_steps}
+use proofs.MergeLemmas.{EachKey-append, front_is, later_entries, lines_with_key-above, Each-weaker, AtMost}
+use proofs.MergeLemmas.{self_at_most, equal_is, SideAfterNext, IsAtCurrentLine, MatchesStatus, read_facts_after_line}
+use proofs.MergeLemmas.{IsOpenMerge, ReadFactsOf, SidesInvariant, current_key_is_above, next_at, sides_next}
+use proofs.MergeLemmas.{advance_fails}
+use lemmas.Grind.{common_steps}
 pub use Rattle.std.proofs.Common.{rules}
-use Rattle.std.proofs.lemmas.List.{drop-set-add, set_at, take_at, take_more}
-use Rattle.std.proofs.lemmas.List.Sums.{sum_by-append, sum_by-cons, sum_by_push}
+use lemmas.List.{drop-set-add, set_at, take_at, take_more}
+use lemmas.List.Sums.{sum_by-append, sum_by-cons, sum_by_push}
 use Rattle.ptlines.proofs.SlotTotals.{total_bytes_set}
-use Rattle.ptmerge.specs.JoinGroup.{EnsureSlotPost, CopyToGroupErrPost, is_head}
-pub use Rattle.ptmerge.specs.Join.{max_over_keys, max_group_bytes, max_group_lines}
+use specs.JoinGroup.{EnsureSlotPost, CopyToGroupErrPost, is_head}
+pub use specs.Join.{max_over_keys, max_group_bytes, max_group_lines}
 
 -- ---- the slots of a group
 
@@ -36,8 +37,7 @@ pub use Rattle.ptmerge.specs.Join.{max_over_keys, max_group_bytes, max_group_lin
 
 pub group_from : (store : Slots) (end slot : ℕ) → end ≤ length store.lines → slot < end
     → group store slot end ≡ line store slot ∷ group store (slot + 1) end
-group_from store end slot fits low =
-    grind (arith, drop_more store.lines slot [])
+group_from store end slot fits low = grind (arith, drop_more store.lines slot [])
 
 pub group_more : (store : Slots) (from end : ℕ) → from ≤ end → end < length store.lines
     → group store from (end + 1) ≡ group store from end ++ line store end ∷ []
@@ -85,8 +85,7 @@ record EnsuredSlot (before made : Slots) (slot : ℕ) : Type 0 where
 
 ensured_slot : (before made : Slots) (slot : ℕ) → EnsureSlotPost before made slot → EnsuredSlot before made slot
 ensured_slot before made slot g =
-    ⊎_elim (λ e. let more : Lines = [] in grind (arith, common_steps))
-    (λ e. grind (arith, common_steps)) g.grown
+    ⊎_elim (λ e. let more : Lines = [] in grind (arith, common_steps)) (λ e. grind (arith, common_steps)) g.grown
 
 pub failed_copy : (before made : Slots) (to : ℕ) → EnsureSlotPost before made to
     → CopyToGroupErrPost before (with_denied (with_line made to [])) to
@@ -245,8 +244,7 @@ module _ {tool : MergeTool} {old : MergeState} (w : IsOpenMerge tool old) {mid :
     parts : (w : List ℕ → Bool) → entries_by_key tool w (sorted_prefixes tool all) ≡ entries_by_key tool w
         p ++ entries_by_key tool w (λ side. g side ++ coming side)
     parts w = (λ i. entries_by_key tool w (λ side. ((seen side).is ∙ append_assoc (p side) (g side) (coming side)) i))
-        ∙ m.merge_invariant.splits w (λ side. g side ++ coming side)
-        (λ side. rest_not_less _ _ (seen side).may_follow)
+        ∙ m.merge_invariant.splits w (λ side. g side ++ coming side) (λ side. rest_not_less _ _ (seen side).may_follow)
 
     wanted : (x : List ℕ) → AtMost cmp x k → is_up_to cmp (disorder tool all) x ≡ true
     wanted = search (rules, written_is_wanted)
@@ -336,8 +334,7 @@ module _ (call : JoinCall) {mid : Output} {p g : Side → Lines} {d : Side → B
   -- the pairs of a group come first, for all lines of its key that the first input still has
   starts_pairs : (f c s : Lines) → 0 < length s → (rest : Lines) × (entries k (f ++ c) s ≡ pairs k f s ++ rest)
   starts_pairs [] c s some = (entries k c s, rw (laws.none k s))
-  starts_pairs (a ∷ f) c s some =
-      (pairs k c s, grind arith)
+  starts_pairs (a ∷ f) c s some = (pairs k c s, grind arith)
 
   pub starts_none : OutputStartsWith tool g d k []
   starts_none = record { rest = λ w r c wanted. (entries_by_key tool w (λ side. g side ++ r side), refl) }
@@ -382,8 +379,7 @@ module _ (call : JoinCall) {mid : Output} {p g : Side → Lines} {d : Side → B
       some_text : (xs ys : Lines) → 0 < length ys
           → ¬ (unlines call.terminator xs ≡ unlines call.terminator (xs ++ ys))
       some_text xs [] none same = absurd (omega arith)
-      some_text xs (y ∷ ys) some same =
-          absurd (omega (arith, simp (unlines-append, length-append) at (ap length same)))
+      some_text xs (y ∷ ys) some same = absurd (omega (arith, simp (unlines-append, length-append) at (ap length same)))
 
   -- a group is complete if only greater keys follow
   pub closes : {is : Output} → ((side : Side) → 0 < length (g side))
@@ -445,7 +441,7 @@ module _ {call : JoinCall} {now : MergeState} {cursor : Side → Sorted} {end : 
   pub end_in : (4 ≤ end) × (end ≤ length now.store.lines)
   end_in = (omega arith, end_within q.keeps q.at)
 
-  -- if these lines of the group are processed
+  -- what was read, if these lines of the group count as processed
   abbrev pub FactsWith : (Side → Lines) → Side → Type 0
   FactsWith lines side = ReadFactsOf tool old now.reader q.ls (λ t. q.p t ++ lines t) q.d side (now.reader side) []
 
@@ -492,8 +488,7 @@ module _ {call : JoinCall} {now : MergeState} {cursor : Side → Sorted} {end : 
 
   pub group_breaks : {out : Output} {extra : Lines} → OutputStartsWith tool added q.d k extra
       → PushEffect q.mid out (unlines call.terminator extra) → EndsIfFails tool old now s (cursor s) out
-  group_breaks begins wrote = advance_fails w now (cursor s)
-      {p = λ t. q.p t ++ added t} passing_now all_processed
+  group_breaks begins wrote = advance_fails w now (cursor s) {p = λ t. q.p t ++ added t} passing_now all_processed
       (λ r piece free. both_begun (λ side. (q.sides side).begun)) q.keeps (q.sides s).slots
       (group_written w within_more begins wrote)
 

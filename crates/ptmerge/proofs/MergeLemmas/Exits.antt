@@ -2,17 +2,13 @@
 -- others are known for each input; the contract of the tool follows from these and from the output.
 pub mod Invariant
 pub mod SlotLines
-use Rattle.std.proofs.lemmas.Grind.{common_steps}
-use Rattle.std.proofs.Common.{rules}
-use Rattle.std.proofs.Common.{arith}
 use Rattle.ptmerge.proofs
-pub use proofs.Common.{⊎_elim, inl, IsPrefix, both_sides, nat_tests, length_push, line_of_with_line}
-pub use proofs.Common.{CursorStatus, Head, Ended, Disorder, status_at, same_key_at, NextOkPost, Result, Err, Memory}
-pub use proofs.Common.{advance_trans, MergeFault, Write, lines_of, MergeState, MergePost}
-pub use proofs.Common.{merge_state, terminator, merge_engine, merge_end}
+use Rattle.ptmerge.specs
+pub use proofs.Common.{⊎_elim, inl, IsPrefix, both_sides, nat_tests, length_push, line_of_with_line, CursorStatus, Head}
+pub use proofs.Common.{Ended, Disorder, status_at, same_key_at, NextOkPost, Result, Err, Memory, advance_trans, Write}
+pub use proofs.Common.{MergeFault, lines_of, MergeState, MergePost, merge_state, terminator, merge_engine, merge_end}
 use Rattle.ptlines.proofs.LineSearch.{IsLine-append}
-use Rattle.ptmerge.specs.MergeSpec.{decided_output, decided_entries, lines_decide_disorder, merge_output}
-use Rattle.ptmerge.specs.MergeSpec.{disorder_is_decided}
+use specs.MergeSpec.{decided_output, decided_entries, lines_decide_disorder, merge_output, disorder_is_decided}
 use Rattle.ptlines.proofs.Calls.{call_ends, call_set, call_without_slots, given_before, given_by, CallProgress}
 use Rattle.ptlines.proofs.Calls.{DecidedIfReadFailed, call_on_failed_output}
 use Rattle.std.proofs.lemmas.List.{append_cancel_right, map-append}
@@ -22,17 +18,15 @@ use Rattle.ptlines.proofs.TextLaws.{complete_lines_of_unlines, the_lines}
 use Rattle.ptlines.specs.Lag.{LaggedInput, ProcessLag}
 pub use Rattle.ptlines.specs.Calls.{CallOutcome, with_input}
 pub use Rattle.ptlines.proofs.Calls.{reads_nothing}
-pub use Rattle.ptmerge.specs.MergeSlots.{EnsureFourSlotsErrPost}
+pub use specs.MergeSlots.{EnsureFourSlotsErrPost}
 pub use Invariant.*
 pub use SlotLines.*
 
--- ---- bounded lag
+-- ---- bounded lag: lines in order
 
 -- Leave out the buffered bytes, at most a block, and the terminator of a line that is not yet processed: the complete
 -- lines that remain are all processed. No key below the last of these can follow in either input, so with any content
 -- of the other input they decide only output that is written.
-
--- ---- lines in order
 
 sorted_from_after : (cmp : Cmp) (key : Key) (last : Option (List ℕ)) (ls : Lines)
     → IsSortedFrom cmp key last (sorted_after cmp key last ls)
@@ -43,8 +37,7 @@ sorted_from_parts : (cmp : Cmp) (key : Key) (last : Option (List ℕ)) (xs ys : 
     → IsSortedFrom cmp key last (xs ++ ys) → IsSortedFrom cmp key last xs
     × IsSortedFrom cmp key (last_or last (map key xs)) ys
 sorted_from_parts cmp key last [] ys r = (tt, r)
-sorted_from_parts cmp key last (x ∷ xs) ys (here, more) =
-    grind (arith, sorted_from_parts cmp key _ xs ys more)
+sorted_from_parts cmp key last (x ∷ xs) ys (here, more) = grind (arith, sorted_from_parts cmp key _ xs ys more)
 
 module _ (cmp : Cmp) (o : IsKeyOrder cmp) (key : Key) where
   from_key : (k : List ℕ) (ls : Lines) → IsSortedFrom cmp key (Some k) ls → EachKey (AtMost cmp k) key ls
@@ -165,14 +158,12 @@ module _ (tool : MergeTool) (o : IsKeyOrder tool.cmp) (eof : Side → Bool) (ls 
 
   pub decided_of_passed : (p : Side → Lines) → ((side : Side) → Differ tool (last_or None (map (tool.key of) (ls of)))
       (tool.key side) (sorted_prefix cmp (tool.key side) (ls side)) (p side))
-      → IsPrefix (unlines terminator (decided_entries tool eof ls))
-      (output_of tool p)
+      → IsPrefix (unlines terminator (decided_entries tool eof ls)) (output_of tool p)
   decided_of_passed p differ =
       let dec = is_decided tool eof ls in
       let down = downward_decided tool o eof ls in
       let rest = entries_by_key tool (λ k. not (dec k)) p in
-      let is = downward_splits tool o all_keys
-      dec down p in
+      let is = downward_splits tool o all_keys dec down p in
       let none = λ (side : Side) (l : Lines) (e : EachKey _ (tool.key side) l). kept_none dec (tool.key side) l
       (Each-weaker _ _ undecided _ e) in
       -- the lists differ only in lines that are left out
@@ -413,16 +404,14 @@ module _ (tool : MergeTool) (o : IsKeyOrder tool.cmp) (s : Side) (old now new : 
         → (t : Bool) → is_disordered cmp last (own e.line) ≡ t
         → Goal last (next_cursor (cond t (Disorder (cursor.number + 1)) Head) (cursor.number + 1) same)
     at_line last sorted_up_to is false none =
-        let more : IsSortedUpTo cmp own (ls ++ e.line ∷ []) (Some (own e.line)) =
-        grind (arith, common_steps) in
+        let more : IsSortedUpTo cmp own (ls ++ e.line ∷ []) (Some (own e.line)) = grind (arith, common_steps) in
         at_status _ _ _ (grind (arith, common_steps, after_from))
         (grind (arith, line_of_with_line)) (from_next o own _ _ none)
     at_line None sorted_up_to is true disordered = cc
     at_line (Some k) sorted_up_to is true disordered =
         at_status (Some k) (Disorder (cursor.number + 1))
         (AfterDisorder (record { last_key = k; line = length ls + 1 }))
-        (grind (arith, common_steps)) (grind (arith, line_other, low))
-        (grind arith)
+        (grind (arith, common_steps)) (grind (arith, line_other, low)) (grind arith)
 
   pub next_invariant : {last : Option (List ℕ)} → LinesRead tool.terminator old now ls → cursor.number ≡ length ls
       → IsSortedUpTo cmp own ls last → IsLastKey own last cursor before
@@ -431,10 +420,8 @@ module _ (tool : MergeTool) (o : IsKeyOrder tool.cmp) (s : Side) (old now new : 
       rw (e.cursor, status_after_next cmp own last cursor before e.next_line.line is)
       (at_line e.next_line e.sound lines_read number _ _ sorted_up_to is _ refl)
   next_invariant lines_read number sorted_up_to is (inr e) =
-      rw e.cursor (at_next _ [] [] Ended cursor.number false NothingMore
-      (search rules) (inl e.done) e.sound
-      (inl (append-nil ls)) (simp append-nil number) (grind (arith, common_steps))
-      (refl, e.done)
+      rw e.cursor (at_next _ [] [] Ended cursor.number false NothingMore (search rules) (inl e.done) e.sound
+      (inl (append-nil ls)) (simp append-nil number) (grind (arith, common_steps)) (refl, e.done)
       (grind (arith, may_follow_none))
       e.empty (omega arith))
 
@@ -450,6 +437,7 @@ group_store_next s cursor slots k n = search (rules, group_store_line, side_exte
 abbrev pub state_by_side : (Side → Reader) → Output → Slots → MergeState
 state_by_side reader out store = record { reader = reader; out = out; store = store }
 
+-- a read failed: nothing is buffered, no end was reached, and all lines are processed
 pub record IsFailedRead (new : Reader) (ls p : Lines) : Type 0 where
   pub buffered : new.buffered ≡ []
   pub eof : new.eof ≡ false
@@ -621,8 +609,7 @@ module _ {tool : MergeTool} {old : MergeState} (w : IsOpenMerge tool old) (new :
         by other = tt
 
         has_line : (side : Side) → HasBegun (now side) (ls side) → ¬ HasNoLine tool.terminator (given side)
-        has_line side begun none =
-            begun_gives_line (g side).lines_read (g side).reads (g side).line begun none
+        has_line side begun none = begun_gives_line (g side).lines_read (g side).reads (g side).line begun none
 
 -- ---- the ends before the start
 
@@ -670,8 +657,7 @@ merge_without_slots {tool} {old} w {new} same_output unread slots =
     record {
       call = call_without_slots both_sides (merge_engine tool) old new w.writable same_output (search rules)
           (λ side none. cc) (λ side read. w.sound side) (λ side read. w.unfailed side) slots.denied slots.peak
-          slots.least
-          slots.few (λ texts. omega arith)
+          slots.least slots.few (λ texts. omega arith)
           (λ side read. decided_by w.o (given_before old) lag seen side (point side)
           (with_input both_sides side (point side).before.earlier (given_before old)) (grind arith) (grind arith));
       stops_at_disorder = λ side clean. unsettled w.o (given_before old) lag seen side (point side);

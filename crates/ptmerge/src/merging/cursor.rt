@@ -21,9 +21,10 @@ pub enum CursorStatus {
 }
 
 // An input of a merge, with its order check. `same` is true if the current line has the key of the previous one,
-// `current_slot` and `previous_slot` are the slots of these two lines, `number` is the count of lines read, and `key` is
-// the span of the key in the current line. The reader is passed to each call that reads. (`same` comes first for speed:
-// the compiler splits the first field of a merge, since a result of `Merge::start` keeps a fault in the same bytes.)
+// `current_slot` and `previous_slot` are the slots of these two lines, `number` is the count of lines read, and `key`
+// is the span of the key in the current line. The reader is passed to each call that reads. (`same` comes first for
+// speed: the compiler splits the first field of a merge, since a result of `Merge::start` keeps a fault in the same
+// bytes.)
 #[derive(Clone, Copy, Drop)]
 pub struct Sorted {
     pub same: bool,
@@ -47,12 +48,10 @@ fn status_at(number: u64, is_disordered: bool) -> CursorStatus
 }
 
 impl Sorted {
-    // Returns the state of an input before its first line. `reader` is used only for its invariant.
-    pub fn unread<S: Source, R: Source>(side: Side, reader: &LineReader<S, R>) -> Sorted
-        ensures cursor { result ≡ initial_cursor side }
-        ensures sound { IsSound reader.now }
+    // Returns the state of an input before its first line.
+    pub fn unread(side: Side) -> Sorted
+        ensures { result ≡ initial_cursor side }
     {
-        let _refused = reader.is_refused();
         let previous_slot = match side {
             Side::First => 0,
             Side::Second => 2,
@@ -67,7 +66,8 @@ impl Sorted {
         }
     }
 
-    // Reads the next line, compares its key with the previous key, and makes it the current line.
+    // Reads the next line, compares its key with the previous key, and makes it the current line. `was_sound` is the
+    // invariant of the reader, which its caller does not know before the first line.
     #[inline(always)]
     pub fn next<K: KeyOrder, A: Allocator + Copy, S: Source, R: Source>(
         &mut self,
@@ -81,6 +81,7 @@ impl Sorted {
             NextPost key (K.order order.now) side self.old self.new reader.old reader.new store.old store.new result }
         ensures slots { length store.new.lines ≡ length store.old.lines }
         ensures cursor_valid { OnOk result (IsValidCursor (K.key_of order.now side) self.new store.new) }
+        ensures was_sound { IsSound reader.old }
     {
         std::mem::swap(&mut self.current_slot, &mut self.previous_slot);
         match reader.fill(store, self.current_slot) {

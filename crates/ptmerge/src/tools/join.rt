@@ -1,7 +1,7 @@
 //! The engine of `join`: a merge that keeps the second input's lines of one key at a time, if it writes pairs.
 //!
-//! `key_group` copies these lines, `fields` splits a line into fields, `output` writes an output line, and `words`
-//! searches for blanks.
+//! `field_keys` is the order of lines by their join fields, and `key_group` copies the lines of a key. `fields` splits
+//! a line into fields, `output` writes an output line, and `words` searches for blanks.
 
 ghost use Rattle.std.specs.Prelude.{◌≡◌, ℕ, List, ◌∷◌, []};
 ghost use Rattle.ptlangs.specs.Jobs.{join_job};
@@ -18,16 +18,18 @@ ghost use Rattle.ptmerge.specs.Write.{WriteBytesPost};
 ghost use Rattle.ptmerge.specs.Sides.{both};
 ghost use Rattle.ptmerge.specs.declared.key_order.Side.TheVariants as sides;
 
-pub(crate) mod fields;
+mod field_keys;
+mod fields;
 mod key_group;
 mod output;
 mod words;
 
 use crate::faults::MergeFault;
 use crate::key_order::Side::{First, Second};
-use crate::key_order::{Descending, FieldKeys, KeyOrder, Side};
+use crate::key_order::{Descending, KeyOrder, Side};
 use crate::merging::four_slots::clear_four_slots;
 use crate::merging::{Merge, Step};
+use crate::tools::join::field_keys::FieldKeys;
 use crate::tools::join::key_group::{clear_group, group_slots, read_group_line};
 use crate::tools::join::output::write_entry;
 use ptlangs::jobs::JoinJob;

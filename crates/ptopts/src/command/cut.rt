@@ -1,5 +1,4 @@
-//! Makes the command of `cut`, which is its job and its inputs, from parsed options and operands. `command` calls
-//! `cut_command`.
+//! Reads the job of `cut` from parsed options. `command` calls `cut_job`.
 
 ghost use Rattle.std.specs.Prelude.{◌≡◌, None, Err, All, IfOk, IsSome, codes, option_map};
 ghost use Rattle.ptlangs.specs.CutLists.{is_selected};
@@ -8,14 +7,11 @@ ghost use Rattle.ptopts.specs.declared.tool.Tool.TheVariants.{Cut};
 ghost use Rattle.ptopts.specs.Args.{value_of};
 ghost use Rattle.ptopts.specs.Faults.{value_fault, constraints_fault, is_cut_list};
 ghost use Rattle.ptopts.specs.Commands as commands;
-ghost use Rattle.ptopts.specs.Commands.{selected_set, checked_command, values_fault};
-ghost use Rattle.ptopts.specs.View.{CommandPost};
-ghost use Rattle.ptopts.specs.ParseSteps.{CheckThenMemoryPost, CheckOrMemoryPost, options_of, operands_of};
+ghost use Rattle.ptopts.specs.Commands.{selected_set, values_fault};
+ghost use Rattle.ptopts.specs.ParseSteps.{CheckThenMemoryPost, CheckOrMemoryPost, options_of};
 
-use crate::command::Command;
 use crate::fault::UseFault;
 use crate::parsing::ParsedArgs;
-use crate::tool::Tool;
 use crate::values::list_fault;
 use ptlangs::jobs::CutJob;
 use ptlangs::ranges::{ListFault, Ranges};
@@ -39,7 +35,7 @@ impl<'a, A: Allocator + Copy> ParsedArgs<'a, A> {
     }
 
     /// The job of `cut`.
-    fn cut_job(&self, alloc: A) -> Result<CutJob<A>, UseFault<'a>>
+    pub(crate) fn cut_job(&self, alloc: A) -> Result<CutJob<A>, UseFault<'a>>
         requires { constraints_fault Cut (options_of self.now) ≡ None }
         ensures fault { CheckOrMemoryPost result (values_fault Cut (options_of self.now)) }
         ensures memory { result ≡ Err UseFault.Memory
@@ -57,14 +53,5 @@ impl<'a, A: Allocator + Copy> ParsedArgs<'a, A> {
             only: self.has(b's'),
             zero: self.has(b'z'),
         })
-    }
-
-    /// The command of `cut`.
-    pub(crate) fn cut_command(&self, alloc: A) -> Result<Command<'a, A>, UseFault<'a>>
-        requires { constraints_fault Cut (options_of self.now) ≡ None }
-        ensures { CommandPost result (checked_command Cut (options_of self.now) (operands_of self.now)) }
-    {
-        let job = self.cut_job(alloc)?;
-        Ok(Command::Cut(job, self.read_inputs(alloc, Tool::Cut)?))
     }
 }

@@ -1,5 +1,4 @@
-//! Makes the command of `join`, which is its job and its inputs, from parsed options and operands. `command` calls
-//! `join_command`.
+//! Reads the job of `join` from parsed options. `command` calls `join_job`.
 
 ghost use Rattle.std.specs.Prelude.{◌≡◌, None, IfOk, slice_index_or, false, unwrap_or, codes, option_map, []};
 ghost use Rattle.std.specs.Str.{byte};
@@ -8,15 +7,12 @@ ghost use Rattle.ptopts.specs.declared.tool.Tool.TheVariants.{Join};
 ghost use Rattle.ptopts.specs.Args.{value_of};
 ghost use Rattle.ptopts.specs.Faults.{value_fault, each_value_fault, is_file_number, is_field_number, is_output_list};
 ghost use Rattle.ptopts.specs.Commands as commands;
-ghost use Rattle.ptopts.specs.Commands.{names_file, number_value, fields_of, checked_command, values_fault};
-ghost use Rattle.ptopts.specs.View.{CommandPost};
-ghost use Rattle.ptopts.specs.ParseSteps.{CheckPost, CheckThenMemoryPost, CheckOrMemoryPost, options_of, operands_of};
+ghost use Rattle.ptopts.specs.Commands.{names_file, number_value, fields_of, values_fault};
+ghost use Rattle.ptopts.specs.ParseSteps.{CheckPost, CheckThenMemoryPost, CheckOrMemoryPost, options_of};
 ghost use Rattle.ptopts.specs.ParseSteps.{options_view};
 
-use crate::command::Command;
 use crate::fault::UseFault;
 use crate::parsing::{ParsedArgs, ParsedOption};
-use crate::tool::Tool;
 use crate::values::list_fault;
 use ptlangs::jobs::JoinJob;
 use ptlangs::numbers;
@@ -87,7 +83,7 @@ impl<'a, A: Allocator + Copy> ParsedArgs<'a, A> {
     }
 
     /// The job of `join`.
-    fn join_job(&self, alloc: A) -> Result<JoinJob<A>, UseFault<'a>>
+    pub(crate) fn join_job(&self, alloc: A) -> Result<JoinJob<A>, UseFault<'a>>
         ensures fault { CheckOrMemoryPost result (values_fault Join (options_of self.now)) }
         ensures memory { result ≡ Err UseFault.Memory
             → value_fault (options_of self.now) (byte "o", is_output_list) ≡ None }
@@ -109,13 +105,5 @@ impl<'a, A: Allocator + Copy> ParsedArgs<'a, A> {
             zero: self.has(b'z'),
             descending: self.has(b'r'),
         })
-    }
-
-    /// The command of `join`.
-    pub(crate) fn join_command(&self, alloc: A) -> Result<Command<'a, A>, UseFault<'a>>
-        ensures { CommandPost result (checked_command Join (options_of self.now) (operands_of self.now)) }
-    {
-        let job = self.join_job(alloc)?;
-        Ok(Command::Join(job, self.read_inputs(alloc, Tool::Join)?))
     }
 }

@@ -1,18 +1,14 @@
-//! Makes the command of `tr`, which is its job and its inputs, from parsed options and operands. `command` calls
-//! `tr_command`.
+//! Reads the plan of `tr`, which is its job, from parsed options and operands. `command` calls `char_plan`.
 
 ghost use Rattle.std.specs.Prelude.{◌≡◌, IfOk, None, slice_get, option_copied};
 ghost use Rattle.ptopts.specs.declared.tool.Tool.TheVariants.{Tr};
 ghost use Rattle.ptopts.specs.Faults as faults;
 ghost use Rattle.ptopts.specs.Faults.{form_of_options, operands_fault, strings_fault};
-ghost use Rattle.ptopts.specs.Commands.{char_tables, checked_command};
-ghost use Rattle.ptopts.specs.View.{CommandPost};
+ghost use Rattle.ptopts.specs.Commands.{char_tables};
 ghost use Rattle.ptopts.specs.ParseSteps.{CheckPost, options_of, operands_of};
 
-use crate::command::Command;
 use crate::fault::UseFault;
 use crate::parsing::ParsedArgs;
-use crate::tool::Tool;
 use ptlangs::{CharPlan, Form};
 use std::alloc::Allocator;
 
@@ -48,7 +44,7 @@ impl<'a, A: Allocator + Copy> ParsedArgs<'a, A> {
     }
 
     /// The plan for each byte.
-    fn char_plan(&self) -> Result<CharPlan, UseFault<'a>>
+    pub(crate) fn char_plan(&self) -> Result<CharPlan, UseFault<'a>>
         requires { operands_fault Tr (options_of self.now) (operands_of self.now) ≡ None }
         ensures fault { CheckPost result (strings_fault Tr (options_of self.now) (operands_of self.now)) }
         ensures plan { IfOk result (λ p. p ≡ char_tables (options_of self.now) (operands_of self.now)) }
@@ -60,13 +56,5 @@ impl<'a, A: Allocator + Copy> ParsedArgs<'a, A> {
             self.second(),
         )?;
         Ok(plan)
-    }
-
-    /// The command of `tr`.
-    pub(crate) fn tr_command(&self, alloc: A) -> Result<Command<'a, A>, UseFault<'a>>
-        ensures { CommandPost result (checked_command Tr (options_of self.now) (operands_of self.now)) }
-    {
-        let inputs = self.read_inputs(alloc, Tool::Tr)?;
-        Ok(Command::Tr(self.char_plan()?, inputs))
     }
 }

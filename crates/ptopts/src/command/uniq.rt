@@ -1,18 +1,14 @@
-//! Makes the command of `uniq`, which is its job and its inputs, from parsed options and operands. `command` calls
-//! `uniq_command`.
+//! Reads the job of `uniq` from parsed options. `command` calls `uniq_job`.
 
 ghost use Rattle.std.specs.Prelude.{◌≡◌, IfOk};
 ghost use Rattle.ptlangs.specs.Jobs as jobs;
 ghost use Rattle.ptopts.specs.declared.tool.Tool.TheVariants.{Uniq};
 ghost use Rattle.ptopts.specs.Commands as commands;
-ghost use Rattle.ptopts.specs.Commands.{checked_command, values_fault};
-ghost use Rattle.ptopts.specs.View.{CommandPost};
-ghost use Rattle.ptopts.specs.ParseSteps.{CheckPost, options_of, operands_of};
+ghost use Rattle.ptopts.specs.Commands.{values_fault};
+ghost use Rattle.ptopts.specs.ParseSteps.{CheckPost, options_of};
 
-use crate::command::Command;
 use crate::fault::UseFault;
 use crate::parsing::ParsedArgs;
-use crate::tool::Tool;
 use ptlangs::jobs::{Show, UniqJob};
 use std::alloc::Allocator;
 
@@ -33,7 +29,7 @@ impl<'a, A: Allocator + Copy> ParsedArgs<'a, A> {
     }
 
     /// The job of `uniq`.
-    fn uniq_job(&self) -> Result<UniqJob, UseFault<'a>>
+    pub(crate) fn uniq_job(&self) -> Result<UniqJob, UseFault<'a>>
         ensures fault { CheckPost result (values_fault Uniq (options_of self.now)) }
         ensures job { IfOk result (λ j. jobs.uniq_job j ≡ commands.uniq_from_options (options_of self.now)) }
     {
@@ -45,13 +41,5 @@ impl<'a, A: Allocator + Copy> ParsedArgs<'a, A> {
             chars,
             zero: self.has(b'z'),
         })
-    }
-
-    /// The command of `uniq`.
-    pub(crate) fn uniq_command(&self, alloc: A) -> Result<Command<'a, A>, UseFault<'a>>
-        ensures { CommandPost result (checked_command Uniq (options_of self.now) (operands_of self.now)) }
-    {
-        let job = self.uniq_job()?;
-        Ok(Command::Uniq(job, self.read_inputs(alloc, Tool::Uniq)?))
     }
 }

@@ -1,22 +1,23 @@
 -- Each turn adds one new reader, opened or not, so there is one more than names, and none was read. The first stays
 -- that of standard input.
+use Rattle.std.proofs.lemmas
 use Rattle.std.proofs.Common.{◌≡◌, ◌≤◌, ◌+◌, ℕ, List, [], ◌∷◌, length, arith, ap, sym, refl, ◌∙◌}
 use Rattle.std.specs.Borrow.{Bor}
-use Rattle.std.proofs.lemmas.List.{length-map, get_or_append_left}
-use Rattle.std.proofs.lemmas.List.Elements.{All-nil, All-push}
-use Rattle.std.proofs.lemmas.Bool.{false≢true}
+use lemmas.List.{length-map, get_or_append_left}
+use lemmas.List.Elements.{All-nil, All-push}
+use lemmas.Bool.{false≢true}
 use Rattle.ptlines.specs.Readers.{no_reader}
 use Rattle.ptlines.specs.Sources.{SourceState}
 use Rattle.ptopts.specs.View.{words_view}
 use Rattle.ptrun.specs.Files.{IsNewOrUnopened}
-use Rattle.ptext.proofs.files.open_inputs.Goals as goal
 use Rattle.ptext.proofs.files.open_inputs.Goals.{in-Ok, in-Err}
+use Rattle.ptext.proofs.files.open_inputs.Goals as goal
 
 pub loop-name-preserved : goal.loop-name-preserved
 loop-name-preserved g c = record {
   count = omega (arith, c.in_ok-push-2.ensures.len, c.loop-name.invariant.count);
   fresh =
-      rw (c.in_ok-push-2.ensures.items)
+      rw c.in_ok-push-2.ensures.items
       (All-push IsNewOrUnopened c.loop-name.inputs.items c.match-open.reader c.loop-name.invariant.fresh
       (elim c.match-open.branch [
         | in-Ok w ↦ rw (w.reader-is, w.file-reader.ensures)

@@ -1,5 +1,4 @@
-use Rattle.std.proofs.Common.{◌≡◌, All, List, false, inl, inr, refl, sym, ◌∙◌, subst}
-use Rattle.std.proofs.Common.{⊎_elim, codes}
+use Rattle.std.proofs.Common.{◌≡◌, All, List, false, inl, inr, refl, sym, ◌∙◌, subst, ⊎_elim, codes}
 use Rattle.ptlines.specs.Readers.{Reader, new_reader, reader_at}
 use Rattle.ptrun.specs.Files.{IsNewOrUnopened}
 use Rattle.ptrun.specs.Messages.{memory_message}

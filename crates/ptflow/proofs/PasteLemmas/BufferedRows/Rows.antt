@@ -15,8 +15,6 @@ pub use proofs.Common.{RowsTaken, CopyColumnsPost, CopyRowsPost, FlowFault, Memo
 pub use proofs.Passes.Exits.{lines_none, lines_are_given, lines_more, eof_gives_nothing}
 pub use Rattle.std.proofs.Math.Bool.{or-true, or-false}
 pub use Grid.*
-use Rattle.std.proofs.Common.{arith}
-use Rattle.std.proofs.lemmas.Grind.{common_steps}
 
 pub AreLines-append : (end : ℕ) (xs ys : Lines) → AreLines end xs → AreLines end ys → AreLines end (xs ++ ys)
 AreLines-append end [] ys p q = q
@@ -79,7 +77,7 @@ module _ (row : RowShape) where
 -- ---- rows that were taken
 
 module _ {row : RowShape} where
-  -- They come first for every continuation of the inputs.
+  -- rows that were taken come first for every continuation of the inputs
   pub rows_on : {old new : List Reader} {ls : ℕ → Lines} {taken_rows : List Lines}
       → AreFirstRows row old new ls taken_rows → (more : ℕ → Lines)
       → ((input : ℕ) → 0 < uses_of row.cells input → IsDone (reader_at new input) → more input ≡ [])
@@ -273,8 +271,7 @@ module _ {row : RowShape} {n : ℕ} {old now : List Reader} {fields : Lines} {in
 
   taken_next : (q : ℕ) → LinesTaken row.terminator (reader_at now q) (reader_at (set now input r) q)
       (cond (input == q) 1 0) (more_lines q)
-  taken_next = taken_from_one now _ within (rw (eq-eqb input input refl) lines_taken)
-      (grind arith)
+  taken_next = taken_from_one now _ within (rw (eq-eqb input input refl) lines_taken) (grind arith)
 
   earlier_cell : (c : ℕ) → c < n → let p = get_or cells c 0 in let j = uses_of (take c cells) p in
       get_or (input_lines p ++ more_lines p) j [] ≡ get_or (input_lines p) j []
@@ -439,8 +436,7 @@ module _ {row : RowShape} where
       let front = take k a.fields in
       let slots = take n store.lines in
       let long = length-take-le k a.fields (omega arith) in
-      let same = ext_get_or [] (drop k slots) (drop k a.fields)
-      (grind (arith, common_steps))
+      let same = ext_get_or [] (drop k slots) (drop k a.fields) (grind (arith, common_steps))
       (grind (arith, common_steps)) in
       let here : k ≡ 0 + length front = omega arith in
       cc (cells_text-append row 0 front (drop k a.fields), take-append-drop k a.fields)

@@ -1,18 +1,17 @@
 -- The buffered output is written before each read, so each exit comes after that, and is an outcome of a pass.
 use Rattle.ptflow.proofs
-use proofs.Passes.LineLoop.{run_starts, run_unslotted, run_sent, run_count}
-use proofs.Passes.LineLoop.{run_room, run_flush_failed, run_line, run_line_halts, Run}
-use proofs.Passes.LineLoop.{run_read, run_memory, run_done, run_unended, run_block}
+use proofs.Passes.LineLoop.{run_starts, run_unslotted, run_sent, run_count, run_room, run_flush_failed, run_line}
+use proofs.Passes.LineLoop.{run_line_halts, Run, run_read, run_memory, run_done, run_unended, run_block}
 use proofs.Passes.LineLoop.{run_block_halts, bounds_start}
-use proofs.Passes.Exits.{by_write, returned_err}
+use proofs.Passes.Exits.{is_fault}
 use Rattle.ptflow.proofs.line_loop.run_lines.Given as given
 use Rattle.ptflow.proofs.line_loop.run_lines.Goals as goal
-use Rattle.ptflow.proofs.line_loop.run_lines.Goals.{In_ok-write_out_before_blocking, In-Ok-true}
+use Rattle.ptflow.proofs.line_loop.run_lines.Goals.{After-fill, In-Ok-true}
 use Rattle.ptflow.proofs.line_loop.run_lines.Goals.{In_ok-process_line-in-Ok-true}
 use proofs.Common.{rules, arith, common_steps, ◌∙◌, ◌-◌, FillLine}
 
 -- the states after the write, and after the line in the last slot
-written_out : (g : given.Over) (c : In_ok-write_out_before_blocking g)
+written_out : (g : given.Over) (c : After-fill g)
     → Run c.requires.tool c.args.reader.now c.reading.reader c.args.out.now c.write_out_before_blocking.new.out
     c.args.store.now c.reading.store (g.T.LineFilter.model c.reading.tool c.reading.store)
 written_out g c = search (rules, run_sent)
@@ -27,16 +26,14 @@ line_taken : (g : given.Over) (c : In_ok-process_line-in-Ok-true g)
     → Run c.requires.tool c.args.reader.now c.fill.new.self c.args.out.now c.process_line.new.out c.args.store.now
     c.process_line.new.store (g.T.LineFilter.model c.process_line.new.self c.process_line.new.store)
 line_taken g c =
-    let r = run_sent c.requires.tool c.reading.invariant.run c.write_out_before_blocking.ensures.pushed.wrote
-    c.in_ok-write_out_before_blocking.ensures.pushed.clean in
+    let r = written_out g (goal.at.In_ok-process_line-in-Ok-true g c).After-fill in
     let e = line_read g (goal.at.In_ok-process_line-in-Ok-true g c).In-Ok-true in
     run_line c.requires.tool r e {next = g.T.LineFilter.model c.process_line.new.self c.process_line.new.store}
     (grind arith) c.in_ok-process_line-in-Ok-true.ensures.swapped
 
 pub returns-in_err-ensure_slots : goal.returns-in_err-ensure_slots
 returns-in_err-ensure_slots g c =
-    let (_, is_err, is_fault) = returned_err c.from_residual.result c.from_residual.ensures in
-    rw (is_err, is_fault, c.in_err-ensure_slots.ensures.err)
+    rw (is_fault c.from_residual.ensures, c.in_err-ensure_slots.ensures.err)
     (run_unslotted c.requires.tool c.requires.begins (rw c.requires.slots at c.ensure_slots.ensures.adds) (grind arith)
     c.ensure_slots.ensures.same_peak c.in_err-ensure_slots.ensures.denied)
 
@@ -45,7 +42,7 @@ reading-init g c = search (rules, run_starts, bounds_start)
 
 pub returns-in_err-write_out_before_blocking : goal.returns-in_err-write_out_before_blocking
 returns-in_err-write_out_before_blocking g c =
-    by_write c.from_residual-in_err-write_out_before_blocking.ensures
+    rw (is_fault c.from_residual-in_err-write_out_before_blocking.ensures)
     (run_flush_failed c.requires.tool c.reading.invariant.run c.write_out_before_blocking.ensures.sound
     c.write_out_before_blocking.ensures.pushed.wrote c.in_err-write_out_before_blocking.ensures.pushed.fault)
 
@@ -58,45 +55,42 @@ process_line-requires-clause-few g c =
 
 pub returns-in_err-process_line-in-Ok-true : goal.returns-in_err-process_line-in-Ok-true
 returns-in_err-process_line-in-Ok-true g c =
-    let r = written_out g (goal.at.returns-in_err-process_line-in-Ok-true g c).In_ok-write_out_before_blocking in
+    let r = written_out g (goal.at.returns-in_err-process_line-in-Ok-true g c).After-fill in
     let e = line_read g (goal.at.returns-in_err-process_line-in-Ok-true g c).In-Ok-true in
-    rw c.in_err-process_line-in-Ok-true.ensures.same (by_write c.from_residual-in_err-process_line-in-Ok-true.ensures
-    (run_line_halts c.requires.tool r e c.fill.ensures.was_sound c.fill.ensures.is_sound
-    (grind arith)))
+    rw (is_fault c.from_residual-in_err-process_line-in-Ok-true.ensures, c.in_err-process_line-in-Ok-true.ensures.same)
+    (run_line_halts c.requires.tool r e c.fill.ensures.was_sound c.fill.ensures.is_sound (grind arith))
 
 pub returns-in_err-finish-in-Ok-false : goal.returns-in_err-finish-in-Ok-false
 returns-in_err-finish-in-Ok-false g c =
-    let r = written_out g (goal.at.returns-in_err-finish-in-Ok-false g c).In_ok-write_out_before_blocking in
+    let r = written_out g (goal.at.returns-in_err-finish-in-Ok-false g c).After-fill in
     let ended = rw (c.in-Ok-false.field-0-test, c.requires.slots) at
     (c.in-Ok-false.ensures.fills r.reached.advance_ok.fault) in
     let end = rw c.reading.invariant.same_job at (c.in_err-finish-in-Ok-false.ensures.pushed r.reached.clean) in
-    rw c.in_err-finish-in-Ok-false.ensures.same (by_write c.from_residual-in_err-finish-in-Ok-false.ensures
-    (run_unended c.requires.tool r c.fill.ensures.was_sound c.fill.ensures.is_sound ended
-    end.wrote end.fault))
+    rw (is_fault c.from_residual-in_err-finish-in-Ok-false.ensures, c.in_err-finish-in-Ok-false.ensures.same)
+    (run_unended c.requires.tool r c.fill.ensures.was_sound c.fill.ensures.is_sound ended end.wrote end.fault)
 
 pub returns-in-Ok-false : goal.returns-in-Ok-false
 returns-in-Ok-false g c =
-    let r = written_out g (goal.at.returns-in-Ok-false g c).In_ok-write_out_before_blocking in
+    let r = written_out g (goal.at.returns-in-Ok-false g c).After-fill in
     let ended = rw (c.in-Ok-false.field-0-test, c.requires.slots) at
     (c.in-Ok-false.ensures.fills r.reached.advance_ok.fault) in
     let end = c.in_ok-finish-in-Ok-false.ensures in
     let pushed = rw c.reading.invariant.same_job at (end.pushed r.reached.clean) in
-    run_done c.requires.tool r c.fill.ensures.was_sound c.fill.ensures.is_sound ended
-    pushed.wrote end.emptied pushed.clean
+    run_done c.requires.tool r c.fill.ensures.was_sound c.fill.ensures.is_sound ended pushed.wrote end.emptied
+    pushed.clean
 
 pub returns-in-Err-Read : goal.returns-in-Err-Read
 returns-in-Err-Read g c =
-    let r = written_out g (goal.at.returns-in-Err-Read g c).In_ok-write_out_before_blocking in
+    let r = written_out g (goal.at.returns-in-Err-Read g c).After-fill in
     run_read c.requires.tool r c.fill.ensures.was_sound c.fill.ensures.is_sound (grind arith)
 
 pub returns-in-Err-Memory : goal.returns-in-Err-Memory
 returns-in-Err-Memory g c =
-    let r = written_out g (goal.at.returns-in-Err-Memory g c).In_ok-write_out_before_blocking in
+    let r = written_out g (goal.at.returns-in-Err-Memory g c).After-fill in
     run_memory c.requires.tool r c.fill.ensures.was_sound c.fill.ensures.is_sound (grind arith)
 
 pub reading-smaller : goal.reading-smaller
-reading-smaller g c =
-    grind (arith, common_steps)
+reading-smaller g c = grind (arith, common_steps)
 
 pub process_lines-requires-clause-room : goal.process_lines-requires-clause-room
 process_lines-requires-clause-room g c = run_room c.requires.tool
@@ -114,9 +108,8 @@ process_lines-requires-clause-buffered g c =
 pub returns-in_err-passed : goal.returns-in_err-passed
 returns-in_err-passed g c =
     let v = line_taken g (goal.at.returns-in_err-passed g c).In_ok-process_line-in-Ok-true in
-    by_write c.from_residual-in_err-passed.ensures
-    (run_block_halts c.requires.tool v c.fill.ensures.is_sound c.buffered.ensures.buffered
-    (grind arith))
+    rw (is_fault c.from_residual-in_err-passed.ensures)
+    (run_block_halts c.requires.tool v c.fill.ensures.is_sound c.buffered.ensures.buffered (grind arith))
 
 pub reading-preserved : goal.reading-preserved
 reading-preserved g c =

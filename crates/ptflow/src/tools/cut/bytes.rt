@@ -263,7 +263,7 @@ impl<'a> BlockFilter for ByteCut<'a> {
     // Writes the terminator of the last line if that line is unfinished.
     fn finish<W: Sink>(&self, out: &mut Out<W>) -> Result<(), WriteFault> {
         if self.line_offset == 0 {
-            return out.push(b"");
+            return Ok(());
         }
         out.push(&[self.by.terminator])
     }

@@ -271,8 +271,7 @@ impl<'a, A: Allocator + Copy> LineFilter for FieldCut<'a, A> {
         store: &mut Store<B>,
         out: &mut Out<W>,
     ) -> Result<(), WriteFault> {
-        write_line(&self.by, store.line(0), out)?;
-        Ok(())
+        write_line(&self.by, store.line(0), out)
     }
 
     // The output of fields is never longer than the input, so all of it is copied into one buffer and pushed at once.

@@ -1,5 +1,6 @@
-use Rattle.ptlangs.proofs.DelimGrammar.{accepts_the_grammar}
-use Rattle.ptlangs.proofs.delims.accepts_the_grammar.Goals as goal
+use Rattle.ptlangs.proofs
+use proofs.DelimGrammar.{accepts_the_grammar}
+use proofs.delims.accepts_the_grammar.Goals as goal
 
 pub returns : goal.returns
 returns c = accepts_the_grammar

@@ -1,6 +1,7 @@
 -- The delimiters so far have no fault.
-use Rattle.ptlangs.proofs.Common.{delim_list, length, result_err, ◌≡◌}
-use Rattle.ptlangs.proofs.delims.check.Given as goal
+use Rattle.ptlangs.proofs
+use proofs.Common.{delim_list, length, result_err, ◌≡◌}
+use proofs.delims.check.Given as goal
 
 abbrev pub invariant-loop-rest : goal.invariant-loop-rest
 invariant-loop-rest l = result_err (delim_list l.text) ≡ result_err (delim_list l.left)

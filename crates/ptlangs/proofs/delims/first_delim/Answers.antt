@@ -1,5 +1,6 @@
-use Rattle.ptlangs.proofs.Common.{arith, common_steps}
-use Rattle.ptlangs.proofs.delims.first_delim.Goals as goal
+use Rattle.ptlangs.proofs
+use proofs.Common.{arith, common_steps}
+use proofs.delims.first_delim.Goals as goal
 
 pub returns-in-len1-up-clause-first : goal.returns-in-len1-up-clause-first
 returns-in-len1-up-clause-first c = grind (arith, common_steps)

@@ -2,7 +2,7 @@
 use Rattle.ptlangs.proofs
 use proofs.Common.{arith, common_steps, rules}
 use proofs.ListElements.{digit_at, too_large_at}
-use Rattle.ptlangs.proofs.numbers.decimal.Goals as goal
+use proofs.numbers.decimal.Goals as goal
 
 pub returns-in_err-checked_mul : goal.returns-in_err-checked_mul
 returns-in_err-checked_mul c = search (rules, too_large_at)

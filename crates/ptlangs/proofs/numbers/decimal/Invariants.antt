@@ -1,5 +1,6 @@
-use Rattle.ptlangs.proofs.Common.{digits_value_after, drop, max_u64, value, ◌≡◌, ◌≤◌}
-use Rattle.ptlangs.proofs.numbers.decimal.Given as goal
+use Rattle.ptlangs.proofs
+use proofs.Common.{digits_value_after, drop, max_u64, value, ◌≡◌, ◌≤◌}
+use proofs.numbers.decimal.Given as goal
 
 abbrev pub invariant-loop-byte : goal.invariant-loop-byte
 invariant-loop-byte l = record {

@@ -2,7 +2,7 @@ use Rattle.ptlangs.proofs
 use proofs.Common.{YieldsList-from_slice, rules, sym, ◌∙◌}
 use proofs.ListElements.{is_empty_by_length}
 use Rattle.std.proofs.lemmas.Iterator.Search.{all_from_yields_List}
-use Rattle.ptlangs.proofs.numbers.is_decimal.Goals as goal
+use proofs.numbers.is_decimal.Goals as goal
 
 pub returns-then-not-is_empty : goal.returns-then-not-is_empty
 returns-then-not-is_empty c =

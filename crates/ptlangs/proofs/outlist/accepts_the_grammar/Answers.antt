@@ -1,5 +1,6 @@
-use Rattle.ptlangs.proofs.ListElements.{accepts_out_lists}
-use Rattle.ptlangs.proofs.outlist.accepts_the_grammar.Goals as goal
+use Rattle.ptlangs.proofs
+use proofs.ListElements.{accepts_out_lists}
+use proofs.outlist.accepts_the_grammar.Goals as goal
 
 pub returns : goal.returns
 returns c = accepts_out_lists

@@ -3,7 +3,7 @@ use Rattle.ptlangs.proofs
 use proofs.Common.{YieldsList-at, YieldsList-from_map, YieldsList-from_slice_split, arith, element_field, elements}
 use proofs.Common.{find_from_yields_List, is_err, is_list_separator, rules}
 use proofs.ListElements.{first_fault_is}
-use Rattle.ptlangs.proofs.outlist.first_fault.Goals as goal
+use proofs.outlist.first_fault.Goals as goal
 
 pub returns : goal.returns
 returns c =

@@ -1,5 +1,6 @@
-use Rattle.ptlangs.proofs.ListElements.{accepts_cut_lists}
-use Rattle.ptlangs.proofs.ranges.accepts_the_grammar.Goals as goal
+use Rattle.ptlangs.proofs
+use proofs.ListElements.{accepts_cut_lists}
+use proofs.ranges.accepts_the_grammar.Goals as goal
 
 pub returns : goal.returns
 returns c = accepts_cut_lists

@@ -1,7 +1,7 @@
 use Rattle.ptlangs.proofs
 use proofs.Common.{drop}
 use proofs.ListElements.{Merges}
-use Rattle.ptlangs.proofs.ranges.merge.Given as goal
+use proofs.ranges.merge.Given as goal
 
 abbrev pub invariant-loop-next : goal.invariant-loop-next
 invariant-loop-next g l = Merges l.sorted l.kept.items l.current (drop l.next-index l.others)

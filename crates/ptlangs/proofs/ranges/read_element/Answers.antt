@@ -1,8 +1,8 @@
--- The first dash splits the element into its bounds; without a dash the element is both bounds.
+-- The first dash splits the element into its bounds; without a dash the element is one number.
 use Rattle.ptlangs.proofs
-use proofs.Common.{YieldsList-from_slice, position_from_yields_List, rules, sym, ◌∙◌}
-use proofs.ListElements.{is_empty_by_length, parts_around_dash, parts_without_dash}
-use Rattle.ptlangs.proofs.ranges.read_element.Goals as goal
+use proofs.Common.{YieldsList-from_slice, is_dash, position_from_yields_List, rules, sym, ◌∙◌}
+use proofs.ListElements.{is_empty_by_length, parts_around_dash, split_whole}
+use proofs.ranges.read_element.Goals as goal
 
 pub returns-in-None : goal.returns-in-None
 returns-in-None c =
@@ -10,7 +10,7 @@ returns-in-None c =
     ∙ c.if-is_empty.false in
     let at = position_from_yields_List _ _ _ _ c.position.ensures.ran
     (YieldsList-from_slice c.args.text.now (cc)) (λ x b q k. search rules) in
-    rw (some, parts_without_dash _ (sym at ∙ c.in-None.is)) c.read_bounds.ensures
+    rw (some, split_whole is_dash _ (sym at ∙ c.in-None.is)) c.read_single.ensures
 
 pub returns-in-Some : goal.returns-in-Some
 returns-in-Some c =
@@ -18,4 +18,4 @@ returns-in-Some c =
     ∙ c.if-is_empty.false in
     let at = position_from_yields_List _ _ _ _ c.position.ensures.ran
     (YieldsList-from_slice c.args.text.now (cc)) (λ x b q k. search rules) in
-    rw (some, parts_around_dash _ _ (sym at ∙ c.in-Some.is)) c.read_bounds-in-Some.ensures
+    rw (some, parts_around_dash _ _ (sym at ∙ c.in-Some.is)) c.read_bounds.ensures

@@ -1,9 +1,9 @@
 -- Without a fault, the values are those of the elements.
 use Rattle.ptlangs.proofs
-use proofs.Common.{YieldsList-at, YieldsList-from_filter_map, YieldsList-from_slice_split, arith}
-use proofs.Common.{element_interval, elements, is_list_separator, items_from_extend, result_ok, rules}
+use proofs.Common.{YieldsList-at, YieldsList-from_filter_map, YieldsList-from_slice_split, arith, element_interval}
+use proofs.Common.{elements, is_list_separator, items_from_extend, result_ok, rules}
 use proofs.ListElements.{values_are}
-use Rattle.ptlangs.proofs.ranges.read_elements.Goals as goal
+use proofs.ranges.read_elements.Goals as goal
 
 pub returns : goal.returns
 returns g c =

@@ -1,6 +1,7 @@
-use Rattle.ptlines.proofs.Common.{◌∙◌, refl, arith}
-use Rattle.ptlines.proofs.ByteOrder.{word_8, words_differ, words_same}
-use Rattle.ptlines.proofs.cmp.compare.Goals as goal
+use Rattle.ptlines.proofs
+use proofs.Common.{◌∙◌, refl, arith}
+use proofs.ByteOrder.{word_8, words_differ, words_same}
+use proofs.cmp.compare.Goals as goal
 
 pub returns-then-x-y : goal.returns-then-x-y
 returns-then-x-y c =

@@ -1,7 +1,8 @@
 -- The first byte that differs decides. If none does, one slice is a prefix of the other, so the lengths decide.
+use Rattle.ptlines.proofs
 use Rattle.std.proofs.Common.{◌∙◌, arith}
-use Rattle.ptlines.proofs.ByteOrder.{word_1, byte_at, words_differ, cmp_by_length}
-use Rattle.ptlines.proofs.cmp.compare_bytewise.Goals as goal
+use proofs.ByteOrder.{word_1, byte_at, words_differ, cmp_by_length}
+use proofs.cmp.compare_bytewise.Goals as goal
 
 pub returns-then-a-at : goal.returns-then-a-at
 returns-then-a-at c =

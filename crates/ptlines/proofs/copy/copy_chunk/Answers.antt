@@ -1,6 +1,6 @@
-use Rattle.ptlines.proofs.Common.{arith, take_more_put_chunk, length-chunk}
-use Rattle.ptlines.proofs.copy.copy_chunk.Goals as goal
+use Rattle.ptlines.proofs
+use proofs.Common.{arith, take_more_put_chunk, length-chunk}
+use proofs.copy.copy_chunk.Goals as goal
 
 pub returns-clause-copied : goal.returns-clause-copied
-returns-clause-copied g c =
-    grind (arith, length-chunk, take_more_put_chunk)
+returns-clause-copied g c = grind (arith, length-chunk, take_more_put_chunk)

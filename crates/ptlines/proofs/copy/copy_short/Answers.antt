@@ -1,9 +1,8 @@
+use Rattle.ptlines.proofs
 use Rattle.std.proofs.Common.{arith}
-use Rattle.ptlines.proofs.CopyFacts.{copied_prefix}
-use Rattle.ptlines.proofs.copy.copy_short.Goals as goal
+use proofs.CopyFacts.{copied_prefix}
+use proofs.copy.copy_short.Goals as goal
 
 pub returns-then-bytes-from-ge16-clause-copied : goal.returns-then-bytes-from-ge16-clause-copied
 returns-then-bytes-from-ge16-clause-copied c =
-    copied_prefix _ _ 16 _ _
-    _
-    (omega arith) c.if-to-from-le16.true c.copy_chunk.ensures.copied
+    copied_prefix _ _ 16 _ _ _ (omega arith) c.if-to-from-le16.true c.copy_chunk.ensures.copied

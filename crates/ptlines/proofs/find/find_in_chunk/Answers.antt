@@ -1,5 +1,6 @@
-use Rattle.ptlines.proofs.MatchMasks.{none_if_zero_mask, first_at_lowest_bit}
-use Rattle.ptlines.proofs.find.find_in_chunk.Goals as goal
+use Rattle.ptlines.proofs
+use proofs.MatchMasks.{none_if_zero_mask, first_at_lowest_bit}
+use proofs.find.find_in_chunk.Goals as goal
 use Rattle.std.proofs.Common.{arith}
 
 pub returns-then-mask-eq0 : goal.returns-then-mask-eq0

@@ -1,5 +1,6 @@
-use Rattle.ptlines.proofs.Common.{arith}
-use Rattle.ptlines.proofs.find.find_long.Goals as goal
+use Rattle.ptlines.proofs
+use proofs.Common.{arith}
+use proofs.find.find_long.Goals as goal
 
 pub returns : goal.returns
 returns c = grind arith

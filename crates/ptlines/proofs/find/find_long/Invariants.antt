@@ -1,5 +1,6 @@
-use Rattle.ptlines.proofs.Common.{◌-◌, ◌≤◌, length, Nowhere, Passes, is_byte}
-use Rattle.ptlines.proofs.find.find_long.Given as goal
+use Rattle.ptlines.proofs
+use proofs.Common.{◌-◌, ◌≤◌, length, Nowhere, Passes, is_byte}
+use proofs.find.find_long.Given as goal
 
 abbrev pub invariant-loop-at : goal.invariant-loop-at
 invariant-loop-at l = record { within : l.at ≤ length l.bytes; none : Nowhere (Passes (is_byte l.byte) l.bytes) 0 l.at }

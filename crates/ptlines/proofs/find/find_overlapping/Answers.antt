@@ -1,5 +1,6 @@
-use Rattle.ptlines.proofs.Common.{arith}
-use Rattle.ptlines.proofs.find.find_overlapping.Goals as goal
+use Rattle.ptlines.proofs
+use proofs.Common.{arith}
+use proofs.find.find_overlapping.Goals as goal
 
 pub returns-in-None : goal.returns-in-None
 returns-in-None g c = grind arith

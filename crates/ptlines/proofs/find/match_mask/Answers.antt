@@ -1,5 +1,6 @@
-use Rattle.ptlines.proofs.Common.{eqb, w8, bitmask_splat, length-chunk, chunk}
-use Rattle.ptlines.proofs.find.match_mask.Goals as goal
+use Rattle.ptlines.proofs
+use proofs.Common.{eqb, w8, bitmask_splat, length-chunk, chunk}
+use proofs.find.match_mask.Goals as goal
 use Rattle.std.proofs.Common.{rules}
 
 pub returns : goal.returns

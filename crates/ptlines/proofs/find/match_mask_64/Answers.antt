@@ -1,7 +1,8 @@
 -- If no match is among the first 16 bytes, the mask of the other 48, shifted by 16, is the mask of all 64.
+use Rattle.ptlines.proofs
 use Rattle.memchr.specs.Find.{is_byte}
-use Rattle.ptlines.proofs.MatchMasks.{first_of_mask_16, mask_64, none_if_zero_mask, first_of_mask_64}
-use Rattle.ptlines.proofs.find.match_mask_64.Goals as goal
+use proofs.MatchMasks.{first_of_mask_16, mask_64, none_if_zero_mask, first_of_mask_64}
+use proofs.find.match_mask_64.Goals as goal
 use Rattle.std.proofs.Common.{rules}
 
 pub returns-then-near-ne0-clause-first : goal.returns-then-near-ne0-clause-first

@@ -1,5 +1,6 @@
-use Rattle.ptlines.proofs.Common.{◌≡◌, ℕ, List, ◌++◌, length, WriteOutOk}
-use Rattle.ptlines.proofs.out.write_out.Given as goal
+use Rattle.ptlines.proofs
+use proofs.Common.{◌≡◌, ℕ, List, ◌++◌, length, WriteOutOk}
+use proofs.out.write_out.Given as goal
 
 abbrev pub invariant-loop-rest : goal.invariant-loop-rest
 invariant-loop-rest g l = record {

@@ -1,5 +1,6 @@
-use Rattle.ptlines.proofs.PartLaws.{the_lines_of_parts}
-use Rattle.ptlines.proofs.parts.parts_of_lines.Goals as goal
+use Rattle.ptlines.proofs
+use proofs.PartLaws.{the_lines_of_parts}
+use proofs.parts.parts_of_lines.Goals as goal
 
 pub returns : goal.returns
 returns c = the_lines_of_parts

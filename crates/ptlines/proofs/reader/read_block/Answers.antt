@@ -1,8 +1,9 @@
 -- Only the first 8,192 bytes of the block are written to, so the margin after them does not matter.
-use Rattle.ptlines.proofs.Common.{◌≡◌, ℕ, List, ◌++◌, Result, length, take, sym, ◌∙◌, subst, arith}
-use Rattle.ptlines.proofs.Common.{take-append-le, take_all, SourceState, PullPost}
+use Rattle.ptlines.proofs
+use proofs.Common.{◌≡◌, ℕ, List, ◌++◌, Result, length, take, sym, ◌∙◌, subst, arith, take-append-le, take_all}
+use proofs.Common.{SourceState, PullPost}
 use Rattle.ptlines.specs.declared.sink.Failed.{Failed}
-use Rattle.ptlines.proofs.reader.read_block.Goals as goal
+use proofs.reader.read_block.Goals as goal
 
 in_front : (old new : SourceState) (into rest : List ℕ) (r : Result ℕ Failed) → length into ≡ 8192
     → PullPost old new into r → PullPost old new (take 8192 (into ++ rest)) r
@@ -17,6 +18,5 @@ returns-in-Standard-clause-pulled g c =
 
 pub returns-in-File-clause-pulled : goal.returns-in-File-clause-pulled
 returns-in-File-clause-pulled g c =
-    let long : length c.pull-in-File.new.into ≡ 8192 =
-    grind arith in
+    let long : length c.pull-in-File.new.into ≡ 8192 = grind arith in
     rw c.in-File.is (in_front _ _ _ _ _ long c.pull-in-File.ensures.pulled)

@@ -1,13 +1,10 @@
 -- The slots are split at the greater of the two numbers, so source and target lie in different parts.
-use Rattle.std.proofs.Common.{◌<◌, Result, Ok, Err, OnOk, OnErr, arith, rules}
-use Rattle.ptlines.proofs.SlotTotals.{append_to_back, bounded_back, buffers_back, append_to_front}
-use Rattle.ptlines.proofs.SlotTotals.{bounded_front, buffers_front}
-use Rattle.ptlines.proofs.store.append_slot.Goals as goal
+use Rattle.ptlines.proofs
+use Rattle.std.proofs.Common.{◌<◌, Result, Ok, Err, OnErr, arith, rules}
+use proofs.SlotTotals.{append_to_back, bounded_back, buffers_back, append_to_front, bounded_front, buffers_front}
+use borrow.Author.Rules.{scaled_Fits}
+use proofs.store.append_slot.Goals as goal
 use Rattle.std.proofs.lemmas.Grind.{common_steps}
-
-on_ok : {E : Type 0} (r : Result (Unit {0}) E) (P Q : Type 0) → (P → Q) → OnOk r P → OnOk r Q
-on_ok (Ok u) P Q f p = f p
-on_ok (Err e) P Q f p = tt
 
 on_err : {E : Type 0} (r : Result (Unit {0}) E) (P Q : Type 0) → (P → Q) → OnErr r P → OnErr r Q
 on_err (Ok u) P Q f p = tt
@@ -43,8 +40,7 @@ pub returns-then-from-to-clause-err : goal.returns-then-from-to-clause-err
 returns-then-from-to-clause-err g c = grind (arith, common_steps, on_err)
 
 pub offset_bounds-front-from : goal.offset_bounds-front-from
-offset_bounds-front-from g c =
-    search rules
+offset_bounds-front-from g c = search scaled_Fits
 
 pub offset_bounds-front-to : goal.offset_bounds-front-to
-offset_bounds-front-to g c = search rules
+offset_bounds-front-to g c = search scaled_Fits

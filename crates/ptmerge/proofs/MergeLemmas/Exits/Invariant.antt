@@ -1,25 +1,25 @@
 -- The invariant of a merge. No line that may still follow has a lesser key than a processed line, so the output for the
 -- processed lines is a prefix of the output for all inputs that begin with the lines read so far.
 use Rattle.ptmerge.proofs
-pub use proofs.Common.{◌≡◌, ◌⊎◌, inr, ℕ, List, Bool, true, false, refl, ◌∙◌, ap, arith, bytes_eq, Less, Equal}
-pub use proofs.Common.{Greater, is_eq, is_gt, is_le, bytes_decides, tied_itself, Cmp, byte_cmp, line_cmp, ◌<◌, length}
-pub use proofs.Common.{get_or, suc, zero, [], ◌∷◌, ◌++◌, cond, map, append_assoc, append-nil, filter, flat_map, Side}
-pub use proofs.Common.{First, Second, Lines, MergeTool, distinct_keys, keys, lines_with_key, entries_of_key}
-pub use proofs.Common.{entries_by_key, Key, ◌+◌, Option, Some, None, nat_lt, unwrap_or, if◌then◌else◌, last_or}
-pub use proofs.Common.{sorted_prefix, first_disorder, FirstDisorder, ◌&&◌, not, sym, flat_map-append}
-pub use proofs.Common.{is_up_to, subst, is_lt, Output, PushEffect, unlines, push_trans, push_nothing, unlines-append}
-pub use proofs.Common.{disorder, merged_entries, option_map, with_side}
-pub use proofs.Common.{disordered_line}
+use Rattle.ptmerge.specs
+use Rattle.std.proofs.lemmas
+pub use proofs.Common.{◌≡◌, ◌⊎◌, inr, ℕ, List, Bool, true, false, refl, ◌∙◌, ap, arith, bytes_eq, Less, Equal, Greater}
+pub use proofs.Common.{is_eq, is_gt, is_le, bytes_decides, tied_itself, Cmp, byte_cmp, line_cmp, ◌<◌, length, get_or}
+pub use proofs.Common.{suc, zero, [], ◌∷◌, ◌++◌, cond, map, append_assoc, append-nil, filter, flat_map, Side, First}
+pub use proofs.Common.{Second, Lines, MergeTool, distinct_keys, keys, lines_with_key, entries_of_key, entries_by_key}
+pub use proofs.Common.{Key, ◌+◌, Option, Some, None, nat_lt, unwrap_or, if◌then◌else◌, last_or, sorted_prefix}
+pub use proofs.Common.{first_disorder, FirstDisorder, ◌&&◌, not, sym, flat_map-append, is_up_to, subst, is_lt, Output}
+pub use proofs.Common.{PushEffect, unlines, push_trans, push_nothing, unlines-append, disorder, merged_entries}
+pub use proofs.Common.{option_map, with_side, disordered_line}
 use Rattle.std.specs.Cmp.{IsTotalOrder}
-use Rattle.ptmerge.specs.OrderLaws.{reversed_same_bytes, byte_cmp_equal}
+use specs.OrderLaws.{reversed_same_bytes, byte_cmp_equal}
 pub use Rattle.std.proofs.Common.{rules}
-pub use Rattle.std.proofs.lemmas.Grind.{common_steps}
+pub use lemmas.Grind.{common_steps}
 use proofs.MergeLemmas.Exits.SlotLines.{put_each}
-pub use Rattle.ptmerge.specs.MergeSpec.{MergeDisorder, is_past}
-use Rattle.std.proofs.lemmas.Cmp.{back_total, nat_list_cmp_total, upto}
-pub use Rattle.std.proofs.lemmas.List.Elements.{filter-append}
+pub use specs.MergeSpec.{MergeDisorder, is_past, earlier_disorder, insert_key, is_below, is_decided}
+use lemmas.Cmp.{back_total, nat_list_cmp_total, upto}
+pub use lemmas.List.Elements.{filter-append}
 pub use Rattle.std.specs.declared.cmp.Ordering.{Ordering}
-pub use Rattle.ptmerge.specs.MergeSpec.{earlier_disorder, insert_key, is_below, is_decided}
 
 -- ---- keys in order
 
@@ -106,8 +106,7 @@ Each-insert cmp P k (x ∷ xs) h (here, more) = grind (arith, Each-insert cmp P 
 
 pub Each-distinct : (cmp : Cmp) (P : List ℕ → Type 0) (xs : Lines) → Each P xs → Each P (distinct_keys cmp xs)
 Each-distinct cmp P [] e = tt
-Each-distinct cmp P (x ∷ xs) (here, more) =
-    Each-insert cmp P x (distinct_keys cmp xs) here (Each-distinct _ P xs more)
+Each-distinct cmp P (x ∷ xs) (here, more) = Each-insert cmp P x (distinct_keys cmp xs) here (Each-distinct _ P xs more)
 
 module _ (cmp : Cmp) (o : IsKeyOrder cmp) where
   pub insert_least : (k : List ℕ) (ds : Lines) → Each (Above cmp k) ds → insert_key cmp k ds ≡ k ∷ ds
@@ -165,6 +164,7 @@ pub first_disorder_is : (cmp : Cmp) (key : Key) (ls : Lines)
     → first_disorder cmp key ls ≡ disorder_after cmp key None 0 ls
 first_disorder_is cmp key ls = grind (arith, sorted_prefix_is cmp key ls, by_length_is cmp key None 0 ls)
 
+-- no line is out of order after the one before it; before the first there was the key `last`
 abbrev pub IsSortedFrom : Cmp → Key → Option (List ℕ) → Lines → Type 0
 IsSortedFrom cmp key last [] = Unit {0}
 IsSortedFrom cmp key last (x ∷ xs) = (is_disordered cmp last (key x) ≡ false) × IsSortedFrom cmp key (Some (key x)) xs
@@ -177,8 +177,7 @@ sorted_from_whole cmp key last n (x ∷ ls) (here, more) =
 
 pub sorted_from_start : (cmp : Cmp) (key : Key) (ls : Lines) → IsSortedFrom cmp key None ls
     → (sorted_prefix cmp key ls ≡ ls) × (first_disorder cmp key ls ≡ None)
-sorted_from_start cmp key ls r =
-    grind (arith, sorted_from_whole cmp key _ 0 ls r, sorted_prefix_is)
+sorted_from_start cmp key ls r = grind (arith, sorted_from_whole cmp key _ 0 ls r, sorted_prefix_is)
 
 none_disordered : (cmp : Cmp) (key : Key) (last : Option (List ℕ)) (n : ℕ) (ls : Lines)
     → disorder_after cmp key last n ls ≡ None → IsSortedFrom cmp key last ls
@@ -271,6 +270,7 @@ filter_none : (w : List ℕ → Bool) (ks : Lines) → Each (λ k. w k ≡ false
 filter_none w [] e = refl
 filter_none w (k ∷ ks) (here, more) = rw here (filter_none w ks more)
 
+-- the keys ascend strictly
 abbrev pub Ascends : Cmp → Lines → Type 0
 Ascends cmp [] = Unit {0}
 Ascends cmp (k ∷ ks) = Each (Above cmp k) ks × Ascends cmp ks
@@ -320,8 +320,7 @@ module _ (p : List ℕ → Bool) where
 
     distinct_kept : (ks : Lines) → filter p (distinct_keys cmp ks) ≡ distinct_keys cmp (filter p ks)
     distinct_kept [] = refl
-    distinct_kept (k ∷ ks) =
-        grind (arith, distinct_kept ks, insert_kept k _ (ascends_distinct cmp o ks))
+    distinct_kept (k ∷ ks) = grind (arith, distinct_kept ks, insert_kept k _ (ascends_distinct cmp o ks))
 
   abbrev kept : Key → Lines → Lines
   kept key ls = filter (λ line. p (key line)) ls
@@ -372,19 +371,15 @@ module _ (cmp : Cmp) (o : IsKeyOrder cmp) where
   least_lines : (key : Key) (k : List ℕ) (f r : Lines) → EachKey (λ x. x ≡ k) key f → EachKey (AtMost cmp k) key r
       → LeastLines cmp key k f r
   least_lines key k [] [] e h = grind arith
-  least_lines key k [] (x ∷ r) e (here, more) =
-      grind (arith, least_lines key k [] r tt more, rules, same_bytes)
-  least_lines key k (x ∷ f) r (here, more) h =
-      grind (arith, common_steps, same_bytes, least_lines key k f r more h)
+  least_lines key k [] (x ∷ r) e (here, more) = grind (arith, least_lines key k [] r tt more, rules, same_bytes)
+  least_lines key k (x ∷ f) r (here, more) h = grind (arith, common_steps, same_bytes, least_lines key k f r more h)
 
   only_key : (key1 key2 : Key) (k : List ℕ) (xs ys : Lines) → EachKey (λ x. x ≡ k) key1 xs
       → EachKey (λ x. x ≡ k) key2 ys
       → (distinct_keys cmp (map key1 xs ++ map key2 ys) ≡ k ∷ []) ⊎ ((xs ≡ []) × (ys ≡ []))
   only_key key1 key2 k [] [] e h = inr (refl, refl)
-  only_key key1 key2 k [] (y ∷ ys) e (here, more) =
-      grind (arith, only_key key1 key2 k [] ys tt more)
-  only_key key1 key2 k (x ∷ xs) ys (here, more) h =
-      grind (arith, only_key _ _ k xs ys more h)
+  only_key key1 key2 k [] (y ∷ ys) e (here, more) = grind (arith, only_key key1 key2 k [] ys tt more)
+  only_key key1 key2 k (x ∷ xs) ys (here, more) h = grind (arith, only_key _ _ k xs ys more h)
 
 abbrev pub output_of : MergeTool → (Side → Lines) → List ℕ
 output_of tool p = unlines tool.terminator (entries_by_key tool all_keys p)
@@ -498,6 +493,7 @@ pub record LagInvariant (tool : MergeTool) (b : Side → Bound) (p : Side → Li
       → MayFollow tool.cmp (tool.key side) (bound side) (tail side ++ r)
   pub first : ComeFirst tool b p done
 
+-- the entries of all processed lines are in the output
 abbrev pub AllWritten : MergeTool → (Side → Bound) → (Side → Lines) → Output → Output → Type 0
 AllWritten tool b p was is = LagInvariant tool b p was is (entries_by_key tool all_keys p)
 
@@ -603,8 +599,7 @@ bounds_change later m =
 pub bound_changes : {tool : MergeTool} {b : Side → Bound} {p : Side → Lines} {was is : Output} (s : Side) {d : Bound}
     → MergeInvariant tool b p was is → IsLater tool.cmp (tool.key s) (b s) d
     → MergeInvariant tool (with_side s d b) p was is
-bound_changes s m later = bounds_change
-    (grind (arith, put_each)) m
+bound_changes s m later = bounds_change (grind (arith, put_each)) m
 
 -- the disorder is the one found, if any, and no line that may follow changes the output
 abbrev pub IsExactStop : MergeTool → (Side → Bound) → Option (Side × ℕ) → Type 0

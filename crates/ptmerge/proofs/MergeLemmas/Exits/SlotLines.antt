@@ -1,19 +1,19 @@
 -- Lines in the slots of a store. A slot changes only if its own input reads, so two lines of each input, none longer
 -- than its longest line, bound the bytes stored.
 use Rattle.ptmerge.proofs
+use Rattle.std.proofs.lemmas
 pub use proofs.Common.{◌≡◌, ◌⊎◌, ℕ, ◌+◌, ◌<◌, ◌≤◌, true, false, List, [], ◌∷◌, ◌++◌, length, max, refl, ◌∙◌, arith}
-pub use proofs.Common.{append_assoc, length-append, append-nil, Received, IsConsistent, known_lines, Reader}
-pub use proofs.Common.{Slots, unlines, lines, complete_lines, IsLine, AreLines}
-pub use proofs.Common.{max_length, advance_ok_trans, HasNoLine}
+pub use proofs.Common.{append_assoc, length-append, append-nil, Received, IsConsistent, known_lines, Reader, Slots}
+pub use proofs.Common.{unlines, lines, complete_lines, IsLine, AreLines, max_length, advance_ok_trans, HasNoLine}
 pub use proofs.Common.{IsFirstLineAndBlock, ◌≢◌, zero, suc, ◌*◌, get_or, set, line, total_bytes, with_new_slot}
-pub use proofs.Common.{with_line, Side, First, Second, Sorted, HasSlots, Bool}
-pub use proofs.Common.{both, with_side, other, length-set, Lines, MergeTool, drop, sym}
+pub use proofs.Common.{with_line, Side, First, Second, Sorted, HasSlots, Bool, both, with_side, other, length-set}
+pub use proofs.Common.{Lines, MergeTool, drop, sym}
 pub use Rattle.ptlines.proofs.MaxLength.{max_length-append, piece_le_max_length}
 pub use Rattle.std.proofs.Common.{rules}
-pub use Rattle.std.proofs.lemmas.Grind.{common_steps}
+pub use lemmas.Grind.{common_steps}
 use Rattle.ptlines.proofs.TextLaws.{AreLines_push, complete_lines_cons, complete_lines_none, lines_of_last}
 use Rattle.ptlines.proofs.TextLaws.{lines_of_unlines}
-use Rattle.std.proofs.lemmas.List.{drop-set-lt}
+use lemmas.List.{drop-set-lt}
 pub use Rattle.ptlines.proofs.Received.{received_with}
 pub use Rattle.ptlines.proofs.TextLaws.{unlines_push}
 pub use Rattle.ptlines.specs.ReadLine.{FillLine}

@@ -1,5 +1,6 @@
-use Rattle.ptmerge.proofs.Parts.{join_of_keys}
-use Rattle.ptmerge.proofs.laws.join_by_key.Goals as goal
+use Rattle.ptmerge.proofs
+use proofs.Parts.{join_of_keys}
+use proofs.laws.join_by_key.Goals as goal
 
 pub returns : goal.returns
 returns c = join_of_keys

@@ -1,5 +1,5 @@
 //! Fields of a line of `join`, between separators (`-t`) or else between blanks. `output` finds fields in a `SplitLine`
-//! or one after another (`next_field`), and `key_order` finds the span of the join field (`field_span`).
+//! or one after another (`next_field`), and `field_keys` finds the span of the join field (`field_span`).
 
 ghost use Rattle.std.specs.Prelude.{◌≡◌, ◌∷◌, [], None, Some, ◌<◌, ◌+◌, length, position, option_copied, IfSome};
 ghost use Rattle.std.specs.Prelude.{MatchOption};

@@ -14,16 +14,18 @@ use crate::merging::Merge;
 use ptlines::{LineFault, LineReader, Out, Sink, Source, Store};
 use std::alloc::Allocator;
 
-// Adds the slot `slot` if it is missing. All slots below it must exist.
-fn ensure_slot<A: Allocator + Copy>(store: &mut Store<A>, slot: usize) -> Result<(), LineFault>
+// Adds the slot `slot` if it is missing, and returns the number after it. All slots below it must exist.
+fn ensure_slot<A: Allocator + Copy>(store: &mut Store<A>, slot: usize) -> Result<usize, LineFault>
     requires { slot ≤ length store.old.lines }
+    ensures next { IfOk result (λ next. next ≡ slot + 1) }
     ensures ok { OnOk result (EnsureSlotPost store.old store.new slot) }
     ensures err { OnErr result (store.new ≡ with_denied store.old) }
 {
-    if store.slots() == slot {
-        store.add()?;
+    if slot < store.slots() {
+        return Ok(slot + 1);
     }
-    Ok(())
+    store.add()?;
+    Ok(store.slots())
 }
 
 // Copies a line to the slot `to`, which is added if it is missing, and returns `to + 1`.
@@ -34,13 +36,13 @@ fn copy_to_group<A: Allocator + Copy>(
     to: usize,
 ) -> Result<usize, LineFault>
     requires { (from < to) × (to ≤ length store.old.lines) }
-    ensures next { IfOk result (λ end. end ≡ to + 1) }
+    ensures next { IfOk result (λ next. next ≡ to + 1) }
     ensures ok { OnOk result (CopyToGroupPost store.old store.new from to) }
     ensures err { OnErr result (CopyToGroupErrPost store.old store.new to) }
 {
-    ensure_slot(store, to)?;
+    let next = ensure_slot(store, to)?;
     store.copy(from, to)?;
-    Ok(store.slots().min(to + 1))
+    Ok(next)
 }
 
 // Advances the second input, and copies its previous line to the group's slots, if a group is to be kept and that line

@@ -1,5 +1,5 @@
-//! Masks of the blanks of a line of `join`: bit i is set if and only if byte i is a blank. The words of a short line are
-//! found by one mask of the whole line, and those of a long line by a mask of each 64 bytes.
+//! Masks of the blanks of a line of `join`: bit i is set if and only if byte i is a blank. The words of a short line
+//! are found by one mask of the whole line, and those of a long line by a mask of each 64 bytes.
 ghost use Rattle.std.specs.Prelude.{◌≡◌, ◌≢◌, ◌≤◌, ◌<◌, ◌+◌, ◌==◌, ◌-◌, ◌^◌, ℕ, List, bit_or, None, true, length};
 ghost use Rattle.std.specs.Simd.Lanes.{chunk};
 ghost use Rattle.memchr.specs.Find.{IsFirst, IsFirstByte, Passes};

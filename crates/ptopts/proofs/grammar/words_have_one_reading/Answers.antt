@@ -1,7 +1,8 @@
-use Rattle.ptopts.proofs.ParsedIsSpelled.{read_as_spelled, spelled_unless_faulty, options-map}
-use Rattle.ptopts.proofs.grammar.words_have_one_reading.Goals as goal
-use Rattle.ptopts.proofs.Common.{arith}
-use Rattle.ptopts.proofs.SpelledIsParsed.{spelled}
+use Rattle.ptopts.proofs
+use proofs.ParsedIsSpelled.{read_as_spelled, spelled_unless_faulty, options-map}
+use proofs.grammar.words_have_one_reading.Goals as goal
+use proofs.Common.{arith}
+use proofs.SpelledIsParsed.{spelled}
 
 pub returns-clause-matches_grammar : goal.returns-clause-matches_grammar
 returns-clause-matches_grammar c = read_as_spelled

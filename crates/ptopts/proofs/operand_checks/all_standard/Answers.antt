@@ -1,7 +1,7 @@
 use Rattle.ptopts.proofs
 use proofs.Common.{Bor, List, YieldsList-from_slice, all_from_yields_List, is_standard, rules, sym, ℕ, ◌∙◌}
 use Rattle.std.proofs.lemmas.List.Folds.{list_all-map}
-use Rattle.ptopts.proofs.operand_checks.all_standard.Goals as goal
+use proofs.operand_checks.all_standard.Goals as goal
 
 pub returns : goal.returns
 returns c =

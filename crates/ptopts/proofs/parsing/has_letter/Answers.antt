@@ -2,7 +2,7 @@ use Rattle.ptopts.proofs
 use proofs.Common.{YieldsList-from_slice, any_from_yields_List, rules, ◌==◌, ◌∙◌}
 use proofs.OptionViews.{has_option-view}
 use Rattle.ptopts.specs.declared.parsing.ParsedOption.{ParsedOption}
-use Rattle.ptopts.proofs.parsing.has_letter.Goals as goal
+use proofs.parsing.has_letter.Goals as goal
 
 pub returns : goal.returns
 returns c =

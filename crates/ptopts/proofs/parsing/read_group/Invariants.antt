@@ -1,7 +1,7 @@
 use Rattle.ptopts.proofs
 use proofs.Common.{drop, option_map, options_view}
 use proofs.GroupInvariant.{GroupRead}
-use Rattle.ptopts.proofs.parsing.read_group.Given as goal
+use proofs.parsing.read_group.Given as goal
 
 abbrev pub invariant-loop-index : goal.invariant-loop-index
 invariant-loop-index g l =

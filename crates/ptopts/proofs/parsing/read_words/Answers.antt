@@ -1,10 +1,11 @@
 -- Each iteration reads one word of options, and its value if that is the next word.
 use Rattle.ptopts.proofs
+use Rattle.std.proofs.lemmas
 use proofs.Common.{arith, common_steps}
 use proofs.ArgsInvariant.{group_fails, left_smaller}
-use Rattle.std.proofs.lemmas.Option.{slice_get-map}
-use Rattle.ptopts.proofs.parsing.read_words.Goals as goal
-use Rattle.std.proofs.lemmas.List.Elements.{filter_map-append}
+use lemmas.Option.{slice_get-map}
+use proofs.parsing.read_words.Goals as goal
+use lemmas.List.Elements.{filter_map-append}
 
 pub loop-word-preserved : goal.loop-word-preserved
 loop-word-preserved g c = grind (arith, common_steps, filter_map-append)

@@ -1,7 +1,7 @@
 use Rattle.ptopts.proofs
 use proofs.Common.{length, options_view, words_view}
 use proofs.ArgsInvariant.{ArgsRead}
-use Rattle.ptopts.proofs.parsing.read_words.Given as goal
+use proofs.parsing.read_words.Given as goal
 
 abbrev pub invariant-loop-word : goal.invariant-loop-word
 invariant-loop-word g l = ArgsRead l.tool (words_view l.words) (options_view l.options.items) (words_view l.rest)

@@ -1,7 +1,7 @@
 use Rattle.ptopts.proofs
 use proofs.Common.{arith}
 use Rattle.std.proofs.lemmas.Str.{IsCharBoundary-after_ascii}
-use Rattle.ptopts.proofs.parsing.valued_option.Goals as goal
+use proofs.parsing.valued_option.Goals as goal
 
 -- an option with a value is ASCII, so its word may be cut after it
 pub range_from-attached-requires : goal.range_from-attached-requires

@@ -2,7 +2,7 @@
 use Rattle.ptrun.proofs
 use proofs.Common.{AreSoundAt, HasSaid, is_reader_unopened, list_any, positions, take, unopened_messages, words_view}
 use proofs.Common.{◌≡◌}
-use Rattle.ptrun.proofs.driver.report_unopened.Given as goal
+use proofs.driver.report_unopened.Given as goal
 
 abbrev pub invariant-loop-input : goal.invariant-loop-input
 invariant-loop-input g l = record {

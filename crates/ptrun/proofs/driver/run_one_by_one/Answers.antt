@@ -1,7 +1,7 @@
 -- If an operand fails, the run stops there, and the operands after it are unchanged.
-use Rattle.std.proofs.lemmas.Grind.{common_steps}
 use Rattle.ptrun.proofs
 use proofs.Common.{arith, drop, err_from_is_err_and, length, positions, scaled_Fits, sym, ◌+◌, ◌∙◌}
+use Rattle.std.proofs.lemmas.Grind.{common_steps}
 use proofs.OperandInputs.{OperandStep, only_within, operand_step, position_in_range, positions_end}
 use proofs.Sequential.{done_all, done_nothing, done_operand, done_stopped, done_unopened, operand_ready}
 use proofs.ToolRuns.{decides_all, read_in_turn}
@@ -13,8 +13,7 @@ use Rattle.ptrun.proofs.driver.run_one_by_one.Goals as goal
 turn : (g : given.Over) (c : After-position_of-position g)
     → OperandStep c.args.order.now c.loop-input.input-index c.position_of-position.result (length c.args.inputs.now)
 turn g c =
-    operand_step _ _ _ c.requires.ready.given.in_range
-    c.loop-input-test.true c.position_of-position.ensures
+    operand_step _ _ _ c.requires.ready.given.in_range c.loop-input-test.true c.position_of-position.ensures
 
 pub loop-input-init : goal.loop-input-init
 loop-input-init g c =
@@ -22,7 +21,8 @@ loop-input-init g c =
     done_nothing ready.given.fresh ready.writable ready.not_denied ready.empty
 
 pub run_on-requires-clause-within : goal.run_on-requires-clause-within
-run_on-requires-clause-within g c = only_within (omega (arith, (turn g (goal.at.run_on-requires-clause-within g c).After-position_of-position).low))
+run_on-requires-clause-within g c =
+    only_within (omega (arith, (turn g (goal.at.run_on-requires-clause-within g c).After-position_of-position).low))
 
 pub run_on-requires-clause-ready : goal.run_on-requires-clause-ready
 run_on-requires-clause-ready g c =
@@ -81,7 +81,8 @@ offset_bounds-inputs-position g c =
     search (scaled_Fits, arith)
 
 pub name_at-requires : goal.name_at-requires
-name_at-requires g c = grind (arith, common_steps, (turn g (goal.at.name_at-requires g c).After-position_of-position).low)
+name_at-requires g c =
+    grind (arith, common_steps, (turn g (goal.at.name_at-requires g c).After-position_of-position).low)
 
 pub position_of-position-requires : goal.position_of-position-requires
 position_of-position-requires g c = grind (arith, position_in_range)

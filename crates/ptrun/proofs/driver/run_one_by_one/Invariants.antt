@@ -3,7 +3,7 @@ use Rattle.ptrun.proofs
 use proofs.Common.{positions, take, words_view}
 use proofs.Sequential.{OperandsDone}
 use proofs.ToolRuns.{one_tool}
-use Rattle.ptrun.proofs.driver.run_one_by_one.Given as goal
+use proofs.driver.run_one_by_one.Given as goal
 
 abbrev pub invariant-loop-input : goal.invariant-loop-input
 invariant-loop-input g l =

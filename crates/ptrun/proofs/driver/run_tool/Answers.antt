@@ -6,7 +6,7 @@ use proofs.MessageWrites.{said_nothing}
 use proofs.OperandInputs.{position_in_range}
 use proofs.RunEnds.{run_in_store}
 use proofs.ToolRuns.{reads_if, together_post, together_says, unopened_run}
-use Rattle.ptrun.proofs.driver.run_tool.Goals as goal
+use proofs.driver.run_tool.Goals as goal
 
 pub positions_of-requires-clause-in_range : goal.positions_of-requires-clause-in_range
 positions_of-requires-clause-in_range g c = rw c.deref-order.ensures.value (λ k d within. omega (
@@ -31,8 +31,7 @@ end_run-requires g c =
     c.requires.unused.store.empty
     (rw (c.deref.ensures.0 ∙ c.positions_of.ensures, c.deref-order.ensures.value) at c.run_on-run_result.ensures) in
     subst (λ (n : ℕ). HasIndexBelow n c.run_on-run_result.result)
-    (rw c.deref-names.ensures.value
-    (grind (arith, common_steps))) post.position
+    (rw c.deref-names.ensures.value (grind (arith, common_steps))) post.position
 
 pub returns-then-report_unopened : goal.returns-then-report_unopened
 returns-then-report_unopened g c = grind (arith, unopened_run)
@@ -42,14 +41,15 @@ returns-then-reads_together g c =
     let s = g.T.Tool.tool c.args.tool.now in
     let reported = rw (c.name.ensures, c.deref-order.ensures.value, c.deref-names.ensures.value) at
     c.report_unopened.ensures in
-    let post = together_post _ _ _ s c.report_unopened.new.messages (sym c.reads_together.ensures ∙ c.if-reads_together.true) c.requires.given reported
+    let post = together_post _ _ _ s c.report_unopened.new.messages
+    (sym c.reads_together.ensures ∙ c.if-reads_together.true) c.requires.given reported
     c.if-report_unopened.false
     (ap (λ (o : Output). o.write_failed) c.new-out.ensures) c.requires.unused.store.not_denied
     c.requires.unused.store.empty
     (rw (c.deref.ensures.0 ∙ c.positions_of.ensures, c.deref-order.ensures.value) at c.run_on-run_result.ensures) in
     let reads = reads_if _ _ _ s _ (λ together. sym reported.is ∙ c.if-report_unopened.false) in
     record {
-      run = run_in_store (g.W.Sink.state c.args.out) (outcome (g.W.Sink.state) (g.E.Sink.state) c.end_run.result)
+      run = run_in_store (g.W.Sink.state c.args.out) (outcome g.W.Sink.state g.E.Sink.state c.end_run.result)
           (together_says _ _ _ reported c.if-report_unopened.false) post
           (rw (c.name-then-reads_together.ensures, c.deref-names.ensures.value) at c.end_run.ensures)
           c.new-out.ensures c.requires.unused.store.never;
@@ -63,7 +63,7 @@ returns g c =
     let reads = reads_if _ _ _ (g.T.Tool.tool c.args.tool.now) _
     (λ together. absurd (false≢true (sym (sym c.reads_together.ensures ∙ c.if-reads_together.false) ∙ together))) in
     record {
-      run = run_in_store (g.W.Sink.state c.args.out) (outcome (g.W.Sink.state) (g.E.Sink.state) c.end_run-2.result)
+      run = run_in_store (g.W.Sink.state c.args.out) (outcome g.W.Sink.state g.E.Sink.state c.end_run-2.result)
           (said_nothing c.args.messages) ran
           (rw (c.name-2.ensures, c.deref-names.ensures.value) at c.end_run-2.ensures) c.new-out-2.ensures
           c.requires.unused.store.never;

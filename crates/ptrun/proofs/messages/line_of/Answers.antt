@@ -1,7 +1,7 @@
 use Rattle.ptrun.proofs
 use proofs.Common.{rules}
 use proofs.MessageWrites.{joined_more}
-use Rattle.ptrun.proofs.messages.line_of.Goals as goal
+use proofs.messages.line_of.Goals as goal
 
 pub loop-part-preserved : goal.loop-part-preserved
 loop-part-preserved c = search (rules, joined_more)

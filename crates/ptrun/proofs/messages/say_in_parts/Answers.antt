@@ -2,8 +2,8 @@
 use Rattle.ptrun.proofs
 use proofs.Common.{arith, common_steps, rules}
 use proofs.MessageWrites.{joined_all, joined_more, line_split, say_post_all, say_post_part}
-use Rattle.ptrun.proofs.messages.say_in_parts.Goals as goal
 use Rattle.ptlines.proofs.KnownBytes.{append_known-append}
+use proofs.messages.say_in_parts.Goals as goal
 
 pub returns-in-Err : goal.returns-in-Err
 returns-in-Err g c =
@@ -11,12 +11,10 @@ returns-in-Err g c =
     search (rules, say_post_part)
 
 pub loop-part-preserved : goal.loop-part-preserved
-loop-part-preserved g c =
-    rw (joined_more _ c.loop-part.part-index c.loop-part-test.true) (grind (arith, common_steps))
+loop-part-preserved g c = rw (joined_more _ c.loop-part.part-index c.loop-part-test.true) (grind (arith, common_steps))
 
 pub returns-in-Ok-write_out : goal.returns-in-Ok-write_out
 returns-in-Ok-write_out g c = grind (arith, joined_all, say_post_all, append_known-append)
 
 pub returns-in-Err-write_out : goal.returns-in-Err-write_out
-returns-in-Err-write_out g c =
-    grind (arith, common_steps, joined_all)
+returns-in-Err-write_out g c = grind (arith, common_steps, joined_all)

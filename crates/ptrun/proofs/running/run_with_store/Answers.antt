@@ -2,8 +2,8 @@
 use Rattle.ptrun.proofs
 use proofs.Common.{arith, words_view, command_view}
 use proofs.RunEnds.{exact_for_args, message_only_run, spec_of_fault, inputs_pre_of_spelled}
-use Rattle.ptrun.proofs.running.run_with_store.Goals as goal
 use Rattle.ptopts.proofs.CommandGrammar.{meant_as_spelled}
+use proofs.running.run_with_store.Goals as goal
 
 pub run_command-requires-clause-given : goal.run_command-requires-clause-given
 run_command-requires-clause-given g c =
@@ -37,5 +37,4 @@ returns-in-Err-clause-is_exact g c =
 
 pub returns-in-Ok-clause-is_exact : goal.returns-in-Ok-clause-is_exact
 returns-in-Ok-clause-is_exact g c =
-    exact_for_args _ (words_view c.args.words.now) _ _ _ _ c.requires.fresh.1
-    (returns-in-Ok-clause-run g c).run
+    exact_for_args _ (words_view c.args.words.now) _ _ _ _ c.requires.fresh.1 (returns-in-Ok-clause-run g c).run

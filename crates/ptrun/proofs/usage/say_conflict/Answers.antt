@@ -1,5 +1,6 @@
-use Rattle.ptrun.proofs.Common.{ap, encode_utf8, ◌∙◌}
-use Rattle.ptrun.proofs.usage.say_conflict.Goals as goal
+use Rattle.ptrun.proofs
+use proofs.Common.{ap, encode_utf8, ◌∙◌}
+use proofs.usage.say_conflict.Goals as goal
 
 pub returns : goal.returns
 returns g c =

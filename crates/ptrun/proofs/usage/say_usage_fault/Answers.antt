@@ -1,6 +1,7 @@
 -- Each fault has one message, which its branch says.
-use Rattle.ptrun.proofs.Common.{rules}
-use Rattle.ptrun.proofs.usage.say_usage_fault.Goals as goal
+use Rattle.ptrun.proofs
+use proofs.Common.{rules}
+use proofs.usage.say_usage_fault.Goals as goal
 
 pub returns-in-Together-clause-message : goal.returns-in-Together-clause-message
 returns-in-Together-clause-message g c = search rules

@@ -34,10 +34,7 @@ module _ {k j : ℕ} (low : j < k) where
       let same : n % k ≡ n = mod-eq_of_lt (omega arith) in
       let next : n < j → j - n ≡ suc (j - (n + 1)) = λ less. omega arith in
       let more = chosen (n + 1) b xs (omega arith) in
-      ⊎_elim
-      (λ less. grind arith)
-      (grind arith)
-      (cases_lt n j)
+      ⊎_elim (λ less. grind arith) (grind arith) (cases_lt n j)
 
   column_is : (ls : Lines) → every_kth k j ls ≡ take 1 (drop j ls) ++ every_kth k j (drop k ls)
   column_is ls = grind (arith, chosen 0 k ls (omega arith))
@@ -127,8 +124,7 @@ last_use (x ∷ cells) p some =
     (λ more.
     let (c, low, is, count) = last_use cells p more in
     (suc c, omega arith, is, grind (arith, common_steps)))
-    (grind arith)
-    (cases_lt 0 _)
+    (grind arith) (cases_lt 0 _)
 
 module _ (cells : List ℕ) where
   pub uses_more : (c p : ℕ) → c < length cells
@@ -140,8 +136,7 @@ module _ (cells : List ℕ) where
 
   pub uses_before_lt : (c : ℕ) → c < length cells → uses_of (take c cells) (get_or cells c 0) < uses_of cells
       (get_or cells c 0)
-  uses_before_lt c low =
-      grind (arith, uses_more c (get_or cells c 0) low, uses_before (c + 1) (get_or cells c 0))
+  uses_before_lt c low = grind (arith, uses_more c (get_or cells c 0) low, uses_before (c + 1) (get_or cells c 0))
 
   -- ---- one row of a grid
 
@@ -196,10 +191,8 @@ module _ (cells : List ℕ) where
       → ((c : ℕ) × (c < length cells) × (uses_of (take c cells) (get_or cells c 0) < length (f (get_or cells c 0))))
       ⊎ ((c : ℕ) → c < n → length (f (get_or cells c 0)) ≤ uses_of (take c cells) (get_or cells c 0))
   some_cell f zero high = inr (λ c low. absurd (omega arith))
-  some_cell f (suc n) high = ⊎_elim
-      (λ here. inl (n, omega arith, here))
-      (λ past. ⊎_elim inl (grind arith) (some_cell f n (omega arith)))
-      (cases_lt _ _)
+  some_cell f (suc n) high = ⊎_elim (λ here. inl (n, omega arith, here))
+      (λ past. ⊎_elim inl (grind arith) (some_cell f n (omega arith))) (cases_lt _ _)
 
   -- More lines follow only in an input that has all the lines that n rows take.
   pub rows-append : (n : ℕ) (ins more : ℕ → Lines) → ((p : ℕ) → 0 < uses_of cells p

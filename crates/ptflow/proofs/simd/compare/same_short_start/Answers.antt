@@ -1,10 +1,10 @@
 -- The lowest bit of the mask is the first lane that differs.
 use Rattle.ptflow.proofs
-use proofs.Common.{◌≡◌, ◌≤◌, ℕ, Bool, not, zero, suc, List, [], ◌∷◌, length, take, refl, ◌∙◌}
-use proofs.Common.{arith, eqb, nat_tests, prefix_len, mask_l-mod, zip2, length-zip2, tops_compared, w8}
-use proofs.Common.{take-take, length-take-le}
-use Rattle.std.proofs.lemmas.List.{map-id}
-use Rattle.std.proofs.lemmas.Simd.{first_set_mask_l}
+use Rattle.std.proofs.lemmas
+use proofs.Common.{◌≡◌, ◌≤◌, ℕ, Bool, not, zero, suc, List, [], ◌∷◌, length, take, refl, ◌∙◌, arith, eqb, nat_tests}
+use proofs.Common.{prefix_len, mask_l-mod, zip2, length-zip2, tops_compared, w8, take-take, length-take-le}
+use lemmas.List.{map-id}
+use lemmas.Simd.{first_set_mask_l}
 use proofs.simd.compare.same_short_start.Goals as goal
 
 abbrev differ : ℕ → ℕ → Bool

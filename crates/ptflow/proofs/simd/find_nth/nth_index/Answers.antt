@@ -11,8 +11,7 @@ here c =
     let v = chunk c.loop-at.at 64 c.args.bytes.now in
     let counted = ap count_ones c.match_mask-mask.ensures ∙ ones-mask_l (is_byte c.args.byte) v in
     c.nth_bit.ensures (is_byte c.args.byte) v
-    (omega (arith, length-chunk c.loop-at.at 64 c.args.bytes.now (omega arith))) c.match_mask-mask.ensures
-    (omega arith)
+    (omega (arith, length-chunk c.loop-at.at 64 c.args.bytes.now (omega arith))) c.match_mask-mask.ensures (omega arith)
 
 pub overflow_add-index : goal.overflow_add-index
 overflow_add-index c =

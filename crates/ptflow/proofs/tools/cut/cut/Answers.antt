@@ -13,8 +13,7 @@ ends true = refl
 ends false = refl
 
 pub returns-then-has_failed : goal.returns-then-has_failed
-returns-then-has_failed g c = pass_unchanged _ _ _ _ c.requires
-    (sym c.has_failed.ensures ∙ c.if-has_failed.true)
+returns-then-has_failed g c = pass_unchanged _ _ _ _ c.requires (sym c.has_failed.ensures ∙ c.if-has_failed.true)
 
 pub run_lines-requires-clause-tool : goal.run_lines-requires-clause-tool
 run_lines-requires-clause-tool g c = grind (arith, (cut_sure (cut_job c.new.result.by.job.now)))
@@ -35,7 +34,8 @@ returns g c =
     let start = c.new-2.ensures.start in
     let pass = c.run_blocks.ensures (cut_tool job)
     (record {
-      text = λ bytes. (λ i. cut_list_from (end i) (list i) (start i) bytes) ∙ (simp (rest_of_all, (made_is job c.if-job.false)));
+      text = λ bytes. (λ i. cut_list_from (end i) (list i) (start i) bytes) ∙
+          (simp (rest_of_all, (made_is job c.if-job.false)));
       decided = λ given pushed now holds on.
           rest_is_decided job c.if-job.false given pushed now.line_offset
           (λ rest. (λ i. cut_list_from (sym end i) (sym list i) (sym start i) (given ++ rest)) ∙ on rest

@@ -1,5 +1,6 @@
-use Rattle.ptflow.proofs.Common.{◌≡◌, ◌<◌, ℕ, [], length, Slots, line, SlotsBound}
-use Rattle.ptflow.proofs.tools.paste.clear_slots.Given as goal
+use Rattle.ptflow.proofs
+use proofs.Common.{◌≡◌, ◌<◌, ℕ, [], length, Slots, line, SlotsBound}
+use proofs.tools.paste.clear_slots.Given as goal
 
 abbrev pub invariant-loop-column : goal.invariant-loop-column
 invariant-loop-column g l = record {

@@ -1,9 +1,10 @@
 -- Each line is read into its slot. If the columns before it were all copied, it is copied from there, and the next
 -- columns from the buffers.
 use Rattle.ptflow.proofs
-use proofs.Common.{◌≡◌, ◌+◌, List, [], ◌++◌, length, take, get_or, set, ◌∙◌, arith, err_from_is_err_and, PushEffect}
+use proofs.Common.{◌≡◌, ◌+◌, List, [], ◌++◌, length, take, get_or, set, ◌∙◌, arith, PushEffect}
 use proofs.Common.{Reader, Slots, push_nothing, push_trans, ◌||◌, BegunText, BufferedRowsPre, RowAmid, after_cell}
 use proofs.Common.{begun_in, shape_of, rules}
+use proofs.Passes.Exits.{is_fault}
 use borrow.Author.Rules.{scaled_Fits}
 use proofs.PasteLemmas.BufferedRows.{next_reader, amid_next, amid_failed, with_slot, readable_after, amid_columns}
 use proofs.PasteLemmas.BufferedRows.{amid_copied, still_readable}
@@ -29,14 +30,12 @@ pub bounds-readers-input : goal.bounds-readers-input
 bounds-readers-input g c = let low = c.requires.readable.within c.cells.column 0 c.cells-test.true in omega arith
 
 pub fill_cell-requires-clause-readable : goal.fill_cell-requires-clause-readable
-fill_cell-requires-clause-readable g c =
-    (next_reader c.cells.invariant.readable c.cells-test.true _).clean
+fill_cell-requires-clause-readable g c = (next_reader c.cells.invariant.readable c.cells-test.true _).clean
 
 pub returns-in_err-has_line-clause-fills : goal.returns-in_err-has_line-clause-fills
 returns-in_err-has_line-clause-fills g c =
-    let (fault, same, is) = err_from_is_err_and c.from_residual.result c.from_residual.ensures.1 in
-    rw (same, is) (λ from first a. amid_failed (c.cells.invariant.amid from first a) (search (rules, next_reader)) _ _
-    c.cells.into c.in_err-has_line.field-0.0 c.in_err-has_line.ensures.fills)
+    rw (is_fault c.from_residual.ensures) (λ from first a. amid_failed (c.cells.invariant.amid from first a)
+    (search (rules, next_reader)) _ _ c.cells.into c.in_err-has_line.field-0.0 c.in_err-has_line.ensures.fills)
 
 sent : (g : given.Over) (c : After-fill_cell g) → PushEffect c.args.out.now c.fill_cell.new.out []
 sent g c = push_trans _ _ _ _ _ c.cells.invariant.clean c.cells.invariant.wrote c.fill_cell.ensures.wrote
@@ -101,6 +100,5 @@ cells-preserved g c =
 
 pub returns-clause-fills : goal.returns-clause-fills
 returns-clause-fills g c = λ from first a.
-    let all : c.cells.column ≡ length c.args.row.cells.now = omega arith
-    in
+    let all : c.cells.column ≡ length c.args.row.cells.now = omega arith in
     rw all at (c.cells.invariant.amid from first a)

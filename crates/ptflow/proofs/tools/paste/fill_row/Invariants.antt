@@ -1,7 +1,8 @@
 -- It does not matter how the first columns had been filled. Buffered output may have been written out.
-use Rattle.ptflow.proofs.Common.{◌≡◌, ◌≤◌, ◌-◌, List, false, [], length, PushEffect, Reader, Slots, BufferedRowsPre}
-use Rattle.ptflow.proofs.Common.{RowAmid, begun_in, shape_of}
-use Rattle.ptflow.proofs.tools.paste.fill_row.Given as goal
+use Rattle.ptflow.proofs
+use proofs.Common.{◌≡◌, ◌≤◌, ◌-◌, List, false, [], length, PushEffect, Reader, Slots, BufferedRowsPre, RowAmid}
+use proofs.Common.{begun_in, shape_of}
+use proofs.tools.paste.fill_row.Given as goal
 
 abbrev pub invariant-cells : goal.invariant-cells
 invariant-cells g l = record {

@@ -1,20 +1,20 @@
 -- Each iteration takes the complete rows in the buffers, and finishes the next row. If that has no line, all readers
 -- are at the end of their inputs.
 use Rattle.ptflow.proofs
-use proofs.Common.{sym, ap, subst, arith, length, paste_job, job_shape, RowShape, RowAmid, begun_in, shape_of, Write}
-use proofs.Common.{length-take-le, call_on_failed_output, push_nothing, refl, [], ◌∙◌}
+use proofs.Common.{sym, ap, subst, arith, length, paste_job, job_shape, RowShape, RowAmid, begun_in, shape_of}
+use proofs.Common.{length-take-le, call_on_failed_output, push_nothing, refl, [], ◌∙◌, Ok, Output}
 use Rattle.std.proofs.lemmas.Bool.{not-false, not-true}
-use proofs.PasteLemmas.{by_fault, of_rows, row_job, paste_without_slots, rows_write_failed, paste_done}
+use proofs.Passes.Exits.{is_fault}
+use proofs.PasteLemmas.{of_rows, row_job, paste_without_slots, rows_write_failed, paste_done}
 use proofs.PasteLemmas.{paste_fill_failed, paste_row_write_failed, HasStarted, invariant_rows, invariant_written}
-use proofs.PasteLemmas.{row_slots, invariant_slots, invariant_more, now_readable, RowsInvariant}
-use proofs.PasteLemmas.{still_readable, amid_starts, nothing_taken, rows_taken_none, slots_bound_start}
-use Rattle.ptflow.proofs.tools.paste.paste.Goals.{After-ensure_slots, In_ok-filled}
+use proofs.PasteLemmas.{row_slots, invariant_slots, invariant_more, now_readable, RowsInvariant, still_readable}
+use proofs.PasteLemmas.{amid_starts, nothing_taken, rows_taken_none, slots_bound_start}
+use Rattle.ptflow.proofs.tools.paste.paste.Goals.{After-ensure_slots, In_ok-filled, In_ok-push}
 use Rattle.ptflow.proofs.tools.paste.paste.Given as given
 use Rattle.ptflow.proofs.tools.paste.paste.Goals as goal
 
 pub returns-then-has_failed : goal.returns-then-has_failed
-returns-then-has_failed g c =
-    call_on_failed_output _ _ (cc) c.requires.not_denied
+returns-then-has_failed g c = call_on_failed_output _ _ (cc) c.requires.not_denied
 
 pub set_terminators-requires : goal.set_terminators-requires
 set_terminators-requires g c = c.requires.within
@@ -57,9 +57,9 @@ write_shared_rows-requires-clause-readable g c = now_readable c.rows.invariant
 pub returns-in_err-write_shared_rows : goal.returns-in_err-write_shared_rows
 returns-in_err-write_shared_rows g c =
     let p = c.write_shared_rows.ensures.rows in
-    by_fault c.from_residual-in_err-write_shared_rows.result Write c.row_format-row.ensures
-    c.from_residual-in_err-write_shared_rows.ensures (rows_write_failed c.rows.invariant p.rows 0
-    (λ input. nothing_taken refl) p.consumed p.wrote c.in_err-write_shared_rows.ensures.fault)
+    of_rows c.row_format-row.ensures (is_fault c.from_residual-in_err-write_shared_rows.ensures)
+    (rows_write_failed c.rows.invariant p.rows 0 (λ input. nothing_taken refl) p.consumed p.wrote
+    c.in_err-write_shared_rows.ensures.fault)
 
 pub copy_rows-copied-requires : goal.copy_rows-copied-requires
 copy_rows-copied-requires g c = still_readable c.write_shared_rows.ensures.rows.consumed (now_readable c.rows.invariant)
@@ -70,10 +70,9 @@ slice_bounds-push-end g c = sym (length-take-le _ c.copy_rows-copied.new.into (o
 pub returns-in_err-push : goal.returns-in_err-push
 returns-in_err-push g c =
     let p = c.copy_rows-copied.ensures.rows in
-    by_fault c.from_residual-in_err-push.result Write c.row_format-row.ensures
-    c.from_residual-in_err-push.ensures (rows_write_failed (invariant_written c.rows.invariant
-    c.write_shared_rows.ensures.rows c.in_ok-write_shared_rows.ensures.clean) p.rows _ p.filled.consumed.lines_taken
-    p.consumed c.push.ensures.pushed.wrote c.in_err-push.ensures.pushed.fault)
+    of_rows c.row_format-row.ensures (is_fault c.from_residual-in_err-push.ensures) (rows_write_failed
+    (invariant_written c.rows.invariant c.write_shared_rows.ensures.rows c.in_ok-write_shared_rows.ensures.clean) p.rows
+    _ p.filled.consumed.lines_taken p.consumed c.push.ensures.pushed.wrote c.in_err-push.ensures.pushed.fault)
 
 pub fill_row-requires-clause-readable : goal.fill_row-requires-clause-readable
 fill_row-requires-clause-readable g c = still_readable c.copy_rows-copied.ensures.rows.consumed
@@ -88,31 +87,39 @@ fill_row-requires-clause-within g c = omega (
 pub fill_row-requires-clause-slots : goal.fill_row-requires-clause-slots
 fill_row-requires-clause-slots g c = invariant_slots c.rows.invariant
 
+module _ (g : given.Over) (c : In_ok-push g) where
+  abbrev shape : RowShape
+  shape = shape_of c.row_format-row.result
+
+  -- The invariant after the rows in the buffers were pushed.
+  abbrev Sent : Output → Type 0
+  Sent out = RowsInvariant shape c.args.readers.now c.set_terminators.new.readers c.copy_rows-copied.ensures.rows.mid
+      c.args.out.now out c.args.store.now c.rows.store
+
+  pushed : Sent c.push.new.self
+  pushed = invariant_rows (invariant_written c.rows.invariant c.write_shared_rows.ensures.rows
+      c.in_ok-write_shared_rows.ensures.clean) c.copy_rows-copied.ensures.rows.rows c.push.ensures.pushed.wrote
+      c.in_ok-push.ensures.pushed.clean
+
 pub returns-in_err-filled : goal.returns-in_err-filled
-returns-in_err-filled g c = by_fault c.from_residual-in_err-filled.result
-    c.in_err-filled.field-0.0 c.row_format-row.ensures c.from_residual-in_err-filled.ensures (paste_fill_failed
-    (invariant_rows (invariant_written c.rows.invariant c.write_shared_rows.ensures.rows
-    c.in_ok-write_shared_rows.ensures.clean) c.copy_rows-copied.ensures.rows.rows c.push.ensures.pushed.wrote
-    c.in_ok-push.ensures.pushed.clean) c.fill_row.new.readers c.fill_row.new.into
+returns-in_err-filled g c =
+    of_rows c.row_format-row.ensures (is_fault c.from_residual-in_err-filled.ensures) (paste_fill_failed
+    (pushed g (goal.at.returns-in_err-filled g c).In_ok-push) c.fill_row.new.readers c.fill_row.new.into
     c.in_err-filled.field-0.0 (c.in_err-filled.ensures.fills _ _ (amid_starts c.copy_rows-copied.ensures.rows
     (c.move_to_front-begun.ensures _))) c.in_err-filled.ensures.wrote c.in_err-filled.ensures.write_failed)
 
 module _ (g : given.Over) (c : In_ok-filled g) where
-  abbrev shape : RowShape
-  shape = shape_of c.row_format-row.result
+  abbrev here : In_ok-push g
+  here = (goal.at.In_ok-filled g c).In_ok-push
 
-  amid : RowAmid shape (length shape.cells) c.copy_rows-copied.ensures.rows.mid c.rows.store
+  amid : RowAmid (shape g here) (length (shape g here).cells) c.copy_rows-copied.ensures.rows.mid c.rows.store
       (begun_in c.fill_row.new.readers c.in_ok-filled.filled c.fill_row.new.into) c.fill_row.new.store
   amid = c.in_ok-filled.ensures.fills _ _
       (amid_starts c.copy_rows-copied.ensures.rows (c.move_to_front-begun.ensures _))
 
   -- The invariant before the row was written.
-  sent : RowsInvariant shape c.args.readers.now c.set_terminators.new.readers c.copy_rows-copied.ensures.rows.mid
-      c.args.out.now c.fill_row.new.out c.args.store.now c.rows.store
-  sent = invariant_rows (invariant_rows (invariant_written c.rows.invariant c.write_shared_rows.ensures.rows
-      c.in_ok-write_shared_rows.ensures.clean) c.copy_rows-copied.ensures.rows.rows c.push.ensures.pushed.wrote
-      c.in_ok-push.ensures.pushed.clean) rows_taken_none c.in_ok-filled.ensures.wrote
-      c.in_ok-filled.ensures.write_failed
+  sent : Sent g here c.fill_row.new.out
+  sent = invariant_rows (pushed g here) rows_taken_none c.in_ok-filled.ensures.wrote c.in_ok-filled.ensures.write_failed
 
 pub clear_slots-requires : goal.clear_slots-requires
 clear_slots-requires g c =
@@ -121,8 +128,8 @@ clear_slots-requires g c =
 pub returns-then-not-filled : goal.returns-then-not-filled
 returns-then-not-filled g c =
     let here = (goal.at.returns-then-not-filled g c).In_ok-filled in
-    of_rows c.row_format-row.ensures (paste_done (sent g here) (amid g here) (not-true _ c.if-not-filled.true)
-    c.clear_slots.ensures (push_nothing _) c.in_ok-filled.ensures.write_failed)
+    of_rows {result = Ok tt} c.row_format-row.ensures refl (paste_done (sent g here) (amid g here)
+    (not-true _ c.if-not-filled.true) c.clear_slots.ensures (push_nothing _) c.in_ok-filled.ensures.write_failed)
 
 pub write_row-requires-clause-within : goal.write_row-requires-clause-within
 write_row-requires-clause-within g c = (amid g (goal.at.write_row-requires-clause-within g c).In_ok-filled).within
@@ -134,9 +141,9 @@ write_row-requires-clause-slots g c =
 pub returns-in_err-write_row : goal.returns-in_err-write_row
 returns-in_err-write_row g c =
     let here = (goal.at.returns-in_err-write_row g c).In_ok-filled in
-    by_fault c.from_residual-in_err-write_row.result Write c.row_format-row.ensures
-    c.from_residual-in_err-write_row.ensures (paste_row_write_failed (sent g here) (amid g here)
-    (not-false _ c.if-not-filled.false) c.write_row.ensures.wrote c.in_err-write_row.ensures.fault)
+    of_rows c.row_format-row.ensures (is_fault c.from_residual-in_err-write_row.ensures) (paste_row_write_failed
+    (sent g here) (amid g here) (not-false _ c.if-not-filled.false) c.write_row.ensures.wrote
+    c.in_err-write_row.ensures.fault)
 
 pub rows-smaller : goal.rows-smaller
 rows-smaller g c = omega (

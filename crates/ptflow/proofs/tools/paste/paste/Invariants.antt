@@ -1,7 +1,8 @@
 -- The rows so far were pushed; those left are the rows of the lines still to come.
-use Rattle.ptflow.proofs.Common.{sum_by, budget, shape_of}
-use Rattle.ptflow.proofs.PasteLemmas.{RowsInvariant}
-use Rattle.ptflow.proofs.tools.paste.paste.Given as goal
+use Rattle.ptflow.proofs
+use proofs.Common.{sum_by, budget, shape_of}
+use proofs.PasteLemmas.{RowsInvariant}
+use proofs.tools.paste.paste.Given as goal
 
 abbrev pub invariant-rows : goal.invariant-rows
 invariant-rows g l = RowsInvariant (shape_of l.row) l.fn.readers l.initial.readers l.readers l.fn.out l.out l.fn.store

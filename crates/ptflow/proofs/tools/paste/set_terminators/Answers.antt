@@ -2,7 +2,7 @@
 use Rattle.ptflow.proofs
 use proofs.Common.{◌≡◌, ◌<◌, Bool, cond, length, get_or, arith, terminator, common_steps, rules}
 use proofs.PasteLemmas.BufferedRows.Rows.{at_index, set_terminator_more}
-use Rattle.ptflow.proofs.tools.paste.set_terminators.Goals as goal
+use proofs.tools.paste.set_terminators.Goals as goal
 
 ending_is : (zero : Bool) → cond zero 0 10 ≡ terminator zero
 ending_is = grind arith
@@ -12,13 +12,11 @@ loop-input-preserved g c =
     let i = c.loop-input.input-index in
     let now = c.loop-input.readers in
     let within : get_or c.args.cells.now i 0 < length now = omega (arith, c.requires i 0 c.loop-input-test.true) in
-    set_terminator_more _ _ i _ now _
-    c.loop-input-test.true within c.loop-input.invariant
+    set_terminator_more _ _ i _ now _ c.loop-input-test.true within c.loop-input.invariant
     (search (rules, at_index, ending_is)) c.set_ending.ensures.is_sound
 
 pub bounds-readers-input : goal.bounds-readers-input
-bounds-readers-input g c =
-    grind (arith, common_steps)
+bounds-readers-input g c = grind (arith, common_steps)
 
 pub offset_bounds-readers-input : goal.offset_bounds-readers-input
 offset_bounds-readers-input g c = grind (arith, common_steps)

@@ -1,5 +1,6 @@
-use Rattle.ptflow.proofs.Common.{take, terminator, SetTerminatorsPost}
-use Rattle.ptflow.proofs.tools.paste.set_terminators.Given as goal
+use Rattle.ptflow.proofs
+use proofs.Common.{take, terminator, SetTerminatorsPost}
+use proofs.tools.paste.set_terminators.Given as goal
 
 abbrev pub invariant-loop-input : goal.invariant-loop-input
 invariant-loop-input g l = SetTerminatorsPost (terminator l.zero) (take l.input-index l.cells) l.fn.readers l.readers

@@ -1,11 +1,11 @@
 -- A failed write leaves a prefix of the row.
 use Rattle.ptflow.proofs
 use proofs.Common.{◌≡◌, ℕ, ◌+◌, ◌<◌, ◌≤◌, [], ◌++◌, length, take, refl, ap, ◌∙◌, arith, append-nil, drop_all, drop_more}
-use proofs.Common.{length-take-le, get_or-take, err_from_is_err_and, Slots, line, RowShape, after_cell, cells_text}
+use proofs.Common.{length-take-le, get_or-take, Slots, line, RowShape, after_cell, cells_text}
 use proofs.Common.{shape_of, slots_text}
 use Rattle.std.proofs.lemmas.List.{length-take}
-use proofs.Passes.Exits.{prefix_starts, front_more, front_fails, push_failed}
-use Rattle.ptflow.proofs.tools.paste.write_row.Goals as goal
+use proofs.Passes.Exits.{is_fault, prefix_starts, front_more, front_fails, push_failed}
+use proofs.tools.paste.write_row.Goals as goal
 
 slots_next : (row : RowShape) (column : ℕ) (store : Slots) → column < length row.cells
     → length row.cells ≤ length store.lines → slots_text row column store
@@ -19,8 +19,7 @@ slots_next row column store low room =
 
 pub returns-in_err-push : goal.returns-in_err-push
 returns-in_err-push g c =
-    let (fault, same, is) = err_from_is_err_and c.from_residual.result c.from_residual.ensures.1 in
-    push_failed same (front_fails (prefix_starts refl) _ refl c.push.ensures.pushed.wrote
+    push_failed (is_fault c.from_residual.ensures) (front_fails (prefix_starts refl) _ refl c.push.ensures.pushed.wrote
     c.in_err-push.ensures.pushed.fault) c.in_err-push.ensures.pushed.fault
 
 pub loop-column-init : goal.loop-column-init
@@ -31,11 +30,9 @@ loop-column-init g c = record {
 
 pub returns-in_err-write_slot : goal.returns-in_err-write_slot
 returns-in_err-write_slot g c =
-    let (fault, same, is) = err_from_is_err_and c.from_residual-in_err-write_slot.result
-    c.from_residual-in_err-write_slot.ensures.1 in
-    push_failed same (front_fails c.loop-column.invariant.front _ (slots_next (shape_of c.args.row)
-    c.loop-column.column c.args.store.now c.loop-column-test.true c.requires.slots) c.write_slot.ensures.wrote
-    c.in_err-write_slot.ensures.fault) c.in_err-write_slot.ensures.fault
+    push_failed (is_fault c.from_residual-in_err-write_slot.ensures) (front_fails c.loop-column.invariant.front _
+    (slots_next (shape_of c.args.row) c.loop-column.column c.args.store.now c.loop-column-test.true c.requires.slots)
+    c.write_slot.ensures.wrote c.in_err-write_slot.ensures.fault) c.in_err-write_slot.ensures.fault
 
 pub loop-column-preserved : goal.loop-column-preserved
 loop-column-preserved g c = record {

@@ -1,7 +1,8 @@
 -- The copied text was pushed, and then the fields of the columns so far.
-use Rattle.ptflow.proofs.Common.{◌≡◌, ◌++◌, false, take, shape_of, slots_text}
-use Rattle.ptflow.proofs.Passes.Exits.{WrittenPrefix}
-use Rattle.ptflow.proofs.tools.paste.write_row.Given as goal
+use Rattle.ptflow.proofs
+use proofs.Common.{◌≡◌, ◌++◌, false, take, shape_of, slots_text}
+use proofs.Passes.Exits.{WrittenPrefix}
+use proofs.tools.paste.write_row.Given as goal
 
 abbrev pub invariant-loop-column : goal.invariant-loop-column
 invariant-loop-column g l = record {

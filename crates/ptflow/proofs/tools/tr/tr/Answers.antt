@@ -6,8 +6,7 @@ use proofs.TrLemmas.TrFrom.{rest_decided}
 use proofs.tools.tr.tr.Goals as goal
 
 pub returns-then-has_failed-clause-pass : goal.returns-then-has_failed-clause-pass
-returns-then-has_failed-clause-pass g c =
-    λ store ready. pass_unchanged _ _ _ _ ready (cc)
+returns-then-has_failed-clause-pass g c = λ store ready. pass_unchanged _ _ _ _ ready (cc)
 
 pub returns-clause-pass : goal.returns-clause-pass
 returns-clause-pass g c =

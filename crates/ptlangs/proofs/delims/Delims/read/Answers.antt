@@ -1,7 +1,7 @@
 use Rattle.ptlangs.proofs
 use proofs.Common.{rules}
 use proofs.ListElements.{append_ok-cons_ok}
-use Rattle.ptlangs.proofs.delims.Delims.read.Goals as goal
+use proofs.delims.Delims.read.Goals as goal
 
 pub loop-kept-preserved : goal.loop-kept-preserved
 loop-kept-preserved g c = search (rules, append_ok-cons_ok)

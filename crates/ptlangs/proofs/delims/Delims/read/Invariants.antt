@@ -2,7 +2,7 @@
 use Rattle.ptlangs.proofs
 use proofs.Common.{delim_list, length, ◌≡◌}
 use proofs.ListElements.{append_ok}
-use Rattle.ptlangs.proofs.delims.Delims.read.Given as goal
+use proofs.delims.Delims.read.Given as goal
 
 abbrev pub invariant-loop-kept : goal.invariant-loop-kept
 invariant-loop-kept g l = delim_list l.text ≡ append_ok l.kept.items (delim_list l.left)

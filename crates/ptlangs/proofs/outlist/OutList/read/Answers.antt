@@ -1,9 +1,9 @@
 -- Without a fault, the values are those of the elements.
 use Rattle.ptlangs.proofs
-use proofs.Common.{YieldsList-at, YieldsList-from_filter_map, YieldsList-from_slice_split, arith}
-use proofs.Common.{element_field, elements, is_list_separator, items_from_extend, result_ok, rules}
+use proofs.Common.{YieldsList-at, YieldsList-from_filter_map, YieldsList-from_slice_split, arith, element_field}
+use proofs.Common.{elements, is_list_separator, items_from_extend, result_ok, rules}
 use proofs.ListElements.{fault_of_fields, values_are}
-use Rattle.ptlangs.proofs.outlist.OutList.read.Goals as goal
+use proofs.outlist.OutList.read.Goals as goal
 
 pub returns-in-Some : goal.returns-in-Some
 returns-in-Some g c = search (rules, fault_of_fields)

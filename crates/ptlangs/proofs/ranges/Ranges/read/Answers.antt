@@ -2,7 +2,7 @@ use Rattle.ptlangs.proofs
 use proofs.Common.{Interval, IsValidInterval, elements, rules}
 use proofs.ListElements.{each_proper, fault_of_intervals, in_order, selection_is_kept}
 use Rattle.std.proofs.lemmas.List.Sorted.{All-permutation, IsNonDecreasingBy-from_sort_by_key}
-use Rattle.ptlangs.proofs.ranges.Ranges.read.Goals as goal
+use proofs.ranges.Ranges.read.Goals as goal
 
 pub returns-in-Some : goal.returns-in-Some
 returns-in-Some g c = search (rules, fault_of_intervals)

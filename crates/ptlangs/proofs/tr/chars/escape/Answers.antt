@@ -1,7 +1,7 @@
 use Rattle.ptlangs.proofs
 use proofs.Common.{Some, arith, common_steps, rules}
 use proofs.TrGrammar.{octal_char}
-use Rattle.ptlangs.proofs.tr.chars.escape.Goals as goal
+use proofs.tr.chars.escape.Goals as goal
 
 pub returns-in-Some-number-clause-denoted : goal.returns-in-Some-number-clause-denoted
 returns-in-Some-number-clause-denoted c =
@@ -9,8 +9,7 @@ returns-in-Some-number-clause-denoted c =
     (search rules) (search rules) (search rules)
 
 pub returns-in-None-clause-denoted : goal.returns-in-None-clause-denoted
-returns-in-None-clause-denoted c =
-    grind (arith, octal_char)
+returns-in-None-clause-denoted c = grind (arith, octal_char)
 
 pub number-requires-clause-digits : goal.number-requires-clause-digits
 number-requires-clause-digits c = grind (arith, common_steps)

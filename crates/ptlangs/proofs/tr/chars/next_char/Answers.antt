@@ -1,7 +1,7 @@
 use Rattle.ptlangs.proofs
 use proofs.Common.{arith, common_steps}
 use proofs.TrGrammar.{char_from-escape, chars_escape}
-use Rattle.ptlangs.proofs.tr.chars.next_char.Goals as goal
+use proofs.tr.chars.next_char.Goals as goal
 
 pub returns-clause-denoted : goal.returns-clause-denoted
 returns-clause-denoted c = grind (arith, common_steps, char_from-escape)

@@ -1,7 +1,7 @@
 use Rattle.ptlangs.proofs
 use proofs.Common.{arith, ◌+◌}
 use proofs.TrGrammar.{number_step, too_large}
-use Rattle.ptlangs.proofs.tr.chars.number.Goals as goal
+use proofs.tr.chars.number.Goals as goal
 
 pub returns-then-value-limit : goal.returns-then-value-limit
 returns-then-value-limit c =
@@ -10,6 +10,5 @@ returns-then-value-limit c =
     let below = c.requires.digits i 0 c.loop-digit-test.true in
     let more = number_step _ ds i _ _ c.loop-digit-test.true
     (omega arith) below c.loop-digit.invariant.0 c.from.ensures in
-    let above =
-    too_large c.args.base c.args.limit ds (i + 1) (omega arith) (omega arith) in
+    let above = too_large c.args.base c.args.limit ds (i + 1) (omega arith) (omega arith) in
     rw above

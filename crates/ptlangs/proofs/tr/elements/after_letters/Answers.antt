@@ -1,7 +1,7 @@
 use Rattle.ptlangs.proofs
 use proofs.Common.{rules}
 use proofs.TrGrammar.{run_range, run_rest}
-use Rattle.ptlangs.proofs.tr.elements.after_letters.Goals as goal
+use proofs.tr.elements.after_letters.Goals as goal
 
 pub returns-clause-run : goal.returns-clause-run
 returns-clause-run c = search (rules, run_range)

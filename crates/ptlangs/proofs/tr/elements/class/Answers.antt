@@ -1,8 +1,7 @@
 use Rattle.ptlangs.proofs
 use proofs.Common.{arith, chars, drop}
 use proofs.TrGrammar.{class_at-found}
-use Rattle.ptlangs.proofs.tr.elements.class.Goals as goal
+use proofs.tr.elements.class.Goals as goal
 
 pub returns-clause-reads : goal.returns-clause-reads
-returns-clause-reads c =
-    grind (arith, class_at-found, chars, drop)
+returns-clause-reads c = grind (arith, class_at-found, chars, drop)

@@ -1,6 +1,6 @@
 use Rattle.ptlangs.proofs
 use proofs.TrGrammar.{AreElements-set_elements, set_elements-AreElements, chars_are, fault_is, is_fault, spelled}
-use Rattle.ptlangs.proofs.tr.elements.elements_match_grammar.Goals as goal
+use proofs.tr.elements.elements_match_grammar.Goals as goal
 use proofs.Common.{SpellsChars, arith, subst}
 
 pub returns : goal.returns
@@ -8,6 +8,5 @@ returns c =
     record {
       chars = λ bs us. (chars_are bs us, λ e. subst (SpellsChars bs) e (spelled bs 0));
       elements = λ us ps. (set_elements-AreElements us ps, AreElements-set_elements ps us);
-      faults =
-          grind (arith, fault_is, is_fault);
+      faults = grind (arith, fault_is, is_fault);
     }

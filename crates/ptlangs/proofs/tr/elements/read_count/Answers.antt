@@ -1,5 +1,6 @@
-use Rattle.ptlangs.proofs.Common.{arith, common_steps}
-use Rattle.ptlangs.proofs.tr.elements.read_count.Goals as goal
+use Rattle.ptlangs.proofs
+use proofs.Common.{arith, common_steps}
+use proofs.tr.elements.read_count.Goals as goal
 
 pub number-requires-clause-digits : goal.number-requires-clause-digits
 number-requires-clause-digits c = grind (arith, common_steps)

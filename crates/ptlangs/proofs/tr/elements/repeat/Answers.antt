@@ -1,7 +1,7 @@
 use Rattle.ptlangs.proofs
 use proofs.Common.{rules}
 use proofs.TrGrammar.{AllPass-run}
-use Rattle.ptlangs.proofs.tr.elements.repeat.Goals as goal
+use proofs.tr.elements.repeat.Goals as goal
 
 pub read_count-count-requires : goal.read_count-count-requires
 read_count-count-requires c = search (rules, AllPass-run)

@@ -1,7 +1,7 @@
 use Rattle.ptlangs.proofs
 use proofs.Common.{get_or, rules, ◌≡◌}
 use proofs.TrArrays.{same_table}
-use Rattle.ptlangs.proofs.tr.images.identity.Goals as goal
+use proofs.tr.images.identity.Goals as goal
 
 pub returns : goal.returns
 returns c = λ to. same_table _ _ 0 c.from_fn.ensures.items.long (λ k h.

@@ -1,5 +1,6 @@
-use Rattle.ptlangs.proofs.TrPlans.{never_memory}
-use Rattle.ptlangs.proofs.tr.plan.strings_need_no_memory.Goals as goal
+use Rattle.ptlangs.proofs
+use proofs.TrPlans.{never_memory}
+use proofs.tr.plan.strings_need_no_memory.Goals as goal
 
 pub returns : goal.returns
 returns c = never_memory

@@ -1,6 +1,7 @@
 -- The loop goes from the end of the table to its start.
-use Rattle.ptlangs.proofs.Common.{drop, stretches_from, ◌≡◌, ◌≤◌}
-use Rattle.ptlangs.proofs.tr.shifts.shifts_of.Given as goal
+use Rattle.ptlangs.proofs
+use proofs.Common.{drop, stretches_from, ◌≡◌, ◌≤◌}
+use proofs.tr.shifts.shifts_of.Given as goal
 
 abbrev pub invariant-loop-index : goal.invariant-loop-index
 invariant-loop-index l = record {

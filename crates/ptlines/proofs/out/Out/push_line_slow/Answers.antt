@@ -1,7 +1,8 @@
 -- The slices are pushed in order; after the first push that fails nothing more is written.
-use Rattle.ptlines.proofs.Common.{rules, arith}
-use Rattle.ptlines.proofs.Push.{push_post_trans, push_trans, push_past_failure}
-use Rattle.ptlines.proofs.out.Out.push_line_slow.Goals as goal
+use Rattle.ptlines.proofs
+use proofs.Common.{rules, arith}
+use proofs.Push.{push_post_trans, push_trans, push_past_failure}
+use proofs.out.Out.push_line_slow.Goals as goal
 
 pub returns-in_err-push : goal.returns-in_err-push
 returns-in_err-push g c = grind (arith, push_past_failure)

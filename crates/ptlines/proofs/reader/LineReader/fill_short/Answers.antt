@@ -1,8 +1,9 @@
 -- The terminator that was found among 64 bytes lies within the buffered bytes, so it is the first one of them.
-use Rattle.ptlines.proofs.Common.{◌≡◌, ◌+◌, ◌-◌, Some, subst, ◌<◌, ◌≤◌, ◌^◌, length, take, drop, ap, arith}
-use Rattle.ptlines.proofs.Common.{take-take, IsFirst, Passes, is_byte, common_steps}
-use Rattle.ptlines.proofs.ReadLine.{fill_short_line}
-use Rattle.ptlines.proofs.reader.LineReader.fill_short.Goals as goal
+use Rattle.ptlines.proofs
+use proofs.Common.{◌≡◌, ◌+◌, ◌-◌, Some, subst, ◌<◌, ◌≤◌, ◌^◌, length, take, drop, ap, arith, take-take, IsFirst, Passes}
+use proofs.Common.{is_byte, common_steps}
+use proofs.ReadLine.{fill_short_line}
+use proofs.reader.LineReader.fill_short.Goals as goal
 
 pub returns-clause-line : goal.returns-clause-line
 returns-clause-line g c given =
@@ -10,16 +11,13 @@ returns-clause-line g c given =
     let buffered = ap (λ r. r.buffered) c.self.view_is in
     let fits : r.end ≤ length r.block = omega arith in
     let high : r.start + c.in-Some.size < r.end = omega arith in
-    let short : c.args.self.now.pulled < 2 ^ 63 =
-    grind arith in
+    let short : c.args.self.now.pulled < 2 ^ 63 = grind arith in
     let front = take (8256 - r.start) (drop r.start r.block) in
-    let is_front : take (r.end - r.start) front ≡ c.args.self.now.buffered =
-    grind (arith, take-take) in
+    let is_front : take (r.end - r.start) front ≡ c.args.self.now.buffered = grind (arith, take-take) in
     let first = subst (λ b. IsFirst (Passes (is_byte b) front) 0 64 (Some c.in-Some.size))
     (grind arith) c.in-Some.ensures in
     fill_short_line 64 c.args.self.now _ r.block front r.start r.end c.in-Some.size c.args.store.now
-    c.set_short_line.new.self c.args.slot c.requires.clean short high fits buffered is_front first
-    (grind arith)
+    c.set_short_line.new.self c.args.slot c.requires.clean short high fits buffered is_front first (grind arith)
     c.set_short_line.ensures
 
 pub returns-clause-sound : goal.returns-clause-sound

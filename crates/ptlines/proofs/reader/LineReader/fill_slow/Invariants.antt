@@ -1,8 +1,9 @@
 -- Each turn consumes bytes of the source, of which there are fewer than 2^63.
+use Rattle.ptlines.proofs
 use Rattle.std.proofs.Common.{◌+◌, ◌-◌, ◌^◌, length}
-use Rattle.ptlines.proofs.ReadLine.{LineSoFar}
+use proofs.ReadLine.{LineSoFar}
 use Rattle.ptlines.specs.ReadLine.{FillPre}
-use Rattle.ptlines.proofs.reader.LineReader.fill_slow.Given as goal
+use proofs.reader.LineReader.fill_slow.Given as goal
 
 abbrev pub invariant-pieces : goal.invariant-pieces
 invariant-pieces g l = record {

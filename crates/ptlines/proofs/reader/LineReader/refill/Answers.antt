@@ -1,7 +1,8 @@
 -- Each exit is a result of a read: the end of input, the limit of 2^63 bytes, bytes, or a failed read.
+use Rattle.ptlines.proofs
 use Rattle.std.proofs.Common.{arith, rules}
-use Rattle.ptlines.proofs.Refill.{refill_more, refill_long}
-use Rattle.ptlines.proofs.reader.LineReader.refill.Goals as goal
+use proofs.Refill.{refill_more, refill_long}
+use proofs.reader.LineReader.refill.Goals as goal
 use Rattle.std.proofs.lemmas.Grind.{common_steps}
 
 pub returns-then-count-eq0-clause-refills : goal.returns-then-count-eq0-clause-refills
@@ -14,8 +15,7 @@ returns-then-self-clause-refills g c =
 pub returns-else-self-clause-refills : goal.returns-else-self-clause-refills
 returns-else-self-clause-refills g c =
     let small = c.in-Ok.ensures.few in
-    refill_more _ c.read_block.new.block c.in-Ok.count _ c.self.view_is
-    c.requires c.in-Ok.ensures.refused
+    refill_more _ c.read_block.new.block c.in-Ok.count _ c.self.view_is c.requires c.in-Ok.ensures.refused
     c.in-Ok.ensures.pulled small (omega arith) (omega arith)
 
 pub returns-in-Err-clause-refills : goal.returns-in-Err-clause-refills

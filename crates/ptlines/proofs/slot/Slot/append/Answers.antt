@@ -1,5 +1,6 @@
-use Rattle.ptlines.proofs.Common.{arith, common_steps}
-use Rattle.ptlines.proofs.slot.Slot.append.Goals as goal
+use Rattle.ptlines.proofs
+use proofs.Common.{arith, common_steps}
+use proofs.slot.Slot.append.Goals as goal
 
 pub returns-clause-buffer : goal.returns-clause-buffer
 returns-clause-buffer c = grind (arith, common_steps)

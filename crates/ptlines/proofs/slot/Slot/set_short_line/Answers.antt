@@ -1,8 +1,8 @@
 -- A vector of 16 or 64 bytes is stored in the buffer. Its first `size` bytes are the line.
-use Rattle.ptlines.proofs.Common.{◌≡◌, ◌≤◌, ℕ, List, length, take, ◌∙◌, arith, with_items_is, length-put_chunk}
-use Rattle.ptlines.proofs.Common.{put_chunk}
+use Rattle.ptlines.proofs
+use proofs.Common.{◌≡◌, ◌≤◌, ℕ, List, length, take, ◌∙◌, arith, with_items_is, length-put_chunk, put_chunk}
 use Rattle.std.specs.Vec.{with_items}
-use Rattle.ptlines.proofs.CopyFacts.{copied_vector_prefix}
+use proofs.CopyFacts.{copied_vector_prefix}
 use Rattle.ptlines.proofs.slot.Slot.set_short_line.Goals as goal
 use Rattle.ptlines.proofs.slot.Slot.set_short_line.Goals.{then-size-lt16, else-size-lt16}
 

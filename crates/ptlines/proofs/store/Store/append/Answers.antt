@@ -1,9 +1,9 @@
 -- The line and the total grow by the appended bytes, unless memory could not be allocated.
-use Rattle.ptlines.proofs.Common.{◌<◌, ◌^◌, length, ◌++◌, ◌∙◌, ap, arith, length-append, length-map, common_steps}
+use Rattle.ptlines.proofs
+use proofs.Common.{◌<◌, ◌^◌, length, ◌++◌, ◌∙◌, ap, arith, length-append, length-map, common_steps}
 use Rattle.ptlines.specs.Slots.{slot_lines}
-use Rattle.ptlines.proofs.SlotTotals.{counted_after_set, total_fits, slot_in_range, line_before}
-use Rattle.ptlines.proofs.SlotTotals.{store_after_set, line_of}
-use Rattle.ptlines.proofs.store.Store.append.Goals as goal
+use proofs.SlotTotals.{counted_after_set, total_fits, slot_in_range, line_before, store_after_set, line_of}
+use proofs.store.Store.append.Goals as goal
 
 pub overflow_add-self : goal.overflow_add-self
 overflow_add-self g c =
@@ -16,9 +16,7 @@ invariant_of-self g c =
     let s = c.self.inside in
     let low = slot_in_range s.slots.items c.args.slot c.self.view_is c.requires in
     counted_after_set s.slots.items c.args.slot c.index_mut.result.now low c.index_mut.ensures.value c.self.invariant
-    _ c.append.ensures.short c.append.ensures.buffer
-    (grind (arith, length-append))
-    (omega arith) (omega arith)
+    _ c.append.ensures.short c.append.ensures.buffer (grind (arith, length-append)) (omega arith) (omega arith)
 
 pub invariant_of-self-in-Err : goal.invariant_of-self-in-Err
 invariant_of-self-in-Err g c = grind (arith, common_steps, slot_in_range)

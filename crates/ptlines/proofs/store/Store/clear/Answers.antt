@@ -1,15 +1,13 @@
 -- The line of the slot is part of the total, so the subtraction does not underflow.
-use Rattle.ptlines.proofs.Common.{length, ap, arith, common_steps}
-use Rattle.ptlines.proofs.SlotTotals.{line_le_total, counted_after_set, store_after_set, slot_in_range, same_slot}
-use Rattle.ptlines.proofs.SlotTotals.{line_of}
-use Rattle.ptlines.proofs.store.Store.clear.Goals as goal
+use Rattle.ptlines.proofs
+use proofs.Common.{length, ap, arith, common_steps}
+use proofs.SlotTotals.{line_le_total, counted_after_set, store_after_set, slot_in_range, same_slot, line_of}
+use proofs.store.Store.clear.Goals as goal
 
 pub overflow_sub-self : goal.overflow_sub-self
 overflow_sub-self g c =
-    let s = c.self.inside in
-    let low = slot_in_range s.slots.items c.args.slot c.self.view_is c.requires in
-    let few = line_le_total s.slots.items c.args.slot c.index.result.now low c.index.ensures c.self.invariant in
-    omega arith
+    let low = slot_in_range _ _ c.self.view_is c.requires in
+    omega (arith, line_le_total _ _ _ low c.index.ensures c.self.invariant)
 
 pub invariant_of-self : goal.invariant_of-self
 invariant_of-self g c =
@@ -20,9 +18,7 @@ invariant_of-self g c =
     let few = line_le_total slots c.args.slot had low there c.self.invariant in
     let same = same_slot _ _ low c.index.ensures there in
     let none = ap (λ t. length (line_of t)) c.clear.ensures in
-    counted_after_set slots c.args.slot had low there c.self.invariant _
-    (omega arith) (grind arith)
-    (grind arith)
+    counted_after_set slots c.args.slot had low there c.self.invariant _ (omega arith) (grind arith) (grind arith)
     (omega arith) (omega arith)
 
 pub returns : goal.returns

@@ -1,16 +1,12 @@
 -- The target is emptied and the line of the source appended. If memory could not be allocated, the target stays empty.
-use Rattle.ptlines.proofs.Common.{◌≡◌, ◌≢◌, ◌<◌, ◌≤◌, ◌+◌, ◌^◌, ℕ, List, Bool, [], get_or, length, set, sym, ◌∙◌}
-use Rattle.ptlines.proofs.Common.{ap, subst, arith, length-set, length-map, with_items_is, Slots}
-use Rattle.ptlines.proofs.Common.{total_bytes, common_steps}
+use Rattle.ptlines.proofs
+use proofs.Common.{◌≡◌, ◌≢◌, ◌<◌, ◌≤◌, ◌+◌, ◌^◌, ℕ, List, [], get_or, length, set, sym, ◌∙◌, ap, subst, arith}
+use proofs.Common.{length-set, length-map, with_items_is, total_bytes, common_steps}
 use Rattle.std.specs.Vec.{with_items}
 use Rattle.std.proofs.lemmas.List.{get_or-map}
-use Rattle.ptlines.specs.Slots.{SlotBuffer, slot_lines, with_line, AreBuffersBounded}
-use Rattle.ptlines.proofs.SlotTotals.{total_fits, copy_lines, copy_total, line_of, store_of}
-use Rattle.ptlines.proofs.store.Store.copy.Goals as goal
-
-slots_after_clear : (slots : List SlotBuffer) (now : Slots) (to : ℕ) {peak : ℕ} {denied : Bool}
-    → store_of slots peak denied ≡ with_line now to [] → length slots ≡ length now.lines
-slots_after_clear _ now to is = grind (arith, common_steps)
+use Rattle.ptlines.specs.Slots.{SlotBuffer, slot_lines, AreBuffersBounded}
+use proofs.SlotTotals.{total_fits, copy_lines, copy_total, line_of}
+use proofs.store.Store.copy.Goals as goal
 
 copied : (lines cleared : List (List ℕ)) (after : List SlotBuffer) (from to byte_count size : ℕ) (v : SlotBuffer)
     → from ≢ to → from < length lines → to < length lines → cleared ≡ set lines to []
@@ -19,18 +15,14 @@ copied : (lines cleared : List (List ℕ)) (after : List SlotBuffer) (from to by
     → (byte_count + size ≡ total_bytes (slot_lines after)) × (byte_count ≡ total_bytes (set lines to []))
     × (byte_count + size ≡ total_bytes (set lines to (get_or lines from [])))
 copied lines cleared after from to byte_count size v differ from_in to_in cleared_is after_is counts there =
-    let within : from < length after =
-    grind (arith, length-map, length-set, get_or) in
-    copy_total _ _ _ _ to _ _ _ differ from_in to_in cleared_is after_is
-    counts
-    (grind (arith, get_or-map))
+    let within : from < length after = grind (arith, length-map, length-set, get_or) in
+    copy_total _ _ _ _ to _ _ _ differ from_in to_in cleared_is after_is counts (grind (arith, get_or-map))
 
 pub overflow_add-self : goal.overflow_add-self
 overflow_add-self g c =
     let s = c.self.inside.slots in
     let few : length (slot_lines s.items) < 2 ^ 63 = omega (arith, length-map s.items line_of) in
-    let fits = total_fits (slot_lines s.items) c.size.result c.self.invariant.lines few
-    (omega arith) in
+    let fits = total_fits (slot_lines s.items) c.size.result c.self.invariant.lines few (omega arith) in
     omega arith
 
 pub invariant_of-self : goal.invariant_of-self
@@ -48,10 +40,8 @@ invariant_of-self g c =
     c.requires.differ c.requires.from_in c.requires.to_in cleared (ap slot_lines whole ∙ lines)
     c.self.invariant.total c.index.ensures c.size.ensures.size in
     let peak = c.max-self-inside.result in
-    let below : total_bytes (slot_lines c.append_slot.new.slots) ≤ peak =
-    grind (arith, slot_lines) in
-    let fit : AreBuffersBounded peak s.slots.items =
-    grind arith in
+    let below : total_bytes (slot_lines c.append_slot.new.slots) ≤ peak = grind (arith, slot_lines) in
+    let fit : AreBuffersBounded peak s.slots.items = grind arith in
     record {
       total = total;
       below_peak = omega arith;
@@ -61,8 +51,7 @@ invariant_of-self g c =
     }
 
 pub returns-in-Ok-clause-ok : goal.returns-in-Ok-clause-ok
-returns-in-Ok-clause-ok g c =
-    grind (arith, with_items_is, copy_lines, slot_lines, with_items, copied, set, get_or)
+returns-in-Ok-clause-ok g c = grind (arith, with_items_is, copy_lines, slot_lines, with_items, copied, set, get_or)
 
 pub append_slot-requires : goal.append_slot-requires
 append_slot-requires g c = grind (arith, common_steps)

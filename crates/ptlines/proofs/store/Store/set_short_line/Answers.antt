@@ -1,10 +1,10 @@
 -- The total changes by the difference of the two lengths; the peak becomes the total if that is greater.
-use Rattle.ptlines.proofs.Common.{◌≡◌, ◌≤◌, ◌<◌, ◌+◌, ◌-◌, ◌^◌, ℕ, List, length, take, get_or, set, ap, arith}
-use Rattle.ptlines.proofs.Common.{length-map, length-take-le, common_steps}
+use Rattle.ptlines.proofs
+use proofs.Common.{◌≡◌, ◌≤◌, ◌<◌, ◌+◌, ◌-◌, ◌^◌, ℕ, List, length, take, get_or, set, ap, arith, length-map}
+use proofs.Common.{length-take-le, common_steps}
 use Rattle.ptlines.specs.Slots.{SlotBuffer, slot_lines, AreCounted}
-use Rattle.ptlines.proofs.SlotTotals.{line_le_total, counted_after_set, total_fits, store_after_set, slot_in_range}
-use Rattle.ptlines.proofs.SlotTotals.{same_slot, line_of}
-use Rattle.ptlines.proofs.store.Store.set_short_line.Goals as goal
+use proofs.SlotTotals.{line_le_total, counted_after_set, total_fits, store_after_set, slot_in_range, same_slot, line_of}
+use proofs.store.Store.set_short_line.Goals as goal
 
 put_counted : (slots : List SlotBuffer) (slot : ℕ) {byte_count before : ℕ} (had : SlotBuffer) → slot < length slots
     → had ≡ get_or slots slot had → AreCounted byte_count before slots → (was : ℕ) → was ≡ length had.line
@@ -13,24 +13,20 @@ put_counted : (slots : List SlotBuffer) (slot : ℕ) {byte_count before : ℕ} (
     → (peak : ℕ) → byte_count - was + size ≤ peak → before ≤ peak
     → AreCounted (byte_count - was + size) peak (set slots slot new)
 put_counted slots slot had low is counted was was_is bytes size near within new new_is peak less more =
-    let long : length new.line ≡ size =
-    grind (arith, length-take-le) in
+    let long : length new.line ≡ size = grind (arith, length-take-le) in
     counted_after_set slots slot had low is counted new (omega (arith, near))
     (grind arith) (omega (arith, (line_le_total slots slot had low is counted))) less more
 
 pub overflow_sub-self : goal.overflow_sub-self
 overflow_sub-self g c =
-    let s = c.self.inside in
-    let low = slot_in_range s.slots.items c.args.slot c.self.view_is c.requires in
-    let few = line_le_total s.slots.items c.args.slot c.index.result.now low c.index.ensures c.self.invariant in
-    omega arith
+    let low = slot_in_range _ _ c.self.view_is c.requires in
+    omega (arith, line_le_total _ _ _ low c.index.ensures c.self.invariant)
 
 pub overflow_add-self : goal.overflow_add-self
 overflow_add-self g c =
     let s = c.self.inside.slots in
     let few : length (slot_lines s.items) < 2 ^ 63 = omega (arith, length-map s.items line_of) in
-    let fits = total_fits (slot_lines s.items) c.args.near.size c.self.invariant.lines few
-    (omega arith) in
+    let fits = total_fits (slot_lines s.items) c.args.near.size c.self.invariant.lines few (omega arith) in
     omega arith
 
 pub invariant_of-self : goal.invariant_of-self
@@ -38,34 +34,26 @@ invariant_of-self g c =
     let s = c.self.inside in
     let low = slot_in_range s.slots.items c.args.slot c.self.view_is c.requires in
     let same = same_slot _ _ low c.index.ensures c.index_mut.ensures.value in
-    put_counted _ _ _ low c.index_mut.ensures.value c.self.invariant
-    _ (grind arith)
-    _ _ c.args.near.near c.args.near.front.long _
-    c.set_short_line.ensures _ (omega arith)
-    (omega arith)
+    put_counted _ _ _ low c.index_mut.ensures.value c.self.invariant _ (grind arith)
+    _ _ c.args.near.near c.args.near.front.long _ c.set_short_line.ensures _ (omega arith) (omega arith)
 
 pub invariant_of-self-else-self : goal.invariant_of-self-else-self
 invariant_of-self-else-self g c =
     let s = c.self.inside in
     let low = slot_in_range s.slots.items c.args.slot c.self.view_is c.requires in
     let same = same_slot _ _ low c.index.ensures c.index_mut.ensures.value in
-    put_counted _ _ _ low c.index_mut.ensures.value c.self.invariant
-    _ (grind arith)
-    _ _ c.args.near.near c.args.near.front.long _
-    c.set_short_line.ensures _ (omega arith)
-    (omega arith)
+    put_counted _ _ _ low c.index_mut.ensures.value c.self.invariant _ (grind arith)
+    _ _ c.args.near.near c.args.near.front.long _ c.set_short_line.ensures _ (omega arith) (omega arith)
 
 pub returns-then-self : goal.returns-then-self
 returns-then-self g c =
     store_after_set c.self.inside.slots.items c.args.slot c.self.view_is _
-    (ap line_of c.set_short_line.ensures) (invariant_of-self g c).total
-    (omega arith)
+    (ap line_of c.set_short_line.ensures) (invariant_of-self g c).total (omega arith)
 
 pub returns-else-self : goal.returns-else-self
 returns-else-self g c =
     store_after_set c.self.inside.slots.items c.args.slot c.self.view_is _
-    (ap line_of c.set_short_line.ensures) (invariant_of-self-else-self g c).total
-    (omega arith)
+    (ap line_of c.set_short_line.ensures) (invariant_of-self-else-self g c).total (omega arith)
 
 pub index-requires : goal.index-requires
 index-requires g c = grind (arith, common_steps)

@@ -1,12 +1,12 @@
 -- Exchanging two slots permutes the lines, so the total is the same.
-use Rattle.ptlines.proofs.Common.{arith, common_steps}
-use Rattle.ptlines.proofs.SlotTotals.{counted_after_swap, slot_lines-swap, slot_in_range}
-use Rattle.ptlines.proofs.store.Store.swap.Goals as goal
+use Rattle.ptlines.proofs
+use proofs.Common.{arith, common_steps}
+use proofs.SlotTotals.{counted_after_swap, slot_lines-swap, slot_in_range}
+use proofs.store.Store.swap.Goals as goal
 use Rattle.std.proofs.Common.{rules}
 
 pub invariant_of-self : goal.invariant_of-self
-invariant_of-self g c =
-    rw c.swap.ensures.items (search (rules, counted_after_swap, slot_in_range))
+invariant_of-self g c = rw c.swap.ensures.items (search (rules, counted_after_swap, slot_in_range))
 
 pub returns : goal.returns
 returns g c = grind (arith, common_steps, slot_lines-swap)

@@ -1,6 +1,7 @@
-use Rattle.ptmerge.proofs.MergeLemmas.Exits.SlotLines.{four_cleared}
-use Rattle.ptmerge.proofs.merging.four_slots.clear_four_slots.Goals as goal
+use Rattle.ptmerge.proofs
+use proofs.MergeLemmas.Exits.SlotLines.{four_cleared}
 use Rattle.std.proofs.Common.{rules}
+use proofs.merging.four_slots.clear_four_slots.Goals as goal
 
 pub returns : goal.returns
 returns g c = search (rules, four_cleared)

@@ -1,6 +1,7 @@
 -- Slots are only added, and are empty, so each slot keeps its line, and the store holds the same number of bytes.
-use Rattle.ptmerge.proofs.Common.{◌≡◌, ◌-◌, ◌≤◌, ℕ, length, max, line, total_bytes}
-use Rattle.ptmerge.proofs.merging.four_slots.ensure_four_slots.Given as goal
+use Rattle.ptmerge.proofs
+use proofs.Common.{◌≡◌, ◌-◌, ◌≤◌, ℕ, length, max, line, total_bytes}
+use proofs.merging.four_slots.ensure_four_slots.Given as goal
 
 abbrev pub invariant-loop-store : goal.invariant-loop-store
 invariant-loop-store g l = record {

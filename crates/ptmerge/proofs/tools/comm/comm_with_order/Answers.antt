@@ -1,12 +1,12 @@
 -- One lemma of `CommLemmas` for each iteration, and one of `CommLemmas` or `MergeLemmas` for each exit.
-use Rattle.std.proofs.Common.{rules}
 use Rattle.ptmerge.proofs
 use proofs.Common.{refl, ◌∙◌, comm_job, arith}
+use Rattle.std.proofs.Common.{rules}
 use proofs.MergeLemmas.{advance_pre, err_is, start_fault, start_ok, open_merge, reads_less, ends_well, between_next}
 use proofs.MergeLemmas.{ends_fallen}
-use proofs.CommLemmas.{alone_continues, alone_fails, pair_continues}
-use proofs.CommLemmas.{pair_fails, second_advance_pre, second_fails, is_line_by_line}
-use Rattle.ptmerge.proofs.tools.comm.comm_with_order.Goals as goal
+use proofs.CommLemmas.{alone_continues, alone_fails, pair_continues, pair_fails, second_advance_pre, second_fails}
+use proofs.CommLemmas.{is_line_by_line}
+use proofs.tools.comm.comm_with_order.Goals as goal
 
 pub returns-in_err-merge : goal.returns-in_err-merge
 returns-in_err-merge g c =
@@ -100,8 +100,7 @@ pub returns-in_err-write_out_and_advance-in-Both : goal.returns-in_err-write_out
 returns-in_err-write_out_and_advance-in-Both g c =
     let i = c.steps.invariant in
     rw (← i.order, err_is c.from_residual-in_err-write_out_and_advance-in-Both.ensures.1)
-    (second_fails i.iteration c.in-Both.ensures
-    c.tabs-tabs3.ensures c.write_head-in-Both.ensures.wrote
+    (second_fails i.iteration c.in-Both.ensures c.tabs-tabs3.ensures c.write_head-in-Both.ensures.wrote
     c.in_ok-write_head-in-Both.ensures.advances c.write_out_and_advance.ensures.written_out
     _ _ _ c.in_err-write_out_and_advance-in-Both.ensures.advances)
 

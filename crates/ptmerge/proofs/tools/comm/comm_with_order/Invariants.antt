@@ -3,7 +3,7 @@ use Rattle.ptmerge.proofs
 use proofs.Common.{◌≡◌, comm_job, merge_state, both}
 use proofs.CommLemmas.{IterationInvariant}
 use proofs.MergeLemmas.{reads_ahead}
-use Rattle.ptmerge.proofs.tools.comm.comm_with_order.Given as goal
+use proofs.tools.comm.comm_with_order.Given as goal
 
 abbrev pub invariant-steps : goal.invariant-steps
 invariant-steps g l = record {

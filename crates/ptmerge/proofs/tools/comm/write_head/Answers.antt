@@ -1,6 +1,5 @@
+use Rattle.ptmerge.proofs.Common.{push_trans, arith}
 use Rattle.std.proofs.lemmas.Grind.{common_steps}
-use Rattle.ptmerge.proofs
-use proofs.Common.{push_trans, arith}
 use Rattle.ptmerge.proofs.tools.comm.write_head.Goals.{then-not-hidden+in_ok-push_line, else-not-hidden}
 use Rattle.ptmerge.proofs.tools.comm.write_head.Goals as goal
 

@@ -1,16 +1,17 @@
 -- One lemma of `JoinLemmas` for each iteration, and one of `JoinLemmas` or `MergeLemmas` for each exit.
+use Rattle.ptmerge.proofs
+use Rattle.ptmerge.specs
+use proofs.Common.{refl, Second, sym, ◌∙◌, join_job, arith}
 use Rattle.std.proofs.lemmas.Grind.{common_steps}
 use Rattle.std.proofs.Common.{rules}
-use Rattle.ptmerge.proofs
-use proofs.Common.{refl, Second, sym, ◌∙◌, join_job, arith}
 use proofs.JoinLemmas.{read_group_pre, read_group_fails, read_group_continues, group_closed, group_there}
 use proofs.JoinLemmas.{write_pairs_group, write_pairs_pre, pair_fails, write_pairs_next, write_pairs_continues}
 use proofs.JoinLemmas.{alone_continues, alone_fails, loop_invariant, measure_decreases, is_line_by_line, group_opens}
-use proofs.MergeLemmas.{advance_pre, err_is, start_fault, start_ok, open_merge, ends_well, ends_fallen}
-use Rattle.ptmerge.specs.declared.key_order.Side.TheVariants as sides
-use Rattle.ptmerge.specs.declared.tools.join.JoinPhase.TheVariants as phases
-use Rattle.ptmerge.proofs.tools.join.join_with_order.Goals as goal
 use proofs.JoinLemmas.{read_group_in}
+use proofs.MergeLemmas.{advance_pre, err_is, start_fault, start_ok, open_merge, ends_well, ends_fallen}
+use specs.declared.key_order.Side.TheVariants as sides
+use specs.declared.tools.join.JoinPhase.TheVariants as phases
+use proofs.tools.join.join_with_order.Goals as goal
 
 pub returns-in_err-merge : goal.returns-in_err-merge
 returns-in_err-merge g c =
@@ -66,8 +67,7 @@ steps-smaller-in-Continue-branch-3 g c = search (rules, measure_decreases)
 pub returns-in_err-write_unpaired-in-First : goal.returns-in_err-write_unpaired-in-First
 returns-in_err-write_unpaired-in-First g c =
     rw (← c.steps.invariant.order, err_is c.from_residual-in_err-write_unpaired-in-First.ensures.1)
-    (alone_fails c.steps.invariant.iteration c.in-BetweenGroups.is c.in-First.ensures
-    c.write_unpaired.ensures.wrote
+    (alone_fails c.steps.invariant.iteration c.in-BetweenGroups.is c.in-First.ensures c.write_unpaired.ensures.wrote
     _ _ _ c.in_err-write_unpaired-in-First.ensures.advances)
 
 pub returns-in_err-write_unpaired-in-Second : goal.returns-in_err-write_unpaired-in-Second
@@ -146,8 +146,7 @@ write_pairs-requires-clause-group g c = write_pairs_group c.steps.invariant.iter
 pub returns-in_err-write_pairs-in-WritePairs : goal.returns-in_err-write_pairs-in-WritePairs
 returns-in_err-write_pairs-in-WritePairs g c =
     rw (← c.steps.invariant.order, err_is c.from_residual-in_err-write_pairs-in-WritePairs.ensures.1)
-    (pair_fails c.steps.invariant.iteration c.in-WritePairs.is
-    c.write_pairs.ensures.wrote
+    (pair_fails c.steps.invariant.iteration c.in-WritePairs.is c.write_pairs.ensures.wrote
     _ _ _ c.in_err-write_pairs-in-WritePairs.ensures.advances)
 
 pub clear_group-requires : goal.clear_group-requires

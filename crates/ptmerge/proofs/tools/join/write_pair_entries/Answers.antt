@@ -1,10 +1,10 @@
 -- A write that fails leaves a prefix of the pairs.
-use Rattle.std.proofs.Common.{rules}
 use Rattle.ptmerge.proofs
 use proofs.Common.{◌++◌, [], ◌∷◌, List, ℕ, ap, arith, sym, map, join_job}
+use Rattle.std.proofs.Common.{rules}
 use proofs.JoinLemmas.Fields.{each_fails, each_more}
 use proofs.JoinLemmas.Group.{pair_of, group_from}
-use Rattle.ptmerge.proofs.tools.join.write_pair_entries.Goals as goal
+use proofs.tools.join.write_pair_entries.Goals as goal
 
 pub returns-in_err-write_entry : goal.returns-in_err-write_entry
 returns-in_err-write_entry g c =

@@ -3,7 +3,7 @@ use Rattle.ptmerge.proofs
 use proofs.Common.{◌≤◌, [], ◌∷◌, map, join_job, unlines, group, pair_entries}
 use proofs.JoinLemmas.Fields.{PartialWrite}
 use proofs.JoinLemmas.Group.{pair_of}
-use Rattle.ptmerge.proofs.tools.join.write_pair_entries.Given as goal
+use proofs.tools.join.write_pair_entries.Given as goal
 
 abbrev pub invariant-loop-slot : goal.invariant-loop-slot
 invariant-loop-slot g l = record {

@@ -1,7 +1,7 @@
 use Rattle.ptmerge.proofs
 use proofs.Common.{[], ◌∷◌, PushEffect, unlines, group, pair_entries, join_job, subst}
 use proofs.MergeLemmas.{wrote_and_sent}
-use Rattle.ptmerge.proofs.tools.join.write_pairs.Goals as goal
+use proofs.tools.join.write_pairs.Goals as goal
 
 pub returns-clause-wrote : goal.returns-clause-wrote
 returns-clause-wrote g c =

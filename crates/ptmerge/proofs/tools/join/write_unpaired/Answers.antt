@@ -1,5 +1,6 @@
-use Rattle.ptmerge.proofs.MergeLemmas.{wrote_and_sent}
-use Rattle.ptmerge.proofs.tools.join.write_unpaired.Goals as goal
+use Rattle.ptmerge.proofs
+use proofs.MergeLemmas.{wrote_and_sent}
+use proofs.tools.join.write_unpaired.Goals as goal
 
 pub returns-clause-wrote : goal.returns-clause-wrote
 returns-clause-wrote g c = wrote_and_sent _ _ _ _ (c.in_ok-write_unpaired_entry.ensures.clean c.requires.joins.clean)

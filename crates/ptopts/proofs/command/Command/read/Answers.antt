@@ -2,7 +2,7 @@
 use Rattle.ptopts.proofs
 use proofs.Common.{arith}
 use proofs.CheckedCommand.{meaning_refused}
-use Rattle.ptopts.proofs.command.Command.read.Goals as goal
+use proofs.command.Command.read.Goals as goal
 
 pub returns-in_err-check_constraints-clause-parsed : goal.returns-in_err-check_constraints-clause-parsed
 returns-in_err-check_constraints-clause-parsed g c = grind (arith, meaning_refused)

@@ -1,5 +1,6 @@
-use Rattle.ptopts.proofs.Common.{arith, common_steps}
-use Rattle.ptopts.proofs.command.join.selected_files.Goals as goal
+use Rattle.ptopts.proofs
+use proofs.Common.{arith, common_steps}
+use proofs.command.join.selected_files.Goals as goal
 
 pub returns-in-Some-clause-fault : goal.returns-in-Some-clause-fault
 returns-in-Some-clause-fault c = grind (arith, common_steps)

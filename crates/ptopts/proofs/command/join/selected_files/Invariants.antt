@@ -1,6 +1,7 @@
 -- The options so far have no fault, and name these files.
-use Rattle.ptopts.proofs.Common.{codes, drop, each_value_fault, is_file_number, names_file, options_view, ◌||◌, ◌≡◌}
-use Rattle.ptopts.proofs.command.join.selected_files.Given as goal
+use Rattle.ptopts.proofs
+use proofs.Common.{codes, drop, each_value_fault, is_file_number, names_file, options_view, ◌||◌, ◌≡◌}
+use proofs.command.join.selected_files.Given as goal
 
 abbrev pub invariant-loop-option : goal.invariant-loop-option
 invariant-loop-option l = record {

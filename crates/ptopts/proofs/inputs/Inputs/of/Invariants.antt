@@ -1,5 +1,6 @@
-use Rattle.ptopts.proofs.Common.{drop, file_names, order_from, vec_len, words_view, ◌++◌, ◌≡◌}
-use Rattle.ptopts.proofs.inputs.Inputs.of.Given as goal
+use Rattle.ptopts.proofs
+use proofs.Common.{drop, file_names, order_from, vec_len, words_view, ◌++◌, ◌≡◌}
+use proofs.inputs.Inputs.of.Given as goal
 
 abbrev pub invariant-loop-operand : goal.invariant-loop-operand
 invariant-loop-operand g l = record {

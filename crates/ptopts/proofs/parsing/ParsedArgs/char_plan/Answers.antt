@@ -1,23 +1,18 @@
 -- The operands are the strings of the plan.
 use Rattle.ptopts.proofs
-use proofs.Common.{Bor, Err, List, None, Ok, Result, Some, [], arith, identity_plan, refl}
-use proofs.Common.{result_err, result_unwrap_or, slice_index_or, words_view, ℕ, ◌≡◌}
+use proofs.Common.{Bor, Err, List, Ok, Result, Some, [], arith, refl, result_err}
+use proofs.Common.{slice_index_or, words_view, ℕ, ◌≡◌}
 use Rattle.ptlangs.specs.TrParsing.{ok_map}
 use Rattle.ptlangs.specs.TrPlan.{Plan}
 use Rattle.ptlangs.specs.TrTables.{Tables, tables}
 use Rattle.ptlangs.specs.declared.faults.SetFault.{SetFault}
 use Rattle.std.proofs.Math.ListN.{get_or}
-use Rattle.ptopts.proofs.parsing.ParsedArgs.char_plan.Goals as goal
+use proofs.parsing.ParsedArgs.char_plan.Goals as goal
 
 first_word : (words : List (Bor (List ℕ))) (d : Bor (List ℕ)) → d.now ≡ []
     → (get_or words 0 d).now ≡ slice_index_or (words_view words) 0 []
 first_word [] d none = none
 first_word _ d none = refl
-
-read_plan : (p : Result Plan SetFault) (r : Result Tables SetFault) (t : Tables) → r ≡ ok_map tables p → r ≡ Ok t
-    → (result_err p ≡ None) × (t ≡ tables (result_unwrap_or p identity_plan))
-read_plan (Ok x) r t is read = (refl, cc)
-read_plan (Err e) r t is read = cc
 
 read_fault : (p : Result Plan SetFault) (r : Result Tables SetFault) (e : SetFault) → r ≡ ok_map tables p → r ≡ Err e
     → result_err p ≡ Some e

@@ -1,6 +1,7 @@
 -- The constraints so far are met.
-use Rattle.ptopts.proofs.Common.{constraint_fault, constraints_fault, drop, first_some, map, options_of, ◌≡◌}
-use Rattle.ptopts.proofs.parsing.ParsedArgs.check_constraints.Given as goal
+use Rattle.ptopts.proofs
+use proofs.Common.{constraint_fault, constraints_fault, drop, first_some, map, options_of, ◌≡◌}
+use proofs.parsing.ParsedArgs.check_constraints.Given as goal
 
 abbrev pub invariant-loop-constraint : goal.invariant-loop-constraint
 invariant-loop-constraint g l =

@@ -4,18 +4,16 @@ use Rattle.ptopts.proofs
 use proofs.Common.{err_from_is_err_and, fault_view, options_of, selected_set}
 use proofs.CutOptions.{no_fault_beside_b, no_fault_beside_c}
 use Rattle.ptlangs.specs.CutLists.{is_selected}
-use Rattle.ptopts.proofs.parsing.ParsedArgs.cut_job.Goals as goal
+use proofs.parsing.ParsedArgs.cut_job.Goals as goal
 use Rattle.std.proofs.Common.{arith}
 
 pub returns-clause-job : goal.returns-clause-job
-returns-clause-job g c =
-    grind (arith, is_selected, selected_set)
+returns-clause-job g c = grind (arith, is_selected, selected_set)
 
 pub returns-in_err-bytes-clause-memory : goal.returns-in_err-bytes-clause-memory
 returns-in_err-bytes-clause-memory g c told =
     let p = err_from_is_err_and c.from_residual.result c.from_residual.ensures.1 in
-    no_fault_beside_b (options_of c.args.self.now) c.requires (grind arith)
-    (grind (arith, fault_view))
+    no_fault_beside_b (options_of c.args.self.now) c.requires (grind arith) (grind (arith, fault_view))
 
 pub returns-in_err-characters-clause-memory : goal.returns-in_err-characters-clause-memory
 returns-in_err-characters-clause-memory g c told =

@@ -1,5 +1,6 @@
 -- A fault of `Delims::read` becomes the fault of the option, by cases on the three faults of a list.
 use Rattle.ptopts.proofs
+use Rattle.ptopts.specs
 use proofs.Common.{Bool, Bor, Err, List, None, Ok, Option, Result, Some, ap, cond, false, fault_view, is_ok, option_map}
 use proofs.Common.{refl, result_err, sym, true, ℕ, ◌∙◌, ◌≡◌}
 use Rattle.ptlangs.specs.DelimLists.{delim_list_fault}
@@ -7,9 +8,9 @@ use Rattle.ptlangs.specs.contracts.delims.DelimFault.{the_type}
 use Rattle.ptlangs.specs.declared.delims.DelimFault.TheVariants.{Empty, Escape, Memory}
 use Rattle.ptlangs.specs.declared.delims.DelimFault.{DelimFault}
 use denote.Enum.Bare.{sameb}
-use Rattle.ptopts.specs.declared.fault.UseFault.TheVariants as fault
-use Rattle.ptopts.specs.Faults as faults
-use Rattle.ptopts.proofs.parsing.ParsedArgs.delimiter_list.Goals as goal
+use specs.declared.fault.UseFault.TheVariants as fault
+use specs.Faults as faults
+use proofs.parsing.ParsedArgs.delimiter_list.Goals as goal
 use Rattle.std.proofs.Common.{arith}
 
 module _ (letter : ℕ) (text : Bor (List ℕ)) (is_memory : DelimFault → Bool) (never : is_memory Memory ≡ true)
@@ -27,6 +28,5 @@ module _ (letter : ℕ) (text : Bor (List ℕ)) (is_memory : DelimFault → Bool
 pub returns-in-Err-clause-fault : goal.returns-in-Err-clause-fault
 returns-in-Err-clause-fault g c =
     let given = sym c.value.ensures ∙ ap (option_map (λ (v : Bor (List ℕ)). v.now)) c.in-Some.is in
-    let fault = told 100 c.in-Some.text (λ e. sameb the_type e Memory) refl refl refl _
-    _ (grind arith) in
+    let fault = told 100 c.in-Some.text (λ e. sameb the_type e Memory) refl refl refl _ _ (grind arith) in
     rw (c.list_fault.ensures, c.eq.ensures, given) fault

@@ -1,5 +1,6 @@
-use Rattle.ptrun.proofs.Common.{arith, common_steps, scaled_Fits}
-use Rattle.ptrun.proofs.tools.CharPlanTool.run_on.Goals as goal
+use Rattle.ptrun.proofs
+use proofs.Common.{arith, common_steps, scaled_Fits}
+use proofs.tools.CharPlanTool.run_on.Goals as goal
 
 pub returns : goal.returns
 returns g c = grind (arith, common_steps)

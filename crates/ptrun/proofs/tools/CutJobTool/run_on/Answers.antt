@@ -1,6 +1,7 @@
-use Rattle.ptrun.proofs.Common.{scaled_Fits}
-use Rattle.ptrun.proofs.ToolRuns.{operand_passed}
-use Rattle.ptrun.proofs.tools.CutJobTool.run_on.Goals as goal
+use Rattle.ptrun.proofs
+use proofs.Common.{scaled_Fits}
+use proofs.ToolRuns.{operand_passed}
+use proofs.tools.CutJobTool.run_on.Goals as goal
 
 pub returns : goal.returns
 returns g c = operand_passed c.requires.ready _ c.cut.ensures c.completion_at.ensures

@@ -3,7 +3,7 @@ use Rattle.ptrun.proofs
 use proofs.Common.{arith, err_from_is_err_and, paste_job, scaled_Fits}
 use proofs.JointRuns.{cells_ready, rows_post}
 use proofs.ToolRuns.{operand_passed}
-use Rattle.ptrun.proofs.tools.PasteJobTool.run_on.Goals as goal
+use proofs.tools.PasteJobTool.run_on.Goals as goal
 
 pub offset_bounds-inputs-position : goal.offset_bounds-inputs-position
 offset_bounds-inputs-position g c =
@@ -12,8 +12,7 @@ offset_bounds-inputs-position g c =
 
 pub returns-then-self : goal.returns-then-self
 returns-then-self g c = rw c.if-self.true
-    (operand_passed (rw c.if-self.true at c.requires.ready) _ c.paste_serial.ensures
-    c.completion_at.ensures)
+    (operand_passed (rw c.if-self.true at c.requires.ready) _ c.paste_serial.ensures c.completion_at.ensures)
 
 pub paste-requires : goal.paste-requires
 paste-requires g c = cells_ready (paste_job c.args.self.now) (rw c.if-self.false at c.requires.ready)

@@ -2,7 +2,7 @@
 use Rattle.ptrun.proofs
 use proofs.Common.{arith, common_steps, scaled_Fits}
 use proofs.JointRuns.{only_operand_post, only_operand_within, opened}
-use Rattle.ptrun.proofs.tools.UniqJobTool.run_on.Goals as goal
+use proofs.tools.UniqJobTool.run_on.Goals as goal
 
 pub bounds-inputs-position : goal.bounds-inputs-position
 bounds-inputs-position g c = only_operand_within c.requires.ready c.requires.ready.accepts_operands 0
@@ -13,8 +13,7 @@ offset_bounds-inputs-position g c =
     search scaled_Fits
 
 pub uniq-requires : goal.uniq-requires
-uniq-requires g c =
-    grind (arith, common_steps, (opened c.requires.ready c.requires.ready.accepts_operands 0))
+uniq-requires g c = grind (arith, common_steps, (opened c.requires.ready c.requires.ready.accepts_operands 0))
 
 pub returns : goal.returns
 returns g c =

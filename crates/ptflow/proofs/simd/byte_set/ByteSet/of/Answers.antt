@@ -13,5 +13,4 @@ loop-byte-preserved c = record {
 }
 
 pub returns : goal.returns
-returns c =
-    set_of_nibbles _ _ _ c.loop-byte-test.false c.loop-byte.invariant.low c.loop-byte.invariant.high
+returns c = set_of_nibbles _ _ _ c.loop-byte-test.false c.loop-byte.invariant.low c.loop-byte.invariant.high

@@ -23,8 +23,7 @@ loop-after-preserved c =
     c.loop-after.auto.mask-fits.fits (c.args.self.now.is_unrolled.at number low) refl refl
 
 pub returns-clause-next : goal.returns-clause-next
-returns-clause-next c =
-    cc (ones-mask_l (is_byte c.args.self.now.terminator) (chunk c.args.at 64 c.args.from.now))
+returns-clause-next c = cc (ones-mask_l (is_byte c.args.self.now.terminator) (chunk c.args.at 64 c.args.from.now))
 
 pub returns-clause-replaced : goal.returns-clause-replaced
 returns-clause-replaced c =

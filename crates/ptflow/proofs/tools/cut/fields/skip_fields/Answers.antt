@@ -13,8 +13,7 @@ returns-then-count-eq0-clause-offset c =
 pub returns-in-Some-clause-offset : goal.returns-in-Some-clause-offset
 returns-in-Some-clause-offset c =
     let passed : c.args.from + c.in-Some.at + 1 - c.args.from ≡ c.in-Some.at + 1 = omega arith in
-    rw passed (offset_after_nth _ _ _ (omega arith)
-    (rw (← (rest_of _ _ _)) at c.in-Some.ensures))
+    rw passed (offset_after_nth _ _ _ (omega arith) (rw (← (rest_of _ _ _)) at c.in-Some.ensures))
 
 pub returns-in-None-clause-offset : goal.returns-in-None-clause-offset
 returns-in-None-clause-offset c =

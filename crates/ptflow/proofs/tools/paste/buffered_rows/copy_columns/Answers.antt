@@ -1,10 +1,10 @@
 -- A field that cannot be copied ends the loop, and nothing of it was consumed.
 use Rattle.ptflow.proofs
-use proofs.Common.{◌≡◌, take, take_more_set, length, set, get_or, arith, set-get_or, mod-add-mod, rules}
-use proofs.Common.{eq-eqb, ne_eqb, refl}
+use proofs.Common.{◌≡◌, take, take_more_set, length, set, get_or, arith, set-get_or, mod-add-mod, rules, eq-eqb, ne_eqb}
+use proofs.Common.{refl}
 use borrow.Author.Rules.{scaled_Fits}
 use proofs.PasteLemmas.BufferedRows.{columns_start, columns_more}
-use Rattle.ptflow.proofs.tools.paste.buffered_rows.copy_columns.Goals as goal
+use proofs.tools.paste.buffered_rows.copy_columns.Goals as goal
 
 pub cells-init : goal.cells-init
 cells-init g c = search (rules, columns_start)
@@ -42,6 +42,5 @@ returns-in_default-clause-cells g c =
 pub returns-then-begun-row-clause-cells : goal.returns-then-begun-row-clause-cells
 returns-then-begun-row-clause-cells g c =
     columns_more c.cells.invariant.copied c.requires.readable c.cells-test.true _ _ c.in-Some.ensures.was_sound _
-    (take c.in-Some.end c.copy_cell.new.into) c.in-Some.ensures.cell
-    (take_more_set _ _ _ (omega arith))
+    (take c.in-Some.end c.copy_cell.new.into) c.in-Some.ensures.cell (take_more_set _ _ _ (omega arith))
     (rw (eq-eqb _ _ c.if-begun-row.true) refl)

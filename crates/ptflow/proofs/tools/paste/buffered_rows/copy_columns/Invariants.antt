@@ -1,6 +1,7 @@
 -- In the loop `begun` is a tuple: the number of copied columns, the end of their copy, and whether one has a line.
-use Rattle.ptflow.proofs.Common.{◌≡◌, ◌≤◌, ◌%◌, ◌-◌, length, take, CopyColumnsPost, begun_in, shape_of}
-use Rattle.ptflow.proofs.tools.paste.buffered_rows.copy_columns.Given as goal
+use Rattle.ptflow.proofs
+use proofs.Common.{◌≡◌, ◌≤◌, ◌%◌, ◌-◌, length, take, CopyColumnsPost, begun_in, shape_of}
+use proofs.tools.paste.buffered_rows.copy_columns.Given as goal
 
 abbrev pub invariant-cells : goal.invariant-cells
 invariant-cells g l = let (count, (end, (any_line, _))) = l.begun in record {

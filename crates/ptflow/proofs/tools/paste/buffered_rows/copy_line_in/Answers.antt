@@ -1,7 +1,7 @@
-use Rattle.ptflow.proofs.Common.{◌-◌, arith, rules, common_steps}
+use Rattle.ptflow.proofs
+use proofs.Common.{◌-◌, arith, rules, common_steps, take-append-add, take_more_put_chunk}
 use Rattle.ptlines.proofs.CopyFacts.{copied_prefix}
-use Rattle.ptflow.proofs.tools.paste.buffered_rows.copy_line_in.Goals as goal
-use Rattle.ptflow.proofs.Common.{take-append-add, take_more_put_chunk}
+use proofs.tools.paste.buffered_rows.copy_line_in.Goals as goal
 use borrow.Rule.Slice.PartMut.{mid_of}
 
 pub returns-clause-line : goal.returns-clause-line

@@ -1,18 +1,17 @@
 -- The loop ends at a row that is not complete, or has no line.
-use Rattle.std.proofs.Math.Bool.{not-not}
 use Rattle.ptflow.proofs
+use Rattle.std.proofs.Math.Bool.{not-not}
 use proofs.Common.{◌≡◌, take, take-take, take-append-le, length-take-le, ◌∙◌, ap, not, [], sym, arith, rules, length}
 use proofs.Common.{common_steps}
-use proofs.PasteLemmas.BufferedRows.{fill_starts, rows_taken_none, rows_taken_trans, row_taken}
-use proofs.PasteLemmas.BufferedRows.{consumed_none, consumed_trans, still_readable}
-use Rattle.ptflow.proofs.tools.paste.buffered_rows.copy_rows.Goals as goal
+use proofs.PasteLemmas.BufferedRows.{fill_starts, rows_taken_none, rows_taken_trans, row_taken, consumed_none}
+use proofs.PasteLemmas.BufferedRows.{consumed_trans, still_readable}
+use proofs.tools.paste.buffered_rows.copy_rows.Goals as goal
 
 pub rows-init : goal.rows-init
 rows-init g c = search (rules, rows_taken_none, consumed_none)
 
 pub copy_columns-begun-requires-clause-readable : goal.copy_columns-begun-requires-clause-readable
-copy_columns-begun-requires-clause-readable g c = still_readable
-    c.rows.invariant.consumed c.requires
+copy_columns-begun-requires-clause-readable g c = still_readable c.rows.invariant.consumed c.requires
 
 pub returns-then-begun-row-clause-rows : goal.returns-then-begun-row-clause-rows
 returns-then-begun-row-clause-rows g c =

@@ -1,7 +1,8 @@
-use Rattle.ptflow.proofs.Common.{◌≡◌, ◌+◌, ◌-◌, ◌≤◌, ℕ, List, length, take, drop, arith, length-drop, drop-take, rules}
+use Rattle.ptflow.proofs
+use proofs.Common.{◌≡◌, ◌+◌, ◌-◌, ◌≤◌, ℕ, List, length, take, drop, arith, length-drop, drop-take, rules}
 use lib.Seq.{paste}
 use Rattle.std.proofs.lemmas.List.Edits.{take-paste}
-use Rattle.ptflow.proofs.tools.paste.buffered_rows.move_to_front.Goals as goal
+use proofs.tools.paste.buffered_rows.move_to_front.Goals as goal
 
 moved : (at to : ℕ) (bytes : List ℕ) → at ≤ to → to ≤ length bytes
     → take (to - at) (paste bytes 0 (drop at bytes) (to - at)) ≡ drop at (take to bytes)

@@ -1,5 +1,6 @@
-use Rattle.ptflow.proofs.Common.{◌≡◌, ◌<◌, ℕ, [], ◌∷◌, length, slice_index_or, delimiter}
-use Rattle.ptflow.proofs.tools.paste.row.delimiter_bytes.Given as goal
+use Rattle.ptflow.proofs
+use proofs.Common.{◌≡◌, ◌<◌, ℕ, [], ◌∷◌, length, slice_index_or, delimiter}
+use proofs.tools.paste.row.delimiter_bytes.Given as goal
 
 abbrev pub invariant-loop-column : goal.invariant-loop-column
 invariant-loop-column l = record {

@@ -1,6 +1,7 @@
-use Rattle.ptflow.proofs.Common.{◌≡◌, ◌%◌, [], ◌∷◌, None, length, slice_index_or, option_to_list, sym, ◌∙◌, ap, subst}
-use Rattle.ptflow.proofs.Common.{mod-lt, mod-eq_of_lt, IsDelimiterCycle}
-use Rattle.ptflow.proofs.tools.paste.serial.delimiter_cycle.Goals as goal
+use Rattle.ptflow.proofs
+use proofs.Common.{◌≡◌, ◌%◌, [], ◌∷◌, None, length, slice_index_or, option_to_list, sym, ◌∙◌, ap, subst, mod-lt}
+use proofs.Common.{mod-eq_of_lt, IsDelimiterCycle}
+use proofs.tools.paste.serial.delimiter_cycle.Goals as goal
 
 pub returns : goal.returns
 returns c = λ x is.

@@ -3,7 +3,7 @@ use Rattle.ptflow.proofs
 use proofs.Common.{◌≡◌, [], refl, paste_job, paste_serial_tool, row_rest, rules}
 use proofs.Passes.Exits.{pass_unchanged, pass_set, ready_set}
 use proofs.PasteLemmas.Replaced.{serial_is_decided}
-use Rattle.ptflow.proofs.tools.paste.serial.paste_serial.Goals as goal
+use proofs.tools.paste.serial.paste_serial.Goals as goal
 
 pub returns-then-has_failed : goal.returns-then-has_failed
 returns-then-has_failed g c = pass_unchanged _ _ _ _ c.requires (cc)

@@ -3,7 +3,7 @@ use Rattle.ptflow.proofs
 use proofs.Common.{◌≡◌, ℕ, zero, suc, ◌+◌, ◌-◌, ◌<◌, ◌≤◌, Bool, true, List, length, take, get_or, sym, ◌∙◌, ap, arith}
 use proofs.Common.{get_or-take, count_by, false_from_ne_true, length-take-le, take_all, take-take, count_by_more_no}
 use proofs.Common.{count_by_more_yes, eqb-true, is_byte}
-use Rattle.ptflow.proofs.tools.paste.shared_input.rows_end.Goals as goal
+use proofs.tools.paste.shared_input.rows_end.Goals as goal
 
 none_after : (test : ℕ → Bool) (xs : List ℕ) (from n : ℕ) → from + n ≡ length xs
     → ((k : ℕ) → from ≤ k → k < length xs → test (get_or xs k 0) ≡ true → ⊥)
@@ -11,8 +11,7 @@ none_after : (test : ℕ → Bool) (xs : List ℕ) (from n : ℕ) → from + n �
 none_after test xs from zero all none = ap (count_by test) (sym (take_all from xs (omega arith)))
 none_after test xs from (suc n) all none =
     none_after _ xs (from + 1) n (omega arith) (λ k over. none k (omega arith))
-    ∙ count_by_more_no _ xs _ 0 (omega arith)
-    (false_from_ne_true _ (none from (omega arith) (omega arith)))
+    ∙ count_by_more_no _ xs _ 0 (omega arith) (false_from_ne_true _ (none from (omega arith) (omega arith)))
 
 pub returns-in-None-clause-counted : goal.returns-in-None-clause-counted
 returns-in-None-clause-counted c =

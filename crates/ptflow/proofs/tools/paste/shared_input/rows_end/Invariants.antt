@@ -1,6 +1,7 @@
 -- `_found` terminators are at or after the offset `at`, and if there are any, one is at `at`.
-use Rattle.ptflow.proofs.Common.{◌≡◌, ◌+◌, ◌<◌, ◌≤◌, get_or, length, take, count_by, is_byte}
-use Rattle.ptflow.proofs.tools.paste.shared_input.rows_end.Given as goal
+use Rattle.ptflow.proofs
+use proofs.Common.{◌≡◌, ◌+◌, ◌<◌, ◌≤◌, get_or, length, take, count_by, is_byte}
+use proofs.tools.paste.shared_input.rows_end.Given as goal
 
 abbrev pub invariant-loop-found : goal.invariant-loop-found
 invariant-loop-found l = record {

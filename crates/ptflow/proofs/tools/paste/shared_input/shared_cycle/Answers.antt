@@ -2,7 +2,7 @@
 use Rattle.ptflow.proofs
 use proofs.Common.{nat_tests, ◌≡◌, ◌<◌, [], ◌∷◌, length, get_or, sym, ◌∙◌, ap, arith, All-from_get_or, length-append}
 use proofs.Common.{get_or_append_left, get_or_push, mod-eq_of_lt, eqb-false, shape_of}
-use Rattle.ptflow.proofs.tools.paste.shared_input.shared_cycle.Goals as goal
+use proofs.tools.paste.shared_input.shared_cycle.Goals as goal
 
 pub returns : goal.returns
 returns c =

@@ -1,5 +1,6 @@
-use Rattle.ptflow.proofs.Common.{◌≡◌, ◌<◌, ℕ, get_or}
-use Rattle.ptflow.proofs.tools.paste.shared_input.shared_cycle.Given as goal
+use Rattle.ptflow.proofs
+use proofs.Common.{◌≡◌, ◌<◌, ℕ, get_or}
+use proofs.tools.paste.shared_input.shared_cycle.Given as goal
 
 abbrev pub invariant-loop-input : goal.invariant-loop-input
 invariant-loop-input l = record {

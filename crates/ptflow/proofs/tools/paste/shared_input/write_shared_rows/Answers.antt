@@ -3,7 +3,7 @@ use Rattle.ptflow.proofs
 use proofs.Common.{get_or, arith, set-get_or}
 use proofs.PasteLemmas.BufferedRows.{copied_rows, no_rows_written, next_reader}
 use borrow.Author.Rules.{scaled_Fits}
-use Rattle.ptflow.proofs.tools.paste.shared_input.write_shared_rows.Goals as goal
+use proofs.tools.paste.shared_input.write_shared_rows.Goals as goal
 
 pub returns-in_default-clause-rows : goal.returns-in_default-clause-rows
 returns-in_default-clause-rows g c = no_rows_written

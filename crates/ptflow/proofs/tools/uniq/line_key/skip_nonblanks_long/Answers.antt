@@ -18,7 +18,6 @@ returns-then-at g c =
 pub returns : goal.returns
 returns g c =
     let line = c.args.line.now in
-    let all : min c.find_or_n.result c.find_or_n-2.result ≡ g.row.N =
-    omega arith in
+    let all : min c.find_or_n.result c.find_or_n-2.result ≡ g.row.N = omega arith in
     c.skip_nonblanks_cold.ensures ∙ ap after_nonblanks (take_rest line g.row.N ∙ ap (λ at. drop at line) (sym all))
     ∙ sym (search (rules, both_later))

@@ -1,8 +1,7 @@
 -- A segment without a byte at the index is passed.
 use Rattle.ptlangs.proofs
 use proofs.Common.{Bytes, List, Ok, Result, Segment, SetFaultKind, ap, arith, chars, common_steps, cond, drop, is_fill}
-use proofs.Common.{length, member_results, most_left, rules, segments, set_elements, ◌*◌, ◌+◌, ◌||◌}
-use proofs.Common.{◌≡◌, ◌≤◌, drop_all}
+use proofs.Common.{length, member_results, most_left, rules, segments, set_elements, ◌*◌, ◌+◌, ◌||◌, ◌≡◌, ◌≤◌, drop_all}
 use proofs.TrArrays.{drop-found, fill_step, on_fault, segment-passed, member_bytes-members}
 use proofs.TrGrammar.{segments-element, chars-some, set_elements-fault}
 use Rattle.ptlangs.proofs.tr.bytes.Bytes.next.Goals.{else-self-2, then-self-2}
@@ -32,16 +31,13 @@ pub loop-member-preserved : goal.loop-member-preserved
 loop-member-preserved c =
     let s = c.loop-member.self in
     let x = c.in_ok-self.field-0 in
-    let filled : c.if-self-2.self ≡ (s.has_fill || is_fill (Ok x)) =
-    grind (arith, then-self-2, else-self-2) in
-    let first = segments-element s.role s.has_fill (chars (drop s.at s.text.now))
-    _ c.in_ok-element.element
+    let filled : c.if-self-2.self ≡ (s.has_fill || is_fill (Ok x)) = grind (arith, then-self-2, else-self-2) in
+    let first = segments-element s.role s.has_fill (chars (drop s.at s.text.now)) _ c.in_ok-element.element
     c.in_ok-element.ensures.reads c.in_ok-self.ensures.is in
     let passed = segment-passed s.fill s.segment s.index (segments_left s) c.in_default.ensures.found in
     let rest = set_elements (chars (drop c.in_ok-element.next s.text.now)) in
     let less = fill_step s.fill s.role c.in_ok-element.element x s.has_fill (grind arith) in
-    let cut =
-    ap (λ t. cond t 0 s.fill) filled in
+    let cut = ap (λ t. cond t 0 s.fill) filled in
     let most : length _ + 65536 * _
     + cond c.if-self-2.self 0 s.fill ≤ most_left s =
     grind (arith, length-map, member_bytes-members) in

@@ -1,6 +1,7 @@
 -- The segments that were passed have no bytes left.
-use Rattle.ptlangs.proofs.Common.{bytes_left, length, most_left, ◌-◌, ◌≡◌, ◌≤◌}
-use Rattle.ptlangs.proofs.tr.bytes.Bytes.next.Given as goal
+use Rattle.ptlangs.proofs
+use proofs.Common.{bytes_left, length, most_left, ◌-◌, ◌≡◌, ◌≤◌}
+use proofs.tr.bytes.Bytes.next.Given as goal
 
 abbrev pub invariant-loop-member : goal.invariant-loop-member
 invariant-loop-member l =

@@ -1,6 +1,6 @@
 use Rattle.ptlangs.proofs
 use proofs.Common.{arith, rules, drop_more}
-use Rattle.ptlangs.proofs.tr.classes.CharClass.get.Goals as goal
+use proofs.tr.classes.CharClass.get.Goals as goal
 use proofs.TrArrays.{slice_get-left, slice_get-right}
 
 pub returns-then-left-count : goal.returns-then-left-count

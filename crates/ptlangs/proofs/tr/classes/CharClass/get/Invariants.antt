@@ -1,5 +1,6 @@
-use Rattle.ptlangs.proofs.Common.{drop, flat_map, range_bytes, slice_get, ◌≡◌}
-use Rattle.ptlangs.proofs.tr.classes.CharClass.get.Given as goal
+use Rattle.ptlangs.proofs
+use proofs.Common.{drop, flat_map, range_bytes, slice_get, ◌≡◌}
+use proofs.tr.classes.CharClass.get.Given as goal
 
 abbrev pub invariant-loop-first : goal.invariant-loop-first
 invariant-loop-first l =

@@ -2,7 +2,7 @@
 use Rattle.ptlangs.proofs
 use proofs.Common.{count_by, false, get_or, not, rules, ◌≡◌}
 use proofs.TrArrays.{complement-is}
-use Rattle.ptlangs.proofs.tr.contents.Contents.complement.Goals as goal
+use proofs.tr.contents.Contents.complement.Goals as goal
 
 pub returns-clause-is : goal.returns-clause-is
 returns-clause-is c = λ bytes e.

@@ -4,7 +4,7 @@ use proofs.Common.{List, Ok, Segment, ap, arith, array, common_steps, contents_o
 use proofs.Common.{plain_members, refl, replicate, string_segments, sym, ◌++◌, ◌∙◌, ◌∷◌, ◌≡◌}
 use proofs.TrArrays.{contents-new, items_end, items_fault, items_more, member_bytes-array, member_bytes-plain, on_fault}
 use proofs.TrArrays.{string-fault, string-read}
-use Rattle.ptlangs.proofs.tr.contents.Contents.read.Goals as goal
+use proofs.tr.contents.Contents.read.Goals as goal
 
 pub returns-in_err-member-clause-is : goal.returns-in_err-member-clause-is
 returns-in_err-member-clause-is c =
@@ -33,9 +33,7 @@ loop-member-preserved c =
     ∙ ap (λ bs. member_bytes read.done ++ m.byte ∷ bs) (member_bytes-plain copies) in
     record {
       read =
-          items_more read _
-          (m ∷ plain_members copies)
-          (grind arith)
+          items_more read _ (m ∷ plain_members copies) (grind arith)
           (λ h. c.push.ensures.is _ h ∙ ap contents_of (sym bytes));
       most = omega arith;
     }
@@ -44,6 +42,5 @@ pub returns-clause-is : goal.returns-clause-is
 returns-clause-is c =
     let read = c.loop-member.invariant.read in
     let (end, _) = rw c.in_default.is at c.in_ok-member.ensures.steps in
-    let (ps, whole, bytes) = string-read _ _ _ _ c.if-is_empty.ensures
-    (items_end read end) in
+    let (ps, whole, bytes) = string-read _ _ _ _ c.if-is_empty.ensures (items_end read end) in
     rw whole (ap Ok (read.holds ∙ ap contents_of (ap member_bytes (sym bytes) ∙ member_bytes-array _ ps)))

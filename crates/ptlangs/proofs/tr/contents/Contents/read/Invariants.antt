@@ -3,7 +3,7 @@ use Rattle.ptlangs.proofs
 use proofs.Common.{List, Member, bytes_left, contents_of, length, member_bytes, member_results, most_left, segments_of}
 use proofs.Common.{◌*◌, ◌+◌, ◌≡◌, ◌≤◌}
 use proofs.TrArrays.{ItemsRead}
-use Rattle.ptlangs.proofs.tr.contents.Contents.read.Given as goal
+use proofs.tr.contents.Contents.read.Given as goal
 
 abbrev pub invariant-loop-member : goal.invariant-loop-member
 invariant-loop-member l = record {

@@ -2,7 +2,7 @@
 use Rattle.ptlangs.proofs
 use proofs.Common.{rules}
 use proofs.TrArrays.{never_fault, passing-copies, passing-end, passing-next, split_ok}
-use Rattle.ptlangs.proofs.tr.images.Images.finish.Goals as goal
+use proofs.tr.images.Images.finish.Goals as goal
 use Rattle.std.proofs.Common.{arith}
 
 pub returns-in_err-member : goal.returns-in_err-member
@@ -16,8 +16,7 @@ pub loop-member-preserved : goal.loop-member-preserved
 loop-member-preserved c = λ from to h.
     let next = passing-next (c.loop-member.invariant from to h) c.next.new.self c.in-Some.member (grind arith)
     (grind arith) in
-    passing-copies next c.skip_repeats.new.self _
-    c.skip_repeats.ensures.passed
+    passing-copies next c.skip_repeats.new.self _ c.skip_repeats.ensures.passed
 
 pub returns : goal.returns
 returns c = search (rules, passing-end)

@@ -1,7 +1,7 @@
 use Rattle.ptlangs.proofs
 use proofs.Common.{HasPaired, List, Member, most_left}
 use proofs.TrArrays.{IsPassing}
-use Rattle.ptlangs.proofs.tr.images.Images.finish.Given as goal
+use proofs.tr.images.Images.finish.Given as goal
 
 abbrev pub invariant-loop-member : goal.invariant-loop-member
 invariant-loop-member l = (from to : List Member) → HasPaired from to l.fn.self → IsPassing from to l.self

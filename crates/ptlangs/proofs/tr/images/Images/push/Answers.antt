@@ -19,11 +19,9 @@ returns c = λ before to h.
       | in-Some+else-not-classes_match w ↦
           written _ to c.match-branch-2.self c.from.result c.unwrap_or.result from.byte old.table c.next.new.self
           _ w.self-is c.from.ensures c.unwrap_or.ensures
-          (push-next before to old from h (omega arith) c.next.new.self w.in-Some.to (grind arith)
-          (grind arith))
+          (push-next before to old from h (omega arith) c.next.new.self w.in-Some.to (grind arith) (grind arith))
       | in_default w ↦
           let (now, end) = rw w.in_default.is at c.in_ok-to.ensures.steps in
           written _ to c.match-branch-2.self c.from.result c.unwrap_or.result from.byte old.table c.next.new.self
-          old.last w.self-is c.from.ensures c.unwrap_or.ensures
-          (search (rules, push-last))
+          old.last w.self-is c.from.ensures c.unwrap_or.ensures (search (rules, push-last))
     ]

@@ -2,7 +2,7 @@
 use Rattle.ptlangs.proofs
 use proofs.Common.{HasPaired, List, Member, [], complement_of, contents_of, plain_members, ℕ, ◌≡◌}
 use proofs.TrArrays.{others_below}
-use Rattle.ptlangs.proofs.tr.images.Images.push_ascending.Given as goal
+use proofs.tr.images.Images.push_ascending.Given as goal
 
 abbrev pub invariant-loop-byte : goal.invariant-loop-byte
 invariant-loop-byte l =

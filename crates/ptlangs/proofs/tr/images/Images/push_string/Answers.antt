@@ -3,7 +3,7 @@ use Rattle.ptlangs.proofs
 use proofs.Common.{First, PairPost, all_paired, ap, marked_array, member_results, refl, segments_of, sequence, ◌∙◌}
 use proofs.TrArrays.{items_at, items_end, items_fault, items_more, never_fault, on_fault, paired_same, sequence-ok}
 use proofs.TrArrays.{string-ok}
-use Rattle.ptlangs.proofs.tr.images.Images.push_string.Goals as goal
+use proofs.tr.images.Images.push_string.Goals as goal
 use Rattle.std.proofs.Common.{arith}
 
 pub returns-in_err-member : goal.returns-in_err-member
@@ -14,8 +14,7 @@ returns-in_err-member c = λ ps to e h.
 pub loop-member-preserved : goal.loop-member-preserved
 loop-member-preserved c =
     let read = c.loop-member.invariant in
-    items_more read _ _ (grind arith)
-    (λ holds to h. c.in_ok-push.ensures read.done to (holds to h))
+    items_more read _ _ (grind arith) (λ holds to h. c.in_ok-push.ensures read.done to (holds to h))
 
 pub returns-in_err-push : goal.returns-in_err-push
 returns-in_err-push c = λ ps to e h.

@@ -1,7 +1,7 @@
 use Rattle.ptlangs.proofs
 use proofs.Common.{First, HasPaired, List, Member, [], bytes_left, member_results, most_left, segments_of}
 use proofs.TrArrays.{ItemsRead}
-use Rattle.ptlangs.proofs.tr.images.Images.push_string.Given as goal
+use proofs.tr.images.Images.push_string.Given as goal
 
 abbrev pub invariant-loop-member : goal.invariant-loop-member
 invariant-loop-member l =

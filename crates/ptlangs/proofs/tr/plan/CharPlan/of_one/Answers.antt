@@ -2,7 +2,7 @@ use Rattle.ptlangs.proofs
 use proofs.Common.{Contents, Delete, Form, Squeeze, [], ap, plan_of, sym, tables, ◌∙◌}
 use proofs.TrArrays.{none_contained}
 use proofs.TrPlans.{is_squeeze, tables_are}
-use Rattle.ptlangs.proofs.tr.plan.CharPlan.of_one.Goals as goal
+use proofs.tr.plan.CharPlan.of_one.Goals as goal
 
 pub returns-in-Delete : goal.returns-in-Delete
 returns-in-Delete c = λ bytes e.

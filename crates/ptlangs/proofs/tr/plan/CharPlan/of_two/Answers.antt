@@ -1,75 +1,42 @@
 -- The second string is read first without a fill, to find how many bytes a fill has. Both times it has the same
 -- segments.
 use Rattle.ptlangs.proofs
-use proofs.Common.{Contents, DeleteSqueeze, Form, List, Ok, Segment, Translate, TranslateSqueeze, [], all_bytes}
-use proofs.Common.{ap, array, contents_of, first_array, image_by, map, ok_map, plan_of, rules, string_segments}
-use proofs.Common.{tables, ◌∙◌, ◌≡◌, arith}
-use proofs.TrArrays.{answer_fault, answer_ok, member_bytes-array, none_contained, on_fault, string-ok}
-use proofs.TrPlans.{SecondRead, planned, second_read, tables_are, valid-paired}
-use Rattle.ptlangs.proofs.tr.plan.CharPlan.of_two.Goals.{After-saturating_sub-fill, In_ok-second}
-use Rattle.ptlangs.specs.TrPlan.{class_offsets, has_valid_classes, second_plan}
+use proofs.Common.{List, Segment, arith, contents_of, first_array, first_members, member_results, ok_map, rules}
+use proofs.Common.{segments_of, tables, ◌∙◌, ◌≡◌}
+use proofs.TrArrays.{none_contained, on_fault}
+use proofs.TrPlans.{SecondRead, second_read}
+use Rattle.ptlangs.proofs.tr.plan.CharPlan.of_two.Goals.{Joined-form}
+use Rattle.ptlangs.proofs.tr.plan.CharPlan.of_two.Goals.{in-Translate, in_default+in_ok-squeezed-in_default}
 use Rattle.ptlangs.proofs.tr.plan.CharPlan.of_two.Goals as goal
+use Rattle.ptlangs.specs.TrPlan.{second_plan}
 
-seen : (c : After-saturating_sub-fill) (firsts : List Segment)
+seen : (c : Joined-form) (firsts : List Segment)
     → c.args.first.now ≡ contents_of (first_array c.args.complement firsts)
-    → SecondRead c.args.form c.args.complement firsts c.args.s2.now c.second_role-role.result
-    c.saturating_sub-fill.result
-seen c firsts f = search (rules, second_read)
-
-squeezed : (c : In_ok-second) (ps : List Segment)
-    → string_segments c.second_role-role.result c.args.s2.now ≡ Ok ps
-    → c.in_ok-second.second.has ≡ (contents_of (array c.saturating_sub-fill.result ps)).has
-squeezed c ps read = search rules
+    → SecondRead c.args.form (first_array c.args.complement firsts) (first_members c.args.complement firsts)
+    (member_results c.saturating_sub-fill.result (segments_of c.second_role-role.result c.args.s2.now))
+    c.match-form.squeezed (ok_map tables (second_plan c.args.form c.args.complement firsts c.args.s2.now))
+seen c firsts f =
+    second_read c.args.form c.args.complement firsts c.args.s2.now c.second_role-role.result _ _ _ _
+    c.requires.form c.second_role-role.ensures c.in_ok-unfilled.ensures.is c.saturating_sub-fill.ensures f
+    (λ ps read. elim c.match-form.branch [
+      | in-Translate w ↦ search (rules, none_contained)
+      | in_default+in_ok-squeezed-in_default w ↦ grind arith
+    ])
 
 pub returns-in-DeleteSqueeze : goal.returns-in-DeleteSqueeze
 returns-in-DeleteSqueeze c = λ firsts e f.
-    let at = goal.at.returns-in-DeleteSqueeze c in
-    let r = seen at.After-saturating_sub-fill firsts f in
-    let valid = ap (λ (form : Form). has_valid_classes form c.args.complement (class_offsets 0 0 firsts)
-    (class_offsets c.saturating_sub-fill.result 0 r.ps)) c.in-DeleteSqueeze.is in
-    planned c.args.form DeleteSqueeze c.args.complement firsts c.args.s2.now r c.in-DeleteSqueeze.is valid
-    (c.new.ensures ∙ tables_are (plan_of DeleteSqueeze _
-    _) (ap (λ (q : Contents). q.has) f)
-    (c.identity.ensures []) (squeezed at.In_ok-second r.ps r.read))
+    let r = seen (goal.at.returns-in-DeleteSqueeze c).Joined-form firsts f in
+    search (rules, r.deletes, c.identity.ensures)
 
 pub returns-in_err-table : goal.returns-in_err-table
 returns-in_err-table c = λ firsts e f.
-    let r = seen (goal.at.returns-in_err-table c).After-saturating_sub-fill firsts f in
-    let fill = c.saturating_sub-fill.result in
-    let (unpaired, kind) =
-    answer_fault _ _ _ (c.in_err-table.ensures firsts _ e f
-    (c.new-2.ensures.all ∙ string-ok c.second_role-role.result c.args.s2.now fill r.ps r.read)) in
-    let valid = valid-paired c.args.form c.args.complement firsts r.ps fill c.in_default.not-DeleteSqueeze ∙ unpaired in
-    let (_, fault) = c.from_residual-in_err-table.ensures in
-    on_fault (λ q. q ≡ ok_map tables (second_plan c.args.form c.args.complement firsts c.args.s2.now))
-    c.from_residual-in_err-table.result _ fault (grind (arith, ok_map, tables))
+    let r = seen (goal.at.returns-in_err-table c).Joined-form firsts f in
+    let is = r.translates c.in_default-form.not-DeleteSqueeze
+    (c.in_err-table.ensures firsts _ e f (c.new-2.ensures.all ∙ r.left)) in
+    search (rules, on_fault)
 
-pub returns-in-TranslateSqueeze : goal.returns-in-TranslateSqueeze
-returns-in-TranslateSqueeze c = λ firsts e f.
-    let at = goal.at.returns-in-TranslateSqueeze c in
-    let r = seen at.After-saturating_sub-fill firsts f in
-    let fill = c.saturating_sub-fill.result in
-    let from = first_array c.args.complement firsts in
-    let (paired, table) =
-    answer_ok _ (c.in_ok-table.ensures firsts _ e f
-    (c.new-2.ensures.all ∙ string-ok c.second_role-role.result c.args.s2.now fill r.ps r.read)) in
-    planned c.args.form TranslateSqueeze c.args.complement firsts c.args.s2.now r c.in-TranslateSqueeze.is
-    (valid-paired c.args.form c.args.complement firsts r.ps fill c.in_default.not-DeleteSqueeze ∙ paired)
-    (c.new-in-TranslateSqueeze.ensures ∙ tables_are (plan_of TranslateSqueeze from _)
-    none_contained
-    (table ∙ ap (λ to. map (image_by from to) all_bytes) (member_bytes-array fill r.ps))
-    (squeezed at.In_ok-second r.ps r.read))
-
-pub returns-in_default-form : goal.returns-in_default-form
-returns-in_default-form c = λ firsts e f.
-    let r = seen (goal.at.returns-in_default-form c).After-saturating_sub-fill firsts f in
-    let fill = c.saturating_sub-fill.result in
-    let from = first_array c.args.complement firsts in
-    let (paired, table) =
-    answer_ok _ (c.in_ok-table.ensures firsts _ e f
-    (c.new-2.ensures.all ∙ string-ok c.second_role-role.result c.args.s2.now fill r.ps r.read)) in
-    planned c.args.form Translate c.args.complement firsts c.args.s2.now r
-    (grind arith)
-    (valid-paired c.args.form c.args.complement firsts r.ps fill c.in_default.not-DeleteSqueeze ∙ paired)
-    (c.new-in_default-form.ensures ∙ tables_are (plan_of Translate from _) none_contained
-    (table ∙ ap (λ to. map (image_by from to) all_bytes) (member_bytes-array fill r.ps)) none_contained)
+pub returns : goal.returns
+returns c = λ firsts e f.
+    let r = seen (goal.at.returns c).Joined-form firsts f in
+    rw c.new-3.ensures (r.translates c.in_default-form.not-DeleteSqueeze
+    (c.in_ok-table.ensures firsts _ e f (c.new-2.ensures.all ∙ r.left)))

@@ -1,7 +1,7 @@
 use Rattle.ptlangs.proofs
 use proofs.Common.{arith, common_steps}
 use proofs.TrShifts.{moved_reversed}
-use Rattle.ptlangs.proofs.tr.shifts.Shifts.image.Goals as goal
+use proofs.tr.shifts.Shifts.image.Goals as goal
 
 pub returns : goal.returns
 returns c = grind (arith, common_steps, moved_reversed)

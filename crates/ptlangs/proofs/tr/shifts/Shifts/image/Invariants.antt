@@ -1,5 +1,6 @@
-use Rattle.ptlangs.proofs.Common.{shift_at, sum_by, take, ◌%◌, ◌+◌, ◌≡◌}
-use Rattle.ptlangs.proofs.tr.shifts.Shifts.image.Given as goal
+use Rattle.ptlangs.proofs
+use proofs.Common.{shift_at, sum_by, take, ◌%◌, ◌+◌, ◌≡◌}
+use proofs.tr.shifts.Shifts.image.Given as goal
 
 abbrev pub invariant-loop-stretch : goal.invariant-loop-stretch
 invariant-loop-stretch l =

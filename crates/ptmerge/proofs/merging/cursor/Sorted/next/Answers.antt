@@ -1,11 +1,11 @@
 -- The current line keeps its slot when its span becomes that of the previous line, so the two keys that are compared
 -- are those of both lines.
-use Rattle.std.proofs.lemmas.Grind.{common_steps}
 use Rattle.ptmerge.proofs
 use proofs.Common.{◌≡◌, ◌<◌, ◌+◌, sym, ap, ◌∙◌, inl, arith, if◌then◌else◌, nat_tests, line, line_of_with_line, Head}
 use proofs.Common.{Disorder}
+use Rattle.std.proofs.lemmas.Grind.{common_steps}
 use proofs.MergeLemmas.{later_status, line_other}
-use Rattle.ptmerge.proofs.merging.cursor.Sorted.next.Goals as goal
+use proofs.merging.cursor.Sorted.next.Goals as goal
 
 pub returns-clause-moves : goal.returns-clause-moves
 returns-clause-moves g c =
@@ -16,7 +16,8 @@ returns-clause-moves g c =
     let after = c.fill.new.store in
     let some : 0 < old.number = grind (arith, nat_tests) in
     let swap = c.swap.ensures in
-    let e = rw (c.in-Ok-true.field-0-test, swap.x_after) at (c.in-Ok-true.ensures.fills c.requires.own_reader.clean) in
+    let clean = (c.requires.own_reader c.fill.ensures.was_sound).clean in
+    let e = rw (c.in-Ok-true.field-0-test, swap.x_after) at (c.in-Ok-true.ensures.fills clean) in
     let last_is : line after c.swap.new.y ≡ line before old.current_slot = rw (swap.y_after, e.stored)
     (line_other before _ _ e.line (λ is. c.requires.distinct_slots.apart (sym is))) in
     let next_is : line after c.swap.new.x ≡ e.line = rw (swap.x_after, e.stored)

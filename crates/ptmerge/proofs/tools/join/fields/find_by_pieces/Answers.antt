@@ -2,7 +2,7 @@
 use Rattle.ptmerge.proofs
 use proofs.Common.{◌-◌, ◌≡◌, arith, option_copied, remaining_fields}
 use proofs.JoinLemmas.Fields.{after_piece}
-use Rattle.ptmerge.proofs.tools.join.fields.find_by_pieces.Goals as goal
+use proofs.tools.join.fields.find_by_pieces.Goals as goal
 
 pub returns : goal.returns
 returns c =

@@ -2,7 +2,7 @@
 use Rattle.ptmerge.proofs
 use proofs.Common.{◌≡◌, drop, Some, option_copied, remaining_fields}
 use proofs.JoinLemmas.Fields.{AreFieldsOf}
-use Rattle.ptmerge.proofs.tools.join.fields.find_by_pieces.Given as goal
+use proofs.tools.join.fields.find_by_pieces.Given as goal
 
 abbrev pub invariant-loop-passed : goal.invariant-loop-passed
 invariant-loop-passed l = record {

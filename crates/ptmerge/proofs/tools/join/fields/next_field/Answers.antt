@@ -3,7 +3,7 @@ use Rattle.ptmerge.proofs
 use proofs.Common.{◌≡◌, ◌∷◌, [], None, Some, option_copied, sym, ◌∙◌, MatchOption, slice_split, is_separator}
 use proofs.Common.{remaining_fields}
 use proofs.JoinLemmas.Fields.{fields_after, skip_empty_word}
-use Rattle.ptmerge.proofs.tools.join.fields.next_field.Goals as goal
+use proofs.tools.join.fields.next_field.Goals as goal
 
 pub returns-then-is_some-clause-is_piece : goal.returns-then-is_some-clause-is_piece
 returns-then-is_some-clause-is_piece c =

@@ -2,7 +2,7 @@
 use Rattle.ptmerge.proofs
 use proofs.Common.{◌≡◌, option_copied, remaining_fields}
 use proofs.JoinLemmas.Fields.{AreFieldsOf, remaining_length}
-use Rattle.ptmerge.proofs.tools.join.fields.next_field.Given as goal
+use proofs.tools.join.fields.next_field.Given as goal
 
 abbrev pub invariant-pieces : goal.invariant-pieces
 invariant-pieces l = record {

@@ -1,6 +1,7 @@
+use Rattle.ptmerge.proofs
 use Rattle.std.proofs.Common.{arith}
-use Rattle.ptmerge.proofs.JoinLemmas.Group.{clears_more}
-use Rattle.ptmerge.proofs.tools.join.key_group.clear_group.Goals as goal
+use proofs.JoinLemmas.Group.{clears_more}
+use proofs.tools.join.key_group.clear_group.Goals as goal
 
 pub loop-slot-preserved : goal.loop-slot-preserved
 loop-slot-preserved g c =

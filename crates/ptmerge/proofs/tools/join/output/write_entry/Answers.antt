@@ -1,11 +1,11 @@
 -- A canonical line is its key and its other fields, so it is written unchanged.
-use Rattle.std.proofs.lemmas.Grind.{common_steps}
 use Rattle.ptmerge.proofs
 use proofs.Common.{◌≡◌, List, [], ◌∷◌, ◌++◌, ℕ, Option, Result, append-nil, ap, refl, subst, First, Join, Output, arith}
 use proofs.Common.{PushPost, Second, entry_with_list, join_job, option_copied}
+use Rattle.std.proofs.lemmas.Grind.{common_steps}
 use proofs.JoinLemmas.Fields.{then_pushes, first_is, pair_is, second_is}
 use Rattle.ptmerge.specs.JoinFields.{IsKeyOf}
-use Rattle.ptmerge.proofs.tools.join.output.write_entry.Goals as goal
+use proofs.tools.join.output.write_entry.Goals as goal
 
 pushes_entry : {E : Type 0} {was is : Output} {r : Result (Unit {0}) E} (job : Join) (k : List ℕ) (end : ℕ)
     {one one2 two two2 : Option (List ℕ)} → one2 ≡ one → two2 ≡ two → {bytes : List ℕ}
@@ -41,7 +41,8 @@ returns-in-None-None-Some g c =
     let key = c.args.key.now in
     let at = c.in-None-None-Some in
     let two = ap option_copied at.is-2 in
-    pushes_entry job key _ (ap option_copied at.is-1) two (cc (second_is job key at.is-0 (c.if-is_canonical-4.ensures refl)
+    pushes_entry job key _ (ap option_copied at.is-1) two
+    (cc (second_is job key at.is-0 (c.if-is_canonical-4.ensures refl)
     (subst (IsKeyOf job Second key) two c.requires.two)))
     c.push_line-in-None-None-Some.ensures.pushed
 

@@ -2,7 +2,7 @@
 use Rattle.ptmerge.proofs
 use proofs.Common.{option_copied, refl, join_job}
 use proofs.JoinLemmas.Fields.{partial_ends, partial_fails, partial_first, partial_more, entry_plain}
-use Rattle.ptmerge.proofs.tools.join.output.write_fields.Goals as goal
+use proofs.tools.join.output.write_fields.Goals as goal
 
 pub returns-in_err-write_other_fields-in-None : goal.returns-in_err-write_other_fields-in-None
 returns-in_err-write_other_fields-in-None g c =

@@ -1,9 +1,9 @@
 -- The first item has no separator before it, so it is written before the loop.
-use Rattle.std.proofs.lemmas.Grind.{common_steps}
 use Rattle.ptmerge.proofs
 use proofs.Common.{◌∷◌, ℕ, List, sym, ◌∙◌, join_job, output_separator, arith}
+use Rattle.std.proofs.lemmas.Grind.{common_steps}
 use proofs.JoinLemmas.Fields.{partial_first, each_fails, each_more, between_is, entry_listed, first_then_rest}
-use Rattle.ptmerge.proofs.tools.join.output.write_listed_fields.Goals as goal
+use proofs.tools.join.output.write_listed_fields.Goals as goal
 
 pub items-init : goal.items-init
 items-init g c =

@@ -2,7 +2,7 @@
 use Rattle.ptmerge.proofs
 use proofs.Common.{option_copied, map, length, join_job, output_separator, entry_with_list, with_prefix, Some}
 use proofs.JoinLemmas.Fields.{PartialWrite, output_item}
-use Rattle.ptmerge.proofs.tools.join.output.write_listed_fields.Given as goal
+use proofs.tools.join.output.write_listed_fields.Given as goal
 
 abbrev pub invariant-items : goal.invariant-items
 invariant-items g l =

@@ -2,7 +2,7 @@
 use Rattle.ptmerge.proofs
 use proofs.Common.{◌-◌, None, Some, option_copied, remove, other_fields, remaining_fields, with_prefix}
 use proofs.JoinLemmas.Fields.{PartialWrite}
-use Rattle.ptmerge.proofs.tools.join.output.write_other_words.Given as goal
+use proofs.tools.join.output.write_other_words.Given as goal
 
 abbrev pub invariant-loop-passed : goal.invariant-loop-passed
 invariant-loop-passed g l =

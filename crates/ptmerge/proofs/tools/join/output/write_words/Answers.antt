@@ -1,6 +1,7 @@
+use Rattle.ptmerge.proofs
 use Rattle.std.proofs.Common.{◌∷◌, ℕ, List}
-use Rattle.ptmerge.proofs.JoinLemmas.Fields.{each_fails, each_more}
-use Rattle.ptmerge.proofs.tools.join.output.write_words.Goals as goal
+use proofs.JoinLemmas.Fields.{each_fails, each_more}
+use proofs.tools.join.output.write_words.Goals as goal
 
 pub returns-in_err-write_prefixed_field : goal.returns-in_err-write_prefixed_field
 returns-in_err-write_prefixed_field g c = each_fails (λ (l : List ℕ). 32 ∷ l) c.in-Some.ensures.first c.words.invariant

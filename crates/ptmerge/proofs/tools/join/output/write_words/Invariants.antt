@@ -2,7 +2,7 @@
 use Rattle.ptmerge.proofs
 use proofs.Common.{None, option_copied, length, remaining_fields, with_prefix}
 use proofs.JoinLemmas.Fields.{PartialWrite}
-use Rattle.ptmerge.proofs.tools.join.output.write_words.Given as goal
+use proofs.tools.join.output.write_words.Given as goal
 
 abbrev pub invariant-words : goal.invariant-words
 invariant-words g l = PartialWrite l.fn.out l.out (with_prefix 32 (remaining_fields None (option_copied l.line)))

@@ -1,6 +1,7 @@
-use Rattle.ptmerge.proofs.Common.{◌-◌, arith}
+use Rattle.ptmerge.proofs
+use proofs.Common.{◌-◌, arith}
 use lib.Bits.{or_lt}
-use Rattle.ptmerge.proofs.tools.join.words.after_first_run.Goals as goal
+use proofs.tools.join.words.after_first_run.Goals as goal
 
 pub overflow_add-result : goal.overflow_add-result
 overflow_add-result c =

@@ -1,11 +1,12 @@
-use Rattle.std.proofs.lemmas.Simd.{bitmask_splat, length-chunk, mask_l-mod}
 use Rattle.ptmerge.proofs
+use Rattle.std.proofs.lemmas
 use proofs.Common.{eqb}
-use Rattle.ptmerge.proofs.tools.join.words.blanks_in.Goals as goal
+use lemmas.Simd.{bitmask_splat, length-chunk, mask_l-mod}
 use mir.Syntax.{w8}
 use proofs.JoinLemmas.Fields.{blank_lanes}
 use Rattle.std.proofs.Common.{rules}
-use Rattle.std.proofs.lemmas.List.{length-map}
+use lemmas.List.{length-map}
+use proofs.tools.join.words.blanks_in.Goals as goal
 
 pub returns : goal.returns
 returns g c = record {

@@ -1,7 +1,7 @@
 use Rattle.ptmerge.proofs
 use proofs.Common.{arith, length-append}
 use proofs.JoinLemmas.Fields.{spaced_to_end, with_end}
-use Rattle.ptmerge.proofs.tools.join.words.ends_single_spaced.Goals as goal
+use proofs.tools.join.words.ends_single_spaced.Goals as goal
 
 pub returns : goal.returns
 returns c = grind (arith, with_end, length-append, spaced_to_end)

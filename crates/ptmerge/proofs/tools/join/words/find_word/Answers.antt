@@ -1,9 +1,9 @@
 -- The set bits are the words that were not passed, so the first run of them is the next word.
-use Rattle.std.proofs.Common.{rules}
 use Rattle.ptmerge.proofs
 use proofs.Common.{arith}
+use Rattle.std.proofs.Common.{rules}
 use proofs.JoinLemmas.Fields.{none_left, words_small}
-use Rattle.ptmerge.proofs.tools.join.words.find_word.Goals as goal
+use proofs.tools.join.words.find_word.Goals as goal
 
 pub returns-then-words-eq0 : goal.returns-then-words-eq0
 returns-then-words-eq0 c = none_left c.requires.short c.loop-passed.invariant c.args.number c.if-words-eq0.true

@@ -1,10 +1,10 @@
-use Rattle.std.proofs.Common.{◌/◌}
 use Rattle.ptmerge.proofs
 use proofs.Common.{◌==◌, ◌∙◌, ◌+◌, ◌^◌, ◌≤◌, length, ap, arith, sym}
+use Rattle.std.proofs.Common.{◌/◌}
 use proofs.JoinLemmas.Fields.{bit_is, chunk_spaced, last_blank, top_bit}
 use Rattle.std.proofs.lemmas.Simd.{length-chunk}
 use Rattle.std.specs.Simd.Lanes.{chunk}
-use Rattle.ptmerge.proofs.tools.join.words.is_single_spaced_long.Goals as goal
+use proofs.tools.join.words.is_single_spaced_long.Goals as goal
 
 pub returns-then-not-are_single_spaces : goal.returns-then-not-are_single_spaces
 returns-then-not-are_single_spaces c =

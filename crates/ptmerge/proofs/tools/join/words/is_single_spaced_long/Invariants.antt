@@ -1,6 +1,7 @@
 -- The line is single-spaced if the rest of it is.
-use Rattle.ptmerge.proofs.Common.{◌≡◌, ◌==◌, ◌-◌, ◌≤◌, true, drop, length, is_single_spaced}
-use Rattle.ptmerge.proofs.tools.join.words.is_single_spaced_long.Given as goal
+use Rattle.ptmerge.proofs
+use proofs.Common.{◌≡◌, ◌==◌, ◌-◌, ◌≤◌, true, drop, length, is_single_spaced}
+use proofs.tools.join.words.is_single_spaced_long.Given as goal
 
 abbrev pub invariant-loop-at : goal.invariant-loop-at
 invariant-loop-at l = record {

@@ -9,14 +9,12 @@ use proofs.tools.cut.bytes.Selection.copy16.Goals as goal
 pub swizzle : goal.swizzle
 swizzle c =
     let is = c.args.self.now.are_shuffles.pieces c.args.index (omega arith) in
-    SwzOk-from_below w8 16 1 16 0 (piece_at _ c.args.index).row refl (omega arith)
-    (row_lanes _ is.lanes)
+    SwzOk-from_below w8 16 1 16 0 (piece_at _ c.args.index).row refl (omega arith) (row_lanes _ is.lanes)
 
 pub returns-clause-copied : goal.returns-clause-copied
 returns-clause-copied c = λ was before.
     let is = c.args.self.now.are_shuffles.pieces c.args.index (omega arith) in
-    piece_copied _ _ _ _ _ was _ is c.from.ensures (omega arith)
-    (omega arith) (omega arith) before
+    piece_copied _ _ _ _ _ was _ is c.from.ensures (omega arith) (omega arith) (omega arith) before
 
 pub returns-clause-near : goal.returns-clause-near
 returns-clause-near c =

@@ -1,10 +1,10 @@
 -- An interval that reaches the end of the piece is the last one.
 use Rattle.ptflow.proofs
 use proofs.Common.{arith, common_steps, ◌≤◌, drop, length, length-drop, take_rest, ℕ, ◌∙◌, ap, min, append-nil}
+use proofs.Common.{drop_all}
 use proofs.CutLemmas.CutBytes.{copied_ends, copied_more, select_none}
 use Rattle.ptflow.proofs.tools.cut.bytes.Selection.copy_selected.Goals as goal
 use Rattle.ptflow.proofs.tools.cut.bytes.Selection.copy_selected.Goals.{Start}
-use proofs.Common.{drop_all}
 
 fits : (c : Start) → c.args.count ≤ length (drop c.args.line.start c.args.block.now)
 fits c = omega (arith, length-drop c.args.line.start c.args.block.now)
@@ -12,8 +12,7 @@ fits c = omega (arith, length-drop c.args.line.start c.args.block.now)
 pub returns-then-last-interval-clause-copied : goal.returns-then-last-interval-clause-copied
 returns-then-last-interval-clause-copied c =
     copied_ends _ (fits (goal.at.returns-then-last-interval-clause-copied c).Start) c.loop-interval.invariant
-    c.loop-interval-test.true _
-    (c.min-from.ensures ∙ ap (λ (f : ℕ). min f c.args.count) c.saturating_sub-from.ensures)
+    c.loop-interval-test.true _ (c.min-from.ensures ∙ ap (λ (f : ℕ). min f c.args.count) c.saturating_sub-from.ensures)
     c.if-last-interval.true (rw take_rest at c.copy_short.ensures.copied)
 
 pub loop-interval-preserved : goal.loop-interval-preserved
@@ -23,8 +22,7 @@ loop-interval-preserved c =
     c.if-last-interval.false (rw take_rest at c.copy_short-in-loop-interval.ensures.copied)
 
 pub returns-clause-copied : goal.returns-clause-copied
-returns-clause-copied c =
-    grind (arith, select_none, drop_all, append-nil)
+returns-clause-copied c = grind (arith, select_none, drop_all, append-nil)
 
 pub loop-interval-init : goal.loop-interval-init
 loop-interval-init c = grind arith

@@ -1,8 +1,8 @@
 -- The lowest bit that is left is the next terminator, and the line up to it is cut. Each set bit has one iteration, so
 -- none is left at the end.
 use Rattle.ptflow.proofs
-use proofs.Common.{◌≡◌, ◌+◌, suc, map, refl, ◌∙◌, ap, arith, count_ones, chunk, length-chunk}
-use proofs.Common.{take_more_put_chunk, ones-mask_l, is_byte}
+use proofs.Common.{◌≡◌, ◌+◌, suc, map, refl, ◌∙◌, ap, arith, count_ones, chunk, length-chunk, take_more_put_chunk}
+use proofs.Common.{ones-mask_l, is_byte}
 use lib.Count.{count_trailing_zeros}
 use proofs.CutLemmas.CutBytes.{line_cut, terminators_next, cut_next}
 use proofs.Vectors.FindNth.{NextTerminator, cleared, count_chunk, next_terminator}
@@ -15,11 +15,8 @@ returns-then-line-eq0-clause-on c =
     let block = c.args.block.now in
     let line = c.args.line in
     record {
-      cut = cut_next end _ _ _ _ _ _
-          _ _ _
-          _ (λ start bytes so_far. so_far)
-          (take_more_put_chunk _ _ _ _
-          (omega (arith, length-chunk line.start 64 block (omega arith))) (omega arith))
+      cut = cut_next end _ _ _ _ _ _ _ _ _ _ (λ start bytes so_far. so_far)
+          (take_more_put_chunk _ _ _ _ (omega (arith, length-chunk line.start 64 block (omega arith))) (omega arith))
           (terminators_next end _ _ (omega arith) c.if-line-from.true c.if-line-eq0.true
           c.requires.ends.is c.if-mask.true);
       bound = omega arith;
@@ -28,8 +25,7 @@ returns-then-line-eq0-clause-on c =
 
 next : (c : In-loop-end) → NextTerminator c.args.self.now.terminator c.args.block.now c.args.from c.loop-end._end
     (count_trailing_zeros 64 c.loop-end.mask) c.loop-end.line.start
-next c = next_terminator _ _ c.requires.ends (omega arith) c.loop-end.invariant.bits
-    c.loop-end.invariant.ends
+next c = next_terminator _ _ c.requires.ends (omega arith) c.loop-end.invariant.bits c.loop-end.invariant.ends
 
 pub overflow_sub-end : goal.overflow_sub-end
 overflow_sub-end c = (next (goal.at.overflow_sub-end c).In-loop-end).order

@@ -1,11 +1,10 @@
 -- An interval takes two steps: to the start of its first field, and to the end of its last one.
 use Rattle.ptflow.proofs
-use proofs.Common.{◌∙◌, refl, sym, arith, length, take, length-take-le, take_rest, common_steps}
-use proofs.Common.{eqb-false}
+use proofs.Common.{◌∙◌, refl, sym, arith, length, take, length-take-le, take_rest, common_steps, eqb-false}
 use proofs.CutLemmas.Fields.{ends_before, next_slice, none_left, none_selected}
-use proofs.tools.cut.fields.FieldCursor.next_slice.Goals as goal
-use proofs.tools.cut.fields.FieldCursor.next_slice.Goals.{then-is_empty-via-then-is_empty}
-use proofs.tools.cut.fields.FieldCursor.next_slice.Goals.{then-is_empty-via-else-is_empty+then-self-to}
+use Rattle.ptflow.proofs.tools.cut.fields.FieldCursor.next_slice.Goals as goal
+use Rattle.ptflow.proofs.tools.cut.fields.FieldCursor.next_slice.Goals.{then-is_empty-via-then-is_empty}
+use Rattle.ptflow.proofs.tools.cut.fields.FieldCursor.next_slice.Goals.{then-is_empty-via-else-is_empty+then-self-to}
 use proofs.CutLemmas.CutBytes.{select_none}
 
 pub returns-then-is_empty : goal.returns-then-is_empty

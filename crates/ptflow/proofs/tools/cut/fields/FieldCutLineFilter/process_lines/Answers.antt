@@ -51,7 +51,8 @@ returns-clause-continues g c =
       passed = take l.end l.self.buffer;
       wrote = c.in_ok-push.ensures.pushed.wrote;
       clean = λ was_clean. c.in_ok-push.ensures.pushed.clean;
-      on = λ more. l.invariant.on more ∙ ap (λ ls. take l.end l.self.buffer ++ cut_lines (cut_job c.args.self.now.by.job.now) (ls ++ more)) none;
+      on = λ more. l.invariant.on more ∙ ap
+          (λ ls. take l.end l.self.buffer ++ cut_lines (cut_job c.args.self.now.by.job.now) (ls ++ more)) none;
       count = omega arith;
       some = λ h. omega arith;
     }

@@ -9,8 +9,7 @@ loop-index-preserved g c =
     let before = loop.invariant in record {
       long = simp length-set before.long;
       pieces = λ k upto. ⊎_elim
-          (λ same. rw same (rw (get_or-set_same pieces loop.index c.of.result _ (omega arith))
-          c.of.ensures))
+          (λ same. rw same (rw (get_or-set_same pieces loop.index c.of.result _ (omega arith)) c.of.ensures))
           (λ other.
           rw (get_or-set_other pieces loop.index k c.of.result _ other) (before.pieces k (omega arith)))
           (cases_eq k _);

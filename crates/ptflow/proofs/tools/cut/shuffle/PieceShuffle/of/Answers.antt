@@ -11,5 +11,6 @@ loop-index-preserved g c =
     let loop = c.loop-index in
     let position : start + c.from.result + 1 ≡ start + (loop.index + 1) = omega arith in
     shuffle_next _ (omega arith) loop.invariant
-    (c.from-count.ensures ∙ ap bool_byte c.contains.ensures ∙ ap (λ n. bool_byte ((is_selected c.args.list.now) n)) position)
+    (c.from-count.ensures ∙ ap bool_byte c.contains.ensures ∙ ap (λ n. bool_byte ((is_selected c.args.list.now) n))
+    position)
     (ap (λ n. set loop.counts (n + 1) (loop.count + c.from-count.result)) c.from-in-loop-index.ensures)

@@ -1,11 +1,11 @@
 -- The terminator that was held back comes first, then all bytes but the last, then the last.
 use Rattle.ptflow.proofs
 use proofs.Common.{◌≡◌, ◌+◌, ◌-◌, ◌<◌, ◌++◌, ℕ, Bool, true, false, cond, List, [], ◌∷◌, length, take, get_or, refl}
-use proofs.Common.{arith, append_assoc, take_more, take_all, take_more_set, from_bool, row_rest, Option}
-use proofs.Common.{◌==◌, not, set, eqb-true, take-set, length-append, common_steps}
+use proofs.Common.{arith, append_assoc, take_more, take_all, take_more_set, from_bool, row_rest, Option, ◌==◌, not, set}
+use proofs.Common.{eqb-true, take-set, length-append, common_steps}
 use Rattle.std.proofs.lemmas.List.{length-take}
 use proofs.PasteLemmas.Replaced.{copied_on}
-use Rattle.ptflow.proofs.tools.paste.serial.SerialFormat.copy_block.Goals as goal
+use proofs.tools.paste.serial.SerialFormat.copy_block.Goals as goal
 
 held_is : (complete : Bool) (end : ℕ) (rest : List ℕ) {size : ℕ} → size ≡ from_bool complete
     → cond complete (end ∷ rest) rest ≡ take size (end ∷ []) ++ rest

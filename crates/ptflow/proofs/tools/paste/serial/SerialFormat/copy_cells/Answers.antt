@@ -3,7 +3,7 @@ use proofs.Common.{◌≡◌, ◌+◌, ◌-◌, ◌%◌, ◌≤◌, ◌++◌, �
 use proofs.Common.{length-take-le, take_at, take-append-add, count_by, is_byte}
 use borrow.Rule.Slice.PartMut.{put_mid}
 use proofs.PasteLemmas.Replaced.{length-replaced}
-use Rattle.ptflow.proofs.tools.paste.serial.SerialFormat.copy_cells.Goals as goal
+use proofs.tools.paste.serial.SerialFormat.copy_cells.Goals as goal
 
 put_taken : (at : ℕ) (was xs : List ℕ) {n : ℕ} → length xs ≡ n → at + n ≤ length was
     → take (at + n) (put_mid at (at + n - at) was xs) ≡ take at was ++ xs

@@ -4,7 +4,7 @@ use proofs.Common.{◌≡◌, ◌+◌, ◌-◌, ◌++◌, length, take, sym, ◌
 use proofs.Common.{line_if_not_found, mod-eq_of_lt, count_by, is_byte, take-append-drop}
 use proofs.Vectors.FindNth.{none_counted}
 use proofs.PasteLemmas.Replaced.{replaced_none, line_copied, copied_more}
-use Rattle.ptflow.proofs.tools.paste.serial.SerialFormat.copy_cells_slow.Goals as goal
+use proofs.tools.paste.serial.SerialFormat.copy_cells_slow.Goals as goal
 
 pub pieces-preserved : goal.pieces-preserved
 pieces-preserved c =

@@ -1,7 +1,8 @@
 -- Only `rest` is left to be copied, and has room.
-use Rattle.ptflow.proofs.Common.{◌≡◌, ◌<◌, ◌≤◌, ◌+◌, ℕ, List, length, take}
+use Rattle.ptflow.proofs
+use proofs.Common.{◌≡◌, ◌<◌, ◌≤◌, ◌+◌, ℕ, List, length, take}
 use Rattle.ptflow.specs.Private.Paste.SerialRest.{CopyCellsPost}
-use Rattle.ptflow.proofs.tools.paste.serial.SerialFormat.copy_cells_slow.Given as goal
+use proofs.tools.paste.serial.SerialFormat.copy_cells_slow.Given as goal
 
 abbrev pub invariant-pieces : goal.invariant-pieces
 invariant-pieces l = record {

@@ -7,7 +7,5 @@ pub returns : goal.returns
 returns c =
     let v = c.args.v in
     let set_map = c.args.self in
-    sel_maps _ _ _ v
-    (cc (lanes_of_mask (set_has set_map.set) v, tops_of_lanes (map (set_has set_map.set) v)))
-    (splat_is_map v 16 _ c.fits-v.0)
-    (sym (map-id v))
+    sel_maps _ _ _ v (cc (lanes_of_mask (set_has set_map.set) v, tops_of_lanes (map (set_has set_map.set) v)))
+    (splat_is_map v 16 _ c.fits-v.0) (sym (map-id v))

@@ -34,8 +34,7 @@ pub returns-then-pending-line-clause-waits : goal.returns-then-pending-line-clau
 returns-then-pending-line-clause-waits g c =
     let job = uniq_job c.args.self.now.job.now in
     pending_joined job _ _ c.requires c.in-Some.is
-    (sym c.has_output.ensures ∙ c.if-not-has_output.false) c.if-pending-line.true
-    (no_count job.show c.if-ne.ensures _)
+    (sym c.has_output.ensures ∙ c.if-not-has_output.false) c.if-pending-line.true (no_count job.show c.if-ne.ensures _)
 
 pub returns-in_err-flush_with_count-clause-wrote : goal.returns-in_err-flush_with_count-clause-wrote
 returns-in_err-flush_with_count-clause-wrote g c =

@@ -13,8 +13,7 @@ returns-then-not-has_output g c =
 
 pub returns-in_err-flush_with_count : goal.returns-in_err-flush_with_count
 returns-in_err-flush_with_count g c =
-    rw (current_run_is _ _)
-    (search (rules, push_failed, push_past_failure))
+    rw (current_run_is _ _) (search (rules, push_failed, push_past_failure))
 
 pub returns : goal.returns
 returns g c =

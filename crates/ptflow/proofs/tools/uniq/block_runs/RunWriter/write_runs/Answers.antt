@@ -4,8 +4,8 @@ use Rattle.ptflow.proofs
 use proofs.Common.{◌+◌, IsLine, length, refl, ap, arith, length-append, length-drop, take_rest, line_if_not_found}
 use proofs.Common.{uniq_job, common_steps, rules, take_at}
 use proofs.Passes.Exits.{on_err, wrote_then}
-use proofs.UniqLemmas.Runs.{RunsInvariant, runs_loop_starts, runs_loop_few, runs_loop_next, all_lines}
-use proofs.UniqLemmas.Runs.{runs_loop_failed, runs_loop_repeats, running_unended, passed_is, steps_written}
+use proofs.UniqLemmas.Runs.{RunsInvariant, runs_loop_starts, runs_loop_few, runs_loop_next, all_lines, runs_loop_failed}
+use proofs.UniqLemmas.Runs.{runs_loop_repeats, running_unended, passed_is, steps_written}
 use Rattle.ptflow.proofs.tools.uniq.block_runs.RunWriter.write_runs.Given as given
 use Rattle.ptflow.proofs.tools.uniq.block_runs.RunWriter.write_runs.Goals as goal
 use Rattle.ptflow.proofs.tools.uniq.block_runs.RunWriter.write_runs.Goals.{In_default, After-left-1}
@@ -27,8 +27,7 @@ pub overflow_add-count-then-eq : goal.overflow_add-count-then-eq
 overflow_add-count-then-eq g c = omega (arith, runs_loop_few (after g c))
 
 pub lines-smaller-then-eq : goal.lines-smaller-then-eq
-lines-smaller-then-eq g c =
-    grind (arith, (ap length c.skip_repeats-repeats.ensures), length-append, length-drop)
+lines-smaller-then-eq g c = grind (arith, (ap length c.skip_repeats-repeats.ensures), length-append, length-drop)
 
 pub lines-preserved-then-eq : goal.lines-preserved-then-eq
 lines-preserved-then-eq g c = after g c
@@ -52,8 +51,7 @@ none_left g c = search (rules, line_if_not_found)
 
 pub returns-in_err-push-clause-halts : goal.returns-in_err-push-clause-halts
 returns-in_err-push-clause-halts g c =
-    on_err _ (running_unended c.lines.invariant
-    (none_left g (goal.at.returns-in_err-push-clause-halts g c).In_default)
+    on_err _ (running_unended c.lines.invariant (none_left g (goal.at.returns-in_err-push-clause-halts g c).In_default)
     c.push.ensures.pushed.wrote c.in_err-push.ensures.pushed.fault)
 
 pub returns-clause-continues : goal.returns-clause-continues

@@ -5,8 +5,7 @@ use proofs.tools.uniq.block_runs.RunWriter.write_runs.Given as goal
 
 abbrev pub invariant-lines : goal.invariant-lines
 invariant-lines g l =
-    RunsInvariant (uniq_job l.job) l.fn.first l.block l.rest l.carried l.count l.line l.pending l.run_key l.fn.out
-    l.out
+    RunsInvariant (uniq_job l.job) l.fn.first l.block l.rest l.carried l.count l.line l.pending l.run_key l.fn.out l.out
 
 abbrev pub decreases-lines : goal.decreases-lines
 decreases-lines g l = length l.rest

@@ -1,1 +1,0 @@
--- The first of three optional values, in the code and in the definition.
