@@ -352,10 +352,12 @@ def lacking_paths():
 def main():
     if len(sys.argv) != 2:
         return __doc__
+    program = os.path.abspath(sys.argv[1])
+    if not os.access(program, os.X_OK):
+        return f"there is no program {program}"
     known = {side: has(side) for side in [*VERSIONS, "bash"]}
     for side in [it for it in known if not known[it]]:
         print(f"left out: the examples of {side} (the system does not have it, or has another version)")
-    program = os.path.abspath(sys.argv[1])
     counts = [run_all(file, program, known) for file in FILES]
     good, bad = (sum(it) for it in zip(*counts))
     found = lint() + macros_in_headings() + other_versions() + wrong_options(program) + lacking_messages()

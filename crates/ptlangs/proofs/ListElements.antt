@@ -142,9 +142,6 @@ after-ge : (n : ℕ) (ds : List ℕ) → n ≤ digits_value_after 10 n ds
 after-ge n [] = omega arith
 after-ge n (d ∷ ds) = omega (arith, after-ge (n * 10 + digit_value d) ds)
 
-pub too_large : (bs : List ℕ) → max_u64 < value bs → None ≡ number bs
-too_large = grind arith
-
 pub too_large_at : (bs : List ℕ) (i n : ℕ) → i < length bs → value bs ≡ digits_value_after 10 n (drop i bs)
     → max_u64 < n * 10 + digit_value (get_or bs i 0) → None ≡ number bs
 too_large_at = grind (arith, common_steps, after-ge)
@@ -183,13 +180,18 @@ pub fault_of_intervals : (all : List (List ℕ)) (e : ListFault) → Some e ≡ 
 fault_of_intervals [] e h = cc
 fault_of_intervals (x ∷ all) e h = grind (arith, fault_of_intervals all e)
 
+proper : (bs : List ℕ) (r : Interval) → element_interval bs ≡ Ok r → IsValidInterval r
+proper [] r h = cc
+proper (b ∷ bs) r h = (checked_proper (interval_of_parts (slice_split is_dash (b ∷ bs))) r h).1
+
 pub each_proper : (all : List (List ℕ)) (rs : List Interval) → traverse element_interval all ≡ Ok rs
     → All IsValidInterval rs
 each_proper [] [] h = λ k d below. absurd (omega arith)
 each_proper [] (r ∷ rs) h = cc
 each_proper (x ∷ all) rs h =
     let f = reads_first _ _ rs h in
-    subst (All IsValidInterval) f.is (All-cons IsValidInterval f.head f.tail (search rules) (each_proper all _ f.rest))
+    subst (All IsValidInterval) f.is
+    (All-cons IsValidInterval f.head f.tail (proper x _ f.read) (each_proper all _ f.rest))
 
 sorted_after : (x : Interval) (xs : List Interval) → All IsValidInterval (x ∷ xs)
     → IsNonDecreasingBy (λ (r : Interval). r.first) (x ∷ xs) → AreSortedFrom x.first xs

@@ -61,7 +61,7 @@ take-octal_run bs =
     ap (λ m. take m bs) (length-prefix_len is_octal_digit (take 3 bs)) ∙ sym (take-take n 3 bs short)
 
 pub octal_digits : (bs : List ℕ) → All (λ d. digit_value d < 8) (take (length (octal_run bs)) bs)
-octal_digits = grind (arith, common_steps, length-take, take-octal_run, get_or-take, prefix_len_passes)
+octal_digits bs = rw (take-octal_run bs) (grind (arith, common_steps, length-take, get_or-take, prefix_len_passes))
 
 after_backslash-octal : (bs : List ℕ) (c : ℕ) → Some c ≡ slice_get bs 0 → is_octal_digit c ≡ true
     → after_backslash bs ≡ (octal (digits_value 8 (octal_run bs)), length (octal_run bs))

@@ -54,14 +54,16 @@ are_from : (b : ℕ) (images : List ℕ) → AreFrom b (stretches_from b images)
 are_from b [] = tt
 are_from b (image ∷ images) = grind (arith, weaker, are_from (b + 1) images)
 
+-- a byte has no effect on those above it
+above : (b j image : ℕ) (images : List ℕ) → b < j
+    → moved (stretches_from b (image ∷ images)) j ≡ moved (stretches_from (b + 1) images) j
+above b j image images low = grind arith
+
 pub moves_by : (b k : ℕ) (images : List ℕ) → k < length images
     → moved (stretches_from b images) (b + k) ≡ shift_of (b + k) (get_or images k 0)
 moves_by b k [] low = absurd (omega arith)
 moves_by b zero (image ∷ images) low = grind (arith, none_below, are_from, at_front)
-moves_by b (suc k) (image ∷ images) low = grind (arith, moves_by (b + 1) k images (omega arith))
-
-pub back : (b image : ℕ) → b < 256 → image < 256 → (b + shift_of b image) % 256 ≡ image
-back b image low small = omega arith
+moves_by b (suc k) (image ∷ images) low = grind (arith, above, moves_by (b + 1) k images (omega arith))
 
 no_more : (b n : ℕ) (images : List ℕ)
     → length (stretches_from (b + n) (drop n images)) ≤ length (stretches_from b images)

@@ -5,7 +5,8 @@ use proofs.Common.{map, refl, sym, ◌∙◌, ap, subst, arith, bit_or, take-add
 use proofs.Common.{trailing_mask_l, run_in_chunk_fails, run_in_chunk_stops, length-chunk, mask_l-lt, prefix_len, mask_l}
 use proofs.Common.{chunk, Nowhere, Passes, IsFirst}
 use Rattle.std.proofs.Math.Nat.{pow-succ'}
-use Rattle.std.proofs.lemmas.Grind.{or_before_shift, common_steps}
+use Rattle.std.proofs.lemmas.Grind.{or_before_shift}
+use Rattle.std.proofs.lemmas.List.{map-append}
 use lib.Count.{count_trailing_zeros}
 
 prefix_len_lt : (test : ℕ → Bool) (xs : List ℕ) → 0 < mask_l (map test xs)
@@ -49,7 +50,9 @@ chunk_append {X} i m n xs = grind (arith, take-add, drop-drop)
 mask_16_append : (test : ℕ → Bool) (hay : List ℕ) (i n : ℕ) → i + 16 ≤ length hay
     → mask_l (map test (chunk i (16 + n) hay))
     ≡ mask_l (map test (chunk i 16 hay)) + 65536 * mask_l (map test (chunk (i + 16) n hay))
-mask_16_append = grind (arith, common_steps, chunk_append, mask_append)
+mask_16_append test hay i n room =
+    let long = length-map (chunk i 16 hay) test ∙ length-chunk i 16 hay room in
+    rw (chunk_append i 16 n hay, map-append, mask_append, long)
 
 mask_16_lt : (test : ℕ → Bool) (hay : List ℕ) (i : ℕ) → i + 16 ≤ length hay → mask_l (map test (chunk i 16 hay)) < 65536
 mask_16_lt = search (rules, mask_l-lt)

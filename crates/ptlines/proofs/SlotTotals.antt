@@ -205,10 +205,3 @@ pub copy_lines : (lines cleared after : List (List ℕ)) (from to : ℕ) → fro
     → cleared ≡ set lines to [] → after ≡ set cleared to (get_or cleared to [] ++ get_or cleared from [])
     → after ≡ set lines to (get_or lines from [])
 copy_lines _ _ _ _ to differ to_in cleared_is after_is = search (rules, set-set)
-
-pub copy_total : (lines cleared after : List (List ℕ)) (from to byte_count size : ℕ) (v : List ℕ) → from ≢ to
-    → from < length lines → to < length lines → cleared ≡ set lines to [] → after ≡ set lines to (get_or lines from [])
-    → byte_count ≡ total_bytes cleared → v ≡ get_or after from v → size ≡ length v
-    → (byte_count + size ≡ total_bytes after) × (byte_count ≡ total_bytes (set lines to []))
-    × (byte_count + size ≡ total_bytes (set lines to (get_or lines from [])))
-copy_total = grind (arith, common_steps, total_bytes_set)

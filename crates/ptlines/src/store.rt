@@ -1,5 +1,5 @@
 //! `Store`: numbered slots, each of which holds a line. A store counts the bytes of all its lines. The tools keep
-//! the lines that they need in it.
+//! the lines that they need in it (`uniq` keeps one beside it).
 
 ghost use Rattle.std.specs.Prelude.{◌≡◌, ℕ, ◌<◌, ◌≤◌, ◌≢◌, true, false, [], ◌∷◌, ◌++◌, length, take, ◌+◌, replicate};
 ghost use Rattle.std.specs.Prelude.{swap, slice_set, slice_index_or, IfOk, OnOk, OnErr};

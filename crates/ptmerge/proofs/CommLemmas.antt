@@ -3,7 +3,7 @@
 use Rattle.ptmerge.proofs
 use proofs.Common.{◌≡◌, ℕ, List, [], ◌∷◌, ◌++◌, refl, sym, arith, Comm, Output, PushEffect, Reader, Slots, line}
 use proofs.Common.{unlines, Side, First, Second, Sorted, Lines, MergeTool, entries_by_key, AdvanceOkPost, AdvancePre}
-use proofs.Common.{MergeState, Cmp, Key, both, with_side, HaveEqualKeys, HasOnlyLeastKey, suc, append-nil, Bool}
+use proofs.Common.{MergeState, Cmp, Key, both, with_side, HaveEqualKeys, HasOnlyLeastKey, suc, append-nil, Bool, ◌∙◌}
 use proofs.MergeLemmas.{BetweenSteps, between_next, advance_pre, EndsIfFails, LoopInvariant, advance_ok, goes_merging}
 use proofs.MergeLemmas.{passing_now, runs_on, read_facts_current, iteration_fails, alone, wrote_alone, alone_breaks}
 use proofs.MergeLemmas.{place_is, wrote_and_sent, IsKeyOrder, same_bytes, Written, MergeInvariant, line_is_least_run}
@@ -51,6 +51,12 @@ pub record IterationInvariant (job : Comm) (cmp : Cmp) (key : Side → Key) (old
   pub whole_line_keys : (side : Side) (x : List ℕ) → key side x ≡ x
   pub loop_invariant : LoopInvariant w now (both one two)
   pub between : BetweenSteps key now one two
+
+-- a merge keeps its order
+pub kept_order : {O : Type 0} (cmp : O → Cmp) (key : O → Side → Key) {a b c : O} → a ≡ b → b ≡ c → {job : Comm}
+    {old now : MergeState} {one two : Sorted} → IterationInvariant job (cmp b) (key b) old now one two
+    → record { iteration : IterationInvariant job (cmp a) (key a) old now one two; order : a ≡ c }
+kept_order cmp key same is t = record { iteration = rw same t; order = same ∙ is }
 
 -- ---- a step
 

@@ -104,6 +104,13 @@ pub record IterationInvariant (job : Join) (cmp : Cmp) (key : Side → Key) (old
   pub between : BetweenSteps key now one two
   pub open between use *
 
+-- a merge keeps its order
+pub kept_order : {O : Type 0} (cmp : O → Cmp) (key : O → Side → Key) {a b c : O} → a ≡ b → b ≡ c → {job : Join}
+    {old now : MergeState} {phase : JoinPhase} {one two : Sorted} {end : ℕ}
+    → IterationInvariant job (cmp b) (key b) old phase now one two end
+    → record { iteration : IterationInvariant job (cmp a) (key a) old phase now one two end; order : a ≡ c }
+kept_order cmp key same is t = record { iteration = rw same t; order = same ∙ is }
+
 module _ {job : Join} {cmp : Cmp} {key : Side → Key} {old : MergeState} {phase : JoinPhase} {now : MergeState}
     {one two : Sorted} {end : ℕ} (t : IterationInvariant job cmp key old phase now one two end) where
   open t.w use {o}

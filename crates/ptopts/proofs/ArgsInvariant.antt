@@ -11,9 +11,6 @@ pub record ArgsRead (tool : Tool) (words : List (List ℕ)) (os : List ParsedOpt
   pub faults : parse_fault tool [] (parsed_args tool words).tokens ≡ parse_fault tool os (parsed_args tool left).tokens
 
 module _ (tool : Tool) (words : List (List ℕ)) where
-  pub reads_first : ArgsRead tool words [] words
-  reads_first = grind arith
-
   pub group_fails : (os : List ParsedOption) (word : List ℕ) (more : List (List ℕ)) (found : Option Fault)
       → is_end_of_options word ≡ false → is_option_arg word ≡ true
       → OnSome found ((tokens : List Token)

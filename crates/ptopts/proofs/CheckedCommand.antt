@@ -1,5 +1,5 @@
--- Without a fault of parsing and of the constraints, `command_of_args` reduces to `checked_command`; a fault of the
--- constraints is the first fault.
+-- If no check finds a fault, `checked_command` is the job with its inputs. A fault of the constraints is the first
+-- fault of the words.
 use Rattle.ptopts.proofs
 use Rattle.ptopts.specs
 use proofs.Common.{AreInputs, ArgsPost, Fault, Job, List, None, Ok, Option, ParsedOption, Some, Tool, ap, arith}

@@ -1,4 +1,5 @@
-//! The inputs of a command in the order of its operands, which `command` makes, `ptext` opens and `ptrun` reads.
+//! The inputs of a command, in the order of its operands. `command` makes them, `ptext` opens them, and `ptrun` reads
+//! them.
 
 ghost use Rattle.std.specs.Prelude.{IfOk, [], ◌∷◌, codes, option_map};
 ghost use Rattle.ptopts.specs.View.{words_view};

@@ -45,7 +45,7 @@ impl<'a, A: Allocator> ParsedArgs<'a, A> {
     fn fits_form(&self, tool: Tool) -> bool
         ensures { result ≡ faults.fits_form tool (options_of self.now) (length (operands_of self.now)) }
     {
-        if tool != Tool::Tr {
+        if !matches!(tool, Tool::Tr) {
             return true;
         }
         let count = self.operands.len();

@@ -13,7 +13,7 @@ use crate::tool::Tool;
 use std::alloc::{Allocator, Global};
 
 /// An option, with its value if it has one.
-#[derive(Clone, Copy, Debug, PartialEq, Eq)]
+#[derive(Clone, Copy)]
 pub(crate) struct ParsedOption<'a> {
     pub letter: u8,
     pub value: Option<&'a str>,

@@ -9,7 +9,7 @@ ghost use Rattle.ptopts.specs.Args.{tool_of_name, is_flag, takes_value, has_lett
 pub const TOOLS: &str = "cut, paste, join, comm, uniq or tr";
 
 /// One of the tools.
-#[derive(Clone, Copy, Debug, PartialEq, Eq)]
+#[derive(Clone, Copy)]
 pub(crate) enum Tool {
     Cut,
     Paste,

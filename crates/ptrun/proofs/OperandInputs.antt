@@ -8,12 +8,12 @@ use proofs.Common.{CommandSpec, Completion, DecidesAll, HasBoundedLag, HasReceiv
 use proofs.Common.{InputBytes, IsConsistent, IsDone, IsKnownPrefix, IsPrefix, IsPushedUpToBlock, IsWrittenUpToBlock}
 use proofs.Common.{LagOfAny, LagOfLast, LaggedInput, List, None, Option, Output, PushEffect, Reader, Received}
 use proofs.Common.{ReceivedInputs, SinkState, Some, ToolSpec, Unopened, [], ap, append-nil, append_assoc, append_known}
-use proofs.Common.{arith, common_steps, cond, decided_in_order, drop, empty_input, false, false≢true, file_names}
+use proofs.Common.{arith, common_steps, cond, decided_in_order, drop, empty_input, false, file_names}
 use proofs.Common.{filter_map-append, flat_map, flat_map-append, get_or, get_or-map, is_in, is_unopened, length}
 use proofs.Common.{length-append, length-drop, length-map, list_any, map, max, name_of, no_reader, option_map}
 use proofs.Common.{order_from, position, positions, reader_at, refl, rules, set, slice_get, suc, sym, take}
 use proofs.Common.{take-append-drop, take_more, true, unopened_message, unopened_messages, up_to_unended, zero, ℕ, ◌++◌}
-use proofs.Common.{◌+◌, ◌<◌, ◌==◌, ◌^◌, ◌||◌, ◌∙◌, ◌∷◌, ◌≡◌, ◌≢◌, ◌≤◌}
+use proofs.Common.{◌+◌, ◌<◌, ◌==◌, ◌^◌, ◌∙◌, ◌∷◌, ◌≡◌, ◌≢◌, ◌≤◌}
 use proofs.MessageWrites.{said_trans}
 use Rattle.ptflow.specs.PasteCall.{update_at}
 use Rattle.ptlines.proofs.KnownBytes.{append_known-append}

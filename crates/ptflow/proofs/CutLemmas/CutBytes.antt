@@ -10,7 +10,7 @@ use proofs.Common.{cut_list_from, IsPrefix, Cut, Interval, ExtendsCut, CutPost, 
 use proofs.Common.{◌<◌, set, ◌&&◌, get_or, length-append, sym, ◌∙◌, w8, All, nat_le, range_with_len, take-add}
 use proofs.Common.{swz_l, pick_l-range_with_len, take-map, take-take, take-append-le, take_all, length-take-le}
 use proofs.Common.{append-nil, length-range_with_len, cases_eq, put_chunk, length-drop, length-swz_l, slice_get, min}
-use proofs.Common.{drop_more, AreSeparated}
+use proofs.Common.{drop_more, AreSeparated, ⊎_elim, cases_lt}
 use specs.declared.tools.cut.bytes.Line.{Line}
 use proofs.Passes.Exits.{split_of, LineSplit, line_split}
 use Rattle.std.proofs.Common.{length-set}
@@ -47,7 +47,12 @@ select_none test n (x ∷ xs) out = grind (arith, select_none test (n + 1) xs (g
 pub select_first : {X : Type 0} (r : Interval) (rs : List Interval) (n : ℕ) (xs : List X) → AreSeparated (r.last + 1) rs
     → select_from (is_selected (r ∷ rs)) n xs ≡ select_from (is_within r) n xs ++ select_from (is_selected rs) n xs
 select_first r rs n [] apart = refl
-select_first r rs n (x ∷ xs) apart = grind (arith, select_first r rs (n + 1) xs apart, not_selected, select_none)
+select_first r rs n (x ∷ xs) apart =
+    let more = select_first r rs (n + 1) xs apart in
+    ⊎_elim
+    (λ high. let none = select_none (is_within r) (n + 1) xs (λ k from to. above r k (omega arith)) in
+    grind (arith, above r n high))
+    (λ low. grind (arith, not_selected rs (r.last + 1) n apart (omega arith))) (cases_lt r.last n)
 
 pub select_skip : {X : Type 0} (test : ℕ → Bool) (n count : ℕ) (xs : List X)
     → ((k : ℕ) → n ≤ k → k < n + count → test k ≡ false)
@@ -280,15 +285,13 @@ module _ (selected : ℕ → Bool) where
     prefix_indices {count} short =
         let all : count + (16 - count) ≡ 16 = omega arith in
         let parts = ap (selected_indices selected) (sym all) ∙ picked_parts _ _ in
+        let some = selected_indices selected count in
         let later = select_from selected (1 + count) (range_with_len count (16 - count)) in
-        let few : length (selected_indices selected count) ≤ length (selected_indices selected 16) = omega
-        (arith, ap length parts, length-append (selected_indices selected count) later) in
-        cc (
-          take-take (length (selected_indices selected count)) (length (selected_indices selected 16)) _ few,
-          take-append-le (length (selected_indices selected count)) (selected_indices selected count) later
-              (omega arith),
-          take_all (length (selected_indices selected count)) (selected_indices selected count) (omega arith),
-        )
+        let few : length some ≤ length (selected_indices selected 16) = omega
+        (arith, ap length parts, length-append some later) in
+        sym (take-take (length some) (length (selected_indices selected 16)) _ few)
+        ∙ ap (take (length some)) (is.indices ∙ parts)
+        ∙ take-append-le (length some) some later (omega arith) ∙ take_all (length some) some (omega arith)
 
     pub shuffle_few : (count : ℕ) → count ≤ 16 → get_or piece.counts count 0 ≤ count
     shuffle_few count short = grind (arith, few_selected, length-range_with_len)

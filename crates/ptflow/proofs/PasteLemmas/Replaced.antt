@@ -9,7 +9,7 @@ use proofs.Common.{IsNth, length-take-le, length-chunk, length-put_chunk, take_m
 use proofs.Common.{with_replacements, cycle_byte, IsReplacedTo, true, false, Option, append_assoc, onto_first}
 use proofs.Common.{append-nil, append_cancel_right, lines, complete_lines, IsPrefix, Paste, delimiter, join_with_cycle}
 use proofs.Common.{paste_serial_decided, row_rest, option_to_list, None, Some, IsFirstByte, line_before_terminator}
-use proofs.Common.{mod-lt, serial_rest, take_with_terminator}
+use proofs.Common.{mod-lt, serial_rest, take_with_terminator, length-append}
 use lib.Count.{count_trailing_zeros}
 use proofs.Vectors.FindNth.{after_set, cleared, without, none_counted}
 use specs.declared.simd.replace.Cycle.{Cycle}
@@ -252,16 +252,29 @@ module _ (end : ℕ) (delims : List (Option ℕ)) where
       by_test false [] = simp append_assoc
       by_test false (l ∷ ls) = simp append_assoc
 
+  row_other : (number b : ℕ) (bytes : List ℕ) → (b == end) ≡ false
+      → row_rest end delims number (b ∷ bytes) ≡ b ∷ row_rest end delims number bytes
+  row_other number b bytes is = rw is (by_lines (lines end bytes))
+    where
+      by_lines : (ls : List (List ℕ)) → join_with_cycle delims number (onto_first b ls) ++ end ∷ []
+          ≡ b ∷ (join_with_cycle delims number ls ++ end ∷ [])
+      by_lines [] = refl
+      by_lines (l ∷ []) = refl
+      by_lines (l ∷ m ∷ ls) = refl
+
   row_rest_on : (number : ℕ) (bytes more : List ℕ) → 0 < length more
       → row_rest end delims number (bytes ++ more) ≡ with_replacements end (delimiter delims) number bytes
       ++ row_rest end delims (number + count_by (is_byte end) bytes) more
   row_rest_on number [] more some = grind arith
   row_rest_on number (b ∷ bytes) more some = grind (
     arith,
-    common_steps,
+    append_assoc,
+    length-append,
     row_next,
+    row_other,
     row_rest_on (number + 1) bytes more some,
     row_rest_on number bytes more some,
+    counted end b bytes,
   )
 
   joined_mod : (m n : ℕ) → m % length delims ≡ n % length delims → (ls : List (List ℕ))

@@ -62,6 +62,11 @@ suffix_step n m rest is =
     let more : n ≡ suc m = omega arith in
     cc (suffix_add m _, after_one _)
 
+-- An empty rest has no more fields.
+pub at_end : (n m : ℕ) (rest line : List ℕ) → rest ≡ [] → suffix_at n rest ≡ suffix_at m line
+    → rest ≡ after_fields m line
+at_end n m rest line none same = cc (suffix_none n, suffix_is m line)
+
 pub other_first : (rest : List ℕ) → 0 < length rest → is_blank (get_or rest 0 0) ≡ false
     → suffix_at 1 rest ≡ after_nonblanks rest
 other_first = grind (arith, common_steps, suffix_other)

@@ -8,7 +8,7 @@ use proofs.Common.{length-drop, count_ones, count_by, prefix_len, mask_l, chunk,
 use proofs.Common.{get_or-le-sum_by, sum_by-append, sum_by-take-le, ones-mask_l, get_or-chunk, length-chunk}
 use proofs.Common.{IsFirstByte, NoneBefore, Passes, is_byte, line_before_terminator, line_if_not_found, Nowhere, None}
 use proofs.Common.{option_map, nowhere_trans, IsLine, byte_ne, IsNth, IsTerminatorMask, none_if_zero_mask}
-use proofs.Common.{count_by_more_yes, common_steps, take-map, get_or-map, length-map}
+use proofs.Common.{rules, count_by_more_yes, common_steps, take-map, get_or-map, length-map}
 use lemmas.List.{get_or-drop, drop-map}
 use Rattle.std.proofs.Common.{pow-suc, div-one}
 use Rattle.std.proofs.Math.Nat.{div-div-eq-div-mul, zero-div}
@@ -49,7 +49,7 @@ length-without (suc n) bits = length-clear_first (without n bits) ∙ length-wit
 
 and_less : (bits : List Bool) → bit_and (mask_l bits) (mask_l bits - 1) ≡ mask_l (clear_first bits)
 and_less [] = and_zero_l 0
-and_less (true ∷ bits) = grind (arith, and_self, and_step)
+and_less (true ∷ bits) = search (rules, and_self, and_step)
 and_less (false ∷ bits) = grind (arith, and_less bits, and_step)
 
 -- the lowest set bit is cleared

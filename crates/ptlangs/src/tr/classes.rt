@@ -5,7 +5,7 @@ ghost use Rattle.std.specs.List.{flat_map};
 ghost use Rattle.ptlangs.specs.TrClasses.{range_bytes, span, class_bytes, class_named};
 
 /// A class of characters.
-#[derive(Clone, Copy, PartialEq, Eq)]
+#[derive(Clone, Copy)]
 pub(crate) enum CharClass {
     Alnum,
     Alpha,

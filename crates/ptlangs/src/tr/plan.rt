@@ -19,7 +19,7 @@ use crate::tr::shifts::{Shifts, shifts_of};
 use std::marker::Model;
 
 /// The form of a command line of `tr`, given by its flags and the number of its strings.
-#[derive(Debug, Clone, Copy, PartialEq, Eq)]
+#[derive(Clone, Copy)]
 pub enum Form {
     /// Two strings without `-d` and `-s`.
     Translate,
@@ -75,7 +75,7 @@ fn in_string<T: Drop>(string: SetString, read: Result<T, SetFaultKind>) -> Resul
 
 /// For each byte: whether it is deleted, its image, and whether its repeats are squeezed. Reading a plan from its
 /// strings allocates nothing.
-#[derive(Debug, Clone, Copy, PartialEq, Eq)]
+#[derive(Clone, Copy)]
 pub struct CharPlan {
     deleted: [bool; 256],
     images: [u8; 256],

@@ -363,8 +363,6 @@ pub ruleset remaining_steps = (none_past, drop_next, fields_after)
 
 pub ruleset other_fields_steps = (around_is, between_is, push_is_write)
 
-pub ruleset listed_entry_steps = (first_fails, entry_listed)
-
 pub ruleset plain_entry_steps = (first_fails, entry_plain)
 
 -- ---- words by masks

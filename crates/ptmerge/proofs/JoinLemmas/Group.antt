@@ -24,6 +24,7 @@ use proofs.MergeLemmas.{IsOpenMerge, ReadFactsOf, SidesInvariant, current_key_is
 use proofs.MergeLemmas.{advance_fails}
 use lemmas.Grind.{common_steps}
 pub use Rattle.std.proofs.Common.{rules}
+use Rattle.std.proofs.Math.ListN.{get_or-append}
 use lemmas.List.{drop-set-add, set_at, take_at, take_more}
 use lemmas.List.Sums.{sum_by-append, sum_by-cons, sum_by_push}
 use Rattle.ptlines.proofs.SlotTotals.{total_bytes_set}
@@ -190,7 +191,7 @@ module _ {tool : MergeTool} {before store : Slots} {ls : Side → Lines} {g : Li
       rw (e.copied, made_same w from low, is) (kept w y at e.grown.within largest)
 
   pub kept_line : (slot : ℕ) → 4 ≤ slot → slot < 4 + length g → line store slot ≡ get_or g (slot - 4) []
-  kept_line = grind (arith, common_steps)
+  kept_line slot from low = grind (arith, k.split, get_or-append)
 
   pub group_is : {end : ℕ} → end ≡ 4 + length g → group store 4 end ≡ g
   group_is at = grind (arith, take_at)

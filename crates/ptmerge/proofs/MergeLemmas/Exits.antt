@@ -404,14 +404,15 @@ module _ (tool : MergeTool) (o : IsKeyOrder tool.cmp) (s : Side) (old now new : 
         → (t : Bool) → is_disordered cmp last (own e.line) ≡ t
         → Goal last (next_cursor (cond t (Disorder (cursor.number + 1)) Head) (cursor.number + 1) same)
     at_line last sorted_up_to is false none =
-        let more : IsSortedUpTo cmp own (ls ++ e.line ∷ []) (Some (own e.line)) = grind (arith, common_steps) in
-        at_status _ _ _ (grind (arith, common_steps, after_from))
+        let more : IsSortedUpTo cmp own (ls ++ e.line ∷ []) (Some (own e.line)) =
+        grind (arith, append_assoc, length_push, sorted_up_to) in
+        at_status _ _ _ (grind (arith, append_assoc, after_from, more, self_at_most))
         (grind (arith, line_of_with_line)) (from_next o own _ _ none)
     at_line None sorted_up_to is true disordered = cc
     at_line (Some k) sorted_up_to is true disordered =
         at_status (Some k) (Disorder (cursor.number + 1))
         (AfterDisorder (record { last_key = k; line = length ls + 1 }))
-        (grind (arith, common_steps)) (grind (arith, line_other, low)) (grind arith)
+        (grind (arith, append_assoc, sorted_up_to)) (grind (arith, line_other, low)) (grind arith)
 
   pub next_invariant : {last : Option (List ℕ)} → LinesRead tool.terminator old now ls → cursor.number ≡ length ls
       → IsSortedUpTo cmp own ls last → IsLastKey own last cursor before

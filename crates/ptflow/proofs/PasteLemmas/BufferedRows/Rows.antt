@@ -11,7 +11,7 @@ pub use proofs.Common.{FillPost, AdvanceOk, IsDone, IsSound, Reader, ReaderAdvan
 pub use proofs.Common.{total_bytes, with_line, AddedSlots, AreLines, max_length, SetTerminatorsPost, FillCellPost}
 pub use proofs.Common.{SlotsBound, SlotsKept, RowAmid, RowFilled, RowShape, BegunText, CellsFilled, CellsTaken}
 pub use proofs.Common.{after_cell, cells_text, slots_text, AreReceivedLines, LinesTaken, BufferedRowsPre, AreFirstRows}
-pub use proofs.Common.{RowsTaken, CopyColumnsPost, CopyRowsPost, FlowFault, Memory, Read, Write, rules}
+pub use proofs.Common.{take-append-le, RowsTaken, CopyColumnsPost, CopyRowsPost, FlowFault, Memory, Read, Write, rules}
 pub use proofs.Passes.Exits.{lines_none, lines_are_given, lines_more, eof_gives_nothing}
 pub use Rattle.std.proofs.Math.Bool.{or-true, or-false}
 pub use Grid.*
@@ -364,6 +364,11 @@ module _ {row : RowShape} {n : ℕ} {old now : List Reader} {fields : Lines} {an
 abbrev pub with_slot : RowShape → ℕ → Slots → BegunText → BegunText
 with_slot row n store now = record now { count = n + 1; text = now.text ++ (line store n ++ after_cell row n) }
 
+slot_held : (ls fields : Lines) (field : List ℕ) (c : ℕ) {n : ℕ} → length fields ≡ n → n < length ls → c < n + 1
+    → (c < n → get_or ls c [] ≡ get_or fields c [])
+    → get_or (set ls n field) c [] ≡ get_or (fields ++ field ∷ []) c []
+slot_held ls fields field c width room under before = grind (arith, common_steps)
+
 module _ {row : RowShape} where
   -- The begun row was moved to the front of the buffer.
   pub amid_starts : {old : List Reader} {copied : List ℕ} {begun moved : BegunText} {store : Slots}
@@ -378,16 +383,18 @@ module _ {row : RowShape} where
         (record now { readers = set now.readers (get_or row.cells n 0) r; any_line = now.any_line || has }) after
     amid_next r after room sound has e =
         let (field, stored, taken) = field_in_slot row.terminator b r store after n has x.clean x.ends sound e in
+        let width = a.filled.consumed.width in
+        let fits : now.count ≤ length a.fields = omega arith in
         rw stored (record {
           fields = a.fields ++ field ∷ [];
           filled = fill_next a.filled x r field has taken;
           within = omega arith;
-          is = grind (arith, common_steps);
-          held = grind (arith, common_steps);
+          is = grind (arith, a.is, take-append-le);
+          held = grind (arith, slot_held);
           slots = record {
             same = length-set _ n field ∙ a.slots.same;
             kept = λ start top k high. slots_bound_line ((slots_kept_more a.slots _).kept start top k high) n _ x.low
-                (grind (arith, common_steps));
+                (grind (arith, high n, length-append, get_or_push));
           };
         })
 

@@ -12,3 +12,6 @@ returns-in_err-value c = search (rules, digit_at, too_large_at)
 
 pub loop-byte-preserved : goal.loop-byte-preserved
 loop-byte-preserved c = grind (arith, common_steps)
+
+pub returns-then-not-is_decimal : goal.returns-then-not-is_decimal
+returns-then-not-is_decimal c = search rules

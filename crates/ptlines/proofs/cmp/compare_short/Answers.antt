@@ -11,7 +11,6 @@ returns-then-x-y c =
 
 pub returns-then-x-y-2 : goal.returns-then-x-y-2
 returns-then-x-y-2 c =
-    let least = c.min-least.result in
     let a = c.args.a.now in
     let b = c.args.b.now in
     let first = words_same word_4 0 a b (omega arith)
@@ -22,7 +21,6 @@ returns-then-x-y-2 c =
 
 pub returns : goal.returns
 returns c =
-    let least = c.min-least.result in
     let a = c.args.a.now in
     let b = c.args.b.now in
     let first = words_same word_4 0 a b (omega arith)

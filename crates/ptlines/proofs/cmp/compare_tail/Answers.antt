@@ -18,7 +18,6 @@ loop-at-preserved c = record {
 
 pub returns-then-x-y-2 : goal.returns-then-x-y-2
 returns-then-x-y-2 c =
-    let least = c.min-least.result in
     let a = c.args.a.now in
     let b = c.args.b.now in
     let same = shorter_prefix_same _ _ a b (omega arith) c.loop-at.invariant.same in
@@ -27,7 +26,6 @@ returns-then-x-y-2 c =
 
 pub returns : goal.returns
 returns c =
-    let least = c.min-least.result in
     let a = c.args.a.now in
     let b = c.args.b.now in
     let same = shorter_prefix_same _ _ a b (omega arith) c.loop-at.invariant.same in

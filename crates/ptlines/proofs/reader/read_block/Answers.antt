@@ -13,10 +13,10 @@ in_front old new into rest r long =
 
 pub returns-in-Standard-clause-pulled : goal.returns-in-Standard-clause-pulled
 returns-in-Standard-clause-pulled g c =
-    let long : length c.pull.new.into ≡ 8192 = grind arith in
+    let long : length c.pull.new.into ≡ 8192 = omega arith in
     rw c.in-Standard.is (in_front _ _ _ _ _ long c.pull.ensures.pulled)
 
 pub returns-in-File-clause-pulled : goal.returns-in-File-clause-pulled
 returns-in-File-clause-pulled g c =
-    let long : length c.pull-in-File.new.into ≡ 8192 = grind arith in
+    let long : length c.pull-in-File.new.into ≡ 8192 = omega arith in
     rw c.in-File.is (in_front _ _ _ _ _ long c.pull-in-File.ensures.pulled)

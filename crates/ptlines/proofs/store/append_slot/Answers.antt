@@ -1,6 +1,6 @@
 -- The slots are split at the greater of the two numbers, so source and target lie in different parts.
 use Rattle.ptlines.proofs
-use Rattle.std.proofs.Common.{◌<◌, Result, Ok, Err, OnErr, arith, rules}
+use Rattle.std.proofs.Common.{◌<◌, Result, Ok, Err, OnErr, arith}
 use proofs.SlotTotals.{append_to_back, bounded_back, buffers_back, append_to_front, bounded_front, buffers_front}
 use borrow.Author.Rules.{scaled_Fits}
 use proofs.store.append_slot.Goals as goal
@@ -17,7 +17,9 @@ pub returns-then-from-to-clause-short : goal.returns-then-from-to-clause-short
 returns-then-from-to-clause-short g c = grind (arith, bounded_back)
 
 pub returns-then-from-to-clause-buffers : goal.returns-then-from-to-clause-buffers
-returns-then-from-to-clause-buffers g c = search (rules, buffers_back)
+returns-then-from-to-clause-buffers g c =
+    buffers_back _ _ _ _ _ _ c.index-back-0.result c.append.new.self c.line.result.now c.if-from-to.true
+    c.requires.to_in c.split_at_mut-front.ensures.front c.split_at_mut-front.ensures.back c.append.ensures.buffer
 
 pub returns-else-from-to-clause-ok : goal.returns-else-from-to-clause-ok
 returns-else-from-to-clause-ok g c = grind (arith, append_to_front)
@@ -31,8 +33,7 @@ returns-else-from-to-clause-short g c = grind (arith, bounded_front)
 pub returns-else-from-to-clause-buffers : goal.returns-else-from-to-clause-buffers
 returns-else-from-to-clause-buffers g c =
     let near : c.args.to < c.args.from = omega arith in
-    buffers_front c.args.slots.now _ _ c.args.from c.args.to _ c.index-front-to.result c.append-else-from-to.new.self
-    c.line-else-from-to.result.now near
+    buffers_front _ _ _ _ _ _ c.index-front-to.result c.append-else-from-to.new.self c.line-else-from-to.result.now near
     c.requires.from_in c.split_at_mut-front-else-from-to.ensures.front c.split_at_mut-front-else-from-to.ensures.back
     c.append-else-from-to.ensures.buffer
 

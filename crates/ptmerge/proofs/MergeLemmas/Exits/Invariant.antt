@@ -372,7 +372,15 @@ module _ (cmp : Cmp) (o : IsKeyOrder cmp) where
       → LeastLines cmp key k f r
   least_lines key k [] [] e h = grind arith
   least_lines key k [] (x ∷ r) e (here, more) = grind (arith, least_lines key k [] r tt more, rules, same_bytes)
-  least_lines key k (x ∷ f) r (here, more) h = grind (arith, common_steps, same_bytes, least_lines key k f r more h)
+  least_lines key k (x ∷ f) r (here, more) h =
+      let ih = least_lines key k f r more h in
+      let at : is_le (cmp (key x) k) ≡ true = rw here (grind (arith, self_at_most)) in
+      record {
+        least = simp (at, ih.least);
+        other = simp (at, ih.other);
+        own = (here, ih.own);
+        all = simp (same_bytes here, ih.all);
+      }
 
   only_key : (key1 key2 : Key) (k : List ℕ) (xs ys : Lines) → EachKey (λ x. x ≡ k) key1 xs
       → EachKey (λ x. x ≡ k) key2 ys

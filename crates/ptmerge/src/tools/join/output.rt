@@ -164,7 +164,6 @@ fn item_or_filler<'a, A: Allocator>(
 }
 
 // Writes an output line by an output list, without its terminator.
-#[tactic(auto, using(crate::proofs::JoinLemmas::Fields::listed_entry_steps))]
 fn write_listed_fields<A: Allocator, W: Sink>(
     entry: &Entry<'_, A>,
     items: &[OutField],
@@ -226,7 +225,6 @@ fn is_canonical(separator: Option<u8>, number: u64, line: &[u8]) -> bool
 // Canonical lines are written without splitting them: the first line, and after it the second one without its join
 // field.
 #[inline(always)]
-#[tactic(auto, using(crate::proofs::JoinLemmas::Fields::push_fails, ptlines::proofs::Push::push_past_failure))]
 pub(crate) fn write_entry<'a, A: Allocator, W: Sink>(
     job: &'a JoinJob<A>,
     key: &'a [u8],

@@ -19,3 +19,6 @@ pub returns : goal.returns
 returns g c =
     selection_is_kept c.args.text.now _ _ _ c.in_ok-listed.ensures c.sort_unstable_by_key.ensures.permutation
     (rw c.as_slice.ensures.value at c.in_ok-kept.ensures.same)
+
+pub invariant_of-result : goal.invariant_of-result
+invariant_of-result g c = search rules

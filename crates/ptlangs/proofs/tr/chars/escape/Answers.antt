@@ -1,6 +1,6 @@
 use Rattle.ptlangs.proofs
-use proofs.Common.{Some, arith, common_steps, rules}
-use proofs.TrGrammar.{octal_char}
+use proofs.Common.{None, Some, rules}
+use proofs.TrGrammar.{octal_char, octal_digits}
 use proofs.tr.chars.escape.Goals as goal
 
 pub returns-in-Some-number-clause-denoted : goal.returns-in-Some-number-clause-denoted
@@ -9,7 +9,9 @@ returns-in-Some-number-clause-denoted c =
     (search rules) (search rules) (search rules)
 
 pub returns-in-None-clause-denoted : goal.returns-in-None-clause-denoted
-returns-in-None-clause-denoted c = grind (arith, octal_char)
+returns-in-None-clause-denoted c =
+    octal_char c.args.bytes.now c.in-Some.first c.octal_len-count.result None (search rules) (search rules)
+    (search rules) (search rules)
 
 pub number-requires-clause-digits : goal.number-requires-clause-digits
-number-requires-clause-digits c = grind (arith, common_steps)
+number-requires-clause-digits c = rw c.octal_len-count.ensures (octal_digits c.args.bytes.now)

@@ -1,7 +1,7 @@
 use Rattle.ptlines.proofs
-use proofs.Common.{arith}
+use proofs.Common.{rules}
 use proofs.Consume.{rest_of_range}
 use proofs.reader.LineReader.consume.Goals as goal
 
 pub returns-clause-consumed : goal.returns-clause-consumed
-returns-clause-consumed g c = grind (arith, rest_of_range)
+returns-clause-consumed g c = search (rules, rest_of_range)

@@ -16,8 +16,8 @@ returns-clause-line g c given =
     let is_front : take (r.end - r.start) front ≡ c.args.self.now.buffered = grind (arith, take-take) in
     let first = subst (λ b. IsFirst (Passes (is_byte b) front) 0 64 (Some c.in-Some.size))
     (grind arith) c.in-Some.ensures in
-    fill_short_line 64 c.args.self.now _ r.block front r.start r.end c.in-Some.size c.args.store.now
-    c.set_short_line.new.self c.args.slot c.requires.clean short high fits buffered is_front first (grind arith)
+    fill_short_line 64 c.args.self.now _ r.block front r.start r.end _ _ _ _ c.requires.clean short high fits
+    buffered is_front first (grind arith)
     c.set_short_line.ensures
 
 pub returns-clause-sound : goal.returns-clause-sound

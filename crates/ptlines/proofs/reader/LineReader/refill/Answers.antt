@@ -10,12 +10,12 @@ returns-then-count-eq0-clause-refills g c = grind arith
 
 pub returns-then-self-clause-refills : goal.returns-then-self-clause-refills
 returns-then-self-clause-refills g c =
-    search (rules, c.in-Ok.count, c.in-Ok.ensures.few, refill_long, c.read_block.new.block, c.self.view_is, c.requires, c.in-Ok.ensures.pulled)
+    search (rules, c.in-Ok.ensures.few, refill_long, c.self.view_is, c.requires, c.in-Ok.ensures.pulled)
 
 pub returns-else-self-clause-refills : goal.returns-else-self-clause-refills
 returns-else-self-clause-refills g c =
     let small = c.in-Ok.ensures.few in
-    refill_more _ c.read_block.new.block c.in-Ok.count _ c.self.view_is c.requires c.in-Ok.ensures.refused
+    refill_more _ _ _ _ c.self.view_is c.requires c.in-Ok.ensures.refused
     c.in-Ok.ensures.pulled small (omega arith) (omega arith)
 
 pub returns-in-Err-clause-refills : goal.returns-in-Err-clause-refills

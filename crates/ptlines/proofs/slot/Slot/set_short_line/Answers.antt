@@ -18,14 +18,14 @@ returns g c =
       | then-size-lt16 w ↦
           (grind arith)
           ∙ (λ i. record {
-            line = stored 16 w.deref_mut.result.now w.deref_mut.ensures.len
+            line = stored 16 _ w.deref_mut.ensures.len
                 (omega arith) (omega arith) i;
             buffer_size = (c.self.view_is i).buffer_size;
           })
       | else-size-lt16 w ↦
           (grind arith)
           ∙ (λ i. record {
-            line = stored 64 w.deref_mut-else-size-lt16.result.now w.deref_mut-else-size-lt16.ensures.len
+            line = stored 64 _ w.deref_mut-else-size-lt16.ensures.len
                 (omega arith) (omega arith) i;
             buffer_size = (c.self.view_is i).buffer_size;
           })

@@ -13,9 +13,8 @@ overflow_add-self g c =
 
 pub invariant_of-self : goal.invariant_of-self
 invariant_of-self g c =
-    let s = c.self.inside in
-    let low = slot_in_range s.slots.items c.args.slot c.self.view_is c.requires in
-    counted_after_set s.slots.items c.args.slot c.index_mut.result.now low c.index_mut.ensures.value c.self.invariant
+    let low = slot_in_range _ _ c.self.view_is c.requires in
+    counted_after_set _ _ _ low c.index_mut.ensures.value c.self.invariant
     _ c.append.ensures.short c.append.ensures.buffer (grind (arith, length-append)) (omega arith) (omega arith)
 
 pub invariant_of-self-in-Err : goal.invariant_of-self-in-Err
@@ -26,10 +25,9 @@ index_mut-requires g c = grind (arith, common_steps)
 
 pub returns-in-Ok-clause-ok : goal.returns-in-Ok-clause-ok
 returns-in-Ok-clause-ok g c =
-    let slots = c.self.inside.slots.items in
-    let low = slot_in_range slots c.args.slot c.self.view_is c.requires in
-    let had = line_before slots c.args.slot c.self.view_is low c.index_mut.ensures.value in
-    store_after_set slots c.args.slot c.self.view_is _ (c.in-Ok.ensures.ok ∙ ap (λ l. l ++ c.args.bytes.now) had)
+    let low = slot_in_range _ _ c.self.view_is c.requires in
+    let had = line_before _ _ c.self.view_is low c.index_mut.ensures.value in
+    store_after_set _ _ c.self.view_is _ (c.in-Ok.ensures.ok ∙ ap (λ l. l ++ c.args.bytes.now) had)
     (invariant_of-self g c).total c.max-self-inside.ensures
 
 pub returns-in-Err-clause-err : goal.returns-in-Err-clause-err

@@ -11,19 +11,17 @@ overflow_sub-self g c =
 
 pub invariant_of-self : goal.invariant_of-self
 invariant_of-self g c =
-    let slots = c.self.inside.slots.items in
-    let low = slot_in_range slots c.args.slot c.self.view_is c.requires in
-    let had = c.index_mut.result.now in
+    let low = slot_in_range _ _ c.self.view_is c.requires in
     let there = c.index_mut.ensures.value in
-    let few = line_le_total slots c.args.slot had low there c.self.invariant in
-    let same = same_slot _ _ low c.index.ensures there in
+    let few = line_le_total _ _ _ low there c.self.invariant in
+    let same = ap (λ t. length (line_of t)) (same_slot _ _ low c.index.ensures there) in
     let none = ap (λ t. length (line_of t)) c.clear.ensures in
-    counted_after_set slots c.args.slot had low there c.self.invariant _ (omega arith) (grind arith) (grind arith)
+    counted_after_set _ _ _ low there c.self.invariant _ (omega arith) (grind arith) (omega arith)
     (omega arith) (omega arith)
 
 pub returns : goal.returns
 returns g c =
-    store_after_set c.self.inside.slots.items c.args.slot c.self.view_is _ (ap line_of c.clear.ensures)
+    store_after_set _ _ c.self.view_is _ (ap line_of c.clear.ensures)
     (invariant_of-self g c).total (omega arith)
 
 pub index-requires : goal.index-requires

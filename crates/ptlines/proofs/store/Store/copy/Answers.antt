@@ -1,11 +1,11 @@
--- The target is emptied and the line of the source appended. If memory could not be allocated, the target stays empty.
+-- The target is emptied and the line of the source appended. If memory ran out, the target stays empty.
 use Rattle.ptlines.proofs
 use proofs.Common.{◌≡◌, ◌≢◌, ◌<◌, ◌≤◌, ◌+◌, ◌^◌, ℕ, List, [], get_or, length, set, sym, ◌∙◌, ap, subst, arith}
 use proofs.Common.{length-set, length-map, with_items_is, total_bytes, common_steps}
 use Rattle.std.specs.Vec.{with_items}
 use Rattle.std.proofs.lemmas.List.{get_or-map}
 use Rattle.ptlines.specs.Slots.{SlotBuffer, slot_lines, AreBuffersBounded}
-use proofs.SlotTotals.{total_fits, copy_lines, copy_total, line_of}
+use proofs.SlotTotals.{total_fits, copy_lines, total_bytes_set, line_of}
 use proofs.store.Store.copy.Goals as goal
 
 copied : (lines cleared : List (List ℕ)) (after : List SlotBuffer) (from to byte_count size : ℕ) (v : SlotBuffer)
@@ -16,7 +16,8 @@ copied : (lines cleared : List (List ℕ)) (after : List SlotBuffer) (from to by
     × (byte_count + size ≡ total_bytes (set lines to (get_or lines from [])))
 copied lines cleared after from to byte_count size v differ from_in to_in cleared_is after_is counts there =
     let within : from < length after = grind (arith, length-map, length-set, get_or) in
-    copy_total _ _ _ _ to _ _ _ differ from_in to_in cleared_is after_is counts (grind (arith, get_or-map))
+    let line : v.line ≡ get_or (slot_lines after) from [] = grind (arith, get_or-map) in
+    grind (arith, common_steps, total_bytes_set)
 
 pub overflow_add-self : goal.overflow_add-self
 overflow_add-self g c =
@@ -28,16 +29,13 @@ overflow_add-self g c =
 pub invariant_of-self : goal.invariant_of-self
 invariant_of-self g c =
     let s = c.self.inside in
-    let was = c.args.self.now.lines in
-    let lent = c.deref_mut.ensures.value in
     let cleared = ap (λ t. t.lines) (c.self.view_is ∙ c.clear.ensures) in
     let whole = with_items_is s.slots c.append_slot.new.slots (grind arith) in
-    let lines = copy_lines was (slot_lines c.deref_mut.result.now) (slot_lines c.append_slot.new.slots)
-    c.args.from c.args.to c.requires.differ c.requires.to_in (ap slot_lines lent ∙ cleared) c.in-Ok.ensures.ok in
-    let after = (with_items s.slots c.append_slot.new.slots).items in
+    let lines = copy_lines _ _ _ c.args.from c.args.to c.requires.differ c.requires.to_in
+    (ap slot_lines c.deref_mut.ensures.value ∙ cleared) c.in-Ok.ensures.ok in
     let (total, _, _) =
-    copied was (slot_lines s.slots.items) after c.args.from c.args.to s.byte_count c.size.result c.index.result.now
-    c.requires.differ c.requires.from_in c.requires.to_in cleared (ap slot_lines whole ∙ lines)
+    copied _ _ (with_items s.slots c.append_slot.new.slots).items c.args.from c.args.to _ _ _ c.requires.differ
+    c.requires.from_in c.requires.to_in cleared (ap slot_lines whole ∙ lines)
     c.self.invariant.total c.index.ensures c.size.ensures.size in
     let peak = c.max-self-inside.result in
     let below : total_bytes (slot_lines c.append_slot.new.slots) ≤ peak = grind (arith, slot_lines) in

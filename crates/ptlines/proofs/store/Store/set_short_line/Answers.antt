@@ -31,29 +31,27 @@ overflow_add-self g c =
 
 pub invariant_of-self : goal.invariant_of-self
 invariant_of-self g c =
-    let s = c.self.inside in
-    let low = slot_in_range s.slots.items c.args.slot c.self.view_is c.requires in
+    let low = slot_in_range _ _ c.self.view_is c.requires in
     let same = same_slot _ _ low c.index.ensures c.index_mut.ensures.value in
     put_counted _ _ _ low c.index_mut.ensures.value c.self.invariant _ (grind arith)
     _ _ c.args.near.near c.args.near.front.long _ c.set_short_line.ensures _ (omega arith) (omega arith)
 
 pub invariant_of-self-else-self : goal.invariant_of-self-else-self
 invariant_of-self-else-self g c =
-    let s = c.self.inside in
-    let low = slot_in_range s.slots.items c.args.slot c.self.view_is c.requires in
+    let low = slot_in_range _ _ c.self.view_is c.requires in
     let same = same_slot _ _ low c.index.ensures c.index_mut.ensures.value in
     put_counted _ _ _ low c.index_mut.ensures.value c.self.invariant _ (grind arith)
     _ _ c.args.near.near c.args.near.front.long _ c.set_short_line.ensures _ (omega arith) (omega arith)
 
 pub returns-then-self : goal.returns-then-self
 returns-then-self g c =
-    store_after_set c.self.inside.slots.items c.args.slot c.self.view_is _
-    (ap line_of c.set_short_line.ensures) (invariant_of-self g c).total (omega arith)
+    store_after_set _ _ c.self.view_is _ (ap line_of c.set_short_line.ensures)
+    (invariant_of-self g c).total (omega arith)
 
 pub returns-else-self : goal.returns-else-self
 returns-else-self g c =
-    store_after_set c.self.inside.slots.items c.args.slot c.self.view_is _
-    (ap line_of c.set_short_line.ensures) (invariant_of-self-else-self g c).total (omega arith)
+    store_after_set _ _ c.self.view_is _ (ap line_of c.set_short_line.ensures)
+    (invariant_of-self-else-self g c).total (omega arith)
 
 pub index-requires : goal.index-requires
 index-requires g c = grind (arith, common_steps)

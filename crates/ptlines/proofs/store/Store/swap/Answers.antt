@@ -3,10 +3,11 @@ use Rattle.ptlines.proofs
 use proofs.Common.{arith, common_steps}
 use proofs.SlotTotals.{counted_after_swap, slot_lines-swap, slot_in_range}
 use proofs.store.Store.swap.Goals as goal
-use Rattle.std.proofs.Common.{rules}
 
 pub invariant_of-self : goal.invariant_of-self
-invariant_of-self g c = rw c.swap.ensures.items (search (rules, counted_after_swap, slot_in_range))
+invariant_of-self g c =
+    rw c.swap.ensures.items (counted_after_swap _ _ _ (slot_in_range _ _ c.self.view_is c.requires.a_in)
+    (slot_in_range _ _ c.self.view_is c.requires.b_in) c.self.invariant)
 
 pub returns : goal.returns
 returns g c = grind (arith, common_steps, slot_lines-swap)

@@ -1,11 +1,10 @@
 -- One lemma of `CommLemmas` for each iteration, and one of `CommLemmas` or `MergeLemmas` for each exit.
 use Rattle.ptmerge.proofs
-use proofs.Common.{refl, ◌∙◌, comm_job, arith}
-use Rattle.std.proofs.Common.{rules}
-use proofs.MergeLemmas.{advance_pre, err_is, start_fault, start_ok, open_merge, reads_less, ends_well, between_next}
+use proofs.Common.{refl, ◌∙◌, comm_job, First, Second, arith}
+use proofs.MergeLemmas.{advance_pre, err_is, start_fault, start_ok, open_merge, reads_less, between_next, ends_well}
 use proofs.MergeLemmas.{ends_fallen}
 use proofs.CommLemmas.{alone_continues, alone_fails, pair_continues, pair_fails, second_advance_pre, second_fails}
-use proofs.CommLemmas.{is_line_by_line}
+use proofs.CommLemmas.{is_line_by_line, kept_order}
 use proofs.tools.comm.comm_with_order.Goals as goal
 
 pub returns-in_err-merge : goal.returns-in_err-merge
@@ -19,18 +18,15 @@ steps-init g c =
     let p = c.in_ok-merge.ensures in
     let w = open_merge (record { total = g.met.K.KeyOrder.total _; exact = g.met.K.KeyOrder.exact _ })
     (is_line_by_line (comm_job c.args.job.now) _ _) c.requires.begins in
-    rw p.order (record {
-      iteration = record {
-        w = w;
-        whole_line_keys = c.requires.whole_line_keys;
-        loop_invariant = start_ok w p.starts;
-        between = record {
-          valid_cursors = rw p.order at p.valid_cursors;
-          own_reader = search (rules, p.own_reader);
-          clean = c.requires.begins.writable;
-        };
+    kept_order g.K.KeyOrder.order g.K.KeyOrder.key_of p.order refl (record {
+      w = w;
+      whole_line_keys = c.requires.whole_line_keys;
+      loop_invariant = start_ok w p.starts;
+      between = record {
+        valid_cursors = rw p.order at p.valid_cursors;
+        own_reader = elim [ First ↦ p.own_reader.0 | Second ↦ p.own_reader.1 ];
+        clean = c.requires.begins.writable;
       };
-      order = refl;
     })
 
 pub write_head-requires-clause-status_is : goal.write_head-requires-clause-status_is
@@ -51,29 +47,36 @@ write_out_and_advance-requires-clause-status_is g c = rw c.write_head-in-Both.en
 
 pub steps-preserved-in-Continue-branch-2 : goal.steps-preserved-in-Continue-branch-2
 steps-preserved-in-Continue-branch-2 g c =
+    let i = c.steps.invariant in
     let p = c.write_head.ensures in
-    rw p.order (assumption (alone_continues c.steps.invariant.iteration c.in-First.ensures refl p.wrote
-    c.in_ok-write_head-in-First.ensures.advances))
+    kept_order g.K.KeyOrder.order g.K.KeyOrder.key_of p.order i.order (alone_continues i.iteration
+    c.in-First.ensures refl p.wrote c.in_ok-write_head-in-First.ensures.advances)
 
 pub steps-preserved-in-Continue-branch-3 : goal.steps-preserved-in-Continue-branch-3
 steps-preserved-in-Continue-branch-3 g c =
+    let i = c.steps.invariant in
     let p = c.write_head-in-Second.ensures in
-    rw p.order (assumption (alone_continues c.steps.invariant.iteration c.in-Second.ensures c.tabs-tabs2.ensures
-    p.wrote c.in_ok-write_head-in-Second.ensures.advances))
+    kept_order g.K.KeyOrder.order g.K.KeyOrder.key_of p.order i.order (alone_continues i.iteration
+    c.in-Second.ensures c.tabs-tabs2.ensures p.wrote c.in_ok-write_head-in-Second.ensures.advances)
 
 pub steps-preserved : goal.steps-preserved
 steps-preserved g c =
+    let i = c.steps.invariant in
     let p = c.write_head-in-Both.ensures in
     let q = c.write_out_and_advance.ensures in
-    rw (q.order ∙ p.order) (assumption (pair_continues c.steps.invariant.iteration c.in-Both.ensures
-    c.tabs-tabs3.ensures p.wrote c.in_ok-write_head-in-Both.ensures.advances q.written_out
-    (rw p.order at c.in_ok-write_out_and_advance-in-Both.ensures.advances)))
+    kept_order g.K.KeyOrder.order g.K.KeyOrder.key_of (q.order ∙ p.order) i.order (pair_continues i.iteration
+    c.in-Both.ensures c.tabs-tabs3.ensures p.wrote c.in_ok-write_head-in-Both.ensures.advances q.written_out
+    (rw p.order at c.in_ok-write_out_and_advance-in-Both.ensures.advances))
 
 pub steps-smaller-in-Continue-branch-2 : goal.steps-smaller-in-Continue-branch-2
-steps-smaller-in-Continue-branch-2 g c = search (rules, reads_less)
+steps-smaller-in-Continue-branch-2 g c =
+    let h = c.in_ok-write_head-in-First.ensures.advances in
+    reads_less c.steps.invariant.iteration.between _ h.continues c.in-First.ensures.status_is h.came
 
 pub steps-smaller-in-Continue-branch-3 : goal.steps-smaller-in-Continue-branch-3
-steps-smaller-in-Continue-branch-3 g c = search (rules, reads_less)
+steps-smaller-in-Continue-branch-3 g c =
+    let h = c.in_ok-write_head-in-Second.ensures.advances in
+    reads_less c.steps.invariant.iteration.between _ h.continues c.in-Second.ensures.status_is h.came
 
 pub steps-smaller : goal.steps-smaller
 steps-smaller g c = grind (arith, reads_less, between_next)

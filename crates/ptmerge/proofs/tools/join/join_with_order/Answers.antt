@@ -1,13 +1,12 @@
 -- One lemma of `JoinLemmas` for each iteration, and one of `JoinLemmas` or `MergeLemmas` for each exit.
 use Rattle.ptmerge.proofs
 use Rattle.ptmerge.specs
-use proofs.Common.{refl, Second, sym, ◌∙◌, join_job, arith}
+use proofs.Common.{refl, sym, ◌∙◌, join_job, arith}
 use Rattle.std.proofs.lemmas.Grind.{common_steps}
-use Rattle.std.proofs.Common.{rules}
 use proofs.JoinLemmas.{read_group_pre, read_group_fails, read_group_continues, group_closed, group_there}
 use proofs.JoinLemmas.{write_pairs_group, write_pairs_pre, pair_fails, write_pairs_next, write_pairs_continues}
 use proofs.JoinLemmas.{alone_continues, alone_fails, loop_invariant, measure_decreases, is_line_by_line, group_opens}
-use proofs.JoinLemmas.{read_group_in}
+use proofs.JoinLemmas.{read_group_in, kept_order}
 use proofs.MergeLemmas.{advance_pre, err_is, start_fault, start_ok, open_merge, ends_well, ends_fallen}
 use specs.declared.key_order.Side.TheVariants as sides
 use specs.declared.tools.join.JoinPhase.TheVariants as phases
@@ -24,18 +23,15 @@ steps-init g c =
     let w = open_merge (record { total = g.met.K.KeyOrder.total _; exact = g.met.K.KeyOrder.exact _ })
     (is_line_by_line (join_job c.args.job.now) _ _) c.requires.begins in
     let e = c.in_ok-merge.ensures in
-    rw e.order (record {
-      iteration = record {
-        w = w;
-        keys = c.requires.keys;
-        phased = (start_ok w e.starts, refl);
-        between = record {
-          valid_cursors = rw e.order at e.valid_cursors;
-          own_reader = search (rules, e.own_reader);
-          clean = c.requires.begins.writable;
-        };
+    kept_order g.K.KeyOrder.order g.K.KeyOrder.key_of e.order refl (record {
+      w = w;
+      keys = c.requires.keys;
+      phased = (start_ok w e.starts, refl);
+      between = record {
+        valid_cursors = rw e.order at e.valid_cursors;
+        own_reader = elim [ sides.First ↦ e.own_reader.0 | sides.Second ↦ e.own_reader.1 ];
+        clean = c.requires.begins.writable;
       };
-      order = refl;
     })
 
 pub write_unpaired-requires-clause-status_is : goal.write_unpaired-requires-clause-status_is
@@ -48,21 +44,29 @@ write_unpaired-requires-in-Second-clause-status_is g c =
 
 pub steps-preserved-in-Continue-branch-2 : goal.steps-preserved-in-Continue-branch-2
 steps-preserved-in-Continue-branch-2 g c =
+    let i = c.steps.invariant in
     let p = c.write_unpaired.ensures in
-    rw p.order (assumption (alone_continues c.steps.invariant.iteration c.in-BetweenGroups.is c.in-First.ensures
-    p.wrote c.in_ok-write_unpaired-in-First.ensures.advances))
+    kept_order g.K.KeyOrder.order g.K.KeyOrder.key_of p.order i.order (alone_continues i.iteration
+    c.in-BetweenGroups.is c.in-First.ensures p.wrote c.in_ok-write_unpaired-in-First.ensures.advances)
 
 pub steps-preserved-in-Continue-branch-3 : goal.steps-preserved-in-Continue-branch-3
 steps-preserved-in-Continue-branch-3 g c =
+    let i = c.steps.invariant in
     let p = c.write_unpaired-in-Second.ensures in
-    rw p.order (assumption (alone_continues c.steps.invariant.iteration c.in-BetweenGroups.is c.in-Second.ensures
-    p.wrote c.in_ok-write_unpaired-in-Second.ensures.advances))
+    kept_order g.K.KeyOrder.order g.K.KeyOrder.key_of p.order i.order (alone_continues i.iteration
+    c.in-BetweenGroups.is c.in-Second.ensures p.wrote c.in_ok-write_unpaired-in-Second.ensures.advances)
 
 pub steps-smaller-in-Continue-branch-2 : goal.steps-smaller-in-Continue-branch-2
-steps-smaller-in-Continue-branch-2 g c = search (rules, measure_decreases)
+steps-smaller-in-Continue-branch-2 g c =
+    let h = c.in_ok-write_unpaired-in-First.ensures.advances in
+    measure_decreases c.steps.invariant.iteration _ _ c.in-First.ensures.status_is h.came
+    h.continues
 
 pub steps-smaller-in-Continue-branch-3 : goal.steps-smaller-in-Continue-branch-3
-steps-smaller-in-Continue-branch-3 g c = search (rules, measure_decreases)
+steps-smaller-in-Continue-branch-3 g c =
+    let h = c.in_ok-write_unpaired-in-Second.ensures.advances in
+    measure_decreases c.steps.invariant.iteration _ _ c.in-Second.ensures.status_is h.came
+    h.continues
 
 pub returns-in_err-write_unpaired-in-First : goal.returns-in_err-write_unpaired-in-First
 returns-in_err-write_unpaired-in-First g c =
@@ -93,6 +97,9 @@ returns-in-Stop g c =
     rw (← i.order) (ends_fallen (loop_invariant i.iteration c.in-BetweenGroups.is) i.iteration.clean
     c.clear_four_slots-in-Stop.ensures c.in-Stop.ensures)
 
+pub clear_four_slots-requires-in-Stop : goal.clear_four_slots-requires-in-Stop
+clear_four_slots-requires-in-Stop g c = c.steps.invariant.iteration.valid_cursors.slots
+
 pub read_group_line-requires-clause-group : goal.read_group_line-requires-clause-group
 read_group_line-requires-clause-group g c = read_group_in c.steps.invariant.iteration c.in-ReadGroup.is
 
@@ -107,35 +114,47 @@ returns-in_err-end-in-ReadGroup g c =
 
 pub steps-preserved-then-not-has_same_key : goal.steps-preserved-then-not-has_same_key
 steps-preserved-then-not-has_same_key g c =
+    let i = c.steps.invariant in
     let p = c.read_group_line.ensures in
     let ok = c.in_ok-end-in-ReadGroup.ensures in
-    rw p.order (assumption (write_pairs_next c.steps.invariant.iteration c.in-ReadGroup.is p.written_out ok.reads_line
-    ok.continues (sym c.has_same_key.ensures ∙ c.if-not-has_same_key.true)))
+    kept_order g.K.KeyOrder.order g.K.KeyOrder.key_of p.order i.order (write_pairs_next i.iteration
+    c.in-ReadGroup.is p.written_out ok.reads_line ok.continues
+    (sym c.has_same_key.ensures ∙ c.if-not-has_same_key.true))
 
 pub steps-preserved-else-not-has_same_key : goal.steps-preserved-else-not-has_same_key
 steps-preserved-else-not-has_same_key g c =
+    let i = c.steps.invariant in
     let p = c.read_group_line.ensures in
     let ok = c.in_ok-end-in-ReadGroup.ensures in
-    rw p.order (assumption (read_group_continues c.steps.invariant.iteration c.in-ReadGroup.is p.written_out
-    ok.reads_line ok.continues (sym c.has_same_key.ensures ∙ c.if-not-has_same_key.false)))
+    kept_order g.K.KeyOrder.order g.K.KeyOrder.key_of p.order i.order (read_group_continues i.iteration
+    c.in-ReadGroup.is p.written_out ok.reads_line ok.continues
+    (sym c.has_same_key.ensures ∙ c.if-not-has_same_key.false))
 
 pub steps-smaller-else-not-has_same_key : goal.steps-smaller-else-not-has_same_key
 steps-smaller-else-not-has_same_key g c =
     let ok = c.in_ok-end-in-ReadGroup.ensures in
-    measure_decreases c.steps.invariant.iteration sides.Second c.steps.phase
+    measure_decreases c.steps.invariant.iteration _ _
     (read_group_pre c.steps.invariant.iteration c.in-ReadGroup.is).head ok.reads_line.came ok.continues
 
 pub steps-smaller-then-not-has_same_key : goal.steps-smaller-then-not-has_same_key
 steps-smaller-then-not-has_same_key g c =
     let ok = c.in_ok-end-in-ReadGroup.ensures in
-    measure_decreases c.steps.invariant.iteration sides.Second phases.WritePairs
+    measure_decreases c.steps.invariant.iteration _ phases.WritePairs
     (read_group_pre c.steps.invariant.iteration c.in-ReadGroup.is).head ok.reads_line.came ok.continues
 
 pub steps-smaller-then-not-has_same_key-2 : goal.steps-smaller-then-not-has_same_key-2
-steps-smaller-then-not-has_same_key-2 g c = search (rules, measure_decreases, write_pairs_pre)
+steps-smaller-then-not-has_same_key-2 g c =
+    let h = c.in_ok-write_pairs-in-WritePairs.ensures.advances in
+    measure_decreases c.steps.invariant.iteration _ phases.BetweenGroups
+    (write_pairs_pre c.steps.invariant.iteration c.in-WritePairs.is).status_is.head h.came
+    h.continues
 
 pub steps-smaller : goal.steps-smaller
-steps-smaller g c = search (rules, measure_decreases, write_pairs_pre)
+steps-smaller g c =
+    let h = c.in_ok-write_pairs-in-WritePairs.ensures.advances in
+    measure_decreases c.steps.invariant.iteration _ _
+    (write_pairs_pre c.steps.invariant.iteration c.in-WritePairs.is).status_is.head h.came
+    h.continues
 
 pub write_pairs-requires-clause-joins : goal.write_pairs-requires-clause-joins
 write_pairs-requires-clause-joins g c = write_pairs_pre c.steps.invariant.iteration c.in-WritePairs.is
@@ -155,17 +174,19 @@ clear_group-requires g c = group_there c.steps.invariant.iteration c.in-WritePai
 
 pub steps-preserved-then-not-has_same_key-2 : goal.steps-preserved-then-not-has_same_key-2
 steps-preserved-then-not-has_same_key-2 g c =
+    let i = c.steps.invariant in
     let p = c.write_pairs.ensures in
-    rw p.order (assumption (group_closed c.steps.invariant.iteration c.in-WritePairs.is p.wrote
-    c.in_ok-write_pairs-in-WritePairs.ensures.advances c.clear_group.ensures
-    (sym c.has_same_key-in-WritePairs.ensures ∙ c.if-not-has_same_key-2.true)))
+    kept_order g.K.KeyOrder.order g.K.KeyOrder.key_of p.order i.order (group_closed i.iteration c.in-WritePairs.is
+    p.wrote c.in_ok-write_pairs-in-WritePairs.ensures.advances c.clear_group.ensures
+    (sym c.has_same_key-in-WritePairs.ensures ∙ c.if-not-has_same_key-2.true))
 
 pub steps-preserved : goal.steps-preserved
 steps-preserved g c =
+    let i = c.steps.invariant in
     let p = c.write_pairs.ensures in
-    rw p.order (assumption (write_pairs_continues c.steps.invariant.iteration c.in-WritePairs.is p.wrote
-    c.in_ok-write_pairs-in-WritePairs.ensures.advances
-    (sym c.has_same_key-in-WritePairs.ensures ∙ c.if-not-has_same_key-2.false)))
+    kept_order g.K.KeyOrder.order g.K.KeyOrder.key_of p.order i.order (write_pairs_continues i.iteration
+    c.in-WritePairs.is p.wrote c.in_ok-write_pairs-in-WritePairs.ensures.advances
+    (sym c.has_same_key-in-WritePairs.ensures ∙ c.if-not-has_same_key-2.false))
 
 pub steps-smaller-in-Both : goal.steps-smaller-in-Both
 steps-smaller-in-Both g c = grind (arith, common_steps)

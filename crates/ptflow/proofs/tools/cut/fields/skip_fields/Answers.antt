@@ -1,6 +1,6 @@
 -- Field n starts after the n-th delimiter.
 use Rattle.ptflow.proofs
-use proofs.Common.{◌≡◌, ◌+◌, ◌-◌, take, drop, length, arith, length-drop, length-take-le}
+use proofs.Common.{◌≡◌, ◌+◌, ◌-◌, take, drop, length, arith, common_steps, length-drop, length-take-le}
 use proofs.CutLemmas.Fields.{offset_start, offset_end, offset_after_nth}
 use proofs.CutLemmas.CutBytes.{rest_of}
 use proofs.tools.cut.fields.skip_fields.Goals as goal
@@ -27,3 +27,6 @@ returns-in-None-clause-offset c =
           c.requires.1,
     ) in
     rw long (offset_end _ _ (omega arith))
+
+pub overflow_add-result-in-Some : goal.overflow_add-result-in-Some
+overflow_add-result-in-Some c = grind (arith, common_steps)

@@ -1,7 +1,7 @@
 -- A field that cannot be copied ends the loop, and nothing of it was consumed.
 use Rattle.ptflow.proofs
 use proofs.Common.{◌≡◌, take, take_more_set, length, set, get_or, arith, set-get_or, mod-add-mod, rules, eq-eqb, ne_eqb}
-use proofs.Common.{refl}
+use proofs.Common.{refl, ◌∙◌, ap, ◌+◌, ◌%◌}
 use borrow.Author.Rules.{scaled_Fits}
 use proofs.PasteLemmas.BufferedRows.{columns_start, columns_more}
 use proofs.tools.paste.buffered_rows.copy_columns.Goals as goal
@@ -26,7 +26,9 @@ cells-preserved g c =
       within = omega arith;
       grows = omega (arith, c.in-Some.ensures.size_bound);
       size_bound = omega (arith, c.in-Some.ensures.size_bound);
-      at = cc (mod-add-mod c.cells.begun.0 (length c.args.row.delims.now) 1);
+      at =
+          let len = length c.args.row.delims.now in
+          c.next_index-index.ensures ∙ ap (λ i. (i + 1) % len) inv.at ∙ mod-add-mod c.cells.begun.0 len 1;
       buffer_size = c.copy_option.array_long;
     }
 
@@ -36,7 +38,7 @@ returns-in_default-clause-cells g c =
     let readers = c.cells.readers in
     let input = get_or c.args.row.cells.now c.cells.begun.0 0 in
     let same : set readers input c.copy_cell.new.reader ≡ readers =
-    cc (set-get_or readers input c.index-readers-row.result) in
+    ap (set readers input) none.none ∙ set-get_or readers input c.index-readers-row.result in
     rw (same, none.prefix_kept) c.cells.invariant.copied
 
 pub returns-then-begun-row-clause-cells : goal.returns-then-begun-row-clause-cells

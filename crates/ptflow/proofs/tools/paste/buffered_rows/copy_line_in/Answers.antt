@@ -19,3 +19,6 @@ returns-clause-line g c =
       is = rw (← c.buffered-bytes.ensures.buffered) (copied_prefix at _ n was _ _ (omega arith)
           (omega arith) (grind (arith, common_steps, take-append-add, take_more_put_chunk)));
     }
+
+pub returns-clause-prefix_kept : goal.returns-clause-prefix_kept
+returns-clause-prefix_kept g c = grind (arith, common_steps)

@@ -1,14 +1,13 @@
--- An empty rest has no more fields.
 use Rattle.ptflow.proofs
-use proofs.Common.{◌-◌, length, sym, ◌∙◌, eqb-true, nil_from_length, rules}
-use proofs.UniqLemmas.Keys.{suffix_none, suffix_is, suffix_step}
+use proofs.Common.{◌-◌, sym, ◌∙◌, eqb-true, nil_from_length, rules}
+use proofs.UniqLemmas.Keys.{at_end, suffix_is, suffix_step}
 use proofs.tools.uniq.line_key.skip_fields_cold.Goals as goal
 
 pub returns-then-is_empty : goal.returns-then-is_empty
 returns-then-is_empty c =
     let rest = c.loop-field.rest.now in
-    let none = nil_from_length _ (eqb-true (length rest) 0 (sym c.is_empty.ensures ∙ c.if-is_empty.true)) in
-    cc (suffix_none (c.args.fields - c.loop-field._field), suffix_is _ _)
+    at_end (c.args.fields - c.loop-field._field) c.args.fields rest c.args.line.now
+    (nil_from_length rest (eqb-true _ 0 (sym c.is_empty.ensures ∙ c.if-is_empty.true))) c.loop-field.invariant
 
 pub loop-field-preserved : goal.loop-field-preserved
 loop-field-preserved c = search (rules, suffix_step)

@@ -1,5 +1,5 @@
--- The second string is read first without a fill, to find how many bytes a fill has. Both times it has the same
--- segments.
+-- The second string is read first without a fill, to find how many bytes a fill has. It has the same segments each
+-- time.
 use Rattle.ptlangs.proofs
 use proofs.Common.{List, Segment, arith, contents_of, first_array, first_members, member_results, ok_map, rules}
 use proofs.Common.{segments_of, tables, ◌∙◌, ◌≡◌}

@@ -5,3 +5,6 @@ use proofs.tr.shifts.Shifts.image.Goals as goal
 
 pub returns : goal.returns
 returns c = grind (arith, common_steps, moved_reversed)
+
+pub loop-stretch-preserved : goal.loop-stretch-preserved
+loop-stretch-preserved c = grind (arith, common_steps)

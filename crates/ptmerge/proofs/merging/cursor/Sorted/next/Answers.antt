@@ -1,7 +1,7 @@
 -- The current line keeps its slot when its span becomes that of the previous line, so the two keys that are compared
 -- are those of both lines.
 use Rattle.ptmerge.proofs
-use proofs.Common.{◌≡◌, ◌<◌, ◌+◌, sym, ap, ◌∙◌, inl, arith, if◌then◌else◌, nat_tests, line, line_of_with_line, Head}
+use proofs.Common.{◌≡◌, ◌<◌, ◌+◌, sym, ap, ◌∙◌, inl, arith, if◌then◌else◌, line, line_of_with_line, Head}
 use proofs.Common.{Disorder}
 use Rattle.std.proofs.lemmas.Grind.{common_steps}
 use proofs.MergeLemmas.{later_status, line_other}
@@ -14,7 +14,7 @@ returns-clause-moves g c =
     let old = c.args.self.now in
     let before = c.args.store.now in
     let after = c.fill.new.store in
-    let some : 0 < old.number = grind (arith, nat_tests) in
+    let some : 0 < old.number = omega arith in
     let swap = c.swap.ensures in
     let clean = (c.requires.own_reader c.fill.ensures.was_sound).clean in
     let e = rw (c.in-Ok-true.field-0-test, swap.x_after) at (c.in-Ok-true.ensures.fills clean) in

@@ -3,7 +3,8 @@ use Rattle.ptmerge.proofs
 use proofs.Common.{◌≡◌, List, [], ◌∷◌, ◌++◌, ℕ, Option, Result, append-nil, ap, refl, subst, First, Join, Output, arith}
 use proofs.Common.{PushPost, Second, entry_with_list, join_job, option_copied}
 use Rattle.std.proofs.lemmas.Grind.{common_steps}
-use proofs.JoinLemmas.Fields.{then_pushes, first_is, pair_is, second_is}
+use Rattle.ptlines.proofs.Push.{push_past_failure}
+use proofs.JoinLemmas.Fields.{push_fails, then_pushes, first_is, pair_is, second_is}
 use Rattle.ptmerge.specs.JoinFields.{IsKeyOf}
 use proofs.tools.join.output.write_entry.Goals as goal
 
@@ -32,7 +33,8 @@ returns-in-None-Some-None g c =
     let one = ap option_copied at.is-1 in
     let is = first_is job _ at.is-0 (c.if-is_canonical-3.ensures refl)
     (subst (IsKeyOf job First c.args.key.now) one c.requires.one) in
-    pushes_entry job _ _ one (ap option_copied at.is-2) (cc (is, append-nil at.line.now))
+    pushes_entry job _ _ one (ap option_copied at.is-2) (rw (append-nil at.line.now)
+    (ap (λ (l : List ℕ). l ++ c.args.terminator ∷ []) is))
     c.push_line-in-None-Some-None.ensures.pushed
 
 pub returns-in-None-None-Some : goal.returns-in-None-None-Some
@@ -41,10 +43,15 @@ returns-in-None-None-Some g c =
     let key = c.args.key.now in
     let at = c.in-None-None-Some in
     let two = ap option_copied at.is-2 in
-    pushes_entry job key _ (ap option_copied at.is-1) two
-    (cc (second_is job key at.is-0 (c.if-is_canonical-4.ensures refl)
-    (subst (IsKeyOf job Second key) two c.requires.two)))
+    let is = second_is job key at.is-0 (c.if-is_canonical-4.ensures refl)
+    (subst (IsKeyOf job Second key) two c.requires.two) in
+    pushes_entry job key _ (ap option_copied at.is-1) two (ap (λ (l : List ℕ). l ++ c.args.terminator ∷ []) is)
     c.push_line-in-None-None-Some.ensures.pushed
+
+pub returns-in_err-write_fields : goal.returns-in_err-write_fields
+returns-in_err-write_fields g c =
+    push_fails _ c.from_residual.ensures.1 c.in_err-write_fields.ensures.fault
+    (push_past_failure _ _ _ _ c.in_err-write_fields.ensures.fault c.write_fields.ensures.wrote)
 
 pub returns : goal.returns
 returns g c = then_pushes c.in_ok-write_fields.ensures.clean c.write_fields.ensures.wrote c.push.ensures.pushed

@@ -1,9 +1,16 @@
 -- The first item has no separator before it, so it is written before the loop.
 use Rattle.ptmerge.proofs
-use proofs.Common.{◌∷◌, ℕ, List, sym, ◌∙◌, join_job, output_separator, arith}
+use proofs.Common.{◌∷◌, ℕ, List, sym, ◌∙◌, join_job, output_separator, arith, option_copied}
 use Rattle.std.proofs.lemmas.Grind.{common_steps}
-use proofs.JoinLemmas.Fields.{partial_first, each_fails, each_more, between_is, entry_listed, first_then_rest}
+use proofs.JoinLemmas.Fields.{partial_first, each_fails, each_more, between_is, entry_listed, first_then_rest, first_fails}
 use proofs.tools.join.output.write_listed_fields.Goals as goal
+
+pub returns-in_err-push : goal.returns-in_err-push
+returns-in_err-push g c =
+    let e = c.args.entry.now in
+    first_fails _ c.from_residual.ensures.1 _ (entry_listed (join_job e.job.now) e.key.now (option_copied e.one)
+    (option_copied e.two) c.args.items.now _ c.in-len1-up.len_at_least c.item_or_filler.ensures)
+    c.push.ensures.pushed.wrote c.in_err-push.ensures.pushed.fault
 
 pub items-init : goal.items-init
 items-init g c =

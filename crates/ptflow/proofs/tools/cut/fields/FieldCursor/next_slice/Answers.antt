@@ -41,3 +41,6 @@ returns c =
     let at = c.skip_fields-self.ensures in
     rw c.min.ensures (next_slice d.byte line c.args.self.now c.requires.cursor (omega arith) (omega arith)
     from.near.0 from.offset (omega arith) at.near.0 at.offset _ (take_rest _ 1) refl refl)
+
+pub overflow_sub-last : goal.overflow_sub-last
+overflow_sub-last c = grind (arith, common_steps)

@@ -1,0 +1,6 @@
+use Rattle.ptflow.proofs
+use proofs.Common.{rules}
+use proofs.tools.cut.bytes.ByteCutBlockFilter.finish.Goals as goal
+
+pub returns : goal.returns
+returns g c = search rules

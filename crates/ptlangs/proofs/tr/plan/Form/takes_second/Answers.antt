@@ -1,0 +1,5 @@
+use Rattle.ptlangs.proofs.tr.plan.Form.takes_second.Goals as goal
+use Rattle.std.proofs.Common.{rules}
+
+pub returns : goal.returns
+returns c = search rules

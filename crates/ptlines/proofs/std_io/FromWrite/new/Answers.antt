@@ -1,0 +1,5 @@
+use Rattle.std.proofs.Common.{rules}
+use Rattle.ptlines.proofs.std_io.FromWrite.new.Goals as goal
+
+pub returns : goal.returns
+returns g c = search rules

@@ -1,0 +1,7 @@
+use Rattle.ptlines.proofs
+use proofs.Common.{◌∙◌, rules}
+use proofs.SlotTotals.{line_before, slot_in_range}
+use proofs.store.Store.line.Goals as goal
+
+pub returns : goal.returns
+returns g c = c.line.ensures.line ∙ search (rules, line_before, slot_in_range)
