@@ -107,3 +107,6 @@ pub use specs.Private.Uniq.RunsFrom.{count_of, has_output, current_run, run_of, 
 pub use specs.Private.Uniq.Blanks.{after_nonblanks}
 pub use specs.declared.faults.FlowFault.{FlowFault}
 pub use specs.declared.faults.FlowFault.TheVariants.{Memory, Read, Write}
+
+-- what most searches take
+pub ruleset usual = (arith, common_steps)

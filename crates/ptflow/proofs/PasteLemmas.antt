@@ -5,7 +5,7 @@ pub mod BufferedRows
 pub mod Replaced
 use Rattle.ptflow.proofs
 use proofs.Common.{Result, drop_at, push_trans, bounded_lag_after, HasReadCause, with_denied, max_line_length, CallPost}
-use proofs.Common.{CallOutcome, CallState, call_state, CallEnd, AreAllConsistent, inputs_at, CallProgress}
+use proofs.Common.{CallOutcome, CallState, call_state, CallEnd, AreAllConsistent, inputs_at, CallProgress, usual}
 use proofs.Common.{DecidedIfReadFailed, reads_nothing, call_ends, call_set, call_without_slots, PastePre, PastePost}
 use proofs.Common.{IsReadable, paste_end, paste_engine, RowFailed, ClearSlotsPost, is_write_fault, job_shape}
 use proofs.Common.{cases_Bool, cases_eq, filter, get_or-range_with_len, length-map-range_with_len}
@@ -31,8 +31,7 @@ record EarlierPart (end most : ℕ) (came : Received) : Type 0 where
 complete_few : {end : ℕ} {now new : Reader} {given piece : List ℕ} {ls : Lines} → AreReceivedLines end now given ls
     → ReaderAdvance now new piece → IsLine end piece → length (complete_lines end (given ++ piece)) ≤ length ls
 complete_few k reads free = grind (
-  arith,
-  common_steps,
+  usual,
   complete_lines_of_unlines,
   append-nil,
   complete_prefix,
@@ -56,7 +55,7 @@ earlier_lines {end} reader given buffered some few =
       front = front;
       last = last ++ reader.buffered;
       split = cc (take-append-drop k given, append_assoc front last reader.buffered);
-      short = grind (arith, common_steps);
+      short = grind usual;
       few = ⊎_elim
           (λ more. omega (
             arith,
@@ -80,8 +79,7 @@ ended_more : (end : ℕ) (ls : Lines) (bytes : List ℕ) → AreLines end ls
     → complete_lines end (unlines end ls ++ bytes) ≡ ls ++ complete_lines end bytes
 ended_more end [] bytes w = refl
 ended_more end (line ∷ ls) bytes (whole, more) = grind (
-  arith,
-  common_steps,
+  usual,
   complete_lines_cons,
   ended_more end ls
       bytes more,
@@ -113,7 +111,7 @@ module _ (f : ℕ → Bool) (down : (r : ℕ) → f r ≡ false → f (r + 1) �
       (λ is.
       let differ : a ≢ length taken = λ last. cc in
       let (rest, more) = known_first row taken none same (a + 1) h (omega arith) in
-      (grind (arith, common_steps)))
+      (grind usual))
       (λ is. (drop a taken, rw is (rw (none_known (a + 1) h (down a is)) refl))) (cases_Bool (f a))
 
 known_down : (cols : List Lines) (eof : List Bool) (r : ℕ) → is_row_known cols eof r ≡ false
@@ -149,8 +147,8 @@ module _ (job : Paste) (cells : List ℕ) (came : ℕ → Received) where
         → length (column_of cells (known_of earlier) c (get_or cells c 0)) ≤ r
         → is_row_known (grid earlier) ends r ≡ false
     unknown r c low is few =
-        is_row_unknown (grid earlier) ends r c (grind (arith, common_steps, length-enumerate_from))
-        (grind (arith, common_steps)) (grind (arith, column_at))
+        is_row_unknown (grid earlier) ends r c (grind (usual, length-enumerate_from))
+        (grind usual) (grind (arith, column_at))
 
     abbrev cell : ℕ → ℕ → ℕ → List ℕ
     cell r c p = get_or (column_of cells (known_of came) c p) r []
@@ -167,7 +165,7 @@ module _ (job : Paste) (cells : List ℕ) (came : ℕ → Received) where
         (λ is.
         let (more, is_known) = whole_lines_prefix job.terminator (came here).eof (came here).bytes cut.front cut.last
         cut.split in
-        grind (arith, unknown r c low is, common_steps, select_append))
+        grind (usual, unknown r c low is, select_append))
         (λ other. grind arith)
         (cases_eq _ _))
         ∙ sym (row_is cells (known_of came) r (cell r) (λ c low. refl))
@@ -185,7 +183,7 @@ module _ (job : Paste) (cells : List ℕ) (came : ℕ → Received) where
         ))) 0 (row_count (grid earlier)) (omega arith) in
         record {
           rest = rows_text job rest;
-          is = grind (arith, common_steps);
+          is = grind usual;
         }
 
     decided_is_prefix : cut.front ≡ (came here).bytes → (came here).eof ≡ false
@@ -460,7 +458,7 @@ module _ {job : Paste} {cells : List ℕ} {old set now : List Reader} {was is : 
                 let (later, is) = rows_after (λ p. record { bytes = texts p; eof = true }) a (λ p ended. refl) in
                 record {
                   rest = rows_text job later;
-                  is = grind (arith, common_steps, all_rows.is);
+                  is = grind (usual, all_rows.is);
                 };
             -- Without its last bytes alone, no more output is determined than was pushed.
             bounded_lag = λ p named.

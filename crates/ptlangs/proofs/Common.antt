@@ -13,7 +13,7 @@ pub use specs.TrParsing.{HasPaired, PairPost, all_paired, bytes_left, contents_o
 pub use specs.TrParsing.{member_bytes, member_results, most_left, ok_map, plain_members}
 pub use specs.TrPlan.{array, complement_of, first_array, image_by, in_string, is_fill, plan, plan_of, segments}
 pub use specs.TrPlan.{segments_of, sequence, string_segments}
-pub use specs.TrShifts.{image_of_shifts, prepend_shift, shift_at, shift_of, stretches_from}
+pub use specs.TrShifts.{prepend_shift, shift_at, shift_of, stretches_from}
 pub use specs.TrTables.{tables}
 pub use specs.declared.faults.SetFault.{SetFault}
 pub use specs.declared.faults.SetFaultKind.{SetFaultKind}
@@ -23,14 +23,14 @@ pub use specs.declared.tr.classes.CharClass.{CharClass}
 pub use specs.declared.tr.contents.Contents.{Contents}
 pub use specs.declared.tr.elements.SetElement.{SetElement}
 pub use specs.declared.tr.plan.Form.{Form}
-pub use specs.declared.tr.plan.Form.TheVariants.{Delete, DeleteSqueeze, Squeeze, Translate, TranslateSqueeze}
+pub use specs.declared.tr.plan.Form.TheVariants.{Delete, DeleteSqueeze, Squeeze}
 pub use specs.declared.tr.segments.Member.{Member}
 pub use specs.declared.tr.segments.Segment.{Segment}
 pub use specs.declared.tr.segments.SetRole.{SetRole}
 pub use specs.declared.tr.segments.SetRole.TheVariants.{First}
 pub use specs.declared.tr.shifts.Stretch.{Stretch}
 pub use Rattle.std.proofs.Common.{Bool, Err, List, None, Ok, Option, Result, Some, [], ap, arith, cond, drop, eqb}
-pub use Rattle.std.proofs.Common.{false, get_or, length, map, not, refl, replicate, rules, subst, suc, sym, take, tests}
+pub use Rattle.std.proofs.Common.{false, get_or, length, map, not, refl, replicate, rules, subst, suc, sym, take}
 pub use Rattle.std.proofs.Common.{true, zero, ℕ, ◌%◌, ◌*◌, ◌++◌, ◌+◌, ◌-◌, ◌<◌, ◌||◌, ◌∙◌, ◌∷◌, ◌≡◌, ◌≢◌, ◌≤◌}
 pub use lemmas.Bool.{cond_both, eqb-true, ltb-true, ne_eqb}
 pub use lemmas.Grind.{common_steps}
@@ -45,3 +45,6 @@ pub use Rattle.std.specs.List.{flat_map, slice_get}
 pub use Rattle.std.specs.Prelude.{count_by, sum_by}
 pub use Rattle.std.specs.Result.{IsErrAnd, is_err, result_err, result_map_both, result_ok}
 pub use Rattle.std.specs.Str.Parse.{digits_value, digits_value_after}
+
+-- what most searches take
+pub ruleset usual = (arith, common_steps)

@@ -5,8 +5,8 @@ use Rattle.ptlangs.proofs
 use Rattle.ptlangs.specs
 use Rattle.std.proofs.lemmas
 use proofs.Common.{Bool, Err, Interval, IsValidInterval, List, None, Ok, Option, Result, Some, [], and_then, ap, arith}
-use proofs.Common.{common_steps, cond, cond_both, cons_ok, digits_value_after, drop, element_field, element_interval}
-use proofs.Common.{elements, eqb, eqb-true, false, get_or, is_ascii_digit, is_dash, is_err, is_list_separator, length}
+use proofs.Common.{usual, cond, cond_both, cons_ok, digits_value_after, drop, element_field, element_interval, elements}
+use proofs.Common.{eqb, eqb-true, false, get_or, is_ascii_digit, is_dash, is_err, is_list_separator, length}
 use proofs.Common.{length-drop, ltb-true, map, max_u64, refl, result_err, result_ok, rules, subst, suc, take, take_all}
 use proofs.Common.{true, value, ℕ, ◌*◌, ◌++◌, ◌+◌, ◌-◌, ◌<◌, ◌∙◌, ◌∷◌, ◌≡◌, ◌≤◌}
 use specs.CutLists.{AreSeparated, AreSortedFrom, CutListMatchesGrammar, From, FromTo, IsIntervalElement, One}
@@ -22,7 +22,7 @@ use specs.declared.outlist.OutField.{OutField}
 use specs.declared.ranges.ListFault.{ListFault}
 use Rattle.std.proofs.Common.{max}
 use lemmas.Bool.{and_parts, cases_Bool, ltb-false, not-false}
-use lemmas.List.Elements.{All-cons}
+use lemmas.List.Elements.{All-append, All-cons}
 use lemmas.List.Sorted.{list_any-IsPermutation}
 use lemmas.List.Splits.{join_with_byte-slice_split, slice_split_at, slice_split_first, slice_split_none}
 use lemmas.List.Sums.{fails_before_first}
@@ -50,9 +50,12 @@ abbrev pub append_ok : {A E : Type 0} → List A → Result (List A) E → Resul
 append_ok xs (Ok ys) = Ok (xs ++ ys)
 append_ok xs (Err e) = Err e
 
+pub append_ok-nil : {A E : Type 0} (r : Result (List A) E) → r ≡ append_ok [] r
+append_ok-nil = grind arith
+
 pub append_ok-cons_ok : {A E : Type 0} (xs : List A) (y : A) (r : Result (List A) E)
     → append_ok xs (cons_ok y r) ≡ append_ok (xs ++ y ∷ []) r
-append_ok-cons_ok = grind (arith, common_steps)
+append_ok-cons_ok = grind usual
 
 pub record ReadsFirst {A E : Type 0} (first : Result A E) (others : Result (List A) E) (all : List A) : Type 0 where
   pub head : A
@@ -81,7 +84,7 @@ values_are read (x ∷ xs) e = grind (arith, values_are read xs)
 
 digits_fail : (p : ℕ → Bool) → ((b : ℕ) → is_ascii_digit b ≡ true → p b ≡ false) → (n : List ℕ) → is_number n ≡ true
     → All (λ b. p b ≡ false) n
-digits_fail = grind (arith, common_steps)
+digits_fail = grind usual
 
 abbrev Unbroken : List ℕ → Type 0
 Unbroken bs = All (λ b. is_list_separator b ≡ false) bs
@@ -93,7 +96,7 @@ unbroken_cons : (b : ℕ) (bs : List ℕ) → is_list_separator b ≡ false → 
 unbroken_cons = All-cons _
 
 unbroken_append : (xs ys : List ℕ) → Unbroken xs → Unbroken ys → Unbroken (xs ++ ys)
-unbroken_append = grind (arith, common_steps)
+unbroken_append = All-append (λ b. is_list_separator b ≡ false)
 
 unbroken_nil : Unbroken []
 unbroken_nil k d below = absurd (omega arith)
@@ -144,19 +147,19 @@ after-ge n (d ∷ ds) = omega (arith, after-ge (n * 10 + digit_value d) ds)
 
 pub too_large_at : (bs : List ℕ) (i n : ℕ) → i < length bs → value bs ≡ digits_value_after 10 n (drop i bs)
     → max_u64 < n * 10 + digit_value (get_or bs i 0) → None ≡ number bs
-too_large_at = grind (arith, common_steps, after-ge)
+too_large_at = grind (usual, after-ge)
 
 pub is_empty_by_length : {X : Type 0} (xs : List X) → is_empty xs ≡ eqb (length xs) 0
 is_empty_by_length xs = grind arith
 
 pub digit_at : (bs : List ℕ) (i : ℕ) → true ≡ is_number bs → i < length bs
     → digit_value (get_or bs i 0) ≡ get_or bs i 0 - 48
-digit_at = grind (arith, common_steps)
+digit_at = grind usual
 
 -- ---- the elements, split at dashes
 
 bound_is_one_part : (m : List ℕ) → is_bound m ≡ true → slice_split is_dash m ≡ m ∷ []
-bound_is_one_part = grind (arith, common_steps, slice_split_none)
+bound_is_one_part = grind (usual, slice_split_none)
 
 -- if the part after the first dash is not a bound, the element is rejected
 parts_after_dash : (n m : List ℕ) → interval_of_parts (n ∷ slice_split is_dash m) ≡ interval_of_bounds n m
@@ -224,7 +227,7 @@ checked_ok = grind arith
 
 bounds_at_dash : (n m : List ℕ) → is_number n ≡ true → element_interval (n ++ 45 ∷ m)
     ≡ checked_interval (interval_of_bounds n m)
-bounds_at_dash = grind (arith, common_steps, slice_split_at, digits_fail, parts_after_dash)
+bounds_at_dash = grind (usual, slice_split_at, digits_fail, parts_after_dash)
 
 accepts_interval : (bs : List ℕ) (r : Interval) → SpellsInterval bs r → IsValidInterval r → element_interval bs ≡ Ok r
 accepts_interval bs r (One n h) valid = grind (arith, bound_is_one_part, checked_ok)
@@ -248,7 +251,7 @@ spelled_one = grind (arith, One)
 
 spelled_cut : (n : List ℕ) (s : ℕ) (bs : List ℕ) (rest : List (List ℕ)) (r : Interval) → s ≡ 45
     → IsSplit is_dash bs rest → interval_of_parts (n ∷ rest) ≡ Some r → SpellsInterval (n ++ s ∷ bs) r
-spelled_cut = grind (arith, common_steps, Whole, Cut, some_since, and_parts, UpTo, From, FromTo)
+spelled_cut = grind (usual, Whole, Cut, some_since, and_parts, UpTo, From, FromTo)
 
 spelled_interval : (bs : List ℕ) (parts : List (List ℕ)) (r : Interval) → IsSplit is_dash bs parts
     → interval_of_parts parts ≡ Some r → SpellsInterval bs r
@@ -294,12 +297,12 @@ InOrder-lower low high (r ∷ rest) h ordered = grind arith
 pub absorbs : {sorted : List Interval} (kept : List Interval) (r s t : Interval) (rest : List Interval)
     → t.first ≡ r.first
     → t.last ≡ max r.last s.last → s.first - 1 ≤ r.last → Merges sorted kept r (s ∷ rest) → Merges sorted kept t rest
-absorbs = grind (arith, common_steps, AreSeparated-longer, InOrder-lower)
+absorbs = grind (usual, AreSeparated-longer, InOrder-lower)
 
 pub starts_next : {sorted : List Interval} (kept : List Interval) (r s : Interval) {rest : List Interval}
     → r.last < s.first - 1
     → Merges sorted kept r (s ∷ rest) → Merges sorted (kept ++ r ∷ []) s rest
-starts_next = grind (arith, common_steps, AreSeparated-more)
+starts_next = grind (usual, AreSeparated-more)
 
 -- ---- from the grammar to `out_list`
 

@@ -6,11 +6,11 @@ use Rattle.ptlangs.specs
 use Rattle.std.proofs.lemmas
 use proofs.Common.{Bool, Bytes, CharClass, Contents, Err, HasPaired, IsErrAnd, List, Member, None, Ok, Option, Result}
 use proofs.Common.{Segment, SetElement, SetFaultKind, SetRole, Some, [], all_paired, ap, append-nil, arith, array}
-use proofs.Common.{bytes_left, common_steps, complement_of, cond, contents_of, count_by, drop, drop_all, drop_more, eqb}
-use proofs.Common.{false, first_array, first_members, image_by, is_fill, length, length-append, map, map-append}
-use proofs.Common.{marked_array, member_bytes, member_results, ne_eqb, not, plain_members, refl, replicate}
-use proofs.Common.{result_map_both, rules, segments_of, sequence, slice_get, string_segments, subst, suc, sym, take}
-use proofs.Common.{take_all, true, zero, ℕ, ◌++◌, ◌+◌, ◌-◌, ◌<◌, ◌||◌, ◌∙◌, ◌∷◌, ◌≡◌, ◌≢◌, ◌≤◌}
+use proofs.Common.{bytes_left, usual, complement_of, cond, contents_of, count_by, drop, drop_all, drop_more, eqb, false}
+use proofs.Common.{first_array, first_members, image_by, is_fill, length, length-append, map, map-append, marked_array}
+use proofs.Common.{member_bytes, member_results, ne_eqb, not, plain_members, refl, replicate, result_map_both, rules}
+use proofs.Common.{segments_of, sequence, slice_get, string_segments, subst, suc, sym, take, take_all, true, zero, ℕ}
+use proofs.Common.{◌++◌, ◌+◌, ◌-◌, ◌<◌, ◌||◌, ◌∙◌, ◌∷◌, ◌≡◌, ◌≢◌, ◌≤◌}
 use proofs.ListElements.{append_ok as onto}
 use specs.TrClasses.{all_bytes, class_bytes, span}
 use specs.TrParsing.{classes_match, marked_members, members_from}
@@ -25,7 +25,7 @@ use lemmas.List.Elements.{filter-append, filter_more}
 use lemmas.List.Folds.{list_any-append, list_any_at}
 use lemmas.List.FromFn.{get_or-map-range_with_len, get_or-range_with_len, length-map-range_with_len}
 use lemmas.List.FromFn.{length-range_with_len}
-use lemmas.List.{drop-map, drop-replicate, get_or-replicate, get_or_default, length-map, length-replicate, length-set}
+use lemmas.List.{get_or-replicate, get_or_default, length-replicate, length-set}
 use lemmas.List.{same_lists, take-append-drop, take-map}
 use lemmas.Map.Views.{any-filter_same}
 use lemmas.Option.{slice_get-get_or, slice_get_cases, slice_get_past, slice_get_within}
@@ -35,11 +35,11 @@ use Rattle.std.specs.Option.{option_and_then}
 use Rattle.std.specs.Prelude.{IfSome, filter, is_some, unwrap_or, ◌^◌}
 
 pub slice_get-left : {X : Type 0} (xs ys : List X) (i : ℕ) → i < length xs → slice_get (xs ++ ys) i ≡ slice_get xs i
-slice_get-left = grind (arith, common_steps, slice_get_cases)
+slice_get-left = grind (usual, slice_get_cases)
 
 pub slice_get-right : {X : Type 0} (xs ys : List X) (i j : ℕ) → i ≡ length xs + j
     → slice_get (xs ++ ys) i ≡ slice_get ys j
-slice_get-right = grind (arith, common_steps, slice_get_cases)
+slice_get-right = grind (usual, slice_get_cases)
 
 pub span_there : (first last index : ℕ) → index < length (span first last)
     → Some (first + index) ≡ slice_get (span first last) index
@@ -67,10 +67,10 @@ room bytes i (Some b) e h = omega (arith, slice_get_within bytes i b (sym e))
 -- ---- copies of one byte
 
 pub repeat_there : (n b i : ℕ) → i < n → Some b ≡ slice_get (replicate n b) i
-repeat_there = grind (arith, common_steps, slice_get_cases)
+repeat_there = grind (usual, slice_get_cases)
 
 pub repeat_past : (n b i : ℕ) → n ≤ i → None ≡ slice_get (replicate n b) i
-repeat_past = grind (arith, common_steps, slice_get_past)
+repeat_past = grind (usual, slice_get_past)
 
 pub ruleset member_steps = (length-replicate, length-span, class_bytes-short, repeat_there, repeat_past)
 
@@ -91,7 +91,7 @@ module _ {A : Type 0} {all rest : List (Result A SetFaultKind)} {P : List A → 
   pub items_more : {after : List (Result A SetFaultKind)} (Q : List A → Type 0) (more : List A)
       → rest ≡ map Ok more ++ after → (P r.done → Q (r.done ++ more))
       → ItemsRead all after Q
-  items_more = grind (arith, common_steps)
+  items_more = grind usual
 
   sequence-read : sequence all ≡ onto r.done (sequence rest)
   sequence-read = grind (arith, sequence-done)
@@ -198,7 +198,7 @@ offsets-members = grind (arith, offsets-plain)
 
 pub class_offsets-are : (n : ℕ) (ps : List Segment) (at : ℕ) → class_offsets n at ps ≡ offsets at (marked_array n ps)
 class_offsets-are n [] at = refl
-class_offsets-are n (x ∷ ps) at = grind (arith, common_steps, offsets-members, class_offsets-are n ps)
+class_offsets-are n (x ∷ ps) at = grind (usual, offsets-members, class_offsets-are n ps)
 
 none_before : (ms : List Member) (at k : ℕ) (class : CharClass) → k < at
     → has_other_case_at (offsets at ms) k class ≡ false
@@ -252,7 +252,7 @@ none_contained = same_table _ _ _ (length-replicate 256 false) (λ i h. get_or-r
 set-table : {X : Type 0} (f g : ℕ → X) (i : ℕ) (v : X) → g i ≡ v → ((k : ℕ) → k ≢ i → g k ≡ f k)
     → set (map f all_bytes) i v ≡ map g all_bytes
 set-table f g i v e others =
-    same_table _ g v (length-set _ i v ∙ length-table f) (grind (arith, common_steps, get_or-table))
+    same_table _ g v (length-set _ i v ∙ length-table f) (grind (usual, get_or-table))
 
 -- ---- appending a byte
 
@@ -326,7 +326,7 @@ complement-is old bytes has count e long flips counted =
     let table =
     same_table has _ false long (λ k low.
     flips k low ∙ ap not (get_or-has old bytes k false low e) ∙ sym (has_byte-complement bytes k low)) in
-    let all = counted ∙ ap (λ (q : Contents). count_by not q.has) e ∙ (grind (arith, common_steps, length-filter)) in
+    let all = counted ∙ ap (λ (q : Contents). count_by not q.has) e ∙ (grind (usual, length-filter)) in
     rw (table, all) refl
 
 pub is_kept : (first : Contents) (bytes : List ℕ) (b i : ℕ) (t : Bool) → i ≡ b → b < 256 → get_or first.has i false ≡ t
@@ -345,7 +345,7 @@ last_position-lt c [] = tt
 last_position-lt c (b ∷ bytes) = next_index-lt _ _ _ (last_position-lt c bytes)
 
 slice_get-take : (n : ℕ) (xs : List ℕ) (i : ℕ) → i < n → slice_get (take n xs) i ≡ slice_get xs i
-slice_get-take = grind (arith, common_steps, slice_get_cases)
+slice_get-take = grind (usual, slice_get_cases)
 
 last_or-some : (o : Option ℕ) (b : ℕ) (bytes : List ℕ)
     → last_or o (b ∷ bytes) ≡ Some (get_or (b ∷ bytes) (length bytes) 0)
@@ -461,7 +461,7 @@ module _ (before to : List Member) (old : Images) (from : Member) (h : HasPaired
       ≡ all_paired more (drop (suc (length before)) to))
       → HasPaired (before ++ from ∷ []) to
       (record { table = set old.table from.byte (unwrap_or last from.byte); second = second; last = last })
-  paired = grind (arith, common_steps, bytes, images-push, take-map)
+  paired = grind (usual, bytes, images-push, take-map)
 
   pub push-next : (second : Bytes) (t : Member) → bytes_left old.second ≡ Ok t ∷ bytes_left second
       → classes_match from.class t.class ≡ true

@@ -7,7 +7,7 @@ use Rattle.ptlangs.specs
 use Rattle.std.proofs.lemmas
 use proofs.Common.{Bool, CharClass, Err, Invalid, List, NoChar, None, Ok, Option, Plain, Result, Segment, SetChar}
 use proofs.Common.{SetElement, SetFaultKind, SetRole, Some, SpellsChar, SpellsChars, [], after_backslash, ap, arith}
-use proofs.Common.{byte_of, char_at, chars, chars_after, common_steps, cond, cond_both, digits_value, drop, drop_all}
+use proofs.Common.{byte_of, char_at, chars, chars_after, usual, cond, cond_both, digits_value, drop, drop_all}
 use proofs.Common.{drop_more, false, get_or, is_ascii_digit, is_fill, length, ltb-true, map, ne_eqb, octal, refl, rules}
 use proofs.Common.{segments, sequence, set_elements, slice_get, subst, suc, sym, take, true, value, zero, ℕ, ◌*◌, ◌++◌}
 use proofs.Common.{◌+◌, ◌-◌, ◌<◌, ◌||◌, ◌∙◌, ◌∷◌, ◌≡◌, ◌≢◌, ◌≤◌}
@@ -52,7 +52,7 @@ pub number_step : (base : ℕ) (ds : List ℕ) (i value digit : ℕ) → i < len
 number_step base ds i value digit h ten below v d = search (rules, digit_from_value, digits_value_more)
 
 pub length-octal_run : (bs : List ℕ) → length (octal_run bs) ≤ length bs
-length-octal_run bs = grind (arith, common_steps, length-prefix_len is_octal_digit (take 3 bs), length-take 3 bs)
+length-octal_run bs = grind (usual, length-prefix_len is_octal_digit (take 3 bs), length-take 3 bs)
 
 pub take-octal_run : (bs : List ℕ) → take (length (octal_run bs)) bs ≡ octal_run bs
 take-octal_run bs =
@@ -61,7 +61,7 @@ take-octal_run bs =
     ap (λ m. take m bs) (length-prefix_len is_octal_digit (take 3 bs)) ∙ sym (take-take n 3 bs short)
 
 pub octal_digits : (bs : List ℕ) → All (λ d. digit_value d < 8) (take (length (octal_run bs)) bs)
-octal_digits bs = rw (take-octal_run bs) (grind (arith, common_steps, length-take, get_or-take, prefix_len_passes))
+octal_digits bs = rw (take-octal_run bs) (grind (usual, length-take, get_or-take, prefix_len_passes))
 
 after_backslash-octal : (bs : List ℕ) (c : ℕ) → Some c ≡ slice_get bs 0 → is_octal_digit c ≡ true
     → after_backslash bs ≡ (octal (digits_value 8 (octal_run bs)), length (octal_run bs))
@@ -78,12 +78,12 @@ chars-cons b bs = grind arith
 
 pub chars_plain : (bs : List ℕ) (i b : ℕ) → i < length bs → get_or bs i 0 ≡ b → (b ≡ 92 → ⊥)
     → chars (drop i bs) ≡ Plain b ∷ chars (drop (i + 1) bs)
-chars_plain = grind (arith, common_steps)
+chars_plain = grind usual
 
 pub chars_escape : (bs : List ℕ) (i : ℕ) → get_or bs i 0 ≡ 92
     → chars (drop i bs) ≡ (after_backslash (drop (i + 1) bs)).0
     ∷ chars (drop (i + 1 + (after_backslash (drop (i + 1) bs)).1) bs)
-chars_escape = grind (arith, common_steps, chars-cons)
+chars_escape = grind (usual, chars-cons)
 
 pub char_from-plain : (bs : List ℕ) (i b : ℕ) → get_or bs i 0 ≡ b → (b ≡ 92 → ⊥) → char_from bs i ≡ Plain b
 unfolding char_from
@@ -199,7 +199,7 @@ run_range = grind (arith, prefix_len-from_run, plain_run-chars)
 
 pub run_rest : (test : ℕ → Bool) → test 92 ≡ false → (bs : List ℕ) (i count : ℕ) → IsRunLength test bs i count
     → chars (drop (i + count) bs) ≡ after_run test (chars (drop i bs))
-run_rest = grind (arith, common_steps, plain_run-chars, length-prefix_len, drop-prefix_len)
+run_rest = grind (usual, plain_run-chars, length-prefix_len, drop-prefix_len)
 
 list_all-plain_run : (test : ℕ → Bool) (us : List SetChar) → list_all test (plain_run test us) ≡ true
 list_all-plain_run test [] = refl
@@ -268,7 +268,7 @@ equivalence_starts us = grind (arith, by_unit)
     by_unit (Invalid k ∷ more) = tt
 
 bracketed_starts : (us : List SetChar) → StartsFound us (bracketed_at us)
-bracketed_starts us = grind (arith, common_steps, repeat_starts, class_starts, equivalence_starts)
+bracketed_starts us = grind (usual, repeat_starts, class_starts, equivalence_starts)
 
 -- ---- from the grammar to the computed elements
 
@@ -282,7 +282,7 @@ plain_run-map test (b ∷ bs) c rest t n = grind (arith, plain_run-map test bs c
 
 after_run-map : (test : ℕ → Bool) (bs : List ℕ) (c : ℕ) (rest : List SetChar) → list_all test bs ≡ true
     → test c ≡ false → after_run test (map Plain bs ++ Plain c ∷ rest) ≡ Plain c ∷ rest
-after_run-map = grind (arith, common_steps, plain_run-map)
+after_run-map = grind (usual, plain_run-map)
 
 bracketed_at-StartsBracketed : (us : List SetChar) (p : SetElement) (rest : List SetChar)
     → StartsBracketed us p rest → bracketed_at us ≡ Some (p, rest)
@@ -356,12 +356,12 @@ StartsBracketed-front : (us : List SetChar) (p : SetElement) (rest : List SetCha
     → IsProperSuffix us rest
 StartsBracketed-front us p rest (ARepeat u v digits more m t) = (
   Plain 91 ∷ u ∷ Plain 42 ∷ map Plain digits ++ Plain 93 ∷ [],
-  grind (arith, common_steps),
+  grind usual,
   omega arith,
 )
 StartsBracketed-front us p rest (AClass c name more t) = (
   Plain 91 ∷ Plain 58 ∷ map Plain (c ∷ name) ++ Plain 58 ∷ Plain 93 ∷ [],
-  grind (arith, common_steps),
+  grind usual,
   omega arith,
 )
 StartsBracketed-front us p rest (AnEquivalence u v more m) =
@@ -381,7 +381,7 @@ elements_after_is (u ∷ us) (suc skip) = elements_after_is us _
 drop_prefix : (u : SetChar) (us rest front : List SetChar) → u ∷ us ≡ front ++ rest → 0 < length front
     → drop (length us - length rest) us ≡ rest
 drop_prefix u us rest [] e h = absurd (omega arith)
-drop_prefix u us rest (f ∷ front) e h = grind (arith, common_steps)
+drop_prefix u us rest (f ∷ front) e h = grind usual
 
 set_elements-first : (us : List SetChar) (p : SetElement) (rest : List SetChar)
     → first_set_element us ≡ Ok (p, rest) → set_elements us ≡ Ok p ∷ set_elements rest

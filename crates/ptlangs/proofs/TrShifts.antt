@@ -2,9 +2,8 @@
 -- own stretch adds to it.
 use Rattle.ptlangs.proofs
 use Rattle.std.proofs.lemmas
-use proofs.Common.{Bool, List, Stretch, [], ap, arith, common_steps, cond_both, drop, get_or, length, prepend_shift}
-use proofs.Common.{refl, shift_at, shift_of, stretches_from, suc, sum_by, zero, ℕ, ◌%◌, ◌+◌, ◌-◌, ◌<◌, ◌∙◌, ◌∷◌, ◌≡◌}
-use proofs.Common.{◌≤◌}
+use proofs.Common.{Bool, List, Stretch, [], ap, arith, usual, cond_both, drop, get_or, length, prepend_shift, refl}
+use proofs.Common.{shift_at, shift_of, stretches_from, suc, sum_by, zero, ℕ, ◌+◌, ◌-◌, ◌<◌, ◌∙◌, ◌∷◌, ◌≡◌, ◌≤◌}
 use Rattle.std.proofs.Common.{reverse, ◌&&◌, ◌==◌, rules}
 use lemmas.List.Sorted.{IsPermutation-reverse, sum_by-IsPermutation}
 use lemmas.List.Sums.{sum_by-cons}
@@ -39,7 +38,7 @@ module _ (b by : ℕ) where
 
   alone : (last : ℕ) (more : List Stretch) → b ≤ last → AreFrom (b + 1) more
       → moved (record { first = b; last = last; by = by } ∷ more) b ≡ by
-  alone = grind (arith, common_steps, none_below)
+  alone = grind (usual, none_below)
 
   at_front : (ss : List Stretch) → AreFrom (b + 1) ss → moved (prepend_shift b by ss) b ≡ by
   at_front [] from = alone b [] (omega arith) tt
@@ -76,7 +75,7 @@ pub moved_one : (n : ℕ) (images : List ℕ) → 0 < n → n ≤ length images
     → (shift_of (n - 1) (get_or images (n - 1) 0) ≡ 0 → ⊥)
     → stretches_from (n - 1) (drop (n - 1) images)
     ≡ prepend_shift (n - 1) (shift_of (n - 1) (get_or images (n - 1) 0)) (stretches_from n (drop n images))
-moved_one = grind (arith, common_steps)
+moved_one = grind usual
 
 pub no_more_behind : (n : ℕ) (images : List ℕ)
     → length (stretches_from n (drop n images)) ≤ length (stretches_from 0 images)

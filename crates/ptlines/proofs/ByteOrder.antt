@@ -1,7 +1,7 @@
 -- Big-endian numbers of equally many bytes compare as the bytes do, since the first digit that differs decides.
 use Rattle.ptlines.proofs
 use proofs.Common.{◌≡◌, ℕ, zero, suc, ◌+◌, ◌*◌, ◌<◌, ◌≤◌, List, [], ◌∷◌, length, take, drop, min, refl, sym, ◌∙◌, ap}
-use proofs.Common.{arith, get_or, Fits, take-add, take-take, chunk-fits, length-chunk, Each1, common_steps}
+use proofs.Common.{arith, get_or, Fits, take-add, take-take, chunk-fits, length-chunk, Each1, usual}
 use Rattle.std.proofs.lemmas.Cmp.{nat_list_cmp_total, tied_itself}
 use Rattle.std.specs.Int.{w8, w32, w64, from_be_bytes}
 use Rattle.std.specs.Ordering.{nat_cmp, ordering_then}
@@ -34,7 +34,7 @@ digits_cmp p (x ∷ xs) (y ∷ ys) long (x_fits, xs_fit) (y_fits, ys_fit) =
 digits_cmp p _ _ long fx fy = absurd (omega arith)
 
 pub word_1 : (xs : List ℕ) → length xs ≡ 1 → get_or xs 0 0 ≡ number 0 xs
-word_1 = grind (arith, common_steps)
+word_1 = grind usual
 
 pub byte_at : (at : ℕ) (xs : List ℕ) → get_or xs at 0 ≡ get_or (take 1 (drop at xs)) 0 0
 byte_at zero [] = refl
@@ -43,10 +43,10 @@ byte_at _ [] = refl
 byte_at (suc at) (x ∷ xs) = byte_at at xs
 
 pub word_4 : (xs : List ℕ) → length xs ≡ 4 → from_be_bytes w32 xs ≡ number 0 xs
-word_4 = grind (arith, common_steps)
+word_4 = grind usual
 
 pub word_8 : (xs : List ℕ) → length xs ≡ 8 → from_be_bytes w64 xs ≡ number 0 xs
-word_8 = grind (arith, common_steps)
+word_8 = grind usual
 
 -- ---- byte order, chunk by chunk
 
@@ -81,7 +81,7 @@ module _ {n : ℕ} {read : List ℕ → ℕ} (is_number : (xs : List ℕ) → le
   words_differ other =
       first_decides (nat_cmp x y) (byte_cmp xs ys) (byte_cmp (drop n (drop at a)) (drop n (drop at b)))
       (sym words_cmp) (grind arith)
-      ∙ sym (grind (arith, common_steps, byte_cmp_split))
+      ∙ sym (grind (usual, byte_cmp_split))
       ∙ sym (byte_cmp_split at a b (omega arith) (omega arith)
       ∙ ap (λ o. ordering_then o (byte_cmp (drop at a) (drop at b)))
       (ap (byte_cmp (take at a)) (sym same) ∙ tied_itself nat_list_cmp_total (take at a)))

@@ -1,7 +1,6 @@
 -- Consuming moves the start of the block, so the bytes consumed and those left are the two parts of what was buffered.
 use Rattle.ptlines.proofs
-use proofs.Common.{◌≡◌, ℕ, ◌+◌, ◌-◌, ◌≤◌, List, length, drop, sym, arith, slice_range, drop-drop, drop-take}
-use proofs.Common.{common_steps}
+use proofs.Common.{◌≡◌, ℕ, ◌+◌, ◌-◌, ◌≤◌, List, length, drop, sym, arith, slice_range, drop-drop, drop-take, usual}
 
 pub range_drop : (b : List ℕ) (s e n : ℕ) → s + n ≤ e → slice_range b (s + n) e ≡ drop n (slice_range b s e)
 range_drop b s e n fits =
@@ -10,4 +9,4 @@ range_drop b s e n fits =
 
 pub rest_of_range : (b : List ℕ) (s e n : ℕ) (buffered : List ℕ) → s ≤ e → e ≤ length b → slice_range b s e ≡ buffered
     → n ≤ length buffered → slice_range b (s + n) e ≡ drop n buffered
-rest_of_range b s e n _ order fits is within = grind (arith, common_steps, range_drop)
+rest_of_range b s e n _ order fits is within = grind (usual, range_drop)

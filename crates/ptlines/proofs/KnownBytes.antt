@@ -1,18 +1,18 @@
 -- Appending twice is appending the concatenation, also to bytes that may be unknown.
 use Rattle.ptlines.proofs
 use proofs.Common.{◌≡◌, ℕ, Bool, List, [], ◌++◌, Option, append_known, prepend_known, unflushed_after, arith, rules}
-use proofs.Common.{common_steps}
+use proofs.Common.{usual}
 
 pub append_known-append : (known : Option (List ℕ)) (xs ys : List ℕ)
     → append_known (append_known known xs) ys ≡ append_known known (xs ++ ys)
-append_known-append = grind (arith, common_steps)
+append_known-append = grind usual
 
 pub append_known-nil : (known : Option (List ℕ)) → append_known known [] ≡ known
 append_known-nil = search rules
 
 pub prepend_known-append : (xs ys : List ℕ) (known : Option (List ℕ))
     → prepend_known xs (prepend_known ys known) ≡ prepend_known (xs ++ ys) known
-prepend_known-append = grind (arith, common_steps)
+prepend_known-append = grind usual
 
 pub unflushed_after-append : (unflushed : Bool) (xs ys : List ℕ)
     → unflushed_after (unflushed_after unflushed xs) ys ≡ unflushed_after unflushed (xs ++ ys)

@@ -1,8 +1,7 @@
 -- All output that was pushed while no write had failed, except for at most one block of 8,192 bytes, is in the sink.
 use Rattle.ptlines.proofs
 use proofs.Common.{◌≡◌, ℕ, ◌+◌, ◌≤◌, false, List, ◌++◌, Option, None, Some, length, max, sym, ◌∙◌, ap, arith}
-use proofs.Common.{length-append, append_known, Received, IsPrefix, Output, IsKnownPrefix, PushEffect, rules}
-use proofs.Common.{common_steps}
+use proofs.Common.{length-append, append_known, Received, IsPrefix, Output, IsKnownPrefix, PushEffect, rules, usual}
 use Rattle.ptlines.specs.Lag.{ProcessLag, BufferLag, BoundedLag}
 use proofs.Push.{known_prefix_refl}
 
@@ -24,7 +23,7 @@ buffer_lag_bytes None mid is buffered waits bytes first second all few = (
 )
 buffer_lag_bytes (Some t) mid is buffered waits bytes first second all few = (
   first.front ++ second.front,
-  grind (arith, common_steps),
+  grind usual,
   omega (
     arith,
     ap known_length (sym (ap (λ m. append_known m waits) first.is) ∙ all),
@@ -59,7 +58,7 @@ module _ {I : Type 0} (decided : (I → Received) → List ℕ) (came : I → Re
       record {
         processing = record {
           before = processing.before;
-          begins = grind (arith, common_steps);
+          begins = grind usual;
         };
         buffering = search (rules, buffer_lag);
       }

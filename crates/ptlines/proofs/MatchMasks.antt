@@ -1,12 +1,13 @@
 -- The trailing zeros of a match mask count the bytes before the first match; a mask of zero means that there is none.
 use Rattle.ptlines.proofs
+use Rattle.std.proofs.lemmas
 use proofs.Common.{◌≡◌, ℕ, ◌+◌, ◌*◌, ◌^◌, ◌%◌, ◌<◌, ◌≤◌, Bool, not, List, [], ◌∷◌, ◌++◌, rules, Option, Some, length}
 use proofs.Common.{map, refl, sym, ◌∙◌, ap, subst, arith, bit_or, take-add, drop-drop, length-map, none_from_empty_mask}
 use proofs.Common.{trailing_mask_l, run_in_chunk_fails, run_in_chunk_stops, length-chunk, mask_l-lt, prefix_len, mask_l}
 use proofs.Common.{chunk, Nowhere, Passes, IsFirst}
 use Rattle.std.proofs.Math.Nat.{pow-succ'}
-use Rattle.std.proofs.lemmas.Grind.{or_before_shift}
-use Rattle.std.proofs.lemmas.List.{map-append}
+use lemmas.Grind.{or_before_shift}
+use lemmas.List.{map-append}
 use lib.Count.{count_trailing_zeros}
 
 prefix_len_lt : (test : ℕ → Bool) (xs : List ℕ) → 0 < mask_l (map test xs)

@@ -2,8 +2,7 @@
 use Rattle.ptlines.proofs
 use Rattle.ptlines.specs
 use proofs.Common.{◌≡◌, ℕ, true, false, List, [], ◌++◌, Option, arith, Result, Ok, OnOk, OnErr, append_known, Output}
-use proofs.Common.{with_written_out, with_direct_write, IsKnownPrefix, PushEffect, PushPost, OutputErr, rules}
-use proofs.Common.{common_steps}
+use proofs.Common.{with_written_out, with_direct_write, IsKnownPrefix, PushEffect, PushPost, OutputErr, rules, usual}
 use specs.declared.out.WriteFault.{WriteFault}
 use specs.Outputs.{output_bytes}
 use proofs.KnownBytes.{append_known-append, append_known-nil}
@@ -31,14 +30,14 @@ pub push_broken : (old new : Output) (written_out bytes more : List ℕ) → old
     → old.buffered ++ bytes ≡ written_out ++ more → OutputErr old new written_out → PushEffect old new bytes
 push_broken old new written_out bytes more clean is broken =
     let all : append_known (output_bytes old) bytes ≡ append_known (output_bytes new) (broken.rest ++ more) =
-    grind (arith, common_steps, broken.split, broken.front, broken.rest) in
+    grind (usual, broken.split, broken.front, broken.rest) in
     grind arith
 
 pub push_large : (old new : Output) (bytes : List ℕ) (r : Result (Unit {0}) WriteFault) → old.write_failed ≡ false
     → old.buffered ≡ [] → OnOk r (new ≡ with_direct_write old bytes) → OnErr r (OutputErr old new bytes)
     → PushEffect old new bytes
 push_large old new bytes (Ok u) clean empty ok err = search rules
-push_large old new _ _ clean empty ok err = grind (arith, common_steps)
+push_large old new _ _ clean empty ok err = grind usual
 
 pub push_post_trans : {E : Type 0} (a b c : Output) (xs ys : List ℕ) (r : Result (Unit {0}) E) → b.write_failed ≡ false
     → PushEffect a b xs → PushPost b c ys r → PushPost a c (xs ++ ys) r

@@ -4,7 +4,7 @@ use Rattle.ptlines.proofs
 use proofs.Common.{◌≡◌, ℕ, ◌+◌, ◌-◌, ◌^◌, ◌<◌, ◌≤◌, None, Some, take, Bool, List, [], ◌∷◌, ◌++◌, length, sym, ◌∙◌, ap}
 use proofs.Common.{subst, arith, length-append, set-set, Slots, line, with_line, not, ◌==◌, Ok, IsLine, Reader}
 use proofs.Common.{ReaderAdvance, AdvanceOk, IsDone, PiecePartial, PieceLine, FillLine, FillPost, IsAppended, IsFirst}
-use proofs.Common.{IsFirstByte, Passes, is_byte, slice_range, rules, common_steps}
+use proofs.Common.{IsFirstByte, Passes, is_byte, slice_range, rules, usual}
 use proofs.KnownBytes.{prepend_known-append}
 use proofs.SlotTotals.{total_bytes_set}
 use proofs.LineSearch.{IsLine-append, line_before_terminator, advance_ok_take}
@@ -56,7 +56,7 @@ fill_line old now new _ _ _ _ within short begun last =
     all =
         subst (λ b. AdvanceOk old new b)
         (ap (λ end. begun.piece ++ (last.piece ++ end ∷ [])) same
-        ∙ sym (grind (arith, common_steps)))
+        ∙ sym (grind usual))
         (search (rules, advance_ok_trans))
 
 pub fill_eof : (old now new : Reader) (before so_far after : Slots) (slot : ℕ) (empty : Bool)
@@ -77,11 +77,11 @@ module _ (n : ℕ) (old new : Reader) (block front : List ℕ) (start end size :
   first_in_block : start + size < end → end - start ≤ length old.buffered → take (end - start) front ≡ old.buffered
       → IsFirst (Passes (is_byte old.terminator) front) 0 n (Some size)
       → IsFirstByte (is_byte old.terminator) old.buffered (Some size)
-  first_in_block = grind (arith, common_steps)
+  first_in_block = grind usual
 
   pub fill_short_line : old.fault ≡ None → old.pulled < 2 ^ 63 → start + size < end → end ≤ length block
       → slice_range block start end ≡ old.buffered → take (end - start) front ≡ old.buffered
       → IsFirst (Passes (is_byte old.terminator) front) 0 n (Some size)
       → new ≡ record old { buffered = slice_range block (start + size + 1) end }
       → after ≡ with_line before slot (take size front) → FillLine old new before after slot
-  fill_short_line = grind (arith, common_steps, first_in_block, rest_of_range, advance_ok_take, line_before_terminator)
+  fill_short_line = grind (usual, first_in_block, rest_of_range, advance_ok_take, line_before_terminator)

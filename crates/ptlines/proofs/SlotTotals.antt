@@ -4,7 +4,7 @@ use Rattle.ptlines.proofs
 use Rattle.std.proofs.lemmas
 use proofs.Common.{◌≡◌, ◌≢◌, ℕ, zero, suc, ◌+◌, ◌*◌, ◌^◌, ◌<◌, ◌≤◌, List, [], ◌∷◌, ◌++◌, length, take, drop, get_or}
 use proofs.Common.{sym, ◌∙◌, ap, arith, set, Bool, subst, refl, max, set-get_or, set-set, swap, length-map, Slots}
-use proofs.Common.{LengthsAreBounded, line, total_bytes, with_line, rules, common_steps}
+use proofs.Common.{LengthsAreBounded, line, total_bytes, with_line, rules, usual}
 use Rattle.ptlines.specs.Slots.{SlotBuffer, slot_lines, AreBuffersBounded, AreCounted}
 use lemmas.List.{map-set, get_or-map}
 use lemmas.List.Elements.{All-set}
@@ -13,7 +13,7 @@ use lemmas.List.Sorted.{sum_by-IsPermutation, IsPermutation-swap}
 
 pub total_bytes_set : (lines : List (List ℕ)) (slot : ℕ) (bytes : List ℕ) → slot < length lines
     → total_bytes (set lines slot bytes) + length (get_or lines slot []) ≡ total_bytes lines + length bytes
-total_bytes_set = grind (arith, common_steps)
+total_bytes_set = grind usual
 
 pub total_fits : (lines : List (List ℕ)) (more : ℕ) → LengthsAreBounded lines → length lines < 2 ^ 63 → more < 2 ^ 64
     → total_bytes lines + more < 2 ^ 128
@@ -36,7 +36,7 @@ module _ {X : Type 0} where
       → set (take cut xs) at w ++ drop cut xs ≡ set xs at w
   set_before_split xs at zero w near = grind arith
   set_before_split [] at (suc cut) w near = refl
-  set_before_split (x ∷ xs) zero (suc cut) w near = grind (arith, common_steps)
+  set_before_split (x ∷ xs) zero (suc cut) w near = grind usual
   set_before_split (x ∷ xs) (suc at) (suc cut) w near = cc (set_before_split xs at cut w (omega arith))
 
   All-swap : (P : X → Type 0) (xs : List X) (a b : ℕ) → a < length xs → b < length xs
@@ -63,8 +63,8 @@ pub counted_after_swap : (slots : List SlotBuffer) (a b : ℕ) {byte_count peak 
     → AreCounted byte_count peak slots → AreCounted byte_count peak (swap slots a b)
 counted_after_swap slots a b {byte_count} {peak} a_in b_in counted =
     let lines = slot_lines slots in
-    let a_low : a < length lines = grind (arith, common_steps) in
-    let b_low : b < length lines = grind (arith, common_steps) in
+    let a_low : a < length lines = grind usual in
+    let b_low : b < length lines = grind usual in
     let is = slot_lines-swap slots a b a_in b_in in
     record {
       total = grind (arith, total_bytes_swap);
@@ -80,7 +80,7 @@ module _ (slots after : List SlotBuffer) (slot : ℕ) (had new : SlotBuffer) (d 
   low = grind (arith, length-map)
 
   line_was : had.line ≡ get_or (slot_lines slots) slot []
-  line_was = grind (arith, common_steps)
+  line_was = grind usual
 
   lines_are : slot_lines after ≡ set (slot_lines slots) slot new.line
   lines_are = grind (arith, map-set)
@@ -92,7 +92,7 @@ module _ (slots after : List SlotBuffer) (slot : ℕ) (had new : SlotBuffer) (d 
   -- the new line is a part of the new total, so a buffer that grows to twice its length stays below the bound
   buffers_after_set : new.buffer_size ≤ max had.buffer_size (2 * length new.line + 64) → (peak : ℕ)
       → total_bytes (slot_lines after) ≤ peak → AreBuffersBounded peak slots → AreBuffersBounded peak after
-  buffers_after_set = grind (arith, common_steps, lines_are, total_bytes_set)
+  buffers_after_set = grind (usual, lines_are, total_bytes_set)
 
 -- A slot that was `had` is set to another one: the old line was part of the total.
 module _ (slots : List SlotBuffer) (slot : ℕ) {byte_count before : ℕ} (had : SlotBuffer) (within : slot < length slots)
@@ -116,7 +116,7 @@ module _ (slots : List SlotBuffer) (slot : ℕ) {byte_count before : ℕ} (had :
       omega (
         arith,
         ap total_bytes (lines_are slots after slot had new had within refl was),
-        total_bytes_set (slot_lines slots) slot new.line (grind (arith, common_steps)),
+        total_bytes_set (slot_lines slots) slot new.line (grind usual),
         ap length (line_was slots after slot had new had within refl was),
       ) in
       record {
@@ -129,7 +129,7 @@ module _ (slots : List SlotBuffer) (slot : ℕ) {byte_count before : ℕ} (had :
 
 pub same_slot : (slots : List SlotBuffer) (slot : ℕ) {a b : SlotBuffer} → slot < length slots → a ≡ get_or slots slot a
     → b ≡ get_or slots slot b → a ≡ b
-same_slot = grind (arith, common_steps)
+same_slot = grind usual
 
 -- the model of a store
 abbrev pub store_of : List SlotBuffer → ℕ → Bool → Slots
@@ -138,10 +138,10 @@ store_of slots peak denied = record { lines = slot_lines slots; peak = peak; den
 module _ (slots : List SlotBuffer) {peak : ℕ} {denied : Bool} {now : Slots} (slot : ℕ)
     (is : store_of slots peak denied ≡ now) where
   pub slot_in_range : slot < length now.lines → slot < length slots
-  slot_in_range = grind (arith, common_steps)
+  slot_in_range = grind usual
 
   pub line_before : {had : SlotBuffer} → slot < length slots → had ≡ get_or slots slot had → had.line ≡ line now slot
-  line_before = grind (arith, common_steps)
+  line_before = grind usual
 
   pub store_after_set : (new : SlotBuffer) {bytes : List ℕ} {byte_count peak_now : ℕ} → new.line ≡ bytes
       → byte_count ≡ total_bytes (slot_lines (set slots slot new)) → peak_now ≡ max peak byte_count
@@ -155,14 +155,14 @@ module _ (slots front back : List SlotBuffer) (from to : ℕ) (d e new : SlotBuf
   back_set = grind (arith, set_after_split)
 
   back_slot : get_or back 0 d ≡ get_or slots to d
-  back_slot = grind (arith, common_steps)
+  back_slot = grind usual
 
   pub append_to_back : more ≡ (get_or front from e).line → new.line ≡ (get_or back 0 d).line ++ more
       → slot_lines (front ++ set back 0 new)
       ≡ set (slot_lines slots) to (get_or (slot_lines slots) to [] ++ get_or (slot_lines slots) from [])
   append_to_back = λ more_is new_is.
       lines_are slots (front ++ set back 0 new) to (get_or back 0 d) new d within back_set back_slot
-      ∙ ap (set (slot_lines slots) to) (grind (arith, common_steps))
+      ∙ ap (set (slot_lines slots) to) (grind usual)
 
   pub bounded_back : length new.line ≤ 2 ^ 63 → LengthsAreBounded (slot_lines slots)
       → LengthsAreBounded (slot_lines (front ++ set back 0 new))
@@ -180,14 +180,14 @@ module _ (slots front back : List SlotBuffer) (from to : ℕ) (d e new : SlotBuf
   front_set = grind (arith, set_before_split)
 
   target_slot : get_or front to d ≡ get_or slots to d
-  target_slot = grind (arith, common_steps)
+  target_slot = grind usual
 
   pub append_to_front : more ≡ (get_or back 0 e).line → new.line ≡ (get_or front to d).line ++ more
       → slot_lines (set front to new ++ back)
       ≡ set (slot_lines slots) to (get_or (slot_lines slots) to [] ++ get_or (slot_lines slots) from [])
   append_to_front = λ more_is new_is.
       lines_are slots (set front to new ++ back) to (get_or front to d) new d (grind arith) front_set target_slot
-      ∙ ap (set (slot_lines slots) to) (grind (arith, common_steps))
+      ∙ ap (set (slot_lines slots) to) (grind usual)
 
   pub bounded_front : length new.line ≤ 2 ^ 63 → LengthsAreBounded (slot_lines slots)
       → LengthsAreBounded (slot_lines (set front to new ++ back))

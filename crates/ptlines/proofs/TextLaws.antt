@@ -3,8 +3,7 @@
 use Rattle.ptlines.proofs
 use proofs.Common.{◌≡◌, ◌≢◌, ◌⊎◌, inl, inr, ℕ, ◌==◌, ◌<◌, Bool, true, false, cond, List, [], ◌∷◌, ◌++◌, length, drop}
 use proofs.Common.{get_or, refl, sym, ◌∙◌, ap, arith, onto_first, eq-eqb, eqb-false, append-nil, unlines, lines}
-use proofs.Common.{complete_lines, IsLine, AreLines, EndsWithByte, LinesAreUnique, CompleteLinesAreLines, rules}
-use proofs.Common.{common_steps}
+use proofs.Common.{complete_lines, IsLine, AreLines, EndsWithByte, LinesAreUnique, CompleteLinesAreLines, rules, usual}
 
 pub byte_eq : (end : ℕ) → (end == end) ≡ true
 byte_eq end = eq-eqb end end refl
@@ -23,7 +22,7 @@ lines_of_last end (b ∷ []) (differs, free) some = rw (byte_ne end b differs) r
 lines_of_last end (b ∷ c ∷ line) (differs, free) some = grind (arith, lines_of_last end (c ∷ line) free (omega arith))
 
 pub unlines-append : (end : ℕ) (xs ys : List (List ℕ)) → unlines end (xs ++ ys) ≡ unlines end xs ++ unlines end ys
-unlines-append = grind (arith, common_steps)
+unlines-append = grind usual
 
 pub unlines_push : (end : ℕ) (xs : List (List ℕ)) (line : List ℕ)
     → unlines end (xs ++ line ∷ []) ≡ unlines end xs ++ (line ++ end ∷ [])
@@ -31,13 +30,13 @@ unlines_push = search (rules, unlines-append)
 
 pub AreLines_push : (end : ℕ) (ls : List (List ℕ)) (line : List ℕ) → AreLines end ls → IsLine end line
     → AreLines end (ls ++ line ∷ [])
-AreLines_push = grind (arith, common_steps)
+AreLines_push = grind usual
 
 pub lines_of_unlines : (end : ℕ) (ls : List (List ℕ)) (bytes : List ℕ) → AreLines end ls
     → lines end (unlines end ls ++ bytes) ≡ ls ++ lines end bytes
 lines_of_unlines end [] bytes w = refl
 lines_of_unlines end (line ∷ ls) bytes (first, others) =
-    grind (arith, common_steps, lines_cons, lines_of_unlines end ls bytes others)
+    grind (usual, lines_cons, lines_of_unlines end ls bytes others)
 
 pub lines-unlines : (end : ℕ) (ls : List (List ℕ)) → AreLines end ls → lines end (unlines end ls) ≡ ls
 lines-unlines end ls w = ap (lines end) (sym (append-nil (unlines end ls))) ∙ lines_of_unlines end ls [] w
@@ -56,7 +55,7 @@ pub complete_lines_of_unlines : (end : ℕ) (ls : List (List ℕ)) (piece : List
     → complete_lines end (unlines end ls ++ piece) ≡ ls
 complete_lines_of_unlines end [] piece w p = complete_lines_none end _ p
 complete_lines_of_unlines end (line ∷ ls) piece (first, others) p =
-    grind (arith, common_steps, complete_lines_cons, complete_lines_of_unlines end ls piece others p)
+    grind (usual, complete_lines_cons, complete_lines_of_unlines end ls piece others p)
 
 lines_extra_terminator : (end : ℕ) (bytes : List ℕ) → bytes ≢ [] → ¬ EndsWithByte end bytes
     → lines end (bytes ++ end ∷ []) ≡ lines end bytes
@@ -110,7 +109,7 @@ complete_lines_up_to_last : (end : ℕ) (front rest : List ℕ) → IsLine end r
 complete_lines_up_to_last end front rest free =
     let all = front ++ end ∷ [] in
     let whole : unlines end (lines end all) ≡ all = grind (arith, unlines-lines) in
-    ap (complete_lines end) (grind (arith, common_steps))
+    ap (complete_lines end) (grind usual)
     ∙ complete_lines_of_unlines end _ _ (lines_are end all) free
 
 pub the_complete_lines : CompleteLinesAreLines

@@ -1,7 +1,7 @@
 -- Proofs for `comm`. A line adds one output line if one input has it alone, and one common output line if both have it:
 -- each step of the merge extends the output by the entries of its key, so the loop invariant of the merge carries over.
 use Rattle.ptmerge.proofs
-use proofs.Common.{◌≡◌, ℕ, List, [], ◌∷◌, ◌++◌, refl, sym, arith, Comm, Output, PushEffect, Reader, Slots, line}
+use proofs.Common.{◌≡◌, ℕ, List, [], ◌∷◌, ◌++◌, refl, sym, arith, Comm, Output, PushEffect, Reader, Slots, line, rules}
 use proofs.Common.{unlines, Side, First, Second, Sorted, Lines, MergeTool, entries_by_key, AdvanceOkPost, AdvancePre}
 use proofs.Common.{MergeState, Cmp, Key, both, with_side, HaveEqualKeys, HasOnlyLeastKey, suc, append-nil, Bool, ◌∙◌}
 use proofs.MergeLemmas.{BetweenSteps, between_next, advance_pre, EndsIfFails, LoopInvariant, advance_ok, goes_merging}
@@ -9,7 +9,6 @@ use proofs.MergeLemmas.{passing_now, runs_on, read_facts_current, iteration_fail
 use proofs.MergeLemmas.{place_is, wrote_and_sent, IsKeyOrder, same_bytes, Written, MergeInvariant, line_is_least_run}
 use proofs.MergeLemmas.{lag_invariant_starts, write_least_run, all_keys, at_current_line, state_by_side, IsOpenMerge}
 use proofs.MergeLemmas.{IsLineByLine}
-use Rattle.std.proofs.Common.{rules}
 use Rattle.ptmerge.specs.Comm.{comm_with, entries, column_entries, tab_if_shown}
 
 -- ---- each line adds one entry
@@ -52,7 +51,7 @@ pub record IterationInvariant (job : Comm) (cmp : Cmp) (key : Side → Key) (old
   pub loop_invariant : LoopInvariant w now (both one two)
   pub between : BetweenSteps key now one two
 
--- a merge keeps its order
+-- a call keeps the order of keys, so the invariant is that for the order before it
 pub kept_order : {O : Type 0} (cmp : O → Cmp) (key : O → Side → Key) {a b c : O} → a ≡ b → b ≡ c → {job : Comm}
     {old now : MergeState} {one two : Sorted} → IterationInvariant job (cmp b) (key b) old now one two
     → record { iteration : IterationInvariant job (cmp a) (key a) old now one two; order : a ≡ c }

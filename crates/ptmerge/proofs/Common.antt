@@ -3,10 +3,11 @@ use Rattle.ptmerge.specs
 use Rattle.std.proofs.lemmas
 pub use Rattle.std.proofs.Common.{Bool, Err, IsErrAnd, List, None, Ok, Option, Result, Some, [], ap, append_assoc}
 pub use Rattle.std.proofs.Common.{arith, cond, drop, eqb, false, get_or, inl, inr, length, ◌++◌, ◌+◌, length-append}
-pub use Rattle.std.proofs.Common.{length-drop, map, max, not, option_copied, refl, set, subst, suc, sym, true, zero, ℕ}
+pub use Rattle.std.proofs.Common.{length-drop, map, max, not, option_copied, refl, rules, set, subst, suc, sym, true, zero, ℕ}
 pub use Rattle.std.proofs.Common.{⊎_elim, ◌&&◌, ◌*◌, ◌-◌, ◌<◌, ◌==◌, ◌^◌, ◌∙◌, ◌∷◌, ◌≡◌, ◌≢◌, ◌≤◌, ◌⊎◌}
 pub use lemmas.Bool.Decides.{nat_tests}
 pub use lemmas.Cmp.{tied_itself}
+use lemmas.Grind.{common_steps}
 pub use lemmas.List.{append-nil, drop_more, length-set, length_push, nil_from_length}
 pub use lemmas.List.Concat.{flat_map-append}
 pub use Rattle.std.specs.Cmp.Lexicographic.{bytes_decides}
@@ -44,3 +45,6 @@ pub use specs.declared.merging.cursor.CursorStatus.{CursorStatus}
 pub use specs.declared.merging.cursor.CursorStatus.TheVariants.{Disorder, Ended, Head}
 pub use specs.declared.key_order.Side.{Side}
 pub use specs.declared.key_order.Side.TheVariants.{First, Second}
+
+-- what most searches take
+pub ruleset usual = (arith, common_steps)

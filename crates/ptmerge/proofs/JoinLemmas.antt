@@ -104,7 +104,7 @@ pub record IterationInvariant (job : Join) (cmp : Cmp) (key : Side → Key) (old
   pub between : BetweenSteps key now one two
   pub open between use *
 
--- a merge keeps its order
+-- a call keeps the order of keys, so the invariant is that for the order before it
 pub kept_order : {O : Type 0} (cmp : O → Cmp) (key : O → Side → Key) {a b c : O} → a ≡ b → b ≡ c → {job : Join}
     {old now : MergeState} {phase : JoinPhase} {one two : Sorted} {end : ℕ}
     → IterationInvariant job (cmp b) (key b) old phase now one two end

@@ -6,7 +6,7 @@ use Rattle.ptmerge.specs
 use proofs.Common.{AdvancePre, IsReadyToContinue, PrecedesInput, MergeRunPre, WriteFaultPost, budget, CopyToGroupPost}
 use proofs.Common.{Ok, IsErrAnd, HasOnlyLeastKey}
 use specs.declared.faults.MergeFault.TheVariants as faults
-use specs.Cursor.{NextErrPost, initial_cursor, base_slot}
+use specs.Cursor.{NextErrPost, NextLinePost, HasDistinctSlots, initial_cursor, base_slot}
 use specs.MergeSteps.{StartErrPost, StartFirstPost, MergeInputs, IsReaderOf, IsReportable, AreValidCursors, StartOkPost}
 use specs.MergeSteps.{merge_inputs, previous_key, IsDisorderDecided}
 use Rattle.ptlines.specs.Calls.{AllPushed}
@@ -279,8 +279,10 @@ module _ {tool : MergeTool} {old : MergeState} {w : IsOpenMerge tool old} {now :
 
 -- ---- after one input advanced
 
-pub err_is : {r : Result (Unit {0}) MergeFault} {fault : MergeFault} → IsErrAnd r (λ y. y ≡ fault) → r ≡ Err fault
-err_is = search rules
+pub fails_by : {tool : MergeTool} {old now : MergeState} {r : Result (Unit {0}) MergeFault} {fault : MergeFault}
+    → IsErrAnd r (λ y. y ≡ fault) → MergePost tool old now (Err fault) → MergePost tool old now r
+fails_by {r = Ok u} is post = elim is [ ]
+fails_by {r = Err given} is post = rw is post
 
 -- the remaining work
 abbrev pub reads_ahead : (Side → Reader) → Sorted → Sorted → ℕ
@@ -323,6 +325,37 @@ pub later_status : (key : Key) (cmp : Cmp) (number : ℕ) (last next : List ℕ)
     × (is_eq r ≡ same_key_at key cmp number last next)
 later_status = grind arith
 
+-- The slots were swapped before the line was read, so the keys that are compared are those of both lines.
+pub line_moves : {key : Key} {cmp : Cmp} {old new : Sorted} {was is : Reader} {before after : Slots}
+    {last head key1 key2 : List ℕ} {r : Ordering} → HasDistinctSlots old before → 0 < old.number
+    → new.current_slot ≡ old.previous_slot → new.previous_slot ≡ old.current_slot → new.number ≡ old.number + 1
+    → FillLine was is before after new.current_slot → IsSound is → last ≡ line after new.previous_slot
+    → key1 ≡ key last → head ≡ line after new.current_slot → key2 ≡ key head → r ≡ cmp key1 key2
+    → new.status ≡ cond (is_gt r) (Disorder (old.number + 1)) Head → new.same ≡ is_eq r
+    → NextLinePost key cmp old new was is before after
+line_moves {key} {cmp} {old} {new} {before = before} {after} slots some at stays count fill sound a b c d is status
+    same =
+    let e = rw at at fill in
+    let last_is : line after new.previous_slot ≡ line before old.current_slot = rw (stays, e.stored)
+    (line_other before _ _ e.line (λ is. slots.apart (sym is))) in
+    let head_is : line after new.current_slot ≡ e.line = rw (at, e.stored)
+    (line_of_with_line before _ e.line slots.previous_slot) in
+    let step = later_status key cmp old.number (line before old.current_slot) e.line _ some (cc) in
+    let status_is = status ∙ step.0 in
+    let same_is = same ∙ step.1 in
+    record {
+      next_line = e;
+      cursor = λ i. record {
+        current_slot = at i;
+        previous_slot = stays i;
+        number = count i;
+        status = status_is i;
+        same = same_is i;
+        key = new.key;
+      };
+      sound = sound;
+    }
+
 pub valid_cursors_kept : (key : Side → Key) (one two : Sorted) (before after : Slots)
     → AreValidCursors key one two before → length before.lines ≤ length after.lines
     → ((slot : ℕ) → slot < 4 → line after slot ≡ line before slot) → AreValidCursors key one two after
@@ -331,6 +364,19 @@ valid_cursors_kept = grind arith
 pub kept_line : (before after : Slots) (from to slot : ℕ) → slot < to → CopyToGroupPost before after from to
     → line after slot ≡ line before slot
 kept_line = grind (arith, line_added, line_other)
+
+-- copying a line to the group changes only slots from 4 on, so the cursors stay valid
+pub copied_continues : {key : Side → Key} {s : Side} {one two one2 two2 : Sorted} {reader : Reader}
+    {before after : Slots} {out : Output} {from to : ℕ} → 4 ≤ to → CopyToGroupPost before after from to
+    → IsReadyToContinue key s one two one2 two2 reader before out
+    → IsReadyToContinue key s one two one2 two2 reader after out
+copied_continues low copied c = record {
+  clean = c.clean;
+  others = c.others;
+  valid_cursors = valid_cursors_kept _ _ _ _ _ c.valid_cursors (search rules)
+      (λ slot small. kept_line _ _ _ _ _ (omega arith) copied);
+  own_reader = c.own_reader;
+}
 
 -- ---- the start
 

@@ -6,10 +6,10 @@ use Rattle.ptmerge.proofs
 use Rattle.ptmerge.specs
 use Rattle.std.proofs.lemmas
 use proofs.Common.{arith, ◌≡◌, ℕ, ◌+◌, List, [], ◌∷◌, ◌++◌, Bool, true, false, Option, Some, None, refl, ap, sym, ◌∙◌}
-use proofs.Common.{filter, Less, Side, First, Second, Lines, MergeTool, FirstDisorder, entries_by_key, disorder}
+use proofs.Common.{filter, Less, Side, First, Second, Lines, MergeTool, FirstDisorder, entries_by_key, disorder, usual}
 use proofs.Common.{first_disorder, keys, merged_entries, sorted_prefixes, sorted_prefix, is_up_to, lines_of, Cmp, Key}
 use proofs.Common.{unlines, unlines-append, ◌&&◌, not, map, tied_itself, flat_map, is_lt, distinct_keys, entries_of_key}
-use proofs.Common.{IsLine, zero, suc, ◌<◌, ◌==◌, nat_lt, append_assoc, nat_tests, range_with_len, lines}
+use proofs.Common.{IsLine, zero, suc, ◌<◌, ◌==◌, nat_lt, append_assoc, nat_tests, range_with_len, lines, rules}
 use proofs.MergeLemmas.Exits.Invariant.{IsDisorderFrom, after_from, disorder_after, first_disorder_is, IsSortedFrom}
 use proofs.MergeLemmas.Exits.Invariant.{sorted_from_start, sorted_from_none, is_disordered, sorted_after}
 use proofs.MergeLemmas.Exits.Invariant.{sorted_prefix_is, IsDownwardClosed, all_keys, all_wanted, by_keys_kept}
@@ -20,8 +20,6 @@ use lemmas.List.Sorted.{IsPermutation-refl, IsPermutation-trans, IsPermutation-a
 use lemmas.List.Sorted.{IsPermutation-append_comm}
 use Rattle.std.specs.List.Sorted.{IsPermutation}
 use Rattle.ptlines.proofs.TextLaws.{lines-unlines, lines_are}
-use Rattle.std.proofs.Common.{rules}
-use lemmas.Grind.{common_steps}
 use Rattle.ptlines.proofs.PartLaws.{the_lines_of_parts}
 use specs.Parts.{CommByKey, IsSplittableByKey, IsConcatOfParts, JoinByKey, CommOfParts, JoinOfParts, text_of_part}
 use specs.Parts.{output_lines}
@@ -218,7 +216,7 @@ lines_of_each end f ks (e ∷ es) = search (rules, the_lines_of_parts, lines_of_
 lines_dealt : (end : ℕ) (q : List ℕ → Bool) (bytes : List ℕ)
     → lines end (unlines end (filter q (lines end bytes))) ≡ filter q (lines end bytes)
 lines_dealt end q bytes = lines-unlines end _
-    (recursion_from_All _ _ (All-filter q (IsLine end) _ (grind (arith, common_steps, lines_are))))
+    (recursion_from_All _ _ (All-filter q (IsLine end) _ (grind (usual, lines_are))))
 
 pub split_by_key : (tool : MergeTool) → IsKeyOrder tool.cmp → IsSplittableByKey tool
 split_by_key tool o inputs part_of parts in_order below = simp (whole, of_part)

@@ -1,8 +1,8 @@
 -- The loop over the words: the options so far and the parse of the remaining words are the parse of all words.
 use Rattle.ptopts.proofs
-use proofs.Common.{Bool, Bor, Fault, List, None, OnSome, Option, ParsedOption, Token, Tool, [], arith, common_steps}
-use proofs.Common.{false, is_end_of_options, is_option_arg, length, options, parse_fault, parsed_args, slice_get}
-use proofs.Common.{tokens_of, true, words_view, ℕ, ◌++◌, ◌<◌, ◌∷◌, ◌≡◌}
+use proofs.Common.{Bool, Bor, Fault, List, None, OnSome, Option, ParsedOption, Token, Tool, [], arith, usual, false}
+use proofs.Common.{is_end_of_options, is_option_arg, length, options, parse_fault, parsed_args, slice_get, tokens_of}
+use proofs.Common.{true, words_view, ℕ, ◌++◌, ◌<◌, ◌∷◌, ◌≡◌}
 use Rattle.ptopts.specs.ParseSteps.{words_after_value}
 
 pub record ArgsRead (tool : Tool) (words : List (List ℕ)) (os : List ParsedOption) (left : List (List ℕ)) : Type 0 where
@@ -22,4 +22,4 @@ module _ (tool : Tool) (words : List (List ℕ)) where
 
 pub left_smaller : (taken : Bool) (words left : List (Bor (List ℕ))) (word : Bor (List ℕ)) (more : List (Bor (List ℕ)))
     → words ≡ word ∷ more → words_view left ≡ words_after_value taken (words_view more) → length left < length words
-left_smaller _ _ _ _ _ split rest_is = grind (arith, common_steps)
+left_smaller _ _ _ _ _ split rest_is = grind usual

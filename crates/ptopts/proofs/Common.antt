@@ -34,3 +34,6 @@ pub use Rattle.std.specs.Option.{option_or}
 pub use Rattle.std.specs.Prelude.{IsSome, IsTrue, OnSome, filter_map, find, if◌then◌else◌, is_ok, is_some, nat_le}
 pub use Rattle.std.specs.Prelude.{nat_lt, option_and_then, slice_get, slice_index_or, ⊤}
 pub use Rattle.std.specs.Result.{result_err}
+
+-- what most searches take
+pub ruleset usual = (arith, common_steps)

@@ -2,9 +2,8 @@
 use Rattle.ptopts.proofs
 use proofs.Common.{Comm, Cut, Input, Job, Join, List, None, ParsedOption, Paste, RunComm, RunJoin, RunPaste, RunUniq}
 use proofs.Common.{Tool, Tr, Uniq, false, input_operands, is_flag, job, length, list_all, nat_le, nat_lt, not}
-use proofs.Common.{operands_fault, order_from, refl, syntax, takes_value, true, ℕ, ⊤, ◌≡◌}
+use proofs.Common.{operands_fault, order_from, refl, syntax, takes_value, true, ℕ, ⊤, ◌≡◌, arith}
 use proofs.InputCounts.{AreTwo, few_inputs, sole_input, two_inputs}
-use Rattle.std.proofs.Common.{arith}
 
 pub record IsSyntaxOf (tool : Tool) : Type 0 where
   pub disjoint : list_all (λ l. not (is_flag tool l)) (syntax tool).value_letters ≡ true

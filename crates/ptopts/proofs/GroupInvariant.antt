@@ -1,10 +1,10 @@
 -- The loop over the letters of one word: the options so far and the tokens of the remaining letters are those of the
 -- word.
 use Rattle.ptopts.proofs
-use proofs.Common.{Fault, GroupPost, List, None, OnSome, Option, ParsedOption, Token, Tool, Valid, [], add-one}
-use proofs.Common.{arith, common_steps, drop, drop-cons, false, flag, is_flag, length, nat_eq}
-use proofs.Common.{option_view, options_of_tokens, options_view, parse_fault, slice_index, takes_next}
-use proofs.Common.{token_fault, tokens_in, tokens_of, true, value_token, ℕ, ◌++◌, ◌+◌, ◌<◌, ◌∷◌, ◌≡◌}
+use proofs.Common.{Fault, GroupPost, List, None, OnSome, Option, ParsedOption, Token, Tool, Valid, [], add-one, arith}
+use proofs.Common.{usual, drop, drop-cons, false, flag, is_flag, length, nat_eq, option_view, options_of_tokens}
+use proofs.Common.{options_view, parse_fault, slice_index, takes_next, token_fault, tokens_in, tokens_of, true}
+use proofs.Common.{value_token, ℕ, ◌++◌, ◌+◌, ◌<◌, ◌∷◌, ◌≡◌}
 use Rattle.ptopts.specs.declared.parsing.ParsedOption as given
 
 pub record GroupRead (tool : Tool) (word : List ℕ) (next : Option (List ℕ)) (before os : List ParsedOption)
@@ -26,7 +26,7 @@ module _ (tool : Tool) (word : List ℕ) (next : Option (List ℕ)) (before : Li
       → is_flag tool (slice_index word index) ≡ true → option_view o ≡ flag (slice_index word index)
       → new ≡ items ++ o ∷ [] → GroupRead tool word next before (options_view items) (drop index word)
       → GroupRead tool word next before (options_view new) (drop (index + 1) word)
-  flag_read _ new _ o within is seen pushed a = grind (arith, common_steps)
+  flag_read _ new _ o within is seen pushed a = grind usual
 
   pub value_read : (items new : List given.ParsedOption) (index : ℕ) (o : given.ParsedOption) → index < length word
       → is_flag tool (slice_index word index) ≡ false
@@ -35,7 +35,7 @@ module _ (tool : Tool) (word : List ℕ) (next : Option (List ℕ)) (before : Li
       (value_token tool word (slice_index word index) (drop (index + 1) word) next) ≡ None
       → new ≡ items ++ o ∷ [] → GroupRead tool word next before (options_view items) (drop index word)
       → GroupPost tool word next before (options_view new) (nat_eq (index + 1) (length word))
-  value_read _ new _ o within none given fine pushed a = grind (arith, common_steps, letter_first)
+  value_read _ new _ o within none given fine pushed a = grind (usual, letter_first)
 
   pub fault_read : (items : List given.ParsedOption) (index : ℕ) (found : Option Fault) → index < length word
       → is_flag tool (slice_index word index) ≡ false

@@ -2,8 +2,7 @@
 use Rattle.ptopts.proofs
 use proofs.Common.{Input, List, None, Operands, ParsedOption, Paste, Some, StandardTwice, [], arith, cond}
 use proofs.Common.{is_standard, is_within, length, list_all, nat_le, operands_fault, or_stdin, order_from, refl, take}
-use proofs.Common.{true, ℕ, ◌&&◌, ◌+◌, ◌∙◌, ◌∷◌, ◌≡◌}
-use Rattle.std.specs.Prelude.{not}
+use proofs.Common.{true, ℕ, ◌&&◌, ◌+◌, ◌∙◌, ◌∷◌, ◌≡◌, not}
 
 order_length : (n : ℕ) (operands : List (List ℕ)) → length (order_from n operands) ≡ length operands
 order_length n [] = refl

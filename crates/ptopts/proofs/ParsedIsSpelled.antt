@@ -7,10 +7,9 @@ use proofs.Common.{ParseMatchesGrammar, ParsedOption, Spells, Token, Tool, Valid
 use proofs.Common.{and_from, ap, append_assoc, arith, cases_Bool, codes, false, filter_map, flag, is_empty}
 use proofs.Common.{is_end_of_options, is_flag, is_option_arg, is_some, list_all, map, not_from_false, option_of_token}
 use proofs.Common.{options, parse_fault, parsed_args_from, refl, rules, slice_get, subst, sym, takes_next, takes_value}
-use proofs.Common.{tokens_in, true, value_token, ℕ, ⊎_elim, ◌&&◌, ◌++◌, ◌==◌, ◌∷◌, ◌≡◌}
+use proofs.Common.{tokens_in, true, value_token, ℕ, ⊎_elim, ◌&&◌, ◌++◌, ◌==◌, ◌∷◌, ◌≡◌, usual}
 use proofs.SpelledIsParsed.{spelled, takes_next-all_flags, takes_next-flags, tokens_in-all_flags, tokens_in-flags}
 use lemmas.Slice.Eq.{bytes_eq-Decides}
-use lemmas.Grind.{common_steps}
 
 abbrev all_given : List Token → Bool
 all_given tokens = list_all (λ e. is_some (option_of_token e)) tokens
@@ -108,7 +107,7 @@ word_spelled : (tool : Tool) (word : List ℕ) (ws : List (List ℕ)) → is_end
 word_spelled tool [] ws ends more = operand_spelled tool [] ws refl refl
 word_spelled tool (b ∷ []) ws ends more = operand_spelled tool (b ∷ []) ws ends ends
 word_spelled tool (b ∷ l ∷ ls) ws ends more =
-    ⊎_elim (λ dash. (grind (arith, common_steps, group_spelled tool ws refl (split tool (l ∷ ls)) more)))
+    ⊎_elim (λ dash. (grind (usual, group_spelled tool ws refl (split tool (l ∷ ls)) more)))
     (λ none. operand_spelled tool (b ∷ l ∷ ls) ws ends (rw none refl)) (cases_Bool (b == 45))
 
 built : (tool : Tool) (ws : List (List ℕ)) (taken : Bool) → IsSpelled tool ws taken

@@ -2,10 +2,10 @@
 -- the parse applies.
 use Rattle.ptopts.proofs
 use proofs.Common.{AreFlags, Bool, EndOfOptions, Flags, IsTrue, List, OperandsAlone, Option, ParsedArgs, ParsedOption}
-use proofs.Common.{Spells, Token, Tool, Valid, ValueAttached, ValueNext, [], and_parts, ap, append-nil, arith}
-use proofs.Common.{common_steps, eqb-true, false, flag, has_letter, is_flag, list_all, map, ne_eqb, not-true}
-use proofs.Common.{or_cases, parsed_args_from, prepend_tokens, refl, slice_get, starts_with_operand, sym, syntax}
-use proofs.Common.{takes_next, takes_value, tokens_in, true, with_value, ℕ, ⊎_elim, ◌++◌, ◌==◌, ◌∙◌, ◌∷◌, ◌≡◌}
+use proofs.Common.{Spells, Token, Tool, Valid, ValueAttached, ValueNext, [], and_parts, ap, append-nil, arith, usual}
+use proofs.Common.{eqb-true, false, flag, has_letter, is_flag, list_all, map, ne_eqb, not-true, or_cases}
+use proofs.Common.{parsed_args_from, prepend_tokens, refl, slice_get, starts_with_operand, sym, syntax, takes_next}
+use proofs.Common.{takes_value, tokens_in, true, with_value, ℕ, ⊎_elim, ◌++◌, ◌==◌, ◌∙◌, ◌∷◌, ◌≡◌}
 use proofs.EachTool.{syntax_is}
 
 pub all_of : (p : ℕ → Bool) (cs : List ℕ) (l : ℕ) → list_all p cs ≡ true → has_letter l cs ≡ true → p l ≡ true
@@ -56,7 +56,7 @@ valued_group _ _ l _ ws a t = grind (arith, syntax_is)
 
 pub map-Valid-append : (xs ys : List ParsedOption) → map Valid (xs ++ ys) ≡ map Valid xs ++ map Valid ys
 map-Valid-append [] ys = refl
-map-Valid-append _ ys = grind (arith, common_steps)
+map-Valid-append _ ys = grind usual
 
 abbrev pub args_of : List ParsedOption → List (List ℕ) → ParsedArgs
 args_of options operands = record { tokens = map Valid options; operands = operands }
@@ -75,7 +75,7 @@ valued : (tool : Tool) (fs : List ℕ) (l : ℕ) (rest : List ℕ) (ws : List (L
     → takes_next tool (l ∷ rest) ≡ t → parsed_args_from tool t ws ≡ args_of options operands
     → parsed_args_from tool false ((45 ∷ fs ++ l ∷ rest) ∷ ws) ≡ args_of (map flag fs ++ o ∷ options) operands
 valued _ fs l _ ws o t _ _ a v token next parsed =
-    grind (arith, common_steps, tokens_in-flags, slice_get, takes_next-flags, valued_group)
+    grind (usual, tokens_in-flags, slice_get, takes_next-flags, valued_group)
 
 pub spelled : (tool : Tool) {ws : List (List ℕ)} {options : List ParsedOption} {operands : List (List ℕ)}
     → Spells tool ws options operands → parsed_args_from tool false ws ≡ args_of options operands

@@ -99,7 +99,6 @@ impl<'a, A: Allocator> Command<'a, A> {
 
 impl<'a, A: Allocator + Copy> ParsedArgs<'a, A> {
     /// Makes the command of a tool. Its values are checked first, then its operands, then the strings of `tr`.
-    #[tactic(auto, using(crate::proofs::CheckedCommand::checked_command_ok))]
     fn read_command(&self, alloc: A, tool: Tool) -> Result<Command<'a, A>, UseFault<'a>>
         requires { constraints_fault tool (options_of self.now) ≡ None }
         ensures { CommandPost result (checked_command tool (options_of self.now) (operands_of self.now)) }

@@ -57,3 +57,6 @@ pub use Rattle.std.specs.Io.KnownBytes.{IsAtEnd, append_known, prepend_known}
 pub use Rattle.std.specs.List.{list_any}
 pub use Rattle.std.specs.Prelude.{All, encode_utf8, flat_map, is_none, not, option_map, slice_get}
 pub use borrow.Author.Rules.{scaled_Fits}
+
+-- what most searches take
+pub ruleset usual = (arith, common_steps)

@@ -7,7 +7,7 @@ use proofs.Common.{AllPushed, AllWritten, AreInputsConsistent, AreReadToEnd, Boo
 use proofs.Common.{Disorder, Err, First, FlowFault, HasIndexBelow, HasReadFailed, HaveReceived, InputBytes, IsDone}
 use proofs.Common.{IsTooLong, JointTool, List, Memory, MergeTool, None, Ok, Option, Output, PassPost, Paste, Read}
 use proofs.Common.{Reader, Received, ReceivedInputs, Result, RunInputsEnd, RunInputsPost, Second, SinkState, Slots}
-use proofs.Common.{Some, ToolSpec, Write, [], ap, arith, bytes_of, call_state, cases_eq, common_steps, cond, drop}
+use proofs.Common.{Some, ToolSpec, Write, [], ap, arith, bytes_of, call_state, cases_eq, usual, cond, drop}
 use proofs.Common.{ended_operands, eqb-true, eqb_tells, false, false≢true, get_or, get_or_default, has_unopened, inl}
 use proofs.Common.{inr, is_in, is_reader_unopened, is_unopened, joint_spec, length, length-set, list_any}
 use proofs.Common.{list_any-append, no_reader, one_input_tool, only_input, operand, option_map, pass_end, pass_engine}
@@ -94,7 +94,7 @@ module _ {I : Type 0} {names : InputNames I} (engine : EngineSpec I) (position :
     wrote = call.wrote;
     ends = ends end call.ends;
     is_prefix = grind arith;
-    decided_is_written = grind (arith, common_steps, given_is);
+    decided_is_written = grind (usual, given_is);
     bounded_lag = each by _ (λ i read fine.
         subst (λ (g : Received). BoundedLag {I = Unit {0}} (λ came. engine.decided
         (λ j. with_input (inputs_at positions) (position i) (came tt) given (position j)))
@@ -167,7 +167,7 @@ rows_completion (Err fault) = Err fault
 module _ (job : Paste) {positions : List ℕ} {old : List Reader} {was : Output} {before : Slots}
     (ready : JointPre (paste_rows_tool job) positions old was before) where
   pub cells_ready : PastePre positions old before
-  cells_ready = grind (arith, common_steps, cell_in)
+  cells_ready = grind (usual, cell_in)
 
   completes : (r : Result (Unit {0}) FlowFault) → rows_completion r ≡ result_of_end (end_at (λ p. p) (paste_end r))
   completes (Ok u) = refl
@@ -271,7 +271,7 @@ module _ (t : MergeTool) {positions : List ℕ} {old : List Reader} {was : Outpu
       new = set (set old (at_side First) x) (at_side Second) y
 
       others : (q : ℕ) → is_in positions q ≡ false → reader_at new q ≡ reader_at old q
-      others q other = grind (arith, common_steps, side_named)
+      others q other = grind (usual, side_named)
 
       pub merge_post : {is : Output} {store : Slots} {result : Result (Unit {0}) MergeFault}
           {completion : Result Completion FlowFault}
@@ -285,7 +285,7 @@ module _ (t : MergeTool) {positions : List ℕ} {old : List Reader} {was : Outpu
             (λ few. (First, refl, (new_at First).eof))
             (rw (
               by_side (reader_at old) _ _ (were no_reader),
-              by_side (reader_at new) x y (grind (arith, common_steps, two_within, two_apart)),
+              by_side (reader_at new) x y (grind (usual, two_within, two_apart)),
             ) at post.call);
         same = λ f g same. search (rules, same, side_named);
       }

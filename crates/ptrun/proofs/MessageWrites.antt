@@ -1,7 +1,7 @@
 -- Texts written to a sink one after another: together they are one text, of which a failure leaves a prefix.
 use Rattle.ptrun.proofs
-use proofs.Common.{Bool, Bor, HasSaid, List, SayPost, SinkState, WriteOutOk, [], ap, append-nil, append_assoc}
-use proofs.Common.{append_known, arith, common_steps, drop, false, false≢true, flat_map, flat_map-append, get_or}
+use proofs.Common.{Bool, Bor, HasSaid, List, SayPost, SinkState, WriteOutOk, [], ap, append-nil, append_assoc, usual}
+use proofs.Common.{append_known, arith, drop, false, false≢true, flat_map, flat_map-append, get_or}
 use proofs.Common.{get_or-map, length, length-append, length-map, line_of, refl, rules, sym, take, take-append-drop}
 use proofs.Common.{take_more, texts, true, ℕ, ◌++◌, ◌+◌, ◌<◌, ◌∙◌, ◌∷◌, ◌≡◌, ◌≤◌}
 use Rattle.ptlines.proofs.KnownBytes.{append_known-append, append_known-nil, unflushed_after-append}
@@ -12,7 +12,7 @@ pub say_post_part : {old mid new : SinkState} {text piece : List ℕ} (done more
 say_post_part {old} {piece = piece} done more split took p = record {
   front = done ++ p.front;
   rest = p.rest ++ more;
-  split = grind (arith, common_steps);
+  split = grind usual;
   accepted = search (rules, append_known-append);
   unflushed = search rules;
   flushes = p.flushes ∙ ap (λ s. s.flushes) took;
@@ -75,7 +75,7 @@ joined_more parts i within = grind (
 
 pub joined_all : (parts : List (Bor (List ℕ))) (i : ℕ) → length parts ≤ i
     → joined parts i ≡ flat_map (λ p. p) (texts parts)
-joined_all parts i all = grind (arith, common_steps)
+joined_all parts i all = grind usual
 
 pub line_split : (parts : List (Bor (List ℕ))) (i : ℕ) → i < length parts
     → (more : List ℕ) × (line_of (texts parts) ≡ (joined parts i ++ part_at parts i) ++ more)

@@ -4,11 +4,11 @@
 use Rattle.ptrun.proofs
 use Rattle.ptrun.specs
 use proofs.Common.{All, AllWritten, Any-from_list_any, AreInputsConsistent, Bool, BoundedLag, BoundedLagAs, BufferLag}
-use proofs.Common.{CommandSpec, Completion, DecidesAll, HasBoundedLag, HasReceived, HasSaid, HaveReceived, Input}
+use proofs.Common.{CommandSpec, Completion, DecidesAll, HasBoundedLag, HasReceived, HasSaid, HaveReceived, Input, usual}
 use proofs.Common.{InputBytes, IsConsistent, IsDone, IsKnownPrefix, IsPrefix, IsPushedUpToBlock, IsWrittenUpToBlock}
 use proofs.Common.{LagOfAny, LagOfLast, LaggedInput, List, None, Option, Output, PushEffect, Reader, Received}
 use proofs.Common.{ReceivedInputs, SinkState, Some, ToolSpec, Unopened, [], ap, append-nil, append_assoc, append_known}
-use proofs.Common.{arith, common_steps, cond, decided_in_order, drop, empty_input, false, file_names}
+use proofs.Common.{arith, cond, decided_in_order, drop, empty_input, false, file_names}
 use proofs.Common.{filter_map-append, flat_map, flat_map-append, get_or, get_or-map, is_in, is_unopened, length}
 use proofs.Common.{length-append, length-drop, length-map, list_any, map, max, name_of, no_reader, option_map}
 use proofs.Common.{order_from, position, positions, reader_at, refl, rules, set, slice_get, suc, sym, take}
@@ -87,10 +87,10 @@ said_more word names is_unopened_at done p k says = search (rules, flat_map-appe
 
 module _ (test : ℕ → Bool) (done : List ℕ) (p : ℕ) where
   pub any_now : test p ≡ true → list_any test (done ++ p ∷ []) ≡ true
-  any_now is = grind (arith, common_steps)
+  any_now is = grind usual
 
   pub any_before : test p ≡ false → list_any test (done ++ p ∷ []) ≡ list_any test done
-  any_before is = grind (arith, common_steps)
+  any_before is = grind usual
 
 pub is_in-same : (done : List ℕ) (p : ℕ) → is_in (done ++ p ∷ []) p ≡ true
 is_in-same done p = any_now (λ q. q == p) done p (same_here p)
@@ -129,7 +129,7 @@ module _ (t : ToolSpec) (law : DecidesAll t) where
     one : (g : Received) → g.eof ≡ true
         → flat_map t.decided (up_to_unended (g ∷ opened_values came ++ later))
         ≡ (t.text g.bytes ++ flat_map t.text (opened_values texts)) ++ rest
-    one g is = grind (arith, common_steps)
+    one g is = grind usual
 
     decided_input : (o : Option Received) → IsEndedAt o → (seen : Bool)
         → flat_map t.decided (up_to_unended
@@ -157,7 +157,7 @@ module _ (t : ToolSpec) (law : DecidesAll t) where
 pub fresh_all : (readers : List Reader)
     → ((k : ℕ) (d : Reader) → k < length readers → IsNewOrUnopened (get_or readers k d)) → (q : ℕ)
     → IsNewOrUnopened (reader_at readers q)
-fresh_all readers h q = grind (arith, common_steps)
+fresh_all readers h q = grind usual
 
 pub position_in_range : (order : List Input) (n : ℕ) → All (λ p. p < n) (positions order)
     → All (λ o. position o < n) order
@@ -187,7 +187,7 @@ operand_step {p} {n} order i d in_range within is = record {
     next = grind (arith, take_more, get_or-map position order i d 0, length-map)
 
 pub positions_end : (order : List Input) (i : ℕ) → length order ≤ i → take i (positions order) ≡ positions order
-positions_end order i all = grind (arith, common_steps)
+positions_end order i all = grind usual
 
 -- ---- the operands of arguments
 
@@ -250,7 +250,7 @@ consistent_bytes (Some h) (Some b) g is a = grind arith
 
 pub consistent_before : (g e : Received) (b : List ℕ) → (g.eof ≡ true → (e.bytes ≡ []) × (e.eof ≡ true))
     → IsConsistent (record { bytes = g.bytes ++ e.bytes; eof = e.eof }) b → IsConsistent g b
-consistent_before g e b still a = grind (arith, common_steps)
+consistent_before g e b still a = grind usual
 
 -- ---- before the first operand, and after the last
 
@@ -279,7 +279,7 @@ abbrev same_before : (g : Received) → LaggedInput g
 same_before g = record { earlier = g; last = []; split = sym (append-nil g.bytes); short = omega arith; eof = λ e. e }
 
 last_same : (xs ys : List Received) (x y : Received) → xs ++ x ∷ [] ≡ ys ++ y ∷ [] → (xs ≡ ys) × (x ≡ y)
-last_same xs ys x y is = grind (arith, common_steps)
+last_same xs ys x y is = grind usual
 
 pub all_earlier : (t : ToolSpec) (came : List Received) (P : List ℕ → Type 0) → P (decided_in_order t came)
     → LagOfLast t came P
@@ -349,7 +349,7 @@ sends_after was mid is pushed bytes wrote clean s = by_known was.accepted refl
     by_known None none = record {
       written_out = was.buffered ++ (pushed ++ bytes);
       accepted = rw (s.accepted, wrote.kept.is, none) refl;
-      most = grind (arith, common_steps);
+      most = grind usual;
     }
     by_known (Some known) is_known = record {
       written_out = wrote.kept.front ++ s.written_out;
@@ -373,7 +373,7 @@ module _ (bytes : List ℕ) (was is is' : Output) (pushed front rest : List ℕ)
   few = by_known was.accepted refl
     where
       by_known : (known : Option (List ℕ)) → was.accepted ≡ known → length (drop (length front) bytes) ≤ 8192
-      by_known None none = grind (arith, common_steps, length-drop (length front) bytes, ap length split, ap length k.begins.is, length-append front rest, ap)
+      by_known None none = grind (usual, length-drop (length front) bytes, ap length split, ap length k.begins.is, length-append front rest, ap)
       by_known (Some known) is_known =
           let all = rw (accepted, k.buffering.accepted, is_known) at (ap known_length kept.is) in
           grind (arith, ap, length-drop, length-append)
@@ -381,4 +381,4 @@ module _ (bytes : List ℕ) (was is is' : Output) (pushed front rest : List ℕ)
   pub kept_up : (failed : Bool) → (failed ≡ false → rest ≡ []) → IsWrittenUpToBlock bytes front failed
   kept_up failed whole =
       let (more, is) = take_front (length front) bytes k.begins.rest in
-      grind (arith, common_steps, few)
+      grind (usual, few)

@@ -7,8 +7,8 @@ use proofs.Common.{All, All-map, AreInputsConsistent, AreReadToEnd, Bool, Comman
 use proofs.Common.{EndRunPost, Err, FinishPost, FlowFault, HasCause, HasSaid, Input, InputBytes, InputsPre, IsPrefix}
 use proofs.Common.{IsRun, IsTooLong, Job, List, Memory, None, Ok, Option, Output, PushEffect, Read, Reader, Received}
 use proofs.Common.{ReceivedInputs, Result, RunComm, RunCut, RunInputsEnd, RunInputsPost, RunJoin, RunPaste, RunTr}
-use proofs.Common.{RunUniq, SinkState, Slots, Some, Write, [], ap, append-nil, append_known, arith, cases_Bool}
-use proofs.Common.{command_of_args, command_spec, common_steps, cond, ended_operands, false, false≢true, fault_view}
+use proofs.Common.{RunUniq, SinkState, Slots, Some, Write, [], ap, append-nil, append_known, arith, cases_Bool, usual}
+use proofs.Common.{command_of_args, command_spec, cond, ended_operands, false, false≢true, fault_view}
 use proofs.Common.{is_memory_fault, is_reader_unopened, is_unopened, length, length-append, map, message_only, messages}
 use proofs.Common.{position, positions, push_trans, reader_at, refl, result_message, rules, sinks, spec_of_args}
 use proofs.Common.{spec_of_parsed, spec_of_tool, sym, tool_name, tool_of_job, true, usage_message, usage_status}
@@ -62,7 +62,7 @@ reached_of was new pushed empty w = by_known was.accepted refl
       where
         split : pushed ≡ w.kept.front ++ (new.buffered ++ w.beginning.front)
         split = append_cancel_left t pushed (w.kept.front ++ (new.buffered ++ w.beginning.front))
-            (grind (arith, common_steps))
+            (grind usual)
 
 -- ---- the bytes of the readers are consistent with the bytes received
 
@@ -194,7 +194,7 @@ module _ {m : CommandSpec} {old new : List Reader} {was is : Output}
   reached = search (rules, reached_of, wrote)
 
   begins : (w : InputBytes) → AreInputsConsistent k.received w → IsPrefix reached.front (m.out w)
-  begins w agrees = grind (arith, common_steps, reached)
+  begins w agrees = grind (usual, reached)
 
   abbrev last_message : List ℕ
   last_message = result_message m.tool m.names final_result
@@ -250,8 +250,8 @@ record AcceptsOperands (m : CommandSpec) : Type 0 where
 accepts_operands : (job : Job) (word : List ℕ) (names : List (List ℕ)) (order : List Input) → AreInputsOf job order
     → AcceptsOperands (spec_of_tool word (tool_of_job job) names (positions order))
 accepts_operands (RunCut u) word names order any = grind arith
-accepts_operands (RunPaste u) word names order few = grind (arith, common_steps)
-accepts_operands (RunUniq u) word names order one = grind (arith, common_steps)
+accepts_operands (RunPaste u) word names order few = grind usual
+accepts_operands (RunUniq u) word names order one = grind usual
 accepts_operands (RunComm u) word names order two = grind arith
 accepts_operands (RunJoin u) word names order two = grind arith
 accepts_operands (RunTr u) word names order any = grind arith

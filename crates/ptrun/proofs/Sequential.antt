@@ -4,11 +4,11 @@
 use Rattle.ptrun.proofs
 use Rattle.ptrun.specs
 use proofs.Common.{All, AllPushed, AllWritten, AreInputsConsistent, BoundedLag, CallOutcome, CallState, Completion}
-use proofs.Common.{DecidesAll, Err, FlowFault, HasCause, HasIndexBelow, HasReadCause, HasReadFailed, HasReceived}
+use proofs.Common.{DecidesAll, Err, FlowFault, HasCause, HasIndexBelow, HasReadCause, HasReadFailed, HasReceived, usual}
 use proofs.Common.{HasSaid, HaveReceived, InputBytes, IsConsistent, IsDone, IsPrefix, IsPushedUpToBlock, IsSound}
 use proofs.Common.{IsTooLong, List, Memory, None, Ok, OperandPost, Output, PassPost, PushEffect, Read, Reader, Received}
 use proofs.Common.{ReceivedInputs, Result, RunInputsPost, SinkState, Slots, Some, ToolSpec, Unopened, Write, [], ap}
-use proofs.Common.{append-nil, append_assoc, arith, call_state, cases_Bool, cases_lt, common_steps, cond}
+use proofs.Common.{append-nil, append_assoc, arith, call_state, cases_Bool, cases_lt, cond}
 use proofs.Common.{decided_in_order, empty_input, false, false≢true, flat_map, flat_map-append, get_or, is_in}
 use proofs.Common.{is_reader_unopened, length, length-append, length-map, length-set, list_any, map, map-append, max}
 use proofs.Common.{name_of, only_input, pass_end, pass_engine, push_nothing, push_trans, reader_at, refl, rules}
@@ -158,7 +158,7 @@ module _ {word : List ℕ} {t : ToolSpec} {names : List (List ℕ)} {old : List 
 
     module _ {p : ℕ} (within : p < length old) (d : Reader) where
       here : get_or now p d ≡ reader_at now p
-      here = grind (arith, common_steps)
+      here = grind usual
 
       pub operand_ready : (get_or now p d).refused ≡ false → OperandPre (p ∷ []) now store
       operand_ready opened = grind (arith, here)
@@ -184,7 +184,7 @@ module _ {word : List ℕ} {t : ToolSpec} {names : List (List ℕ)} {old : List 
         not_denied = k.not_denied;
         empty = k.empty;
         bounds = grind (arith, nothing);
-        room = grind (arith, common_steps);
+        room = grind usual;
       }
         where
           old_unopened : (reader_at old p).refused ≡ true
@@ -250,13 +250,13 @@ module _ {word : List ℕ} {t : ToolSpec} {names : List (List ℕ)} {old : List 
       read_other q differs = search rules
 
       receives_here : HasReceived (reader_at old p) new (given_now y.given)
-      receives_here = grind (arith, common_steps, y.received, came_here, buffered)
+      receives_here = grind (usual, y.received, came_here, buffered)
 
       received' : HaveReceived old now' inputs_read'
       received' = grind (arith, reader_here, read_here, receives_here, reader_other, read_other)
 
       still : y.given.eof ≡ true → (given_here.bytes ≡ []) × (given_here.eof ≡ true)
-      still eof = grind (arith, common_steps, buffered)
+      still eof = grind (usual, buffered)
 
       -- its input was read to its end before and gives nothing now, or it was not read before
       turn : ((is_in done p ≡ true) × (given_here ≡ empty_input) × IsAtEof (reader_at now p))
@@ -348,7 +348,7 @@ module _ {word : List ℕ} {t : ToolSpec} {names : List (List ℕ)} {old : List 
           store'.denied (length done) (fault_at p fault)
       cause_of more (Read position) r = (
         nth_here done more p,
-        grind (arith, common_steps, unseen),
+        grind (usual, unseen),
         grind (arith, old_open, unseen, reader_here, read_here, fresh_all, receives_here, buffered),
         r.clean,
         r.not_denied,
@@ -390,7 +390,7 @@ module _ {word : List ℕ} {t : ToolSpec} {names : List (List ℕ)} {old : List 
 
         begins_after : (bytes : List ℕ) {all : List ℕ} → all ≡ k.pushed ++ bytes → IsPrefix bytes e.call.pushed
             → IsPrefix all (k.pushed ++ e.call.pushed)
-        begins_after bytes is b = grind (arith, common_steps)
+        begins_after bytes is b = grind usual
 
         decided_here : decided_in_order t (opened_inputs empty_input inputs_read' done ++ earlier ∷ [])
             ≡ k.pushed ++ t.decided earlier
@@ -420,7 +420,7 @@ module _ {word : List ℕ} {t : ToolSpec} {names : List (List ℕ)} {old : List 
                 rest = b.rest ++ rest;
                 is = out_here w more f ∙ (λ i. sym (k.out w (back w agrees)) i ++ (b.is i ++ rest))
                     ∙ ap (λ l. k.pushed ++ l) (append_assoc e.call.pushed b.rest rest)
-                    ∙ sym (grind (arith, common_steps));
+                    ∙ sym (grind usual);
               };
           decided_is_written = λ q failed clean. let here = fails_here q failed in let after =
               opened_values (inputs_of_operands empty_input inputs_read' (done ++ p ∷ []) more) in

@@ -1,16 +1,18 @@
 -- The steps of the driver, by how a tool reads its operands: one after another, or together.
 use Rattle.ptrun.proofs
 use Rattle.ptrun.specs
-use proofs.Common.{All, Bool, Completion, DecidesAll, FlowFault, HasSaid, InputsPre, IsRun, List, OneByOne, OperandPost}
-use proofs.Common.{Output, PassPost, Reader, Result, RunInputsPost, SinkState, Slots, Together, ToolInRun, ToolSpec, []}
-use proofs.Common.{append-nil, arith, common_steps, false, false≢true, get_or, is_reader_unopened, is_unopened}
-use proofs.Common.{list_any, only_operand, reads_together, refl, set, sinks, spec_of_tool, sym, total_bytes, true}
-use proofs.Common.{unopened_messages, ℕ, ◌∙◌, ◌≡◌}
+use proofs.Common.{All, Bool, CallOutcome, Completion, DecidesAll, FlowFault, HasIndexBelow, HasSaid, InputsPre, usual}
+use proofs.Common.{IsRun, List, OneByOne, OperandPost, Output, PassPost, Reader, Result, RunInputsPost, SinkState}
+use proofs.Common.{Slots, Together, ToolInRun, ToolSpec, [], append-nil, arith, false, false≢true}
+use proofs.Common.{get_or, is_reader_unopened, is_unopened, length, list_any, only_operand, reads_together, refl, set}
+use proofs.Common.{sinks, spec_of_tool, sym, total_bytes, true, unopened_messages, ℕ, ◌<◌, ◌∙◌, ◌≡◌}
 use proofs.JointRuns.{joint_post, none_unopened}
-use proofs.OperandInputs.{any_same, fresh_all, nothing_read, unopened_agrees}
+use proofs.OperandInputs.{any_same, each_listed, fresh_all, nothing_read, unopened_agrees}
 use proofs.RunEnds.{unread}
-use specs.Driver.{OperandPre, ReportUnopenedPost, RunOnPost, RunOnPre, operand_completion}
+use specs.Driver.{OperandPre, ReportUnopenedPost, RunOnPost, RunOnPre, operand_completion, result_of_end, run_state}
+use specs.Engines.{in_run}
 use specs.Files.{IsNewOrUnopened}
+use Rattle.ptlines.specs.Calls.{CallEnd, Complete, MemoryFault, OutOfOrder, ReadFault, WriteFault, inputs_at}
 use Rattle.std.proofs.Math.Seq.{take-length}
 
 abbrev pub one_tool : ToolInRun → ToolSpec
@@ -86,6 +88,24 @@ module _ (word : List ℕ) (names : List (List ℕ)) (positions : List ℕ) wher
       together_post (Together t) messages together given k none writable not_denied empty post =
           grind (arith, joint_post)
 
+-- the input that a result names is that of an operand
+pub together_index : (s : ToolInRun) (operands : List ℕ) (old new : List Reader) (was is : Output)
+    (before store : Slots) (result : Result Completion FlowFault) {n : ℕ}
+    → RunOnPost s operands old new was is before store result → reads_together s ≡ true
+    → All (λ p. p < length old) operands → length old ≡ n → HasIndexBelow n result
+together_index (OneByOne t law) operands old new was is before store result post together in_range same = cc
+together_index (Together t) operands old new was is before store result post together in_range same =
+    rw (← same, post.result_is) (by_end post.end post.call.ends)
+  where
+    by_end : (end : CallEnd ℕ)
+        → CallOutcome (inputs_at operands) (in_run (t.engine operands)) (run_state old was before)
+        (run_state new is store) post.call.given post.call.pushed end → HasIndexBelow (length old) (result_of_end end)
+    by_end Complete e = tt
+    by_end (OutOfOrder p line) e = each_listed (λ q. q < length old) operands in_range p e.named
+    by_end (ReadFault p) e = each_listed (λ q. q < length old) operands in_range p e.named
+    by_end WriteFault e = tt
+    by_end MemoryFault e = tt
+
 -- ---- one operand
 
 pub operand_passed : {t : ToolSpec} {operands : List ℕ} {old : List Reader} {new : Reader} {was is : Output}
@@ -94,7 +114,4 @@ pub operand_passed : {t : ToolSpec} {operands : List ℕ} {old : List Reader} {n
     → PassPost t (get_or old (only_operand operands) d) new was is before store passed
     → result ≡ operand_completion (only_operand operands) passed
     → OperandPost t (only_operand operands) old (set old (only_operand operands) new) was is before store result
-operand_passed {operands = operands} {old} {new} {passed = passed} ready d pass result_is = grind (
-  arith,
-  common_steps,
-)
+operand_passed {operands = operands} {old} {new} {passed = passed} ready d pass result_is = grind usual

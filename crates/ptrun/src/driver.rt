@@ -21,7 +21,6 @@ use ptopts::{Input, Inputs};
 use std::alloc::Allocator;
 
 /// Runs a tool over its operands and returns the report.
-#[tactic(auto, using(crate::proofs::ToolRuns::together_pre))]
 pub(crate) fn run_tool<A, B, T, S, R, W, E>(
     store: &mut Store<A>,
     tool: &T,

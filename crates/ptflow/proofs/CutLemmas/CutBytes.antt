@@ -3,17 +3,16 @@
 use Rattle.ptflow.proofs
 use Rattle.ptflow.specs
 use proofs.Common.{◌≡◌, ℕ, ◌+◌, ◌-◌, ◌≤◌, ◌^◌, Bool, false, List, [], ◌∷◌, ◌++◌, map, length, take, drop, Some, refl}
-use proofs.Common.{ap, arith, append_assoc, common_steps, flat_map, mask_l, chunk, length-chunk, chunk-drop}
+use proofs.Common.{ap, arith, append_assoc, usual, flat_map, mask_l, chunk, length-chunk, chunk-drop}
 use proofs.Common.{IsFirstByte, is_byte, unlines, lines, IsLine, complete_lines, lines_cons, byte_ne, lines_of_unlines}
 use proofs.Common.{line_before_terminator, select_from, cut_line, cut, cut_decided, cut_lines_from, cut_bytes_from}
 use proofs.Common.{cut_list_from, IsPrefix, Cut, Interval, ExtendsCut, CutPost, selected_bytes, is_selected, zero, suc}
 use proofs.Common.{◌<◌, set, ◌&&◌, get_or, length-append, sym, ◌∙◌, w8, All, nat_le, range_with_len, take-add}
 use proofs.Common.{swz_l, pick_l-range_with_len, take-map, take-take, take-append-le, take_all, length-take-le}
 use proofs.Common.{append-nil, length-range_with_len, cases_eq, put_chunk, length-drop, length-swz_l, slice_get, min}
-use proofs.Common.{drop_more, AreSeparated, ⊎_elim, cases_lt}
+use proofs.Common.{drop_more, AreSeparated, ⊎_elim, cases_lt, length-set}
 use specs.declared.tools.cut.bytes.Line.{Line}
 use proofs.Passes.Exits.{split_of, LineSplit, line_split}
-use Rattle.std.proofs.Common.{length-set}
 use proofs.Vectors.Lanes.{stored_more}
 use mir.Val.{bool_byte}
 use specs.Private.Cut.ShortLines.{selected_indices, selected_after, IsPieceShuffle}
@@ -67,7 +66,7 @@ select_slice r n [] zero j is js = sym (take-nil (j - 0))
 select_slice r n [] (suc i) j is js = sym (take-nil (j - suc i))
 select_slice r n (x ∷ xs) i zero is js = grind (arith, select_none)
 select_slice r n (x ∷ xs) zero (suc j) is js =
-    grind (arith, common_steps, select_slice r (n + 1) xs zero j (omega arith) (omega arith))
+    grind (usual, select_slice r (n + 1) xs zero j (omega arith) (omega arith))
 select_slice r n (x ∷ xs) (suc i) (suc j) is js = grind (arith, select_slice r (n + 1) xs i j)
 
 pub rest_of : (from to : ℕ) (bytes : List ℕ) → drop from (take to bytes) ≡ take (to - from) (drop from bytes)
@@ -80,7 +79,7 @@ rest_of (suc n) (suc to) (b ∷ bytes) = grind (arith, rest_of n to bytes)
 rest_is : (r : Interval) (before count : ℕ) (bytes : List ℕ) → count ≤ length bytes → before + count ≤ r.last
     → let from = min (r.first - (before + 1)) count in
     take (count - from) (drop from bytes) ≡ select_from (is_within r) (before + 1) (take count bytes)
-rest_is r before count bytes within reaches = grind (arith, common_steps, select_slice, rest_of)
+rest_is r before count bytes within reaches = grind (usual, select_slice, rest_of)
 
 -- The invariant of `copy_selected`: the intervals from `i` on are left. What was copied is not longer than the part of
 -- the piece before them.
@@ -110,7 +109,7 @@ module _ {all : List Interval} {before count : ℕ} (bytes : List ℕ) {was : Li
 
     next : (is ++ select_from (is_within r) (before + 1) piece) ++ select_from (is_selected rs) (before + 1) piece
         ≡ was ++ select_from (is_selected all) (before + 1) piece
-    next = grind (arith, common_steps, select_first)
+    next = grind (usual, select_first)
 
     module _ (is' : List ℕ) where
       pub copied_ends : {from : ℕ} → from ≡ min (r.first - (before + 1)) count → before + count ≤ r.last
@@ -162,7 +161,7 @@ pub empty_lines : (end : ℕ) (selected : ℕ → Bool) (ends more : List ℕ)
     → mask_l (map (is_byte end) ends) + 1 ≡ 2 ^ length ends
     → cut_bytes_from end selected 0 (ends ++ more) ≡ ends ++ cut_bytes_from end selected 0 more
 empty_lines end selected [] more all = refl
-empty_lines end selected (b ∷ ends) more all = grind (arith, common_steps, empty_lines end selected ends more)
+empty_lines end selected (b ∷ ends) more all = grind (usual, empty_lines end selected ends more)
 
 -- 64 empty lines
 pub terminators_next : (end : ℕ) (selected : ℕ → Bool) (block : List ℕ) {from start now marked : ℕ}
@@ -187,14 +186,14 @@ pub cut_next : (end : ℕ) (list : List Interval) (line_offset now next : ℕ) (
     → ((more : List ℕ) → cut_list_from end list now (rest ++ more) ≡ bytes
     ++ cut_list_from end list next (rest' ++ more)) → ExtendsCut end list line_offset from old next rest' is
 cut_next end list line_offset now next _ _ _ old was bytes cut copied on start block so_far more =
-    grind (arith, common_steps)
+    grind usual
 
 pub line_cut : {end : ℕ} {list : List Interval} {block : List ℕ} {was now next : Line} {old new is : List ℕ} (count : ℕ)
     → CutPost end list block was old now new → IsFirstByte (is_byte end) (drop now.start block) (Some count)
     → is ≡ new ++ (selected_bytes list block now count ++ end ∷ []) → next.start ≡ now.start + count + 1
     → next.line_offset ≡ 0 → next.at ≤ now.at + count + 1 → CutPost end list block was old next is
 line_cut {end} {list} {block} {was} {now} {next} {old} {new} count post first is start none near =
-    grind (arith, common_steps, line_on)
+    grind (usual, line_on)
 
 module _ (job : Cut) (by_bytes : job.fields ≡ false) where
   abbrev end : ℕ
@@ -217,10 +216,10 @@ module _ (job : Cut) (by_bytes : job.fields ≡ false) where
       let p : LineSplit end given = line_split end _ in
       -- with one terminator more, the piece is a line too
       let all_lines : lines end (given ++ end ∷ []) ≡ (complete_lines end given) ++ p.piece ∷ [] =
-      grind (arith, common_steps, lines_of_unlines, lines_cons) in
+      grind (usual, lines_of_unlines, lines_cons) in
       record {
         rest = select_from job.selected 1 p.piece;
-        is = grind (arith, common_steps, rest_of_all, made_is);
+        is = grind (usual, rest_of_all, made_is);
       }
 
 -- ---- shuffles
@@ -268,7 +267,7 @@ module _ (selected : ℕ → Bool) where
       → PickBegun index count row counts → one ≡ bool_byte (selected (index + 1))
       → after ≡ set counts (index + 1) (count + one) → PickBegun (index + 1) (count + one) (set row count index) after
   shuffle_next {index} {count} {row} {counts} {after} {one} low begun told after_is =
-      grind (arith, common_steps, length-set, stored_more, cases_eq, picked_parts)
+      grind (usual, length-set, stored_more, cases_eq, picked_parts)
 
   pub none_later : {X : Type 0} {max_len start count : ℕ} (xs : List X)
       → ((index : ℕ) → start < index → index ≤ max_len → selected index ≡ false) → start ≤ count → count ≤ max_len
@@ -327,8 +326,7 @@ piece_copied selected start m at bytes was into {piece} {size} is counted short 
     let few = shuffle_few _ is m short in
     let front = length-take-le start bytes (omega arith) in
     grind (
-      arith,
-      common_steps,
+      usual,
       selected_stored at (get_or piece.counts m 0) _ _ (length-swz_l w8 16 v 0 _ ∙ is.long) (omega (arith, few)) room,
       take-take m 16 (drop start bytes) short,
       select_later selected start 1 (take m (drop start bytes)),

@@ -2,7 +2,7 @@
 -- interval, with the delimiter before each, are one slice of the line; so the output is these slices, the first without
 -- the delimiter before it. No state is carried from line to line.
 use Rattle.ptflow.proofs
-use proofs.Common.{common_steps, ◌≡◌, ℕ, zero, suc, ◌+◌, ◌<◌, ◌==◌, ◌-◌, ◌≤◌, Bool, true, false, List, [], ◌∷◌, ◌++◌}
+use proofs.Common.{usual, ◌≡◌, ℕ, zero, suc, ◌+◌, ◌<◌, ◌==◌, ◌-◌, ◌≤◌, Bool, true, false, List, [], ◌∷◌, ◌++◌}
 use proofs.Common.{length, take, drop, refl, sym, ap, arith, join_with_byte, append-nil, take-take, take-add, take_all}
 use proofs.Common.{drop_all, drop-drop, length-drop, length-take-le, take-append-drop, flat_map-append}
 use proofs.Common.{length-slice_split, count_by, is_byte, byte_eq, fields, prefixed_fields, IsFieldOffset, IsNth}
@@ -19,7 +19,7 @@ use Rattle.ptflow.specs.declared.tools.cut.fields.FieldCursor.{FieldCursor}
 module _ (d : ℕ) where
   pub fields-append : (xs ys : List ℕ) → fields d (xs ++ d ∷ ys) ≡ fields d xs ++ fields d ys
   fields-append [] ys = rw (byte_eq d) refl
-  fields-append (x ∷ xs) ys = grind (arith, common_steps, fields-append xs ys, length-slice_split)
+  fields-append (x ∷ xs) ys = grind (usual, fields-append xs ys, length-slice_split)
 
   pub prefixed_fields-append : (fs gs : List (List ℕ)) → prefixed_fields d (fs ++ gs) ≡ prefixed_fields d fs
       ++ prefixed_fields d gs
@@ -49,10 +49,10 @@ module _ (d : ℕ) where
     offset_after_nth {n} at some (within, passes, before) =
         let xs = take at line in
         let ys = drop (at + 1) line in
-        let here : drop at line ≡ d ∷ ys = grind (arith, common_steps) in
+        let here : drop at line ≡ d ∷ ys = grind usual in
         let number : length (fields d xs) ≡ n = omega (arith, length-slice_split (is_byte d) xs) in
         let split : fields d line ≡ fields d xs ++ fields d ys = cc (take-append-drop at line, fields-append xs ys) in
-        grind (arith, common_steps, prefixed_of_fields)
+        grind (usual, prefixed_of_fields)
 
     module _ {n at : ℕ} (o : IsFieldOffset d n line at) where
       pub rest_at : at ≤ length line → drop at (d ∷ line) ≡ d ∷ drop at line
@@ -67,7 +67,7 @@ module _ (d : ℕ) where
 
       pub offset_add : at ≤ length line → {k size : ℕ} → IsFieldOffset d k (drop at line) size
           → IsFieldOffset d (n + k) line (at + size)
-      offset_add fits {k} {size} next = grind (arith, common_steps, take-add, rest_at, drop-drop)
+      offset_add fits {k} {size} next = grind (usual, take-add, rest_at, drop-drop)
 
 -- ---- the selected fields of a line, in one pass
 
@@ -173,7 +173,7 @@ module _ (d : ℕ) (line : List ℕ) (cursor : FieldCursor) where
 few_prefixed : (d : ℕ) (test : ℕ → Bool) (n : ℕ) (fs : List (List ℕ))
     → length (prefixed_fields d (select_from test n fs)) ≤ length (prefixed_fields d fs)
 few_prefixed d test n [] = omega arith
-few_prefixed d test n (f ∷ fs) = grind (arith, common_steps, few_prefixed d test (n + 1) fs)
+few_prefixed d test n (f ∷ fs) = grind (usual, few_prefixed d test (n + 1) fs)
 
 pub output_is_short : (job : Cut) (line : List ℕ) → length (cut_fields job line) ≤ length line
 output_is_short job line =
@@ -238,7 +238,7 @@ module _ (job : Cut) where
 eof-append : (end : ℕ) (ls : List (List ℕ)) (bytes : List ℕ) → AreLines end ls
     → complete_lines end (unlines end ls ++ bytes) ≡ ls ++ complete_lines end bytes
 eof-append end [] bytes whole = refl
-eof-append end (l ∷ ls) bytes whole = grind (arith, common_steps, eof-append end ls bytes whole.1, complete_lines_cons)
+eof-append end (l ∷ ls) bytes whole = grind (usual, eof-append end ls bytes whole.1, complete_lines_cons)
 
 text_of_ended : (end : ℕ) (front : List ℕ) → unlines end (complete_lines end (front ++ end ∷ [])) ≡ front ++ end ∷ []
 text_of_ended end front = grind (arith, the_complete_lines end [] tt, the_lines end (front ++ end ∷ []))
@@ -246,7 +246,7 @@ text_of_ended end front = grind (arith, the_complete_lines end [] tt, the_lines 
 -- ---- lines without the delimiter
 
 free_prefix : (d : ℕ) (n : ℕ) (bytes : List ℕ) → IsLine d bytes → IsLine d (take n bytes)
-free_prefix d n [] free = grind (arith, common_steps)
+free_prefix d n [] free = grind usual
 free_prefix d zero (b ∷ bytes) free = tt
 free_prefix d (suc n) (b ∷ bytes) free = (free.0, free_prefix d n _ free.1)
 
@@ -275,7 +275,7 @@ module _ (job : Cut) (by_fields : job.fields ≡ true) {end : ℕ} (same : end �
     front = complete_lines end (take size bytes)
 
     is_ended : take size bytes ≡ take (size - 1) bytes ++ end ∷ []
-    is_ended = grind (arith, common_steps)
+    is_ended = grind usual
 
     texts : unlines end front ≡ take size bytes
     texts = grind (arith, is_ended, text_of_ended)
@@ -293,15 +293,15 @@ module _ (job : Cut) (by_fields : job.fields ≡ true) {end : ℕ} (same : end �
     free_up_to {n} le = rw (take-take n up_to bytes le) at (free_prefix _ n _ free)
 
     are_free : ((size ≡ to + 1) ⊎ (size ≤ up_to)) → AreLines job.delimiter front
-    are_free (inl one) = grind (arith, common_steps, complete_lines_cons, line_before_terminator)
+    are_free (inl one) = grind (usual, complete_lines_cons, line_before_terminator)
     are_free (inr le) = search (rules, free_lines, free_up_to)
 
     pub puts_kept : {old new : List ℕ} → job.only ≡ false → new ≡ old ++ take size bytes
         → CopyLinesPost job end bytes size old new
-    puts_kept keeps put = grind (arith, common_steps, texts, lines_are, lines_kept, are_free)
+    puts_kept keeps put = grind (usual, texts, lines_are, lines_kept, are_free)
 
     pub puts_dropped : {old : List ℕ} → job.only ≡ true → CopyLinesPost job end bytes size old old
-    puts_dropped {old} only = grind (arith, common_steps, texts, lines_are, lines_dropped, are_free)
+    puts_dropped {old} only = grind (usual, texts, lines_are, lines_dropped, are_free)
 
 pub free_before : (d : ℕ) (bytes : List ℕ) (r : Option ℕ) → IsFirstByte (is_byte d) bytes r
     → IsLine d (take (unwrap_or r (length bytes)) bytes)
@@ -309,4 +309,4 @@ free_before d bytes None none = grind (arith, take_all, line_if_not_found)
 free_before d bytes (Some at) first = line_before_terminator d _ at first
 
 pub cut_of_parts : CutOfParts
-cut_of_parts job a b whole = grind (arith, common_steps, the_lines_of_parts)
+cut_of_parts job a b whole = grind (usual, the_lines_of_parts)

@@ -5,7 +5,7 @@
 use Rattle.ptflow.proofs
 use Rattle.ptflow.specs
 use proofs.Common.{◌≡◌, ℕ, ◌≤◌, ◌<◌, ◌^◌, true, false, List, [], ◌++◌, length, None, Result, Ok, Err, max, arith, Slots}
-use proofs.Common.{append_assoc, common_steps, append-nil, Reader, ReaderAdvance, AdvanceOk, IsDone, IsSound}
+use proofs.Common.{append_assoc, usual, append-nil, Reader, ReaderAdvance, AdvanceOk, IsDone, IsSound}
 use proofs.Common.{HasReadCause, Received, IsPrefix, IsConsistent, Output, PushEffect, total_bytes, push_trans}
 use proofs.Common.{received_with, advance_trans, push_nothing, ToolSpec, PassPre, PassPost, only_input, pass_end, Read}
 use proofs.Common.{pass_engine, CallState, call_state, CallOutcome, AddedSlots, CallProgress, DecidedIfReadFailed, take}
@@ -15,9 +15,8 @@ use proofs.Common.{◌+◌, ◌-◌, take_all, inl, inr, zero, suc, ◌∷◌, u
 use proofs.Common.{false≢true, lines, IsLine, AreLines, max_length, max_line_length, known_lines, FillLine}
 use proofs.Common.{lines_of_unlines, lines_of_last, lines_cons, lines-unlines, ◌==◌, complete_lines_of_unlines}
 use proofs.Common.{AreReceivedLines, Some, eqb-true, eqb-false, complete_lines, complete_lines_cons, IsFirstByte}
-use proofs.Common.{is_byte, line_before_terminator, drop_at_terminator}
+use proofs.Common.{is_byte, line_before_terminator, drop_at_terminator, cases_Bool}
 use Rattle.std.specs.Prelude.{IsErrAnd}
-use Rattle.std.proofs.lemmas.Bool.{cases_Bool}
 use Rattle.ptlines.specs.Outputs.{PushPost}
 use specs.Private.Passes.BlockLoop.{IsBlockFilter, RunBlocksPost}
 use specs.Private.Passes.StepOutput.{OutputPart}
@@ -29,10 +28,10 @@ pub use Rattle.ptlines.proofs.MaxLength.{max_length-append, piece_le_max_length}
 
 pub eof_gives_nothing : (now new : Reader) (bytes : List ℕ) → IsDone now → ReaderAdvance now new bytes
     → (bytes ≡ []) × (new.buffered ≡ []) × (new.eof ≡ true)
-eof_gives_nothing now new bytes done reads = grind (arith, common_steps)
+eof_gives_nothing now new bytes done reads = grind usual
 
 pub stays_at_eof : (now new : Reader) (bytes : List ℕ) → IsDone now → ReaderAdvance now new bytes → IsDone new
-stays_at_eof now new bytes done reads = grind (arith, common_steps)
+stays_at_eof now new bytes done reads = grind usual
 
 abbrev state : Reader → Output → Slots → CallState (Unit {0})
 state reader out store = call_state (λ u. reader) out store
@@ -114,7 +113,7 @@ module _ {tool : ToolSpec} {left : List ℕ → List ℕ} {old reader new : Read
 
   text_of : {input : List ℕ} (consistent : IsConsistent received input)
       → tool.text input ≡ pushed ++ left (piece ++ (new.buffered ++ consistent.rest))
-  text_of consistent = grind (arith, common_steps)
+  text_of consistent = grind usual
 
   -- `bytes`, with which the output for the rest begins, are pushed after the last step
   module _ {is' : Output} {bytes : List ℕ} (wrote : PushEffect is is' bytes)
@@ -126,7 +125,7 @@ module _ {tool : ToolSpec} {left : List ℕ → List ℕ} {old reader new : Read
       reads = λ u read. advanced;
       untouched = λ u unread. cc;
       never_failed = λ u read. never_failed;
-      writable = grind (arith, common_steps);
+      writable = grind usual;
       wrote = search (rules, push_trans);
       is_prefix = grind (arith, text_of, append_assoc);
       bounded_lag = search (rules, bounded_lag_after);
@@ -247,7 +246,7 @@ module _ {X : Type 0} {rest_from : X → List ℕ → List ℕ} {IsUnchanged : X
   blocks_start readable clean = record {
     given = [];
     pushed = [];
-    reached = grind (arith, common_steps);
+    reached = grind usual;
     on = λ rest. refl;
     holds = λ same. same;
   }
@@ -273,7 +272,7 @@ module _ {X : Type 0} {rest_from : X → List ℕ → List ℕ} {IsUnchanged : X
       given = run.given ++ block;
       pushed = run.pushed ++ part.pushed;
       reached = record {
-        advance_ok = grind (arith, common_steps, take_all, advance_ok_take);
+        advance_ok = grind (usual, take_all, advance_ok_take);
         wrote = search (rules, push_trans);
         clean = part.clean;
       };
@@ -377,7 +376,7 @@ module _ (end : ℕ) where
   taken_more {rest} size texts taken =
       let front = take size rest in record {
         front = taken.front ++ front;
-        split = grind (arith, common_steps, append_assoc);
+        split = grind (usual, append_assoc);
         texts = grind (arith, append_assoc);
       }
 
@@ -409,8 +408,7 @@ module _ (end : ℕ) (now : Reader) (given : List ℕ) (ls : List (List ℕ))
         → max (max_length ls) (length piece) ≤ max_line_length end input
     piece_longest input consistent =
         grind (
-          arith,
-          common_steps,
+          usual,
           append_assoc,
           free,
           append-nil,
@@ -434,13 +432,13 @@ module _ (end : ℕ) (now : Reader) (given : List ℕ) (ls : List (List ℕ))
 
     pub lines_more : AreReceivedLines end new (given ++ (next_line.line ++ next_line.terminator))
         (ls ++ next_line.line ∷ [])
-    lines_more = grind (arith, common_steps, lines_of_unlines, lines_of_last)
+    lines_more = grind (usual, lines_of_unlines, lines_of_last)
 
 pub lines_block : {end : ℕ} {reader : Reader} {given : List ℕ} {ls : List (List ℕ)}
     → AreReceivedLines end reader given ls → {new : Reader} (more : List (List ℕ))
     → AdvanceOk reader new (unlines end more) → AreLines end more
     → AreReceivedLines end new (given ++ unlines end more) (ls ++ more)
-lines_block {end} {ls} received more advance_ok are = grind (arith, common_steps, lines-unlines)
+lines_block {end} {ls} received more advance_ok are = grind (usual, lines-unlines)
 
 -- ---- the input two blocks earlier
 
@@ -463,7 +461,7 @@ module _ {end : ℕ} {now new : Reader} {given : List ℕ} {ls : List (List ℕ)
         earlier = record { bytes = given ++ take n line; eof = false };
         last = drop n line ++ behind;
         split = grind (arith, append_assoc, take-append-drop n line);
-        short = grind (arith, common_steps);
+        short = grind usual;
         eof = λ never. absurd (false≢true never);
       };
       begins = decided _ (grind (arith, complete_lines_of_unlines, line_take));

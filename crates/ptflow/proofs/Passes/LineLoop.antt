@@ -4,7 +4,7 @@
 use Rattle.ptflow.proofs
 use Rattle.std.proofs.lemmas
 use proofs.Common.{◌≡◌, ℕ, zero, suc, ◌+◌, ◌-◌, ◌*◌, ◌<◌, ◌≤◌, false, List, [], ◌∷◌, length, drop, set, get_or, max}
-use proofs.Common.{refl, ◌∙◌, ap, arith, inl, inr, common_steps, length-set, drop-set-lt, sum_by-cons, Slots}
+use proofs.Common.{refl, ◌∙◌, ap, arith, inl, inr, usual, length-set, drop-set-lt, sum_by-cons, Slots}
 use proofs.Common.{total_bytes, with_line, AddedSlots, IsSwapped, SlotsCleared, ◌^◌, true, ◌++◌, Ok, Err, append_assoc}
 use proofs.Common.{length-append, nil_from_length, lines, complete_lines, IsLine, max_length, max_line_length, Received}
 use proofs.Common.{known_lines, IsPrefix, IsConsistent, Output, PushEffect, Reader, ReaderAdvance, AdvanceOk, IsDone}
@@ -45,7 +45,7 @@ bounded_total (suc width) most (l ∷ ls) short others =
 pub bounds_start : {width : ℕ} {before store : Slots} → AddedSlots before store width → store.denied ≡ false
     → total_bytes store.lines ≡ 0 → store.peak ≡ before.peak → SlotBounds width 0 before store
 bounds_start {width} {store} adds denied empty peak =
-    grind (arith, common_steps, sum_by-take-drop length store.lines width)
+    grind (usual, sum_by-take-drop length store.lines width)
 
 pub bounds_weaker : {width most : ℕ} (more : ℕ) {before store : Slots} → SlotBounds width most before store
     → most ≤ more → SlotBounds width more before store
@@ -55,7 +55,7 @@ pub bounds_line : {width most : ℕ} {before store : Slots} (new : Slots) (slot 
     → SlotBounds width most before store → slot < width → length bytes ≤ most → new ≡ with_line store slot bytes
     → SlotBounds width most before new
 bounds_line {width} {most} {store} new slot bytes bounds within fits is =
-    let short : (i : ℕ) → i < width → length (get_or new.lines i []) ≤ most = λ i low. grind (arith, common_steps) in
+    let short : (i : ℕ) → i < width → length (get_or new.lines i []) ≤ most = λ i low. grind usual in
     let others = drop-set-lt width store.lines slot bytes within in
     record {
       denied = cc;
@@ -88,7 +88,7 @@ bounds_cleared {width} {store} {new} bounds some last cleared =
       record {
         denied = cc;
         size = cleared.size ∙ bounds.size;
-        short = grind (arith, common_steps);
+        short = grind usual;
         others = omega (arith, none, sum_by-take-drop length new.lines width);
         peak = search (rules, bounded_total);
       },
@@ -201,7 +201,7 @@ module _ {S X E : Type 0} {tool : ToolSpec} {state : S → Slots → X} {rest_fr
         first = run.first;
         on = grind (arith, append_assoc);
         count = omega (arith, length-append run.ls ls);
-        keeps = grind (arith, common_steps, max_length-append);
+        keeps = grind (usual, max_length-append);
       }
 
       pub run_block : {new : Reader} {block : List ℕ} {count : ℕ} → block ≡ reader.buffered
@@ -210,7 +210,7 @@ module _ {S X E : Type 0} {tool : ToolSpec} {state : S → Slots → X} {rest_fr
           → Run old new was is' before store next
       run_block {new} {block} buffered (within, text) consumed processed =
           let ls = complete_lines end block in
-          let front : AdvanceOk reader new (unlines end ls) = grind (arith, common_steps, advance_ok_take) in
+          let front : AdvanceOk reader new (unlines end ls) = grind (usual, advance_ok_take) in
           run_more ls front (lines_block run.came ls front (line_split end _).whole)
           (grind (arith, bounds_weaker)) processed
 
@@ -328,7 +328,7 @@ module _ {S X E : Type 0} {tool : ToolSpec} {state : S → Slots → X} {rest_fr
         (run : Run old reader was is before store (state now store)) where
       filled : {after : Slots} (bytes : List ℕ) → after ≡ with_line store (width - 1) bytes
           → line after (width - 1) ≡ bytes
-      filled bytes told = grind (arith, common_steps, run_room)
+      filled bytes told = grind (usual, run_room)
 
       same_state : {after : Slots} (bytes : List ℕ) → after ≡ with_line store (width - 1) bytes
           → state now after ≡ state now store
@@ -354,7 +354,7 @@ module _ {S X E : Type 0} {tool : ToolSpec} {state : S → Slots → X} {rest_fr
             let bounds = keeps_last run _ next_line.stored in
             halts run
             (ending run sound next_line.advance_ok.reads next_line.line (next_line.terminator ++ new.buffered)
-            (grind (arith, common_steps)) (rw ends at next_line.whole) (grind arith)
+            (grind usual) (rw ends at next_line.whole) (grind arith)
             (kept run (received run (next_line.line ++ next_line.terminator) new)
             (grind (arith, bounds, max_length-append)) (received_longest _ _ _ _ more))) next_line.advance_ok.failed
             bounds.denied (rw (same_state _ next_line.stored) at (rw (filled _ next_line.stored) at halted))

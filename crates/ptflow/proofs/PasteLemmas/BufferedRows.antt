@@ -3,7 +3,7 @@
 -- bytes that end with a terminator, and in which there are count * n terminators, are `count` rows.
 pub mod Rows
 use Rattle.ptflow.proofs
-pub use proofs.Common.{ne_eqb, append_assoc, nat_tests, mod-mul-add, count_by, is_byte, advance_ok_take}
+pub use proofs.Common.{ne_eqb, append_assoc, nat_tests, mod-mul-add, count_by, is_byte, advance_ok_take, usual}
 pub use proofs.Common.{line_before_terminator, take_with_terminator, lines_are, the_lines, Output, PushEffect}
 pub use proofs.Common.{IsWholeRows, IsSharedCycle, cycle_byte, with_replacements, IsConsumed, AreConsumed}
 pub use proofs.Common.{IsFieldCopied, RowsWritten}
@@ -13,7 +13,7 @@ pub use Rattle.ptflow.specs.declared.simd.replace.Cycle.{Cycle}
 pub use Rows.*
 
 sound_after_consume : {b r : Reader} → IsSound b → IsConsumed b r → IsSound r
-sound_after_consume s step = grind (arith, common_steps)
+sound_after_consume s step = grind usual
 
 -- ---- one column
 
@@ -30,7 +30,7 @@ field_in_buffer end {b} {r} before after true clean sound p =
             (sound_after_consume sound consumed) (record {
               so_far = search (rules, take_with_terminator, line_before_terminator);
             }) (inl refl) (λ none. cc),
-        grind (arith, common_steps),
+        grind usual,
       ),
       consumed,
     )
@@ -51,7 +51,7 @@ pub consumed_none : {old : List Reader} → AreConsumed old old
 consumed_none = record { count = refl; buffered = λ p. record { size = 0; is = refl } }
 
 pub consumed_trans : {a b c : List Reader} → AreConsumed a b → AreConsumed b c → AreConsumed a c
-consumed_trans p q = grind (arith, common_steps)
+consumed_trans p q = grind usual
 
 pub still_readable : {row : RowShape} {old new : List Reader} → AreConsumed old new → BufferedRowsPre row old
     → BufferedRowsPre row new
@@ -93,7 +93,7 @@ module _ {row : RowShape} where
           is =
               let end = after_cell row now.count in
               grind (arith, cells_text-append, append_assoc);
-          consumed = grind (arith, common_steps);
+          consumed = grind usual;
           width = omega (arith, length-append s.fields (field ∷ []));
           filled = λ from front given.
               rw (append_assoc front s.fields (field ∷ [])) at
@@ -105,8 +105,7 @@ module _ {row : RowShape} where
 ends_of_lines : (end : ℕ) (ls : Lines) → AreLines end ls → count_by (is_byte end) (unlines end ls) ≡ length ls
 ends_of_lines end [] are_lines = refl
 ends_of_lines end (line ∷ ls) (free, are_lines) = grind (
-  arith,
-  common_steps,
+  usual,
   none_counted,
   ends_of_lines end
       ls are_lines,
@@ -117,7 +116,7 @@ pub whole_rows_counted : (end n count : ℕ) (bytes : List ℕ)
     → IsWholeRows end n bytes
 whole_rows_counted end n count bytes last counted =
     let ((are_lines, text), only) = the_lines end bytes in
-    let is : unlines end (lines end bytes) ≡ bytes = grind (arith, common_steps) in
+    let is : unlines end (lines end bytes) ≡ bytes = grind usual in
     record {
       count = count;
       ls = lines end bytes;
@@ -137,7 +136,7 @@ module _ (cells : List ℕ) (input : ℕ) (same : (c : ℕ) → c < length cells
       grind (arith, nat_tests, uses_more cells c input (omega arith), uses_before_column c (omega arith))
 
   uses_all : uses_of cells input ≡ length cells
-  uses_all = grind (arith, common_steps, uses_before_column)
+  uses_all = grind (usual, uses_before_column)
 
   first_row : (some : 0 < length cells) (ls : Lines) → length cells ≤ length ls
       → rows (columns cells (lines_of_input input ls))
@@ -192,7 +191,7 @@ module _ {row : RowShape} {cycle : Cycle} (t : IsSharedCycle row cycle) where
       let end = row.terminator in
       let first = take n ls in
       let rest = drop n ls in
-      let (whole_first, whole_rest) : AreLines end first × AreLines end rest = grind (arith, common_steps) in
+      let (whole_first, whole_rest) : AreLines end first × AreLines end rest = grind usual in
       let first_long = length-take-le n ls (omega arith) in
       let start : k * n ≡ k * n + 0 = omega arith in
       let next : k * n + count_by (is_byte end) (unlines end first) ≡ (k + 1) * n =
@@ -250,7 +249,7 @@ module _ {row : RowShape} {cycle : Cycle} (t : IsSharedCycle row cycle) {old : L
         are = refl;
         count = length-set old shared r;
       };
-      least = grind (arith, common_steps);
+      least = grind usual;
       is =
           let start : 0 ≡ 0 * length row.cells = omega arith in
           (λ i. with_replacements end (cycle_byte cycle) (start i) (rs.is i))

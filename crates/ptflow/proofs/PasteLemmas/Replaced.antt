@@ -3,8 +3,8 @@ use Rattle.ptflow.proofs
 use Rattle.ptflow.specs
 use proofs.Common.{◌≡◌, ◌≢◌, ℕ, zero, suc, ◌+◌, ◌-◌, ◌%◌, ◌^◌, ◌==◌, ◌<◌, ◌≤◌, Bool, cond, List, [], ◌∷◌, ◌++◌, length}
 use proofs.Common.{map, take, drop, get_or, slice_set, refl, sym, ◌∙◌, ap, arith, bit_and, count_by, count_ones, mask_l}
-use proofs.Common.{chunk, mod-add-mod, mod-eq_of_lt, take-add, take_at, take-append-drop, take-set-lt, eq-eqb}
-use proofs.Common.{set-append_right, drop_more, take_more_set, length-set, common_steps, is_byte, byte_ne, IsLine}
+use proofs.Common.{chunk, mod-add-mod, mod-eq_of_lt, take-add, take_at, take-append-drop, take-set-lt, eq-eqb, usual}
+use proofs.Common.{set-append_right, drop_more, take_more_set, length-set, is_byte, byte_ne, IsLine}
 use proofs.Common.{IsNth, length-take-le, length-chunk, length-put_chunk, take_more_put_chunk, put_chunk, ones-mask_l}
 use proofs.Common.{with_replacements, cycle_byte, IsReplacedTo, true, false, Option, append_assoc, onto_first}
 use proofs.Common.{append-nil, append_cancel_right, lines, complete_lines, IsPrefix, Paste, delimiter, join_with_cycle}
@@ -21,7 +21,7 @@ use specs.declared.tools.paste.serial.SerialFormat.{SerialFormat}
 module _ (end : ℕ) where
   pub counted : (b : ℕ) (bytes : List ℕ) {t : Bool} → (b == end) ≡ t
       → count_by (is_byte end) (b ∷ bytes) ≡ cond t 1 0 + count_by (is_byte end) bytes
-  counted b bytes is = grind (arith, common_steps)
+  counted b bytes is = grind usual
 
   module _ (text_of : ℕ → List ℕ) where
     pub replaced-append : (number : ℕ) (xs ys : List ℕ) → with_replacements end text_of number (xs ++ ys)
@@ -29,7 +29,7 @@ module _ (end : ℕ) where
         ++ with_replacements end text_of (number + count_by (is_byte end) xs) ys
     replaced-append number [] ys = grind arith
     replaced-append number (b ∷ xs) ys =
-        grind (arith, common_steps, replaced-append (number + 1) xs ys, replaced-append number xs ys)
+        grind (usual, replaced-append (number + 1) xs ys, replaced-append number xs ys)
 
     -- A line contains no terminator, so its bytes stay.
     pub replaced_none : (number : ℕ) (line : List ℕ) → IsLine end line
@@ -41,7 +41,7 @@ module _ (end : ℕ) where
         → with_replacements end text_of number (line ++ end ∷ rest)
         ≡ line ++ (text_of number ++ with_replacements end text_of (number + 1) rest)
     replaced_line number line rest free =
-        grind (arith, common_steps, replaced-append number line (end ∷ rest), replaced_none, none_counted)
+        grind (usual, replaced-append number line (end ∷ rest), replaced_none, none_counted)
 
   -- Only the index in the cycle matters.
   replaced_mod : (text_at : ℕ → List ℕ) (len m n : ℕ) → m % len ≡ n % len → (bytes : List ℕ)
@@ -177,7 +177,7 @@ module _ {end : ℕ} {byte : ℕ → ℕ} where
                 let (within, test, before) = nth in
                 let there : at + bit - at ≡ bit = omega arith in
                 let step = replaced_next end byte n first ends bit within test before in
-                grind (arith, common_steps, take-set-lt, set-append_right);
+                grind (usual, take-set-lt, set-append_right);
           }
 
     pub replace_end : n ≡ count_ones mask
@@ -204,7 +204,7 @@ module _ {cycle : Cycle} {first index at : ℕ} {from to to' : List ℕ} (long :
       let split = take-add at size from in
       let so_far = first + ends_in cycle front in
       let count : first + ends_in cycle (take (at + size) from) ≡ so_far + ends_in cycle here =
-      grind (arith, common_steps) in
+      grind usual in
       record {
         within = room;
         same = long;
@@ -223,7 +223,7 @@ module _ {cycle : Cycle} {first index at : ℕ} {from to to' : List ℕ} (long :
     replaced_terminator is_end is later set =
         let test = eq-eqb (get_or from at 0) _ is_end in
         let one = ap (take 1) (drop_more _ at 0 room) in
-        replaced_more 1 (omega arith) (cc) (grind (arith, common_steps))
+        replaced_more 1 (omega arith) (cc) (grind usual)
 
     pub replaced_other : get_or from at 0 ≢ cycle.terminator → to' ≡ slice_set to at (get_or from at 0)
         → index < cycle.len → IsReplacedTo cycle first index (at + 1) from to'
@@ -290,8 +290,8 @@ module _ (end : ℕ) (delims : List (Option ℕ)) where
       (join_with_cycle delims number (xs ++ ys))
   joined_begins number [] ys = record { rest = join_with_cycle delims number ys; is = refl }
   joined_begins number (x ∷ []) [] = record { rest = []; is = sym (append-nil x) }
-  joined_begins number (x ∷ []) (y ∷ ys) = grind (arith, common_steps)
-  joined_begins number (x ∷ z ∷ xs) ys = grind (arith, common_steps, joined_begins (number + 1) (z ∷ xs) ys)
+  joined_begins number (x ∷ []) (y ∷ ys) = grind usual
+  joined_begins number (x ∷ z ∷ xs) ys = grind (usual, joined_begins (number + 1) (z ∷ xs) ys)
 
 pub copied_more : {format : SerialFormat} {index next last : ℕ} {xs ys before middle after : List ℕ}
     → CopyCellsPost format index xs before next middle → CopyCellsPost format next ys middle last after
@@ -303,7 +303,7 @@ copied_more {format} {index} {next} {xs = xs} {ys} {before} p q =
     let number = index + count_by (is_byte end) xs in
     let same : next % len ≡ number % len = rw p.later (mod-eq_of_lt (mod-lt number format.some)) in
     let all : number + count_by (is_byte end) ys ≡ index + count_by (is_byte end) (xs ++ ys) =
-    grind (arith, common_steps) in
+    grind usual in
     record {
       is = cc (
         replaced-append end _ _ xs ys,
@@ -322,8 +322,8 @@ line_copied {format} index {next} {at} rest before first next_is line_is text_is
     let end = format.terminator in
     let free = line_before_terminator end _ at first in
     let one : count_by (is_byte end) ((take at rest) ++ end ∷ []) ≡ 1 =
-    grind (arith, common_steps, counted, none_counted) in
-    rw (take_with_terminator end _ at first) (grind (arith, common_steps, replaced_line, append-nil, append_assoc))
+    grind (usual, counted, none_counted) in
+    rw (take_with_terminator end _ at first) (grind (usual, replaced_line, append-nil, append_assoc))
 
 pub copied_on : {format : SerialFormat} {index : ℕ} {bytes before : List ℕ} {next : ℕ} {after : List ℕ} (more : List ℕ)
     → 0 < length more → CopyCellsPost format index bytes before next after
@@ -342,4 +342,4 @@ serial_is_decided job format now ends are same given pushed cell on =
     let text = join_with_cycle delims 0 (lines end (given ++ [])) in
     let is : text ≡ pushed = append_cancel_right text pushed (end ∷ []) (grind arith) in
     let b = joined_begins end delims 0 (complete_lines end given) (lines end ((line_split end given).piece ++ [])) in
-    rw (← ends, ← are) (grind (arith, common_steps, complete_prefix, append-nil))
+    rw (← ends, ← are) (grind (usual, complete_prefix, append-nil))

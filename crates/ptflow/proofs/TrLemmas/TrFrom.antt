@@ -1,7 +1,7 @@
 -- The output of `tr` for the rest of a text, and for one that is cut anywhere. The last output byte is the only state,
 -- since squeezing looks back no further.
 use Rattle.ptflow.proofs
-use proofs.Common.{common_steps, ◌≡◌, ℕ, ◌-◌, not, Bool, false, List, [], ◌∷◌, ◌++◌, Option, None, Some, length, refl}
+use proofs.Common.{usual, ◌≡◌, ℕ, ◌-◌, not, Bool, false, List, [], ◌∷◌, ◌++◌, Option, None, Some, length, refl}
 use proofs.Common.{ap, arith, filter, slice_get, last_or, option_or, append-nil, map-append, filter-append, IsPrefix}
 use proofs.Common.{Tables, deletes, image, squeezes, is_not_repeat, squeeze_after, tr, tr_decided, squeeze_from}
 use proofs.Common.{tr_from, eq-eqb, squeeze, BeginsWith, Each1, Fits, w8, suc, ◌<◌, get_or, EndsWith, TrOfAnyParts}
@@ -56,7 +56,7 @@ module _ (t : Tables) where
       → IsPrefix (tr_decided t (record { bytes = given; eof = false })) pushed
   rest_decided given pushed now on = record {
     rest = [];
-    is = grind (arith, common_steps, on [], append-nil given);
+    is = grind (usual, on [], append-nil given);
   }
 
 -- ---- nothing is deleted or squeezed
@@ -89,7 +89,7 @@ from_two_parts : (squeezed : ℕ → Bool) (written bytes : List ℕ)
 from_two_parts squeezed [] bytes apart = refl
 from_two_parts squeezed (b ∷ written) bytes apart =
     let (last, is, ends) = last_of b written in
-    grind (arith, common_steps)
+    grind usual
 
 pub tr_of_parts : TrOfParts
 tr_of_parts tables a b apart = cc (front_on _ None a b, from_two_parts _ _ _ apart)
@@ -116,7 +116,7 @@ tr_after_byte tables byte a b (front, ends) kept unsqueezed =
         one_byte tables (last_or None (tr tables front)) byte kept unsqueezed,
       ),
     ) in
-    grind (arith, common_steps, tr_of_parts)
+    grind (usual, tr_of_parts)
 
 pub tr_meets_twice : TrMeetsTwice
 tr_meets_twice tables byte a b rest is (front, ends) begins =

@@ -2,10 +2,9 @@
 -- the n-th field end.
 use Rattle.ptflow.proofs
 use proofs.Common.{◌≡◌, ℕ, zero, suc, ◌+◌, ◌<◌, ◌≤◌, Bool, true, false, cond, min, List, [], ◌∷◌, None, Some, length}
-use proofs.Common.{drop, get_or, refl, sym, ◌∙◌, arith, common_steps, slice_get, option_map_or, drop-drop, IsFirstByte}
+use proofs.Common.{drop, get_or, refl, sym, ◌∙◌, arith, usual, slice_get, option_map_or, drop-drop, IsFirstByte}
 use proofs.Common.{Nowhere, Passes, is_byte, is_byte2, is_blank, ends_word, word_ends, after_fields, after_nonblanks}
-use proofs.Common.{Option, unwrap_or, drop_all, rules}
-use Rattle.std.specs.Prelude.{◌==◌}
+use proofs.Common.{Option, unwrap_or, drop_all, rules, ◌==◌}
 
 -- the rest of these bytes after n more field ends
 abbrev pub suffix_at : ℕ → List ℕ → List ℕ
@@ -69,7 +68,7 @@ at_end n m rest line none same = cc (suffix_none n, suffix_is m line)
 
 pub other_first : (rest : List ℕ) → 0 < length rest → is_blank (get_or rest 0 0) ≡ false
     → suffix_at 1 rest ≡ after_nonblanks rest
-other_first = grind (arith, common_steps, suffix_other)
+other_first = grind (usual, suffix_other)
 
 after_at : (line : List ℕ) (at : ℕ) → at < length line → ((k : ℕ) → k < at → is_blank (get_or line k 0) ≡ true → ⊥)
     → is_blank (get_or line at 0) ≡ true → after_nonblanks line ≡ drop at line

@@ -3,7 +3,7 @@
 -- deferred ones.
 use Rattle.ptflow.proofs
 use Rattle.ptflow.specs
-use proofs.Common.{◌≡◌, ℕ, ◌+◌, ◌&&◌, Bool, true, false, cond, List, [], ◌∷◌, ◌++◌, refl, ap, arith, common_steps}
+use proofs.Common.{◌≡◌, ℕ, ◌+◌, ◌&&◌, Bool, true, false, cond, List, [], ◌∷◌, ◌++◌, refl, ap, arith, usual}
 use proofs.Common.{nat_lt, append-nil, bytes_eq-Decides, IsPrefix, Uniq, Run, key, is_same, cons_run, runs, output_of}
 use proofs.Common.{init, run_of, current_run, runs_from, runs_after, run_output, ◌-◌, ◌<◌, ◌≤◌, Some, None, Option}
 use proofs.Common.{length, take, drop, subst, append_assoc, length-append, bytes_eq, slice_range, drop_split}
@@ -12,13 +12,12 @@ use proofs.Common.{unlines_push, complete_lines_none, has_output, RunsWritten, R
 use proofs.Common.{sym, ◌∙◌, known_lines, line, uniq_tool, IsLineFilter, first_line}
 use proofs.Common.{current_run_of, count_of, rules, ◌⊎◌, inl, inr, ⊎_elim, filter, AllByRecursion, cases_Bool}
 use proofs.Common.{the_lines_of_parts, lines-unlines, lines_are, BeginsWith, EndsWith, HasGroupedKeys, UniqOfParts}
-use proofs.Common.{UniqByKey, line_before_terminator, take_with_terminator}
+use proofs.Common.{UniqByKey, line_before_terminator, take_with_terminator, ◌≢◌, zero, suc}
 use proofs.Passes.Exits.{wrote_then, split_of, ended_next}
 use specs.Private.Uniq.BlockRuns.{EndRunPre, first_of, repeated}
 use specs.Private.Uniq.RunsFrom.{count_prefix, run_text}
 use specs.declared.tools.uniq.block_runs.Span.{Span}
 use specs.declared.tools.uniq.CurrentRun.{CurrentRun}
-use Rattle.std.specs.Prelude.{◌≢◌, zero, suc}
 
 module _ (job : Uniq) where
   -- The first run, and that run with one more line of its key before it.
@@ -63,11 +62,11 @@ module _ (job : Uniq) where
   -- ---- the output of runs
 
   pub entries-append : (xs ys : List Run) → output_of job (xs ++ ys) ≡ output_of job xs ++ output_of job ys
-  entries-append xs ys = grind (arith, common_steps)
+  entries-append xs ys = grind usual
 
 pub current_run_is : (job : Uniq) (run : Run)
     → output_of job (current_run run) ≡ run_output job.show run.count (run.line ++ job.terminator ∷ [])
-current_run_is job run = grind (arith, common_steps)
+current_run_is job run = grind usual
 
 -- ---- all runs but the last
 
@@ -135,8 +134,8 @@ span_join : {block : List ℕ} {a b : Span} → IsSpan block a → IsSpan block 
 span_join {block} {a} {b} fits next touch =
     let back = span_of block b in
     let split : drop a.from block ≡ ((span_of block a) ++ back) ++ drop b.to block =
-    grind (arith, common_steps, drop_split) in
-    grind (arith, common_steps)
+    grind (usual, drop_split) in
+    grind usual
 
 module _ (job : Uniq) (first : List ℕ) (count : ℕ) {block : List ℕ} {line : Option Span} {l pending : Span}
     (pre : EndRunPre job.terminator block line pending) (is : line ≡ Some l)
@@ -161,7 +160,7 @@ module _ {bytes block : List ℕ} {pending : Span} {was is : Output} (waits : Is
   }
 
   pending_pushed : PushEffect is is' (span_of block pending ++ more) → PushEffect was is' (bytes ++ more)
-  pending_pushed wrote = subst (PushEffect was is') (grind (arith, common_steps)) (wrote_then _ _ _ waits.wrote wrote)
+  pending_pushed wrote = subst (PushEffect was is') (grind usual) (wrote_then _ _ _ waits.wrote wrote)
 
 -- ---- runs one after another
 
@@ -184,12 +183,12 @@ module _ {job : Uniq} {before after : Run} {ls : List (List ℕ)} {passed : List
     -- one line more, of the current run
     pub steps_more : (nat_lt 0 after.count && is_same job after.line line) ≡ true
         → RunSteps job before (run_of after.line (after.count + 1)) (ls ++ line ∷ []) passed
-    steps_more same = grind (arith, common_steps, one_more, steps)
+    steps_more same = grind (usual, one_more, steps)
 
     -- one that ends it
     pub steps_next : (nat_lt 0 after.count && is_same job after.line line) ≡ false
         → RunSteps job before (run_of line 1) (ls ++ line ∷ []) (passed ++ current_run after)
-    steps_next other = grind (arith, common_steps, one_more, runs_after_next)
+    steps_next other = grind (usual, one_more, runs_after_next)
 
   module _ {was is : Output} (wrote : PushEffect was is (output_of job passed)) where
     pub steps_written : {all : List (List ℕ)} → all ≡ ls → (was.write_failed ≡ false → is.write_failed ≡ false)
@@ -212,7 +211,7 @@ module _ {job : Uniq} {before after : Run} {ls : List (List ℕ)} {passed : List
       fault = fault;
       is_prefix = λ more. (
         runs_after job after (later ++ more),
-        grind (arith, common_steps),
+        grind usual,
       );
     }
 
@@ -238,7 +237,7 @@ runs_loop_starts job first _ {start} some run_key_is was = record {
   lies = record { lines = refl; bytes = refl };
   passed = [];
   steps = steps_none job _;
-  waits = grind (arith, common_steps);
+  waits = grind usual;
   run_key_is = run_key_is;
   ready = grind arith;
   some = some;
@@ -293,7 +292,7 @@ module _ {job : Uniq} {first block rest : List ℕ} {start count : ℕ} {line : 
             steps = rw line_is steps;
             waits = grind (arith, entries, pending_then);
             run_key_is = cc;
-            ready = grind (arith, common_steps);
+            ready = grind usual;
             some = omega arith;
           }
 
@@ -337,14 +336,14 @@ uniq_line_tool job run start none = record {
 
 line_ends : (end : ℕ) (l more : List ℕ) → IsLine end l
     → IsFirstByte (is_byte end) ((l ++ end ∷ []) ++ more) (Some (length l))
-line_ends end l more whole = grind (arith, common_steps)
+line_ends end l more whole = grind usual
 
 module _ {job : Uniq} {first block : List ℕ} {start : ℕ} {line : Option Span} {pending : Span} {run_key : List ℕ}
     {was is : Output} (l : List ℕ) (whole : IsLine job.terminator l) (key_is : run_key ≡ key job l) where
   counted_once : (more : List ℕ) {count : ℕ}
       → RunsInvariant job first block ((l ++ job.terminator ∷ []) ++ more) start count line pending run_key was is
       → RunsInvariant job first block more start (count + 1) line pending run_key was is
-  counted_once more so_far = grind (arith, common_steps, bytes_eq-Decides, runs_loop_more, line_ends)
+  counted_once more so_far = grind (usual, bytes_eq-Decides, runs_loop_more, line_ends)
 
   pub runs_loop_again : (n : ℕ) (rest : List ℕ) {count : ℕ}
       → RunsInvariant job first block (repeated n (l ++ job.terminator ∷ []) ++ rest) start count line pending run_key

@@ -2,7 +2,7 @@
 -- to the front. Then filters: a byte is kept or removed by itself and the byte that it is compared with, so a text can
 -- be processed in pieces.
 use Rattle.ptflow.proofs
-use proofs.Common.{common_steps, ◌≡◌, ℕ, zero, suc, ◌+◌, ◌*◌, ◌^◌, ◌/◌, ◌%◌, ◌<◌, ◌≤◌, Bool, true, false, cond, List, ℤ}
+use proofs.Common.{usual, ◌≡◌, ℕ, zero, suc, ◌+◌, ◌*◌, ◌^◌, ◌/◌, ◌%◌, ◌<◌, ◌≤◌, Bool, true, false, cond, List, ℤ}
 use proofs.Common.{[], ◌∷◌, ◌++◌, map, length, take, drop, set, get_or, length-drop, drop-cons, append_assoc, add-one}
 use proofs.Common.{length-append, refl, ap, arith, w8, All, nat_eq, range_with_len, mask_l, put_chunk, chunk, pick_l}
 use proofs.Common.{Each1, take_more_put_chunk, bit_mask_l, mask_l-lt, Each1-from_get_or, swz_l, ones-mask_l_cons}
@@ -10,9 +10,8 @@ use proofs.Common.{pick_l-range_with_len, take-map, take-append-le, drop-append-
 use proofs.Common.{length-range_with_len, get_or-range_with_len, and_numeral, select_by, not, eqb, true_indices}
 use proofs.Common.{IsCompressRow, IsCompressTable, filter, append-nil, take-append-drop, take-add, zip2, drop-drop}
 use proofs.Common.{drop_all, length-chunk, length-zip2, bit_and, top, cast_unsigned, mask_of, is_not_repeat, keep_flags}
-use proofs.Common.{kept_bytes, FilterPre, bit_or, ◌-◌, rules}
+use proofs.Common.{kept_bytes, FilterPre, bit_or, ◌-◌, rules, slice_index_or, count_ones}
 pub use proofs.Vectors.Lanes.{shuffle_result}
-use Rattle.std.specs.Prelude.{slice_index_or, count_ones}
 use Rattle.ptlines.proofs.MatchMasks.{mask_append}
 use Rattle.std.proofs.lemmas.Nat.{and_le_l, and_le_r, le_or_l, le_or_r}
 
@@ -92,8 +91,7 @@ pub selected_stored : (at n : ℕ) (into lanes : List ℕ) → length lanes ≡ 
     → take (at + n) (put_chunk at into lanes) ≡ take at into ++ take n lanes
 selected_stored at n into lanes long few room =
     grind (
-      arith,
-      common_steps,
+      usual,
       take_more_put_chunk at into lanes (at + 16),
       take-append-add (take at into) lanes n,
     )
@@ -121,16 +119,16 @@ next_place flags {place} long low =
       get_or-range_with_len 0 8 place 0 low,
       add-one place,
     ) in
-    grind (arith, common_steps, select_by_append)
+    grind (usual, select_by_append)
 
 pub row_next : {mask place count bit : ℕ} {row : List ℕ} → place < 8 → bit ≡ mask / 2 ^ place % 2
     → RowPrefix mask place count row → RowPrefix mask (place + 1) (count + bit) (set row count place)
-row_next {place} {count} {row} low is begun = grind (arith, common_steps, bit_mask_l, next_place)
+row_next {place} {count} {row} low is begun = grind (usual, bit_mask_l, next_place)
 
 pub row_complete : {mask count : ℕ} {row : List ℕ} {flags : List Bool} → length flags ≡ 8 → mask ≡ mask_l flags
     → RowPrefix mask 8 count row → IsCompressRow flags row
 row_complete {count} {row} {flags} long masked begun =
-    let all : take count row ≡ true_indices flags = grind (arith, common_steps) in
+    let all : take count row ≡ true_indices flags = grind usual in
     grind (arith, length-take-le)
 
 -- ---- the halves of a mask and of lanes

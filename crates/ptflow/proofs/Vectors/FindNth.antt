@@ -3,12 +3,12 @@
 use Rattle.ptflow.proofs
 use Rattle.std.proofs.lemmas
 use proofs.Common.{◌≡◌, ℕ, zero, suc, ◌+◌, ◌-◌, ◌*◌, ◌/◌, ◌%◌, ◌^◌, ◌<◌, ◌≤◌, Bool, true, false, cond, not, Option}
-use proofs.Common.{Some, List, [], ◌∷◌, length, map, take, drop, get_or, refl, sym, ◌∙◌, ap, arith, get_or-take}
+use proofs.Common.{Some, List, [], ◌∷◌, length, map, take, drop, get_or, refl, sym, ◌∙◌, ap, arith, get_or-take, usual}
 use proofs.Common.{length-drop, count_ones, count_by, prefix_len, mask_l, chunk, take-add, take-take, length-take-le}
 use proofs.Common.{get_or-le-sum_by, sum_by-append, sum_by-take-le, ones-mask_l, get_or-chunk, length-chunk}
 use proofs.Common.{IsFirstByte, NoneBefore, Passes, is_byte, line_before_terminator, line_if_not_found, Nowhere, None}
 use proofs.Common.{option_map, nowhere_trans, IsLine, byte_ne, IsNth, IsTerminatorMask, none_if_zero_mask}
-use proofs.Common.{rules, count_by_more_yes, common_steps, take-map, get_or-map, length-map}
+use proofs.Common.{rules, count_by_more_yes, take-map, get_or-map, length-map}
 use lemmas.List.{get_or-drop, drop-map}
 use Rattle.std.proofs.Common.{pow-suc, div-one}
 use Rattle.std.proofs.Math.Nat.{div-div-eq-div-mul, zero-div}
@@ -67,8 +67,8 @@ behind : (bits : List Bool) (n : ℕ) → n < count_by (λ t. t) bits
     → IsNth (λ t. t) false n bits (prefix_len not (without n bits))
 behind [] n lt = absurd (omega arith)
 behind (true ∷ bits) zero lt = (omega arith, refl, refl)
-behind (true ∷ bits) (suc n) lt = grind (arith, common_steps, without_set n bits, behind bits n)
-behind (false ∷ bits) n lt = grind (arith, common_steps, without_clear n bits, behind bits n)
+behind (true ∷ bits) (suc n) lt = grind (usual, without_set n bits, behind bits n)
+behind (false ∷ bits) n lt = grind (usual, without_clear n bits, behind bits n)
 
 count_bits : (p : ℕ → Bool) (xs : List ℕ) → count_by (λ t. t) (map p xs) ≡ count_by p xs
 count_bits p xs = cc (map-id (map p xs), ones-mask_l (λ t. t) (map p xs), ones-mask_l p xs)
@@ -77,7 +77,7 @@ pub after_set : (p : ℕ → Bool) (xs : List ℕ) (n : ℕ) {rest : ℕ} → le
     → rest ≡ mask_l (without n (map p xs)) → IsNth p 0 n xs (count_trailing_zeros 64 rest)
 after_set p xs n few lt is =
     let (within, passes, before) = behind (map p xs) n (rw count_bits lt) in
-    grind (arith, common_steps, length-without, lowest_set, count_bits, take-map, get_or-map, length-map)
+    grind (usual, length-without, lowest_set, count_bits, take-map, get_or-map, length-map)
 
 shifted : (n : ℕ) (bits : List Bool) → mask_l bits / 2 ^ n ≡ mask_l (drop n bits)
 shifted zero bits = div-one (mask_l bits)
@@ -99,7 +99,7 @@ module _ (p : ℕ → Bool) (bytes : List ℕ) (size : ℕ) {mask : ℕ} (within
       rw start at (none_if_zero_mask p bytes 0 size mask (omega arith) is none)
 
   there : (k : ℕ) → size ≤ k → Passes p bytes k → Passes p (drop size bytes) (k - size)
-  there k low passes = grind (arith, common_steps)
+  there k low passes = grind usual
 
   pub first_in_rest : (r : Option ℕ) → IsFirstByte p (drop size bytes) r → IsFirstByte p bytes
       (option_map (λ at. size + at) r)
@@ -108,7 +108,7 @@ module _ (p : ℕ → Bool) (bytes : List ℕ) (size : ℕ) {mask : ℕ} (within
   first_in_rest (Some at) (first, found) = (
     record {
       low = omega arith;
-      high = grind (arith, common_steps);
+      high = grind usual;
       before = nowhere_trans (Passes p bytes) 0 size (size + at) front
           (λ k low high passes. first.before (k - size) (omega arith) (omega arith) (there k low passes));
     },
@@ -130,12 +130,12 @@ module _ (p : ℕ → Bool) (bytes : List ℕ) where
     near = omega (arith, length-chunk at size bytes room)
 
     pub count_in_prefix : count_by p (take (at + k) bytes) ≡ count_by p (take at bytes) + m
-    count_in_prefix = grind (arith, common_steps, take-add)
+    count_in_prefix = grind (usual, take-add)
 
     -- among the first `to` bytes
     module _ {to before index : ℕ} (is : index ≡ at + k) (counted : count_by p (take at bytes) + m ≡ before) where
       pub nth_in_prefix : index < to → to ≤ length bytes → IsNth p 0 before (take to bytes) index
-      nth_in_prefix lt le = grind (arith, common_steps, get_or-take, get_or-chunk, near, take-take, count_in_prefix)
+      nth_in_prefix lt le = grind (usual, get_or-take, get_or-chunk, near, take-take, count_in_prefix)
 
       pub none_in_prefix : to ≤ index → count_by p (take to bytes) ≤ before
       none_in_prefix ge = grind (arith, count_up_to, count_in_prefix)
@@ -155,7 +155,7 @@ module _ (d : ℕ) (line : List ℕ) where
     part = take (to - from) (drop from line)
 
     pub first_is_nth : (at : ℕ) → IsFirstByte (is_byte d) line (Some at) → at < to → IsNth (is_byte d) 0 before part at
-    first_is_nth at first lt = grind (arith, common_steps, get_or-take, take-take, none_counted, line_before_terminator)
+    first_is_nth at first lt = grind (usual, get_or-take, take-take, none_counted, line_before_terminator)
 
     pub no_nth_before_first : (at : ℕ) → IsFirstByte (is_byte d) line (Some at) → to ≤ at
         → count_by (is_byte d) part ≤ before
@@ -164,7 +164,7 @@ module _ (d : ℕ) (line : List ℕ) where
     pub no_nth : IsFirstByte (is_byte d) line None → count_by (is_byte d) part ≤ before
     no_nth none =
         let few : count_by (is_byte d) (take to line) ≤ 0 =
-        grind (arith, common_steps, none_counted, line_if_not_found) in
+        grind (usual, none_counted, line_if_not_found) in
         let whole : to - from ≡ to = omega arith in
         rw (whole, start) (omega arith)
 
@@ -175,13 +175,13 @@ module _ (p : ℕ → Bool) (bytes : List ℕ) (start end : ℕ) (fits : end < l
   one_after = count_by_more_yes p bytes end 0 fits is
 
   pub in_order : start ≤ end
-  in_order = grind (arith, common_steps)
+  in_order = grind usual
 
   pub next_is : NoneBefore (Passes p (drop start bytes)) 0 (length (drop start bytes)) (end - start)
       × Passes p (drop start bytes) (end - start)
   next_is =
       let whole : start + (end - start) ≡ end = omega (arith, in_order) in
-      grind (arith, common_steps, first_is, in_order, take-add)
+      grind (usual, first_is, in_order, take-add)
 
 -- the next terminator among 64 bytes, after n of them, where the line starts at `start`
 pub record NextTerminator (d : ℕ) (block : List ℕ) (from n bit start : ℕ) : Type 0 where

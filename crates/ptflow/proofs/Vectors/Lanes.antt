@@ -4,7 +4,7 @@
 use Rattle.ptflow.proofs
 use Rattle.ptflow.specs
 use Rattle.std.proofs.lemmas
-use proofs.Common.{common_steps, ◌≡◌, ℕ, ◌+◌, ◌<◌, ◌≤◌, ◌%◌, Bool, false, List, [], ◌∷◌, ◌++◌, Option, map, take, drop}
+use proofs.Common.{usual, ◌≡◌, ℕ, ◌+◌, ◌<◌, ◌≤◌, ◌%◌, Bool, false, List, [], ◌∷◌, ◌++◌, Option, map, take, drop}
 use proofs.Common.{length, get_or, replicate, cond, refl, sym, ◌∙◌, ap, arith, w8, Fits, sum_by, zero, suc, slice_get}
 use proofs.Common.{option_map, sel_l, zip2, top, Each1, take-add, false≢true, map-append, tops_compared, zip2_splat}
 use proofs.Common.{zip2_of_maps, splat_is_map, Each1-from_get_or, shift_at, stretch_delta, pos, negsuc, filter, mask_of}
@@ -13,8 +13,7 @@ use proofs.Common.{range_delta, shift_by_ranges, ◌*◌, ◌/◌, ◌^◌, ◌&
 use proofs.Common.{cast_signed, bit_at, from_bool, swz_l, SwzOk, SwzOk-from_below, pick_l, get_or-drop, ◌-◌, map-map}
 use proofs.Common.{and_mask, lt-ltb, le-ltb, cases_eq, cases_lt, pow_pos, length-map, set-get_or, get_or-set_same}
 use proofs.Common.{table_has, set_has, IsSetOf, All, not, length-set, get_or-chunk, get_or-map, chunk, ext_get_or}
-use proofs.Common.{get_or_default, get_or_past, min, rules}
-use Rattle.std.specs.Prelude.{is_some}
+use proofs.Common.{get_or_default, get_or_past, min, rules, is_some}
 use specs.declared.simd.shift.ShiftRange.{ShiftRange}
 use Rattle.ptlangs.specs.declared.tr.shifts.Stretch.{Stretch}
 use lemmas.Nat.Bits.{and_pow, bit_at_set_same, bit_at_set_other}
@@ -79,7 +78,7 @@ stretch_sum ss b = sum_by (λ s. shift_at s b) ss
 
 stretch_taken : (ss : List Stretch) (i b : ℕ)
     → stretch_sum (take (suc i) ss) b ≡ stretch_sum (take i ss) b + stretch_delta (stretch_at ss i) b
-stretch_taken [] i b = grind (arith, common_steps)
+stretch_taken [] i b = grind usual
 stretch_taken (s ∷ ss) zero b = omega arith
 stretch_taken (s ∷ ss) (suc i) b = search (rules, stretch_taken ss i b, sum_by-cons)
 
@@ -87,7 +86,7 @@ pub one_stretch_more : (ranges : List ShiftRange) (ss : List Stretch) (i : ℕ) 
     → i < length ranges → range_sum (take i ranges) b ≡ stretch_sum (take i ss) b
     → range_delta range b ≡ stretch_delta (stretch_at ss i) b
     → range_sum (take (i + 1) (set ranges i range)) b ≡ stretch_sum (take (i + 1) ss) b
-one_stretch_more ranges ss i range b room before is = grind (arith, common_steps, sum_by-append, add-one, stretch_taken)
+one_stretch_more ranges ss i range b room before is = grind (usual, sum_by-append, add-one, stretch_taken)
 
 pub all_stretches : (n : ℕ) (ss : List Stretch) → is_some (stretch_at ss n) ≡ false → length ss ≤ n
 all_stretches n [] none = omega arith
@@ -99,7 +98,7 @@ pub one_range_more : (ranges : List ShiftRange) (i : ℕ) (default : ShiftRange)
     → images ≡ map (shift_by_ranges (take i ranges)) v → deltas ≡ map (range_delta (get_or ranges i default)) v
     → zip2 (λ a b. (a + b) % 256) images deltas ≡ map (shift_by_ranges (take (i + 1) ranges)) v
 one_range_more ranges i default v room before is =
-    zip2_of_maps (λ a b. (a + b) % 256) _ _ v before is ∙ grind (arith, common_steps)
+    zip2_of_maps (λ a b. (a + b) % 256) _ _ v before is ∙ grind usual
 
 -- ---- masks of lanes
 
@@ -205,7 +204,7 @@ module _ (table : List ℕ) {n : ℕ} (long : length table ≡ 16) (within : n <
         get_or-set_same table (n % 16) put 0 (omega arith),
         bit_at_set_other w8 old (n / 16) (omega arith) (b / 16 % 8) (grind arith),
       ))
-      (grind (arith, common_steps)) (cases_eq (b % 16) (n % 16))
+      (grind usual) (cases_eq (b % 16) (n % 16))
 
   filled_is : (flag : Bool) {b : ℕ} → b < 128
       → table_has (flags_set table n (from_bool flag)) b
@@ -251,7 +250,7 @@ pub record IsFilledTo (n : ℕ) (f : ℕ → List ℕ) (index : ℕ) (kept : Lis
 pub filled_next : {n : ℕ} {f : ℕ → List ℕ} {index : ℕ} {kept : List (List ℕ)} {v : List ℕ} → IsFilledTo n f index kept
     → index < n → v ≡ f index → length (f index) ≡ 16 → IsFilledTo n f (index + 1) (set kept index v)
 filled_next {f = f} {index} {kept} {v} filled room is size =
-    grind (arith, common_steps, length-set, get_or-set_same, cases_eq)
+    grind (usual, length-set, get_or-set_same, cases_eq)
 
 module _ (rows : List ℕ) (found : List (List ℕ)) (count : ℕ) where
   abbrev pub odd : ℕ → ℕ
@@ -280,7 +279,7 @@ module _ (rows : List ℕ) (found : List (List ℕ)) (count : ℕ) where
 
     pub halved_lane : (lane : ℕ) → lane < 16 → get_or rows lane 0 < count
         → get_or (halved (get_or rows lane 0 / 2)) lane 0 ≡ lane_of found rows lane
-    halved_lane lane low within = grind (arith, common_steps, get_or-sel_l)
+    halved_lane lane low within = grind (usual, get_or-sel_l)
 
 -- ---- the images of 16 bytes
 
@@ -294,8 +293,7 @@ module _ (first n : ℕ) (table : List (List ℕ)) (within : first + 16 * n ≤ 
     image_is {images} has low high made long b byte =
         let i = (b - first) / 16 in
         grind (
-          arith,
-          common_steps,
+          usual,
           made i,
           get_or-chunk (first + 16 * i) 16 images ((b - first) % 16) b,
           get_or_default images b b 0,

@@ -7,14 +7,13 @@ use Rattle.std.proofs.lemmas
 use proofs.Common.{◌≡◌, ⊎_elim, false, ℕ, List, ◌++◌, Result, Ok, Err, IsErrAnd, true, Output, PushPost, PushEffect}
 use proofs.Common.{push_trans, ◌∷◌, refl, append_assoc, arith, length-drop, length-append, suc, ◌+◌, ◌-◌, ◌≤◌, Bool, []}
 use proofs.Common.{Option, None, Some, length, drop, get_or, sym, ap, zero, ◌<◌, ◌==◌, cond, position, MatchOption}
-use proofs.Common.{filter, is_some, slice_split, nat_tests, is_blank, Lines, is_separator, entry_with_list}
+use proofs.Common.{filter, is_some, slice_split, nat_tests, is_blank, Lines, is_separator, entry_with_list, usual}
 use proofs.Common.{remaining_fields, map, remove, unwrap_or, append-nil, flat_map-append, Join, output_separator, entry}
 use proofs.Common.{join_fields, other_fields, is_single_spaced, with_prefix, ◌^◌, eqb, ◌≢◌, ◌*◌, not, ◌&&◌, ◌∙◌}
 use lemmas.Bool.{cases_Bool, eqb-true}
 use Rattle.ptlines.proofs.Push.{push_past_failure}
 use Rattle.std.specs.List.{flat_map, slice_range, prefix_len, join_with_byte, onto_first}
 use Rattle.std.proofs.Common.{rules, ◌/◌, bit_and, bit_or, replicate, take, ◌%◌, ◌||◌}
-use lemmas.Grind.{common_steps}
 use specs.Write.{WriteBytesPost}
 use lemmas.List.{length-take-le, drop-map, map-id, take-map, drop-drop, length-map, take-append-drop}
 use lemmas.List.Quantifiers.{position-Some}
@@ -86,7 +85,7 @@ module _ {E : Type 0} {r : Result (Unit {0}) E} (P : E → Type 0) (err_is : IsE
 
 pub partial_more : {was is new : Output} {all bytes now left : List ℕ} → now ≡ bytes ++ left
     → PartialWrite was is all now → PushEffect is new bytes → new.write_failed ≡ false → PartialWrite was new all left
-partial_more e a wrote clean = partial_first (grind (arith, common_steps)) (wrote_then a.clean a.wrote wrote) clean
+partial_more e a wrote clean = partial_first (grind usual) (wrote_then a.clean a.wrote wrote) clean
 
 pub partial_ends : {E : Type 0} {r : Result (Unit {0}) E} {was is new : Output} {all bytes now : List ℕ} → now ≡ bytes
     → PartialWrite was is all now → WriteBytesPost is new bytes r → WriteBytesPost was new all r
@@ -152,7 +151,7 @@ piece_at separator bytes at is = let (within, found, _) = position-Some _ bytes 
       front = [];
       tail = drop at bytes;
       is = sym (take-append-drop at bytes);
-      ends = (get_or bytes at 0, grind (arith, common_steps), found);
+      ends = (get_or bytes at 0, grind usual, found);
     }
 
 pub ends_at : (separator : Option ℕ) (bytes : List ℕ) (at : ℕ) (end : Option ℕ)
@@ -163,7 +162,7 @@ ends_at separator bytes at end first some =
 
 pub ends_whole : (separator : Option ℕ) (bytes : List ℕ) (end : Option ℕ)
     → end ≡ position (is_separator separator) bytes → end ≡ None → IsFirstPieceEnd separator bytes (length bytes)
-ends_whole = grind (arith, common_steps, split_whole)
+ends_whole = grind (usual, split_whole)
 
 pub first_piece_span : (c number end : ℕ) (line : List ℕ) → number ≤ 1 → IsFirstPieceEnd (Some c) line end
     → IsKeySpan line (nth_field number (remaining_fields (Some c) (Some line))) (record { start = 0; end = end })
@@ -209,7 +208,7 @@ between_is = grind arith
 pub first_then_rest : (f : OutField → List ℕ) (items : List OutField) (d : OutField) → 1 ≤ length items
     → {bytes : List ℕ} → bytes ≡ f (get_or items 0 d)
     → map f items ≡ bytes ∷ map f (take (length items - 1) (drop 1 items))
-first_then_rest = grind (arith, common_steps)
+first_then_rest = grind usual
 
 abbrev pub output_item : Join → List ℕ → Option (List ℕ) → Option (List ℕ) → OutField → List ℕ
 output_item job k one two i =
@@ -257,7 +256,7 @@ module _ (job : Join) (key : List ℕ) (none : job.list ≡ None) where
       → nth_field job.field2 (of two) ≡ key → one ++ take (length two - length key)
       (drop (length key) two) ++ end ∷ [] ≡ entry job key (of one) (of two) ++ end ∷ []
   pair_is {one} {two} end w1 w2 keyed1 keyed2 =
-      grind (arith, common_steps, append_assoc, entry_plain job key (Some one) (Some two))
+      grind (usual, append_assoc, entry_plain job key (Some one) (Some two))
 
   pub first_is : {line : List ℕ} → IsCanonical job.separator job.field1 line → nth_field job.field1 (of line) ≡ key
       → line ≡ entry job key (of line) []
@@ -300,8 +299,8 @@ pub after_piece : (separator : Option ℕ) (line field : List ℕ) (remainder : 
     → MatchOption remainder (end ≡ length line) (λ bytes. end + 1 + length bytes ≡ length line)
     → is_evenly_separated separator line ≡ true
     → with_prefix (output_separator separator) (remaining_fields separator remainder) ≡ drop end line
-after_piece separator line field None end p e even = grind (arith, common_steps)
-after_piece separator line field (Some bytes) end p e even = grind (arith, common_steps, by)
+after_piece separator line field None end p e even = grind usual
+after_piece separator line field (Some bytes) end p e even = grind (usual, by)
   where
     by : (separator : Option ℕ) (byte : ℕ) → is_separator separator byte ≡ true
         → is_evenly_separated separator ((p.front ++ field) ++ byte ∷ bytes) ≡ true
@@ -326,7 +325,7 @@ remove_at (g ∷ fs) (suc i) f more is = cc (remove_at fs i f _ is)
 cut_before : (c : ℕ) (before more line : List ℕ) → before ++ (c ∷ more) ≡ c ∷ line → (rest : List ℕ)
     → before ++ rest ≡ cond (length before == 0) rest (c ∷ take (length before - 1) line ++ rest)
 cut_before c [] more line is rest = refl
-cut_before c (x ∷ before) more line is rest = grind (arith, common_steps)
+cut_before c (x ∷ before) more line is rest = grind usual
 
 -- without a field: the bytes before it, except the separator, and those after it
 pub around_is : (separator : Option ℕ) (number : ℕ) (line : List ℕ) (found : Option Span)
@@ -353,7 +352,7 @@ around_is separator number line (Some span) f even =
           (omega (arith, length-drop span.start line)),
     ) in
     let cut = rw long at (cut_before c before (word ++ rest) line line_is rest) in
-    grind (arith, common_steps, remove_at)
+    grind (usual, remove_at)
 
 -- ---- what the functions of `join` name on themselves
 
@@ -362,8 +361,6 @@ pub ruleset first_piece_steps = (split_whole, split_around, piece_at)
 pub ruleset remaining_steps = (none_past, drop_next, fields_after)
 
 pub ruleset other_fields_steps = (around_is, between_is, push_is_write)
-
-pub ruleset plain_entry_steps = (first_fails, entry_plain)
 
 -- ---- words by masks
 
@@ -411,8 +408,8 @@ pub ends_mask : (test : ℕ → Bool) (bytes : List ℕ) (n : ℕ) → n ≤ len
 ends_mask test bytes n first all few =
     let last = length bytes - n in
     let bits = map test bytes in
-    let tail : map test (chunk last n bytes) ≡ drop last bits = grind (arith, common_steps, drop-map) in
-    let size : length (drop last bits) ≡ n = grind (arith, common_steps) in
+    let tail : map test (chunk last n bytes) ≡ drop last bits = grind (usual, drop-map) in
+    let size : length (drop last bits) ≡ n = grind usual in
     let small = fits (mask_l (drop last bits)) n last (rw size at (mask_l-lt (drop last bits))) (omega arith) in
     let whole : mask_l (drop last bits) * 2 ^ last % 2 ^ 64 ≡ 2 ^ last * mask_l (drop last bits) = omega arith in
     cc (take-map _ n _, tail, or_ends last n _ (omega arith))
@@ -686,7 +683,7 @@ module _ {line : List ℕ} {passed words : ℕ} (short : length line < 64) (left
   bits = from left.at line
 
   bits_long : length bits ≡ length line
-  bits_long = grind (arith, common_steps)
+  bits_long = grind usual
 
   pub words_small : words < 2 ^ 63
   words_small = search (rules, bits_long, mask_l-lt)

@@ -6,7 +6,7 @@ use Rattle.ptmerge.specs
 use Rattle.std.proofs.lemmas
 pub use proofs.Common.{◌≡◌, ⊎_elim, ℕ, ◌+◌, ◌-◌, ◌≤◌, ◌<◌, suc, true, false, length-drop, List, [], ◌∷◌, ◌++◌, length}
 pub use proofs.Common.{map, drop, get_or, set, max, refl, ap, ◌∙◌, arith, append_assoc, length-append, length-set}
-pub use proofs.Common.{drop_more, Slots, line, total_bytes, with_line, with_denied, unlines, max_length, Join}
+pub use proofs.Common.{drop_more, Slots, line, total_bytes, with_line, with_denied, unlines, max_length, Join, usual}
 pub use proofs.Common.{ClearGroupPost, group, CopyToGroupPost, entry, join_fields, pair_entries, Lines, lines_with_key}
 pub use proofs.Common.{Reader, Side, First, Second, Sorted, Key, with_side, MergeTool, ◌&&◌, Bool, Some, sym, subst}
 pub use proofs.Common.{bytes_eq, bytes_decides, append-nil, Output, PushEffect, push_trans, unlines-append}
@@ -22,7 +22,6 @@ use proofs.MergeLemmas.{EachKey-append, front_is, later_entries, lines_with_key-
 use proofs.MergeLemmas.{self_at_most, equal_is, SideAfterNext, IsAtCurrentLine, MatchesStatus, read_facts_after_line}
 use proofs.MergeLemmas.{IsOpenMerge, ReadFactsOf, SidesInvariant, current_key_is_above, next_at, sides_next}
 use proofs.MergeLemmas.{advance_fails}
-use lemmas.Grind.{common_steps}
 pub use Rattle.std.proofs.Common.{rules}
 use Rattle.std.proofs.Math.ListN.{get_or-append}
 use lemmas.List.{drop-set-add, set_at, take_at, take_more}
@@ -43,7 +42,7 @@ group_from store end slot fits low = grind (arith, drop_more store.lines slot []
 pub group_more : (store : Slots) (from end : ℕ) → from ≤ end → end < length store.lines
     → group store from (end + 1) ≡ group store from end ++ line store end ∷ []
 group_more store from end least within =
-    let more = take_more (drop from store.lines) (end - from) [] in grind (arith, common_steps)
+    let more = take_more (drop from store.lines) (end - from) [] in grind usual
 
 pub group_one : (store : Slots) (slot : ℕ) → slot < length store.lines
     → group store slot (slot + 1) ≡ line store slot ∷ []
@@ -86,11 +85,11 @@ record EnsuredSlot (before made : Slots) (slot : ℕ) : Type 0 where
 
 ensured_slot : (before made : Slots) (slot : ℕ) → EnsureSlotPost before made slot → EnsuredSlot before made slot
 ensured_slot before made slot g =
-    ⊎_elim (λ e. let more : Lines = [] in grind (arith, common_steps)) (λ e. grind (arith, common_steps)) g.grown
+    ⊎_elim (λ e. let more : Lines = [] in grind usual) (λ e. grind usual) g.grown
 
 pub failed_copy : (before made : Slots) (to : ℕ) → EnsureSlotPost before made to
     → CopyToGroupErrPost before (with_denied (with_line made to [])) to
-failed_copy = grind (arith, common_steps, total_bytes_set)
+failed_copy = grind (usual, total_bytes_set)
 
 -- ---- the largest group
 
@@ -159,9 +158,9 @@ module _ {tool : MergeTool} {before store : Slots} {ls : Side → Lines} {g : Li
       by_tail [] none some is = grind (arith, length-append)
       by_tail (z ∷ t) none some is =
           let four : 4 ≤ length (set made.lines to y) = grind arith in
-          let split : drop 4 (set made.lines to y) ≡ (g ++ y ∷ []) ++ t = grind (arith, common_steps, set_at) in
+          let split : drop 4 (set made.lines to y) ≡ (g ++ y ∷ []) ++ t = grind (usual, set_at) in
           let lines = same_lines store.lines (set made.lines to y) (λ side. max_length (ls side)) (total_bytes g)
-          (total_bytes (g ++ y ∷ [])) k.lines four first_same (grind (arith, common_steps, none)) in
+          (total_bytes (g ++ y ∷ [])) k.lines four first_same (grind (usual, none)) in
           record {
             tail = t;
             split = split;
@@ -201,7 +200,7 @@ module _ {tool : MergeTool} {before store : Slots} {ls : Side → Lines} {g : Li
 
   pub group_store_cleared : {after : Slots} {end : ℕ} → end ≡ 4 + length g → ClearGroupPost store after end
       → GroupStore tool before after ls []
-  group_store_cleared = grind (arith, common_steps, group_is, total_within, same_lines)
+  group_store_cleared = grind (usual, group_is, total_within, same_lines)
 
 pub ruleset pair_steps = (partial_starts, pairs_text)
 
@@ -475,7 +474,7 @@ module _ {call : JoinCall} {now : MergeState} {cursor : Side → Sorted} {end : 
   with_head = at_head.all ∙ append_assoc (q.p s) (g s) (x ∷ [])
 
   pub own_more : (side : Side) → EachKey (λ z. z ≡ k) (key side) (added side)
-  own_more = grind (arith, common_steps, q.within.own, l.is)
+  own_more = grind (usual, q.within.own, l.is)
 
   pub within_more : OutputInGroup tool old.out q.mid q.p added q.d k
   within_more = assumption (own_more, q.within)

@@ -2,6 +2,7 @@
 -- others are known for each input; the contract of the tool follows from these and from the output.
 pub mod Invariant
 pub mod SlotLines
+use Rattle.ptmerge.proofs.Common.{usual}
 use Rattle.ptmerge.proofs
 use Rattle.ptmerge.specs
 pub use proofs.Common.{⊎_elim, inl, IsPrefix, both_sides, nat_tests, length_push, line_of_with_line, CursorStatus, Head}
@@ -422,7 +423,7 @@ module _ (tool : MergeTool) (o : IsKeyOrder tool.cmp) (s : Side) (old now new : 
       (at_line e.next_line e.sound lines_read number _ _ sorted_up_to is _ refl)
   next_invariant lines_read number sorted_up_to is (inr e) =
       rw e.cursor (at_next _ [] [] Ended cursor.number false NothingMore (search rules) (inl e.done) e.sound
-      (inl (append-nil ls)) (simp append-nil number) (grind (arith, common_steps)) (refl, e.done)
+      (inl (append-nil ls)) (simp append-nil number) (grind usual) (refl, e.done)
       (grind (arith, may_follow_none))
       e.empty (omega arith))
 

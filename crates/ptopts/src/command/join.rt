@@ -97,7 +97,7 @@ impl<'a, A: Allocator + Copy> ParsedArgs<'a, A> {
         let field2 = self.field_number(b'2')?;
         Ok(JoinJob {
             pairs: !self.has(b'v'),
-            unpaired: [also1 || only1, also2 || only2],
+            unpaired: [also1 | only1, also2 | only2],
             empty: self.empty_field(alloc)?,
             list,
             sep,

@@ -9,7 +9,7 @@ pub use proofs.Common.{get_or-set_same, get_or_append_left, get_or_default, get_
 pub use proofs.Common.{take-take, take_all, sum_by-append, sum_by, advance_trans, lines_of_unlines, unlines-append}
 pub use proofs.Common.{FillPost, AdvanceOk, IsDone, IsSound, Reader, ReaderAdvance, budget, reader_at, Slots, line}
 pub use proofs.Common.{total_bytes, with_line, AddedSlots, AreLines, max_length, SetTerminatorsPost, FillCellPost}
-pub use proofs.Common.{SlotsBound, SlotsKept, RowAmid, RowFilled, RowShape, BegunText, CellsFilled, CellsTaken}
+pub use proofs.Common.{SlotsBound, SlotsKept, RowAmid, RowFilled, RowShape, BegunText, CellsFilled, CellsTaken, usual}
 pub use proofs.Common.{after_cell, cells_text, slots_text, AreReceivedLines, LinesTaken, BufferedRowsPre, AreFirstRows}
 pub use proofs.Common.{take-append-le, RowsTaken, CopyColumnsPost, CopyRowsPost, FlowFault, Memory, Read, Write, rules}
 pub use proofs.Passes.Exits.{lines_none, lines_are_given, lines_more, eof_gives_nothing}
@@ -46,7 +46,7 @@ taken_more all p q = record {
   buffered = λ h. q.buffered (p.buffered h);
   none = search rules;
   came = search (rules, unlines-append, AreLines-append, lines_of_unlines, eof_gives_nothing, none_received);
-  enough = grind (arith, common_steps);
+  enough = grind usual;
 }
 
 pub taken_by : {end n : ℕ} {b c : Reader} {bytes : List ℕ} {ls : Lines} → AdvanceOk b c bytes → b.fault ≡ None
@@ -60,7 +60,7 @@ module _ (row : RowShape) where
   pub cells_text-append : (c : ℕ) (xs ys : Lines)
       → cells_text row c (xs ++ ys) ≡ cells_text row c xs ++ cells_text row (c + length xs) ys
   cells_text-append c [] ys = search rules
-  cells_text-append c (x ∷ xs) ys = grind (arith, common_steps, cells_text-append (c + 1) xs ys)
+  cells_text-append c (x ∷ xs) ys = grind (usual, cells_text-append (c + 1) xs ys)
 
   -- From column c to the last one.
   pub row_text : (c : ℕ) (xs : Lines) → c + length xs ≡ length row.cells → 0 < length xs
@@ -68,8 +68,7 @@ module _ (row : RowShape) where
   row_text c [] all some = absurd (omega arith)
   row_text c (x ∷ []) all some = search rules
   row_text c (x ∷ y ∷ more) all some = grind (
-    arith,
-    common_steps,
+    usual,
     row_text (c + 1) (y ∷ more) (omega arith)
         (omega arith),
   )
@@ -115,7 +114,7 @@ module _ {row : RowShape} where
       count = q.first_rows.count ∙ p.first_rows.count;
     };
     least = omega arith;
-    is = grind (arith, common_steps);
+    is = grind usual;
   }
 
 module _ {row : RowShape} {old new : List Reader} {fields : Lines}
@@ -125,14 +124,14 @@ module _ {row : RowShape} {old new : List Reader} {fields : Lines}
     ls = r.input_lines;
     taken_rows = fields ∷ [];
     first_rows = record {
-      lines_taken = λ p. grind (arith, common_steps);
+      lines_taken = λ p. grind usual;
       are =
           let (c, low, first) = r.some some in
           cc (
             for_each_cell_unique (top_of row.cells r.input_lines) row.cells fields [] r.consumed.width
                 r.consumed.fields_taken,
             grid_step row.cells r.input_lines c low (omega arith),
-            grid_none row.cells (after_row row.cells r.input_lines) (grind (arith, common_steps)),
+            grid_none row.cells (after_row row.cells r.input_lines) (grind usual),
           );
       count = r.consumed.count;
     };
@@ -165,7 +164,7 @@ pub slots_bound_start : {cells : List ℕ} {top : ℕ → ℕ} {before store : S
 slots_bound_start {cells} {store = store} adds denied empty peak = record {
   denied = denied;
   adds = adds;
-  short = grind (arith, common_steps);
+  short = grind usual;
   others = let n = length cells in omega (
     arith,
     ap total_bytes (take-append-drop n store.lines),
@@ -208,7 +207,7 @@ line_le_max_length (line ∷ ls) (suc j) = omega (arith, line_le_max_length ls j
 -- Fields that are in no slot.
 slots_kept_more : {cells : List ℕ} {fields : Lines} {before store : Slots} → SlotsKept cells fields before store
     → (more : Lines) → SlotsKept cells (fields ++ more) before store
-slots_kept_more s more = grind (arith, common_steps)
+slots_kept_more s more = grind usual
 
 -- ---- readers by their indices
 
@@ -244,7 +243,7 @@ pub set_terminator_more : (end : ℕ) (cells : List ℕ) (i : ℕ) (old now : Li
     → get_or cells i 0 < length now → SetTerminatorsPost end (take i cells) old now
     → r ≡ record (reader_at now (get_or cells i 0)) { terminator = end } → IsSound r
     → SetTerminatorsPost end (take (i + 1) cells) old (set now (get_or cells i 0) r)
-set_terminator_more = grind (arith, common_steps)
+set_terminator_more = grind usual
 
 -- ---- the lines of a row
 
@@ -327,7 +326,7 @@ module _ {row : RowShape} {n : ℕ} {old now : List Reader} {fields : Lines} {an
 
   module _ (r : Reader) where
     all_budgets : sum_by budget (set now p r) + budget b ≡ sum_by budget now + budget r
-    all_budgets = grind (arith, common_steps)
+    all_budgets = grind usual
 
     pub fill_next : (field : List ℕ) (has : Bool) → FieldTaken row.terminator b r field has
         → CellsFilled row (n + 1) old (set now p r) (fields ++ field ∷ []) (any_line || has)
@@ -337,12 +336,11 @@ module _ {row : RowShape} {n : ℕ} {old now : List Reader} {fields : Lines} {an
         let less : sum_by budget (set now p r) < sum_by budget old = omega (arith, all_budgets) in
         rw or-true (record {
           input_lines = λ q. f.input_lines q ++ lines_of_input p (field ∷ []) q;
-          consumed = cells_taken_more f.consumed x.low x.within lines_taken
-              (grind (arith, common_steps));
+          consumed = cells_taken_more f.consumed x.low x.within lines_taken (search (rules, get_or_push));
           some = λ h. (
             n,
             omega arith,
-            grind (arith, common_steps),
+            grind usual,
           );
           none = λ h. cc;
           least = omega arith;
@@ -353,7 +351,7 @@ module _ {row : RowShape} {n : ℕ} {old now : List Reader} {fields : Lines} {an
         grind (arith, append-nil (f.input_lines q)) in
         rw or-false (record {
           input_lines = λ q. f.input_lines q ++ lines_of_input p [] q;
-          consumed = cells_taken_more f.consumed x.low x.within (rw x.is_read at t) (grind (arith, common_steps));
+          consumed = cells_taken_more f.consumed x.low x.within (rw x.is_read at t) (grind usual);
           some = search rules;
           none = λ h q. same q ∙ f.none h q;
           least = omega (arith, all_budgets);
@@ -364,16 +362,17 @@ module _ {row : RowShape} {n : ℕ} {old now : List Reader} {fields : Lines} {an
 abbrev pub with_slot : RowShape → ℕ → Slots → BegunText → BegunText
 with_slot row n store now = record now { count = n + 1; text = now.text ++ (line store n ++ after_cell row n) }
 
+-- the slots hold the fields, with that of this column
 slot_held : (ls fields : Lines) (field : List ℕ) (c : ℕ) {n : ℕ} → length fields ≡ n → n < length ls → c < n + 1
     → (c < n → get_or ls c [] ≡ get_or fields c [])
     → get_or (set ls n field) c [] ≡ get_or (fields ++ field ∷ []) c []
-slot_held ls fields field c width room under before = grind (arith, common_steps)
+slot_held ls fields field c width room under before = grind usual
 
 module _ {row : RowShape} where
   -- The begun row was moved to the front of the buffer.
   pub amid_starts : {old : List Reader} {copied : List ℕ} {begun moved : BegunText} {store : Slots}
       (p : CopyRowsPost row old copied begun) → moved ≡ begun → RowAmid row moved.count p.mid store moved store
-  amid_starts p same = grind (arith, common_steps)
+  amid_starts p same = grind usual
 
   module _ {n : ℕ} {from : List Reader} {first store : Slots} {now : BegunText} (a : RowAmid row n from first now store)
       {b : Reader} (x : IsNextReader row now.readers n b) where
@@ -420,7 +419,7 @@ module _ {row : RowShape} where
   pub amid_copied : {n : ℕ} {from : List Reader} {first store : Slots} {now : BegunText}
       → RowAmid row (n + 1) from first now store → now.count ≡ n
       → RowAmid row (n + 1) from first (with_slot row n store now) store
-  amid_copied = grind (arith, common_steps, cells_text-append)
+  amid_copied = grind (usual, cells_text-append)
 
   pub amid_columns : {from : List Reader} {first store : Slots} {now next : BegunText}
       → RowAmid row now.count from first now store → CopyColumnsPost row now next
@@ -443,8 +442,8 @@ module _ {row : RowShape} where
       let front = take k a.fields in
       let slots = take n store.lines in
       let long = length-take-le k a.fields (omega arith) in
-      let same = ext_get_or [] (drop k slots) (drop k a.fields) (grind (arith, common_steps))
-      (grind (arith, common_steps)) in
+      let same = ext_get_or [] (drop k slots) (drop k a.fields) (grind usual)
+      (grind usual) in
       let here : k ≡ 0 + length front = omega arith in
       cc (cells_text-append row 0 front (drop k a.fields), take-append-drop k a.fields)
 

@@ -1,7 +1,7 @@
 -- The contract of `process_block` preserves the invariant, and each exit is a lemma of `Exits`. No block is empty, so
 -- the budget decreases.
 use Rattle.ptflow.proofs
-use proofs.Common.{refl, arith, reads_nothing, common_steps, rules, Ok}
+use proofs.Common.{refl, arith, reads_nothing, usual, rules, Ok}
 use Rattle.ptlines.specs.ReadLine.{BlockResult}
 use proofs.Passes.Exits.{BlockLoopState, blocks_start, block_sent, block_taken, Ending, ending, block_failed, is_fault}
 use proofs.Passes.Exits.{nothing_more, pass_write, pass_done, pass_unended}
@@ -53,20 +53,20 @@ pub returns-then-is_empty : goal.returns-then-is_empty
 returns-then-is_empty g c =
     let (_, end, (refilled, _, ended)) = read g (goal.at.returns-then-is_empty g c).In-Ok in
     λ t tool store ready. pass_done (end t tool store ready) c.finish.ensures.wrote
-    (ended (grind (arith, common_steps))) refl refilled.failed ready.not_denied c.in_ok-finish-in-Ok.ensures.clean
+    (ended (grind usual)) refl refilled.failed ready.not_denied c.in_ok-finish-in-Ok.ensures.clean
     refilled.fault (c.block.follows.holds-at-none.is_sound.long refilled.fault) ready.empty
 
 pub returns-in_err-finish-in-Ok : goal.returns-in_err-finish-in-Ok
 returns-in_err-finish-in-Ok g c =
     let (_, end, (refilled, _, ended)) = read g (goal.at.returns-in_err-finish-in-Ok g c).In-Ok in
     rw (is_fault c.from_residual-in_err-finish-in-Ok.ensures) (λ t tool store ready.
-    pass_unended (end t tool store ready) c.finish.ensures.wrote (ended (grind (arith, common_steps))) refl
+    pass_unended (end t tool store ready) c.finish.ensures.wrote (ended (grind usual)) refl
     refilled.failed ready.not_denied c.in_err-finish-in-Ok.ensures.fault)
 
 pub reading-preserved : goal.reading-preserved
 reading-preserved g c =
     let (run, _, (refilled, shown, _)) = read g (goal.at.reading-preserved g c).In-Ok in
-    record { run = grind (arith, block_taken); counted = grind (arith, common_steps) }
+    record { run = grind (arith, block_taken); counted = grind usual }
 
 pub reading-smaller : goal.reading-smaller
-reading-smaller g c = grind (arith, common_steps)
+reading-smaller g c = grind usual

@@ -8,13 +8,15 @@ use Rattle.ptflow.proofs.line_loop.run_lines.Given as given
 use Rattle.ptflow.proofs.line_loop.run_lines.Goals as goal
 use Rattle.ptflow.proofs.line_loop.run_lines.Goals.{After-fill, In-Ok-true}
 use Rattle.ptflow.proofs.line_loop.run_lines.Goals.{In_ok-process_line-in-Ok-true}
-use proofs.Common.{rules, arith, common_steps, ◌∙◌, ◌-◌, FillLine}
+use proofs.Common.{refl, rules, arith, usual, ◌∙◌, ◌-◌, FillLine}
 
 -- the states after the write, and after the line in the last slot
 written_out : (g : given.Over) (c : After-fill g)
     → Run c.requires.tool c.args.reader.now c.reading.reader c.args.out.now c.write_out_before_blocking.new.out
     c.args.store.now c.reading.store (g.T.LineFilter.model c.reading.tool c.reading.store)
-written_out g c = search (rules, run_sent)
+written_out g c =
+    run_sent c.requires.tool c.reading.invariant.run c.write_out_before_blocking.ensures.pushed.wrote
+    c.in_ok-write_out_before_blocking.ensures.pushed.clean
 
 -- the line that was read
 line_read : (g : given.Over) (c : In-Ok-true g)
@@ -38,13 +40,16 @@ returns-in_err-ensure_slots g c =
     c.ensure_slots.ensures.same_peak c.in_err-ensure_slots.ensures.denied)
 
 pub reading-init : goal.reading-init
-reading-init g c = search (rules, run_starts, bounds_start)
+reading-init g c = record { same_job = refl; run = search (rules, run_starts, bounds_start) }
 
 pub returns-in_err-write_out_before_blocking : goal.returns-in_err-write_out_before_blocking
 returns-in_err-write_out_before_blocking g c =
     rw (is_fault c.from_residual-in_err-write_out_before_blocking.ensures)
     (run_flush_failed c.requires.tool c.reading.invariant.run c.write_out_before_blocking.ensures.sound
     c.write_out_before_blocking.ensures.pushed.wrote c.in_err-write_out_before_blocking.ensures.pushed.fault)
+
+pub process_line-requires-clause-room : goal.process_line-requires-clause-room
+process_line-requires-clause-room g c = omega (arith, run_room c.requires.tool c.reading.invariant.run)
 
 pub process_line-requires-clause-few : goal.process_line-requires-clause-few
 process_line-requires-clause-few g c =
@@ -90,7 +95,7 @@ returns-in-Err-Memory g c =
     run_memory c.requires.tool r c.fill.ensures.was_sound c.fill.ensures.is_sound (grind arith)
 
 pub reading-smaller : goal.reading-smaller
-reading-smaller g c = grind (arith, common_steps)
+reading-smaller g c = grind usual
 
 pub process_lines-requires-clause-room : goal.process_lines-requires-clause-room
 process_lines-requires-clause-room g c = run_room c.requires.tool
@@ -102,7 +107,7 @@ process_lines-requires-clause-buffered g c =
     record {
       few = run_count c.requires.tool v c.fill.ensures.is_sound;
       waits = c.in_ok-process_line-in-Ok-true.ensures.continues.some (omega arith);
-      short = grind (arith, common_steps);
+      short = grind usual;
     }
 
 pub returns-in_err-passed : goal.returns-in_err-passed

@@ -1,9 +1,9 @@
 -- The next interval extends the current one if they overlap or are adjacent; otherwise there is a gap between them.
 use Rattle.ptlangs.proofs
-use proofs.Common.{arith, common_steps, drop_all, drop_more, refl, rules}
+use proofs.Common.{usual, drop_all, drop_more, refl, rules}
 use proofs.ListElements.{absorbs, starts_next}
-use Rattle.ptlangs.proofs.ranges.merge.Goals.{else-next-current+in_ok-push, then-next-current}
-use Rattle.ptlangs.proofs.ranges.merge.Goals as goal
+use proofs.ranges.merge.Goals.{else-next-current+in_ok-push, then-next-current}
+use proofs.ranges.merge.Goals as goal
 
 pub loop-next-preserved : goal.loop-next-preserved
 loop-next-preserved g c =
@@ -21,4 +21,4 @@ pub returns-clause-same : goal.returns-clause-same
 returns-clause-same g c = search (rules, drop_all)
 
 pub overflow_sub-next : goal.overflow_sub-next
-overflow_sub-next g c = grind (arith, common_steps)
+overflow_sub-next g c = grind usual

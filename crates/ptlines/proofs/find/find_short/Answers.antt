@@ -1,5 +1,4 @@
-use Rattle.std.proofs.Common.{rules}
 use Rattle.ptlines.proofs.find.find_short.Goals as goal
 
 pub returns-then-bytes-ge8 : goal.returns-then-bytes-ge8
-returns-then-bytes-ge8 c = search rules
+returns-then-bytes-ge8 c = search

@@ -7,14 +7,13 @@ pub use proofs.Common.{◌≡◌, ◌⊎◌, inr, ℕ, List, Bool, true, false, 
 pub use proofs.Common.{is_eq, is_gt, is_le, bytes_decides, tied_itself, Cmp, byte_cmp, line_cmp, ◌<◌, length, get_or}
 pub use proofs.Common.{suc, zero, [], ◌∷◌, ◌++◌, cond, map, append_assoc, append-nil, filter, flat_map, Side, First}
 pub use proofs.Common.{Second, Lines, MergeTool, distinct_keys, keys, lines_with_key, entries_of_key, entries_by_key}
-pub use proofs.Common.{Key, ◌+◌, Option, Some, None, nat_lt, unwrap_or, if◌then◌else◌, last_or, sorted_prefix}
+pub use proofs.Common.{Key, ◌+◌, Option, Some, None, nat_lt, unwrap_or, if◌then◌else◌, last_or, sorted_prefix, usual}
 pub use proofs.Common.{first_disorder, FirstDisorder, ◌&&◌, not, sym, flat_map-append, is_up_to, subst, is_lt, Output}
 pub use proofs.Common.{PushEffect, unlines, push_trans, push_nothing, unlines-append, disorder, merged_entries}
-pub use proofs.Common.{option_map, with_side, disordered_line}
+pub use proofs.Common.{option_map, with_side, disordered_line, inl}
 use Rattle.std.specs.Cmp.{IsTotalOrder}
 use specs.OrderLaws.{reversed_same_bytes, byte_cmp_equal}
 pub use Rattle.std.proofs.Common.{rules}
-pub use lemmas.Grind.{common_steps}
 use proofs.MergeLemmas.Exits.SlotLines.{put_each}
 pub use specs.MergeSpec.{MergeDisorder, is_past, earlier_disorder, insert_key, is_below, is_decided}
 use lemmas.Cmp.{back_total, nat_list_cmp_total, upto}
@@ -97,7 +96,7 @@ Each-parts P (x ∷ xs) ys (here, more) = search (rules, Each-parts P xs ys more
 
 pub EachKey-append : (P : List ℕ → Type 0) (key : Key) (xs ys : Lines) → EachKey P key xs → EachKey P key ys
     → EachKey P key (xs ++ ys)
-EachKey-append = grind (arith, common_steps)
+EachKey-append = grind usual
 
 pub Each-insert : (cmp : Cmp) (P : List ℕ → Type 0) (k : List ℕ) (xs : Lines) → P k → Each P xs
     → Each P (insert_key cmp k xs)
@@ -646,13 +645,17 @@ all_three : (x y z u v w : Bool) → (x ≡ true → u ≡ true) → (y ≡ true
     → (x && y && z) ≡ true → (u && v && w) ≡ true
 all_three = grind arith
 
+and_false : (x y z : Bool) → (y ≡ false) ⊎ (z ≡ false) → (x && y && z) ≡ false
+and_false = grind arith
+
 module _ (tool : MergeTool) (o : IsKeyOrder tool.cmp) (eof : Side → Bool) (ls : Side → Lines) where
   open tool use {cmp}
 
   pub downward_decided : IsDownwardClosed cmp (is_decided tool eof ls)
-  downward_decided = grind (arith, common_steps, all_three, greater_flips)
+  downward_decided = grind (usual, all_three, greater_flips)
 
   pub not_decided : (side : Side) (k : List ℕ) → is_past cmp (tool.key side) (eof side) (ls side) k ≡ false
       → is_decided tool eof ls k ≡ false
-  not_decided First k e = grind arith
-  not_decided Second k e = grind arith
+  not_decided First k e = and_false _ _ _ (inl e)
+  not_decided Second k e =
+      and_false (is_up_to cmp (disorder tool ls) k) (is_past cmp (tool.key First) (eof First) (ls First) k) _ (inr e)

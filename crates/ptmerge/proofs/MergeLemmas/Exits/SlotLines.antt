@@ -4,13 +4,12 @@ use Rattle.ptmerge.proofs
 use Rattle.std.proofs.lemmas
 pub use proofs.Common.{◌≡◌, ◌⊎◌, ℕ, ◌+◌, ◌<◌, ◌≤◌, true, false, List, [], ◌∷◌, ◌++◌, length, max, refl, ◌∙◌, arith}
 pub use proofs.Common.{append_assoc, length-append, append-nil, Received, IsConsistent, known_lines, Reader, Slots}
-pub use proofs.Common.{unlines, lines, complete_lines, IsLine, AreLines, max_length, advance_ok_trans, HasNoLine}
+pub use proofs.Common.{unlines, lines, complete_lines, IsLine, AreLines, max_length, advance_ok_trans, HasNoLine, usual}
 pub use proofs.Common.{IsFirstLineAndBlock, ◌≢◌, zero, suc, ◌*◌, get_or, set, line, total_bytes, with_new_slot}
 pub use proofs.Common.{with_line, Side, First, Second, Sorted, HasSlots, Bool, both, with_side, other, length-set}
 pub use proofs.Common.{Lines, MergeTool, drop, sym}
 pub use Rattle.ptlines.proofs.MaxLength.{max_length-append, piece_le_max_length}
 pub use Rattle.std.proofs.Common.{rules}
-pub use lemmas.Grind.{common_steps}
 use Rattle.ptlines.proofs.TextLaws.{AreLines_push, complete_lines_cons, complete_lines_none, lines_of_last}
 use Rattle.ptlines.proofs.TextLaws.{lines_of_unlines}
 use lemmas.List.{drop-set-lt}
@@ -29,8 +28,7 @@ ended_more : (end : ℕ) (ls : List (List ℕ)) (bytes : List ℕ) → AreLines 
     → complete_lines end (unlines end ls ++ bytes) ≡ ls ++ complete_lines end bytes
 ended_more end [] bytes w = refl
 ended_more end (line ∷ ls) bytes (free, more) = grind (
-  arith,
-  common_steps,
+  usual,
   complete_lines_cons,
   free,
   ended_more end
@@ -54,14 +52,14 @@ pub record GivesNothing (new : Reader) (bytes : List ℕ) : Type 0 where
 
 pub done_gives_nothing : {now new : Reader} {bytes : List ℕ} → IsDone now → ReaderAdvance now new bytes
     → GivesNothing new bytes
-done_gives_nothing = grind (arith, common_steps)
+done_gives_nothing = grind usual
 
 abbrev pub HasBegun : Reader → List (List ℕ) → Type 0
 HasBegun now ls = IsDone now ⊎ (0 < length ls)
 
 pub one_line_at_most : (end : ℕ) (piece : List ℕ) → IsLine end piece → length (lines end piece) ≤ 1
 one_line_at_most end [] free = omega arith
-one_line_at_most end (b ∷ piece) free = grind (arith, common_steps, lines_of_last)
+one_line_at_most end (b ∷ piece) free = grind (usual, lines_of_last)
 
 pub lines_read_more : {end : ℕ} {old now new : Reader} {ls : List (List ℕ)} {before after : Slots} {slot : ℕ}
     → LinesRead end old now ls → (e : FillLine now new before after slot) → LinesRead end old new (ls ++ e.line ∷ [])
@@ -113,8 +111,7 @@ module _ {end : ℕ} {old now new : Reader} {ls : List (List ℕ)} {piece : List
 
   pub lines_read_known : KnownLines (known_lines end came)
   lines_read_known = grind (
-    arith,
-    common_steps,
+    usual,
     lines_read_of_input,
     front_of,
     ended_more,
@@ -126,8 +123,7 @@ module _ {end : ℕ} {old now new : Reader} {ls : List (List ℕ)} {piece : List
   pub begun_gives_line : HasBegun now ls → ¬ HasNoLine end came
   begun_gives_line begun none =
       grind (
-        arith,
-        common_steps,
+        usual,
         complete_lines_none end _ none.unterminated,
         done_gives_nothing,
         length-append ls lines_read_known.known.more,
@@ -191,7 +187,7 @@ HasLines m more few = ⊥
 
 four_total : (a b c d : List ℕ) (rest : List (List ℕ))
     → total_bytes (a ∷ b ∷ c ∷ d ∷ rest) ≡ ((length a + length b) + length c) + length d + total_bytes rest
-four_total = grind (arith, common_steps)
+four_total = grind usual
 
 pub record LinesTotal (xs : List (List ℕ)) (m : Side → ℕ) (more : ℕ) : Type 0 where
   pub four : 4 ≤ length xs

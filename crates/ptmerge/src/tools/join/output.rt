@@ -192,7 +192,6 @@ fn write_listed_fields<A: Allocator, W: Sink>(
 // Writes an output line field by field, without its terminator. Not inlined, so that the code for canonical lines stays
 // short.
 #[inline(never)]
-#[tactic(auto, using(crate::proofs::JoinLemmas::Fields::plain_entry_steps))]
 fn write_fields<A: Allocator, W: Sink>(
     entry: &Entry<'_, A>,
     out: &mut Out<W>,

@@ -1,6 +1,6 @@
 -- A flag is appended. The first letter that is not a flag ends the word, as an option with its value or as a fault.
 use Rattle.ptopts.proofs
-use proofs.Common.{arith, common_steps, is_flag, length, slice_index, true, ◌<◌, ◌≡◌}
+use proofs.Common.{arith, usual, is_flag, length, slice_index, true, ◌<◌, ◌≡◌}
 use proofs.GroupInvariant.{fault_read, flag_read, value_read}
 use proofs.parsing.read_group.Goals as goal
 
@@ -18,4 +18,4 @@ loop-index-preserved g c =
     flag_read c.args.tool word _ _ _ _ _ _ within is (grind arith) c.in_ok-push-2.ensures.items c.loop-index.invariant
 
 pub returns-clause-ok : goal.returns-clause-ok
-returns-clause-ok g c = grind (arith, common_steps)
+returns-clause-ok g c = grind usual

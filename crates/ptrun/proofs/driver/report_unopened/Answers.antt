@@ -1,6 +1,6 @@
 use Rattle.ptrun.proofs
 use proofs.Common.{IsSound, ap, arith, get_or_default, is_reader_unopened, no_reader, positions, reader_at, subst, sym}
-use proofs.Common.{take, words_view, ◌∙◌, common_steps}
+use proofs.Common.{take, words_view, ◌∙◌, usual}
 use proofs.MessageWrites.{said_nothing}
 use proofs.OperandInputs.{any_before, any_now, holds_more, operand_step, position_in_range, positions_end, said_more}
 use Rattle.ptrun.proofs.driver.report_unopened.Goals.{else-is_refused, then-is_refused}
@@ -49,7 +49,7 @@ offset_bounds-inputs-position g c = search ((bounds-inputs-position g c), arith)
 pub name_at-requires : goal.name_at-requires
 name_at-requires g c =
     let turn = operand_step _ _ _ c.requires.in_range c.loop-input-test.true c.position_of-position.ensures in
-    grind (arith, common_steps)
+    grind usual
 
 pub position_of-position-requires : goal.position_of-position-requires
 position_of-position-requires g c = grind (arith, position_in_range)

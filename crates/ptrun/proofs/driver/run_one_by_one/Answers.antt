@@ -1,7 +1,6 @@
 -- If an operand fails, the run stops there, and the operands after it are unchanged.
 use Rattle.ptrun.proofs
-use proofs.Common.{arith, drop, err_from_is_err_and, length, positions, scaled_Fits, sym, ◌+◌, ◌∙◌}
-use Rattle.std.proofs.lemmas.Grind.{common_steps}
+use proofs.Common.{arith, drop, err_from_is_err_and, length, positions, scaled_Fits, sym, ◌+◌, ◌∙◌, usual}
 use proofs.OperandInputs.{OperandStep, only_within, operand_step, position_in_range, positions_end}
 use proofs.Sequential.{done_all, done_nothing, done_operand, done_stopped, done_unopened, operand_ready}
 use proofs.ToolRuns.{decides_all, read_in_turn}
@@ -78,11 +77,11 @@ bounds-inputs-position g c =
 pub offset_bounds-inputs-position : goal.offset_bounds-inputs-position
 offset_bounds-inputs-position g c =
     let low = (turn g (goal.at.offset_bounds-inputs-position g c).After-position_of-position).low in
-    search (scaled_Fits, arith)
+    search scaled_Fits
 
 pub name_at-requires : goal.name_at-requires
 name_at-requires g c =
-    grind (arith, common_steps, (turn g (goal.at.name_at-requires g c).After-position_of-position).low)
+    grind (usual, (turn g (goal.at.name_at-requires g c).After-position_of-position).low)
 
 pub position_of-position-requires : goal.position_of-position-requires
 position_of-position-requires g c = grind (arith, position_in_range)

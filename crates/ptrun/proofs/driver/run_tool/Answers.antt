@@ -1,11 +1,11 @@
 -- A tool that reads its operands together reads nothing if one could not be opened. In all other cases its inputs are
 -- processed, and the end of the run follows from the result.
 use Rattle.ptrun.proofs
-use proofs.Common.{HasIndexBelow, Output, ap, arith, common_steps, false≢true, outcome, subst, sym, ℕ, ◌∙◌}
+use proofs.Common.{Output, ap, arith, usual, false≢true, length-map, outcome, sym, ◌∙◌}
 use proofs.MessageWrites.{said_nothing}
 use proofs.OperandInputs.{position_in_range}
 use proofs.RunEnds.{run_in_store}
-use proofs.ToolRuns.{reads_if, together_post, together_says, unopened_run}
+use proofs.ToolRuns.{reads_if, together_index, together_post, together_pre, together_says, unopened_run}
 use proofs.driver.run_tool.Goals as goal
 
 pub positions_of-requires-clause-in_range : goal.positions_of-requires-clause-in_range
@@ -15,23 +15,24 @@ positions_of-requires-clause-in_range g c = rw c.deref-order.ensures.value (λ k
 ))
 
 pub positions_of-requires-clause-few : goal.positions_of-requires-clause-few
-positions_of-requires-clause-few g c = grind (arith, common_steps)
+positions_of-requires-clause-few g c = grind (arith, length-map)
 
 pub run_on-run_result-requires-clause-within : goal.run_on-run_result-requires-clause-within
 run_on-run_result-requires-clause-within g c =
     rw (c.deref.ensures.0 ∙ c.positions_of.ensures, c.deref-order.ensures.value) c.requires.given.in_range
 
+pub run_on-run_result-requires-clause-ready : goal.run_on-run_result-requires-clause-ready
+run_on-run_result-requires-clause-ready g c = grind (arith, together_pre)
+
+pub run_one_by_one-run_result-requires-clause-ready : goal.run_one_by_one-run_result-requires-clause-ready
+run_one_by_one-run_result-requires-clause-ready g c = grind arith
+
 pub end_run-requires : goal.end_run-requires
 end_run-requires g c =
-    let reported = rw (c.name.ensures, c.deref-order.ensures.value, c.deref-names.ensures.value) at
-    c.report_unopened.ensures in
-    let post = together_post _ _ _ (g.T.Tool.tool c.args.tool.now) c.report_unopened.new.messages
-    (sym c.reads_together.ensures ∙ c.if-reads_together.true) c.requires.given reported c.if-report_unopened.false
-    (ap (λ (o : Output). o.write_failed) c.new-out.ensures) c.requires.unused.store.not_denied
-    c.requires.unused.store.empty
-    (rw (c.deref.ensures.0 ∙ c.positions_of.ensures, c.deref-order.ensures.value) at c.run_on-run_result.ensures) in
-    subst (λ (n : ℕ). HasIndexBelow n c.run_on-run_result.result)
-    (rw c.deref-names.ensures.value (grind (arith, common_steps))) post.position
+    together_index (g.T.Tool.tool c.args.tool.now) _ _ _ _ _ _ _ _ c.run_on-run_result.ensures
+    (sym c.reads_together.ensures ∙ c.if-reads_together.true)
+    (rw (c.deref.ensures.0 ∙ c.positions_of.ensures, c.deref-order.ensures.value) c.requires.given.in_range)
+    (rw c.deref-names.ensures.value (grind usual))
 
 pub returns-then-report_unopened : goal.returns-then-report_unopened
 returns-then-report_unopened g c = grind (arith, unopened_run)

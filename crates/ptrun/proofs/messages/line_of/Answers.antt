@@ -1,7 +1,10 @@
 use Rattle.ptrun.proofs
-use proofs.Common.{rules}
+use proofs.Common.{usual, rules}
 use proofs.MessageWrites.{joined_more}
 use proofs.messages.line_of.Goals as goal
 
 pub loop-part-preserved : goal.loop-part-preserved
 loop-part-preserved c = search (rules, joined_more)
+
+pub returns : goal.returns
+returns c = grind usual

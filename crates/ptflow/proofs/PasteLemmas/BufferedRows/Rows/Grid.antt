@@ -2,13 +2,13 @@
 -- is removed. So, by induction, the rows of inputs that are split after the same row are those of the first parts, and
 -- then those of the second parts.
 use Rattle.ptflow.proofs
-pub use proofs.Common.{Bool, List, [], ap, arith, cond, drop, false, get_or, inl, inr, length, length-append}
+pub use proofs.Common.{Bool, List, [], ap, arith, cond, drop, false, get_or, inl, inr, length, length-append, usual}
 pub use proofs.Common.{length-drop, map, max, refl, suc, sym, take, true, zero, ℕ, ⊎_elim, ◌%◌, ◌*◌, ◌++◌, ◌+◌, ◌-◌}
 pub use proofs.Common.{◌<◌, ◌==◌, ◌∙◌, ◌∷◌, ◌≡◌, ◌≤◌, ◌⊎◌, add-mod_left, mod-eq_of_lt, cases_lt, eq-eqb}
 pub use proofs.Common.{get_or_after_one, append-nil, ext_get_or, get_or-map, nil_from_length, get_or-enumerate_from}
 pub use proofs.Common.{length-enumerate_from, sum_by-cons, sum_by-take-le, map-map, enumerate_from, range_with_len}
 pub use proofs.Common.{fold, the_lines_of_parts, lines, unlines, select_from, PasteOfParts, update_at, columns}
-pub use proofs.Common.{every_kth, join_with_cycle, row_count, is_row_known, row_at, rows, uses_of, common_steps, subst}
+pub use proofs.Common.{every_kth, join_with_cycle, row_count, is_row_known, row_at, rows, uses_of, subst}
 pub use proofs.Common.{Paste, Received, is_in, paste_decided, leb}
 pub use Rattle.std.proofs.lemmas.List.Sums.{sum_by_more}
 
@@ -29,7 +29,7 @@ module _ {k j : ℕ} (low : j < k) where
   chosen : (n b : ℕ) (xs : Lines) → n + b ≡ k → select_from (λ i. i % k == j) n xs
       ≡ cond (leb n j) (take 1 (drop (j - n) xs)) [] ++ every_kth k j (drop b xs)
   chosen n zero xs all = let same : n ≡ k + 0 = omega arith in grind (arith, chosen_apart 0 xs)
-  chosen n (suc b) [] all = grind (arith, common_steps)
+  chosen n (suc b) [] all = grind usual
   chosen n (suc b) (x ∷ xs) all =
       let same : n % k ≡ n = mod-eq_of_lt (omega arith) in
       let next : n < j → j - n ≡ suc (j - (n + 1)) = λ less. omega arith in
@@ -40,10 +40,10 @@ module _ {k j : ℕ} (low : j < k) where
   column_is ls = grind (arith, chosen 0 k ls (omega arith))
 
   every_kth_rest : (ls : Lines) → drop 1 (every_kth k j ls) ≡ every_kth k j (drop k ls)
-  every_kth_rest ls = grind (arith, common_steps, column_is ls, length-drop j ls)
+  every_kth_rest ls = grind (usual, column_is ls, length-drop j ls)
 
   pub every_kth_short : (r : ℕ) (ls : Lines) → length ls ≤ j + r * k → length (every_kth k j ls) ≤ r
-  every_kth_short zero ls few = grind (arith, common_steps, column_is ls)
+  every_kth_short zero ls few = grind (usual, column_is ls)
   every_kth_short (suc r) ls few =
       omega (
         arith,
@@ -105,13 +105,13 @@ pub for_each_cell_unique : {Y : Type 0} (f : ℕ → ℕ → Y) (cells : List �
     → length ys ≡ length cells → ((c : ℕ) → c < length cells → get_or ys c d ≡ f c (get_or cells c 0))
     → ys ≡ for_each_cell f cells
 for_each_cell_unique f cells ys d long same =
-    ext_get_or d ys (for_each_cell f cells) (grind (arith, common_steps, length-enumerate_from))
+    ext_get_or d ys (for_each_cell f cells) (grind (usual, length-enumerate_from))
     (grind (arith, get_or-for_each_cell))
 
 for_each_cell_same : {Y : Type 0} (f g : ℕ → ℕ → Y) (cells : List ℕ) → ((c : ℕ) → c < length cells
     → f c (get_or cells c 0) ≡ g c (get_or cells c 0)) → for_each_cell f cells ≡ for_each_cell g cells
 for_each_cell_same f g cells same = for_each_cell_unique g _ _ (f 0 0)
-    (grind (arith, common_steps, length-enumerate_from)) (λ c low. get_or-for_each_cell f _ c _ low ∙ same c low)
+    (grind (usual, length-enumerate_from)) (λ c low. get_or-for_each_cell f _ c _ low ∙ same c low)
 
 -- ---- how many columns use an input
 
@@ -123,7 +123,7 @@ last_use (x ∷ cells) p some =
     ⊎_elim
     (λ more.
     let (c, low, is, count) = last_use cells p more in
-    (suc c, omega arith, is, grind (arith, common_steps)))
+    (suc c, omega arith, is, grind usual))
     (grind arith) (cases_lt 0 _)
 
 module _ (cells : List ℕ) where
@@ -153,7 +153,7 @@ module _ (cells : List ℕ) where
 
   pub columns_same : (f g : ℕ → Lines) → ((p : ℕ) → 0 < uses_of cells p → f p ≡ g p)
       → columns cells f ≡ columns cells g
-  columns_same f g same = for_each_cell_same _ _ _ (grind (arith, common_steps))
+  columns_same f g same = for_each_cell_same _ _ _ (grind usual)
 
   pub row_is : (ins : ℕ → Lines) (r : ℕ) (f : ℕ → ℕ → List ℕ) → ((c : ℕ) → c < length cells
       → get_or (column_of ins c (get_or cells c 0)) r [] ≡ f c (get_or cells c 0))
@@ -170,14 +170,13 @@ module _ (cells : List ℕ) where
       → rows (columns cells ins) ≡ for_each_cell (top_of ins) cells ∷ rows (columns cells (after_row ins))
   grid_step ins c low some =
       rows_step (columns cells ins) (grind (
-        arith,
-        common_steps,
+        usual,
         row_count_bound 0 (columns cells ins) c,
         ap length (column_at ins c low),
         column_is (uses_before_lt c low) (ins (get_or cells c 0)),
       ))
       ∙ (λ i. row_is ins 0 (top_of ins) (λ d within.
-      grind (arith, common_steps, column_is (uses_before_lt d within) (ins (get_or cells d 0)))) i
+      grind (usual, column_is (uses_before_lt d within) (ins (get_or cells d 0)))) i
       ∷ rows ((map-map (drop 1) (λ cell. column_of ins cell.0 cell.1) (enumerate_from 0 cells)
       ∙ for_each_cell_same (λ c p. drop 1 (column_of ins c p)) (column_of (after_row ins)) cells
       (λ d within. every_kth_rest (uses_before_lt d within) (ins _))) i))
@@ -207,10 +206,10 @@ module _ (cells : List ℕ) where
         grid_step (λ q. ins q ++ more q) c low (omega (arith, length-append (ins p) (more p))),
         grid_step ins c low some,
         for_each_cell_same (top_of (λ q. ins q ++ more q)) (top_of ins) cells
-            (λ d within. grind (arith, common_steps, uses_before_lt d within)),
+            (λ d within. grind (usual, uses_before_lt d within)),
         columns_same (after_row (λ q. ins q ++ more q)) (λ q. after_row ins q ++ more q)
-            (λ q used. grind (arith, common_steps)),
-        rows-append n (after_row ins) more (grind (arith, common_steps)),
+            (λ q used. grind usual),
+        rows-append n (after_row ins) more (grind usual),
       ))
       -- If no column has a line, no input continues.
       (λ short. let over : (p : ℕ) → 0 < uses_of cells p → more p ≡ [] = λ p some.
@@ -248,8 +247,7 @@ paste_of_parts job cells n a b cut =
     let ins : ℕ → Lines = λ p. lines job.terminator (a p) in
     let more : ℕ → Lines = λ p. lines job.terminator (b p) in
     grind (
-      arith,
-      common_steps,
+      usual,
       columns_same cells (λ p. lines job.terminator (a p ++ b p)) (λ p. ins p ++ more p)
           (λ p named. grind (arith, cut p named, the_lines_of_parts, append-nil)),
       rows-append cells n ins more (λ p named. grind (arith, cut p named)),
@@ -261,7 +259,7 @@ paste_of_parts job cells n a b cut =
 
 module _ (cells : List ℕ) where
   pub cell_in : (c : ℕ) → c < length cells → is_in cells (get_or cells c 0) ≡ true
-  cell_in c low = grind (arith, common_steps)
+  cell_in c low = grind usual
 
   pub used_is_in : (p : ℕ) → 0 < uses_of cells p → is_in cells p ≡ true
   used_is_in p some = let (c, low, is, count) = last_use _ p some in
@@ -269,7 +267,7 @@ module _ (cells : List ℕ) where
 
 pub is_in_used : (cells : List ℕ) (p : ℕ) → is_in cells p ≡ true → 0 < uses_of cells p
 is_in_used [] p named = cc
-is_in_used (x ∷ cells) p named = grind (arith, common_steps, is_in_used cells p)
+is_in_used (x ∷ cells) p named = grind (usual, is_in_used cells p)
 
 pub not_in : (cells : List ℕ) (p : ℕ) → is_in cells p ≡ false → uses_of cells p ≡ 0
 not_in = grind (arith, used_is_in)

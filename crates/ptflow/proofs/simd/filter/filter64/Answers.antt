@@ -1,6 +1,6 @@
 -- All 64 bytes are kept if none is equal to the one that it is compared with, or the four masks are full.
 use Rattle.ptflow.proofs
-use proofs.Common.{◌+◌, common_steps, arith, set_has, is_not_repeat}
+use proofs.Common.{◌+◌, usual, arith, set_has, is_not_repeat}
 use proofs.Vectors.Compress.{all_kept_in_four, kept_in_four, none_equal_in_four, pairs_long}
 use proofs.simd.filter.filter64.Goals as goal
 
@@ -8,13 +8,13 @@ pub returns-then-same_ab-same16-eq0-clause-kept : goal.returns-then-same_ab-same
 returns-then-same_ab-same16-eq0-clause-kept c =
     let all = none_equal_in_four (set_has c.args.by.set) _ _ c.args.pairs.paired c.args.at c.requires.lanes
     (rw (c.same16.ensures, c.same16-2.ensures, c.same16-3.ensures, c.same16-4.ensures) at
-    c.if-same_ab-same16-eq0.true) in grind (arith, common_steps)
+    c.if-same_ab-same16-eq0.true) in grind usual
 
 pub returns-then-keep_a-keep_b-eq65535-clause-kept : goal.returns-then-keep_a-keep_b-eq65535-clause-kept
 returns-then-keep_a-keep_b-eq65535-clause-kept c =
     let all = all_kept_in_four (set_has c.args.by.set) _ _ c.args.pairs.paired c.args.at c.requires.lanes
     (rw (c.keep16-keep_a.ensures, c.keep16-keep_b.ensures, c.keep16-keep_c.ensures, c.keep16-keep_d.ensures) at
-    c.if-keep_a-keep_b-eq65535.true) in grind (arith, common_steps)
+    c.if-keep_a-keep_b-eq65535.true) in grind usual
 
 pub returns-clause-kept : goal.returns-clause-kept
 returns-clause-kept c =

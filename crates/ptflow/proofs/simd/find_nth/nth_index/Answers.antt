@@ -1,6 +1,6 @@
 -- A chunk with too few matches is skipped; otherwise a bit of its mask is the match.
 use Rattle.ptflow.proofs
-use proofs.Common.{◌∙◌, ap, arith, common_steps, count_ones, chunk, length-chunk, ones-mask_l, is_byte, IsNth, refl}
+use proofs.Common.{◌∙◌, ap, arith, usual, count_ones, chunk, length-chunk, ones-mask_l, is_byte, IsNth, refl}
 use proofs.Vectors.FindNth.{count_chunk, nth_in_prefix, none_in_prefix, near}
 use Rattle.ptflow.proofs.simd.find_nth.nth_index.Goals as goal
 use Rattle.ptflow.proofs.simd.find_nth.nth_index.Goals.{After-nth_bit}
@@ -31,4 +31,4 @@ returns-else-index-to c = none_in_prefix (is_byte c.args.byte) c.args.bytes.now 
     (omega arith) (here (goal.at.returns-else-index-to c).After-nth_bit) refl (omega arith) c.if-index-to.false
 
 pub loop-at-preserved : goal.loop-at-preserved
-loop-at-preserved c = grind (arith, common_steps, count_chunk, ones-mask_l)
+loop-at-preserved c = grind (usual, count_chunk, ones-mask_l)

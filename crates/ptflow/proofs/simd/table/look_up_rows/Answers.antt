@@ -1,6 +1,6 @@
 use Rattle.ptflow.proofs
-use proofs.Common.{arith, common_steps}
+use proofs.Common.{usual}
 use proofs.simd.table.look_up_rows.Goals as goal
 
 pub loop-row-preserved : goal.loop-row-preserved
-loop-row-preserved c = grind (arith, common_steps)
+loop-row-preserved c = grind usual

@@ -1,6 +1,6 @@
 -- Setting the terminator does not change the input, so the contract of `run_lines` is that of the call.
 use Rattle.ptflow.proofs
-use proofs.Common.{refl, uniq_job, rules}
+use proofs.Common.{refl, uniq_job, rules, sym, ◌∙◌}
 use proofs.Passes.Exits.{pass_unchanged, pass_set}
 use proofs.UniqLemmas.Runs.{uniq_line_tool}
 use Rattle.ptflow.specs.declared.tools.uniq.LineUniq.{LineUniq}
@@ -13,4 +13,5 @@ pub run_lines-requires-clause-tool : goal.run_lines-requires-clause-tool
 run_lines-requires-clause-tool g c = uniq_line_tool (uniq_job c.args.job.now) (λ (t : LineUniq). t.run) _ refl
 
 pub returns : goal.returns
-returns g c = pass_set _ c.run_lines.ensures c.set_ending.ensures.set (search rules) (cc)
+returns g c = pass_set _ c.run_lines.ensures c.set_ending.ensures.set (search rules)
+    (sym c.has_failed.ensures ∙ c.if-has_failed.false)

@@ -1,5 +1,6 @@
-use Rattle.ptlangs.proofs.delims.Delims.at.Goals as goal
-use Rattle.ptlangs.proofs.Common.{arith, common_steps}
+use Rattle.ptlangs.proofs
+use proofs.delims.Delims.at.Goals as goal
+use proofs.Common.{usual}
 
 pub returns : goal.returns
-returns g c = grind (arith, common_steps)
+returns g c = grind usual

@@ -1,4 +1,5 @@
 use Rattle.ptlangs.proofs.delims.Delims.count.Goals as goal
+use Rattle.std.proofs.Common.{rules}
 
 pub returns : goal.returns
-returns g c = cc
+returns g c = search rules

@@ -1,4 +1,4 @@
 use Rattle.ptlangs.proofs.jobs.CommJobDefault.default.Goals as goal
 
 pub returns : goal.returns
-returns c = cc
+returns c = search

@@ -1,6 +1,6 @@
 use Rattle.ptlangs.proofs
-use proofs.Common.{arith, common_steps}
+use proofs.Common.{usual}
 use proofs.tr.elements.read_count.Goals as goal
 
 pub number-requires-clause-digits : goal.number-requires-clause-digits
-number-requires-clause-digits c = grind (arith, common_steps)
+number-requires-clause-digits c = grind usual

@@ -2,7 +2,7 @@
 -- stretch, and one that is its own image is in none.
 use Rattle.ptlangs.proofs
 use proofs.Common.{List, Stretch, ap, arith, drop_all, get_or, length, prepend_shift, shift_of, stretches_from, sym}
-use proofs.Common.{◌-◌, common_steps}
+use proofs.Common.{◌-◌, usual}
 use proofs.TrShifts.{moved_one, no_more_behind, moves_by}
 use proofs.tr.shifts.shifts_of.Goals as goal
 
@@ -22,4 +22,4 @@ returns-then-not-prepend-clause-found c =
     omega (arith, no_more_behind (n - 1) images, ap length one)
 
 pub returns-clause-moves : goal.returns-clause-moves
-returns-clause-moves c = grind (arith, common_steps, moves_by)
+returns-clause-moves c = grind (usual, moves_by)

@@ -1,13 +1,13 @@
 -- The block is refilled if it is empty; then the bytes up to the first terminator, or all, are moved to the slot.
 use Rattle.ptlines.proofs
-use proofs.Common.{arith, common_steps, drop_all}
+use proofs.Common.{usual, drop_all}
 use proofs.reader.LineReader.fill_piece.Goals as goal
 use proofs.LineSearch.{advance_ok_take, line_before_terminator, line_if_not_found}
 
 pub returns-in_ok-move_to_slot-in-Some-clause-piece_post : goal.returns-in_ok-move_to_slot-in-Some-clause-piece_post
 returns-in_ok-move_to_slot-in-Some-clause-piece_post g c =
-    grind (arith, common_steps, advance_ok_take, line_before_terminator)
+    grind (usual, advance_ok_take, line_before_terminator)
 
 pub returns-in_ok-move_to_slot-in-None-clause-piece_post : goal.returns-in_ok-move_to_slot-in-None-clause-piece_post
 returns-in_ok-move_to_slot-in-None-clause-piece_post g c =
-    grind (arith, common_steps, advance_ok_take, line_if_not_found, drop_all)
+    grind (usual, advance_ok_take, line_if_not_found, drop_all)

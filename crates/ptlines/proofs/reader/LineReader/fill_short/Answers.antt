@@ -1,7 +1,7 @@
 -- The terminator that was found among 64 bytes lies within the buffered bytes, so it is the first one of them.
 use Rattle.ptlines.proofs
 use proofs.Common.{◌≡◌, ◌+◌, ◌-◌, Some, subst, ◌<◌, ◌≤◌, ◌^◌, length, take, drop, ap, arith, take-take, IsFirst, Passes}
-use proofs.Common.{is_byte, common_steps}
+use proofs.Common.{is_byte, usual}
 use proofs.ReadLine.{fill_short_line}
 use proofs.reader.LineReader.fill_short.Goals as goal
 
@@ -21,7 +21,7 @@ returns-clause-line g c given =
     c.set_short_line.ensures
 
 pub returns-clause-sound : goal.returns-clause-sound
-returns-clause-sound g c = grind (arith, common_steps)
+returns-clause-sound g c = grind usual
 
 pub invariant_of-self : goal.invariant_of-self
-invariant_of-self g c = grind (arith, common_steps)
+invariant_of-self g c = grind usual

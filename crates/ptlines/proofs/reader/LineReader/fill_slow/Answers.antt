@@ -1,7 +1,7 @@
 -- Each piece extends the line so far. At the end of input that is the last line, or there is none if it is empty.
 use Rattle.ptlines.proofs
 use proofs.ReadLine.{line_so_far_partial, fill_line, fill_eof}
-use proofs.Common.{arith, common_steps}
+use proofs.Common.{arith, usual}
 use proofs.reader.LineReader.fill_slow.Goals as goal
 
 pub pieces-preserved : goal.pieces-preserved
@@ -18,4 +18,4 @@ returns-in-Eof-clause-fills g c =
     (grind arith)
 
 pub pieces-init : goal.pieces-init
-pieces-init g c = grind (arith, common_steps)
+pieces-init g c = grind usual

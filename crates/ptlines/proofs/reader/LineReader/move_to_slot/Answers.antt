@@ -1,10 +1,10 @@
 use Rattle.ptlines.proofs
-use proofs.Common.{arith, line, with_line, common_steps}
+use proofs.Common.{line, with_line, usual}
 use proofs.Consume.{rest_of_range}
 use proofs.reader.LineReader.move_to_slot.Goals as goal
 
 pub returns-in-Ok-clause-moves : goal.returns-in-Ok-clause-moves
-returns-in-Ok-clause-moves g c = grind (arith, common_steps, rest_of_range, with_line, line)
+returns-in-Ok-clause-moves g c = grind (usual, rest_of_range, with_line, line)
 
 pub returns-in-Ok-clause-sound : goal.returns-in-Ok-clause-sound
-returns-in-Ok-clause-sound g c = grind (arith, common_steps)
+returns-in-Ok-clause-sound g c = grind usual

@@ -3,8 +3,8 @@ use Rattle.ptlines.proofs
 use proofs.Common.{◌≡◌, ◌≤◌, ℕ, List, length, take, ◌∙◌, arith, with_items_is, length-put_chunk, put_chunk}
 use Rattle.std.specs.Vec.{with_items}
 use proofs.CopyFacts.{copied_vector_prefix}
-use Rattle.ptlines.proofs.slot.Slot.set_short_line.Goals as goal
-use Rattle.ptlines.proofs.slot.Slot.set_short_line.Goals.{then-size-lt16, else-size-lt16}
+use proofs.slot.Slot.set_short_line.Goals as goal
+use proofs.slot.Slot.set_short_line.Goals.{then-size-lt16, else-size-lt16}
 
 pub returns : goal.returns
 returns g c =

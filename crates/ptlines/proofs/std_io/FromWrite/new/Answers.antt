@@ -1,5 +1,4 @@
-use Rattle.std.proofs.Common.{rules}
 use Rattle.ptlines.proofs.std_io.FromWrite.new.Goals as goal
 
 pub returns : goal.returns
-returns g c = search rules
+returns g c = search

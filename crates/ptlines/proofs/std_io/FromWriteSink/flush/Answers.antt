@@ -1,5 +1,4 @@
-use Rattle.std.proofs.Common.{rules}
 use Rattle.ptlines.proofs.std_io.FromWriteSink.flush.Goals as goal
 
 pub returns-in-Err-clause-flushed : goal.returns-in-Err-clause-flushed
-returns-in-Err-clause-flushed g c = search rules
+returns-in-Err-clause-flushed g c = search

@@ -1,6 +1,6 @@
 -- The line and the total grow by the appended bytes, unless memory could not be allocated.
 use Rattle.ptlines.proofs
-use proofs.Common.{◌<◌, ◌^◌, length, ◌++◌, ◌∙◌, ap, arith, length-append, length-map, common_steps}
+use proofs.Common.{◌<◌, ◌^◌, length, ◌++◌, ◌∙◌, ap, arith, length-append, length-map, usual}
 use Rattle.ptlines.specs.Slots.{slot_lines}
 use proofs.SlotTotals.{counted_after_set, total_fits, slot_in_range, line_before, store_after_set, line_of}
 use proofs.store.Store.append.Goals as goal
@@ -18,10 +18,10 @@ invariant_of-self g c =
     _ c.append.ensures.short c.append.ensures.buffer (grind (arith, length-append)) (omega arith) (omega arith)
 
 pub invariant_of-self-in-Err : goal.invariant_of-self-in-Err
-invariant_of-self-in-Err g c = grind (arith, common_steps, slot_in_range)
+invariant_of-self-in-Err g c = grind (usual, slot_in_range)
 
 pub index_mut-requires : goal.index_mut-requires
-index_mut-requires g c = grind (arith, common_steps)
+index_mut-requires g c = grind usual
 
 pub returns-in-Ok-clause-ok : goal.returns-in-Ok-clause-ok
 returns-in-Ok-clause-ok g c =
@@ -31,4 +31,4 @@ returns-in-Ok-clause-ok g c =
     (invariant_of-self g c).total c.max-self-inside.ensures
 
 pub returns-in-Err-clause-err : goal.returns-in-Err-clause-err
-returns-in-Err-clause-err g c = grind (arith, common_steps)
+returns-in-Err-clause-err g c = grind usual

@@ -1,6 +1,6 @@
 -- The line of the slot is part of the total, so the subtraction does not underflow.
 use Rattle.ptlines.proofs
-use proofs.Common.{length, ap, arith, common_steps}
+use proofs.Common.{length, ap, arith, usual}
 use proofs.SlotTotals.{line_le_total, counted_after_set, store_after_set, slot_in_range, same_slot, line_of}
 use proofs.store.Store.clear.Goals as goal
 
@@ -25,7 +25,7 @@ returns g c =
     (invariant_of-self g c).total (omega arith)
 
 pub index-requires : goal.index-requires
-index-requires g c = grind (arith, common_steps)
+index-requires g c = grind usual
 
 pub index_mut-requires : goal.index_mut-requires
-index_mut-requires g c = grind (arith, common_steps)
+index_mut-requires g c = grind usual

@@ -1,7 +1,7 @@
 -- The target is emptied and the line of the source appended. If memory ran out, the target stays empty.
 use Rattle.ptlines.proofs
 use proofs.Common.{◌≡◌, ◌≢◌, ◌<◌, ◌≤◌, ◌+◌, ◌^◌, ℕ, List, [], get_or, length, set, sym, ◌∙◌, ap, subst, arith}
-use proofs.Common.{length-set, length-map, with_items_is, total_bytes, common_steps}
+use proofs.Common.{length-set, length-map, with_items_is, total_bytes, usual}
 use Rattle.std.specs.Vec.{with_items}
 use Rattle.std.proofs.lemmas.List.{get_or-map}
 use Rattle.ptlines.specs.Slots.{SlotBuffer, slot_lines, AreBuffersBounded}
@@ -17,7 +17,7 @@ copied : (lines cleared : List (List ℕ)) (after : List SlotBuffer) (from to by
 copied lines cleared after from to byte_count size v differ from_in to_in cleared_is after_is counts there =
     let within : from < length after = grind (arith, length-map, length-set, get_or) in
     let line : v.line ≡ get_or (slot_lines after) from [] = grind (arith, get_or-map) in
-    grind (arith, common_steps, total_bytes_set)
+    grind (usual, total_bytes_set)
 
 pub overflow_add-self : goal.overflow_add-self
 overflow_add-self g c =
@@ -52,13 +52,13 @@ pub returns-in-Ok-clause-ok : goal.returns-in-Ok-clause-ok
 returns-in-Ok-clause-ok g c = grind (arith, with_items_is, copy_lines, slot_lines, with_items, copied, set, get_or)
 
 pub append_slot-requires : goal.append_slot-requires
-append_slot-requires g c = grind (arith, common_steps)
+append_slot-requires g c = grind usual
 
 pub index-requires : goal.index-requires
-index-requires g c = grind (arith, common_steps)
+index-requires g c = grind usual
 
 pub invariant_of-self-in-Err : goal.invariant_of-self-in-Err
-invariant_of-self-in-Err g c = grind (arith, common_steps)
+invariant_of-self-in-Err g c = grind usual
 
 pub returns-in-Err-clause-err : goal.returns-in-Err-clause-err
-returns-in-Err-clause-err g c = grind (arith, common_steps)
+returns-in-Err-clause-err g c = grind usual

@@ -1,9 +1,9 @@
 use Rattle.ptlines.proofs
-use proofs.Common.{arith, common_steps, rules}
+use proofs.Common.{usual, rules}
 use proofs.store.Store.new.Goals as goal
 
 pub loop-i-preserved : goal.loop-i-preserved
-loop-i-preserved c = grind (arith, common_steps)
+loop-i-preserved c = grind usual
 
 pub returns-clause-made : goal.returns-clause-made
 returns-clause-made g c = search rules

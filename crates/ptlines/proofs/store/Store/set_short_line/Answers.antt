@@ -1,7 +1,7 @@
 -- The total changes by the difference of the two lengths; the peak becomes the total if that is greater.
 use Rattle.ptlines.proofs
 use proofs.Common.{◌≡◌, ◌≤◌, ◌<◌, ◌+◌, ◌-◌, ◌^◌, ℕ, List, length, take, get_or, set, ap, arith, length-map}
-use proofs.Common.{length-take-le, common_steps}
+use proofs.Common.{length-take-le, usual}
 use Rattle.ptlines.specs.Slots.{SlotBuffer, slot_lines, AreCounted}
 use proofs.SlotTotals.{line_le_total, counted_after_set, total_fits, store_after_set, slot_in_range, same_slot, line_of}
 use proofs.store.Store.set_short_line.Goals as goal
@@ -54,7 +54,7 @@ returns-else-self g c =
     (invariant_of-self-else-self g c).total (omega arith)
 
 pub index-requires : goal.index-requires
-index-requires g c = grind (arith, common_steps)
+index-requires g c = grind usual
 
 pub index_mut-requires : goal.index_mut-requires
-index_mut-requires g c = grind (arith, common_steps)
+index_mut-requires g c = grind usual

@@ -1,5 +1,6 @@
-use Rattle.ptlines.proofs.Common.{length-map, rules}
-use Rattle.ptlines.proofs.store.Store.slots.Goals as goal
+use Rattle.ptlines.proofs
+use proofs.Common.{length-map, rules}
+use proofs.store.Store.slots.Goals as goal
 
 pub returns : goal.returns
 returns g c = search (rules, length-map)

@@ -1,6 +1,6 @@
 -- Exchanging two slots permutes the lines, so the total is the same.
 use Rattle.ptlines.proofs
-use proofs.Common.{arith, common_steps}
+use proofs.Common.{usual}
 use proofs.SlotTotals.{counted_after_swap, slot_lines-swap, slot_in_range}
 use proofs.store.Store.swap.Goals as goal
 
@@ -10,10 +10,10 @@ invariant_of-self g c =
     (slot_in_range _ _ c.self.view_is c.requires.b_in) c.self.invariant)
 
 pub returns : goal.returns
-returns g c = grind (arith, common_steps, slot_lines-swap)
+returns g c = grind (usual, slot_lines-swap)
 
 pub swap-requires-clause-i_in_bounds : goal.swap-requires-clause-i_in_bounds
-swap-requires-clause-i_in_bounds g c = grind (arith, common_steps)
+swap-requires-clause-i_in_bounds g c = grind usual
 
 pub swap-requires-clause-j_in_bounds : goal.swap-requires-clause-j_in_bounds
-swap-requires-clause-j_in_bounds g c = grind (arith, common_steps)
+swap-requires-clause-j_in_bounds g c = grind usual

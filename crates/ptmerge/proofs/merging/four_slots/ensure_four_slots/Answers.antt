@@ -1,7 +1,6 @@
 use Rattle.ptmerge.proofs
-use proofs.Common.{arith}
-use Rattle.std.proofs.lemmas.Grind.{common_steps}
+use proofs.Common.{usual}
 use proofs.merging.four_slots.ensure_four_slots.Goals as goal
 
 pub loop-store-preserved : goal.loop-store-preserved
-loop-store-preserved c = grind (arith, common_steps)
+loop-store-preserved c = grind usual

@@ -1,7 +1,7 @@
 -- One lemma of `CommLemmas` for each iteration, and one of `CommLemmas` or `MergeLemmas` for each exit.
 use Rattle.ptmerge.proofs
 use proofs.Common.{refl, ◌∙◌, comm_job, First, Second, arith}
-use proofs.MergeLemmas.{advance_pre, err_is, start_fault, start_ok, open_merge, reads_less, between_next, ends_well}
+use proofs.MergeLemmas.{advance_pre, fails_by, start_fault, start_ok, open_merge, reads_less, between_next, ends_well}
 use proofs.MergeLemmas.{ends_fallen}
 use proofs.CommLemmas.{alone_continues, alone_fails, pair_continues, pair_fails, second_advance_pre, second_fails}
 use proofs.CommLemmas.{is_line_by_line, kept_order}
@@ -11,7 +11,7 @@ pub returns-in_err-merge : goal.returns-in_err-merge
 returns-in_err-merge g c =
     let w = open_merge (record { total = g.met.K.KeyOrder.total _; exact = g.met.K.KeyOrder.exact _ })
     (is_line_by_line (comm_job c.args.job.now) _ _) c.requires.begins in
-    rw (err_is c.from_residual.ensures.1) (start_fault w c.in_err-merge.ensures.fails)
+    fails_by c.from_residual.ensures.1 (start_fault w c.in_err-merge.ensures.fails)
 
 pub steps-init : goal.steps-init
 steps-init g c =
@@ -83,29 +83,29 @@ steps-smaller g c = grind (arith, reads_less, between_next)
 
 pub returns-in_err-write_head-in-First : goal.returns-in_err-write_head-in-First
 returns-in_err-write_head-in-First g c =
-    rw (← c.steps.invariant.order, err_is c.from_residual-in_err-write_head-in-First.ensures.1)
+    rw (← c.steps.invariant.order) (fails_by c.from_residual-in_err-write_head-in-First.ensures.1
     (alone_fails c.steps.invariant.iteration c.in-First.ensures refl c.write_head.ensures.wrote
-    _ _ _ c.in_err-write_head-in-First.ensures.advances)
+    _ _ _ c.in_err-write_head-in-First.ensures.advances))
 
 pub returns-in_err-write_head-in-Second : goal.returns-in_err-write_head-in-Second
 returns-in_err-write_head-in-Second g c =
-    rw (← c.steps.invariant.order, err_is c.from_residual-in_err-write_head-in-Second.ensures.1)
+    rw (← c.steps.invariant.order) (fails_by c.from_residual-in_err-write_head-in-Second.ensures.1
     (alone_fails c.steps.invariant.iteration c.in-Second.ensures c.tabs-tabs2.ensures
-    c.write_head-in-Second.ensures.wrote _ _ _ c.in_err-write_head-in-Second.ensures.advances)
+    c.write_head-in-Second.ensures.wrote _ _ _ c.in_err-write_head-in-Second.ensures.advances))
 
 pub returns-in_err-write_head-in-Both : goal.returns-in_err-write_head-in-Both
 returns-in_err-write_head-in-Both g c =
-    rw (← c.steps.invariant.order, err_is c.from_residual-in_err-write_head-in-Both.ensures.1)
+    rw (← c.steps.invariant.order) (fails_by c.from_residual-in_err-write_head-in-Both.ensures.1
     (pair_fails c.steps.invariant.iteration c.in-Both.ensures c.tabs-tabs3.ensures
-    c.write_head-in-Both.ensures.wrote _ _ _ c.in_err-write_head-in-Both.ensures.advances)
+    c.write_head-in-Both.ensures.wrote _ _ _ c.in_err-write_head-in-Both.ensures.advances))
 
 pub returns-in_err-write_out_and_advance-in-Both : goal.returns-in_err-write_out_and_advance-in-Both
 returns-in_err-write_out_and_advance-in-Both g c =
     let i = c.steps.invariant in
-    rw (← i.order, err_is c.from_residual-in_err-write_out_and_advance-in-Both.ensures.1)
+    rw (← i.order) (fails_by c.from_residual-in_err-write_out_and_advance-in-Both.ensures.1
     (second_fails i.iteration c.in-Both.ensures c.tabs-tabs3.ensures c.write_head-in-Both.ensures.wrote
     c.in_ok-write_head-in-Both.ensures.advances c.write_out_and_advance.ensures.written_out
-    _ _ _ c.in_err-write_out_and_advance-in-Both.ensures.advances)
+    _ _ _ c.in_err-write_out_and_advance-in-Both.ensures.advances))
 
 pub returns-in-End : goal.returns-in-End
 returns-in-End g c =

@@ -1,5 +1,4 @@
-use Rattle.ptmerge.proofs.Common.{push_trans, arith}
-use Rattle.std.proofs.lemmas.Grind.{common_steps}
+use Rattle.ptmerge.proofs.Common.{push_trans, usual}
 use Rattle.ptmerge.proofs.tools.comm.write_head.Goals.{then-not-hidden+in_ok-push_line, else-not-hidden}
 use Rattle.ptmerge.proofs.tools.comm.write_head.Goals as goal
 
@@ -14,4 +13,4 @@ returns-clause-wrote g c =
     ]
 
 pub returns-in_err-push_line-clause-wrote : goal.returns-in_err-push_line-clause-wrote
-returns-in_err-push_line-clause-wrote g c = grind (arith, common_steps)
+returns-in_err-push_line-clause-wrote g c = grind usual

@@ -1,13 +1,12 @@
 -- One lemma of `JoinLemmas` for each iteration, and one of `JoinLemmas` or `MergeLemmas` for each exit.
 use Rattle.ptmerge.proofs
 use Rattle.ptmerge.specs
-use proofs.Common.{refl, sym, ◌∙◌, join_job, arith}
-use Rattle.std.proofs.lemmas.Grind.{common_steps}
+use proofs.Common.{refl, sym, ◌∙◌, join_job, usual}
 use proofs.JoinLemmas.{read_group_pre, read_group_fails, read_group_continues, group_closed, group_there}
 use proofs.JoinLemmas.{write_pairs_group, write_pairs_pre, pair_fails, write_pairs_next, write_pairs_continues}
 use proofs.JoinLemmas.{alone_continues, alone_fails, loop_invariant, measure_decreases, is_line_by_line, group_opens}
-use proofs.JoinLemmas.{read_group_in, kept_order}
-use proofs.MergeLemmas.{advance_pre, err_is, start_fault, start_ok, open_merge, ends_well, ends_fallen}
+use proofs.JoinLemmas.{read_group_in, kept_order, joins}
+use proofs.MergeLemmas.{advance_pre, fails_by, start_fault, start_ok, open_merge, ends_well, ends_fallen}
 use specs.declared.key_order.Side.TheVariants as sides
 use specs.declared.tools.join.JoinPhase.TheVariants as phases
 use proofs.tools.join.join_with_order.Goals as goal
@@ -16,7 +15,7 @@ pub returns-in_err-merge : goal.returns-in_err-merge
 returns-in_err-merge g c =
     let w = open_merge (record { total = g.met.K.KeyOrder.total _; exact = g.met.K.KeyOrder.exact _ })
     (is_line_by_line (join_job c.args.job.now) _ _) c.requires.begins in
-    rw (err_is c.from_residual.ensures.1) (start_fault w c.in_err-merge.ensures.fails)
+    fails_by c.from_residual.ensures.1 (start_fault w c.in_err-merge.ensures.fails)
 
 pub steps-init : goal.steps-init
 steps-init g c =
@@ -41,6 +40,12 @@ write_unpaired-requires-clause-status_is g c =
 pub write_unpaired-requires-in-Second-clause-status_is : goal.write_unpaired-requires-in-Second-clause-status_is
 write_unpaired-requires-in-Second-clause-status_is g c =
     advance_pre c.steps.invariant.iteration.between _ c.in-Second.ensures.status_is
+
+pub write_unpaired-requires-clause-joins : goal.write_unpaired-requires-clause-joins
+write_unpaired-requires-clause-joins g c = joins c.steps.invariant.iteration
+
+pub write_unpaired-requires-in-Second-clause-joins : goal.write_unpaired-requires-in-Second-clause-joins
+write_unpaired-requires-in-Second-clause-joins g c = joins c.steps.invariant.iteration
 
 pub steps-preserved-in-Continue-branch-2 : goal.steps-preserved-in-Continue-branch-2
 steps-preserved-in-Continue-branch-2 g c =
@@ -70,16 +75,16 @@ steps-smaller-in-Continue-branch-3 g c =
 
 pub returns-in_err-write_unpaired-in-First : goal.returns-in_err-write_unpaired-in-First
 returns-in_err-write_unpaired-in-First g c =
-    rw (← c.steps.invariant.order, err_is c.from_residual-in_err-write_unpaired-in-First.ensures.1)
+    rw (← c.steps.invariant.order) (fails_by c.from_residual-in_err-write_unpaired-in-First.ensures.1
     (alone_fails c.steps.invariant.iteration c.in-BetweenGroups.is c.in-First.ensures c.write_unpaired.ensures.wrote
-    _ _ _ c.in_err-write_unpaired-in-First.ensures.advances)
+    _ _ _ c.in_err-write_unpaired-in-First.ensures.advances))
 
 pub returns-in_err-write_unpaired-in-Second : goal.returns-in_err-write_unpaired-in-Second
 returns-in_err-write_unpaired-in-Second g c =
-    rw (← c.steps.invariant.order, err_is c.from_residual-in_err-write_unpaired-in-Second.ensures.1)
+    rw (← c.steps.invariant.order) (fails_by c.from_residual-in_err-write_unpaired-in-Second.ensures.1
     (alone_fails c.steps.invariant.iteration c.in-BetweenGroups.is c.in-Second.ensures
     c.write_unpaired-in-Second.ensures.wrote
-    _ _ _ c.in_err-write_unpaired-in-Second.ensures.advances)
+    _ _ _ c.in_err-write_unpaired-in-Second.ensures.advances))
 
 pub steps-preserved-in-Both : goal.steps-preserved-in-Both
 steps-preserved-in-Both g c =
@@ -108,9 +113,9 @@ read_group_line-requires-clause-status_is g c = read_group_pre c.steps.invariant
 
 pub returns-in_err-end-in-ReadGroup : goal.returns-in_err-end-in-ReadGroup
 returns-in_err-end-in-ReadGroup g c =
-    rw (← c.steps.invariant.order, err_is c.from_residual-in_err-end-in-ReadGroup.ensures.1)
+    rw (← c.steps.invariant.order) (fails_by c.from_residual-in_err-end-in-ReadGroup.ensures.1
     (read_group_fails c.steps.invariant.iteration c.in-ReadGroup.is c.read_group_line.ensures.written_out
-    c.in_err-end-in-ReadGroup.ensures.reads_line)
+    c.in_err-end-in-ReadGroup.ensures.reads_line))
 
 pub steps-preserved-then-not-has_same_key : goal.steps-preserved-then-not-has_same_key
 steps-preserved-then-not-has_same_key g c =
@@ -164,9 +169,9 @@ write_pairs-requires-clause-group g c = write_pairs_group c.steps.invariant.iter
 
 pub returns-in_err-write_pairs-in-WritePairs : goal.returns-in_err-write_pairs-in-WritePairs
 returns-in_err-write_pairs-in-WritePairs g c =
-    rw (← c.steps.invariant.order, err_is c.from_residual-in_err-write_pairs-in-WritePairs.ensures.1)
+    rw (← c.steps.invariant.order) (fails_by c.from_residual-in_err-write_pairs-in-WritePairs.ensures.1
     (pair_fails c.steps.invariant.iteration c.in-WritePairs.is c.write_pairs.ensures.wrote
-    _ _ _ c.in_err-write_pairs-in-WritePairs.ensures.advances)
+    _ _ _ c.in_err-write_pairs-in-WritePairs.ensures.advances))
 
 pub clear_group-requires : goal.clear_group-requires
 clear_group-requires g c = group_there c.steps.invariant.iteration c.in-WritePairs.is
@@ -189,4 +194,4 @@ steps-preserved g c =
     (sym c.has_same_key-in-WritePairs.ensures ∙ c.if-not-has_same_key-2.false))
 
 pub steps-smaller-in-Both : goal.steps-smaller-in-Both
-steps-smaller-in-Both g c = grind (arith, common_steps)
+steps-smaller-in-Both g c = grind usual

@@ -1,7 +1,6 @@
 -- A write that fails leaves a prefix of the pairs.
 use Rattle.ptmerge.proofs
-use proofs.Common.{◌++◌, [], ◌∷◌, List, ℕ, ap, arith, sym, map, join_job}
-use Rattle.std.proofs.Common.{rules}
+use proofs.Common.{◌++◌, [], ◌∷◌, List, ℕ, ap, arith, sym, map, join_job, rules}
 use proofs.JoinLemmas.Fields.{each_fails, each_more}
 use proofs.JoinLemmas.Group.{pair_of, group_from}
 use proofs.tools.join.write_pair_entries.Goals as goal

@@ -1,11 +1,10 @@
 -- At most one of the three lists is present. If its allocation fails, the lists read before it have no fault, and those
 -- after it are absent.
 use Rattle.ptopts.proofs
-use proofs.Common.{err_from_is_err_and, fault_view, options_of, selected_set}
+use proofs.Common.{err_from_is_err_and, fault_view, options_of, selected_set, arith}
 use proofs.CutOptions.{no_fault_beside_b, no_fault_beside_c}
 use Rattle.ptlangs.specs.CutLists.{is_selected}
 use proofs.parsing.ParsedArgs.cut_job.Goals as goal
-use Rattle.std.proofs.Common.{arith}
 
 pub returns-clause-job : goal.returns-clause-job
 returns-clause-job g c = grind (arith, is_selected, selected_set)

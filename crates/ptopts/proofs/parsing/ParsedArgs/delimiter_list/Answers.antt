@@ -2,7 +2,7 @@
 use Rattle.ptopts.proofs
 use Rattle.ptopts.specs
 use proofs.Common.{Bool, Bor, Err, List, None, Ok, Option, Result, Some, ap, cond, false, fault_view, is_ok, option_map}
-use proofs.Common.{refl, result_err, sym, true, ℕ, ◌∙◌, ◌≡◌}
+use proofs.Common.{refl, result_err, sym, true, ℕ, ◌∙◌, ◌≡◌, arith}
 use Rattle.ptlangs.specs.DelimLists.{delim_list_fault}
 use Rattle.ptlangs.specs.contracts.delims.DelimFault.{the_type}
 use Rattle.ptlangs.specs.declared.delims.DelimFault.TheVariants.{Empty, Escape, Memory}
@@ -11,7 +11,6 @@ use denote.Enum.Bare.{sameb}
 use specs.declared.fault.UseFault.TheVariants as fault
 use specs.Faults as faults
 use proofs.parsing.ParsedArgs.delimiter_list.Goals as goal
-use Rattle.std.proofs.Common.{arith}
 
 module _ (letter : ℕ) (text : Bor (List ℕ)) (is_memory : DelimFault → Bool) (never : is_memory Memory ≡ true)
     (empty : is_memory Empty ≡ false) (escape : is_memory Escape ≡ false) where

@@ -1,5 +1,6 @@
-use Rattle.ptopts.proofs.parsing.ParsedArgs.output_list.Goals as goal
-use Rattle.ptopts.proofs.Common.{arith, common_steps}
+use Rattle.ptopts.proofs
+use proofs.parsing.ParsedArgs.output_list.Goals as goal
+use proofs.Common.{usual}
 
 pub returns-in-Err-clause-fault : goal.returns-in-Err-clause-fault
-returns-in-Err-clause-fault g c = grind (arith, common_steps)
+returns-in-Err-clause-fault g c = grind usual

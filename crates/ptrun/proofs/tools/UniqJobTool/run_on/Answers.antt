@@ -1,6 +1,6 @@
 -- `uniq` accepts one operand only, so the pass over its reader is the pass over all operands.
 use Rattle.ptrun.proofs
-use proofs.Common.{arith, common_steps, scaled_Fits}
+use proofs.Common.{arith, usual, scaled_Fits}
 use proofs.JointRuns.{only_operand_post, only_operand_within, opened}
 use proofs.tools.UniqJobTool.run_on.Goals as goal
 
@@ -13,7 +13,7 @@ offset_bounds-inputs-position g c =
     search scaled_Fits
 
 pub uniq-requires : goal.uniq-requires
-uniq-requires g c = grind (arith, common_steps, (opened c.requires.ready c.requires.ready.accepts_operands 0))
+uniq-requires g c = grind (usual, (opened c.requires.ready c.requires.ready.accepts_operands 0))
 
 pub returns : goal.returns
 returns g c =

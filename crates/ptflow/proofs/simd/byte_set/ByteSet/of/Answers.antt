@@ -1,7 +1,6 @@
 -- Each iteration stores the flag of a byte below 128, and of the byte 128 after it.
 use Rattle.ptflow.proofs
-use proofs.Common.{false, sym, ap, ◌∙◌, arith, from_bool}
-use Rattle.std.proofs.lemmas.List.{get_or-drop}
+use proofs.Common.{false, sym, ap, ◌∙◌, arith, from_bool, get_or-drop}
 use proofs.Vectors.Lanes.{set_of_nibbles, one_more_flag}
 use proofs.simd.byte_set.ByteSet.of.Goals as goal
 

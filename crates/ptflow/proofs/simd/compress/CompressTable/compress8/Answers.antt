@@ -1,6 +1,5 @@
 use Rattle.ptflow.proofs
-use proofs.Common.{◌∙◌, [], refl, slice_index_or, arith, w8, swz_l, length-swz_l, SwzOk-from_below, ones-le}
-use Rattle.std.specs.Prelude.{count_ones}
+use proofs.Common.{◌∙◌, [], refl, slice_index_or, arith, w8, swz_l, length-swz_l, SwzOk-from_below, ones-le, count_ones}
 use proofs.Vectors.Compress.{row_lanes, row_of_mask, row_selects, selected_stored}
 use proofs.simd.compress.CompressTable.compress8.Goals as goal
 

@@ -1,6 +1,6 @@
 -- The first match is known. Another one is found by the mask of the first bytes, shifted to those from an index on.
 use Rattle.ptflow.proofs
-use proofs.Common.{ℕ, ◌-◌, take, drop, arith, ones-mask_l, length-take-le, length-drop, common_steps}
+use proofs.Common.{ℕ, ◌-◌, take, drop, arith, ones-mask_l, length-take-le, length-drop, usual}
 use proofs.Common.{count_by-le-length, is_byte, IsNth}
 use proofs.Vectors.FindNth.{first_is_nth, no_nth_before_first, no_nth, nth_in_prefix, none_in_prefix, mask_from}
 use Rattle.ptflow.proofs.simd.find_nth.ByteMatches.nth.Goals as goal
@@ -11,7 +11,7 @@ here : (c : After-nth_bit-at)
     (take (c.args.self.now.size - c.args.from) (drop c.args.from c.args.self.now.bytes.now)) c.nth_bit-at.result
 here c =
     let m = c.args.self.now in
-    grind (arith, common_steps, c.nth_bit-at.ensures (is_byte m.byte) (take (m.size - c.args.from) (drop c.args.from m.bytes.now)), mask_from, ones-mask_l)
+    grind (usual, c.nth_bit-at.ensures (is_byte m.byte) (take (m.size - c.args.from) (drop c.args.from m.bytes.now)), mask_from, ones-mask_l)
 
 pub returns-in_err-at : goal.returns-in_err-at
 returns-in_err-at c =
@@ -45,4 +45,4 @@ returns-else-at-len c =
     {index = c.nth_bit-at.result} (omega arith) (omega arith) (omega arith)
 
 pub returns-then-before-len : goal.returns-then-before-len
-returns-then-before-len c = grind (arith, common_steps, count_by-le-length, length-take-le)
+returns-then-before-len c = grind (usual, count_by-le-length, length-take-le)

@@ -1,5 +1,5 @@
 use Rattle.ptflow.proofs
-use proofs.Common.{common_steps, length-set, arith, ap, ◌∙◌, stretch_delta}
+use proofs.Common.{usual, length-set, arith, ap, ◌∙◌, stretch_delta}
 use proofs.Vectors.Lanes.{one_stretch_more}
 use proofs.simd.shift.ShiftRanges.of.Goals as goal
 
@@ -14,4 +14,4 @@ loop-index-preserved g c =
     }
 
 pub returns : goal.returns
-returns g c = λ b byte. grind (arith, common_steps, c.loop-index.invariant.added b byte)
+returns g c = λ b byte. grind (usual, c.loop-index.invariant.added b byte)

@@ -1,7 +1,7 @@
 -- The copied bytes are not longer than the line, so there is room for the rest.
 use Rattle.ptflow.proofs
 use proofs.Common.{◌+◌, ◌-◌, ◌≤◌, ◌++◌, take, drop, refl, ◌∙◌, ap, arith, length-take-le, length-drop, is_selected}
-use proofs.Common.{cut_job, cut_fields, output_from_cursor, common_steps, take-take}
+use proofs.Common.{cut_job, cut_fields, output_from_cursor, usual, take-take}
 use proofs.CutLemmas.Fields.{selected_remaining, output_is_short, output_is_near, offset_start}
 use Rattle.ptflow.proofs.tools.cut.fields.copy_fields.Given as given
 use Rattle.ptflow.proofs.tools.cut.fields.copy_fields.Goals as goal
@@ -49,7 +49,7 @@ slices-preserved g c =
     let long = length-take-le to bytes (omega arith) in
     let rest = output_from_cursor c.args.delimiters.now.byte (take to bytes) c.next_slice.new.self in
     record {
-      copied = grind (arith, common_steps, rest_of, take-take);
+      copied = grind (usual, rest_of, take-take);
       cursor = next.moved;
       low = omega arith;
       high = slice_near g (goal.at.slices-preserved g c).In-Some;

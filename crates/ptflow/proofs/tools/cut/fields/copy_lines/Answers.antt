@@ -1,16 +1,13 @@
 -- Adjacent lines without the delimiter are copied at once, or skipped.
 use Rattle.ptflow.proofs
-use proofs.Common.{◌≡◌, ◌-◌, arith, cut_job, common_steps}
+use proofs.Common.{◌≡◌, ◌-◌, arith, cut_job, usual}
 use proofs.CutLemmas.Fields.{puts_kept, puts_dropped, free_before}
 use proofs.tools.cut.fields.copy_lines.Goals as goal
 use proofs.Passes.Exits.{ended_next}
 
 pub returns-then-first-to-clause-put : goal.returns-then-first-to-clause-put
 returns-then-first-to-clause-put g c =
-    let d = c.args.by.now.job.now.delim in
-    let bytes = c.args.bytes.now in
-    let of = c.new-delimiters.ensures in
-    (grind (arith, common_steps, ended_next))
+    let of = c.new-delimiters.ensures in grind (usual, ended_next)
 
 pub returns-then-job-clause-put : goal.returns-then-job-clause-put
 returns-then-job-clause-put g c =

@@ -1,6 +1,6 @@
 -- Field n starts after the n-th delimiter.
 use Rattle.ptflow.proofs
-use proofs.Common.{◌≡◌, ◌+◌, ◌-◌, take, drop, length, arith, common_steps, length-drop, length-take-le}
+use proofs.Common.{◌≡◌, ◌+◌, ◌-◌, take, drop, length, arith, usual, length-drop, length-take-le}
 use proofs.CutLemmas.Fields.{offset_start, offset_end, offset_after_nth}
 use proofs.CutLemmas.CutBytes.{rest_of}
 use proofs.tools.cut.fields.skip_fields.Goals as goal
@@ -29,4 +29,4 @@ returns-in-None-clause-offset c =
     rw long (offset_end _ _ (omega arith))
 
 pub overflow_add-result-in-Some : goal.overflow_add-result-in-Some
-overflow_add-result-in-Some c = grind (arith, common_steps)
+overflow_add-result-in-Some c = grind usual

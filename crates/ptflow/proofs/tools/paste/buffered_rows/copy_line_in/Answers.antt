@@ -1,5 +1,5 @@
 use Rattle.ptflow.proofs
-use proofs.Common.{◌-◌, arith, rules, common_steps, take-append-add, take_more_put_chunk}
+use proofs.Common.{◌-◌, arith, rules, usual, take-append-add, take_more_put_chunk}
 use Rattle.ptlines.proofs.CopyFacts.{copied_prefix}
 use proofs.tools.paste.buffered_rows.copy_line_in.Goals as goal
 use borrow.Rule.Slice.PartMut.{mid_of}
@@ -17,8 +17,8 @@ returns-clause-line g c =
       found = search rules;
       consumed = c.consume.ensures.consumed;
       is = rw (← c.buffered-bytes.ensures.buffered) (copied_prefix at _ n was _ _ (omega arith)
-          (omega arith) (grind (arith, common_steps, take-append-add, take_more_put_chunk)));
+          (omega arith) (grind (usual, take-append-add, take_more_put_chunk)));
     }
 
 pub returns-clause-prefix_kept : goal.returns-clause-prefix_kept
-returns-clause-prefix_kept g c = grind (arith, common_steps)
+returns-clause-prefix_kept g c = grind usual

@@ -2,7 +2,7 @@
 use Rattle.ptflow.proofs
 use Rattle.std.proofs.Math.Bool.{not-not}
 use proofs.Common.{◌≡◌, take, take-take, take-append-le, length-take-le, ◌∙◌, ap, not, [], sym, arith, rules, length}
-use proofs.Common.{common_steps}
+use proofs.Common.{usual}
 use proofs.PasteLemmas.BufferedRows.{fill_starts, rows_taken_none, rows_taken_trans, row_taken, consumed_none}
 use proofs.PasteLemmas.BufferedRows.{consumed_trans, still_readable}
 use proofs.tools.paste.buffered_rows.copy_rows.Goals as goal
@@ -29,7 +29,7 @@ returns-then-begun-row-clause-rows g c =
       rows = rw kept c.rows.invariant.rows;
       fields = p.fields;
       filled = p.filled c.rows.readers [] fill_starts;
-      is = grind (arith, common_steps);
+      is = grind usual;
       consumed = consumed_trans c.rows.invariant.consumed p.consumed;
     }
 

@@ -1,6 +1,6 @@
 -- `SerialPaste` is a block filter: at the start of a row the rest of the row is the whole output.
 use Rattle.ptflow.proofs
-use proofs.Common.{◌≡◌, [], refl, paste_job, paste_serial_tool, row_rest, rules}
+use proofs.Common.{◌≡◌, [], refl, paste_job, paste_serial_tool, row_rest, rules, sym, ◌∙◌}
 use proofs.Passes.Exits.{pass_unchanged, pass_set, ready_set}
 use proofs.PasteLemmas.Replaced.{serial_is_decided}
 use proofs.tools.paste.serial.paste_serial.Goals as goal
@@ -22,4 +22,4 @@ returns g c =
       slots = refl;
     })
     c.args._store.now (ready_set _ c.requires c.set_ending.ensures.set))
-    c.set_ending.ensures.set (search rules) (cc)
+    c.set_ending.ensures.set (search rules) (sym c.has_failed.ensures ∙ c.if-has_failed.false)

@@ -2,7 +2,7 @@
 use Rattle.ptflow.proofs
 use proofs.Common.{◌≡◌, ℕ, zero, suc, ◌+◌, ◌-◌, ◌<◌, ◌≤◌, Bool, true, List, length, take, get_or, sym, ◌∙◌, ap, arith}
 use proofs.Common.{get_or-take, count_by, false_from_ne_true, length-take-le, take_all, take-take, count_by_more_no}
-use proofs.Common.{count_by_more_yes, common_steps, eqb-true, is_byte}
+use proofs.Common.{count_by_more_yes, usual, eqb-true, is_byte}
 use proofs.tools.paste.shared_input.rows_end.Goals as goal
 
 none_after : (test : ℕ → Bool) (xs : List ℕ) (from n : ℕ) → from + n ≡ length xs
@@ -43,4 +43,4 @@ loop-found-preserved c =
     }
 
 pub returns-clause-counted : goal.returns-clause-counted
-returns-clause-counted c = grind (arith, common_steps)
+returns-clause-counted c = grind usual

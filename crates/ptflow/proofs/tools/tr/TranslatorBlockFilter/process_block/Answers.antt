@@ -8,11 +8,9 @@ use proofs.Common.{rules, arith}
 pub returns-in_err-push-clause-halts : goal.returns-in_err-push-clause-halts
 returns-in_err-push-clause-halts g c =
     let t = c.args.self.now in
-    let block = c.args.block.now in
-    let written = c.squeezed-written.result.now in
     on_err c.from_residual.result
     (record {
-      pushed = written;
+      pushed = _;
       wrote = c.push.ensures.pushed.wrote;
       fault = c.in_err-push.ensures.pushed.fault;
       is_prefix = λ rest. (grind (arith, (front_on t.by.plan.now)));

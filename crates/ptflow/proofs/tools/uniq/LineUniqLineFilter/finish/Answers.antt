@@ -1,9 +1,9 @@
 use Rattle.ptflow.proofs
-use proofs.Common.{arith, common_steps}
+use proofs.Common.{usual}
 use proofs.tools.uniq.LineUniqLineFilter.finish.Goals as goal
 
 pub returns-clause-emptied : goal.returns-clause-emptied
-returns-clause-emptied c = grind (arith, common_steps)
+returns-clause-emptied c = grind usual
 
 pub returns-clause-pushed : goal.returns-clause-pushed
-returns-clause-pushed g c = grind (arith, common_steps)
+returns-clause-pushed g c = grind usual

@@ -1,8 +1,8 @@
 -- A line with another key ends the current run, whose output is pushed, and becomes the first line of the next one by a
 -- swap of the two slots.
 use Rattle.ptflow.proofs
-use proofs.Common.{[], ◌∷◌, ◌&&◌, ◌≡◌, refl, sym, subst, arith, line, nat_lt, is_same, uniq_job, first_line}
-use proofs.Common.{RunsWritten, current_run_of, run_of, push_nothing, rules, common_steps}
+use proofs.Common.{[], ◌∷◌, ◌&&◌, ◌≡◌, refl, sym, subst, usual, line, nat_lt, is_same, uniq_job, first_line}
+use proofs.Common.{RunsWritten, current_run_of, run_of, push_nothing, rules}
 use proofs.Passes.Exits.{on_err}
 use proofs.UniqLemmas.Runs.{RunSteps, steps_more, steps_next, steps_written, steps_failed}
 use Rattle.ptflow.proofs.tools.uniq.LineUniqLineFilter.process_line.Given as given
@@ -35,6 +35,6 @@ returns-clause-continues g c =
     let next = line c.args.store.now 1 in
     subst (λ l. RunsWritten (uniq_job c.args.self.now.by.job.now) (current_run_of c.args.self.now.run c.args.store.now)
     (run_of l 1) (next ∷ []) c.args.out.now c.write_run.new.out)
-    (sym (grind (arith, common_steps)))
+    (sym (grind usual))
     (steps_written (steps_next (before g at) next (cc (test g at)))
     (rw c.first_line-2.ensures at c.write_run.ensures.wrote) refl (λ _. c.in_ok-write_run.ensures.clean))

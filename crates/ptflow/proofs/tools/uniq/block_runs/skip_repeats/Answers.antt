@@ -1,6 +1,6 @@
 -- The rest begins with one more copy of the line.
 use Rattle.ptflow.proofs
-use proofs.Common.{◌≡◌, ℕ, ◌+◌, List, ◌++◌, zero, suc, take, drop, arith, common_steps, append_assoc, append-nil}
+use proofs.Common.{◌≡◌, ℕ, ◌+◌, List, ◌++◌, zero, suc, take, drop, arith, usual, append_assoc, append-nil}
 use proofs.Common.{take-append-drop}
 use Rattle.ptflow.specs.Private.Uniq.BlockRuns.{repeated}
 use proofs.tools.uniq.block_runs.skip_repeats.Goals as goal
@@ -14,4 +14,4 @@ copied : (n size : ℕ) (line rest : List ℕ) → line ≡ take size rest
 copied n size line rest is = grind (arith, append_assoc, one_more n line, take-append-drop size rest)
 
 pub loop-count-preserved : goal.loop-count-preserved
-loop-count-preserved c = grind (arith, common_steps, copied)
+loop-count-preserved c = grind (usual, copied)

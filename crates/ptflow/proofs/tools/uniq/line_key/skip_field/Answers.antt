@@ -1,5 +1,5 @@
 use Rattle.ptflow.proofs
-use proofs.Common.{sym, ◌∙◌, ap, arith, nil_from_length, common_steps}
+use proofs.Common.{sym, ◌∙◌, ap, arith, nil_from_length, usual}
 use proofs.UniqLemmas.Keys.{suffix_at, suffix_none, after_one}
 use proofs.tools.uniq.line_key.skip_field.Goals as goal
 
@@ -9,4 +9,4 @@ returns c = let none = nil_from_length c.blanks.rest.now (omega arith) in
     ∙ c.blanks.invariant ∙ sym (after_one c.args.line.now)
 
 pub blanks-preserved : goal.blanks-preserved
-blanks-preserved c = grind (arith, common_steps)
+blanks-preserved c = grind usual

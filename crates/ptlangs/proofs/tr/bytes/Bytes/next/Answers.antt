@@ -1,12 +1,12 @@
 -- A segment without a byte at the index is passed.
 use Rattle.ptlangs.proofs
-use proofs.Common.{Bytes, List, Ok, Result, Segment, SetFaultKind, ap, arith, chars, common_steps, cond, drop, is_fill}
-use proofs.Common.{length, member_results, most_left, rules, segments, set_elements, ◌*◌, ◌+◌, ◌||◌, ◌≡◌, ◌≤◌, drop_all}
+use proofs.Common.{Bytes, List, Ok, Result, Segment, SetFaultKind, ap, arith, chars, usual, cond, drop, is_fill, length}
+use proofs.Common.{member_results, most_left, rules, segments, set_elements, ◌*◌, ◌+◌, ◌||◌, ◌≡◌, ◌≤◌, drop_all}
 use proofs.TrArrays.{drop-found, fill_step, on_fault, segment-passed, member_bytes-members}
 use proofs.TrGrammar.{segments-element, chars-some, set_elements-fault}
-use Rattle.ptlangs.proofs.tr.bytes.Bytes.next.Goals.{else-self-2, then-self-2}
+use proofs.tr.bytes.Bytes.next.Goals.{else-self-2, then-self-2}
 use Rattle.std.proofs.Math.Nat.{le_trans}
-use Rattle.ptlangs.proofs.tr.bytes.Bytes.next.Goals as goal
+use proofs.tr.bytes.Bytes.next.Goals as goal
 use Rattle.std.proofs.lemmas.List.{length-map}
 
 abbrev segments_left : Bytes → List (Result Segment SetFaultKind)
@@ -19,7 +19,7 @@ pub returns-in-Some-clause-fewer : goal.returns-in-Some-clause-fewer
 returns-in-Some-clause-fewer c = search (rules, drop-found)
 
 pub returns-then-self-clause-steps : goal.returns-then-self-clause-steps
-returns-then-self-clause-steps c = grind (arith, common_steps, segment-passed)
+returns-then-self-clause-steps c = grind (usual, segment-passed)
 
 pub returns-in_err-element-clause-steps : goal.returns-in_err-element-clause-steps
 returns-in_err-element-clause-steps c = search (rules, segment-passed, set_elements-fault, chars-some, drop_all)

@@ -1,6 +1,6 @@
 -- The fault of a byte is that of the string. At the end all bytes are read.
 use Rattle.ptlangs.proofs
-use proofs.Common.{List, Ok, Segment, ap, arith, array, common_steps, contents_of, map-append, member_bytes, ok_map}
+use proofs.Common.{List, Ok, Segment, ap, arith, array, usual, contents_of, map-append, member_bytes, ok_map}
 use proofs.Common.{plain_members, refl, replicate, string_segments, sym, ◌++◌, ◌∙◌, ◌∷◌, ◌≡◌}
 use proofs.TrArrays.{contents-new, items_end, items_fault, items_more, member_bytes-array, member_bytes-plain, on_fault}
 use proofs.TrArrays.{string-fault, string-read}
@@ -17,7 +17,7 @@ returns-in_err-member-clause-is c =
     (string_segments c.args.role c.args.text.now)) _ k is (rw fault refl)
 
 pub loop-member-init : goal.loop-member-init
-loop-member-init c = grind (arith, common_steps, contents-new)
+loop-member-init c = grind (usual, contents-new)
 
 pub loop-member-preserved : goal.loop-member-preserved
 loop-member-preserved c =

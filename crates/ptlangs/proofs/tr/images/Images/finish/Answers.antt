@@ -1,9 +1,8 @@
 -- A class that starts after the end of the first array has no other case.
 use Rattle.ptlangs.proofs
-use proofs.Common.{rules}
+use proofs.Common.{rules, arith}
 use proofs.TrArrays.{never_fault, passing-copies, passing-end, passing-next, split_ok}
 use proofs.tr.images.Images.finish.Goals as goal
-use Rattle.std.proofs.Common.{arith}
 
 pub returns-in_err-member : goal.returns-in_err-member
 returns-in_err-member c = λ from to h.

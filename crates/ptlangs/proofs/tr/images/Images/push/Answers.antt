@@ -2,8 +2,8 @@
 use Rattle.ptlangs.proofs
 use proofs.Common.{arith, rules, None}
 use proofs.TrArrays.{never_fault, push-last, push-next, written, takes_next}
-use Rattle.ptlangs.proofs.tr.images.Images.push.Goals.{in-Some+else-not-classes_match, in_default}
-use Rattle.ptlangs.proofs.tr.images.Images.push.Goals as goal
+use proofs.tr.images.Images.push.Goals.{in-Some+else-not-classes_match, in_default}
+use proofs.tr.images.Images.push.Goals as goal
 
 pub returns-in_err-to : goal.returns-in_err-to
 returns-in_err-to c = λ before to h. never_fault _ _ h.left c.in_err-to.ensures.steps

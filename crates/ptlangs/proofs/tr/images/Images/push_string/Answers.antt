@@ -1,10 +1,10 @@
 -- As the string has no fault, the bytes that are paired are all of its array.
 use Rattle.ptlangs.proofs
 use proofs.Common.{First, PairPost, all_paired, ap, marked_array, member_results, refl, segments_of, sequence, ◌∙◌}
+use proofs.Common.{arith}
 use proofs.TrArrays.{items_at, items_end, items_fault, items_more, never_fault, on_fault, paired_same, sequence-ok}
 use proofs.TrArrays.{string-ok}
 use proofs.tr.images.Images.push_string.Goals as goal
-use Rattle.std.proofs.Common.{arith}
 
 pub returns-in_err-member : goal.returns-in_err-member
 returns-in_err-member c = λ ps to e h.

@@ -1,4 +1,5 @@
 use Rattle.ptlangs.proofs.tr.plan.CharPlan.deletes.Goals as goal
+use Rattle.std.proofs.Common.{rules}
 
 pub returns : goal.returns
-returns c = cc
+returns c = search rules

@@ -1,10 +1,9 @@
 use Rattle.ptlangs.proofs
-use proofs.Common.{SetFault, ap, in_string, plan, result_map_both, sym, tables, ◌∙◌}
+use proofs.Common.{SetFault, ap, in_string, plan, result_map_both, sym, tables, ◌∙◌, arith}
 use proofs.TrPlans.{in_string-ok, mapped_ok, plan_two}
 use Rattle.std.specs.Option.{option_copied}
 use Rattle.ptlangs.specs.declared.faults.SetString.TheVariants as string
 use proofs.tr.plan.CharPlan.read.Goals as goal
-use Rattle.std.proofs.Common.{arith}
 
 pub returns : goal.returns
 returns c =

@@ -1,10 +1,10 @@
 use Rattle.ptlangs.proofs
-use proofs.Common.{arith, common_steps}
+use proofs.Common.{usual}
 use proofs.TrShifts.{moved_reversed}
 use proofs.tr.shifts.Shifts.image.Goals as goal
 
 pub returns : goal.returns
-returns c = grind (arith, common_steps, moved_reversed)
+returns c = grind (usual, moved_reversed)
 
 pub loop-stretch-preserved : goal.loop-stretch-preserved
-loop-stretch-preserved c = grind (arith, common_steps)
+loop-stretch-preserved c = grind usual

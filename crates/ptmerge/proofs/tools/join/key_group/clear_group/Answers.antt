@@ -1,7 +1,10 @@
 use Rattle.ptmerge.proofs
-use Rattle.std.proofs.Common.{arith}
-use proofs.JoinLemmas.Group.{clears_more}
+use Rattle.std.proofs.Common.{arith, rules}
+use proofs.JoinLemmas.Group.{clears_more, clears_none}
 use proofs.tools.join.key_group.clear_group.Goals as goal
+
+pub loop-slot-init : goal.loop-slot-init
+loop-slot-init g c = search (rules, clears_none)
 
 pub loop-slot-preserved : goal.loop-slot-preserved
 loop-slot-preserved g c =

@@ -1,8 +1,7 @@
 -- A canonical line is its key and its other fields, so it is written unchanged.
 use Rattle.ptmerge.proofs
 use proofs.Common.{◌≡◌, List, [], ◌∷◌, ◌++◌, ℕ, Option, Result, append-nil, ap, refl, subst, First, Join, Output, arith}
-use proofs.Common.{PushPost, Second, entry_with_list, join_job, option_copied}
-use Rattle.std.proofs.lemmas.Grind.{common_steps}
+use proofs.Common.{PushPost, Second, entry_with_list, join_job, option_copied, usual}
 use Rattle.ptlines.proofs.Push.{push_past_failure}
 use proofs.JoinLemmas.Fields.{push_fails, then_pushes, first_is, pair_is, second_is}
 use Rattle.ptmerge.specs.JoinFields.{IsKeyOf}
@@ -57,7 +56,7 @@ pub returns : goal.returns
 returns g c = then_pushes c.in_ok-write_fields.ensures.clean c.write_fields.ensures.wrote c.push.ensures.pushed
 
 pub slice_bounds-push_line-count : goal.slice_bounds-push_line-count
-slice_bounds-push_line-count g c = grind (arith, common_steps)
+slice_bounds-push_line-count g c = grind usual
 
 pub slice_bounds-push_line-start : goal.slice_bounds-push_line-start
-slice_bounds-push_line-start g c = grind (arith, common_steps)
+slice_bounds-push_line-start g c = grind usual

@@ -1,8 +1,8 @@
 -- The first item has no separator before it, so it is written before the loop.
 use Rattle.ptmerge.proofs
-use proofs.Common.{◌∷◌, ℕ, List, sym, ◌∙◌, join_job, output_separator, arith, option_copied}
-use Rattle.std.proofs.lemmas.Grind.{common_steps}
-use proofs.JoinLemmas.Fields.{partial_first, each_fails, each_more, between_is, entry_listed, first_then_rest, first_fails}
+use proofs.Common.{◌∷◌, ℕ, List, sym, ◌∙◌, join_job, output_separator, usual, option_copied}
+use proofs.JoinLemmas.Fields.{partial_first, each_fails, each_more, between_is, entry_listed, first_then_rest}
+use proofs.JoinLemmas.Fields.{first_fails}
 use proofs.tools.join.output.write_listed_fields.Goals as goal
 
 pub returns-in_err-push : goal.returns-in_err-push
@@ -16,7 +16,7 @@ pub items-init : goal.items-init
 items-init g c =
     -- the search takes its instances from `e`
     let e = c.args.entry.now in
-    grind (arith, common_steps, partial_first, entry_listed)
+    grind (usual, partial_first, entry_listed)
 
 pub returns-in_err-write_prefixed_field : goal.returns-in_err-write_prefixed_field
 returns-in_err-write_prefixed_field g c =
@@ -39,4 +39,4 @@ items-preserved g c =
     c.in_ok-write_prefixed_field.ensures.clean
 
 pub returns : goal.returns
-returns g c = grind (arith, common_steps)
+returns g c = grind usual

@@ -1,7 +1,6 @@
 -- A write that fails leaves a prefix of the words.
 use Rattle.ptmerge.proofs
-use proofs.Common.{◌∷◌, ℕ, List, ap, arith, with_prefix}
-use Rattle.std.proofs.lemmas.Grind.{common_steps}
+use proofs.Common.{◌∷◌, ℕ, List, ap, arith, with_prefix, usual}
 use proofs.JoinLemmas.Fields.{partial_ends, each_fails, each_more, others_more, others_rest}
 use proofs.tools.join.output.write_other_words.Goals as goal
 
@@ -21,4 +20,4 @@ returns-in-Some-next_field g c =
     c.loop-passed.invariant c.write_words.ensures
 
 pub returns-in_default : goal.returns-in_default
-returns-in_default g c = grind (arith, common_steps)
+returns-in_default g c = grind usual

@@ -1,10 +1,9 @@
 use Rattle.ptmerge.proofs
 use Rattle.std.proofs.lemmas
-use proofs.Common.{eqb}
+use proofs.Common.{eqb, rules}
 use lemmas.Simd.{bitmask_splat, length-chunk, mask_l-mod}
 use mir.Syntax.{w8}
 use proofs.JoinLemmas.Fields.{blank_lanes}
-use Rattle.std.proofs.Common.{rules}
 use lemmas.List.{length-map}
 use proofs.tools.join.words.blanks_in.Goals as goal
 

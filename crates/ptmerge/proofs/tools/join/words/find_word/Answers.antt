@@ -1,7 +1,6 @@
 -- The set bits are the words that were not passed, so the first run of them is the next word.
 use Rattle.ptmerge.proofs
-use proofs.Common.{arith}
-use Rattle.std.proofs.Common.{rules}
+use proofs.Common.{arith, rules}
 use proofs.JoinLemmas.Fields.{none_left, words_small}
 use proofs.tools.join.words.find_word.Goals as goal
 

@@ -1,7 +1,7 @@
 -- A long line, or one that began in an earlier block, is copied by `copy_selected`, any other one piece by piece.
 use Rattle.ptflow.proofs
 use proofs.Common.{◌≡◌, ◌<◌, ◌+◌, ◌*◌, ◌++◌, ◌∙◌, false, take, drop, ap, arith, sym, append-nil, take_rest, false≢true}
-use proofs.Common.{selected_bytes, select_from, is_selected, lt-ltb, common_steps}
+use proofs.Common.{selected_bytes, select_from, is_selected, lt-ltb, usual}
 use proofs.tools.cut.bytes.Selection.copy_line
 use copy_line.Goals as goal
 use copy_line.Goals.{then-line-gt0, else-line-gt0+then-not-is_short, else-line-gt0+else-not-is_short, then-count-self}
@@ -40,4 +40,4 @@ returns-clause-copied c =
             ∙ (rw take_rest at w.copy_pieces.ensures.copied) ∙ ap (◌++◌ was) (begins w.if-count-self.false),
       )
     ] in
-    (grind (arith, common_steps))
+    (grind usual)

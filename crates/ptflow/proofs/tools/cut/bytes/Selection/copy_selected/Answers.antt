@@ -1,6 +1,6 @@
 -- An interval that reaches the end of the piece is the last one.
 use Rattle.ptflow.proofs
-use proofs.Common.{arith, common_steps, ◌≤◌, drop, length, length-drop, take_rest, ℕ, ◌∙◌, ap, min, append-nil}
+use proofs.Common.{arith, usual, ◌≤◌, drop, length, length-drop, take_rest, ℕ, ◌∙◌, ap, min, append-nil}
 use proofs.Common.{drop_all}
 use proofs.CutLemmas.CutBytes.{copied_ends, copied_more, select_none}
 use Rattle.ptflow.proofs.tools.cut.bytes.Selection.copy_selected.Goals as goal
@@ -28,7 +28,7 @@ pub loop-interval-init : goal.loop-interval-init
 loop-interval-init c = grind arith
 
 pub overflow_add-at : goal.overflow_add-at
-overflow_add-at c = grind (arith, common_steps)
+overflow_add-at c = grind usual
 
 pub overflow_add-result : goal.overflow_add-result
-overflow_add-result c = grind (arith, common_steps)
+overflow_add-result c = grind usual

@@ -1,7 +1,7 @@
 -- The bytes after the last terminator are a piece of an unfinished line.
 use Rattle.ptflow.proofs
-use proofs.Common.{◌+◌, ◌-◌, ◌<◌, [], length, take, drop, refl, arith, length-drop, take_all, take_rest}
-use proofs.Common.{is_selected, line_if_not_found, select_from, common_steps}
+use proofs.Common.{◌+◌, ◌-◌, ◌<◌, [], length, take, drop, refl, arith, length-drop, take_all, take_rest, usual}
+use proofs.Common.{is_selected, line_if_not_found, select_from}
 use proofs.CutLemmas.CutBytes.{line_cut, rest_piece, cut_next}
 use proofs.tools.cut.bytes.Selection.cut_tail.Goals as goal
 
@@ -13,7 +13,7 @@ lines-preserved c =
     omega (arith, length-drop line.start c.args.block.now) in
     record {
       on = line_cut _ c.lines.invariant.on first
-          (grind (arith, common_steps)) (omega arith) refl (omega arith);
+          (grind usual) (omega arith) refl (omega arith);
       within = omega arith;
     }
 

@@ -1,6 +1,6 @@
 -- An interval takes two steps: to the start of its first field, and to the end of its last one.
 use Rattle.ptflow.proofs
-use proofs.Common.{◌∙◌, refl, sym, arith, length, take, length-take-le, take_rest, common_steps, eqb-false}
+use proofs.Common.{◌∙◌, refl, sym, arith, length, take, length-take-le, take_rest, usual, eqb-false}
 use proofs.CutLemmas.Fields.{ends_before, next_slice, none_left, none_selected}
 use Rattle.ptflow.proofs.tools.cut.fields.FieldCursor.next_slice.Goals as goal
 use Rattle.ptflow.proofs.tools.cut.fields.FieldCursor.next_slice.Goals.{then-is_empty-via-then-is_empty}
@@ -14,7 +14,7 @@ returns-then-is_empty c =
     let long = length-take-le c.args.to d.bytes.now c.requires.within in
     elim c.then-is_empty.branch [
       | then-is_empty-via-then-is_empty w ↦
-          (grind (arith, common_steps, select_none))
+          (grind (usual, select_none))
       | then-is_empty-via-else-is_empty+then-self-to w ↦
           (grind (arith, (none_selected d.byte line c.args.self.now), none_left))
     ]
@@ -29,7 +29,7 @@ returns-then-from-to c =
     c.skip_fields-from.ensures.near.0 c.skip_fields-from.ensures.offset (omega arith)
 
 pub overflow_add-last : goal.overflow_add-last
-overflow_add-last c = grind (arith, common_steps)
+overflow_add-last c = grind usual
 
 pub returns : goal.returns
 returns c =
@@ -43,4 +43,4 @@ returns c =
     from.near.0 from.offset (omega arith) at.near.0 at.offset _ (take_rest _ 1) refl refl)
 
 pub overflow_sub-last : goal.overflow_sub-last
-overflow_sub-last c = grind (arith, common_steps)
+overflow_sub-last c = grind usual

@@ -1,6 +1,6 @@
 -- No state is carried from line to line.
 use Rattle.ptflow.proofs
-use proofs.Common.{◌∷◌, [], line, cut_job, cut_lines, arith, common_steps, Result, Ok, Err, OnErr}
+use proofs.Common.{◌∷◌, [], line, cut_job, cut_lines, usual, Result, Ok, Err, OnErr}
 use proofs.tools.cut.fields.FieldCutLineFilter.process_line.Goals as goal
 
 if_failed : {E : Type 0} (r : Result (Unit {0}) E) {P Q : Type 0} → OnErr r P → (P → Q) → OnErr r Q
@@ -14,8 +14,8 @@ returns-clause-halts g c =
       passed = cut_lines job (line c.args.store.now 0 ∷ []);
       wrote = rw c.line.ensures at c.write_line.ensures.wrote;
       fault = fault;
-      is_prefix = λ more. (cut_lines job more, grind (arith, common_steps));
+      is_prefix = λ more. (cut_lines job more, grind usual);
     })
 
 pub returns-clause-continues : goal.returns-clause-continues
-returns-clause-continues g c = grind (arith, common_steps)
+returns-clause-continues g c = grind usual

@@ -1,7 +1,7 @@
 -- Each iteration copies output to the buffer, which is pushed at the end.
 use Rattle.ptflow.proofs
 use proofs.Common.{ℕ, List, ◌+◌, ◌≤◌, length, drop, ◌++◌, take, ◌∙◌, ap, arith, length-drop, take_rest, IsLine, take_at}
-use proofs.Common.{complete_lines, line_if_not_found, complete_lines_none, cut_job, cut_lines, append-nil, common_steps}
+use proofs.Common.{complete_lines, line_if_not_found, complete_lines_none, cut_job, cut_lines, append-nil, usual}
 use proofs.Passes.Exits.{on_err, taken_more}
 use Rattle.ptflow.proofs.tools.cut.fields.FieldCutLineFilter.process_lines.Given as given
 use Rattle.ptflow.proofs.tools.cut.fields.FieldCutLineFilter.process_lines.Goals as goal
@@ -60,5 +60,5 @@ returns-clause-continues g c =
 pub returns-clause-passed : goal.returns-clause-passed
 returns-clause-passed g c = (
   omega arith,
-  grind (arith, common_steps, take_at, complete_lines_none, append-nil, (none_left g (goal.at.returns-clause-passed g c).In_default)),
+  grind (usual, take_at, complete_lines_none, append-nil, (none_left g (goal.at.returns-clause-passed g c).In_default)),
 )

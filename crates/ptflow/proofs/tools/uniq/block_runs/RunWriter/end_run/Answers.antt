@@ -2,7 +2,7 @@
 -- both.
 use Rattle.ptflow.proofs
 use proofs.Common.{ℕ, true, not, ◌≡◌, [], refl, sym, ◌∙◌, subst, PushEffect, push_past_failure, append_assoc, span_of}
-use proofs.Common.{uniq_job, arith, common_steps, push_nothing, append-nil}
+use proofs.Common.{uniq_job, usual, push_nothing, append-nil}
 use Rattle.ptflow.specs.Private.Uniq.RunsFrom.{count_prefix}
 use proofs.Passes.Exits.{on_err}
 use proofs.UniqLemmas.Runs.{due_is, pending_joined, current_run_is}
@@ -49,4 +49,4 @@ returns-in_err-flush_with_count-clause-wrote g c =
     (push_past_failure _ _ _ line c.in_err-flush_with_count.ensures.fault c.flush_with_count.ensures.wrote)))
 
 pub returns-clause-waits : goal.returns-clause-waits
-returns-clause-waits g c = grind (arith, common_steps)
+returns-clause-waits g c = grind usual

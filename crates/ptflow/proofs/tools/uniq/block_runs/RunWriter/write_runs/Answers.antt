@@ -2,7 +2,7 @@
 -- is pushed or deferred.
 use Rattle.ptflow.proofs
 use proofs.Common.{◌+◌, IsLine, length, refl, ap, arith, length-append, length-drop, take_rest, line_if_not_found}
-use proofs.Common.{uniq_job, common_steps, rules, take_at}
+use proofs.Common.{uniq_job, usual, rules, take_at}
 use proofs.Passes.Exits.{on_err, wrote_then}
 use proofs.UniqLemmas.Runs.{RunsInvariant, runs_loop_starts, runs_loop_few, runs_loop_next, all_lines, runs_loop_failed}
 use proofs.UniqLemmas.Runs.{runs_loop_repeats, running_unended, passed_is, steps_written}
@@ -44,7 +44,7 @@ lines-preserved g c =
     c.eq.ensures c.if-eq.false c.in_ok-pending.ensures.waits refl refl)
 
 pub overflow_sub-len : goal.overflow_sub-len
-overflow_sub-len g c = grind (arith, common_steps)
+overflow_sub-len g c = grind usual
 
 none_left : (g : given.Over) (c : In_default g) → IsLine (uniq_job c.args.self.now.job.now).terminator c.lines.rest.now
 none_left g c = search (rules, line_if_not_found)
@@ -69,16 +69,16 @@ returns-clause-passed g c = (
 )
 
 pub overflow_add-at : goal.overflow_add-at
-overflow_add-at g c = grind (arith, common_steps)
+overflow_add-at g c = grind usual
 
 pub overflow_sub-from : goal.overflow_sub-from
-overflow_sub-from g c = grind (arith, common_steps)
+overflow_sub-from g c = grind usual
 
 pub overflow_sub-from-else-eq : goal.overflow_sub-from-else-eq
-overflow_sub-from-else-eq g c = grind (arith, common_steps)
+overflow_sub-from-else-eq g c = grind usual
 
 pub overflow_sub-to : goal.overflow_sub-to
-overflow_sub-to g c = grind (arith, common_steps)
+overflow_sub-to g c = grind usual
 
 pub overflow_add-rest : goal.overflow_add-rest
-overflow_add-rest g c = grind (arith, common_steps)
+overflow_add-rest g c = grind usual

@@ -1,0 +1,6 @@
+use Rattle.ptmerge.proofs
+use Rattle.std.proofs.Common.{rules}
+use proofs.merging.Merge.head.Goals as goal
+
+pub returns : goal.returns
+returns g c = search rules

@@ -1,0 +1,7 @@
+use Rattle.ptopts.proofs
+use proofs.Common.{arith}
+use proofs.CheckedCommand.{checked_command_ok}
+use proofs.parsing.ParsedArgs.read_command.Goals as goal
+
+pub returns : goal.returns
+returns g c = grind (arith, checked_command_ok)
