@@ -3,8 +3,9 @@
 # make check                what to run while working: proves what changed since SINCE, what stands on it, its tests,
 #                           and the wrong bodies of the changed crates (SINCE=COMMIT; origin/main where it is known,
 #                           else HEAD~1)
-# make test                 the gate: every proof, the wrong bodies, all tests; then the program that the gate built,
+# make test                 the gate: every proof, most wrong bodies, all tests; then the program that the gate built,
 #                           its pages, its installation and its packages
+# make must-fail            tries the wrong bodies that the gate leaves out: before a release
 # make check-program        all tests of a built program (PROGRAM=build/ptext): nothing is proved, and no toolchain needed
 # make static               build/ptext-static: the program as one file that needs no shared libraries
 # make lib                  build/libptext.so and build/libptext.a with ptext.h: the tools over bytes in memory, for C
@@ -42,11 +43,13 @@ INSTALL_TO = "$(PREFIX)" "$(DESTDIR)" bindir="$(bindir)" libexecdir="$(libexecdi
     mandir="$(mandir)" libdir="$(libdir)" includedir="$(includedir)" INSTALL_PROGRAM="$(INSTALL_PROGRAM)"
 N ?= 1000
 PROGRAM ?= build/ptext
+# What the program and the library are built from.
+SOURCES := HANDLES crates.txt $(shell find crates -name out -prune -o -name 'must-fail*' -prune -o -type f -print)
 WITH_RT = command -v rt >/dev/null || { echo 'there is no rt in PATH: it is part of the toolchain, of which the README \
     says what can be had without it (if it is unpacked: export PATH=/opt/rattle/bin:$$PATH)' >&2; exit 1; }
 AGAINST ?= system
 
-.PHONY: all try check check-program test static lib install-lib python page bench compare install is-built \
+.PHONY: all try check must-fail check-program test static lib install-lib python page bench compare install is-built \
     install-tools uninstall dist dist-static deb clean help
 
 all: build/ptext
@@ -55,12 +58,16 @@ all: build/ptext
 
 # (The tests of a built program take build/ptext as it is.)
 ifndef PTEXT_AS_BUILT
-build/ptext: HANDLES crates.txt $(shell find crates -name out -prune -o -path '*/must-fail' -prune -o -type f -print)
+build/ptext: $(SOURCES)
 	python3 tools/build.py
 endif
 
 check:
 	python3 tools/check.py $(SINCE)
+
+must-fail:
+	@$(WITH_RT)
+	sh tests/must_fail.sh
 
 # The program runs in a folder of its own. The last lines that the toolchain adds to its messages are left out.
 try:
@@ -88,8 +95,7 @@ lib: build/libptext.a
 
 # (The tests take build/libptext.a as it is, too.)
 ifndef PTEXT_AS_BUILT
-build/libptext.a: HANDLES crates.txt lib/ptext.c lib/ptext.h tools/library.py \
-    $(shell find crates -name out -prune -o -path '*/must-fail' -prune -o -type f -print)
+build/libptext.a: lib/ptext.c lib/ptext.h tools/library.py $(SOURCES)
 	@$(WITH_RT)
 	python3 tools/library.py
 endif
@@ -108,8 +114,7 @@ python: build/libptext.a
 
 page: build/page/ptext.html
 
-build/page/ptext.html: HANDLES crates.txt tools/page.py $(wildcard page/* man/ptext-*.1) \
-    $(shell find crates -name out -prune -o -path '*/must-fail' -prune -o -type f -print)
+build/page/ptext.html: tools/page.py $(wildcard page/* man/ptext-*.1) $(SOURCES)
 	@$(WITH_RT)
 	python3 tools/page.py
 

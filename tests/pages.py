@@ -1,8 +1,8 @@
 #!/usr/bin/env python3
 """Runs the examples of the README, the pages and the docs, and lints the pages. Checks that the options of the pages and
 of the completion are those of the program, that the pages contain its messages and its version, that the commands of
-docs/REPLACING.md for GNU's options do the same as these, and that the definitions, tests, modules and paths that the
-docs name exist.
+docs/REPLACING.md for GNU's options do the same as these, that the definitions, tests, modules and paths that the docs
+name exist, and that the wrong bodies that the gate leaves out still apply.
 
   python3 tests/pages.py PROGRAM
 
@@ -339,13 +339,27 @@ def lacking_paths():
             is_there = path.endswith("/out") or any(glob.glob(it) for it in ends)
             found += [] if is_there else [f"{file} names a path that is not there: {path}\n"]
         # Paths in any crate, except patterns such as `src/NAME.rt`.
-        for path in re.findall(r"`((?:src|specs|proofs|must-fail)/[\w/.-]+)`", text):
+        for path in re.findall(r"`((?:src|specs|proofs|must-fail(?:-release)?)/[\w/.-]+)`", text):
             ends = [f"{TOP}/crates/*/{path}{it}" for it in ("", ".rt", ".antt")]
             is_one = not re.search(r"\b(NAME|PATH|A/B)\b", path)
             found += [f"{file} names a path that is not there: {path}\n"] if is_one and not any(map(glob.glob, ends)) else []
         spans = " ".join(re.findall(r"`[^`\n]+`", text)) if file in NAMING else ""
         words = set(re.findall(r"\b[A-Z][a-z]\w+", spans))
         found += [f"{file} names what is not there: {it}\n" for it in sorted(words - known)]
+    return "".join(found)
+
+
+def lost_edits():
+    """Wrong bodies that the gate leaves out and that no longer apply, since their text is not there, or twice."""
+    found = []
+    for edit in sorted(glob.glob(f"{TOP}/crates/*/must-fail-release/*.edit")):
+        with open(edit, encoding="utf-8") as it:
+            said = it.read()
+        path = re.search(r"^file: (.*)$", said, re.M)[1]
+        with open(f"{os.path.dirname(os.path.dirname(edit))}/{path}", encoding="utf-8") as it:
+            text = it.read()
+        is_lost = any(text.count(old) != 1 for old in re.findall(r"^old: (.*)$", said, re.M))
+        found += [f"{os.path.relpath(edit, TOP)} does not apply to {path}\n"] if is_lost else []
     return "".join(found)
 
 
@@ -361,7 +375,7 @@ def main():
     counts = [run_all(file, program, known) for file in FILES]
     good, bad = (sum(it) for it in zip(*counts))
     found = lint() + macros_in_headings() + other_versions() + wrong_options(program) + lacking_messages()
-    found += wrong_rows(program, known["gnu"]) + lacking_names() + lacking_paths()
+    found += wrong_rows(program, known["gnu"]) + lacking_names() + lacking_paths() + lost_edits()
     print(f"{found}{good} of {good + bad} examples as wanted")
     return 1 if bad or found else 0
 

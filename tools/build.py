@@ -48,7 +48,8 @@ def below(crate, uses):
 
 def left_out(folder, names):
     """The names in a crate's folder that are no part of the program."""
-    return {"out", "must-fail"} & set(names) if os.path.dirname(folder) == f"{TOP}/crates" else set()
+    is_crate = os.path.dirname(folder) == f"{TOP}/crates"
+    return {it for it in names if is_crate and (it == "out" or it.startswith("must-fail"))}
 
 
 def bring(crates, uses, room):

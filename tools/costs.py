@@ -16,12 +16,14 @@
       the costliest goals and lemmas among what a check kept, in millions of the checker's own steps, of which it takes
       some 1.5 million a second; it notes them beside each declaration, in a form of its own that may change
   python3 tools/costs.py list [CRATE..]
-      each public function of the six libraries and the wrong bodies that belong to it, and where one is missing
+      each public function of the six libraries and the wrong bodies that belong to it, and where one is missing; in
+      brackets those that only `make must-fail` tries
 
-A wrong body belongs to the function that its first `old:` text stands in, or to those that must-fail/for.md of its crate
-names for it, as `list` prints them. Crates are named as in crates.txt; without one all are taken.
+A wrong body belongs to the function that its first `old:` text stands in, or to those that for.md beside it names for
+it, as `list` prints them. Crates are named as in crates.txt; without one all are taken.
 """
 import argparse
+import glob
 import importlib.machinery
 import importlib.util
 import json
@@ -251,10 +253,10 @@ def listing(rt, crates):
     for crate in [it for it in crates if it.name in LIBRARIES]:
         known = list(functions(crate.folder, crate.name))
         bodies, stray = {name: [] for _, _, name, is_public, _ in known if is_public}, []
-        list_of_others = f"{crate.folder}/must-fail/for.md"
-        rows = re.findall(r"^- (\w+): (.*)$", read(list_of_others), re.M) if os.path.isfile(list_of_others) else []
-        others = {label: names.split(", ") for label, names in rows}
-        for edit in rt.edits_of(crate)[0]:
+        of_release = sorted(glob.glob(f"{crate.folder}/must-fail-release/*.edit"))
+        rows = [re.findall(r"^- (\w+): (.*)$", read(it), re.M) for it in glob.glob(f"{crate.folder}/must-fail*/for.md")]
+        others = {label: names.split(", ") for label, names in sum(rows, [])}
+        for edit in rt.edits_of(crate)[0] + of_release:
             said, label = read(edit), os.path.basename(edit)[:-5]
             path, old = (re.search(rf"^{it}: (.*)$", said, re.M)[1] for it in ("file", "old"))
             named = others.get(label, [])
@@ -262,10 +264,11 @@ def listing(rt, crates):
             above = [name for file, place, name, _, _ in known if file == path.strip() and place <= at + len(old)]
             for name in named or above[-1:]:
                 if name in bodies:
-                    bodies[name].append(label)
+                    bodies[name].append(f"[{label}]" if edit in of_release else label)
                 else:
                     stray.append(f"{label} (in {name})")
-        print(f"== {crate.name}: {len(bodies)} public functions, {len(rt.edits_of(crate)[0])} wrong bodies")
+        counts = f"{len(rt.edits_of(crate)[0])} wrong bodies, {len(of_release)} more for a release"
+        print(f"== {crate.name}: {len(bodies)} public functions, {counts}")
         for _, _, name, is_public, has_body in known:
             if is_public:
                 none = "MISSING" if has_body else "a law, without a body"

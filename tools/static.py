@@ -42,7 +42,7 @@ def sources():
     yield from (f"{TOP}/HANDLES", f"{TOP}/crates.txt")
     for at, folders, names in os.walk(f"{TOP}/crates"):
         if os.path.dirname(at) == f"{TOP}/crates":
-            folders[:] = [it for it in folders if it not in ("out", "must-fail")]
+            folders[:] = [it for it in folders if it != "out" and not it.startswith("must-fail")]
         yield from (f"{at}/{name}" for name in names)
 
 

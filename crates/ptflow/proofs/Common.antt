@@ -3,21 +3,22 @@ use Rattle.ptflow.specs
 use Rattle.std.proofs.lemmas
 pub use Rattle.std.proofs.Common.{Bool, Err, Fits, List, None, Ok, OnErr, Option, Result, Some, [], add-one, ap}
 pub use Rattle.std.proofs.Common.{append_assoc, arith, bit_and, bit_or, cond, drop, drop-cons, eqb, false, get_or}
-pub use Rattle.std.proofs.Common.{get_or-drop, get_or-take, inl, inr, leb, length, length-append, length-drop, ltb, map}
-pub use Rattle.std.proofs.Common.{max, min, negsuc, not, pos, refl, replicate, set, slice_index, slice_index_or, rules}
-pub use Rattle.std.proofs.Common.{slice_set, subst, suc, sym, take, take-append-drop, true, w8, zero, ℕ, ℤ, ⊎_elim, ◌%◌}
-pub use Rattle.std.proofs.Common.{◌&&◌, ◌*◌, ◌++◌, ◌+◌, ◌-◌, ◌/◌, ◌<◌, ◌==◌, ◌^◌, ◌||◌, ◌∙◌, ◌∷◌, ◌≡◌, ◌≢◌, ◌≤◌, ◌⊎◌}
-pub use Rattle.std.proofs.Math.Nat.{add-mod_left, mod-add-mod, mod-eq_of_lt, mod-lt, pow-succ'}
+pub use Rattle.std.proofs.Common.{get_or-drop, get_or-take, inl, inr, leb, length, length-append, length-drop, ltb}
+pub use Rattle.std.proofs.Common.{map, max, min, negsuc, not, pos, refl, replicate, set, slice_index, slice_index_or}
+pub use Rattle.std.proofs.Common.{rules, slice_set, subst, suc, sym, take, take-append-drop, true, w8, zero, ℕ, ℤ}
+pub use Rattle.std.proofs.Common.{⊎_elim, ◌%◌, ◌&&◌, ◌*◌, ◌++◌, ◌+◌, ◌-◌, ◌/◌, ◌<◌, ◌==◌, ◌^◌, ◌||◌, ◌∙◌, ◌∷◌, ◌≡◌}
+pub use Rattle.std.proofs.Common.{◌≢◌, ◌≤◌, ◌⊎◌}
+pub use Rattle.std.proofs.Math.Nat.{add-mod_left, mod-add-mod, mod-eq_of_lt, mod-lt}
 pub use Rattle.std.proofs.Math.Seq.{take-add, take-append-add, take-set-lt}
-pub use lemmas.Bool.{and_right, cases_Bool, cases_eq, cases_lt, eq-eqb, eqb-false, eqb-true, false_from_ne_true}
-pub use lemmas.Bool.{false≢true, le-ltb, lt-ltb, ne_eqb}
+pub use lemmas.Bool.{cases_Bool, cases_eq, cases_lt, eq-eqb, eqb-false, eqb-true, false_from_ne_true, false≢true}
+pub use lemmas.Bool.{le-ltb, lt-ltb, ne_eqb}
 pub use lemmas.Bool.Decides.{nat_tests}
-pub use lemmas.Grind.{and_numeral, common_steps, get_or_after_one}
+pub use lemmas.Grind.{and_numeral, get_or_after_one}
 pub use lemmas.List.{append-nil, append_cancel_right, drop-append-le, drop-drop, drop-set-lt, drop-take, drop_all}
 pub use lemmas.List.{drop_at, drop_more, ext_get_or, get_or-map, get_or-set_other, get_or-set_same, get_or_append_left}
 pub use lemmas.List.{get_or_default, get_or_past, get_or_push, length-map, length-set, length-take-le, map-append}
 pub use lemmas.List.{nil_from_length, set-append_right, set-get_or, take-append-le, take-map, take-set, take-take}
-pub use lemmas.List.{take_all, take_at, take_more, take_more_set, take_rest}
+pub use lemmas.List.{take_all, take_at, take_more_set, take_rest}
 pub use lemmas.List.Concat.{flat_map-append}
 pub use lemmas.List.Elements.{All-from_get_or, filter-append}
 pub use lemmas.List.Folds.{drop_split, list_any_at}
@@ -27,26 +28,24 @@ pub use lemmas.List.Splits.{length-slice_split}
 pub use lemmas.List.Sums.{count_by-le-length, count_by_more_no, count_by_more_yes, get_or-le-sum_by, sum_by-append}
 pub use lemmas.List.Sums.{sum_by-cons, sum_by-take-le}
 pub use lemmas.Nat.{and_mask, mod-mul-add, ones-le, pow_pos}
-pub use lemmas.Result.{err_from_is_err_and}
 pub use lemmas.Simd.{Each1-from_get_or, SwzOk, SwzOk-from_below, bit_mask_l, bitmask_splat, chunk-drop, get_or-chunk}
 pub use lemmas.Simd.{length-chunk, length-put_chunk, length-swz_l, length-zip2, map-map, mask_l-lt, mask_l-mod}
 pub use lemmas.Simd.{ones-mask_l, ones-mask_l_cons, pick_l-range_with_len, splat_is_map, swz_l, take_more_put_chunk}
-pub use lemmas.Simd.{tops_compared, trailing_mask_l, zip2_of_maps, zip2_splat}
+pub use lemmas.Simd.{tops_compared, zip2_of_maps, zip2_splat}
 pub use lemmas.Slice.Eq.{bytes_eq-Decides}
 pub use Rattle.std.specs.Int.{bit_at, cast_signed, cast_unsigned, from_bool}
 pub use Rattle.std.specs.Int.RustNames.{count_ones}
-pub use Rattle.std.specs.List.{AllByRecursion, count_by, enumerate_from, flat_map, join_with_byte, last_or, list_all}
-pub use Rattle.std.specs.List.{list_any, onto_first, prefix_len, range_with_len}
-pub use Rattle.std.specs.Option.{is_some, option_eq, option_map_or, option_or}
+pub use Rattle.std.specs.List.{AllByRecursion, count_by, enumerate_from, flat_map, join_with_byte, last_or, list_any}
+pub use Rattle.std.specs.List.{onto_first, prefix_len, range_with_len}
+pub use Rattle.std.specs.Option.{is_some, option_map_or, option_or}
 pub use Rattle.std.specs.Prelude.{All, bytes_eq, filter, fold, if◌then◌else◌, nat_eq, nat_le, nat_lt, option_map}
-pub use Rattle.std.specs.Prelude.{option_to_list, slice_get, slice_range, sum_by, swap, unwrap_or}
+pub use Rattle.std.specs.Prelude.{option_to_list, slice_get, slice_range, sum_by, unwrap_or}
 pub use Rattle.std.specs.Simd.Lanes.{Each1, chunk, mask_l, pick_l, put_chunk, sel_l, top, zip2}
 pub use Rattle.memchr.specs.Find.{IsFirstByte, NoneBefore, Nowhere, Passes, is_byte, is_byte2}
 pub use Rattle.ptlangs.specs.CutLists.{AreSeparated, is_selected}
 pub use Rattle.ptlangs.specs.Jobs.{Cut, Paste, Uniq, cut_job, terminator, paste_job, uniq_job}
-pub use Rattle.ptlangs.specs.TrShifts.{shift_at}
-pub use Rattle.ptlangs.specs.TrTables.{Tables, deletes, image, squeezes}
 pub use Rattle.ptlangs.specs.declared.ranges.Interval.{Interval}
+pub use Rattle.ptlines.proofs.Common.{usual}
 pub use Rattle.ptlines.proofs.Received.{received_with}
 pub use Rattle.ptlines.proofs.ReadLine.{advance_ok_trans, advance_trans}
 pub use Rattle.ptlines.proofs.PartLaws.{the_lines_of_parts}
@@ -60,53 +59,43 @@ pub use Rattle.ptlines.proofs.TextLaws.{lines-unlines, lines_are, lines_cons, li
 pub use Rattle.ptlines.proofs.TextLaws.{byte_eq, unlines-append, unlines_push, the_complete_lines, the_lines}
 pub use Rattle.ptlines.specs.ReadLine.{FillPost, FillLine}
 pub use Rattle.ptlines.specs.Received.{IsConsistent, IsPrefix, Received, known_lines}
-pub use Rattle.ptlines.specs.Lag.{LaggedInput, ProcessLag}
 pub use Rattle.ptlines.specs.Outputs.{Output, PushEffect}
 pub use Rattle.ptlines.specs.Readers.{AdvanceOk, HasReadCause, IsDone, IsSound, Reader, ReaderAdvance, budget}
-pub use Rattle.ptlines.specs.Readers.{no_reader, reader_at}
+pub use Rattle.ptlines.specs.Readers.{reader_at}
 pub use Rattle.ptlines.specs.Slots.{Slots, line, total_bytes, with_denied, with_line, AddedSlots}
-pub use Rattle.ptlines.specs.Text.{AreLines, EndsWithByte, IsLine, complete_lines, lines, max_length, max_line_length}
-pub use Rattle.ptlines.specs.Text.{onto_first_if_any, unlines, is_blank}
+pub use Rattle.ptlines.specs.Text.{AreLines, IsLine, complete_lines, lines, max_length, max_line_length, unlines}
+pub use Rattle.ptlines.specs.Text.{is_blank}
 pub use specs.Cuts.{select_from, cut, cut_decided, cut_fields, cut_line, cut_lines, cut_tool, is_field_delimiter}
-pub use specs.Parts.{HasGroupedKeys, BeginsWith, CutOfParts, EndsWith, IsRowSplit, PasteOfParts, TrAfterByte}
-pub use specs.Parts.{TrMeetsTwice, TrOfAnyParts, TrOfParts, UniqByKey, UniqOfParts}
-pub use specs.Passes.{PassPost, PassPre, no_store, only_input, pass_end, pass_engine}
-pub use Rattle.ptlines.specs.Calls.{CallPost, CallOutcome, CallState, call_state, CallEnd, AreAllConsistent, inputs_at}
-pub use Rattle.ptlines.specs.Calls.{is_in}
-pub use Rattle.ptlines.proofs.Calls.{CallProgress, DecidedIfReadFailed, reads_nothing, call_ends, call_on_failed_output}
-pub use Rattle.ptlines.proofs.Calls.{call_set, call_without_slots}
-pub use specs.PasteCall.{PastePre, PastePost, IsReadable, paste_end, paste_engine, update_at}
-pub use specs.PasteText.{columns, delimiter, every_kth, join_with_cycle, row_count, is_row_known, paste, paste_decided}
-pub use specs.PasteText.{row_at, rows, paste_serial_decided, paste_serial_tool, rows_text, uses_of}
+pub use specs.Parts.{BeginsWith, CutOfParts, EndsWith, PasteOfParts}
+pub use specs.Passes.{PassPost, no_store}
+pub use Rattle.ptlines.specs.Calls.{CallOutcome, CallState, call_state, is_in}
+pub use Rattle.ptlines.proofs.Calls.{CallProgress, DecidedIfReadFailed, reads_nothing, call_ends}
+pub use Rattle.ptlines.proofs.Calls.{call_on_failed_output, call_set, call_without_slots}
+pub use specs.PasteCall.{update_at}
+pub use specs.PasteText.{delimiter, join_with_cycle, paste_serial_decided, paste_serial_tool, rows_text}
 pub use specs.ToolSpec.{ToolSpec}
-pub use specs.TrOutput.{squeeze, squeeze_after, is_not_repeat, tr, tr_decided, tr_tool, translation}
-pub use specs.Uniqs.{Run, after_fields, init, ends_word, output_of, is_same, key, cons_run, runs, uniq_tool, word_ends}
+pub use specs.TrOutput.{squeeze, squeeze_after, is_not_repeat, tr, tr_decided, tr_tool}
+pub use specs.Uniqs.{after_fields, ends_word, is_same, word_ends}
 pub use specs.Private.Vectors.ByteSets.{FilterPre, IsSetOf, keep_flags, kept_bytes, mask_of, set_has, table_has}
 pub use specs.Private.Vectors.Shift.{IsMappedTo, range_delta, shift_by_ranges, stretch_delta}
 pub use specs.Private.Vectors.FindNth.{IsNth}
-pub use specs.Private.Vectors.Compress.{IsCompressTable, IsCompressRow, select_by, true_indices}
-pub use specs.Private.Cut.CutFrom.{ExtendsCut, CutPost, IsTerminatorMask, IsCutPart, IsSameLine, CopyLinesPost}
-pub use specs.Private.Cut.CutFrom.{selected_bytes, cut_fields_from, cut_bytes_from, cut_list_from, cut_lines_from}
-pub use specs.Private.Cut.FieldOffsets.{IsFieldOffset, fields, prefixed_fields}
+pub use specs.Private.Cut.CutFrom.{CutPost, IsTerminatorMask, IsCutPart, IsSameLine, CopyLinesPost, selected_bytes}
+pub use specs.Private.Cut.CutFrom.{cut_list_from}
 pub use specs.Private.Cut.FieldSlices.{IsFieldCursor, IsNextSlice, output_from_cursor}
-pub use specs.Private.Passes.LineLoop.{SlotsCleared, IsLineFilter, IsSwapped, LinesFailed, LinesWritten, IsLinesLength}
-pub use specs.Private.Paste.SharedInput.{IsWholeRows, IsSharedCycle}
+pub use specs.Private.Passes.LineLoop.{IsLineFilter}
 pub use specs.Private.Paste.Replaced.{IsDelimiterCycle, IsReplacedTo, cycle_byte, with_replacements}
 pub use specs.Private.Paste.FillRow.{SetTerminatorsPost, FillCellPost, SlotsBound, SlotsKept, RowAmid, RowFailed}
 pub use specs.Private.Paste.FillRow.{RowFilled, ClearSlotsPost, is_write_fault}
 pub use specs.Private.Paste.RowCells.{RowShape, BegunText, CellsFilled, CellsTaken, after_cell, begun_in, cells_text}
 pub use specs.Private.Paste.RowCells.{job_shape, shape_of, slots_text}
-pub use specs.Private.Paste.SerialRest.{row_rest, serial_rest}
+pub use specs.Private.Paste.SerialRest.{row_rest}
 pub use specs.Private.Paste.TakenLines.{AreReceivedLines, LinesTaken}
 pub use specs.Private.Paste.BufferedRows.{BufferedRowsPre, IsConsumed, AreConsumed, AreFirstRows, RowsTaken}
 pub use specs.Private.Paste.BufferedRows.{IsFieldCopied, CopyColumnsPost, CopyRowsPost, RowsWritten}
 pub use specs.Private.Tr.TrFrom.{squeeze_from, tr_from}
-pub use specs.Private.Uniq.BlockRuns.{IsSpan, RunsFailed, RunsWritten, IsPending, span_of}
+pub use specs.Private.Uniq.BlockRuns.{RunsWritten, span_of}
 pub use specs.Private.Uniq.FirstLine.{first_line, current_run_of}
-pub use specs.Private.Uniq.RunsFrom.{count_of, has_output, current_run, run_of, run_output, runs_after, runs_from}
+pub use specs.Private.Uniq.RunsFrom.{run_of}
 pub use specs.Private.Uniq.Blanks.{after_nonblanks}
 pub use specs.declared.faults.FlowFault.{FlowFault}
 pub use specs.declared.faults.FlowFault.TheVariants.{Memory, Read, Write}
-
--- what most searches take
-pub ruleset usual = (arith, common_steps)

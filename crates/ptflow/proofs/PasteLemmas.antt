@@ -4,16 +4,17 @@
 pub mod BufferedRows
 pub mod Replaced
 use Rattle.ptflow.proofs
-use proofs.Common.{Result, drop_at, push_trans, bounded_lag_after, HasReadCause, with_denied, max_line_length, CallPost}
-use proofs.Common.{CallOutcome, CallState, call_state, CallEnd, AreAllConsistent, inputs_at, CallProgress, usual}
-use proofs.Common.{DecidedIfReadFailed, reads_nothing, call_ends, call_set, call_without_slots, PastePre, PastePost}
-use proofs.Common.{IsReadable, paste_end, paste_engine, RowFailed, ClearSlotsPost, is_write_fault, job_shape}
+use proofs.Common.{Result, drop_at, push_trans, bounded_lag_after, HasReadCause, with_denied, max_line_length}
+use proofs.Common.{CallOutcome, CallState, call_state, CallProgress, usual, DecidedIfReadFailed, reads_nothing}
+use proofs.Common.{call_ends, call_set, call_without_slots, RowFailed, ClearSlotsPost, is_write_fault, job_shape}
 use proofs.Common.{cases_Bool, cases_eq, filter, get_or-range_with_len, length-map-range_with_len}
 use proofs.Common.{length-range_with_len, received_with, complete_lines_cons, complete_lines_of_unlines, IsPrefix}
 use proofs.Common.{known_lines, IsLine, complete_lines, rows_text}
 use proofs.Passes.Exits.{max_length-append, lines_on, piece_longest, complete_prefix, line_split}
 use proofs.CutLemmas.CutBytes.{select_append}
 pub use BufferedRows.*
+use Rattle.ptflow.specs.PasteCall.{PastePre, PastePost, IsReadable, paste_end, paste_engine}
+use Rattle.ptlines.specs.Calls.{CallPost, CallEnd, AreAllConsistent, inputs_at}
 
 -- Output that was determined two blocks of an input earlier is pushed: without these blocks that input has fewer lines
 -- than one more row takes, so only rows that were already pushed are determined.

@@ -5,8 +5,7 @@ pub use specs.CutLists.{IsValidInterval, element_interval, is_dash}
 pub use specs.DelimLists.{delim_list}
 pub use specs.Numbers.{and_then, cons_ok, elements, is_list_separator, max_u64, value}
 pub use specs.OutLists.{element_field}
-pub use specs.TrChars.{Invalid, NoChar, Plain, SetChar, SpellsChar, SpellsChars, after_backslash, byte_of, char_at}
-pub use specs.TrChars.{chars, chars_after, octal}
+pub use specs.TrChars.{SetChar, SpellsChars, byte_of, chars, chars_after}
 pub use specs.TrClasses.{all_bytes, range_bytes}
 pub use specs.TrElements.{set_elements}
 pub use specs.TrParsing.{HasPaired, PairPost, all_paired, bytes_left, contents_of, first_members, marked_array}
@@ -30,16 +29,16 @@ pub use specs.declared.tr.segments.SetRole.{SetRole}
 pub use specs.declared.tr.segments.SetRole.TheVariants.{First}
 pub use specs.declared.tr.shifts.Stretch.{Stretch}
 pub use Rattle.std.proofs.Common.{Bool, Err, List, None, Ok, Option, Result, Some, [], ap, arith, cond, drop, eqb}
-pub use Rattle.std.proofs.Common.{false, get_or, length, map, not, refl, replicate, rules, subst, suc, sym, take}
-pub use Rattle.std.proofs.Common.{true, zero, ℕ, ◌%◌, ◌*◌, ◌++◌, ◌+◌, ◌-◌, ◌<◌, ◌||◌, ◌∙◌, ◌∷◌, ◌≡◌, ◌≢◌, ◌≤◌}
+pub use Rattle.std.proofs.Common.{false, get_or, length, map, not, refl, replicate, rules, subst, suc, sym, take, true}
+pub use Rattle.std.proofs.Common.{zero, ℕ, ◌%◌, ◌*◌, ◌++◌, ◌+◌, ◌-◌, ◌<◌, ◌||◌, ◌∙◌, ◌∷◌, ◌≡◌, ◌≢◌, ◌≤◌}
 pub use lemmas.Bool.{cond_both, eqb-true, ltb-true, ne_eqb}
-pub use lemmas.Grind.{common_steps}
+use lemmas.Grind.{common_steps}
 pub use lemmas.Iterator.{YieldsList-from_map, YieldsList-from_slice}
 pub use lemmas.Iterator.Adapters.{items_from_extend}
 pub use lemmas.Iterator.Consumers.{YieldsList-at, YieldsList-from_filter_map}
 pub use lemmas.Iterator.Search.{find_from_yields_List, position_from_yields_List}
 pub use lemmas.Iterator.Splits.{YieldsList-from_slice_split}
-pub use lemmas.List.{append-nil, append_assoc, drop_all, drop_more, length-append, length-drop, map-append, take_all}
+pub use lemmas.List.{append-nil, drop_all, drop_more, length-drop, map-append, take_all}
 pub use Rattle.std.specs.Char.{is_ascii_digit}
 pub use Rattle.std.specs.List.{flat_map, slice_get}
 pub use Rattle.std.specs.Prelude.{count_by, sum_by}

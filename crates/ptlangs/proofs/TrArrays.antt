@@ -7,10 +7,10 @@ use Rattle.std.proofs.lemmas
 use proofs.Common.{Bool, Bytes, CharClass, Contents, Err, HasPaired, IsErrAnd, List, Member, None, Ok, Option, Result}
 use proofs.Common.{Segment, SetElement, SetFaultKind, SetRole, Some, [], all_paired, ap, append-nil, arith, array}
 use proofs.Common.{bytes_left, usual, complement_of, cond, contents_of, count_by, drop, drop_all, drop_more, eqb, false}
-use proofs.Common.{first_array, first_members, image_by, is_fill, length, length-append, map, map-append, marked_array}
-use proofs.Common.{member_bytes, member_results, ne_eqb, not, plain_members, refl, replicate, result_map_both, rules}
-use proofs.Common.{segments_of, sequence, slice_get, string_segments, subst, suc, sym, take, take_all, true, zero, ℕ}
-use proofs.Common.{◌++◌, ◌+◌, ◌-◌, ◌<◌, ◌||◌, ◌∙◌, ◌∷◌, ◌≡◌, ◌≢◌, ◌≤◌}
+use proofs.Common.{first_array, first_members, image_by, is_fill, length, map, map-append, marked_array, member_bytes}
+use proofs.Common.{member_results, ne_eqb, not, plain_members, refl, replicate, result_map_both, rules, segments_of}
+use proofs.Common.{sequence, slice_get, string_segments, subst, suc, sym, take, take_all, true, zero, ℕ, ◌++◌, ◌+◌, ◌-◌}
+use proofs.Common.{◌<◌, ◌||◌, ◌∙◌, ◌∷◌, ◌≡◌, ◌≢◌, ◌≤◌}
 use proofs.ListElements.{append_ok as onto}
 use specs.TrClasses.{all_bytes, class_bytes, span}
 use specs.TrParsing.{classes_match, marked_members, members_from}
@@ -26,7 +26,7 @@ use lemmas.List.Folds.{list_any-append, list_any_at}
 use lemmas.List.FromFn.{get_or-map-range_with_len, get_or-range_with_len, length-map-range_with_len}
 use lemmas.List.FromFn.{length-range_with_len}
 use lemmas.List.{get_or-replicate, get_or_default, length-replicate, length-set}
-use lemmas.List.{same_lists, take-append-drop, take-map}
+use lemmas.List.{same_lists, take-append-drop, take-map, length-append}
 use lemmas.Map.Views.{any-filter_same}
 use lemmas.Option.{slice_get-get_or, slice_get_cases, slice_get_past, slice_get_within}
 use lemmas.List.Sums.{length-filter}

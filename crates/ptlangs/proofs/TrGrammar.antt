@@ -5,14 +5,14 @@
 use Rattle.ptlangs.proofs
 use Rattle.ptlangs.specs
 use Rattle.std.proofs.lemmas
-use proofs.Common.{Bool, CharClass, Err, Invalid, List, NoChar, None, Ok, Option, Plain, Result, Segment, SetChar}
-use proofs.Common.{SetElement, SetFaultKind, SetRole, Some, SpellsChar, SpellsChars, [], after_backslash, ap, arith}
-use proofs.Common.{byte_of, char_at, chars, chars_after, usual, cond, cond_both, digits_value, drop, drop_all}
-use proofs.Common.{drop_more, false, get_or, is_ascii_digit, is_fill, length, ltb-true, map, ne_eqb, octal, refl, rules}
-use proofs.Common.{segments, sequence, set_elements, slice_get, subst, suc, sym, take, true, value, zero, ℕ, ◌*◌, ◌++◌}
-use proofs.Common.{◌+◌, ◌-◌, ◌<◌, ◌||◌, ◌∙◌, ◌∷◌, ◌≡◌, ◌≢◌, ◌≤◌}
+use proofs.Common.{Bool, CharClass, Err, List, None, Ok, Option, Result, Segment, SetChar, SetElement, SetFaultKind}
+use proofs.Common.{SetRole, Some, SpellsChars, [], ap, arith, byte_of, chars, chars_after, usual, cond, cond_both}
+use proofs.Common.{digits_value, drop, drop_all, drop_more, false, get_or, is_ascii_digit, is_fill, length, ltb-true}
+use proofs.Common.{map, ne_eqb, refl, rules, segments, sequence, set_elements, slice_get, subst, suc, sym, take, true}
+use proofs.Common.{value, zero, ℕ, ◌*◌, ◌++◌, ◌+◌, ◌-◌, ◌<◌, ◌||◌, ◌∙◌, ◌∷◌, ◌≡◌, ◌≢◌, ◌≤◌}
 use specs.TrChars.{AChar, ALargeOctal, ALoneBackslash, APlainByte, AnEscape, AnOctal, Escaped, IsOctalRun, OneDigit}
-use specs.TrChars.{ThreeDigits, TwoDigits, is_octal_digit, octal_run}
+use specs.TrChars.{ThreeDigits, TwoDigits, is_octal_digit, octal_run, Invalid, NoChar, Plain, SpellsChar}
+use specs.TrChars.{after_backslash, char_at, octal}
 use specs.TrClasses.{class_named}
 use specs.TrElements.{AClass, ADescendingRange, ARange, ARepeat, Alone, AnEquivalence, AnInvalidChar, AnInvalidEnd}
 use specs.TrElements.{AreElements, ByEscape, ByItself, DenotesByte, HasBracketed, InBrackets, StartsBracketed}

@@ -2,13 +2,13 @@
 use Rattle.ptlines.proofs
 use Rattle.std.proofs.lemmas
 use proofs.Common.{◌≡◌, ℕ, ◌+◌, ◌*◌, ◌^◌, ◌%◌, ◌<◌, ◌≤◌, Bool, not, List, [], ◌∷◌, ◌++◌, rules, Option, Some, length}
-use proofs.Common.{map, refl, sym, ◌∙◌, ap, subst, arith, bit_or, take-add, drop-drop, length-map, none_from_empty_mask}
-use proofs.Common.{trailing_mask_l, run_in_chunk_fails, run_in_chunk_stops, length-chunk, mask_l-lt, prefix_len, mask_l}
-use proofs.Common.{chunk, Nowhere, Passes, IsFirst}
+use proofs.Common.{map, refl, sym, ◌∙◌, ap, subst, arith, bit_or, take-add, drop-drop, length-map, length-chunk}
+use proofs.Common.{prefix_len, mask_l, chunk, Nowhere, Passes, IsFirst}
 use Rattle.std.proofs.Math.Nat.{pow-succ'}
 use lemmas.Grind.{or_before_shift}
 use lemmas.List.{map-append}
 use lib.Count.{count_trailing_zeros}
+use lemmas.Simd.{mask_l-lt, none_from_empty_mask, run_in_chunk_fails, run_in_chunk_stops, trailing_mask_l}
 
 prefix_len_lt : (test : ℕ → Bool) (xs : List ℕ) → 0 < mask_l (map test xs)
     → prefix_len (λ x. not (test x)) xs < length xs

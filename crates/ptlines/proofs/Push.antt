@@ -2,9 +2,9 @@
 use Rattle.ptlines.proofs
 use Rattle.ptlines.specs
 use proofs.Common.{◌≡◌, ℕ, true, false, List, [], ◌++◌, Option, arith, Result, Ok, OnOk, OnErr, append_known, Output}
-use proofs.Common.{with_written_out, with_direct_write, IsKnownPrefix, PushEffect, PushPost, OutputErr, rules, usual}
+use proofs.Common.{IsKnownPrefix, PushEffect, rules, usual}
 use specs.declared.out.WriteFault.{WriteFault}
-use specs.Outputs.{output_bytes}
+use specs.Outputs.{output_bytes, OutputErr, PushPost, with_direct_write, with_written_out}
 use proofs.KnownBytes.{append_known-append, append_known-nil}
 
 pub known_prefix_refl : (known : Option (List ℕ)) → IsKnownPrefix known known

@@ -3,12 +3,12 @@
 use Rattle.ptlines.proofs
 use proofs.Common.{◌≡◌, ℕ, ◌+◌, ◌-◌, ◌^◌, ◌<◌, ◌≤◌, None, Some, take, Bool, List, [], ◌∷◌, ◌++◌, length, sym, ◌∙◌, ap}
 use proofs.Common.{subst, arith, length-append, set-set, Slots, line, with_line, not, ◌==◌, Ok, IsLine, Reader}
-use proofs.Common.{ReaderAdvance, AdvanceOk, IsDone, PiecePartial, PieceLine, FillLine, FillPost, IsAppended, IsFirst}
-use proofs.Common.{IsFirstByte, Passes, is_byte, slice_range, rules, usual}
+use proofs.Common.{ReaderAdvance, AdvanceOk, IsDone, IsFirst, IsFirstByte, Passes, is_byte, slice_range, rules, usual}
 use proofs.KnownBytes.{prepend_known-append}
 use proofs.SlotTotals.{total_bytes_set}
 use proofs.LineSearch.{IsLine-append, line_before_terminator, advance_ok_take}
 use proofs.Consume.{rest_of_range}
+use Rattle.ptlines.specs.ReadLine.{FillPost, PieceLine, FillLine, PiecePartial, IsAppended}
 
 pub advance_trans : (a b c : Reader) (xs ys : List ℕ) → ReaderAdvance a b xs → ReaderAdvance b c ys
     → ReaderAdvance a c (xs ++ ys)

@@ -2,10 +2,10 @@
 -- lost.
 use Rattle.ptlines.proofs
 use proofs.Common.{◌≡◌, ℕ, ◌+◌, ◌<◌, ◌≤◌, Bool, List, [], Option, take, refl, arith, length-take-le, take-take}
-use proofs.Common.{SourceState, PullOk, ◌^◌, true, Some, Ok, Err, inr, slice_range, LineFault, Read, Reader, reader_of}
-use proofs.Common.{ReaderAdvance, RefillPost, rules}
+use proofs.Common.{SourceState, PullOk, ◌^◌, true, Some, Ok, Err, inr, slice_range, LineFault, Read, Reader}
+use proofs.Common.{ReaderAdvance, rules}
 use Rattle.std.proofs.lemmas.Slice.{between_from_start}
-use Rattle.ptlines.specs.Readers.{RefillPre}
+use Rattle.ptlines.specs.Readers.{RefillPre, RefillPost, reader_of}
 
 module _ {old : Reader} {was : SourceState} (is : SourceState) (block : List ℕ) {buffered : List ℕ} {p : ℕ} (n : ℕ)
     {q : Bool} (q' : Bool) {fault : Option LineFault} {end : ℕ}

@@ -2,8 +2,9 @@
 -- more terminator.
 use Rattle.ptlines.proofs
 use proofs.Common.{◌≡◌, ◌≢◌, ◌⊎◌, inl, inr, ℕ, ◌==◌, ◌<◌, Bool, true, false, cond, List, [], ◌∷◌, ◌++◌, length, drop}
-use proofs.Common.{get_or, refl, sym, ◌∙◌, ap, arith, onto_first, eq-eqb, eqb-false, append-nil, unlines, lines}
-use proofs.Common.{complete_lines, IsLine, AreLines, EndsWithByte, LinesAreUnique, CompleteLinesAreLines, rules, usual}
+use proofs.Common.{get_or, refl, sym, ◌∙◌, ap, arith, onto_first, eq-eqb, eqb-false, append-nil, lines}
+use proofs.Common.{IsLine, rules, usual}
+use Rattle.ptlines.specs.Text.{AreLines, CompleteLinesAreLines, EndsWithByte, LinesAreUnique, complete_lines, unlines}
 
 pub byte_eq : (end : ℕ) → (end == end) ≡ true
 byte_eq end = eq-eqb end end refl

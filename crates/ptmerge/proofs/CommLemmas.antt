@@ -3,7 +3,7 @@
 use Rattle.ptmerge.proofs
 use proofs.Common.{◌≡◌, ℕ, List, [], ◌∷◌, ◌++◌, refl, sym, arith, Comm, Output, PushEffect, Reader, Slots, line, rules}
 use proofs.Common.{unlines, Side, First, Second, Sorted, Lines, MergeTool, entries_by_key, AdvanceOkPost, AdvancePre}
-use proofs.Common.{MergeState, Cmp, Key, both, with_side, HaveEqualKeys, HasOnlyLeastKey, suc, append-nil, Bool, ◌∙◌}
+use proofs.Common.{MergeState, Cmp, Key, both, with_side, HaveEqualKeys, HasOnlyLeastKey, suc, append-nil, Bool}
 use proofs.MergeLemmas.{BetweenSteps, between_next, advance_pre, EndsIfFails, LoopInvariant, advance_ok, goes_merging}
 use proofs.MergeLemmas.{passing_now, runs_on, read_facts_current, iteration_fails, alone, wrote_alone, alone_breaks}
 use proofs.MergeLemmas.{place_is, wrote_and_sent, IsKeyOrder, same_bytes, Written, MergeInvariant, line_is_least_run}
@@ -51,12 +51,6 @@ pub record IterationInvariant (job : Comm) (cmp : Cmp) (key : Side → Key) (old
   pub loop_invariant : LoopInvariant w now (both one two)
   pub between : BetweenSteps key now one two
 
--- a call keeps the order of keys, so the invariant is that for the order before it
-pub kept_order : {O : Type 0} (cmp : O → Cmp) (key : O → Side → Key) {a b c : O} → a ≡ b → b ≡ c → {job : Comm}
-    {old now : MergeState} {one two : Sorted} → IterationInvariant job (cmp b) (key b) old now one two
-    → record { iteration : IterationInvariant job (cmp a) (key a) old now one two; order : a ≡ c }
-kept_order cmp key same is t = record { iteration = rw same t; order = same ∙ is }
-
 -- ---- a step
 
 module _ {job : Comm} {cmp : Cmp} {key : Side → Key} {old now : MergeState} {one two : Sorted}
@@ -84,7 +78,7 @@ module _ {job : Comm} {cmp : Cmp} {key : Side → Key} {old now : MergeState} {o
         (unlines (now.reader s).terminator (column_entries (hidden_of job s) tabs 1 (head s)))) where
       wrote_line : PushEffect now.out new (unlines (now.reader s).terminator (entries_by_key tool all_keys
           (alone s (head s))))
-      wrote_line = search (rules, entries_alone)
+      wrote_line = rw (entries_alone job cmp key s (head s) (whole_line_keys s _), ← led) pushed
 
       pub alone_continues : {one2 two2 : Sorted} {reader : Reader} {after : Slots}
           → Advances s one2 two2 reader after new
@@ -105,7 +99,8 @@ module _ {job : Comm} {cmp : Cmp} {key : Side → Key} {old now : MergeState} {o
     module _ {one2 two2 : Sorted} {reader : Reader} {after : Slots} {mid : Output}
         (h : Advances First one2 two2 reader after mid) where
       pub second_advance_pre : AdvancePre key Second one2 two2 (now.reader Second) after
-      second_advance_pre = grind (arith, advance_pre)
+      second_advance_pre =
+          advance_pre (between_next between First h.continues) _ (rw h.continues.others step.second)
 
     abbrev both_written : Side → Lines
     both_written = both (ls First) (ls Second)
@@ -114,14 +109,16 @@ module _ {job : Comm} {cmp : Cmp} {key : Side → Key} {old now : MergeState} {o
         (unlines job.terminator (entries_by_key tool all_keys (both (head First ∷ []) (head Second ∷ []))))
         → Written tool b both_written old.out new
     wrote_both wrote =
+        let h1 = at_current_line (sides First) step.first in
         let h2 = at_current_line (sides Second) step.second in
         let x = head First in
         write_least_run w.o (key First x) both_written (both (x ∷ []) (head Second ∷ []))
         (elim [
-          | First ↦ line_is_least_run w.o (at_current_line (sides First) step.first).bound refl
+          | First ↦ line_is_least_run w.o h1.bound refl
           | Second ↦ line_is_least_run w.o h2.bound (sym step.same)
         ])
-        (grind arith) (w.alone.none (key First x)) (λ r c. entries_both job _ _ _) between.clean merge_invariant wrote
+        (elim [ First ↦ h1.all | Second ↦ h2.all ]) (w.alone.none (key First x)) (λ r c. entries_both job _ _ _)
+        between.clean merge_invariant wrote
 
     module _ {mid : Output} {tabs : List ℕ} (led : tabs ≡ tab_if_shown job.hide1 ++ tab_if_shown job.hide2)
         (pushed : PushEffect now.out mid (unlines (now.reader First).terminator
@@ -157,5 +154,5 @@ module _ {job : Comm} {cmp : Cmp} {key : Side → Key} {old now : MergeState} {o
               whole_line_keys = whole_line_keys;
               loop_invariant = rw k.continues.others (runs_on g Second step.second (rw h.continues.others at k.came)
                   (search (rules, goes_merging, wrote_line_out)));
-              between = grind (arith, between);
+              between = between_next (between_next between First h.continues) Second k.continues;
             }

@@ -3,11 +3,10 @@ use Rattle.ptmerge.specs
 use Rattle.std.proofs.lemmas
 pub use Rattle.std.proofs.Common.{Bool, Err, IsErrAnd, List, None, Ok, Option, Result, Some, [], ap, append_assoc}
 pub use Rattle.std.proofs.Common.{arith, cond, drop, eqb, false, get_or, inl, inr, length, ◌++◌, ◌+◌, length-append}
-pub use Rattle.std.proofs.Common.{length-drop, map, max, not, option_copied, refl, rules, set, subst, suc, sym, true, zero, ℕ}
-pub use Rattle.std.proofs.Common.{⊎_elim, ◌&&◌, ◌*◌, ◌-◌, ◌<◌, ◌==◌, ◌^◌, ◌∙◌, ◌∷◌, ◌≡◌, ◌≢◌, ◌≤◌, ◌⊎◌}
+pub use Rattle.std.proofs.Common.{length-drop, map, max, not, option_copied, refl, rules, set, subst, suc, sym, true}
+pub use Rattle.std.proofs.Common.{zero, ℕ, ⊎_elim, ◌&&◌, ◌*◌, ◌-◌, ◌<◌, ◌==◌, ◌^◌, ◌∙◌, ◌∷◌, ◌≡◌, ◌≢◌, ◌≤◌, ◌⊎◌}
 pub use lemmas.Bool.Decides.{nat_tests}
 pub use lemmas.Cmp.{tied_itself}
-use lemmas.Grind.{common_steps}
 pub use lemmas.List.{append-nil, drop_more, length-set, length_push, nil_from_length}
 pub use lemmas.List.Concat.{flat_map-append}
 pub use Rattle.std.specs.Cmp.Lexicographic.{bytes_decides}
@@ -17,6 +16,7 @@ pub use Rattle.std.specs.Prelude.{MatchOption, bytes_eq, filter, flat_map, if◌
 pub use Rattle.std.specs.Prelude.{position, remove, unwrap_or}
 pub use Rattle.std.specs.declared.cmp.Ordering.TheVariants.{Equal, Greater, Less}
 pub use Rattle.ptlangs.specs.Jobs.{Comm, Join, comm_job, terminator, join_job}
+pub use Rattle.ptlines.proofs.Common.{usual}
 pub use Rattle.ptlines.proofs.ReadLine.{advance_ok_trans, line_of_with_line, advance_trans}
 pub use Rattle.ptlines.proofs.Push.{push_nothing, push_trans}
 pub use Rattle.ptlines.proofs.TextLaws.{unlines-append}
@@ -32,8 +32,8 @@ pub use specs.MergeSpec.{FirstDisorder, Lines, MergeTool, entries_by_key, disord
 pub use specs.MergeSpec.{first_disorder, keys, lines_of, merged_entries, sorted_prefixes, sorted_prefix, is_up_to}
 pub use specs.MergeSpec.{lines_with_key}
 pub use specs.WriteAndAdvance.{IsReadyToContinue, AdvanceOkPost, WriteFaultPost, AdvancePre}
-pub use specs.MergeCall.{MergeRunPre, MergePost, MergeState, merge_state, both_sides, merge_engine, merge_end}
-pub use specs.MergeCall.{disordered_line, HasNoLine, IsFirstLineAndBlock}
+pub use specs.MergeCall.{MergeRunPre, MergePost, MergeState, merge_state, disordered_line, HasNoLine}
+pub use specs.MergeCall.{IsFirstLineAndBlock}
 pub use specs.Orders.{Cmp, Key, byte_cmp, line_cmp}
 pub use specs.Cursor.{NextOkPost, HasSlots, same_key_at, status_at}
 pub use specs.Sides.{both, other, with_side}
@@ -45,6 +45,3 @@ pub use specs.declared.merging.cursor.CursorStatus.{CursorStatus}
 pub use specs.declared.merging.cursor.CursorStatus.TheVariants.{Disorder, Ended, Head}
 pub use specs.declared.key_order.Side.{Side}
 pub use specs.declared.key_order.Side.TheVariants.{First, Second}
-
--- what most searches take
-pub ruleset usual = (arith, common_steps)

@@ -6,16 +6,17 @@ pub mod Fields
 use Rattle.ptmerge.proofs
 use Rattle.ptmerge.specs
 use proofs.Common.{cond, ◌*◌, Err, flat_map-append, Cmp, MergeFault, IsReadyToContinue, AdvanceOkPost, MergePost}
-use proofs.Common.{merge_state, both, lines_of, Memory, HaveEqualKeys, HasOnlyLeastKey, ◌⊎◌, MergeRunPre, AdvancePre}
-use proofs.Common.{push_nothing, inl, inr, ◌==◌, nat_tests, length_push, nil_from_length}
+use proofs.Common.{both, lines_of, Memory, HaveEqualKeys, HasOnlyLeastKey, ◌⊎◌, AdvancePre}
+use proofs.Common.{push_nothing, inl, inr, ◌==◌, length_push, nil_from_length}
 use specs.JoinGroup.{IsInItsSlot, IsCopiedToGroup, ReadGroupLineOkPost, ReadGroupLinePost, IsGroup, JoinStepPre}
 use specs.JoinGroup.{JoinLinePre, group_end_slot, group_first_slot}
-use proofs.MergeLemmas.{BetweenSteps, between_next, advance_pre, reads_less, open_merge, alone, wrote_alone}
+use proofs.MergeLemmas.{BetweenSteps, between_next, advance_pre, reads_less, alone, wrote_alone}
 use proofs.MergeLemmas.{alone_breaks, reads_ahead, place_is, LoopInvariant, Extends, input_split_of, extends}
 use proofs.MergeLemmas.{extends_on, runs_on, valid_cursors_kept, wrote_and_sent, others_stay, IsLineByLine, IsOpenMerge}
-use proofs.MergeLemmas.{exit_is_merge_post, continues, same_bound, bounds_change, IsKeyOrder, EachKey-at, Continues}
+use proofs.MergeLemmas.{exit_is_merge_post, continues, same_bound, bounds_change, EachKey-at}
 use specs.declared.tools.join.JoinPhase.{JoinPhase}
 use specs.declared.tools.join.JoinPhase.TheVariants as phases
+use Rattle.std.proofs.lemmas.Bool.{false≢true}
 use specs.Join.{unpaired_entries1, unpaired_entry, join_with, join_entries, join_key}
 use Group.*
 
@@ -89,6 +90,9 @@ rank p = 0
 rank_few : (p : JoinPhase) → rank p ≤ 1
 rank_few = grind arith
 
+copied_end : (n : ℕ) → 0 < n → (4 + n == 4) ≡ false
+copied_end = grind arith
+
 -- ---- an iteration
 
 abbrev pub join_call : (job : Join) (cmp : Cmp) (key : Side → Key) {old : MergeState}
@@ -104,13 +108,6 @@ pub record IterationInvariant (job : Join) (cmp : Cmp) (key : Side → Key) (old
   pub between : BetweenSteps key now one two
   pub open between use *
 
--- a call keeps the order of keys, so the invariant is that for the order before it
-pub kept_order : {O : Type 0} (cmp : O → Cmp) (key : O → Side → Key) {a b c : O} → a ≡ b → b ≡ c → {job : Join}
-    {old now : MergeState} {phase : JoinPhase} {one two : Sorted} {end : ℕ}
-    → IterationInvariant job (cmp b) (key b) old phase now one two end
-    → record { iteration : IterationInvariant job (cmp a) (key a) old phase now one two end; order : a ≡ c }
-kept_order cmp key same is t = record { iteration = rw same t; order = same ∙ is }
-
 module _ {job : Join} {cmp : Cmp} {key : Side → Key} {old : MergeState} {phase : JoinPhase} {now : MergeState}
     {one two : Sorted} {end : ℕ} (t : IterationInvariant job cmp key old phase now one two end) where
   open t.w use {o}
@@ -118,7 +115,7 @@ module _ {job : Join} {cmp : Cmp} {key : Side → Key} {old : MergeState} {phase
   abbrev call : JoinCall
   call = join_call job cmp key t.w
 
-  pub iteration_continues : {next : JoinPhase} (s : Side) {one2 two2 : Sorted} {reader : Reader} {after : Slots}
+  iteration_continues : {next : JoinPhase} (s : Side) {one2 two2 : Sorted} {reader : Reader} {after : Slots}
       {new : Output} {to : ℕ} → IsReadyToContinue key s one two one2 two2 reader after new
       → PhaseInvariant call next (state_after_read now s reader new after)
       (with_side s (both one2 two2 s) (both one two)) to → IterationInvariant job cmp key old next
@@ -158,7 +155,7 @@ module _ {job : Join} {cmp : Cmp} {key : Side → Key} {old : MergeState} {phase
         (unpaired_entry job s (head_of now (both one two) s)))) where
       wrote_unpaired : PushEffect now.out new (unlines (now.reader s).terminator
           (entries_by_key (join_with job cmp key) all_keys (alone s (head_of now (both one two) s))))
-      wrote_unpaired = grind (arith, entries_alone)
+      wrote_unpaired = rw (entries_alone job cmp key s (head_of now (both one two) s) (t.keys s _)) pushed
 
       pub alone_continues : {one2 two2 : Sorted} {reader : Reader} {after : Slots}
           → AdvanceOkPost key cmp s one two one2 two2 (now.reader s) reader now.store after new
@@ -263,7 +260,9 @@ module _ {job : Join} {cmp : Cmp} {key : Side → Key} {old : MergeState} {phase
           stays = same _ (low_slot Second two2 (on_second.group.sides Second).slots).current
 
         one_for_all : a.kept ≡ [] → IsOneForAll call a.k (line made two2.previous_slot) a.kept grown
-        one_for_all = grind (arith, a.heads Second, a, all_copied)
+        one_for_all none =
+            let same = last_stays (a.heads Second) comes in
+            record { none = none; own = rw same (a.heads Second).is; same_pairs = search (rules, all_copied, a) }
 
         record GrownGroup (after : Slots) (to : ℕ) : Type 0 where
           kept : Lines
@@ -282,7 +281,8 @@ module _ {job : Join} {cmp : Cmp} {key : Side → Key} {old : MergeState} {phase
               kept = a.kept;
               q = on_second.group;
               same = λ i low. refl;
-              copied = grind (arith, none, e.stays);
+              copied = λ s. none ∙ ⊎_elim (λ without i. cond ((sym without) i) grown [])
+                  (λ (left, _). absurd (false≢true (sym left ∙ s))) e.stays;
               lines_in = inr (one_for_all none);
             })
         grown_group {after} (inr e) =
@@ -295,7 +295,7 @@ module _ {job : Join} {cmp : Cmp} {key : Side → Key} {old : MergeState} {phase
               kept = a.kept ++ y ∷ [];
               q = group_kept on_second.group new.same new.store_holds (omega (arith, a.q.at, length_push a.kept y));
               same = new.same;
-              copied = grind (arith, all, e.keeps);
+              copied = λ s i. cond ((sym e.keeps) i) (all i) [];
               lines_in = inl all;
             })
 
@@ -349,7 +349,7 @@ module _ {job : Join} {cmp : Cmp} {key : Side → Key} {old : MergeState} {phase
           let new = state_after_read now Second reader out after in
           let lag = group_written call.w q.within (starts_none call q.within)
           (rw (call.laws.none a.k grown) at q.wrote) in
-          rw e.memory (exit_is_merge_post call.w _ (group_read_facts q) lag (λ all more.
+          rw e.memory (exit_is_merge_post call.w new (group_read_facts q) lag (λ all more.
           let up = λ (side : Side). extends (more side) in
           let room = call.laws.largest e.keeps _ all (inside e.came (up Second)) in
           omega (
@@ -360,7 +360,8 @@ module _ {job : Join} {cmp : Cmp} {key : Side → Key} {old : MergeState} {phase
             length_push a.g y,
           ))
           (both_begun (λ side. (q.sides side).begun))
-          (λ side fail. cc ((q.sides side).lines_read.advance_ok.failed, call.w.unfailed side)) (Err Memory) (record {
+          (λ side fail. absurd (false≢true (sym ((q.sides side).lines_read.advance_ok.failed
+          ∙ call.w.unfailed side) ∙ fail))) (Err Memory) (record {
             denied = e.copy_failed.denied;
             unfailed = λ side read. (q.sides side).lines_read.advance_ok.failed;
             clean = fine;
@@ -384,43 +385,42 @@ module _ {job : Join} {cmp : Cmp} {key : Side → Key} {old : MergeState} {phase
     state = rw is at t.phased
 
     pub write_pairs_pre : JoinLinePre job key First one two (now.reader First) now.store now.out
-    write_pairs_pre = search (rules, advance_pre, state, joins)
+    write_pairs_pre = assumption (advance_pre t.between First state.head.head, joins)
 
     is_kept : state.kept ≡ state.g Second → (end == 4) ≡ false
-    is_kept = search rules
+    is_kept same = rw (state.q.at, same) (copied_end _ state.some)
 
     is_alone : state.kept ≡ [] → (end == 4) ≡ true
-    is_alone none = grind arith
+    is_alone none = rw (state.q.at, none)
 
     abbrev in_slots : Lines
     in_slots = group now.store (group_first_slot two end) (group_end_slot two end)
 
     group_pairs_are : (f : Lines) → pair_entries job state.k f in_slots ≡ pair_entries job state.k f (state.g Second)
-    group_pairs_are f = ⊎_elim (λ same. rw (is_kept same, group_is state.q.keeps state.q.at, same))
-        (λ h. rw (
-          is_alone h.none,
-          group_one now.store two.previous_slot
-              (omega (arith, state.q.keeps.four)),
-        ) (h.same_pairs f))
+    group_pairs_are f = ⊎_elim (λ same. rw (is_kept same, group_is state.q.keeps state.q.at, same)) (λ h. rw (
+      is_alone h.none,
+      group_one now.store two.previous_slot (omega (arith, state.q.keeps.four)),
+    ) (h.same_pairs f))
         state.lines_in
 
     pub write_pairs_group : IsGroup (join_key job Second) two now.store end
         (key First (line now.store one.current_slot))
     write_pairs_group = record {
       within = end_in state.q;
-      keyed = λ slot from low. sym (t.keys Second (line now.store slot))
-          ∙ ⊎_elim (λ same.
-          let keyed = EachKey-at (λ x. x ≡ state.k) (key Second) state.kept (slot - 4) in
-          grind (arith, kept_line state.q.keeps, keyed, (rw (← same) at (state.q.within.own Second)), state.q.at))
-          (λ h. let is : slot ≡ two.previous_slot = grind arith in rw is h.own) state.lines_in
+      keyed = λ slot from low. sym (t.keys Second (line now.store slot)) ∙ ⊎_elim (λ same.
+          let first = rw (is_kept same) at from in
+          let last = rw (is_kept same) at low in
+          rw (kept_line state.q.keeps slot first (omega (arith, state.q.at))) (EachKey-at _ _
+          state.kept (slot - 4) (omega (arith, state.q.at)) (rw (← same) at (state.q.within.own Second))))
+          (λ h. let is : slot ≡ two.previous_slot = omega
+          (arith, rw (is_alone h.none) at from, rw (is_alone h.none) at low) in rw is h.own) state.lines_in
           ∙ sym state.head.is;
     }
 
     abbrev z : Lines
     z = line now.store one.current_slot ∷ []
 
-    module _ {new : Output}
-        (pushed : PushEffect now.out new (unlines (now.reader First).terminator
+    module _ {new : Output} (pushed : PushEffect now.out new (unlines (now.reader First).terminator
         (pair_entries job (key First (line now.store one.current_slot)) z in_slots))) where
       wrote_more : PushEffect state.q.mid new
           (unlines job.terminator (pair_entries job state.k (state.g First ++ z) (state.g Second)))
@@ -443,7 +443,7 @@ module _ {job : Join} {cmp : Cmp} {key : Side → Key} {old : MergeState} {phase
         above_on = rw on_first.bound state.above
 
         pub group_there : (4 ≤ end) × (end ≤ length after.lines)
-        group_there = grind (arith, end_in state.q, h.came)
+        group_there = end_in on_first.group
 
         pub write_pairs_continues : one2.same ≡ true
             → IterationInvariant job cmp key old phase (state_after_read now First reader new after) one2 two2 end
@@ -478,8 +478,7 @@ module _ {job : Join} {cmp : Cmp} {key : Side → Key} {old : MergeState} {phase
                 merge_invariant = closes call q.within (elim [
                   | First ↦ omega (arith, length_push (state.g First) (line now.store one.current_slot))
                   | Second ↦ state.some
-                ])
-                    (elim [ First ↦ is_past q First (leaves_key state.head h.came same) | Second ↦ above_on ]) q.wrote;
+                ]) (elim [ First ↦ is_past q First (leaves_key state.head h.came same) | Second ↦ above_on ]) q.wrote;
               },
               refl,
             )

@@ -54,7 +54,8 @@ module _ {tool : MergeTool} (o : IsKeyOrder tool.cmp) {old now : Side → Reader
 
   pub others_stay : (line after (cursor (other s)).current_slot ≡ line store (cursor (other s)).current_slot)
       × (line after (cursor (other s)).previous_slot ≡ line store (cursor (other s)).previous_slot)
-  others_stay = grind (arith, slots_apart, line_other, next_at.stored, (sides s).slots, (sides (other s)).slots)
+  others_stay = let apart = slots_apart s (cursor s) (cursor (other s)) (sides s).slots (sides (other s)).slots in
+      rw next_at.stored (line_other store _ _ _ apart.0, line_other store _ _ _ apart.1)
 
   pub sides_next : SidesInvariant tool old (with_side s new now) (with_side s next cursor) after
       (with_side s next_at.now_ls ls) (with_side s (ls s) p) (with_side s next_at.bound b)
@@ -230,8 +231,7 @@ module _ {tool : MergeTool} {old : MergeState} {w : IsOpenMerge tool old} {now :
       let (above, _) = current_key_is_above _ w.o _ _ _ _ _ _ _ _ _ (grind (arith, is_greater, dec.named)) st in
       rw (named_is _ w.o _ s d _ _ _ _ _ _ _ dec.named st (λ side. first_disorder cmp (key side) (l side))
       (rw disordered at (f s)) (f (other s))) (
-        none_wanted tool (λ k. is_le (cmp k d.last_key)) r
-            (side_case _ s (rw (rw disordered at (c s)) tt)
+        none_wanted tool (λ k. is_le (cmp k d.last_key)) r (side_case _ s (rw (rw disordered at (c s)) tt)
             (Each-weaker _ _ (λ k h. ap is_le h) _ (above _ (c (other s))))),
         refl,
       )
@@ -262,7 +262,7 @@ module _ {tool : MergeTool} {old : MergeState} {w : IsOpenMerge tool old} {now :
         → MergePost tool old last result
     concludes result ends = exit_is_merge_post w _ (read_facts_current a)
         (lag_invariant_starts w.o m clean (push_nothing now.out)) (fits_emptied a.keeps after clear.peak clear.slots)
-        (both_begun (begun a)) (λ side fail. cc (none_failed a _, w.unfailed side)) result ends
+        (both_begun (begun a)) (λ side fail. search (rules, none_failed a side, w.unfailed side)) result ends
 
     pub ends_well : ((side : Side) → (cursor side).status ≡ Ended) → MergePost tool old last (Ok tt)
     ends_well step =
@@ -283,6 +283,23 @@ pub fails_by : {tool : MergeTool} {old now : MergeState} {r : Result (Unit {0}) 
     → IsErrAnd r (λ y. y ≡ fault) → MergePost tool old now (Err fault) → MergePost tool old now r
 fails_by {r = Ok u} is post = elim is [ ]
 fails_by {r = Err given} is post = rw is post
+
+-- an invariant for the current order of keys, which is the one at the start, since calls keep it
+pub record Kept {O : Type 0} (tool : O → MergeTool) (I : O → Type 0) (now start : O) : Type 0 where
+  pub iteration : I now
+  pub order : now ≡ start
+
+module _ {O : Type 0} {tool : O → MergeTool} {I : O → Type 0} {a b : O} where
+  pub kept_order : {c : O} → a ≡ b → b ≡ c → I b → Kept tool I a c
+  kept_order same is t = record { iteration = rw same t; order = same ∙ is }
+
+  module _ (k : Kept tool I a b) {old now : MergeState} {r : Result (Unit {0}) MergeFault} where
+    pub ends : MergePost (tool a) old now r → MergePost (tool b) old now r
+    ends post = rw (← k.order) post
+
+    pub fails : {fault : MergeFault} → IsErrAnd r (λ y. y ≡ fault) → MergePost (tool a) old now (Err fault)
+        → MergePost (tool b) old now r
+    fails is post = ends (fails_by is post)
 
 -- the remaining work
 abbrev pub reads_ahead : (Side → Reader) → Sorted → Sorted → ℕ
@@ -320,7 +337,7 @@ wrote_and_sent was mid is pushed clean wrote written_out =
 
 -- ---- keys in slots
 
-pub later_status : (key : Key) (cmp : Cmp) (number : ℕ) (last next : List ℕ) (r : Ordering) → 0 < number
+later_status : (key : Key) (cmp : Cmp) (number : ℕ) (last next : List ℕ) (r : Ordering) → 0 < number
     → r ≡ cmp (key last) (key next) → (cond (is_gt r) (Disorder (number + 1)) Head ≡ status_at key cmp number last next)
     × (is_eq r ≡ same_key_at key cmp number last next)
 later_status = grind arith
@@ -333,8 +350,8 @@ pub line_moves : {key : Key} {cmp : Cmp} {old new : Sorted} {was is : Reader} {b
     → key1 ≡ key last → head ≡ line after new.current_slot → key2 ≡ key head → r ≡ cmp key1 key2
     → new.status ≡ cond (is_gt r) (Disorder (old.number + 1)) Head → new.same ≡ is_eq r
     → NextLinePost key cmp old new was is before after
-line_moves {key} {cmp} {old} {new} {before = before} {after} slots some at stays count fill sound a b c d is status
-    same =
+line_moves {key} {cmp} {old} {new} {before = before} {after} slots some at stays count fill sound last_of last_key
+    head_of head_key is status same =
     let e = rw at at fill in
     let last_is : line after new.previous_slot ≡ line before old.current_slot = rw (stays, e.stored)
     (line_other before _ _ e.line (λ is. slots.apart (sym is))) in

@@ -117,7 +117,7 @@ module _ (tool : MergeTool) (o : IsKeyOrder tool.cmp) where
       → first_disorder cmp (key side) (ls side) ≡ None
   none_disordered = grind arith
 
-  pub merged_in_order : (ls : Side → Lines) → disorder tool ls ≡ None
+  merged_in_order : (ls : Side → Lines) → disorder tool ls ≡ None
       → merged_entries tool ls ≡ entries_by_key tool all_keys ls
   merged_in_order = grind (arith, sorted_from_start, sorted_from_none, none_disordered)
 
@@ -218,7 +218,7 @@ lines_dealt : (end : ℕ) (q : List ℕ → Bool) (bytes : List ℕ)
 lines_dealt end q bytes = lines-unlines end _
     (recursion_from_All _ _ (All-filter q (IsLine end) _ (grind (usual, lines_are))))
 
-pub split_by_key : (tool : MergeTool) → IsKeyOrder tool.cmp → IsSplittableByKey tool
+split_by_key : (tool : MergeTool) → IsKeyOrder tool.cmp → IsSplittableByKey tool
 split_by_key tool o inputs part_of parts in_order below = simp (whole, of_part)
     (of_each each part_of all_keys 0 parts (λ k. (grind (arith, nat_tests), omega (arith, below k))) ds)
   where

@@ -3,11 +3,12 @@
 use Rattle.ptopts.proofs
 use Rattle.ptopts.specs
 use proofs.Common.{AreInputs, ArgsPost, Fault, Job, List, None, Ok, Option, ParsedOption, Some, Tool, ap, arith}
-use proofs.Common.{checked_command, command_of_args, constraints_fault, input_operands, job, operands_fault, output}
-use proofs.Common.{sym, tool_of_name, values_fault, with_inputs, ℕ, ◌∙◌, ◌∷◌, ◌≡◌}
+use proofs.Common.{command_of_args, constraints_fault, input_operands, job, operands_fault}
+use proofs.Common.{sym, tool_of_name, with_inputs, ℕ, ◌∙◌, ◌∷◌, ◌≡◌}
 use Rattle.ptlangs.specs.Results.{IsFault}
 use specs.Faults.{strings_fault}
 use specs.declared.inputs.Inputs.{Inputs}
+use specs.Commands.{checked_command, output, values_fault}
 
 pub checked_command_ok : {A : Type 0} (tool : Tool) (os : List ParsedOption) (operands : List (List ℕ))
     (i : Inputs A) {told : Job}

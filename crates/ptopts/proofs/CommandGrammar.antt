@@ -1,12 +1,12 @@
 -- Words specify a command exactly if the grammar gives them options and operands that the tool allows: each of the five
 -- faults is a condition that is not met.
 use Rattle.ptopts.proofs
-use proofs.Common.{Command, CommandsMatchGrammar, IsTrue, List, None, Ok, Option, ParsedOption, Some, Spelled}
-use proofs.Common.{SpellsCommand, Tool, Valid, [], ap, append-nil, append_assoc, arith, command_of_args}
-use proofs.Common.{command_of_tool, false, first_some, is_repeated, is_some, map, ok_unless, options, parse_fault}
-use proofs.Common.{parsed_args, refl, rules, sym, tool_of_name, ℕ, ◌++◌, ◌∷◌, ◌≡◌}
+use proofs.Common.{Command, IsTrue, List, None, Ok, Option, ParsedOption, Some, Tool, Valid, [], ap, append-nil}
+use proofs.Common.{append_assoc, arith, command_of_args, command_of_tool, false, first_some, is_repeated, is_some, map}
+use proofs.Common.{ok_unless, options, parse_fault, parsed_args, refl, rules, sym, tool_of_name, ℕ, ◌++◌, ◌∷◌, ◌≡◌}
 use proofs.ParsedIsSpelled.{options-map, spelled_unless_faulty}
 use proofs.SpelledIsParsed.{spelled}
+use Rattle.ptopts.specs.Theorems.{CommandsMatchGrammar, Spelled, SpellsCommand}
 
 -- like `AreGivenOnce`, for options after others
 abbrev AreGivenOnceAfter : Tool → List ParsedOption → List ParsedOption → Type 0

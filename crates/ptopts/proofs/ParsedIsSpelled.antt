@@ -4,12 +4,14 @@ use Rattle.ptopts.proofs
 use Rattle.std.proofs.lemmas
 use proofs.Common.{AreFlags, Bool, EndOfOptions, FaultlessIsSpelled, Flags, List, MissingValue, None, OperandsAlone}
 use proofs.Common.{ParseMatchesGrammar, ParsedOption, Spells, Token, Tool, Valid, ValueAttached, ValueNext, []}
-use proofs.Common.{and_from, ap, append_assoc, arith, cases_Bool, codes, false, filter_map, flag, is_empty}
-use proofs.Common.{is_end_of_options, is_flag, is_option_arg, is_some, list_all, map, not_from_false, option_of_token}
+use proofs.Common.{ap, append_assoc, arith, codes, false, filter_map, flag}
+use proofs.Common.{is_end_of_options, is_flag, is_option_arg, is_some, list_all, map, option_of_token}
 use proofs.Common.{options, parse_fault, parsed_args_from, refl, rules, slice_get, subst, sym, takes_next, takes_value}
 use proofs.Common.{tokens_in, true, value_token, ℕ, ⊎_elim, ◌&&◌, ◌++◌, ◌==◌, ◌∷◌, ◌≡◌, usual}
 use proofs.SpelledIsParsed.{spelled, takes_next-all_flags, takes_next-flags, tokens_in-all_flags, tokens_in-flags}
 use lemmas.Slice.Eq.{bytes_eq-Decides}
+use lemmas.Bool.{and_from, cases_Bool, not_from_false}
+use Rattle.ptlangs.specs.Numbers.{is_empty}
 
 abbrev all_given : List Token → Bool
 all_given tokens = list_all (λ e. is_some (option_of_token e)) tokens

@@ -1,12 +1,13 @@
 -- A dash is not an option, and no option is both with and without a value, so for words of the grammar only one case of
 -- the parse applies.
 use Rattle.ptopts.proofs
-use proofs.Common.{AreFlags, Bool, EndOfOptions, Flags, IsTrue, List, OperandsAlone, Option, ParsedArgs, ParsedOption}
-use proofs.Common.{Spells, Token, Tool, Valid, ValueAttached, ValueNext, [], and_parts, ap, append-nil, arith, usual}
-use proofs.Common.{eqb-true, false, flag, has_letter, is_flag, list_all, map, ne_eqb, not-true, or_cases}
-use proofs.Common.{parsed_args_from, prepend_tokens, refl, slice_get, starts_with_operand, sym, syntax, takes_next}
-use proofs.Common.{takes_value, tokens_in, true, with_value, ℕ, ⊎_elim, ◌++◌, ◌==◌, ◌∙◌, ◌∷◌, ◌≡◌}
+use proofs.Common.{AreFlags, Bool, EndOfOptions, Flags, IsTrue, List, OperandsAlone, Option, ParsedOption, Spells}
+use proofs.Common.{Token, Tool, Valid, ValueAttached, ValueNext, [], ap, append-nil, arith, usual, false, flag, is_flag}
+use proofs.Common.{list_all, map, parsed_args_from, refl, slice_get, sym, syntax, takes_next, takes_value, tokens_in}
+use proofs.Common.{true, ℕ, ⊎_elim, ◌++◌, ◌==◌, ◌∙◌, ◌∷◌, ◌≡◌}
 use proofs.EachTool.{syntax_is}
+use Rattle.ptopts.specs.Args.{ParsedArgs, has_letter, prepend_tokens, starts_with_operand, with_value}
+use Rattle.std.proofs.lemmas.Bool.{and_parts, eqb-true, ne_eqb, not-true, or_cases}
 
 pub all_of : (p : ℕ → Bool) (cs : List ℕ) (l : ℕ) → list_all p cs ≡ true → has_letter l cs ≡ true → p l ≡ true
 all_of p [] l a h = cc

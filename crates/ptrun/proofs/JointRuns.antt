@@ -4,31 +4,33 @@
 use Rattle.ptrun.proofs
 use Rattle.ptrun.specs
 use proofs.Common.{AllPushed, AllWritten, AreInputsConsistent, AreReadToEnd, Bool, BoundedLag, CallOutcome, Completion}
-use proofs.Common.{Disorder, Err, First, FlowFault, HasIndexBelow, HasReadFailed, HaveReceived, InputBytes, IsDone}
-use proofs.Common.{IsTooLong, JointTool, List, Memory, MergeTool, None, Ok, Option, Output, PassPost, Paste, Read}
-use proofs.Common.{Reader, Received, ReceivedInputs, Result, RunInputsEnd, RunInputsPost, Second, SinkState, Slots}
-use proofs.Common.{Some, ToolSpec, Write, [], ap, arith, bytes_of, call_state, cases_eq, usual, cond, drop}
-use proofs.Common.{ended_operands, eqb-true, eqb_tells, false, false≢true, get_or, get_or_default, has_unopened, inl}
-use proofs.Common.{inr, is_in, is_reader_unopened, is_unopened, joint_spec, length, length-set, list_any}
-use proofs.Common.{list_any-append, no_reader, one_input_tool, only_input, operand, option_map, pass_end, pass_engine}
-use proofs.Common.{paste_rows_tool, positions, reader_at, received_in, refl, result_status, rules, set, slice_get}
-use proofs.Common.{subst, suc, sym, take, take-append-drop, true, two_input_tool, unopened_messages, zero, ℕ, ⊎_elim}
-use proofs.Common.{◌++◌, ◌+◌, ◌<◌, ◌==◌, ◌∙◌, ◌∷◌, ◌≡◌, ◌≤◌, ◌⊎◌}
+use proofs.Common.{Disorder, Err, FlowFault, HasIndexBelow, HasReadFailed, HaveReceived, InputBytes, IsDone, IsTooLong}
+use proofs.Common.{List, Memory, None, Ok, Option, Output, PassPost, Paste, Read, Reader, Received, ReceivedInputs}
+use proofs.Common.{Result, RunInputsEnd, RunInputsPost, SinkState, Slots, Some, ToolSpec, Write, [], ap, arith}
+use proofs.Common.{call_state, cases_eq, usual, cond, drop, ended_operands, eqb-true, eqb_tells, false, false≢true}
+use proofs.Common.{get_or, get_or_default, inl, inr, is_in, is_reader_unopened, is_unopened, length, length-set}
+use proofs.Common.{list_any, list_any-append, no_reader, only_input, option_map, pass_end, pass_engine, positions}
+use proofs.Common.{reader_at, refl, rules, set, slice_get, subst, suc, sym, take, take-append-drop, true}
+use proofs.Common.{unopened_messages, zero, ℕ, ⊎_elim, ◌++◌, ◌+◌, ◌<◌, ◌==◌, ◌∙◌, ◌∷◌, ◌≡◌, ◌≤◌, ◌⊎◌, ◌||◌}
 use proofs.MessageWrites.{said_nothing}
 use proofs.OperandInputs.{any_same, at_set, each_listed, fresh_all, is_in-same, lagged_output, none_passes}
 use proofs.OperandInputs.{none_received, opened_set, put_here, put_other, received_of, same_here, some_same}
 use Rattle.ptflow.proofs.PasteLemmas.BufferedRows.Rows.Grid.{cell_in, decided_same}
-use Rattle.ptflow.specs.PasteCall.{PastePost, PastePre, paste_end, paste_engine, update_at}
+use Rattle.ptflow.specs.PasteCall.{PastePost, paste_end, paste_engine, update_at}
 use Rattle.ptlines.specs.Calls.{AreAllConsistent, CallEnd, CallPost, Complete, EngineSpec, InputNames, IsCallUnfinished}
 use Rattle.ptlines.specs.Calls.{MemoryFault, NoReadFailed, OutOfOrder, ReadFault, WriteFault, inputs_at, with_input}
-use Rattle.ptmerge.specs.MergeCall.{MergePost, MergePre, both_sides, is_same_side, merge_end, merge_engine, merge_state}
+use Rattle.ptmerge.specs.MergeCall.{MergePost, both_sides, is_same_side, merge_end, merge_engine, merge_state}
 use Rattle.ptmerge.specs.Sides.{both}
 use Rattle.ptmerge.specs.declared.faults.MergeFault.{MergeFault}
 use Rattle.ptmerge.specs.declared.key_order.Side.{Side}
-use specs.Driver.{JointPost, JointPre, merge_completion, operand_completion, result_of_end, run_state}
+use specs.Driver.{JointPost, JointPre, merge_completion, operand_completion, result_of_end, run_state, result_status}
 use specs.Engines.{at_positions, end_at, in_run, line_at}
 use specs.Files.{IsNew, IsNewOrUnopened, at}
 use Rattle.std.proofs.lemmas.List.{get_or-set_other, get_or-set_same, set-append_left, set-append_right}
+use specs.Joint.{JointTool, bytes_of, has_unopened, joint_spec, one_input_tool, operand, paste_rows_tool, received_in}
+use specs.Joint.{two_input_tool}
+use Rattle.ptmerge.specs.declared.key_order.Side.TheVariants.{First, Second}
+use Rattle.ptmerge.specs.MergeSpec.{MergeTool}
 
 -- The names that are read are those of the positions in a list, one for each.
 pub record Placement {I : Type 0} (names : InputNames I) (position : I → ℕ) (positions : List ℕ) : Type 0 where
@@ -166,9 +168,6 @@ rows_completion (Err fault) = Err fault
 
 module _ (job : Paste) {positions : List ℕ} {old : List Reader} {was : Output} {before : Slots}
     (ready : JointPre (paste_rows_tool job) positions old was before) where
-  pub cells_ready : PastePre positions old before
-  cells_ready = grind (usual, cell_in)
-
   completes : (r : Result (Unit {0}) FlowFault) → rows_completion r ≡ result_of_end (end_at (λ p. p) (paste_end r))
   completes (Ok u) = refl
   completes (Err (Read p)) = refl
@@ -192,6 +191,18 @@ module _ (job : Paste) {positions : List ℕ} {old : List Reader} {was : Output}
         ((get_or positions 0 0), first, grind (arith, rules, none_passes))) k;
     same = decided_same job positions;
   }
+
+-- ---- for what engines require
+
+pub cell_opened : (positions : List ℕ) (old : List Reader) (k d : ℕ) (e : Reader)
+    → list_any (is_reader_unopened old) positions ≡ false → k < length positions → get_or positions k d < length old
+    → (get_or old (get_or positions k d) e).refused ≡ false
+cell_opened positions old k d e none within low = grind (usual, cell_in, none_passes)
+
+pub any_of_two : (f : ℕ → Bool) (positions : List ℕ) → length positions ≡ 2
+    → list_any f positions ≡ (f (get_or positions 0 0) || f (get_or positions 1 0))
+any_of_two f (p ∷ q ∷ []) two = grind arith
+any_of_two f positions two = grind arith
 
 -- ---- two operands
 
@@ -263,9 +274,6 @@ module _ (t : MergeTool) {positions : List ℕ} {old : List Reader} {was : Outpu
 
   module _ {a b : Reader}
       (were : (d : Reader) → (get_or old (at_side First) d ≡ a) × (get_or old (at_side Second) d ≡ b)) where
-    pub two_ready : MergePre a b before
-    two_ready = grind (arith, were no_reader, open_side First, open_side Second, new_at First, new_at Second)
-
     module _ (x y : Reader) where
       abbrev new : List Reader
       new = set (set old (at_side First) x) (at_side Second) y

@@ -3,14 +3,13 @@
 -- Then the operands of a command, by induction on their list.
 use Rattle.ptrun.proofs
 use Rattle.ptrun.specs
-use proofs.Common.{All, AllWritten, Any-from_list_any, AreInputsConsistent, Bool, BoundedLag, BoundedLagAs, BufferLag}
-use proofs.Common.{CommandSpec, Completion, DecidesAll, HasBoundedLag, HasReceived, HasSaid, HaveReceived, Input, usual}
-use proofs.Common.{InputBytes, IsConsistent, IsDone, IsKnownPrefix, IsPrefix, IsPushedUpToBlock, IsWrittenUpToBlock}
-use proofs.Common.{LagOfAny, LagOfLast, LaggedInput, List, None, Option, Output, PushEffect, Reader, Received}
-use proofs.Common.{ReceivedInputs, SinkState, Some, ToolSpec, Unopened, [], ap, append-nil, append_assoc, append_known}
-use proofs.Common.{arith, cond, decided_in_order, drop, empty_input, false, file_names}
-use proofs.Common.{filter_map-append, flat_map, flat_map-append, get_or, get_or-map, is_in, is_unopened, length}
-use proofs.Common.{length-append, length-drop, length-map, list_any, map, max, name_of, no_reader, option_map}
+use proofs.Common.{All, AllWritten, Any-from_list_any, AreInputsConsistent, Bool, BoundedLag, BufferLag, CommandSpec}
+use proofs.Common.{Completion, DecidesAll, HasReceived, HasSaid, HaveReceived, Input, usual, InputBytes, IsConsistent}
+use proofs.Common.{IsDone, IsKnownPrefix, IsPrefix, IsPushedUpToBlock, LaggedInput, List, None, Option, Output}
+use proofs.Common.{PushEffect, Reader, Received, ReceivedInputs, SinkState, Some, ToolSpec, Unopened, [], ap}
+use proofs.Common.{append-nil, append_assoc, append_known, arith, cond, decided_in_order, drop, empty_input, false}
+use proofs.Common.{file_names, filter_map-append, flat_map, flat_map-append, get_or, get_or-map, is_in, is_unopened}
+use proofs.Common.{length, length-append, length-drop, length-map, list_any, map, max, name_of, no_reader, option_map}
 use proofs.Common.{order_from, position, positions, reader_at, refl, rules, set, slice_get, suc, sym, take}
 use proofs.Common.{take-append-drop, take_more, true, unopened_message, unopened_messages, up_to_unended, zero, ℕ, ◌++◌}
 use proofs.Common.{◌+◌, ◌<◌, ◌==◌, ◌^◌, ◌∙◌, ◌∷◌, ◌≡◌, ◌≢◌, ◌≤◌}
@@ -22,6 +21,7 @@ use specs.Files.{HasReceivedAt, IsConsistentAt, IsNewOrUnopened, at, input_of_op
 use specs.Files.{opened_inputs, opened_values}
 use specs.Operands.{maximum}
 use Rattle.std.proofs.Math.ListN.{get_or-map as get_or-map_any}
+use specs.Lag.{BoundedLagAs, HasBoundedLag, IsWrittenUpToBlock, LagOfAny, LagOfLast}
 
 pub some_same : {X : Type 0} {a b : X} → Some a ≡ Some b → a ≡ b
 some_same same = cc
@@ -373,7 +373,15 @@ module _ (bytes : List ℕ) (was is is' : Output) (pushed front rest : List ℕ)
   few = by_known was.accepted refl
     where
       by_known : (known : Option (List ℕ)) → was.accepted ≡ known → length (drop (length front) bytes) ≤ 8192
-      by_known None none = grind (usual, length-drop (length front) bytes, ap length split, ap length k.begins.is, length-append front rest, ap)
+      by_known None none =
+          grind (
+            usual,
+            length-drop (length front) bytes,
+            ap length split,
+            ap length k.begins.is,
+            length-append front rest,
+            ap,
+          )
       by_known (Some known) is_known =
           let all = rw (accepted, k.buffering.accepted, is_known) at (ap known_length kept.is) in
           grind (arith, ap, length-drop, length-append)

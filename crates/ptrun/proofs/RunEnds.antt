@@ -3,16 +3,14 @@
 -- consistent with the bytes received, and each cause of a failure contradicts a premise. Then the same for arguments.
 use Rattle.ptrun.proofs
 use Rattle.ptrun.specs
-use proofs.Common.{All, All-map, AreInputsConsistent, AreReadToEnd, Bool, Command, CommandPost, CommandSpec, Completion}
-use proofs.Common.{EndRunPost, Err, FinishPost, FlowFault, HasCause, HasSaid, Input, InputBytes, InputsPre, IsPrefix}
-use proofs.Common.{IsRun, IsTooLong, Job, List, Memory, None, Ok, Option, Output, PushEffect, Read, Reader, Received}
-use proofs.Common.{ReceivedInputs, Result, RunComm, RunCut, RunInputsEnd, RunInputsPost, RunJoin, RunPaste, RunTr}
-use proofs.Common.{RunUniq, SinkState, Slots, Some, Write, [], ap, append-nil, append_known, arith, cases_Bool, usual}
-use proofs.Common.{command_of_args, command_spec, cond, ended_operands, false, false≢true, fault_view}
-use proofs.Common.{is_memory_fault, is_reader_unopened, is_unopened, length, length-append, map, message_only, messages}
-use proofs.Common.{position, positions, push_trans, reader_at, refl, result_message, rules, sinks, spec_of_args}
-use proofs.Common.{spec_of_parsed, spec_of_tool, sym, tool_name, tool_of_job, true, usage_message, usage_status}
-use proofs.Common.{word_of_job, ℕ, ⊎_elim, ◌++◌, ◌<◌, ◌==◌, ◌∙◌, ◌≡◌, ◌≤◌}
+use proofs.Common.{All, All-map, AreInputsConsistent, AreReadToEnd, Bool, CommandPost, CommandSpec, Completion, Err}
+use proofs.Common.{FlowFault, HasCause, HasSaid, Input, InputBytes, InputsPre, IsPrefix, IsRun, IsTooLong, List, Memory}
+use proofs.Common.{None, Ok, Option, Output, PushEffect, Read, Reader, Received, ReceivedInputs, Result, RunInputsEnd}
+use proofs.Common.{RunInputsPost, SinkState, Slots, Some, Write, [], ap, append-nil, append_known, arith, cases_Bool}
+use proofs.Common.{usual, command_spec, cond, ended_operands, false, false≢true, fault_view, is_reader_unopened}
+use proofs.Common.{is_unopened, length, length-append, map, messages, position, positions, push_trans, reader_at, refl}
+use proofs.Common.{rules, sinks, spec_of_parsed, spec_of_tool, sym, true, usage_message, usage_status, ℕ, ⊎_elim, ◌++◌}
+use proofs.Common.{◌<◌, ◌==◌, ◌∙◌, ◌≡◌, ◌≤◌}
 use proofs.MessageWrites.{said_trans}
 use proofs.OperandInputs.{earlier_map, fresh_all, kept_up, nothing_decided, nothing_read, positions_within, received_at}
 use proofs.OperandInputs.{received_of, some_same}
@@ -20,10 +18,13 @@ use Rattle.ptlines.proofs.KnownBytes.{append_known-nil}
 use Rattle.ptopts.proofs.EachTool.{AreInputsOf, are_inputs}
 use Rattle.ptopts.specs.Theorems.{Spelled, SpellsCommand}
 use Rattle.ptopts.specs.declared.fault.UseFault.{UseFault}
+use specs.Driver.{RunWithStorePost, EndRunPost, FinishPost, result_message}
 use specs.Files.{AreNewInputs, HasBytesAt, HasReceivedAt, IsConsistentAt, IsNewOrUnopened}
-use specs.Runs.{IsExact, IsExactUnlessFailed, IsRunInStore, Outcome, RunEnd, Sinks}
+use specs.Runs.{IsExact, IsExactUnlessFailed, Outcome, RunEnd, Sinks}
 use Rattle.std.proofs.lemmas.List.{append_cancel_left, nil_from_length}
 use Rattle.ptopts.specs.declared.command.Command as code
+use specs.SpecOfArgs.{is_memory_fault, message_only, spec_of_args, tool_name, tool_of_job, word_of_job}
+use Rattle.ptopts.specs.Commands.{Command, Job, RunComm, RunCut, RunJoin, RunPaste, RunTr, RunUniq, command_of_args}
 
 -- ---- the bytes that reached the sink
 
@@ -231,9 +232,14 @@ module _ {m : CommandSpec} {old new : List Reader} {was is : Output}
     bounded = grind arith;
   }
 
-  pub run_in_store : IsRunInStore m old new (sinks out messages_first) o before store
+  pub stored : {same : CommandSpec} → m ≡ same → (m.reads_nothing (is_reader_unopened old) ≡ true → ⊥)
+      → RunWithStorePost same old new (sinks out messages_first) o before store
   unfolding run_of
-  run_in_store = record { run = run_of; slots = k.slots }
+  stored equal reads = rw (← equal) (record {
+    run = record { run = run_of; slots = k.slots };
+    reads_nothing = (λ none. absurd (reads none), λ none. absurd (reads none));
+    store = (last.peak, last.denied);
+  })
 
 -- ---- the specification of arguments
 

@@ -4,16 +4,16 @@
 use Rattle.ptrun.proofs
 use Rattle.ptrun.specs
 use proofs.Common.{All, AllPushed, AllWritten, AreInputsConsistent, BoundedLag, CallOutcome, CallState, Completion}
-use proofs.Common.{DecidesAll, Err, FlowFault, HasCause, HasIndexBelow, HasReadCause, HasReadFailed, HasReceived, usual}
+use proofs.Common.{DecidesAll, Err, FlowFault, HasCause, HasIndexBelow, HasReadCause, HasReadFailed, HasReceived}
 use proofs.Common.{HasSaid, HaveReceived, InputBytes, IsConsistent, IsDone, IsPrefix, IsPushedUpToBlock, IsSound}
-use proofs.Common.{IsTooLong, List, Memory, None, Ok, OperandPost, Output, PassPost, PushEffect, Read, Reader, Received}
-use proofs.Common.{ReceivedInputs, Result, RunInputsPost, SinkState, Slots, Some, ToolSpec, Unopened, Write, [], ap}
-use proofs.Common.{append-nil, append_assoc, arith, call_state, cases_Bool, cases_lt, cond}
+use proofs.Common.{IsTooLong, List, Memory, None, Ok, OneByOne, OperandPost, Output, PassPost, PushEffect, Read, Reader}
+use proofs.Common.{Received, ReceivedInputs, Result, RunInputsPost, SinkState, Slots, Some, ToolInRun, ToolSpec}
+use proofs.Common.{Unopened, Write, [], ap, append-nil, append_assoc, arith, call_state, cases_Bool, cases_lt, cond}
 use proofs.Common.{decided_in_order, empty_input, false, false≢true, flat_map, flat_map-append, get_or, is_in}
 use proofs.Common.{is_reader_unopened, length, length-append, length-map, length-set, list_any, map, map-append, max}
-use proofs.Common.{name_of, only_input, pass_end, pass_engine, push_nothing, push_trans, reader_at, refl, rules}
-use proofs.Common.{sequential_spec, set, subst, sym, take, take_all, total_bytes, true, unopened_message}
-use proofs.Common.{unopened_messages, up_to_unended, ℕ, ⊎_elim, ◌++◌, ◌+◌, ◌<◌, ◌∙◌, ◌∷◌, ◌≡◌, ◌≢◌, ◌≤◌, ◌⊎◌}
+use proofs.Common.{name_of, only_input, pass_end, pass_engine, push_nothing, push_trans, reader_at, refl, rules, set}
+use proofs.Common.{spec_of_tool, subst, sym, take, take_all, total_bytes, true, unopened_message, unopened_messages}
+use proofs.Common.{up_to_unended, usual, ℕ, ⊎_elim, ◌++◌, ◌+◌, ◌<◌, ◌∙◌, ◌∷◌, ◌≡◌, ◌≢◌, ◌≤◌, ◌⊎◌}
 use proofs.MessageWrites.{said_nothing}
 use proofs.OperandInputs.{IsAtEof, IsEndedAt, OpenedInput, all_earlier, any_before, any_now, completion_with}
 use proofs.OperandInputs.{consistent_before, consistent_bytes, decided_inputs, fresh_all, holds_more, is_in-same}
@@ -22,7 +22,7 @@ use proofs.OperandInputs.{nothing_read, nth_here, opened_inputs_none, opened_inp
 use proofs.OperandInputs.{received_of, said_more, sends_after, sends_now}
 use specs.Driver.{OperandPre, fault_at, operand_completion}
 use specs.Files.{IsNewOrUnopened, at, input_of_operand, inputs_of_operands, opened_inputs, opened_values}
-use specs.Operands.{sequential_bound, sequential_decided, sequential_output, sequential_slots}
+use specs.Operands.{sequential_bound, sequential_decided, sequential_output, sequential_slots, sequential_spec}
 use Rattle.std.proofs.Math.Seq.{take-append-add, take-append_seam, take-length}
 
 pub record OperandsDone (word : List ℕ) (t : ToolSpec) (names : List (List ℕ)) (old now : List Reader) (was is : Output)
@@ -98,10 +98,10 @@ module _ {word : List ℕ} {t : ToolSpec} {names : List (List ℕ)} {old : List 
 
     -- ---- all operands are done
 
-    pub done_all : DecidesAll t
-        → RunInputsPost (sequential_spec word t names done) old now was is messages_old messages_new before store
+    pub done_all : {s : ToolInRun} {all : List ℕ} (law : DecidesAll t) → s ≡ OneByOne t law → done ≡ all
+        → RunInputsPost (spec_of_tool word s names all) old now was is messages_old messages_new before store
         (Ok so_far)
-    done_all law = record {
+    done_all law kind all = rw (kind, ← all) (record {
       received = k.inputs_read;
       came = k.came;
       pushed = k.pushed;
@@ -131,7 +131,7 @@ module _ {word : List ℕ} {t : ToolSpec} {names : List (List ℕ)} {old : List 
       bounded_lag = search (rules, all_taken, all_earlier, processing, sends_now);
       peak = λ w agrees. (k.bounds w agrees).0;
       slots = λ w agrees. (k.bounds w agrees).1;
-    }
+    })
       where
         all_taken : take (length done + 1) done ≡ done
         all_taken = take_all (length done + 1) done (omega arith)
@@ -457,7 +457,10 @@ module _ {word : List ℕ} {t : ToolSpec} {names : List (List ℕ)} {old : List 
             index_within Write = tt
             index_within Memory = tt
 
-        pub done_stopped : (more : List ℕ) {fault : FlowFault} → result ≡ Err fault
-            → RunInputsPost (sequential_spec word t names (done ++ p ∷ more)) old now' was is' messages_old messages_new
-            before store' (Err fault)
-        done_stopped more is_err = let f = err_of _ (sym o.result_is ∙ is_err) in grind (arith, stopped)
+        pub done_stopped : {s : ToolInRun} {all : List ℕ} (more : List ℕ) {fault passed : FlowFault}
+            {last : Result Completion FlowFault} → s ≡ OneByOne t law → done ++ p ∷ more ≡ all → result ≡ Err fault
+            → last ≡ Err passed → passed ≡ fault
+            → RunInputsPost (spec_of_tool word s names all) old now' was is' messages_old messages_new before store'
+            last
+        done_stopped more kind split is_err is_last same = let f = err_of _ (sym o.result_is ∙ is_err) in
+            rw (is_last, same, kind, ← split, f.is) (stopped more f.passed_fault f.failed)

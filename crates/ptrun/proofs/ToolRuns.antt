@@ -1,12 +1,13 @@
 -- The steps of the driver, by how a tool reads its operands: one after another, or together.
 use Rattle.ptrun.proofs
 use Rattle.ptrun.specs
-use proofs.Common.{All, Bool, CallOutcome, Completion, DecidesAll, FlowFault, HasIndexBelow, HasSaid, InputsPre, usual}
-use proofs.Common.{IsRun, List, OneByOne, OperandPost, Output, PassPost, Reader, Result, RunInputsPost, SinkState}
-use proofs.Common.{Slots, Together, ToolInRun, ToolSpec, [], append-nil, arith, false, false≢true}
-use proofs.Common.{get_or, is_reader_unopened, is_unopened, length, list_any, only_operand, reads_together, refl, set}
-use proofs.Common.{sinks, spec_of_tool, sym, total_bytes, true, unopened_messages, ℕ, ◌<◌, ◌∙◌, ◌≡◌}
-use proofs.JointRuns.{joint_post, none_unopened}
+use proofs.Common.{All, Bool, Bor, CallOutcome, Completion, DecidesAll, FlowFault, HasIndexBelow, Input, InputsPre}
+use proofs.Common.{IsRun, List, OneByOne, OperandPost, Output, PassPost, PassPre, Reader, Result, RunInputsPost}
+use proofs.Common.{SinkState, Slots, Together, ToolInRun, ToolSpec, [], append-nil, arith, false, false≢true, get_or}
+use proofs.Common.{is_reader_unopened, is_unopened, length, list_any, only_operand, positions, reads_together, refl}
+use proofs.Common.{set, sinks, spec_of_tool, sym, total_bytes, true, unopened_messages, usual, words_view, ℕ, ◌+◌, ◌<◌}
+use proofs.Common.{◌∙◌, ◌≡◌}
+use proofs.JointRuns.{joint_post}
 use proofs.OperandInputs.{any_same, each_listed, fresh_all, nothing_read, unopened_agrees}
 use proofs.RunEnds.{unread}
 use specs.Driver.{OperandPre, ReportUnopenedPost, RunOnPost, RunOnPre, operand_completion, result_of_end, run_state}
@@ -25,7 +26,7 @@ decides_all (Together t) = λ bytes. refl
 
 pub read_in_turn : (s : ToolInRun) → reads_together s ≡ false → s ≡ OneByOne (one_tool s) (decides_all s)
 read_in_turn (OneByOne t law) in_turn = refl
-read_in_turn (Together t) in_turn = cc
+read_in_turn (Together t) in_turn = absurd (false≢true (sym in_turn))
 
 module _ (word : List ℕ) (names : List (List ℕ)) (positions : List ℕ) where
   -- ---- a file could not be opened
@@ -54,11 +55,6 @@ module _ (word : List ℕ) (names : List (List ℕ)) (positions : List ℕ) wher
       any_of : (test : ℕ → Bool) → ((q : ℕ) → is_reader_unopened inputs q ≡ test q) → list_any test positions ≡ true
       any_of test same = sym (any_same _ _ _ same) ∙ any
 
-  pub together_says : {inputs : List Reader} {messages_old messages_new : SinkState} {any_unopened : Bool}
-      → ReportUnopenedPost word names positions inputs messages_old messages_new any_unopened → any_unopened ≡ false
-      → HasSaid messages_old messages_new []
-  together_says {inputs} k none = grind (arith, none_unopened)
-
   -- a tool reads something unless it reads its operands together and one was not opened
   pub reads_if : (s : ToolInRun) (test : ℕ → Bool) → (reads_together s ≡ true → list_any test positions ≡ false)
       → (spec_of_tool word s names positions).reads_nothing test ≡ true → ⊥
@@ -73,7 +69,8 @@ module _ (word : List ℕ) (names : List (List ℕ)) (positions : List ℕ) wher
       → ReportUnopenedPost word names positions inputs messages_old messages_new any_unopened
       → any_unopened ≡ false → was.write_failed ≡ false → before.denied ≡ false → total_bytes before.lines ≡ 0
       → RunOnPre s positions inputs was before
-  together_pre (OneByOne t law) was before together given k none writable not_denied empty = cc
+  together_pre (OneByOne t law) was before together given k none writable not_denied empty =
+      absurd (false≢true together)
   together_pre (Together t) was before together given k none writable not_denied empty = grind arith
 
   module _ {was : Output} {before : Slots} where
@@ -84,19 +81,37 @@ module _ (word : List ℕ) (names : List (List ℕ)) (positions : List ℕ) wher
           → any_unopened ≡ false → was.write_failed ≡ false → before.denied ≡ false → total_bytes before.lines ≡ 0
           → RunOnPost s positions old new was is before store result
           → RunInputsPost (spec_of_tool word s names positions) old new was is messages messages before store result
-      together_post (OneByOne t law) messages together given k none writable not_denied empty post = cc
+      together_post (OneByOne t law) messages together given k none writable not_denied empty post =
+          absurd (false≢true together)
       together_post (Together t) messages together given k none writable not_denied empty post =
           grind (arith, joint_post)
 
+pub pass_ready : {ps : List ℕ} {old : List Reader} {before : Slots} → OperandPre ps old before → (d : Reader)
+    → PassPre (get_or old (only_operand ps) d) before
+pass_ready {ps} {old} ready d = grind usual
+
+pub ran_in_turn : (s : ToolInRun) (ps : List ℕ) {old new : List Reader} {was is : Output} {before store : Slots}
+    {result : Result Completion FlowFault} → reads_together s ≡ false
+    → RunOnPost s ps old new was is before store result
+    → OperandPost (one_tool s) (only_operand ps) old new was is before store result
+ran_in_turn (OneByOne t law) ps in_turn post = post
+ran_in_turn (Together t) ps in_turn post = absurd (false≢true (sym in_turn))
+
 -- the input that a result names is that of an operand
-pub together_index : (s : ToolInRun) (operands : List ℕ) (old new : List Reader) (was is : Output)
-    (before store : Slots) (result : Result Completion FlowFault) {n : ℕ}
+pub together_index : (s : ToolInRun) (word : List ℕ) {names files : List (Bor (List ℕ))} (order : List Input)
+    (operands : List ℕ) (old new : List Reader) (was is : Output) (before store : Slots)
+    (result : Result Completion FlowFault)
     → RunOnPost s operands old new was is before store result → reads_together s ≡ true
-    → All (λ p. p < length old) operands → length old ≡ n → HasIndexBelow n result
-together_index (OneByOne t law) operands old new was is before store result post together in_range same = cc
-together_index (Together t) operands old new was is before store result post together in_range same =
-    rw (← same, post.result_is) (by_end post.end post.call.ends)
+    → InputsPre (spec_of_tool word s (words_view files) (positions order)) old → operands ≡ positions order
+    → names ≡ files → HasIndexBelow (length names + 1) result
+together_index (OneByOne t law) _ _ _ _ _ _ _ _ _ _ _ together _ _ _ = absurd (false≢true together)
+together_index (Together t) _ {names} {files} _ operands old new was is before store _ post _ given listed same =
+    let count : length old ≡ length names + 1 = rw same (grind usual) in
+    rw (← count, post.result_is) (by_end post.end post.call.ends)
   where
+    in_range : All (λ p. p < length old) operands
+    in_range = rw listed given.in_range
+
     by_end : (end : CallEnd ℕ)
         → CallOutcome (inputs_at operands) (in_run (t.engine operands)) (run_state old was before)
         (run_state new is store) post.call.given post.call.pushed end → HasIndexBelow (length old) (result_of_end end)

@@ -21,6 +21,7 @@ use ptopts::{Input, Inputs};
 use std::alloc::Allocator;
 
 /// Runs a tool over its operands and returns the report.
+#[tactic(auto, using(crate::proofs::ToolRuns::together_index))]
 pub(crate) fn run_tool<A, B, T, S, R, W, E>(
     store: &mut Store<A>,
     tool: &T,

@@ -31,6 +31,7 @@ impl<A: Allocator + Copy> Tool<A> for CommJob {
         true
     }
 
+    #[tactic(auto, using(crate::proofs::JointRuns::any_of_two))]
     fn run_on<S: Source, R: Source, W: Sink>(
         &self,
         operands: &[usize],
@@ -63,6 +64,7 @@ impl<A: Allocator + Copy, B: Allocator + Copy> Tool<A> for JoinJob<B> {
         true
     }
 
+    #[tactic(auto, using(crate::proofs::JointRuns::any_of_two))]
     fn run_on<S: Source, R: Source, W: Sink>(
         &self,
         operands: &[usize],

@@ -77,6 +77,7 @@ impl<A: Allocator + Copy, B: Allocator + Copy> Tool<A> for CutJob<B> {
         false
     }
 
+    #[tactic(auto, using(crate::proofs::ToolRuns::pass_ready))]
     fn run_on<S: Source, R: Source, W: Sink>(
         &self,
         operands: &[usize],
@@ -106,6 +107,7 @@ impl<A: Allocator + Copy> Tool<A> for CharPlan {
         false
     }
 
+    #[tactic(auto, using(crate::proofs::ToolRuns::pass_ready))]
     fn run_on<S: Source, R: Source, W: Sink>(
         &self,
         operands: &[usize],
@@ -138,6 +140,7 @@ impl<A: Allocator + Copy> Tool<A> for UniqJob {
         true
     }
 
+    #[tactic(auto, using(crate::proofs::JointRuns::cell_opened))]
     fn run_on<S: Source, R: Source, W: Sink>(
         &self,
         operands: &[usize],
@@ -167,6 +170,7 @@ impl<A: Allocator + Copy, B: Allocator + Copy> Tool<A> for PasteJob<B> {
         !self.serial
     }
 
+    #[tactic(auto, using(crate::proofs::JointRuns::cell_opened, crate::proofs::ToolRuns::pass_ready))]
     fn run_on<S: Source, R: Source, W: Sink>(
         &self,
         operands: &[usize],

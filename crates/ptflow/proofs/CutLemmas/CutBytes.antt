@@ -5,8 +5,8 @@ use Rattle.ptflow.specs
 use proofs.Common.{◌≡◌, ℕ, ◌+◌, ◌-◌, ◌≤◌, ◌^◌, Bool, false, List, [], ◌∷◌, ◌++◌, map, length, take, drop, Some, refl}
 use proofs.Common.{ap, arith, append_assoc, usual, flat_map, mask_l, chunk, length-chunk, chunk-drop}
 use proofs.Common.{IsFirstByte, is_byte, unlines, lines, IsLine, complete_lines, lines_cons, byte_ne, lines_of_unlines}
-use proofs.Common.{line_before_terminator, select_from, cut_line, cut, cut_decided, cut_lines_from, cut_bytes_from}
-use proofs.Common.{cut_list_from, IsPrefix, Cut, Interval, ExtendsCut, CutPost, selected_bytes, is_selected, zero, suc}
+use proofs.Common.{line_before_terminator, select_from, cut_line, cut, cut_decided}
+use proofs.Common.{cut_list_from, IsPrefix, Cut, Interval, CutPost, selected_bytes, is_selected, zero, suc}
 use proofs.Common.{◌<◌, set, ◌&&◌, get_or, length-append, sym, ◌∙◌, w8, All, nat_le, range_with_len, take-add}
 use proofs.Common.{swz_l, pick_l-range_with_len, take-map, take-take, take-append-le, take_all, length-take-le}
 use proofs.Common.{append-nil, length-range_with_len, cases_eq, put_chunk, length-drop, length-swz_l, slice_get, min}
@@ -20,6 +20,7 @@ use specs.declared.tools.cut.shuffle.PieceShuffle.{PieceShuffle}
 use proofs.Vectors.Compress.{row_lanes, selected_stored, shuffle_result}
 use lib.Seq.{take-nil}
 use Rattle.std.proofs.lemmas.List.{length-take}
+use specs.Private.Cut.CutFrom.{ExtendsCut, cut_bytes_from, cut_lines_from}
 
 -- ---- what intervals select
 

@@ -2,19 +2,19 @@
 -- interval, with the delimiter before each, are one slice of the line; so the output is these slices, the first without
 -- the delimiter before it. No state is carried from line to line.
 use Rattle.ptflow.proofs
-use proofs.Common.{usual, ◌≡◌, ℕ, zero, suc, ◌+◌, ◌<◌, ◌==◌, ◌-◌, ◌≤◌, Bool, true, false, List, [], ◌∷◌, ◌++◌}
-use proofs.Common.{length, take, drop, refl, sym, ap, arith, join_with_byte, append-nil, take-take, take-add, take_all}
+use proofs.Common.{usual, ◌≡◌, ℕ, zero, suc, ◌+◌, ◌<◌, ◌==◌, ◌-◌, ◌≤◌, Bool, true, false, List, [], ◌∷◌, ◌++◌, length}
+use proofs.Common.{take, drop, refl, sym, ap, arith, join_with_byte, append-nil, take-take, take-add, take_all}
 use proofs.Common.{drop_all, drop-drop, length-drop, length-take-le, take-append-drop, flat_map-append}
-use proofs.Common.{length-slice_split, count_by, is_byte, byte_eq, fields, prefixed_fields, IsFieldOffset, IsNth}
-use proofs.Common.{get_or, length-append, drop-append-le, Cut, cut_fields, is_selected, AreSeparated, Interval}
-use proofs.Common.{select_from, IsFieldCursor, IsNextSlice, output_from_cursor, min, Option, None, Some, is_some}
-use proofs.Common.{flat_map, list_any, list_any_at, IsFirstByte, line_if_not_found, unlines, IsLine, is_field_delimiter}
-use proofs.Common.{cut_line, cut_lines, IsPrefix, ◌⊎◌, inl, inr, unwrap_or, complete_lines, AreLines}
-use proofs.Common.{line_before_terminator, complete_lines_cons, the_lines, the_complete_lines, CopyLinesPost}
-use proofs.Common.{the_lines_of_parts, CutOfParts, rules}
+use proofs.Common.{length-slice_split, count_by, is_byte, byte_eq, IsNth, get_or, length-append, drop-append-le, Cut}
+use proofs.Common.{cut_fields, is_selected, AreSeparated, Interval, select_from, IsFieldCursor, IsNextSlice}
+use proofs.Common.{output_from_cursor, min, Option, None, Some, is_some, flat_map, list_any, list_any_at, IsFirstByte}
+use proofs.Common.{line_if_not_found, unlines, IsLine, is_field_delimiter, cut_line, cut_lines, IsPrefix, ◌⊎◌, inl, inr}
+use proofs.Common.{unwrap_or, complete_lines, AreLines, line_before_terminator, complete_lines_cons, the_lines}
+use proofs.Common.{the_complete_lines, CopyLinesPost, the_lines_of_parts, CutOfParts, rules}
 use proofs.CutLemmas.CutBytes.{not_selected, select_first, select_slice, select_skip}
 use proofs.Passes.Exits.{line_split}
 use Rattle.ptflow.specs.declared.tools.cut.fields.FieldCursor.{FieldCursor}
+use Rattle.ptflow.specs.Private.Cut.FieldOffsets.{IsFieldOffset, fields, prefixed_fields}
 
 module _ (d : ℕ) where
   pub fields-append : (xs ys : List ℕ) → fields d (xs ++ d ∷ ys) ≡ fields d xs ++ fields d ys

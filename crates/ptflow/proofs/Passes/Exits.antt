@@ -5,22 +5,23 @@
 use Rattle.ptflow.proofs
 use Rattle.ptflow.specs
 use proofs.Common.{◌≡◌, ℕ, ◌≤◌, ◌<◌, ◌^◌, true, false, List, [], ◌++◌, length, None, Result, Ok, Err, max, arith, Slots}
-use proofs.Common.{append_assoc, usual, append-nil, Reader, ReaderAdvance, AdvanceOk, IsDone, IsSound}
-use proofs.Common.{HasReadCause, Received, IsPrefix, IsConsistent, Output, PushEffect, total_bytes, push_trans}
-use proofs.Common.{received_with, advance_trans, push_nothing, ToolSpec, PassPre, PassPost, only_input, pass_end, Read}
-use proofs.Common.{pass_engine, CallState, call_state, CallOutcome, AddedSlots, CallProgress, DecidedIfReadFailed, take}
-use proofs.Common.{call_ends, call_on_failed_output, call_set, call_without_slots, ProcessLag, bounded_lag_after, Write}
-use proofs.Common.{FlowFault, Memory, rules, drop, advance_ok_take, Bool, refl, push_past_failure, OnErr}
-use proofs.Common.{◌+◌, ◌-◌, take_all, inl, inr, zero, suc, ◌∷◌, unlines, take-append-drop}
-use proofs.Common.{false≢true, lines, IsLine, AreLines, max_length, max_line_length, known_lines, FillLine}
-use proofs.Common.{lines_of_unlines, lines_of_last, lines_cons, lines-unlines, ◌==◌, complete_lines_of_unlines}
-use proofs.Common.{AreReceivedLines, Some, eqb-true, eqb-false, complete_lines, complete_lines_cons, IsFirstByte}
-use proofs.Common.{is_byte, line_before_terminator, drop_at_terminator, cases_Bool}
+use proofs.Common.{append_assoc, usual, append-nil, Reader, ReaderAdvance, AdvanceOk, IsDone, IsSound, HasReadCause}
+use proofs.Common.{Received, IsPrefix, IsConsistent, Output, PushEffect, total_bytes, push_trans, received_with}
+use proofs.Common.{advance_trans, push_nothing, ToolSpec, PassPost, Read, CallState, call_state, CallOutcome}
+use proofs.Common.{AddedSlots, CallProgress, DecidedIfReadFailed, take, call_ends, call_on_failed_output, call_set}
+use proofs.Common.{call_without_slots, bounded_lag_after, Write, FlowFault, Memory, rules, drop, advance_ok_take, Bool}
+use proofs.Common.{refl, push_past_failure, OnErr, ◌+◌, ◌-◌, take_all, inl, inr, zero, suc, ◌∷◌, unlines}
+use proofs.Common.{take-append-drop, false≢true, lines, IsLine, AreLines, max_length, max_line_length, known_lines}
+use proofs.Common.{FillLine, lines_of_unlines, lines_of_last, lines_cons, lines-unlines, ◌==◌}
+use proofs.Common.{complete_lines_of_unlines, AreReceivedLines, Some, eqb-true, eqb-false, complete_lines}
+use proofs.Common.{complete_lines_cons, IsFirstByte, is_byte, line_before_terminator, drop_at_terminator, cases_Bool}
 use Rattle.std.specs.Prelude.{IsErrAnd}
 use Rattle.ptlines.specs.Outputs.{PushPost}
 use specs.Private.Passes.BlockLoop.{IsBlockFilter, RunBlocksPost}
 use specs.Private.Passes.StepOutput.{OutputPart}
 pub use Rattle.ptlines.proofs.MaxLength.{max_length-append, piece_le_max_length}
+use specs.Passes.{PassPre, only_input, pass_end, pass_engine}
+use Rattle.ptlines.specs.Lag.{ProcessLag}
 
 -- ---- readers
 

@@ -4,19 +4,19 @@
 use Rattle.ptflow.proofs
 use Rattle.std.proofs.lemmas
 use proofs.Common.{◌≡◌, ℕ, zero, suc, ◌+◌, ◌-◌, ◌*◌, ◌<◌, ◌≤◌, false, List, [], ◌∷◌, length, drop, set, get_or, max}
-use proofs.Common.{refl, ◌∙◌, ap, arith, inl, inr, usual, length-set, drop-set-lt, sum_by-cons, Slots}
-use proofs.Common.{total_bytes, with_line, AddedSlots, IsSwapped, SlotsCleared, ◌^◌, true, ◌++◌, Ok, Err, append_assoc}
-use proofs.Common.{length-append, nil_from_length, lines, complete_lines, IsLine, max_length, max_line_length, Received}
-use proofs.Common.{known_lines, IsPrefix, IsConsistent, Output, PushEffect, Reader, ReaderAdvance, AdvanceOk, IsDone}
-use proofs.Common.{IsSound, advance_ok_take, unlines, line, FillLine, advance_ok_trans, push_trans, ToolSpec, PassPost}
-use proofs.Common.{AreReceivedLines, LinesWritten, LinesFailed, IsLinesLength, IsLineFilter, Read, Write, Memory}
-use proofs.Common.{received_with, reads_nothing, rules}
+use proofs.Common.{refl, ◌∙◌, ap, arith, inl, inr, usual, length-set, drop-set-lt, sum_by-cons, Slots, total_bytes}
+use proofs.Common.{with_line, AddedSlots, ◌^◌, true, ◌++◌, Ok, Err, append_assoc, length-append, nil_from_length, lines}
+use proofs.Common.{complete_lines, IsLine, max_length, max_line_length, Received, known_lines, IsPrefix, IsConsistent}
+use proofs.Common.{Output, PushEffect, Reader, ReaderAdvance, AdvanceOk, IsDone, IsSound, advance_ok_take, unlines}
+use proofs.Common.{line, FillLine, advance_ok_trans, push_trans, ToolSpec, PassPost, AreReceivedLines, IsLineFilter}
+use proofs.Common.{Read, Write, Memory, received_with, reads_nothing, rules}
 use Rattle.ptlines.specs.ReadLine.{FillReadErr, FillMemoryErr}
 use proofs.Passes.Exits.{line_split, complete_prefix, max_length-append, lines_none, lines_few, lines_on, lines_more}
 use proofs.Passes.Exits.{lines_block, line_prefix, received_longest, piece_longest, whole_before, before_line, Progress}
 use proofs.Passes.Exits.{progress_flushed, StoreBounds, PassEnding, nothing_more, pass_unslotted, pass_read}
 use proofs.Passes.Exits.{pass_memory, pass_write, pass_done, pass_unended}
-use Rattle.ptflow.specs.Private.Passes.LineLoop.{RunLinesPre}
+use Rattle.ptflow.specs.Private.Passes.LineLoop.{RunLinesPre, SlotsCleared, IsSwapped, LinesFailed, LinesWritten}
+use Rattle.ptflow.specs.Private.Passes.LineLoop.{IsLinesLength}
 use lemmas.List.Edits.{swap_is}
 use lemmas.List.Sums.{sum_by-drop_more, sum_by-take-drop}
 

@@ -5,12 +5,12 @@ pub mod Rows
 use Rattle.ptflow.proofs
 pub use proofs.Common.{ne_eqb, append_assoc, nat_tests, mod-mul-add, count_by, is_byte, advance_ok_take, usual}
 pub use proofs.Common.{line_before_terminator, take_with_terminator, lines_are, the_lines, Output, PushEffect}
-pub use proofs.Common.{IsWholeRows, IsSharedCycle, cycle_byte, with_replacements, IsConsumed, AreConsumed}
-pub use proofs.Common.{IsFieldCopied, RowsWritten}
+pub use proofs.Common.{cycle_byte, with_replacements, IsConsumed, AreConsumed, IsFieldCopied, RowsWritten}
 pub use proofs.Vectors.FindNth.{none_counted}
 pub use proofs.PasteLemmas.Replaced.{counted, replaced-append, replaced_line}
 pub use Rattle.ptflow.specs.declared.simd.replace.Cycle.{Cycle}
 pub use Rows.*
+pub use Rattle.ptflow.specs.Private.Paste.SharedInput.{IsWholeRows, IsSharedCycle}
 
 sound_after_consume : {b r : Reader} → IsSound b → IsConsumed b r → IsSound r
 sound_after_consume s step = grind usual

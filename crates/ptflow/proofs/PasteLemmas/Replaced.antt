@@ -4,18 +4,18 @@ use Rattle.ptflow.specs
 use proofs.Common.{◌≡◌, ◌≢◌, ℕ, zero, suc, ◌+◌, ◌-◌, ◌%◌, ◌^◌, ◌==◌, ◌<◌, ◌≤◌, Bool, cond, List, [], ◌∷◌, ◌++◌, length}
 use proofs.Common.{map, take, drop, get_or, slice_set, refl, sym, ◌∙◌, ap, arith, bit_and, count_by, count_ones, mask_l}
 use proofs.Common.{chunk, mod-add-mod, mod-eq_of_lt, take-add, take_at, take-append-drop, take-set-lt, eq-eqb, usual}
-use proofs.Common.{set-append_right, drop_more, take_more_set, length-set, is_byte, byte_ne, IsLine}
-use proofs.Common.{IsNth, length-take-le, length-chunk, length-put_chunk, take_more_put_chunk, put_chunk, ones-mask_l}
+use proofs.Common.{set-append_right, drop_more, take_more_set, length-set, is_byte, byte_ne, IsLine, IsNth}
+use proofs.Common.{length-take-le, length-chunk, length-put_chunk, take_more_put_chunk, put_chunk, ones-mask_l}
 use proofs.Common.{with_replacements, cycle_byte, IsReplacedTo, true, false, Option, append_assoc, onto_first}
 use proofs.Common.{append-nil, append_cancel_right, lines, complete_lines, IsPrefix, Paste, delimiter, join_with_cycle}
 use proofs.Common.{paste_serial_decided, row_rest, option_to_list, None, Some, IsFirstByte, line_before_terminator}
-use proofs.Common.{mod-lt, serial_rest, take_with_terminator, length-append}
+use proofs.Common.{mod-lt, take_with_terminator, length-append}
 use lib.Count.{count_trailing_zeros}
 use proofs.Vectors.FindNth.{after_set, cleared, without, none_counted}
 use specs.declared.simd.replace.Cycle.{Cycle}
 use proofs.Passes.Exits.{line_split, complete_prefix}
 use specs.declared.tools.paste.serial.ColumnPos.{ColumnPos}
-use specs.Private.Paste.SerialRest.{CopyCellsPost}
+use specs.Private.Paste.SerialRest.{CopyCellsPost, serial_rest}
 use specs.declared.tools.paste.serial.SerialFormat.{SerialFormat}
 
 module _ (end : ℕ) where

@@ -3,10 +3,11 @@
 use Rattle.ptflow.proofs
 use proofs.Common.{usual, ◌≡◌, ℕ, ◌-◌, not, Bool, false, List, [], ◌∷◌, ◌++◌, Option, None, Some, length, refl}
 use proofs.Common.{ap, arith, filter, slice_get, last_or, option_or, append-nil, map-append, filter-append, IsPrefix}
-use proofs.Common.{Tables, deletes, image, squeezes, is_not_repeat, squeeze_after, tr, tr_decided, squeeze_from}
-use proofs.Common.{tr_from, eq-eqb, squeeze, BeginsWith, Each1, Fits, w8, suc, ◌<◌, get_or, EndsWith, TrOfAnyParts}
-use proofs.Common.{TrOfParts, TrAfterByte, TrMeetsTwice}
+use proofs.Common.{is_not_repeat, squeeze_after, tr, tr_decided, squeeze_from}
+use proofs.Common.{tr_from, eq-eqb, squeeze, BeginsWith, Each1, Fits, w8, suc, ◌<◌, get_or, EndsWith}
 use proofs.Vectors.Lanes.{bytes_fit}
+use Rattle.ptlangs.specs.TrTables.{Tables, deletes, image, squeezes}
+use Rattle.ptflow.specs.Parts.{TrAfterByte, TrMeetsTwice, TrOfAnyParts, TrOfParts}
 
 module _ (squeezed : ℕ → Bool) where
   pub repeats : (last b : ℕ) → is_not_repeat squeezed (last, b) ≡ false → last ≡ b

@@ -3,21 +3,22 @@
 -- deferred ones.
 use Rattle.ptflow.proofs
 use Rattle.ptflow.specs
-use proofs.Common.{◌≡◌, ℕ, ◌+◌, ◌&&◌, Bool, true, false, cond, List, [], ◌∷◌, ◌++◌, refl, ap, arith, usual}
-use proofs.Common.{nat_lt, append-nil, bytes_eq-Decides, IsPrefix, Uniq, Run, key, is_same, cons_run, runs, output_of}
-use proofs.Common.{init, run_of, current_run, runs_from, runs_after, run_output, ◌-◌, ◌<◌, ◌≤◌, Some, None, Option}
+use proofs.Common.{◌≡◌, ℕ, ◌+◌, ◌&&◌, Bool, true, false, cond, List, [], ◌∷◌, ◌++◌, refl, ap, arith, usual, nat_lt}
+use proofs.Common.{append-nil, bytes_eq-Decides, IsPrefix, Uniq, is_same, run_of, ◌-◌, ◌<◌, ◌≤◌, Some, None, Option}
 use proofs.Common.{length, take, drop, subst, append_assoc, length-append, bytes_eq, slice_range, drop_split}
 use proofs.Common.{length-drop, drop_at, IsFirstByte, is_byte, Output, PushEffect, unlines, complete_lines, IsLine}
-use proofs.Common.{unlines_push, complete_lines_none, has_output, RunsWritten, RunsFailed, span_of, IsSpan, IsPending}
-use proofs.Common.{sym, ◌∙◌, known_lines, line, uniq_tool, IsLineFilter, first_line}
-use proofs.Common.{current_run_of, count_of, rules, ◌⊎◌, inl, inr, ⊎_elim, filter, AllByRecursion, cases_Bool}
-use proofs.Common.{the_lines_of_parts, lines-unlines, lines_are, BeginsWith, EndsWith, HasGroupedKeys, UniqOfParts}
-use proofs.Common.{UniqByKey, line_before_terminator, take_with_terminator, ◌≢◌, zero, suc}
+use proofs.Common.{unlines_push, complete_lines_none, RunsWritten, span_of, sym, ◌∙◌, known_lines, line, IsLineFilter}
+use proofs.Common.{first_line, current_run_of, rules, ◌⊎◌, inl, inr, ⊎_elim, filter, AllByRecursion, cases_Bool}
+use proofs.Common.{the_lines_of_parts, lines-unlines, lines_are, BeginsWith, EndsWith, line_before_terminator}
+use proofs.Common.{take_with_terminator, ◌≢◌, zero, suc}
 use proofs.Passes.Exits.{wrote_then, split_of, ended_next}
-use specs.Private.Uniq.BlockRuns.{EndRunPre, first_of, repeated}
-use specs.Private.Uniq.RunsFrom.{count_prefix, run_text}
+use specs.Private.Uniq.BlockRuns.{EndRunPre, first_of, repeated, IsSpan, RunsFailed, IsPending}
+use specs.Private.Uniq.RunsFrom.{count_prefix, run_text, count_of, has_output, current_run, run_output, runs_after}
+use specs.Private.Uniq.RunsFrom.{runs_from}
 use specs.declared.tools.uniq.block_runs.Span.{Span}
 use specs.declared.tools.uniq.CurrentRun.{CurrentRun}
+use specs.Uniqs.{Run, init, output_of, key, cons_run, runs, uniq_tool}
+use specs.Parts.{HasGroupedKeys, UniqByKey, UniqOfParts}
 
 module _ (job : Uniq) where
   -- The first run, and that run with one more line of its key before it.

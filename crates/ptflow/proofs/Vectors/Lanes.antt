@@ -7,7 +7,7 @@ use Rattle.std.proofs.lemmas
 use proofs.Common.{usual, ◌≡◌, ℕ, ◌+◌, ◌<◌, ◌≤◌, ◌%◌, Bool, false, List, [], ◌∷◌, ◌++◌, Option, map, take, drop}
 use proofs.Common.{length, get_or, replicate, cond, refl, sym, ◌∙◌, ap, arith, w8, Fits, sum_by, zero, suc, slice_get}
 use proofs.Common.{option_map, sel_l, zip2, top, Each1, take-add, false≢true, map-append, tops_compared, zip2_splat}
-use proofs.Common.{zip2_of_maps, splat_is_map, Each1-from_get_or, shift_at, stretch_delta, pos, negsuc, filter, mask_of}
+use proofs.Common.{zip2_of_maps, splat_is_map, Each1-from_get_or, stretch_delta, pos, negsuc, filter, mask_of}
 use proofs.Common.{cast_unsigned, true, set, take_more_set, take-set, append-nil, add-one, sum_by-append, sum_by-cons}
 use proofs.Common.{range_delta, shift_by_ranges, ◌*◌, ◌/◌, ◌^◌, ◌&&◌, ◌||◌, ltb, eqb, ◌≢◌, ⊎_elim, bit_or, bit_and}
 use proofs.Common.{cast_signed, bit_at, from_bool, swz_l, SwzOk, SwzOk-from_below, pick_l, get_or-drop, ◌-◌, map-map}
@@ -23,6 +23,7 @@ use lemmas.Simd.{Each1-get_or, get_or-sel_l, length-sel_l}
 use specs.Private.Vectors.Tables.{image_from, lane_of, HasMoved}
 use specs.declared.simd.table.MovedRange.{MovedRange}
 pub use lemmas.List.{map-id}
+use Rattle.ptlangs.specs.TrShifts.{shift_at}
 
 -- ---- lanes that are computed from bytes
 

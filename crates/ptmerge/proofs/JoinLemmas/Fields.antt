@@ -38,7 +38,7 @@ use specs.KeySpan.{IsKeySpan}
 -- Several writes to an output that may have failed: after a failed write nothing more is written. The bytes written so
 -- far and the rest together are all bytes, so a call that fails leaves a prefix, and the last call completes them.
 
-pub wrote_then : {a b c : Output} {xs ys : List ℕ} → (a.write_failed ≡ false → b.write_failed ≡ false)
+wrote_then : {a b c : Output} {xs ys : List ℕ} → (a.write_failed ≡ false → b.write_failed ≡ false)
     → PushEffect a b xs → PushEffect b c ys → PushEffect a c (xs ++ ys)
 wrote_then {a} {b} {c} {xs} {ys} clean p q =
     ⊎_elim (λ fault. grind (arith, fault)) (λ fine. push_trans a b c xs ys (clean fine) p q) (cases_Bool _)
@@ -179,7 +179,7 @@ skip_empty_word = grind arith
 
 -- ---- writing lines field by field
 
-pub prefixed_fields : (c : ℕ) (bytes : List ℕ) → with_prefix c (slice_split (λ b. b == c) bytes) ≡ c ∷ bytes
+prefixed_fields : (c : ℕ) (bytes : List ℕ) → with_prefix c (slice_split (λ b. b == c) bytes) ≡ c ∷ bytes
 prefixed_fields c [] = refl
 prefixed_fields c (x ∷ xs) = search (rules, prefixed_fields c xs)
 
@@ -234,7 +234,7 @@ word_more : (c b : ℕ) (split : Lines) {l : List ℕ} → words_of (onto_first 
     → words_of (onto_first c (onto_first b split)) ≡ 32 ∷ c ∷ b ∷ l
 word_more c b split is = grind arith
 
-pub single_spaced_words : (blank : Bool) (bytes : List ℕ) → is_single_spaced blank bytes ≡ true → WordsAre blank bytes
+single_spaced_words : (blank : Bool) (bytes : List ℕ) → is_single_spaced blank bytes ≡ true → WordsAre blank bytes
 single_spaced_words true [] tidy = cc
 single_spaced_words true (b ∷ bytes) tidy =
     let ih = λ (h : is_single_spaced false bytes ≡ true). single_spaced_words false bytes h b in
@@ -278,7 +278,7 @@ blank_lanes [] n long = refl
 blank_lanes (b ∷ v) zero long = absurd (omega arith)
 blank_lanes (b ∷ v) (suc n) long = grind (arith, blank_lanes v n (omega arith))
 
-pub space_is : (blank : Bool) (b : ℕ) (v : List ℕ) → is_blank b ≡ true → is_single_spaced blank (b ∷ v) ≡ true
+space_is : (blank : Bool) (b : ℕ) (v : List ℕ) → is_blank b ≡ true → is_single_spaced blank (b ∷ v) ≡ true
     → (b ≡ 32) × (is_single_spaced true v ≡ true)
 space_is blank b v here spaced = grind (arith, here, spaced)
 
@@ -348,8 +348,7 @@ around_is separator number line (Some span) f even =
       length-append before (c ∷ (word ++ rest)),
       length-append word rest,
       length-drop span.end line,
-      length-take-le (span.end - span.start) (drop span.start line)
-          (omega (arith, length-drop span.start line)),
+      length-take-le (span.end - span.start) (drop span.start line) (omega (arith, length-drop span.start line)),
     ) in
     let cut = rw long at (cut_before c before (word ++ rest) line line_is rest) in
     grind (usual, remove_at)
@@ -377,10 +376,10 @@ halves : (b : Bool) (x : ℕ) → ((bit b + 2 * x) / 2 ≡ x) × ((bit b + 2 * x
 halves = grind arith
 
 or_bits : (b c : Bool) (x y : ℕ) → bit_or (bit b + 2 * x) (bit c + 2 * y) ≡ bit (b || c) + 2 * bit_or x y
-or_bits b c x y = grind (arith, or_step)
+or_bits b c x y = grind (arith, or_step (bit b + 2 * x) (bit c + 2 * y), halves b x, halves c y)
 
 and_bits : (b c : Bool) (x y : ℕ) → bit_and (bit b + 2 * x) (bit c + 2 * y) ≡ bit (b && c) + 2 * bit_and x y
-and_bits b c x y = grind (arith, and_step)
+and_bits b c x y = grind (arith, and_step (bit b + 2 * x) (bit c + 2 * y), halves b x, halves c y)
 
 -- ---- masks of the first and of the last bytes
 
@@ -483,7 +482,7 @@ abbrev pub last_blank : Bool → List ℕ → Bool
 last_blank blank [] = blank
 last_blank blank (b ∷ bytes) = last_blank (b == 32) bytes
 
-pub spaced_append : (blank : Bool) (v back : List ℕ) → is_single_spaced blank (v ++ back) ≡ cond
+spaced_append : (blank : Bool) (v back : List ℕ) → is_single_spaced blank (v ++ back) ≡ cond
     (has_single_spaces blank v) (is_single_spaced (last_blank blank v) back) false
 spaced_append blank [] back = refl
 spaced_append blank (b ∷ v) back = grind (arith, spaced_append (b == 32) v back)
@@ -515,7 +514,7 @@ bit_is = grind arith
 abbrev pub is_word : ℕ → Bool
 is_word b = not (is_blank b)
 
-pub word_mask : (bytes : List ℕ) → mask_l (map is_word bytes) + mask_l (map is_blank bytes) + 1 ≡ 2 ^ length bytes
+word_mask : (bytes : List ℕ) → mask_l (map is_word bytes) + mask_l (map is_blank bytes) + 1 ≡ 2 ^ length bytes
 word_mask [] = refl
 word_mask (b ∷ bytes) = search (rules, word_mask bytes)
 
@@ -651,8 +650,8 @@ word_at zero (b ∷ v) low some =
     simp (e, one_more) (record {
       low = omega arith;
       high = omega arith;
-      is = cc size;
-      rest = cc w.rest;
+      is = rw (size, split_byte b v e, w.split, w.words);
+      rest = search w.rest;
       spaced = λ blank s. w.spaced (grind (arith, s));
     })) (cases_Bool (is_blank b))
 

@@ -39,7 +39,7 @@ pub group_from : (store : Slots) (end slot : ℕ) → end ≤ length store.lines
     → group store slot end ≡ line store slot ∷ group store (slot + 1) end
 group_from store end slot fits low = grind (arith, drop_more store.lines slot [])
 
-pub group_more : (store : Slots) (from end : ℕ) → from ≤ end → end < length store.lines
+group_more : (store : Slots) (from end : ℕ) → from ≤ end → end < length store.lines
     → group store from (end + 1) ≡ group store from end ++ line store end ∷ []
 group_more store from end least within =
     let more = take_more (drop from store.lines) (end - from) [] in grind usual
@@ -145,12 +145,12 @@ module _ {tool : MergeTool} {before store : Slots} {ls : Side → Lines} {g : Li
 
   module _ {made : Slots} {to : ℕ} (w : EnsuredSlot store made to) where
     made_same : (i : ℕ) → i < 4 → line made i ≡ line store i
-    made_same i low = grind arith
+    made_same i low = search rules
 
     module _ (y : List ℕ) (at : to ≡ 4 + length g) (within : to < length made.lines)
         (largest : (all : Side → Lines) → AllExtend ls all → HasRoom tool (g ++ y ∷ []) all) where
       first_same : (i : ℕ) → i < 4 → get_or (set made.lines to y) i [] ≡ get_or store.lines i []
-      first_same i low = grind (arith, made_same)
+      first_same i low = line_other made to i y (omega (arith, at, low)) ∙ made_same i low
 
       by_tail : (t : Lines) → total_bytes t ≡ 0 → length g + 1 ≤ length (g ++ t)
           → drop 4 (set made.lines to y) ≡ set (g ++ t) (length g) y
@@ -190,17 +190,17 @@ module _ {tool : MergeTool} {before store : Slots} {ls : Side → Lines} {g : Li
       rw (e.copied, made_same w from low, is) (kept w y at e.grown.within largest)
 
   pub kept_line : (slot : ℕ) → 4 ≤ slot → slot < 4 + length g → line store slot ≡ get_or g (slot - 4) []
-  kept_line slot from low = grind (arith, k.split, get_or-append)
+  kept_line slot from low = search (rules, k.split, get_or-append)
 
   pub group_is : {end : ℕ} → end ≡ 4 + length g → group store 4 end ≡ g
   group_is at = grind (arith, take_at)
 
-  pub end_within : {end : ℕ} → end ≡ 4 + length g → end ≤ length store.lines
+  end_within : {end : ℕ} → end ≡ 4 + length g → end ≤ length store.lines
   end_within = grind (arith, length-append)
 
   pub group_store_cleared : {after : Slots} {end : ℕ} → end ≡ 4 + length g → ClearGroupPost store after end
       → GroupStore tool before after ls []
-  group_store_cleared = grind (usual, group_is, total_within, same_lines)
+  group_store_cleared = search (rules, group_is, total_within, same_lines)
 
 pub ruleset pair_steps = (partial_starts, pairs_text)
 
@@ -255,7 +255,7 @@ module _ {tool : MergeTool} {old : MergeState} (w : IsOpenMerge tool old) {mid :
     front_is_first : entries_by_key tool is_wanted p ≡ front
     front_is_first = all_wanted tool is_wanted p (λ side. Each-weaker _ _ wanted _ (m.merge_invariant.under First side))
 
-    pub group_comes_first : {extra : Lines} → OutputStartsWith tool g d k extra → (rest : Lines)
+    group_comes_first : {extra : Lines} → OutputStartsWith tool g d k extra → (rest : Lines)
         × (merged_entries tool all ≡ (front ++ extra) ++ rest)
     group_comes_first {extra} starts =
         let (rest, is) = starts.rest is_wanted coming (λ side. (seen side).may_follow)
@@ -372,12 +372,10 @@ module _ (call : JoinCall) {mid : Output} {p g : Side → Lines} {d : Side → B
       some_text _ _ has (rw (
         append-nil (entries_by_key tool all_keys p),
         parts call.w m all seen w,
-        front_is_first
-            call.w m all seen,
+        front_is_first call.w m all seen,
       ) at same)
     where
-      some_text : (xs ys : Lines) → 0 < length ys
-          → ¬ (unlines call.terminator xs ≡ unlines call.terminator (xs ++ ys))
+      some_text : (xs ys : Lines) → 0 < length ys → ¬ (unlines call.terminator xs ≡ unlines call.terminator (xs ++ ys))
       some_text xs [] none same = absurd (omega arith)
       some_text xs (y ∷ ys) some same = absurd (omega (arith, simp (unlines-append, length-append) at (ap length same)))
 
@@ -425,8 +423,8 @@ module _ {call : JoinCall} {now : MergeState} {cursor : Side → Sorted} {end : 
 
   pub is_past : (s : Side) → ((cursor s).status ≡ Head → ¬ (key s (head_of now cursor s) ≡ k))
       → IsAbove cmp (key s) k (q.d s)
-  is_past s other = (current_key_is_above _ o _ k _ _ _ _ _
-      _ _ (by (cursor s).status (q.sides s).status_is other) (q.sides s).status_is).0
+  is_past s other = (current_key_is_above _ o _ k _ _ _ _ _ _ _
+      (by _ (q.sides s).status_is other) (q.sides s).status_is).0
     where
       under : IsUnder cmp (q.d s) k
       under = (q.within.later s).under k (self_at_most cmp o k)
@@ -434,9 +432,7 @@ module _ {call : JoinCall} {now : MergeState} {cursor : Side → Sorted} {end : 
       by : (t : CursorStatus) → MatchesStatus cmp (key s) t (cursor s) now.store (now.reader s) (q.ls s) (q.p s ++ g s)
           (q.d s) → (t ≡ Head → ¬ (key s (head_of now cursor s) ≡ k))
           → PrecedesInput cmp k t (key s (head_of now cursor s)) (key s (line now.store (cursor s).previous_slot))
-      by Head at_line other = grind (arith, other, under)
-      by Ended st other = tt
-      by (Disorder n) st other = rw st at under
+      by = search (rules, under)
 
   pub end_in : (4 ≤ end) × (end ≤ length now.store.lines)
   end_in = (omega arith, end_within q.keeps q.at)
@@ -479,7 +475,7 @@ module _ {call : JoinCall} {now : MergeState} {cursor : Side → Sorted} {end : 
   pub within_more : OutputInGroup tool old.out q.mid q.p added q.d k
   within_more = assumption (own_more, q.within)
 
-  pub all_processed : q.p s ++ added s ≡ q.ls s
+  all_processed : q.p s ++ added s ≡ q.ls s
   all_processed = cc (with_head, put_same s _ g)
 
   pub passing_now : (side : Side) → FactsWith q added side
@@ -512,8 +508,7 @@ module _ {call : JoinCall} {now : MergeState} {cursor : Side → Sorted} {end : 
 
     -- the previous line belongs to the group
     pub record AdvancedGroup (new : Output) : Type 0 where
-      pub group : GroupState call (state_after_read now s reader new after) (with_side s next cursor) end k
-          added kept
+      pub group : GroupState call (state_after_read now s reader new after) (with_side s next cursor) end k added kept
       pub bound : group.d (other s) ≡ q.d (other s)
       pub more : AllExtend q.ls group.ls
 
@@ -534,8 +529,7 @@ module _ {call : JoinCall} {now : MergeState} {cursor : Side → Sorted} {end : 
             within = assumption (
               q.within,
               own_more,
-              put_each (λ side. IsLater cmp (key side) (AtLeast k)) s n.bound q.d
-                  (rw l.is at n.later) q.within.later,
+              put_each (λ side. IsLater cmp (key side) (AtLeast k)) s n.bound q.d (rw l.is at n.later) q.within.later,
             );
             keeps = group_store_next s (cursor s) (q.sides s).slots q.keeps n;
             wrote = wrote;

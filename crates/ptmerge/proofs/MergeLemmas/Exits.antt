@@ -2,12 +2,11 @@
 -- others are known for each input; the contract of the tool follows from these and from the output.
 pub mod Invariant
 pub mod SlotLines
-use Rattle.ptmerge.proofs.Common.{usual}
 use Rattle.ptmerge.proofs
 use Rattle.ptmerge.specs
-pub use proofs.Common.{⊎_elim, inl, IsPrefix, both_sides, nat_tests, length_push, line_of_with_line, CursorStatus, Head}
+pub use proofs.Common.{⊎_elim, IsPrefix, nat_tests, length_push, line_of_with_line, CursorStatus, Head}
 pub use proofs.Common.{Ended, Disorder, status_at, same_key_at, NextOkPost, Result, Err, Memory, advance_trans, Write}
-pub use proofs.Common.{MergeFault, lines_of, MergeState, MergePost, merge_state, terminator, merge_engine, merge_end}
+pub use proofs.Common.{MergeFault, lines_of, MergeState, MergePost, merge_state, terminator}
 use Rattle.ptlines.proofs.LineSearch.{IsLine-append}
 use specs.MergeSpec.{decided_output, decided_entries, lines_decide_disorder, merge_output, disorder_is_decided}
 use Rattle.ptlines.proofs.Calls.{call_ends, call_set, call_without_slots, given_before, given_by, CallProgress}
@@ -22,6 +21,7 @@ pub use Rattle.ptlines.proofs.Calls.{reads_nothing}
 pub use specs.MergeSlots.{EnsureFourSlotsErrPost}
 pub use Invariant.*
 pub use SlotLines.*
+pub use specs.MergeCall.{both_sides, merge_engine, merge_end}
 
 -- ---- bounded lag: lines in order
 
@@ -157,7 +157,7 @@ module _ (tool : MergeTool) (o : IsKeyOrder tool.cmp) (eof : Side → Bool) (ls 
       → is_decided tool eof ls k ≡ false
   undecided k h = not_decided tool o eof ls of k (rw (going, no_disorder) h)
 
-  pub decided_of_passed : (p : Side → Lines) → ((side : Side) → Differ tool (last_or None (map (tool.key of) (ls of)))
+  decided_of_passed : (p : Side → Lines) → ((side : Side) → Differ tool (last_or None (map (tool.key of) (ls of)))
       (tool.key side) (sorted_prefix cmp (tool.key side) (ls side)) (p side))
       → IsPrefix (unlines terminator (decided_entries tool eof ls)) (output_of tool p)
   decided_of_passed p differ =
@@ -176,7 +176,7 @@ module _ (tool : MergeTool) (o : IsKeyOrder tool.cmp) (eof : Side → Bool) (ls 
       ∙ (λ i. entries_by_key tool all_keys (λ side. kept side i)) ∙ by_keys_kept dec tool o p all_keys in
       record {
         rest = unlines terminator rest;
-        is = cc (is, unlines-append _ _ _);
+        is = ap (unlines terminator) (is ∙ (λ i. (sym known) i ++ rest)) ∙ unlines-append terminator _ rest;
       }
 
   -- a disorder of the other input comes after the keys of this one, so none is decided
@@ -249,17 +249,17 @@ module _ {tool : MergeTool} (o : IsKeyOrder tool.cmp) (given : Side → Received
           (rw whole_now (side_case _ of
           (rw own (grind (arith, none_below, front_has, ordered, in_order, above of))) (rw rest (others _))))
 
-      pub decided_by : mix (other of) ≡ given (other of) → IsPrefix (decided_output tool mix) (unlines terminator done)
+      decided_by : mix (other of) ≡ given (other of) → IsPrefix (decided_output tool mix) (unlines terminator done)
       decided_by rest = search (rules, (decided_at rest), append_assoc)
 
-    pub lag_bound : ProcessLag {I = Unit {0}} (λ came. decided_output tool (with_input both_sides of (came tt) given))
+    lag_bound : ProcessLag {I = Unit {0}} (λ came. decided_output tool (with_input both_sides of (came tt) given))
         (λ u. given of) (output_of tool lag.front)
     lag_bound = record {
       before = λ u. point.before;
       begins = decided_at (with_input both_sides of point.before.earlier given) (grind arith) (grind arith);
     }
 
-    pub unsettled : (before : LaggedInput (given of))
+    unsettled : (before : LaggedInput (given of))
         × (disorder_is_decided tool (with_side of before.earlier given) ≡ false)
     unsettled =
         let up = Each-weaker _ (λ k. IsDisorderFrom cmp k (first_disorder cmp (tool.key (other of))
@@ -457,7 +457,7 @@ module _ {tool : MergeTool} {before store : Slots} {ls : Side → Lines} {g : Li
     (k : GroupStore tool before store ls g) {now : Side → Reader} where
   pub fits_emptied : (after : Slots) → after.peak ≤ max store.peak (total_bytes store.lines)
       → length after.lines ≡ length store.lines → Fits tool before now ls (λ side. []) after
-  fits_emptied = grind (arith, total_within)
+  fits_emptied = search (rules, total_within)
 
 -- The second input is unread until the first has begun; until the second has, at most one line of the first was read.
 pub record FirstReads (end : ℕ) (old now new : Side → Reader) (ls : Side → Lines) (piece : Side → List ℕ) : Type 0 where
@@ -538,7 +538,8 @@ module _ {tool : MergeTool} {old : MergeState} (w : IsOpenMerge tool old) (new :
       let s = input_split_of _ (continues _ agree) in
       let (none, found) = stop (lines_of tool texts) (λ side. (s side).rest) (λ side. (s side).may_follow)
       (λ side. (s side).may_disorder) in (
-        cc (ap (unlines tool.terminator) (input_split w.o m s), append-nil (entries_by_key tool all_keys p)),
+        ap (unlines tool.terminator)
+            (sym (input_split w.o m s ∙ rw none (append-nil (entries_by_key tool all_keys p)))),
         found,
       )
 
@@ -582,8 +583,7 @@ module _ {tool : MergeTool} {old : MergeState} (w : IsOpenMerge tool old) (new :
     }
       where
         has : max (length old.store.lines) 4 ≤ length new.store.lines
-        has = (fits (lines_of tool (λ side. (given side).bytes))
-            (input_lines _ (λ side read. record
+        has = (fits (lines_of tool (λ side. (given side).bytes)) (input_lines _ (λ side read. record
             { rest = []; is = sym (append-nil (given side).bytes); whole = λ eof. refl }))).2
 
     pub exit_is_merge_post : Fits tool old.store now ls piece new.store
@@ -663,5 +663,5 @@ merge_without_slots {tool} {old} w {new} same_output unread slots =
           (λ side read. decided_by w.o (given_before old) lag seen side (point side)
           (with_input both_sides side (point side).before.earlier (given_before old)) (grind arith) (grind arith));
       stops_at_disorder = λ side clean. unsettled w.o (given_before old) lag seen side (point side);
-      first_reads = search rules;
+      first_reads = grind arith;
     }

@@ -1,10 +1,9 @@
 -- The slots are split at the greater of the two numbers, so source and target lie in different parts.
 use Rattle.ptlines.proofs
-use Rattle.std.proofs.Common.{◌<◌, Result, Ok, Err, OnErr, arith}
+use proofs.Common.{◌<◌, Result, Ok, Err, OnErr, arith, usual}
 use proofs.SlotTotals.{append_to_back, bounded_back, buffers_back, append_to_front, bounded_front, buffers_front}
 use borrow.Author.Rules.{scaled_Fits}
 use proofs.store.append_slot.Goals as goal
-use Rattle.std.proofs.lemmas.Grind.{common_steps}
 
 on_err : {E : Type 0} (r : Result (Unit {0}) E) (P Q : Type 0) → (P → Q) → OnErr r P → OnErr r Q
 on_err (Ok u) P Q f p = tt
@@ -25,7 +24,7 @@ pub returns-else-from-to-clause-ok : goal.returns-else-from-to-clause-ok
 returns-else-from-to-clause-ok g c = grind (arith, append_to_front)
 
 pub returns-else-from-to-clause-err : goal.returns-else-from-to-clause-err
-returns-else-from-to-clause-err g c = grind (arith, common_steps, on_err)
+returns-else-from-to-clause-err g c = grind (usual, on_err)
 
 pub returns-else-from-to-clause-short : goal.returns-else-from-to-clause-short
 returns-else-from-to-clause-short g c = grind (arith, bounded_front)
@@ -38,7 +37,7 @@ returns-else-from-to-clause-buffers g c =
     c.append-else-from-to.ensures.buffer
 
 pub returns-then-from-to-clause-err : goal.returns-then-from-to-clause-err
-returns-then-from-to-clause-err g c = grind (arith, common_steps, on_err)
+returns-then-from-to-clause-err g c = grind (usual, on_err)
 
 pub offset_bounds-front-from : goal.offset_bounds-front-from
 offset_bounds-front-from g c = search scaled_Fits

@@ -41,7 +41,7 @@ is_greater = grind arith
 pub same_bytes : {a b : List ℕ} → a ≡ b → bytes_eq a b ≡ true
 same_bytes = search rules
 
-pub not_same : (a b : List ℕ) → (a ≡ b → ⊥) → bytes_eq a b ≡ false
+not_same : (a b : List ℕ) → (a ≡ b → ⊥) → bytes_eq a b ≡ false
 not_same a b n = grind (arith, bytes_decides a b)
 
 module _ (cmp : Cmp) (o : IsKeyOrder cmp) where
@@ -86,7 +86,7 @@ pub Each-all : (P : List ℕ → Type 0) → ((x : List ℕ) → P x) → (xs : 
 Each-all P f [] = tt
 Each-all P f (x ∷ xs) = (f x, Each-all P f xs)
 
-pub Each-append : (P : List ℕ → Type 0) (xs ys : Lines) → Each P xs → Each P ys → Each P (xs ++ ys)
+Each-append : (P : List ℕ → Type 0) (xs ys : Lines) → Each P xs → Each P ys → Each P (xs ++ ys)
 Each-append P [] ys e h = h
 Each-append P (x ∷ xs) ys (here, more) h = (here, Each-append P xs ys more h)
 
@@ -98,17 +98,17 @@ pub EachKey-append : (P : List ℕ → Type 0) (key : Key) (xs ys : Lines) → E
     → EachKey P key (xs ++ ys)
 EachKey-append = grind usual
 
-pub Each-insert : (cmp : Cmp) (P : List ℕ → Type 0) (k : List ℕ) (xs : Lines) → P k → Each P xs
+Each-insert : (cmp : Cmp) (P : List ℕ → Type 0) (k : List ℕ) (xs : Lines) → P k → Each P xs
     → Each P (insert_key cmp k xs)
 Each-insert cmp P k [] h e = (h, tt)
 Each-insert cmp P k (x ∷ xs) h (here, more) = grind (arith, Each-insert cmp P k xs h more)
 
-pub Each-distinct : (cmp : Cmp) (P : List ℕ → Type 0) (xs : Lines) → Each P xs → Each P (distinct_keys cmp xs)
+Each-distinct : (cmp : Cmp) (P : List ℕ → Type 0) (xs : Lines) → Each P xs → Each P (distinct_keys cmp xs)
 Each-distinct cmp P [] e = tt
 Each-distinct cmp P (x ∷ xs) (here, more) = Each-insert cmp P x (distinct_keys cmp xs) here (Each-distinct _ P xs more)
 
 module _ (cmp : Cmp) (o : IsKeyOrder cmp) where
-  pub insert_least : (k : List ℕ) (ds : Lines) → Each (Above cmp k) ds → insert_key cmp k ds ≡ k ∷ ds
+  insert_least : (k : List ℕ) (ds : Lines) → Each (Above cmp k) ds → insert_key cmp k ds ≡ k ∷ ds
   insert_least k [] a = refl
   insert_least k (d ∷ ds) (here, _) = rw (greater_flips cmp o d k here)
 
@@ -157,7 +157,7 @@ by_length cmp key last n part ls = if nat_lt (length part) (length ls) then Some
 by_length_is : (cmp : Cmp) (key : Key) (last : Option (List ℕ)) (n : ℕ) (ls : Lines)
     → by_length cmp key last n (sorted_after cmp key last ls) ls ≡ disorder_after cmp key last n ls
 by_length_is cmp key last n [] = refl
-by_length_is cmp key last n (x ∷ w) = grind (arith, by_length_is cmp key (Some (key x)) (n + 1) w)
+by_length_is cmp key last n (x ∷ w) = search (rules, by_length_is cmp key (Some (key x)) (n + 1) w)
 
 pub first_disorder_is : (cmp : Cmp) (key : Key) (ls : Lines)
     → first_disorder cmp key ls ≡ disorder_after cmp key None 0 ls
@@ -283,7 +283,7 @@ module _ (cmp : Cmp) (o : IsKeyOrder cmp) where
   ascends_insert k (x ∷ xs) (above, more) =
       grind (arith, Each-weaker, Each-insert, less_flips, ascends_insert k xs more)
 
-  pub ascends_distinct : (ks : Lines) → Ascends cmp (distinct_keys cmp ks)
+  ascends_distinct : (ks : Lines) → Ascends cmp (distinct_keys cmp ks)
   ascends_distinct [] = tt
   ascends_distinct (k ∷ ks) = ascends_insert k _ (ascends_distinct ks)
 
@@ -456,7 +456,7 @@ pub merge_invariant_starts : (tool : MergeTool) (was : Output)
     → MergeInvariant tool (λ side. NoBound) (λ side. []) was was
 merge_invariant_starts = search rules
 
-pub both_under : (key : Key) (P Q R : List ℕ → Type 0) → ((k : List ℕ) → P k → Q k → R k) → (xs : Lines)
+both_under : (key : Key) (P Q R : List ℕ → Type 0) → ((k : List ℕ) → P k → Q k → R k) → (xs : Lines)
     → EachKey P key xs → EachKey Q key xs → EachKey R key xs
 both_under key P Q R f [] p q = tt
 both_under key P Q R f (x ∷ xs) (p, more1) (q, more2) = (f (key x) p q, both_under key P Q R f xs more1 more2)
@@ -600,8 +600,11 @@ write_least_run {tool} o k q f {b} {d} {p} {was} {is} {new} front all none law c
 pub bounds_change : {tool : MergeTool} {b d : Side → Bound} {p : Side → Lines} {was is : Output}
     → ((side : Side) → IsLater tool.cmp (tool.key side) (b side) (d side)) → MergeInvariant tool b p was is
     → MergeInvariant tool d p was is
-bounds_change later m =
-    let under = λ (of side : Side). Each-weaker _ _ (later of).under _ (m.under of side) in search (rules, under)
+bounds_change later m = record {
+  splits = λ w r c. m.splits w r (λ side. (later side).may_follow (r side) (c side));
+  under = λ of side. Each-weaker _ _ (later of).under _ (m.under of side);
+  wrote = m.wrote;
+}
 
 pub bound_changes : {tool : MergeTool} {b : Side → Bound} {p : Side → Lines} {was is : Output} (s : Side) {d : Bound}
     → MergeInvariant tool b p was is → IsLater tool.cmp (tool.key s) (b s) d
@@ -617,7 +620,7 @@ IsExactStop tool b found = (ls r : Side → Lines) → MayCome tool b r
 
 -- ---- the decided output
 
-pub last_has : (key : Key) (P : List ℕ → Type 0) (last : Option (List ℕ)) (xs : Lines) (x : List ℕ)
+last_has : (key : Key) (P : List ℕ → Type 0) (last : Option (List ℕ)) (xs : Lines) (x : List ℕ)
     → last_or last (map key xs) ≡ Some x → ((y : List ℕ) → last ≡ Some y → P y) → EachKey P key xs → P x
 last_has key P last [] x e f h = f x e
 last_has key P last (y ∷ xs) x e f (here, more) =

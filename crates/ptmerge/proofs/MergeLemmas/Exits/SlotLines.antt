@@ -31,8 +31,7 @@ ended_more end (line ∷ ls) bytes (free, more) = grind (
   usual,
   complete_lines_cons,
   free,
-  ended_more end
-      ls bytes more,
+  ended_more end ls bytes more,
 )
 
 -- `ls` are the lines of `given`: all have their terminator, or the last one lacks it at the end of the source
@@ -50,7 +49,7 @@ pub record GivesNothing (new : Reader) (bytes : List ℕ) : Type 0 where
   pub buffered : new.buffered ≡ []
   pub eof : new.eof ≡ true
 
-pub done_gives_nothing : {now new : Reader} {bytes : List ℕ} → IsDone now → ReaderAdvance now new bytes
+done_gives_nothing : {now new : Reader} {bytes : List ℕ} → IsDone now → ReaderAdvance now new bytes
     → GivesNothing new bytes
 done_gives_nothing = grind usual
 
@@ -199,7 +198,7 @@ pub has_lines_total : (xs : List (List ℕ)) (m : Side → ℕ) (more : ℕ) →
 has_lines_total = grind (arith, four_total)
 
 -- the next line of an input replaces its previous line
-pub set_line : (s : Side) (cursor : Sorted) (xs : List (List ℕ)) (m k : Side → ℕ) (more : ℕ) (x : List ℕ)
+set_line : (s : Side) (cursor : Sorted) (xs : List (List ℕ)) (m k : Side → ℕ) (more : ℕ) (x : List ℕ)
     → HasSlots s cursor → HasLines m more xs → ((side : Side) → m side ≤ k side) → length x ≤ k s
     → HasLines k more (set xs cursor.previous_slot x)
 set_line = search rules
@@ -222,8 +221,7 @@ extends_on = grind (arith, append_assoc)
 pub longer : {was now : Lines} → Extends was now → max_length was ≤ max_length now
 longer = grind (arith, max_length-append)
 
-pub side_extends : (s : Side) (ls : Side → Lines) {now : Lines} → Extends (ls s) now
-    → AllExtend ls (with_side s now ls)
+pub side_extends : (s : Side) (ls : Side → Lines) {now : Lines} → Extends (ls s) now → AllExtend ls (with_side s now ls)
 side_extends = search (rules, put_each, extends_itself)
 
 -- two lines of each input and the lines `g` are within the measure
@@ -263,18 +261,20 @@ pub group_store_line : {tool : MergeTool} {before store after : Slots} {ls now :
     (cursor : Sorted) → HasSlots s cursor → (x : List ℕ) → GroupStore tool before store ls g → AllExtend ls now
     → length x ≤ max_length (now s) → after ≡ with_line store cursor.previous_slot x
     → GroupStore tool before after now g
-group_store_line {store = store} {ls = ls} {now} {g} s cursor slots x k up fit is =
+group_store_line {tool} {store = store} {ls = ls} {now} {g} s cursor slots x k up fit is =
     let inside = set_line s cursor store.lines (λ side. max_length (ls side)) (λ side. max_length (now side))
     (total_bytes g) x slots k.lines (λ side. longer (up side)) fit in
     let on = λ (all : Side → Lines) (more : AllExtend now all) (side : Side). extends_on (up side) (more side) in
+    let size = length-set store.lines cursor.previous_slot x in
     rw is (record {
       tail = k.tail;
       split = drop-set-lt 4 store.lines cursor.previous_slot x (low_slot s cursor slots).previous ∙ k.split;
       empty = k.empty;
       lines = inside;
       room = λ all more. k.room all (on all more);
-      fits = λ all more. grind (arith, more, total_within);
-      four = omega (arith, (length-set store.lines cursor.previous_slot x));
+      fits = λ all more. let most = total_within tool g _ inside more (k.room all (on all more)) in
+          omega (arith, k.fits all (on all more), most, size);
+      four = omega (arith, size);
       denied = k.denied;
     })
 

@@ -1,9 +1,9 @@
 -- If an operand fails, the run stops there, and the operands after it are unchanged.
 use Rattle.ptrun.proofs
-use proofs.Common.{arith, drop, err_from_is_err_and, length, positions, scaled_Fits, sym, ◌+◌, ◌∙◌, usual}
+use proofs.Common.{arith, err_from_is_err_and, length, scaled_Fits, sym, ◌∙◌, usual}
 use proofs.OperandInputs.{OperandStep, only_within, operand_step, position_in_range, positions_end}
 use proofs.Sequential.{done_all, done_nothing, done_operand, done_stopped, done_unopened, operand_ready}
-use proofs.ToolRuns.{decides_all, read_in_turn}
+use proofs.ToolRuns.{decides_all, ran_in_turn, read_in_turn}
 use Rattle.ptrun.proofs.driver.run_one_by_one.Given as given
 use Rattle.ptrun.proofs.driver.run_one_by_one.Goals.{After-position_of-position, then-is_refused}
 use Rattle.ptrun.proofs.driver.run_one_by_one.Goals.{else-is_refused+in_ok-run_on}
@@ -46,38 +46,32 @@ loop-input-preserved g c =
           (done_operand c.requires.ready.given.fresh k turn.low d (sym c.is_refused.ensures.refused
           ∙ w.if-is_refused.false)
           c.is_refused.ensures.sound
-          (rw (read_in_turn (g.T.Tool.tool c.args.tool.now) c.requires.in_turn) at w.run_on.ensures) w.in_ok-run_on.was)
+          (ran_in_turn (g.T.Tool.tool c.args.tool.now) _ c.requires.in_turn w.run_on.ensures) w.in_ok-run_on.was)
     ]
 
 pub returns-in_err-run_on : goal.returns-in_err-run_on
 returns-in_err-run_on g c =
     let s = g.T.Tool.tool c.args.tool.now in
-    let in_turn = c.requires.in_turn in
     let turn = turn g (goal.at.returns-in_err-run_on g c).After-position_of-position in
     let e = err_from_is_err_and c.from_residual.result c.from_residual.ensures.1 in
-    rw (e.1, e.2)
-    (rw (read_in_turn s in_turn) (rw turn.split at
-    (done_stopped c.requires.ready.given.fresh c.loop-input.invariant turn.low c.index-inputs-position.result
+    done_stopped c.requires.ready.given.fresh c.loop-input.invariant turn.low c.index-inputs-position.result
     (sym c.is_refused.ensures.refused ∙ c.if-is_refused.false) c.is_refused.ensures.sound
-    (rw (read_in_turn s in_turn) at c.run_on.ensures) (decides_all s)
-    (drop (c.loop-input.input-index + 1) (positions c.args.order.now)) c.in_err-run_on.was)))
+    (ran_in_turn s _ c.requires.in_turn c.run_on.ensures) (decides_all s) _ (read_in_turn s c.requires.in_turn)
+    turn.split c.in_err-run_on.was e.1 e.2
 
 pub returns : goal.returns
 returns g c =
     let s = g.T.Tool.tool c.args.tool.now in
-    rw (read_in_turn s c.requires.in_turn)
-    (rw (positions_end c.args.order.now c.loop-input.input-index c.loop-input-test.false) at
-    (done_all c.requires.ready.given.fresh c.loop-input.invariant (decides_all s)))
+    done_all c.requires.ready.given.fresh c.loop-input.invariant (decides_all s) (read_in_turn s c.requires.in_turn)
+    (positions_end c.args.order.now c.loop-input.input-index c.loop-input-test.false)
 
 pub bounds-inputs-position : goal.bounds-inputs-position
 bounds-inputs-position g c =
-    let low = (turn g (goal.at.bounds-inputs-position g c).After-position_of-position).low in
-    omega (arith, low)
+    omega (arith, (turn g (goal.at.bounds-inputs-position g c).After-position_of-position).low)
 
 pub offset_bounds-inputs-position : goal.offset_bounds-inputs-position
 offset_bounds-inputs-position g c =
-    let low = (turn g (goal.at.offset_bounds-inputs-position g c).After-position_of-position).low in
-    search scaled_Fits
+    search (scaled_Fits, (turn g (goal.at.offset_bounds-inputs-position g c).After-position_of-position).low)
 
 pub name_at-requires : goal.name_at-requires
 name_at-requires g c =

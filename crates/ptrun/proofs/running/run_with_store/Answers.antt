@@ -1,6 +1,6 @@
 -- If the arguments are no command, the message about them is the whole run. Otherwise the run is that of the command.
 use Rattle.ptrun.proofs
-use proofs.Common.{arith, words_view, command_view}
+use proofs.Common.{arith, command_spec, command_view, spec_of_parsed, words_view, ◌≡◌}
 use proofs.RunEnds.{exact_for_args, message_only_run, spec_of_fault, inputs_pre_of_spelled}
 use Rattle.ptopts.proofs.CommandGrammar.{meant_as_spelled}
 use proofs.running.run_with_store.Goals as goal
@@ -28,7 +28,10 @@ pub returns-in-Ok-clause-run : goal.returns-in-Ok-clause-run
 returns-in-Ok-clause-run g c = grind arith
 
 pub returns-in-Ok-clause-reads_nothing : goal.returns-in-Ok-clause-reads_nothing
-returns-in-Ok-clause-reads_nothing g c = grind arith
+returns-in-Ok-clause-reads_nothing g c =
+    let same : spec_of_parsed c.args.command (words_view c.args.words.now)
+    ≡ command_spec (command_view c.in-Ok.command) = grind arith in
+    rw same c.run_command.ensures.reads_nothing
 
 pub returns-in-Err-clause-is_exact : goal.returns-in-Err-clause-is_exact
 returns-in-Err-clause-is_exact g c =

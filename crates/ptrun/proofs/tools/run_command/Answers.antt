@@ -11,15 +11,3 @@ returns-in-Comm g c = rw c.in-Comm.is c.run_tool-in-Comm.ensures
 
 pub returns-in-Join : goal.returns-in-Join
 returns-in-Join g c = rw c.in-Join.is c.run_tool-in-Join.ensures
-
-pub returns-in-Cut : goal.returns-in-Cut
-returns-in-Cut g c = rw c.in-Cut.is c.run_tool.ensures
-
-pub returns-in-Paste : goal.returns-in-Paste
-returns-in-Paste g c = rw c.in-Paste.is c.run_tool-in-Paste.ensures
-
-pub returns-in-Tr : goal.returns-in-Tr
-returns-in-Tr g c = rw c.in-Tr.is c.run_tool-in-Tr.ensures
-
-pub returns-in-Uniq : goal.returns-in-Uniq
-returns-in-Uniq g c = rw c.in-Uniq.is c.run_tool-in-Uniq.ensures

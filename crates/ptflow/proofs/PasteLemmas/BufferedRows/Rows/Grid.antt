@@ -7,10 +7,11 @@ pub use proofs.Common.{length-drop, map, max, refl, suc, sym, take, true, zero, 
 pub use proofs.Common.{◌<◌, ◌==◌, ◌∙◌, ◌∷◌, ◌≡◌, ◌≤◌, ◌⊎◌, add-mod_left, mod-eq_of_lt, cases_lt, eq-eqb}
 pub use proofs.Common.{get_or_after_one, append-nil, ext_get_or, get_or-map, nil_from_length, get_or-enumerate_from}
 pub use proofs.Common.{length-enumerate_from, sum_by-cons, sum_by-take-le, map-map, enumerate_from, range_with_len}
-pub use proofs.Common.{fold, the_lines_of_parts, lines, unlines, select_from, PasteOfParts, update_at, columns}
-pub use proofs.Common.{every_kth, join_with_cycle, row_count, is_row_known, row_at, rows, uses_of, subst}
-pub use proofs.Common.{Paste, Received, is_in, paste_decided, leb}
+pub use proofs.Common.{fold, the_lines_of_parts, lines, unlines, select_from, PasteOfParts, update_at, join_with_cycle}
+pub use proofs.Common.{subst, Paste, Received, is_in, leb}
 pub use Rattle.std.proofs.lemmas.List.Sums.{sum_by_more}
+pub use Rattle.ptflow.specs.PasteText.{columns, every_kth, row_count, is_row_known, paste_decided, row_at, rows}
+pub use Rattle.ptflow.specs.PasteText.{uses_of}
 
 abbrev pub Lines : Type 0
 Lines = List (List ℕ)

@@ -1,9 +1,8 @@
 -- Each exit is a result of a read: the end of input, the limit of 2^63 bytes, bytes, or a failed read.
 use Rattle.ptlines.proofs
-use Rattle.std.proofs.Common.{arith, rules}
+use proofs.Common.{arith, rules, usual}
 use proofs.Refill.{refill_more, refill_long}
 use proofs.reader.LineReader.refill.Goals as goal
-use Rattle.std.proofs.lemmas.Grind.{common_steps}
 
 pub returns-then-count-eq0-clause-refills : goal.returns-then-count-eq0-clause-refills
 returns-then-count-eq0-clause-refills g c = grind arith
@@ -22,13 +21,13 @@ pub returns-in-Err-clause-refills : goal.returns-in-Err-clause-refills
 returns-in-Err-clause-refills g c = grind arith
 
 pub invariant_of-self-then-self : goal.invariant_of-self-then-self
-invariant_of-self-then-self g c = grind (arith, common_steps)
+invariant_of-self-then-self g c = grind usual
 
 pub returns-then-self-clause-sound : goal.returns-then-self-clause-sound
 returns-then-self-clause-sound g c = (invariant_of-self-then-self g c).sound
 
 pub invariant_of-self-else-self : goal.invariant_of-self-else-self
-invariant_of-self-else-self g c = grind (arith, common_steps)
+invariant_of-self-else-self g c = grind usual
 
 pub returns-else-self-clause-sound : goal.returns-else-self-clause-sound
 returns-else-self-clause-sound g c = (invariant_of-self-else-self g c).sound

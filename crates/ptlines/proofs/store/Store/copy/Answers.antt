@@ -1,9 +1,9 @@
 -- The target is emptied and the line of the source appended. If memory ran out, the target stays empty.
 use Rattle.ptlines.proofs
 use proofs.Common.{◌≡◌, ◌≢◌, ◌<◌, ◌≤◌, ◌+◌, ◌^◌, ℕ, List, [], get_or, length, set, sym, ◌∙◌, ap, subst, arith}
-use proofs.Common.{length-set, length-map, with_items_is, total_bytes, usual}
+use proofs.Common.{length-map, with_items_is, total_bytes, usual}
 use Rattle.std.specs.Vec.{with_items}
-use Rattle.std.proofs.lemmas.List.{get_or-map}
+use Rattle.std.proofs.lemmas.List.{get_or-map, length-set}
 use Rattle.ptlines.specs.Slots.{SlotBuffer, slot_lines, AreBuffersBounded}
 use proofs.SlotTotals.{total_fits, copy_lines, total_bytes_set, line_of}
 use proofs.store.Store.copy.Goals as goal

@@ -1,5 +1,5 @@
 use Rattle.ptmerge.proofs
-use Rattle.std.proofs.Common.{rules}
+use proofs.Common.{rules}
 use proofs.merging.Merge.head.Goals as goal
 
 pub returns : goal.returns

@@ -1,5 +1,5 @@
 use Rattle.ptmerge.proofs
-use Rattle.std.proofs.Common.{rules}
+use proofs.Common.{rules}
 use proofs.merging.Merge.step.Goals as goal
 
 pub returns-in_default-status : goal.returns-in_default-status

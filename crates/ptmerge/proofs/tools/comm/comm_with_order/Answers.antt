@@ -2,9 +2,9 @@
 use Rattle.ptmerge.proofs
 use proofs.Common.{refl, ◌∙◌, comm_job, First, Second, arith}
 use proofs.MergeLemmas.{advance_pre, fails_by, start_fault, start_ok, open_merge, reads_less, between_next, ends_well}
-use proofs.MergeLemmas.{ends_fallen}
+use proofs.MergeLemmas.{ends_fallen, kept_order, fails, ends}
 use proofs.CommLemmas.{alone_continues, alone_fails, pair_continues, pair_fails, second_advance_pre, second_fails}
-use proofs.CommLemmas.{is_line_by_line, kept_order}
+use proofs.CommLemmas.{is_line_by_line}
 use proofs.tools.comm.comm_with_order.Goals as goal
 
 pub returns-in_err-merge : goal.returns-in_err-merge
@@ -18,7 +18,7 @@ steps-init g c =
     let p = c.in_ok-merge.ensures in
     let w = open_merge (record { total = g.met.K.KeyOrder.total _; exact = g.met.K.KeyOrder.exact _ })
     (is_line_by_line (comm_job c.args.job.now) _ _) c.requires.begins in
-    kept_order g.K.KeyOrder.order g.K.KeyOrder.key_of p.order refl (record {
+    kept_order p.order refl (record {
       w = w;
       whole_line_keys = c.requires.whole_line_keys;
       loop_invariant = start_ok w p.starts;
@@ -49,14 +49,14 @@ pub steps-preserved-in-Continue-branch-2 : goal.steps-preserved-in-Continue-bran
 steps-preserved-in-Continue-branch-2 g c =
     let i = c.steps.invariant in
     let p = c.write_head.ensures in
-    kept_order g.K.KeyOrder.order g.K.KeyOrder.key_of p.order i.order (alone_continues i.iteration
+    kept_order p.order i.order (alone_continues i.iteration
     c.in-First.ensures refl p.wrote c.in_ok-write_head-in-First.ensures.advances)
 
 pub steps-preserved-in-Continue-branch-3 : goal.steps-preserved-in-Continue-branch-3
 steps-preserved-in-Continue-branch-3 g c =
     let i = c.steps.invariant in
     let p = c.write_head-in-Second.ensures in
-    kept_order g.K.KeyOrder.order g.K.KeyOrder.key_of p.order i.order (alone_continues i.iteration
+    kept_order p.order i.order (alone_continues i.iteration
     c.in-Second.ensures c.tabs-tabs2.ensures p.wrote c.in_ok-write_head-in-Second.ensures.advances)
 
 pub steps-preserved : goal.steps-preserved
@@ -64,7 +64,7 @@ steps-preserved g c =
     let i = c.steps.invariant in
     let p = c.write_head-in-Both.ensures in
     let q = c.write_out_and_advance.ensures in
-    kept_order g.K.KeyOrder.order g.K.KeyOrder.key_of (q.order ∙ p.order) i.order (pair_continues i.iteration
+    kept_order (q.order ∙ p.order) i.order (pair_continues i.iteration
     c.in-Both.ensures c.tabs-tabs3.ensures p.wrote c.in_ok-write_head-in-Both.ensures.advances q.written_out
     (rw p.order at c.in_ok-write_out_and_advance-in-Both.ensures.advances))
 
@@ -83,38 +83,38 @@ steps-smaller g c = grind (arith, reads_less, between_next)
 
 pub returns-in_err-write_head-in-First : goal.returns-in_err-write_head-in-First
 returns-in_err-write_head-in-First g c =
-    rw (← c.steps.invariant.order) (fails_by c.from_residual-in_err-write_head-in-First.ensures.1
+    fails c.steps.invariant c.from_residual-in_err-write_head-in-First.ensures.1
     (alone_fails c.steps.invariant.iteration c.in-First.ensures refl c.write_head.ensures.wrote
-    _ _ _ c.in_err-write_head-in-First.ensures.advances))
+    _ _ _ c.in_err-write_head-in-First.ensures.advances)
 
 pub returns-in_err-write_head-in-Second : goal.returns-in_err-write_head-in-Second
 returns-in_err-write_head-in-Second g c =
-    rw (← c.steps.invariant.order) (fails_by c.from_residual-in_err-write_head-in-Second.ensures.1
+    fails c.steps.invariant c.from_residual-in_err-write_head-in-Second.ensures.1
     (alone_fails c.steps.invariant.iteration c.in-Second.ensures c.tabs-tabs2.ensures
-    c.write_head-in-Second.ensures.wrote _ _ _ c.in_err-write_head-in-Second.ensures.advances))
+    c.write_head-in-Second.ensures.wrote _ _ _ c.in_err-write_head-in-Second.ensures.advances)
 
 pub returns-in_err-write_head-in-Both : goal.returns-in_err-write_head-in-Both
 returns-in_err-write_head-in-Both g c =
-    rw (← c.steps.invariant.order) (fails_by c.from_residual-in_err-write_head-in-Both.ensures.1
+    fails c.steps.invariant c.from_residual-in_err-write_head-in-Both.ensures.1
     (pair_fails c.steps.invariant.iteration c.in-Both.ensures c.tabs-tabs3.ensures
-    c.write_head-in-Both.ensures.wrote _ _ _ c.in_err-write_head-in-Both.ensures.advances))
+    c.write_head-in-Both.ensures.wrote _ _ _ c.in_err-write_head-in-Both.ensures.advances)
 
 pub returns-in_err-write_out_and_advance-in-Both : goal.returns-in_err-write_out_and_advance-in-Both
 returns-in_err-write_out_and_advance-in-Both g c =
     let i = c.steps.invariant in
-    rw (← i.order) (fails_by c.from_residual-in_err-write_out_and_advance-in-Both.ensures.1
+    fails i c.from_residual-in_err-write_out_and_advance-in-Both.ensures.1
     (second_fails i.iteration c.in-Both.ensures c.tabs-tabs3.ensures c.write_head-in-Both.ensures.wrote
     c.in_ok-write_head-in-Both.ensures.advances c.write_out_and_advance.ensures.written_out
-    _ _ _ c.in_err-write_out_and_advance-in-Both.ensures.advances))
+    _ _ _ c.in_err-write_out_and_advance-in-Both.ensures.advances)
 
 pub returns-in-End : goal.returns-in-End
 returns-in-End g c =
     let i = c.steps.invariant in
-    rw (← i.order)
+    ends i
     (ends_well i.iteration.loop_invariant i.iteration.between.clean c.clear_four_slots.ensures c.in-End.ensures)
 
 pub returns-in-Stop : goal.returns-in-Stop
 returns-in-Stop g c =
     let i = c.steps.invariant in
-    rw (← i.order) (ends_fallen i.iteration.loop_invariant i.iteration.between.clean c.clear_four_slots-in-Stop.ensures
+    ends i (ends_fallen i.iteration.loop_invariant i.iteration.between.clean c.clear_four_slots-in-Stop.ensures
     c.in-Stop.ensures)

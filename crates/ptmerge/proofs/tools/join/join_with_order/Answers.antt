@@ -5,8 +5,9 @@ use proofs.Common.{refl, sym, ◌∙◌, join_job, usual}
 use proofs.JoinLemmas.{read_group_pre, read_group_fails, read_group_continues, group_closed, group_there}
 use proofs.JoinLemmas.{write_pairs_group, write_pairs_pre, pair_fails, write_pairs_next, write_pairs_continues}
 use proofs.JoinLemmas.{alone_continues, alone_fails, loop_invariant, measure_decreases, is_line_by_line, group_opens}
-use proofs.JoinLemmas.{read_group_in, kept_order, joins}
-use proofs.MergeLemmas.{advance_pre, fails_by, start_fault, start_ok, open_merge, ends_well, ends_fallen}
+use proofs.JoinLemmas.{read_group_in, joins}
+use proofs.MergeLemmas.{advance_pre, fails_by, start_fault, start_ok, open_merge, ends_well, ends_fallen, kept_order}
+use proofs.MergeLemmas.{fails, ends}
 use specs.declared.key_order.Side.TheVariants as sides
 use specs.declared.tools.join.JoinPhase.TheVariants as phases
 use proofs.tools.join.join_with_order.Goals as goal
@@ -22,7 +23,7 @@ steps-init g c =
     let w = open_merge (record { total = g.met.K.KeyOrder.total _; exact = g.met.K.KeyOrder.exact _ })
     (is_line_by_line (join_job c.args.job.now) _ _) c.requires.begins in
     let e = c.in_ok-merge.ensures in
-    kept_order g.K.KeyOrder.order g.K.KeyOrder.key_of e.order refl (record {
+    kept_order e.order refl (record {
       w = w;
       keys = c.requires.keys;
       phased = (start_ok w e.starts, refl);
@@ -51,14 +52,14 @@ pub steps-preserved-in-Continue-branch-2 : goal.steps-preserved-in-Continue-bran
 steps-preserved-in-Continue-branch-2 g c =
     let i = c.steps.invariant in
     let p = c.write_unpaired.ensures in
-    kept_order g.K.KeyOrder.order g.K.KeyOrder.key_of p.order i.order (alone_continues i.iteration
+    kept_order p.order i.order (alone_continues i.iteration
     c.in-BetweenGroups.is c.in-First.ensures p.wrote c.in_ok-write_unpaired-in-First.ensures.advances)
 
 pub steps-preserved-in-Continue-branch-3 : goal.steps-preserved-in-Continue-branch-3
 steps-preserved-in-Continue-branch-3 g c =
     let i = c.steps.invariant in
     let p = c.write_unpaired-in-Second.ensures in
-    kept_order g.K.KeyOrder.order g.K.KeyOrder.key_of p.order i.order (alone_continues i.iteration
+    kept_order p.order i.order (alone_continues i.iteration
     c.in-BetweenGroups.is c.in-Second.ensures p.wrote c.in_ok-write_unpaired-in-Second.ensures.advances)
 
 pub steps-smaller-in-Continue-branch-2 : goal.steps-smaller-in-Continue-branch-2
@@ -75,16 +76,16 @@ steps-smaller-in-Continue-branch-3 g c =
 
 pub returns-in_err-write_unpaired-in-First : goal.returns-in_err-write_unpaired-in-First
 returns-in_err-write_unpaired-in-First g c =
-    rw (← c.steps.invariant.order) (fails_by c.from_residual-in_err-write_unpaired-in-First.ensures.1
+    fails c.steps.invariant c.from_residual-in_err-write_unpaired-in-First.ensures.1
     (alone_fails c.steps.invariant.iteration c.in-BetweenGroups.is c.in-First.ensures c.write_unpaired.ensures.wrote
-    _ _ _ c.in_err-write_unpaired-in-First.ensures.advances))
+    _ _ _ c.in_err-write_unpaired-in-First.ensures.advances)
 
 pub returns-in_err-write_unpaired-in-Second : goal.returns-in_err-write_unpaired-in-Second
 returns-in_err-write_unpaired-in-Second g c =
-    rw (← c.steps.invariant.order) (fails_by c.from_residual-in_err-write_unpaired-in-Second.ensures.1
+    fails c.steps.invariant c.from_residual-in_err-write_unpaired-in-Second.ensures.1
     (alone_fails c.steps.invariant.iteration c.in-BetweenGroups.is c.in-Second.ensures
     c.write_unpaired-in-Second.ensures.wrote
-    _ _ _ c.in_err-write_unpaired-in-Second.ensures.advances))
+    _ _ _ c.in_err-write_unpaired-in-Second.ensures.advances)
 
 pub steps-preserved-in-Both : goal.steps-preserved-in-Both
 steps-preserved-in-Both g c =
@@ -93,13 +94,13 @@ steps-preserved-in-Both g c =
 pub returns-in-End : goal.returns-in-End
 returns-in-End g c =
     let i = c.steps.invariant in
-    rw (← i.order) (ends_well (loop_invariant i.iteration c.in-BetweenGroups.is) i.iteration.clean
+    ends i (ends_well (loop_invariant i.iteration c.in-BetweenGroups.is) i.iteration.clean
     c.clear_four_slots.ensures c.in-End.ensures)
 
 pub returns-in-Stop : goal.returns-in-Stop
 returns-in-Stop g c =
     let i = c.steps.invariant in
-    rw (← i.order) (ends_fallen (loop_invariant i.iteration c.in-BetweenGroups.is) i.iteration.clean
+    ends i (ends_fallen (loop_invariant i.iteration c.in-BetweenGroups.is) i.iteration.clean
     c.clear_four_slots-in-Stop.ensures c.in-Stop.ensures)
 
 pub clear_four_slots-requires-in-Stop : goal.clear_four_slots-requires-in-Stop
@@ -113,16 +114,16 @@ read_group_line-requires-clause-status_is g c = read_group_pre c.steps.invariant
 
 pub returns-in_err-end-in-ReadGroup : goal.returns-in_err-end-in-ReadGroup
 returns-in_err-end-in-ReadGroup g c =
-    rw (← c.steps.invariant.order) (fails_by c.from_residual-in_err-end-in-ReadGroup.ensures.1
+    fails c.steps.invariant c.from_residual-in_err-end-in-ReadGroup.ensures.1
     (read_group_fails c.steps.invariant.iteration c.in-ReadGroup.is c.read_group_line.ensures.written_out
-    c.in_err-end-in-ReadGroup.ensures.reads_line))
+    c.in_err-end-in-ReadGroup.ensures.reads_line)
 
 pub steps-preserved-then-not-has_same_key : goal.steps-preserved-then-not-has_same_key
 steps-preserved-then-not-has_same_key g c =
     let i = c.steps.invariant in
     let p = c.read_group_line.ensures in
     let ok = c.in_ok-end-in-ReadGroup.ensures in
-    kept_order g.K.KeyOrder.order g.K.KeyOrder.key_of p.order i.order (write_pairs_next i.iteration
+    kept_order p.order i.order (write_pairs_next i.iteration
     c.in-ReadGroup.is p.written_out ok.reads_line ok.continues
     (sym c.has_same_key.ensures ∙ c.if-not-has_same_key.true))
 
@@ -131,7 +132,7 @@ steps-preserved-else-not-has_same_key g c =
     let i = c.steps.invariant in
     let p = c.read_group_line.ensures in
     let ok = c.in_ok-end-in-ReadGroup.ensures in
-    kept_order g.K.KeyOrder.order g.K.KeyOrder.key_of p.order i.order (read_group_continues i.iteration
+    kept_order p.order i.order (read_group_continues i.iteration
     c.in-ReadGroup.is p.written_out ok.reads_line ok.continues
     (sym c.has_same_key.ensures ∙ c.if-not-has_same_key.false))
 
@@ -169,9 +170,9 @@ write_pairs-requires-clause-group g c = write_pairs_group c.steps.invariant.iter
 
 pub returns-in_err-write_pairs-in-WritePairs : goal.returns-in_err-write_pairs-in-WritePairs
 returns-in_err-write_pairs-in-WritePairs g c =
-    rw (← c.steps.invariant.order) (fails_by c.from_residual-in_err-write_pairs-in-WritePairs.ensures.1
+    fails c.steps.invariant c.from_residual-in_err-write_pairs-in-WritePairs.ensures.1
     (pair_fails c.steps.invariant.iteration c.in-WritePairs.is c.write_pairs.ensures.wrote
-    _ _ _ c.in_err-write_pairs-in-WritePairs.ensures.advances))
+    _ _ _ c.in_err-write_pairs-in-WritePairs.ensures.advances)
 
 pub clear_group-requires : goal.clear_group-requires
 clear_group-requires g c = group_there c.steps.invariant.iteration c.in-WritePairs.is
@@ -181,7 +182,7 @@ pub steps-preserved-then-not-has_same_key-2 : goal.steps-preserved-then-not-has_
 steps-preserved-then-not-has_same_key-2 g c =
     let i = c.steps.invariant in
     let p = c.write_pairs.ensures in
-    kept_order g.K.KeyOrder.order g.K.KeyOrder.key_of p.order i.order (group_closed i.iteration c.in-WritePairs.is
+    kept_order p.order i.order (group_closed i.iteration c.in-WritePairs.is
     p.wrote c.in_ok-write_pairs-in-WritePairs.ensures.advances c.clear_group.ensures
     (sym c.has_same_key-in-WritePairs.ensures ∙ c.if-not-has_same_key-2.true))
 
@@ -189,7 +190,7 @@ pub steps-preserved : goal.steps-preserved
 steps-preserved g c =
     let i = c.steps.invariant in
     let p = c.write_pairs.ensures in
-    kept_order g.K.KeyOrder.order g.K.KeyOrder.key_of p.order i.order (write_pairs_continues i.iteration
+    kept_order p.order i.order (write_pairs_continues i.iteration
     c.in-WritePairs.is p.wrote c.in_ok-write_pairs-in-WritePairs.ensures.advances
     (sym c.has_same_key-in-WritePairs.ensures ∙ c.if-not-has_same_key-2.false))
 

@@ -1,6 +1,6 @@
 -- A write that fails leaves a prefix of the pairs.
 use Rattle.ptmerge.proofs
-use proofs.Common.{◌++◌, [], ◌∷◌, List, ℕ, ap, arith, sym, map, join_job, rules}
+use proofs.Common.{◌++◌, [], ◌∷◌, List, ℕ, ap, arith, sym, map, join_job, usual}
 use proofs.JoinLemmas.Fields.{each_fails, each_more}
 use proofs.JoinLemmas.Group.{pair_of, group_from}
 use proofs.tools.join.write_pair_entries.Goals as goal
@@ -25,4 +25,4 @@ loop-slot-preserved g c = record {
 }
 
 pub returns : goal.returns
-returns g c = search rules
+returns g c = grind usual

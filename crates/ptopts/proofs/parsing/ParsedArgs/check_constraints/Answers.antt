@@ -1,8 +1,9 @@
 -- The constraints before this one are met, so the first fault is that of this one, or of the remaining ones.
 use Rattle.ptopts.proofs
 use proofs.Common.{Fault, IsSome, List, None, Option, Some, ap, constraint_fault, drop, err_from_is_err_and, first_some}
-use proofs.Common.{get_or, length, map, option_or, options_of, refl, ℕ, ◌+◌, ◌<◌, ◌∙◌, ◌≡◌, arith}
+use proofs.Common.{get_or, length, map, options_of, refl, ℕ, ◌+◌, ◌<◌, ◌∙◌, ◌≡◌, arith}
 use Rattle.std.proofs.lemmas.List.{drop_more}
+use Rattle.std.specs.Option.{option_or}
 use proofs.parsing.ParsedArgs.check_constraints.Goals as goal
 
 or_found : {A : Type 0} (found rest : Option A) → IsSome found → option_or found rest ≡ found

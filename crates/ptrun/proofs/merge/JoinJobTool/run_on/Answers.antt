@@ -1,6 +1,6 @@
 use Rattle.ptrun.proofs
 use proofs.Common.{arith, rules}
-use proofs.JointRuns.{merge_post, two_apart, two_ready, two_within}
+use proofs.JointRuns.{merge_post, two_apart, two_within}
 use proofs.merge.JoinJobTool.run_on.Goals as goal
 
 pub bounds-operands-0 : goal.bounds-operands-0
@@ -11,9 +11,6 @@ bounds-operands-1 g c = grind arith
 
 pub two_mut-one-requires : goal.two_mut-one-requires
 two_mut-one-requires g c = search (two_within, two_apart)
-
-pub join-requires : goal.join-requires
-join-requires g c = search (two_ready, c.two_mut-one.ensures.value)
 
 pub returns : goal.returns
 returns g c = search (rules, merge_post, c.two_mut-one.ensures.value)

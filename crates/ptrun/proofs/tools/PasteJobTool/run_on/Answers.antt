@@ -1,21 +1,16 @@
 -- In series, the pass over the reader of the only operand is that of the tool. In parallel each operand is a column.
 use Rattle.ptrun.proofs
 use proofs.Common.{arith, err_from_is_err_and, paste_job, scaled_Fits}
-use proofs.JointRuns.{cells_ready, rows_post}
+use proofs.JointRuns.{rows_post}
 use proofs.ToolRuns.{operand_passed}
 use proofs.tools.PasteJobTool.run_on.Goals as goal
 
 pub offset_bounds-inputs-position : goal.offset_bounds-inputs-position
-offset_bounds-inputs-position g c =
-    let low = (rw c.if-self.true at c.requires.ready).within in
-    search scaled_Fits
+offset_bounds-inputs-position g c = search (scaled_Fits, (rw c.if-self.true at c.requires.ready).within)
 
 pub returns-then-self : goal.returns-then-self
 returns-then-self g c = rw c.if-self.true
     (operand_passed (rw c.if-self.true at c.requires.ready) _ c.paste_serial.ensures c.completion_at.ensures)
-
-pub paste-requires : goal.paste-requires
-paste-requires g c = cells_ready (paste_job c.args.self.now) (rw c.if-self.false at c.requires.ready)
 
 pub returns-in_err-paste : goal.returns-in_err-paste
 returns-in_err-paste g c =

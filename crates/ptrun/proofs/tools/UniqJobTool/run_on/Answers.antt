@@ -1,19 +1,14 @@
 -- `uniq` accepts one operand only, so the pass over its reader is the pass over all operands.
 use Rattle.ptrun.proofs
-use proofs.Common.{arith, usual, scaled_Fits}
-use proofs.JointRuns.{only_operand_post, only_operand_within, opened}
+use proofs.Common.{arith, scaled_Fits}
+use proofs.JointRuns.{only_operand_post, only_operand_within}
 use proofs.tools.UniqJobTool.run_on.Goals as goal
 
 pub bounds-inputs-position : goal.bounds-inputs-position
 bounds-inputs-position g c = only_operand_within c.requires.ready c.requires.ready.accepts_operands 0
 
 pub offset_bounds-inputs-position : goal.offset_bounds-inputs-position
-offset_bounds-inputs-position g c =
-    let low = only_operand_within c.requires.ready c.requires.ready.accepts_operands 0 in
-    search scaled_Fits
-
-pub uniq-requires : goal.uniq-requires
-uniq-requires g c = grind (usual, (opened c.requires.ready c.requires.ready.accepts_operands 0))
+offset_bounds-inputs-position g c = search (scaled_Fits, (bounds-inputs-position g c))
 
 pub returns : goal.returns
 returns g c =

@@ -11,7 +11,8 @@ here : (c : After-nth_bit-at)
     (take (c.args.self.now.size - c.args.from) (drop c.args.from c.args.self.now.bytes.now)) c.nth_bit-at.result
 here c =
     let m = c.args.self.now in
-    grind (usual, c.nth_bit-at.ensures (is_byte m.byte) (take (m.size - c.args.from) (drop c.args.from m.bytes.now)), mask_from, ones-mask_l)
+    let rest = take (m.size - c.args.from) (drop c.args.from m.bytes.now) in
+    grind (usual, c.nth_bit-at.ensures (is_byte m.byte) rest, mask_from, ones-mask_l)
 
 pub returns-in_err-at : goal.returns-in_err-at
 returns-in_err-at c =

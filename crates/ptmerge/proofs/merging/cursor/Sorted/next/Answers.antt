@@ -1,5 +1,5 @@
 use Rattle.ptmerge.proofs
-use proofs.Common.{inl, arith, refl, usual, rules}
+use proofs.Common.{inl, arith, refl, rules}
 use proofs.MergeLemmas.{line_moves}
 use proofs.merging.cursor.Sorted.next.Goals as goal
 
@@ -11,9 +11,6 @@ returns-clause-moves g c =
     (rw c.in-Ok-true.field-0-test at (c.in-Ok-true.ensures.fills clean)) c.fill.ensures.is_sound c.line-2.ensures
     c.key-last.ensures c.line-3.ensures c.key-head.ensures c.cmp-ordering.ensures
     (rw c.is_gt.ensures at c.status_at-self.ensures) c.is_eq-self.ensures)
-
-pub returns-in-Err-Read-clause-moves : goal.returns-in-Err-Read-clause-moves
-returns-in-Err-Read-clause-moves g c = grind usual
 
 pub key-last-requires : goal.key-last-requires
 key-last-requires g c = search rules

@@ -12,7 +12,7 @@ returns c =
     let piece = c.loop-passed.invariant.fields _ _ c.in_ok-field.ensures.is_piece in
     record {
       more = remaining_fields c.args.separator (option_copied c.in_ok-field.remainder);
-      is = cc (passed, c.loop-passed.invariant.passed, c.in_ok-field.ensures.first, span.bytes_are);
+      is = rw (← passed, c.loop-passed.invariant.passed, span.bytes_are) c.in_ok-field.ensures.first;
       ordered = span.ordered;
       within = span.within;
       after = after_piece _ _ _ _ _ piece c.span_of_field.ensures.end;

@@ -23,7 +23,7 @@ pieces-preserved c =
       | Some b ↦ λ m. skip_empty_word c.args.separator c.in-Some.bytes.now field (Some b.now) none empty m
     ] in
     record {
-      same = cc (word c.first_piece.ensures.first);
+      same = word c.first_piece.ensures.first ∙ rw c.in-Some.is at c.pieces.invariant.same;
       fields = λ f r p. (rw c.in-Some.is at c.pieces.invariant.fields) f r
           (fields_after c.args.separator (Some c.in-Some.bytes.now) field _ c.first_piece.ensures.is_piece f r p);
     }

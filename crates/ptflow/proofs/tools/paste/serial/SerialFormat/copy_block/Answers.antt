@@ -1,9 +1,9 @@
 -- The terminator that was held back comes first, then all bytes but the last, then the last.
 use Rattle.ptflow.proofs
 use proofs.Common.{◌≡◌, ◌+◌, ◌-◌, ◌<◌, ◌++◌, ℕ, Bool, true, false, cond, List, [], ◌∷◌, length, take, get_or, refl}
-use proofs.Common.{arith, append_assoc, take_more, take_all, take_more_set, from_bool, row_rest, Option, ◌==◌, not, set}
+use proofs.Common.{arith, append_assoc, take_all, take_more_set, from_bool, row_rest, Option, ◌==◌, not, set}
 use proofs.Common.{eqb-true, take-set, length-append, usual}
-use Rattle.std.proofs.lemmas.List.{length-take}
+use Rattle.std.proofs.lemmas.List.{length-take, take_more}
 use proofs.PasteLemmas.Replaced.{copied_on}
 use proofs.tools.paste.serial.SerialFormat.copy_block.Goals as goal
 
