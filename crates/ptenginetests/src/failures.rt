@@ -6,7 +6,6 @@ use crate::{comm, join};
 use ptmerge::{MergeFault, Side};
 use std::alloc::Global;
 use std::process::Abort;
-use std::test::Fail;
 
 // An example of a merge. It runs with each sink that has room for fewer than `rooms` bytes; and with an input that
 // fails after 0, 1, .. `tried` - 1 pulls, of which it needs `needed` to succeed.
@@ -62,7 +61,7 @@ const PAIRED: Case = Case {
 const PAIRS: &[u8] = b"a 1 x\na 1 y\na 1 z\na 2 x\na 2 y\na 2 z\n";
 
 #[test]
-fn each_write_and_read_fails_in_turn(rt: HostRuntime) -> Result<(), Fail> {
+fn each_write_and_read_fails_in_turn(rt: HostRuntime) {
     for failing in FAILURE_EXAMPLES {
         let example = &failing.example;
         for room in 0..failing.rooms {
@@ -70,7 +69,7 @@ fn each_write_and_read_fails_in_turn(rt: HostRuntime) -> Result<(), Fail> {
                 room,
                 ..example.case
             };
-            check_example(&rt, rt.alloc(), &Example { case, ..*example }, 2)?;
+            check_example(&rt, rt.alloc(), &Example { case, ..*example }, 2);
         }
         for pulls in 0..failing.tried {
             let passing = match failing.side {
@@ -95,10 +94,9 @@ fn each_write_and_read_fails_in_turn(rt: HostRuntime) -> Result<(), Fail> {
                 expected,
                 ..*example
             };
-            check_example(&rt, rt.alloc(), &example, 1)?;
+            check_example(&rt, rt.alloc(), &example, 1);
         }
     }
-    Ok(())
 }
 
 // Two lines of 9,000 bytes, read in pulls of 8,192 bytes: a third pull is needed for the second line only, when the
@@ -126,7 +124,7 @@ const LONG: &[Example] = &[
 ];
 
 // Merges two lines, the first of which ends at `end`. If the second input is empty, it gets the first line.
-fn check_long(rt: &impl Abort, alloc: Global, long: &[u8], end: usize) -> Result<(), Fail> {
+fn check_long(rt: &impl Abort, alloc: Global, long: &[u8], end: usize) {
     assert!(rt; end <= long.len());
     for example in LONG {
         let second = if example.case.second.is_empty() {
@@ -155,18 +153,17 @@ fn check_long(rt: &impl Abort, alloc: Global, long: &[u8], end: usize) -> Result
                 case,
                 expected,
             };
-            check_example(rt, alloc, &long, usize::MAX)?;
+            check_example(rt, alloc, &long, usize::MAX);
         }
     }
-    Ok(())
 }
 
 #[test]
-fn nothing_is_read_after_a_failed_write(rt: HostRuntime) -> Result<(), Fail> {
-    let mut long = vec![in rt.alloc(); b'a'; 18002]?;
+fn nothing_is_read_after_a_failed_write(rt: HostRuntime) {
+    let mut long = [b'a'; 18002];
     long[9000] = b'\n';
     long[18001] = b'\n';
-    check_long(&rt, rt.alloc(), &long, 9001)
+    check_long(&rt, rt.alloc(), &long, 9001);
 }
 
 // Examples, with a number of growths that is more than each needs. Each of these growths fails in turn.
@@ -202,7 +199,7 @@ const GROWTH_EXAMPLES: &[(Example, u64)] = &[
 ];
 
 #[test]
-fn each_growth_refused_in_turn(rt: HostRuntime) -> Result<(), Fail> {
+fn each_growth_refused_in_turn(rt: HostRuntime) {
     for (example, most) in GROWTH_EXAMPLES {
         let mut reached = 0u64;
         for growths in 0..*most {
@@ -210,7 +207,7 @@ fn each_growth_refused_in_turn(rt: HostRuntime) -> Result<(), Fail> {
                 growths,
                 ..example.case
             };
-            if check_example(&rt, rt.alloc(), &Example { case, ..*example }, 2)? {
+            if check_example(&rt, rt.alloc(), &Example { case, ..*example }, 2) {
                 reached = growths.saturating_add(1);
             }
         }
@@ -220,7 +217,6 @@ fn each_growth_refused_in_turn(rt: HostRuntime) -> Result<(), Fail> {
             0 < reached && reached < *most,
         );
     }
-    Ok(())
 }
 
 // Memory is denied before the first four slots are allocated.
@@ -251,16 +247,15 @@ const SLOT_EXAMPLES: &[Example] = &[
 // The first four slots need five growths. If one of these fails, no input is read, and the only call of the sink is the
 // flush at the end.
 #[test]
-fn nothing_is_read_before_the_slots_are_there(rt: HostRuntime) -> Result<(), Fail> {
+fn nothing_is_read_before_the_slots_are_there(rt: HostRuntime) {
     for example in SLOT_EXAMPLES {
         for growths in 0..5u64 {
             let case = Case {
                 growths,
                 ..example.case
             };
-            let growth_failed = check_example(&rt, rt.alloc(), &Example { case, ..*example }, 2)?;
+            let growth_failed = check_example(&rt, rt.alloc(), &Example { case, ..*example }, 2);
             assert_for(&rt, &(example.name, growths), growth_failed);
         }
     }
-    Ok(())
 }

@@ -5,7 +5,6 @@ use crate::two_inputs::{
     ANY, BOTH_EMPTY, Case, Example, Expected, FIRST_DISORDER, FIRST_READ_FAILS, Job, OK, Options,
     SECOND_DISORDER, SECOND_READ_FAILS, check_example,
 };
-use std::test::Fail;
 
 /// The job without options.
 pub const DEFAULT: Job = Job::Join(DEFAULT_JOB);
@@ -476,19 +475,18 @@ const PULL_EXAMPLES: &[Example] = &[
 ];
 
 #[test]
-fn lines_of_two_inputs(rt: HostRuntime) -> Result<(), Fail> {
+fn lines_of_two_inputs(rt: HostRuntime) {
     for examples in [PIECE_EXAMPLES, PULL_EXAMPLES] {
         for example in examples {
             for size in example.case.sizes {
-                check_example(&rt, rt.alloc(), example, *size)?;
+                check_example(&rt, rt.alloc(), example, *size);
             }
         }
     }
     // One extra blank, after each word of a line.
     for count in [2usize, 3, 5, 6, 9, 10, 17, 18, 33, 34, 66] {
         for word_index in 0..count {
-            check_extra_blank(&rt, rt.alloc(), count, word_index)?;
+            check_extra_blank(&rt, rt.alloc(), count, word_index);
         }
     }
-    Ok(())
 }

@@ -4,7 +4,6 @@ use crate::join::{DEFAULT, PIECES};
 use crate::two_inputs::{ANY, Case, Example, Expected, OK, check_example};
 use std::alloc::{AllocError, Global};
 use std::process::Abort;
-use std::test::Fail;
 
 // A line of `count` words with one space between them, and the extra byte `blank` after word `word_index`.
 fn words(alloc: Global, count: usize, word_index: usize, blank: u8) -> Result<Vec<u8>, AllocError> {
@@ -20,12 +19,7 @@ fn words(alloc: Global, count: usize, word_index: usize, blank: u8) -> Result<Ve
 }
 
 // Joins a line with an extra blank, as the first and as the second input, and expects single spaces.
-fn check_single_spaces(
-    rt: &impl Abort,
-    alloc: Global,
-    more: &[u8],
-    single_spaced: &[u8],
-) -> Result<(), Fail> {
+fn check_single_spaces(rt: &impl Abort, alloc: Global, more: &[u8], single_spaced: &[u8]) {
     for (first, second) in [(more, b"k".as_slice()), (b"k", more)] {
         let example = Example {
             name: "a blank more",
@@ -42,25 +36,15 @@ fn check_single_spaces(
             },
         };
         for size in PIECES.sizes {
-            check_example(rt, alloc, &example, *size)?;
+            check_example(rt, alloc, &example, *size);
         }
     }
-    Ok(())
 }
 
 /// Checks a line of `count` words with an extra blank after word `word_index`.
-pub fn check_extra_blank(
-    rt: &impl Abort,
-    alloc: Global,
-    count: usize,
-    word_index: usize,
-) -> Result<(), Fail> {
-    let single_spaced = words(alloc, count, count, b' ')?;
-    let more = words(
-        alloc,
-        count,
-        word_index,
-        if word_index < 4 { b'\t' } else { b' ' },
-    )?;
-    check_single_spaces(rt, alloc, &more, &single_spaced)
+pub fn check_extra_blank(rt: &impl Abort, alloc: Global, count: usize, word_index: usize) {
+    let blank = if word_index < 4 { b'\t' } else { b' ' };
+    let single_spaced = words(alloc, count, count, b' ').expect(rt, "a line");
+    let more = words(alloc, count, word_index, blank).expect(rt, "a line");
+    check_single_spaces(rt, alloc, &more, &single_spaced);
 }

@@ -13,7 +13,6 @@ use ptlines::{LineReader, Out, Store};
 use std::alloc::{AllocError, Global};
 use std::cell::Cell;
 use std::process::Abort;
-use std::test::Fail;
 
 // The list of delimiters, and whether lines end with byte 0.
 type RowOptions = (&'static [u8], bool);
@@ -27,14 +26,14 @@ fn run_paste(
     options: RowOptions,
     cells: &[usize],
     input: (&[u8], &[u8], usize),
-) -> Result<VecSink, Fail>
+) -> VecSink
     requires { All (λ index. index < 2) cells.now }
 {
     let (delims, zero) = options;
     let (first, second, size) = input;
     let job = PasteJob {
         serial: false,
-        delims: Delims::read(alloc, delims)?,
+        delims: Delims::read(alloc, delims).expect(rt, "a list"),
         zero,
     };
     let reader: Reader<'_> = LineReader::standard(ChunkedSource::new(first, size, u64::MAX));
@@ -45,7 +44,7 @@ fn run_paste(
     let result = paste(&job, cells, &mut readers, &mut store, &mut out);
     assert_same(rt, &result, &Ok(()));
     assert_same(rt, &out.finish(), &Ok(()));
-    Ok(out.into_sink())
+    out.into_sink()
 }
 
 // A hash that identifies a long output (FNV-1a).
@@ -84,25 +83,24 @@ fn check_digest(
     others: usize,
     ends: (bool, bool),
     expected: u64,
-) -> Result<(), Fail>
+)
     requires { All (λ index. index < 2) cells.now }
 {
     let (zero, terminated) = ends;
     let terminator = if zero { 0 } else { b'\n' };
-    let first = lines_over_blocks(alloc, 400, terminator, terminated)?;
-    let second = lines_over_blocks(alloc, others, terminator, terminated)?;
+    let first = lines_over_blocks(alloc, 400, terminator, terminated).expect(rt, "a text");
+    let second = lines_over_blocks(alloc, others, terminator, terminated).expect(rt, "a text");
     for size in [1, 7, 8191, usize::MAX] {
-        let kept = run_paste(rt, alloc, (b",;:", zero), cells, (&first, &second, size))?;
+        let kept = run_paste(rt, alloc, (b",;:", zero), cells, (&first, &second, size));
         assert_same_for(rt, &(cells, others, size), &digest(kept.bytes()), &expected);
     }
-    Ok(())
 }
 
 // The digests are of the output of GNU `paste -d ',;:' - -` and the like for these lines. Rows cross the ends of
 // blocks, one row has the long line, and with 3 and 7 columns the last row is incomplete. The last two use both inputs,
 // the first of them twice in the second case.
 #[test]
-fn rows_of_readers(rt: HostRuntime) -> Result<(), Fail> {
+fn rows_of_readers(rt: HostRuntime) {
     let alloc = rt.alloc();
     check_digest(
         &rt,
@@ -111,7 +109,7 @@ fn rows_of_readers(rt: HostRuntime) -> Result<(), Fail> {
         400,
         (false, true),
         0x2d87_e996_c991_47fe,
-    )?;
+    );
     check_digest(
         &rt,
         alloc,
@@ -119,7 +117,7 @@ fn rows_of_readers(rt: HostRuntime) -> Result<(), Fail> {
         400,
         (false, false),
         0x7e70_6cd7_79c7_89ce,
-    )?;
+    );
     check_digest(
         &rt,
         alloc,
@@ -127,7 +125,7 @@ fn rows_of_readers(rt: HostRuntime) -> Result<(), Fail> {
         400,
         (true, true),
         0x7cdd_b415_9467_0554,
-    )?;
+    );
     check_digest(
         &rt,
         alloc,
@@ -135,7 +133,7 @@ fn rows_of_readers(rt: HostRuntime) -> Result<(), Fail> {
         400,
         (false, false),
         0xed5c_fbfc_5a2a_4391,
-    )?;
+    );
     check_digest(
         &rt,
         alloc,
@@ -143,53 +141,43 @@ fn rows_of_readers(rt: HostRuntime) -> Result<(), Fail> {
         400,
         (true, true),
         0x9bde_08fe_70b4_1009,
-    )?;
+    );
     // Columns that read one input.
     let text = b"1\n2\n3\n4\n".as_slice();
     let text = (text, text, 3);
-    let kept = run_paste(&rt, alloc, (b"\\0,", false), &[0, 0, 0], text)?;
+    let kept = run_paste(&rt, alloc, (b"\\0,", false), &[0, 0, 0], text);
     assert!(rt; kept.bytes() == b"12,3\n4,\n".as_slice());
     // The rows of a block are one write; the other call is the flush at the end. (The first row fills the block, and
     // the others are complete in it.)
     let text = b"1\n2\n3\n4\n5\n6\n".as_slice();
     let text = (text, text, usize::MAX);
-    let calls = run_paste(&rt, alloc, (b"\\t", false), &[0, 0], text)?.calls();
+    let calls = run_paste(&rt, alloc, (b"\\t", false), &[0, 0], text).calls();
     assert_same(&rt, &calls, &2);
-    Ok(())
 }
 
 // Rows of twelve columns, of which the last eleven are empty, with one line of `length` bytes among lines of 30 bytes.
 // With each length the last row that fits in a block ends one byte later.
-fn check_full_block(rt: &impl Abort, alloc: Global, length: usize) -> Result<(), Fail> {
-    let mut lengths = vec![in alloc; 30usize; 250]?;
+fn check_full_block(rt: &impl Abort, alloc: Global, length: usize) {
+    let mut lengths = [30; 250];
     lengths[1] = length;
-    let text = text_of(alloc, &lengths, b'\n', true)?;
+    let text = text_of(alloc, &lengths, b'\n', true).expect(rt, "a text");
     let mut expected = Vec::new(alloc);
-    for line in &lengths {
-        add_row(
-            &mut expected,
-            &[*line, 0, 0, 0, 0, 0, 0, 0, 0, 0, 0, 0],
-            [b',', b';'],
-        )?;
+    for line in lengths {
+        let row = [line, 0, 0, 0, 0, 0, 0, 0, 0, 0, 0, 0];
+        assert!(rt; add_row(&mut expected, &row, [b',', b';']).is_ok());
     }
     let texts = (text.as_slice(), b"".as_slice(), usize::MAX);
-    let kept = run_paste(
-        rt,
-        alloc,
-        (b",;", false),
-        &[0, 1, 1, 1, 1, 1, 1, 1, 1, 1, 1, 1],
-        texts,
-    )?;
+    let cells = [0, 1, 1, 1, 1, 1, 1, 1, 1, 1, 1, 1];
+    let kept = run_paste(rt, alloc, (b",;", false), &cells, texts);
     assert_for(rt, &length, kept.bytes() == expected.as_slice());
-    Ok(())
 }
 
 // The digests are of the output of GNU `paste` if the second input has fewer lines: none, 3, 150, 202 with the long
 // one, and none again, in eleven columns. With 3, 150 and 202 lines the last lines of both inputs have no terminator.
 #[test]
-fn rows_after_the_end_of_an_input(rt: HostRuntime) -> Result<(), Fail> {
+fn rows_after_the_end_of_an_input(rt: HostRuntime) {
     let alloc = rt.alloc();
-    check_digest(&rt, alloc, &[0, 1], 0, (false, true), 0x6aa1_c50f_7918_8c5c)?;
+    check_digest(&rt, alloc, &[0, 1], 0, (false, true), 0x6aa1_c50f_7918_8c5c);
     check_digest(
         &rt,
         alloc,
@@ -197,7 +185,7 @@ fn rows_after_the_end_of_an_input(rt: HostRuntime) -> Result<(), Fail> {
         3,
         (false, false),
         0xf9ee_e002_e2fe_2cb2,
-    )?;
+    );
     check_digest(
         &rt,
         alloc,
@@ -205,7 +193,7 @@ fn rows_after_the_end_of_an_input(rt: HostRuntime) -> Result<(), Fail> {
         150,
         (true, false),
         0x8fea_700f_4ea6_dd70,
-    )?;
+    );
     check_digest(
         &rt,
         alloc,
@@ -213,7 +201,7 @@ fn rows_after_the_end_of_an_input(rt: HostRuntime) -> Result<(), Fail> {
         202,
         (true, false),
         0xf615_1408_e176_b4c9,
-    )?;
+    );
     check_digest(
         &rt,
         alloc,
@@ -221,15 +209,14 @@ fn rows_after_the_end_of_an_input(rt: HostRuntime) -> Result<(), Fail> {
         0,
         (false, true),
         0x2ab7_94e9_f5b1_5bb4,
-    )?;
+    );
     for length in 0..43 {
-        check_full_block(&rt, alloc, length)?;
+        check_full_block(&rt, alloc, length);
     }
     // Rows are not written one by one.
     let text = (b"1\n2\n3\n4\n".as_slice(), b"".as_slice(), usize::MAX);
-    let calls = run_paste(&rt, alloc, (b"\\t", false), &[0, 1], text)?.calls();
+    let calls = run_paste(&rt, alloc, (b"\\t", false), &[0, 1], text).calls();
     assert_same(&rt, &calls, &2);
-    Ok(())
 }
 
 // An input in pieces of `size` bytes, the number of growths before one fails, and the capacity of the sink.
@@ -284,7 +271,7 @@ fn check_long(rt: &impl Abort, alloc: Global, text: &[u8]) {
 }
 
 #[test]
-fn nothing_is_read_after_a_failure(rt: HostRuntime) -> Result<(), Fail> {
+fn nothing_is_read_after_a_failure(rt: HostRuntime) {
     // One line for each pull: the first row is written, and the write fails, before a third pull.
     let mut case = TWO_COLUMNS;
     assert_same(
@@ -302,11 +289,10 @@ fn nothing_is_read_after_a_failure(rt: HostRuntime) -> Result<(), Fail> {
             &Ok((Err(FlowFault::Memory), 0)),
         );
     }
-    let mut long = vec![in rt.alloc(); b'a'; 18002]?;
+    let mut long = [b'a'; 18002];
     long[9000] = b'\n';
     long[18001] = b'\n';
     check_long(&rt, rt.alloc(), &long);
-    Ok(())
 }
 
 // Appends lines of these lengths as one row, with the two delimiters alternating.
@@ -324,17 +310,11 @@ fn add_row(row: &mut Vec<u8>, lengths: &[usize], delims: [u8; 2]) -> Result<(), 
 }
 
 // Checks short lines after a line of `length` bytes, in one row, for pieces of several sizes.
-fn check_row(
-    rt: &impl Abort,
-    alloc: Global,
-    job: &PasteJob,
-    length: usize,
-    delims: [u8; 2],
-) -> Result<(), AllocError> {
+fn check_row(rt: &impl Abort, alloc: Global, job: &PasteJob, length: usize, delims: [u8; 2]) {
     let lengths = [length, 0, 1, 4, 15, 16, 17, 64, 0, 0, 5];
-    let text = text_of(alloc, &lengths, b'\n', true)?;
+    let text = text_of(alloc, &lengths, b'\n', true).expect(rt, "a text");
     let mut row = Vec::new(alloc);
-    add_row(&mut row, &lengths, delims)?;
+    assert!(rt; add_row(&mut row, &lengths, delims).is_ok());
     for size in [1, 7, usize::MAX] {
         let case = Case {
             text: &text,
@@ -343,17 +323,11 @@ fn check_row(
         };
         check_run(rt, alloc, (Job::Serial(job), &case), Ok(()), &row);
     }
-    Ok(())
 }
 
 // Checks three short lines, and the lines of `check_row`, so that each terminator is once at each offset of a chunk of
 // 64 bytes.
-fn check_rows(
-    rt: &impl Abort,
-    alloc: Global,
-    job: &PasteJob,
-    delims: [u8; 2],
-) -> Result<(), AllocError> {
+fn check_rows(rt: &impl Abort, alloc: Global, job: &PasteJob, delims: [u8; 2]) {
     let case = Case {
         text: b"a\nb\nc\n",
         size: 1,
@@ -362,20 +336,18 @@ fn check_rows(
     let all = [b'a', delims[0], b'b', delims[1], b'c', b'\n'];
     check_run(rt, alloc, (Job::Serial(job), &case), Ok(()), &all);
     for length in 0..65 {
-        check_row(rt, alloc, job, length, delims)?;
+        check_row(rt, alloc, job, length, delims);
     }
-    Ok(())
 }
 
 #[test]
-fn lines_in_one_row(rt: HostRuntime) -> Result<(), Fail> {
+fn lines_in_one_row(rt: HostRuntime) {
     for (list, delims) in [(b",".as_slice(), [b',', b',']), (b",;", [b',', b';'])] {
         let job = PasteJob {
             serial: true,
-            delims: Delims::read(rt.alloc(), list)?,
+            delims: Delims::read(rt.alloc(), list).expect(&rt, "a list"),
             zero: false,
         };
-        check_rows(&rt, rt.alloc(), &job, delims)?;
+        check_rows(&rt, rt.alloc(), &job, delims);
     }
-    Ok(())
 }

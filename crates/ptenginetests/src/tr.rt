@@ -7,16 +7,13 @@ use ptflow::{FlowFault, translate};
 use ptlangs::{CharPlan, Form, Shifts};
 use std::alloc::{AllocError, Global};
 use std::process::Abort;
-use std::test::Fail;
 
 // The form, whether the first string is complemented, and the strings.
 type Strings<'a> = (Form, bool, &'a [u8], Option<&'a [u8]>);
 
-fn plan_of((form, complement, first, second): Strings<'_>) -> Result<CharPlan, Fail> {
-    if form.takes_second() != second.is_some() {
-        return Err(Fail::from("the count of strings"));
-    }
-    Ok(CharPlan::read(form, complement, first, second)?)
+fn plan_of(rt: &impl Abort, (form, complement, first, second): Strings<'_>) -> CharPlan {
+    assert!(rt; form.takes_second() == second.is_some());
+    CharPlan::read(form, complement, first, second).expect(rt, "two strings")
 }
 
 // Bytes, and how often they are repeated.
@@ -114,10 +111,10 @@ fn repeated(alloc: Global, (bytes, count): RepeatedBytes) -> Result<Vec<u8>, All
     Ok(text)
 }
 
-fn check_example(rt: &impl Abort, alloc: Global, example: &Example) -> Result<(), Fail> {
-    let plan = plan_of(example.strings)?;
-    let text = repeated(alloc, example.text)?;
-    let all = repeated(alloc, example.written)?;
+fn check_example(rt: &impl Abort, alloc: Global, example: &Example) {
+    let plan = plan_of(rt, example.strings);
+    let text = repeated(alloc, example.text).expect(rt, "a text");
+    let all = repeated(alloc, example.written).expect(rt, "an output");
     for size in example.sizes {
         let case = Case {
             text: &text,
@@ -128,7 +125,6 @@ fn check_example(rt: &impl Abort, alloc: Global, example: &Example) -> Result<()
         };
         check_run(rt, alloc, (Job::Tr(&plan), &case), example.result, &all);
     }
-    Ok(())
 }
 
 // `count` bytes, with all values in order.
@@ -151,33 +147,27 @@ fn check_images(rt: &impl Abort, plan: &CharPlan, shifts: &Shifts, from: &[u8], 
     assert_for(rt, &from.len(), moved);
 }
 
-fn check_shifts(
-    rt: &impl Abort,
-    alloc: Global,
-    (first, second): (&[u8], &[u8]),
-) -> Result<(), Fail> {
-    let plan = CharPlan::read(Form::Translate, false, first, Some(second))?;
-    let shifts = plan.shifts().ok_or("more than four stretches")?;
+fn check_shifts(rt: &impl Abort, alloc: Global, (first, second): (&[u8], &[u8])) {
+    let plan = plan_of(rt, (Form::Translate, false, first, Some(second)));
+    let shifts = plan.shifts().expect(rt, "at most four stretches");
     for count in [0, 1, 31, 32, 33, 8191, 8192, 8193] {
-        let from = each_value(alloc, count)?;
-        let mut to = each_value(alloc, count)?;
+        let from = each_value(alloc, count).expect(rt, "a text");
+        let mut to = each_value(alloc, count).expect(rt, "a text");
         check_images(rt, &plan, &shifts, &from, &mut to);
     }
-    Ok(())
 }
 
 // Strings whose plan consists of shifted ranges.
 const SHIFT_EXAMPLES: &[(&[u8], &[u8])] = &[(b"a-z\\377", b"A-Z\\1"), (b"A-Za-z", b"N-ZA-Mn-za-m")];
 
 #[test]
-fn forms_in_pieces_and_stretches(rt: HostRuntime) -> Result<(), Fail> {
+fn forms_in_pieces_and_stretches(rt: HostRuntime) {
     for example in EXAMPLES {
-        check_example(&rt, rt.alloc(), example)?;
+        check_example(&rt, rt.alloc(), example);
     }
     for strings in SHIFT_EXAMPLES {
-        check_shifts(&rt, rt.alloc(), *strings)?;
+        check_shifts(&rt, rt.alloc(), *strings);
     }
-    Ok(())
 }
 
 // `count` bytes of all values, some of which are repeated two or three times.
@@ -213,42 +203,30 @@ fn expected_output(alloc: Global, plan: &CharPlan, text: &[u8]) -> Result<Vec<u8
 }
 
 // Checks an input of `count` bytes in pieces of `size` bytes.
-fn check_length(
-    rt: &impl Abort,
-    alloc: Global,
-    plan: &CharPlan,
-    (count, size): (usize, usize),
-) -> Result<(), AllocError> {
-    let text = mixed(alloc, count)?;
-    let all = expected_output(alloc, plan, &text)?;
+fn check_length(rt: &impl Abort, alloc: Global, plan: &CharPlan, (count, size): (usize, usize)) {
+    let text = mixed(alloc, count).expect(rt, "a text");
+    let all = expected_output(alloc, plan, &text).expect(rt, "an output");
     let case = Case {
         text: &text,
         size,
         ..NO_FAILURE
     };
     check_run(rt, alloc, (Job::Tr(plan), &case), Ok(()), &all);
-    Ok(())
 }
 
 // Checks short inputs, in one piece and in two; and if `blocks` is set, lengths around that of a block.
-fn check_plan(
-    rt: &impl Abort,
-    alloc: Global,
-    strings: Strings<'_>,
-    blocks: bool,
-) -> Result<(), Fail> {
-    let plan = plan_of(strings)?;
+fn check_plan(rt: &impl Abort, alloc: Global, strings: Strings<'_>, blocks: bool) {
+    let plan = plan_of(rt, strings);
     for size in [usize::MAX, 40] {
         for count in SHORT {
-            check_length(rt, alloc, &plan, (*count, size))?;
+            check_length(rt, alloc, &plan, (*count, size));
         }
     }
     if blocks {
         for count in LONG {
-            check_length(rt, alloc, &plan, (*count, usize::MAX))?;
+            check_length(rt, alloc, &plan, (*count, usize::MAX));
         }
     }
-    Ok(())
 }
 
 // Six bytes with different high nibbles, each shifted by another amount.
@@ -280,12 +258,12 @@ const SETS: &[&[u8]] = &[b"0-9", b"\\176-\\201", b"[:print:]", b" ", b"\\000-\\3
 const BLOCK_EXAMPLE: Strings<'_> = (Form::DeleteSqueeze, true, b"[:print:]", Some(b"0-9a-z"));
 
 #[test]
-fn each_length(rt: HostRuntime) -> Result<(), Fail> {
+fn each_length(rt: HostRuntime) {
     for (complement, first, second, blocks) in TRANSLATED {
         let strings = (Form::Translate, *complement, *first, Some(*second));
-        check_plan(&rt, rt.alloc(), strings, false)?;
+        check_plan(&rt, rt.alloc(), strings, false);
         let strings = (Form::TranslateSqueeze, *complement, *first, Some(*second));
-        check_plan(&rt, rt.alloc(), strings, *blocks)?;
+        check_plan(&rt, rt.alloc(), strings, *blocks);
     }
     for set in SETS {
         for complement in [false, true] {
@@ -295,9 +273,9 @@ fn each_length(rt: HostRuntime) -> Result<(), Fail> {
                 (Form::Squeeze, *set, None),
                 (Form::DeleteSqueeze, digits, Some(*set)),
             ] {
-                check_plan(&rt, rt.alloc(), (form, complement, first, second), false)?;
+                check_plan(&rt, rt.alloc(), (form, complement, first, second), false);
             }
         }
     }
-    check_plan(&rt, rt.alloc(), BLOCK_EXAMPLE, true)
+    check_plan(&rt, rt.alloc(), BLOCK_EXAMPLE, true);
 }

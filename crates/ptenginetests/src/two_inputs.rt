@@ -10,7 +10,6 @@ use ptmerge::{MergeFault, Side, comm, join};
 use std::alloc::Global;
 use std::cell::Cell;
 use std::process::Abort;
-use std::test::Fail;
 
 type Reader<'w, 'a, 'r> = LineReader<CountedSource<'w, ChunkedSource<'a>>, ChunkedSource<'r>>;
 
@@ -160,7 +159,11 @@ fn merge<'l>(
     (result, out.into_sink(), pulls.get(), store.peak())
 }
 
-fn job_of<'a>(alloc: SharedAlloc<'a>, options: &Options) -> Result<JoinJob<SharedAlloc<'a>>, Fail> {
+fn job_of<'a>(
+    rt: &impl Abort,
+    alloc: SharedAlloc<'a>,
+    options: &Options,
+) -> JoinJob<SharedAlloc<'a>> {
     let mut job = JoinJob::new(alloc);
     job.pairs = options.pairs;
     job.unpaired = options.unpaired;
@@ -168,11 +171,11 @@ fn job_of<'a>(alloc: SharedAlloc<'a>, options: &Options) -> Result<JoinJob<Share
     job.field = options.field;
     job.zero = options.zero;
     job.descending = options.descending;
-    job.empty.extend_from_slice(options.empty)?;
+    assert!(rt; job.empty.extend_from_slice(options.empty).is_ok());
     if let Some(list) = options.list {
-        job.list = Some(OutList::read(alloc, list)?);
+        job.list = Some(OutList::read(alloc, list).expect(rt, "a list"));
     }
-    Ok(job)
+    job
 }
 
 // Runs a merge with pulls of `size` bytes, and ends the test if the outcome differs. If a growth fails, the result must
@@ -203,19 +206,13 @@ fn check_task<'l>(
 
 /// Runs an example with pulls of `size` bytes, and ends the test if the outcome differs. Returns whether a growth
 /// failed.
-pub fn check_example(
-    rt: &impl Abort,
-    alloc: Global,
-    example: &Example<'_>,
-    size: usize,
-) -> Result<bool, Fail> {
+pub fn check_example(rt: &impl Abort, alloc: Global, example: &Example<'_>, size: usize) -> bool {
     let lines = FailingAlloc::after(alloc, example.case.growths);
-    let growth_failed = match &example.job {
+    match &example.job {
         Job::Comm(job) => check_task(rt, (alloc, &lines), Task::Comm(job), example, size),
         Job::Join(options) => {
-            let job = job_of(&lines, options)?;
+            let job = job_of(rt, &lines, options);
             check_task(rt, (alloc, &lines), Task::Join(&job), example, size)
         }
-    };
-    Ok(growth_failed)
+    }
 }

@@ -28,13 +28,11 @@ abbrev Spells : ℕ → Option ℕ → Result (Option ℕ) DelimFault → Type 0
 Spells c d r = r ≡ Ok d → IsDelim (backslash ∷ c ∷ []) d
 
 escape_is_spelled : (c : ℕ) (d : Option ℕ) → Spells c d (escape c)
-escape_is_spelled c d = grind (arith, Newline, Tab, Backslash, Nothing)
+escape_is_spelled = grind (arith, Newline, Tab, Backslash, Nothing)
 
 more_delims : (e rest : List ℕ) (d : Option ℕ) (ds : List (Option ℕ)) → IsDelim e d → delims rest ≡ Ok ds
     → ((xs : List (Option ℕ)) → delim_list rest ≡ Ok xs → IsDelimList rest xs) → IsDelimList (e ++ rest) (d ∷ ds)
-more_delims e [] d [] is h list = grind (arith, append-nil, Last)
-more_delims e [] d (x ∷ xs) is h list = cc
-more_delims e (b ∷ bs) d ds is h list = grind (arith, More)
+more_delims = grind (arith, Last, More, append-nil)
 
 list_is_spelled : (bs : List ℕ) (ds : List (Option ℕ)) → delim_list bs ≡ Ok ds → IsDelimList bs ds
 list_is_spelled [] ds h = cc

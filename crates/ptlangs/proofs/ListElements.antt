@@ -21,7 +21,7 @@ use specs.declared.outlist.OutField.TheVariants.{Field}
 use specs.declared.outlist.OutField.{OutField}
 use specs.declared.ranges.ListFault.{ListFault}
 use Rattle.std.proofs.Common.{max}
-use lemmas.Bool.{and_parts, cases_Bool, ltb-false, not-false}
+use lemmas.Bool.{and_parts, cases_Bool, false≢true, ltb-false, not-false}
 use lemmas.List.Elements.{All-append, All-cons}
 use lemmas.List.Sorted.{list_any-IsPermutation}
 use lemmas.List.Splits.{join_with_byte-slice_split, slice_split_at, slice_split_first, slice_split_none}
@@ -150,7 +150,7 @@ pub too_large_at : (bs : List ℕ) (i n : ℕ) → i < length bs → value bs �
 too_large_at = grind (usual, after-ge)
 
 pub is_empty_by_length : {X : Type 0} (xs : List X) → is_empty xs ≡ eqb (length xs) 0
-is_empty_by_length xs = grind arith
+is_empty_by_length = grind arith
 
 pub digit_at : (bs : List ℕ) (i : ℕ) → true ≡ is_number bs → i < length bs
     → digit_value (get_or bs i 0) ≡ get_or bs i 0 - 48
@@ -177,11 +177,14 @@ checked_proper : (interval_of_parts : Option Interval) (r : Interval) → checke
     → (interval_of_parts ≡ Some r) × IsValidInterval r
 checked_proper = grind arith
 
+fault_of_interval : (bs : List ℕ) (e : ListFault) → element_interval bs ≡ Err e → cut_list_fault e ≡ Some e
+fault_of_interval = grind arith
+
 -- no element has the fault of an allocation
 pub fault_of_intervals : (all : List (List ℕ)) (e : ListFault) → Some e ≡ result_err (traverse element_interval all)
     → cut_list_fault e ≡ Some e
 fault_of_intervals [] e h = cc
-fault_of_intervals (x ∷ all) e h = grind (arith, fault_of_intervals all e)
+fault_of_intervals (x ∷ all) e h = grind (arith, fault_of_interval, fault_of_intervals all e)
 
 proper : (bs : List ℕ) (r : Interval) → element_interval bs ≡ Ok r → IsValidInterval r
 proper [] r h = cc
@@ -232,9 +235,10 @@ bounds_at_dash = grind (usual, slice_split_at, digits_fail, parts_after_dash)
 accepts_interval : (bs : List ℕ) (r : Interval) → SpellsInterval bs r → IsValidInterval r → element_interval bs ≡ Ok r
 accepts_interval bs r (One n h) valid = grind (arith, bound_is_one_part, checked_ok)
 accepts_interval bs r (FromTo n m h k) valid = search (rules, bounds_at_dash)
-accepts_interval bs r (UpTo [] h) valid = cc
+accepts_interval bs r (UpTo [] h) valid = absurd (false≢true h)
 accepts_interval bs r (UpTo (c ∷ m) h) valid =
-    ap checked_interval (parts_after_dash [] (c ∷ m)) ∙ rw h (checked_ok r valid)
+    let bounds : interval_of_bounds [] (c ∷ m) ≡ Some r = rw h refl in
+    ap checked_interval (parts_after_dash [] (c ∷ m) ∙ bounds) ∙ checked_ok r valid
 accepts_interval bs r (From n h) valid = grind (arith, bounds_at_dash, checked_ok)
 
 unbroken_interval : (bs : List ℕ) (r : Interval) → SpellsInterval bs r → Unbroken bs

@@ -10,10 +10,10 @@ use proofs.Common.{bytes_left, usual, complement_of, cond, contents_of, count_by
 use proofs.Common.{first_array, first_members, image_by, is_fill, length, map, map-append, marked_array, member_bytes}
 use proofs.Common.{member_results, ne_eqb, not, plain_members, refl, replicate, result_map_both, rules, segments_of}
 use proofs.Common.{sequence, slice_get, string_segments, subst, suc, sym, take, take_all, true, zero, ℕ, ◌++◌, ◌+◌, ◌-◌}
-use proofs.Common.{◌<◌, ◌||◌, ◌∙◌, ◌∷◌, ◌≡◌, ◌≢◌, ◌≤◌}
+use proofs.Common.{◌*◌, ◌<◌, ◌||◌, ◌∙◌, ◌∷◌, ◌≡◌, ◌≢◌, ◌≤◌}
 use proofs.ListElements.{append_ok as onto}
 use specs.TrClasses.{all_bytes, class_bytes, span}
-use specs.TrParsing.{classes_match, marked_members, members_from}
+use specs.TrParsing.{class_of, classes_match, marked_members, members_from}
 use specs.TrPlan.{are_paired, class_offsets, has_byte, has_other_case_at, last_position, members, next_index_or}
 use specs.TrPlan.{padded_to, segment}
 use specs.declared.faults.SetFaultKind.TheVariants.{ClassPlace}
@@ -25,7 +25,7 @@ use lemmas.List.Elements.{filter-append, filter_more}
 use lemmas.List.Folds.{list_any-append, list_any_at}
 use lemmas.List.FromFn.{get_or-map-range_with_len, get_or-range_with_len, length-map-range_with_len}
 use lemmas.List.FromFn.{length-range_with_len}
-use lemmas.List.{get_or-replicate, get_or_default, length-replicate, length-set}
+use lemmas.List.{drop-map, drop-replicate, get_or-replicate, get_or_default, length-map, length-replicate, length-set}
 use lemmas.List.{same_lists, take-append-drop, take-map, length-append}
 use lemmas.Map.Views.{any-filter_same}
 use lemmas.Option.{slice_get-get_or, slice_get_cases, slice_get_past, slice_get_within}
@@ -53,6 +53,8 @@ length-span first last = length-range_with_len _ _
 
 pub ruleset span_steps = (span_there, span_past, length-span)
 
+pub ruleset part_steps = (slice_get-left, slice_get-right, drop_more)
+
 -- ---- an index in concatenated ranges
 
 pub class_bytes-short : (class : CharClass) → length (class_bytes class) ≤ 256
@@ -61,8 +63,7 @@ class_bytes-short = grind arith
 -- an index of a list shorter than 2^128 can be counted up
 pub room : (bytes : List ℕ) (i : ℕ) (found : Option ℕ) → found ≡ slice_get bytes i → length bytes < 2 ^ 128
     → IfSome found (λ _. i + 1 < 2 ^ 128)
-room bytes i None e h = tt
-room bytes i (Some b) e h = omega (arith, slice_get_within bytes i b (sym e))
+room = grind (arith, slice_get_within)
 
 -- ---- copies of one byte
 
@@ -73,6 +74,8 @@ pub repeat_past : (n b i : ℕ) → n ≤ i → None ≡ slice_get (replicate n 
 repeat_past = grind (usual, slice_get_past)
 
 pub ruleset member_steps = (length-replicate, length-span, class_bytes-short, repeat_there, repeat_past)
+
+pub ruleset copies_left = (drop_all, append-nil, drop-map, drop-replicate, map-append)
 
 -- ---- items that were read
 
@@ -166,10 +169,19 @@ on_fault = grind arith
 -- ---- at most one segment is a fill
 
 -- one more segment adds the length of a fill only if no fill came before it
-pub fill_step : (n : ℕ) (role : SetRole) (p : SetElement) (d : Segment) (has_fill : Bool)
+fill_step : (n : ℕ) (role : SetRole) (p : SetElement) (d : Segment) (has_fill : Bool)
     → segment role has_fill p ≡ Ok d
     → length (members n d) + cond (has_fill || is_fill (Ok d)) 0 n ≤ length (members 0 d) + cond has_fill 0 n
 fill_step = grind (arith, length-replicate)
+
+-- the next segment keeps the bound
+pub most_step : (n : ℕ) (role : SetRole) (p : SetElement) (d : Segment) (has_fill : Bool) (m l at next : ℕ)
+    → segment role has_fill p ≡ Ok d → length (members 0 d) ≤ 65535 → at < next → next ≤ l
+    → length (marked_members n d) + 65536 * (l - next) + cond (has_fill || is_fill (Ok d)) 0 n
+    ≤ m + 65536 * (l - at) + cond has_fill 0 n
+most_step n role p d has_fill m l at next is short onward within =
+    let same = ap length (member_bytes-members (class_of d) (members n d)) in
+    omega (arith, length-map (marked_members n d) (λ (m : Member). m.byte), same, fill_step n role p d has_fill is)
 
 -- ---- the classes that start in two arrays
 
@@ -196,20 +208,39 @@ offsets-members : (at : ℕ) (bytes : List ℕ) (ms : List Member)
     → offsets at (members_from None bytes ++ ms) ≡ offsets (at + length bytes) ms
 offsets-members = grind (arith, offsets-plain)
 
+offsets-class : (at : ℕ) (class : CharClass) (bytes : List ℕ) (ms : List Member) → 0 < length bytes
+    → offsets at (members_from (Some class) bytes ++ ms) ≡ (at, class) ∷ offsets (at + length bytes) ms
+offsets-class = grind (arith, offsets-plain)
+
+class_bytes-some : (class : CharClass) → 0 < length (class_bytes class)
+class_bytes-some = grind arith
+
 pub class_offsets-are : (n : ℕ) (ps : List Segment) (at : ℕ) → class_offsets n at ps ≡ offsets at (marked_array n ps)
 class_offsets-are n [] at = refl
-class_offsets-are n (x ∷ ps) at = grind (usual, offsets-members, class_offsets-are n ps)
+class_offsets-are n (x ∷ ps) at =
+    grind (usual, offsets-members, offsets-class, class_bytes-some, class_offsets-are n ps)
 
 none_before : (ms : List Member) (at k : ℕ) (class : CharClass) → k < at
     → has_other_case_at (offsets at ms) k class ≡ false
 none_before [] at k class low = refl
 none_before (m ∷ ms) at k class low = grind (arith, ne_eqb, none_before ms (suc at) k class (omega arith))
 
+module _ (m : Member) (ms : List Member) (at k : ℕ) (class : CharClass) where
+  starts_here : at ≡ k → has_other_case_at (offsets (suc at) ms) k class ≡ false
+      → has_other_case_at (offsets at (m ∷ ms)) k class ≡ classes_match m.class (Some class)
+  starts_here = grind (arith, eq-eqb)
+
+  starts_later : k ≢ at
+      → has_other_case_at (offsets at (m ∷ ms)) k class ≡ has_other_case_at (offsets (suc at) ms) k class
+  starts_later = grind (arith, ne_eqb)
+
 stands_here : (ms : List Member) (at i k : ℕ) (class : CharClass) → at + i ≡ k
     → has_other_case_at (offsets at ms) k class ≡ classes_match (class_here ms i) (Some class)
 stands_here [] at i k class e = refl
-stands_here (m ∷ ms) at zero k class e = grind (arith, eq-eqb, none_before)
-stands_here (m ∷ ms) at (suc i) k class e = grind (arith, ne_eqb, stands_here ms (suc at) i k class (omega arith))
+stands_here (m ∷ ms) at zero k class e =
+    starts_here m ms at k class (omega arith) (none_before ms (suc at) k class (omega arith))
+stands_here (m ∷ ms) at (suc i) k class e =
+    starts_later m ms at k class (omega arith) ∙ stands_here ms (suc at) i k class (omega arith)
 
 all_paired-more : (i : ℕ) (from : List Member) (t : Member) (to : List Member)
     → all_paired (drop i from) (t ∷ to)
@@ -222,8 +253,7 @@ all_paired-more (suc i) (f ∷ from) t to = all_paired-more i _ t to
 paired_first : (from : List Member) (i : ℕ) (o : Option CharClass) (later : List (ℕ × CharClass))
     → are_paired (offsets 0 from) (offset_of i o ++ later)
     ≡ (classes_match (class_here from i) o && are_paired (offsets 0 from) later)
-paired_first from i None later = cc
-paired_first from i (Some c) later = grind (arith, stands_here)
+paired_first = grind (arith, stands_here)
 
 pub paired_from : (from to : List Member) (i : ℕ) → are_paired (offsets 0 from) (offsets i to)
     ≡ all_paired (drop i from) to
@@ -238,13 +268,13 @@ length-table : {X : Type 0} (f : ℕ → X) → length (map f all_bytes) ≡ 256
 unfolding all_bytes
 length-table f = length-map-range_with_len f 0 256
 
-pub get_or-table : {X : Type 0} (f : ℕ → X) (i : ℕ) (d : X) → i < 256 → get_or (map f all_bytes) i d ≡ f i
+pub table_at : {X : Type 0} (f : ℕ → X) (i : ℕ) (d : X) → i < 256 → get_or (map f all_bytes) i d ≡ f i
 unfolding all_bytes
-get_or-table f i d h = get_or-map-range_with_len f 0 256 i i d h (omega arith)
+table_at f i d h = get_or-map-range_with_len f 0 256 i i d h (omega arith)
 
 pub same_table : {X : Type 0} (xs : List X) (f : ℕ → X) (d : X) → length xs ≡ 256
     → ((i : ℕ) → i < 256 → get_or xs i d ≡ f i) → xs ≡ map f all_bytes
-same_table xs f d n h = search (rules, same_lists, length-table, get_or_default, get_or-table)
+same_table xs f d n h = search (rules, same_lists, length-table, get_or_default, table_at)
 
 pub none_contained : replicate 256 false ≡ map (λ b. has_byte b []) all_bytes
 none_contained = same_table _ _ _ (length-replicate 256 false) (λ i h. get_or-replicate 256 i false false h)
@@ -252,7 +282,7 @@ none_contained = same_table _ _ _ (length-replicate 256 false) (λ i h. get_or-r
 set-table : {X : Type 0} (f g : ℕ → X) (i : ℕ) (v : X) → g i ≡ v → ((k : ℕ) → k ≢ i → g k ≡ f k)
     → set (map f all_bytes) i v ≡ map g all_bytes
 set-table f g i v e others =
-    same_table _ g v (length-set _ i v ∙ length-table f) (grind (usual, get_or-table))
+    same_table _ g v (length-set _ i v ∙ length-table f) (grind (usual, table_at))
 
 -- ---- appending a byte
 
@@ -300,7 +330,7 @@ others_below-more bytes n t low e = filter_more _ _ n 0 (omega (arith, length-al
 
 get_or-has : (contents : Contents) (bytes : List ℕ) (b : ℕ) (d : Bool) → b < 256 → contents ≡ contents_of bytes
     → get_or contents.has b d ≡ has_byte b bytes
-get_or-has contents bytes b d h e = rw e (get_or-table _ b d h)
+get_or-has contents bytes b d h e = rw e (table_at _ b d h)
 
 pub complement-around : (bytes : List ℕ) (b : ℕ) → b < 256 → has_byte b bytes ≡ false
     → (rest : List ℕ) × (complement_of bytes ≡ others_below bytes b ++ b ∷ rest)
@@ -519,7 +549,7 @@ module _ {from to : List Member} {old : Images} (p : IsPassing from to old) wher
   pub passing-copies : (second : Bytes) (bytes : List ℕ)
       → bytes_left old.second ≡ AllOk (plain_members bytes) ++ bytes_left second
       → IsPassing from to (record { table = old.table; second = second; last = old.last })
-  passing-copies second bytes s = grind (arith, plain-passed)
+  passing-copies = grind (arith, plain-passed)
 
   pub passing-end : bytes_left old.second ≡ [] → all_paired from to ≡ true
   passing-end s = p.decides ∙ by_rest p.rest (sym p.left ∙ s)

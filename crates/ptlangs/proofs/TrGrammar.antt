@@ -9,7 +9,7 @@ use proofs.Common.{Bool, CharClass, Err, List, None, Ok, Option, Result, Segment
 use proofs.Common.{SetRole, Some, SpellsChars, [], ap, arith, byte_of, chars, chars_after, usual, cond, cond_both}
 use proofs.Common.{digits_value, drop, drop_all, drop_more, false, get_or, is_ascii_digit, is_fill, length, ltb-true}
 use proofs.Common.{map, ne_eqb, refl, rules, segments, sequence, set_elements, slice_get, subst, suc, sym, take, true}
-use proofs.Common.{value, zero, ℕ, ◌*◌, ◌++◌, ◌+◌, ◌-◌, ◌<◌, ◌||◌, ◌∙◌, ◌∷◌, ◌≡◌, ◌≢◌, ◌≤◌}
+use proofs.Common.{cons_ok, zero, ℕ, ◌*◌, ◌++◌, ◌+◌, ◌-◌, ◌<◌, ◌||◌, ◌∙◌, ◌∷◌, ◌≡◌, ◌≢◌, ◌≤◌}
 use specs.TrChars.{AChar, ALargeOctal, ALoneBackslash, APlainByte, AnEscape, AnOctal, Escaped, IsOctalRun, OneDigit}
 use specs.TrChars.{ThreeDigits, TwoDigits, is_octal_digit, octal_run, Invalid, NoChar, Plain, SpellsChar}
 use specs.TrChars.{after_backslash, char_at, octal}
@@ -49,7 +49,7 @@ too_large = search (rules, digits_value-take-le)
 pub number_step : (base : ℕ) (ds : List ℕ) (i value digit : ℕ) → i < length ds → base ≤ 10
     → digit_value (get_or ds i 0) < base → value ≡ digits_value base (take i ds) → digit ≡ get_or ds i 0 - 48
     → value * base + digit ≡ digits_value base (take (i + 1) ds)
-number_step base ds i value digit h ten below v d = search (rules, digit_from_value, digits_value_more)
+number_step = search (rules, digit_from_value, digits_value_more)
 
 pub length-octal_run : (bs : List ℕ) → length (octal_run bs) ≤ length bs
 length-octal_run bs = grind (usual, length-prefix_len is_octal_digit (take 3 bs), length-take 3 bs)
@@ -123,9 +123,7 @@ chars_are bs us (AChar ds rest u more s others) = cc (char_is ds u _ s, chars_ar
 
 run_spelled : (a : ℕ) (more : List ℕ) → is_octal_digit a ≡ true
     → IsOctalRun (octal_run (a ∷ more)) (drop (length (octal_run (a ∷ more))) (a ∷ more))
-run_spelled a [] ha = grind (arith, OneDigit)
-run_spelled a (b ∷ []) ha = grind (arith, TwoDigits, OneDigit)
-run_spelled a (b ∷ c ∷ more) ha = grind (arith, TwoDigits, OneDigit, ThreeDigits)
+run_spelled = grind (arith, TwoDigits, OneDigit, ThreeDigits)
 
 escape_spelled : (bs : List ℕ) → SpellsChar (92 ∷ bs) (after_backslash bs).0 (drop (after_backslash bs).1 bs)
 escape_spelled [] = ALoneBackslash
@@ -167,7 +165,7 @@ pub ruleset after_plain_steps = (after_plain-here, after_plain-other, after_plai
 -- ---- a run of plain bytes
 
 chars-plain : (b : ℕ) (bs : List ℕ) → b ≢ 92 → chars (b ∷ bs) ≡ Plain b ∷ chars bs
-chars-plain b bs n = search rules
+chars-plain = search rules
 
 plain_run-chars : (test : ℕ → Bool) → test 92 ≡ false → (bs : List ℕ)
     → plain_run test (chars bs) ≡ take_while test bs
@@ -205,8 +203,8 @@ list_all-plain_run : (test : ℕ → Bool) (us : List SetChar) → list_all test
 list_all-plain_run test [] = refl
 list_all-plain_run test (u ∷ us) = grind (arith, list_all-plain_run test us)
 
-pub AllPass-run : (test : ℕ → Bool) (bs : List ℕ) (us : List SetChar) → bs ≡ plain_run test us → AllPass test bs
-AllPass-run test bs us e = AllPass-from_list_all test bs (rw e (list_all-plain_run _ us))
+pub run_passes : (test : ℕ → Bool) (bs : List ℕ) (us : List SetChar) → bs ≡ plain_run test us → AllPass test bs
+run_passes test bs us e = AllPass-from_list_all test bs (rw e (list_all-plain_run _ us))
 
 -- ---- from the computed elements to the grammar
 
@@ -252,14 +250,14 @@ name_found (c ∷ name) us t =
     (with_rest (Class (class_named (c ∷ name))) o)) 58 93 us _ (λ rest. AClass c name rest t)
 
 class_starts : (us : List SetChar) → StartsFound (Plain 91 ∷ us) (class_at us)
-class_starts us = grind (arith, run_split, name_found, list_all-plain_run)
+class_starts = grind (arith, run_split, name_found, list_all-plain_run)
 
 equivalence_found : (u : SetChar) (v : ℕ) (us : List SetChar) → DenotesByte u v
     → StartsFound (Plain 91 ∷ Plain 61 ∷ u ∷ us) (with_rest (Equivalence v) (after_two 61 93 us))
 equivalence_found = grind (arith, AnEquivalence)
 
 equivalence_starts : (us : List SetChar) → StartsFound (Plain 91 ∷ us) (equivalence_at us)
-equivalence_starts us = grind (arith, by_unit)
+equivalence_starts = grind (arith, by_unit)
   where
     by_unit : (more : List SetChar) → StartsFound (Plain 91 ∷ Plain 61 ∷ more) (equivalence_after_equals more)
     by_unit [] = tt
@@ -268,7 +266,7 @@ equivalence_starts us = grind (arith, by_unit)
     by_unit (Invalid k ∷ more) = tt
 
 bracketed_starts : (us : List SetChar) → StartsFound us (bracketed_at us)
-bracketed_starts us = grind (usual, repeat_starts, class_starts, equivalence_starts)
+bracketed_starts = grind (usual, repeat_starts, class_starts, equivalence_starts)
 
 -- ---- from the grammar to the computed elements
 
@@ -297,7 +295,7 @@ bracketed_at-StartsBracketed us p rest (AClass c name more t) =
 bracketed_at-StartsBracketed us p rest (AnEquivalence u v more m) = grind (arith, byte_of-DenotesByte)
 
 bracketed_at-none : (us : List SetChar) → bracketed_at us ≡ None → ¬ HasBracketed us
-bracketed_at-none us e (p, rest, f) = cc (bracketed_at-StartsBracketed us p _ f)
+bracketed_at-none = grind (arith, bracketed_at-StartsBracketed)
 
 bracketed_at-unless : (us : List SetChar) → ¬ HasBracketed us → bracketed_at us ≡ None
 bracketed_at-unless = grind (arith, bracketed_starts)
@@ -471,6 +469,15 @@ first_set_element-faulty us k (ADescendingRange u v a b rest n m w h) =
       omega arith,
     )
 
+heads : {A : Type 0} {x y : A} {xs ys : List A} → x ∷ xs ≡ y ∷ ys → (x ≡ y) × (xs ≡ ys)
+heads e = (cc, cc)
+
+same_err : {A : Type 0} {j k : SetFaultKind} → ◌≡◌ {A = Result A SetFaultKind} (Err j) (Err k) → j ≡ k
+same_err e = cc
+
+rest_fails : {A E : Type 0} (x : A) (r : Result (List A) E) {k : E} → cons_ok x r ≡ Err k → r ≡ Err k
+rest_fails = grind arith
+
 module _ (role : SetRole) where
   pub fault_is : (has_fill : Bool) (us : List SetChar) {k : SetFaultKind} → FirstFault role has_fill us k
       → sequence (segments role has_fill (set_elements us)) ≡ Err k
@@ -484,19 +491,21 @@ module _ (role : SetRole) where
 
   pub is_fault : (xs : List (Result SetElement SetFaultKind)) (has_fill : Bool) (us : List SetChar) (k : SetFaultKind)
       → set_elements us ≡ xs → sequence (segments role has_fill xs) ≡ Err k → FirstFault role has_fill us k
-  is_fault [] has_fill us k all e = cc
-  is_fault (y ∷ ys) has_fill [] k all e = cc
-  is_fault (Err j ∷ ys) has_fill (u ∷ us) k all e = by_first u us (grind arith)
+  is_fault [] has_fill us k all e = absurd (cc)
+  is_fault (y ∷ ys) has_fill [] k all e = absurd (cc)
+  is_fault (Err j ∷ ys) has_fill (u ∷ us) k all e = by_first u us
+      (λ p rest b is.
+      let both = heads (sym is ∙ all) in absurd (cc))
       (λ i b is.
-      let both = sym all ∙ is in
-      let same : i ≡ k = cc in
-      NoElement has_fill _ k (grind arith))
+      let (same, none) = heads (sym is ∙ all) in
+      NoElement has_fill _ k (subst (StartsInvalid _) (same_err same ∙ same_err e) b))
   is_fault (Ok q ∷ ys) has_fill (u ∷ us) k all e = by_first u us
       (λ p rest b is.
+      let (first, others) = heads (sym is ∙ all) in
       let same : p ≡ q = cc in
       let begins = subst (λ (x : SetElement). StartsElement (u ∷ us) x rest) same b in
       by_result _
-      (λ x got. LaterFault has_fill _ rest q x k begins got (is_fault ys _ _ k (cc) (grind arith)))
-      (λ j got.
-      let last : j ≡ k = cc in NoSegment has_fill _ rest q k begins (got ∙ ap Err last)))
-      (grind arith)
+      (λ x got. LaterFault has_fill _ rest q x k begins got (is_fault ys _ _ k others (rest_fails x _ (rw got at e))))
+      (λ j got. NoSegment has_fill _ rest q k begins (got ∙ ap Err (same_err (rw got at e)))))
+      (λ i b is.
+      let both = heads (sym is ∙ all) in absurd (cc))

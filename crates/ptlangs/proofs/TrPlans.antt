@@ -5,7 +5,7 @@ use proofs.Common.{Bool, Contents, Delete, DeleteSqueeze, Err, First, Form, List
 use proofs.Common.{Segment, SetChar, SetElement, SetFault, SetFaultKind, SetRole, Some, Squeeze, [], all_bytes}
 use proofs.Common.{all_paired, and_then, ap, arith, array, byte_of, chars, chars_after, cond, cons_ok, contents_of}
 use proofs.Common.{false, first_array, first_members, image_by, in_string, length, map, marked_array, member_bytes}
-use proofs.Common.{member_results, ok_map, plan, plan_of, refl, replicate, result_map_both, rules, segments}
+use proofs.Common.{member_results, ok_map, plan, plan_of, refl, replicate, result_map_both, segments}
 use proofs.Common.{segments_of, sequence, string_segments, suc, sym, tables, true, zero, ℕ, ◌-◌, ◌∙◌, ◌∷◌, ◌≡◌, ◌≢◌}
 use proofs.TrArrays.{answer_of, class_offsets-are, member_bytes-array, none_contained, paired-plain, paired_from}
 use proofs.TrArrays.{string-ok}
@@ -27,8 +27,7 @@ mapped_ok = grind arith
 valid-paired : (form : Form) (complement : Bool) (firsts ps : List Segment) (n : ℕ) → (form ≡ DeleteSqueeze → ⊥)
     → has_valid_classes form complement (class_offsets 0 0 firsts) (class_offsets n 0 ps)
     ≡ all_paired (first_members complement firsts) (marked_array n ps)
-valid-paired form true firsts ps n other = search (rules, paired-plain)
-valid-paired form false firsts ps n other = search (rules, class_offsets-are, paired_from)
+valid-paired = grind (arith, class_offsets-are, paired-plain, paired_from)
 
 -- the tables of a form that translates
 abbrev pub translating : List Bool → List ℕ → Tables

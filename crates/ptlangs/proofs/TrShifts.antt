@@ -56,7 +56,7 @@ are_from b (image ∷ images) = grind (arith, weaker, are_from (b + 1) images)
 -- a byte has no effect on those above it
 above : (b j image : ℕ) (images : List ℕ) → b < j
     → moved (stretches_from b (image ∷ images)) j ≡ moved (stretches_from (b + 1) images) j
-above b j image images low = grind arith
+above = grind arith
 
 pub moves_by : (b k : ℕ) (images : List ℕ) → k < length images
     → moved (stretches_from b images) (b + k) ≡ shift_of (b + k) (get_or images k 0)

@@ -59,18 +59,16 @@ fill_line old now new _ _ _ _ within short begun last =
         ∙ sym (grind usual))
         (search (rules, advance_ok_trans))
 
-pub fill_eof : (old now new : Reader) (before so_far after : Slots) (slot : ℕ) (empty : Bool)
+pub fill_eof : (old now new : Reader) (before so_far after : Slots) (slot : ℕ)
     → slot < length before.lines → old.pulled < 2 ^ 63 → LineSoFar old now before so_far slot → AdvanceOk now new []
-    → IsDone new → after ≡ so_far → empty ≡ (length (line after slot) == 0)
-    → FillPost old new before after slot (Ok (not empty))
-fill_eof old now new before so_far after slot empty within short begun advance_ok done same is =
+    → IsDone new → after ≡ so_far → FillPost old new before after slot (Ok (not (length (line after slot) == 0)))
+fill_eof old now new before so_far after slot within short begun advance_ok done same =
     grind (arith, line_of_with_line, by_piece)
   where
     by_piece : (piece : List ℕ) → AdvanceOk old new piece → IsLine old.terminator piece
-        → after ≡ with_line before slot piece → empty ≡ (length piece == 0)
-        → FillPost old new before after slot (Ok (not empty))
-    by_piece [] g w s t = grind arith
-    by_piece (x ∷ piece) g w s t = search rules
+        → after ≡ with_line before slot piece → FillPost old new before after slot (Ok (not (length piece == 0)))
+    by_piece [] g w s = grind arith
+    by_piece (x ∷ piece) g w s = search rules
 
 -- `front` begins with the buffered bytes. The line before the terminator among its first `n` bytes was copied at once.
 module _ (n : ℕ) (old new : Reader) (block front : List ℕ) (start end size : ℕ) (before after : Slots) (slot : ℕ) where

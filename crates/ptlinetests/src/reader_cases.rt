@@ -2,8 +2,7 @@
 
 use crate::asserts::same_of;
 use crate::reader_steps::{END, FAULT, Input, LINE, NO_BLOCK, SIZES, Step, reader_of, run_steps};
-use ptlines::LineFault;
-use std::alloc::Global;
+use ptlines::Store;
 use std::cell::Cell;
 use std::process::Abort;
 use std::test::Fail;
@@ -434,14 +433,13 @@ const STANDARDS: &[Case] = &[
     },
 ];
 
-fn runs(rt: &impl Abort, alloc: Global, case: &Case, size: usize) -> Result<(), LineFault> {
+fn runs(rt: &impl Abort, store: &mut Store, case: &Case, size: usize) {
     let pulls = Cell::new(0);
     let mut reader = reader_of(&case.input, case.text, (size, case.ok_calls), &pulls);
     let is_refused = matches!(&case.input, Input::Refused);
     same_of(rt, &case.name, &reader.is_refused(), &is_refused);
-    let outcome = run_steps(rt, alloc, case.name, &mut reader, &pulls, case.steps);
+    run_steps(rt, case.name, &mut reader, store, &pulls, case.steps);
     same_of(rt, &case.name, &reader.is_refused(), &is_refused);
-    outcome
 }
 
 #[test]
@@ -449,7 +447,8 @@ fn reader_step_by_step(rt: HostRuntime) -> Result<(), Fail> {
     for cases in [FILES, STANDARDS] {
         for case in cases {
             for size in case.sizes {
-                runs(&rt, rt.alloc(), case, *size)?;
+                let mut store = Store::new(rt.alloc(), 1)?;
+                runs(&rt, &mut store, case, *size);
             }
         }
     }

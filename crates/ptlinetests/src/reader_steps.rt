@@ -3,7 +3,7 @@
 use crate::asserts::{holds_of, same_of};
 use ptfakes::{ChunkedSource, CountedSource};
 use ptlines::{LineFault, LineReader, Source, Store};
-use std::alloc::{Allocator, Global};
+use std::alloc::Allocator;
 use std::cell::Cell;
 use std::process::Abort;
 
@@ -27,10 +27,12 @@ pub fn reader_of<'a>(
     (size, ok_calls): (usize, u64),
     pulls: &'a Cell<u64>,
 ) -> Reader<'a> {
-    let source = ChunkedSource::new(text, size, ok_calls);
     match input {
-        Input::File => LineReader::file(source),
-        Input::Standard => LineReader::standard(CountedSource::new(source, pulls)),
+        Input::File => LineReader::file(ChunkedSource::new(text, size, ok_calls)),
+        Input::Standard => {
+            let source = ChunkedSource::new(text, size, ok_calls);
+            LineReader::standard(CountedSource::new(source, pulls))
+        }
         Input::Refused => LineReader::refused(),
     }
 }
@@ -111,22 +113,20 @@ pub fn ends<S: Source, R: Source, A: Allocator + Copy>(
     same_of(rt, of, &current(rt, store).len(), &0);
 }
 
-/// Returns the length of the block.
-pub fn shows<S: Source, R: Source>(reader: &mut LineReader<S, R>) -> Result<usize, LineFault> {
-    Ok(reader.block()?.len())
-}
-
-// Whether `block` returns these bytes; then consumes `count` of them.
-fn shown<S: Source, R: Source>(
+/// Expects a block that begins with `text`, or with which `text` begins; consumes at most `most` bytes of it, and
+/// returns its length.
+pub fn shows<S: Source, R: Source>(
+    rt: &impl Abort,
+    of: &(&str, usize),
     reader: &mut LineReader<S, R>,
-    wanted: &[u8],
-    count: usize,
-) -> Result<bool, LineFault> {
+    text: &[u8],
+    most: usize,
+) -> Result<usize, LineFault> {
     let block = reader.block()?;
-    let is_shown = block == wanted;
-    let count = count.min(block.len());
-    reader.consume(count);
-    Ok(is_shown)
+    let length = block.len();
+    holds_of(rt, of, block.starts_with(text) || text.starts_with(block));
+    reader.consume(length.min(most));
+    Ok(length)
 }
 
 // Makes the call of a step, and checks its result.
@@ -143,7 +143,10 @@ fn takes<S: Source, R: Source, A: Allocator + Copy>(
         holds_of(rt, of, reader.buffered() == buffered);
     }
     let outcome = match step.passed {
-        Some(count) => shown(reader, step.bytes, count),
+        Some(most) => match shows(rt, of, reader, step.bytes, most) {
+            Ok(length) => Ok(length == step.bytes.len()),
+            Err(fault) => Err(fault),
+        },
         // (the slot has these bytes also if the call fails)
         None => {
             let outcome = next(rt, reader, store);
@@ -158,22 +161,20 @@ fn takes<S: Source, R: Source, A: Allocator + Copy>(
     holds_of(rt, of, !store.denied());
 }
 
-/// Makes the calls of these steps in order, and checks their results.
+/// Makes the calls of these steps in order, with a new store of one slot, and checks their results.
 pub fn run_steps<S: Source, R: Source>(
     rt: &impl Abort,
-    alloc: Global,
     name: &str,
     reader: &mut LineReader<S, R>,
+    store: &mut Store,
     pulls: &Cell<u64>,
     steps: &[Step<'_>],
-) -> Result<(), LineFault> {
-    let mut store = Store::new(alloc, 1)?;
+) {
     for (number, step) in steps.iter().enumerate() {
         let of = (name, number);
-        takes(rt, &of, reader, &mut store, step);
+        takes(rt, &of, reader, store, step);
         // (if no count is expected, the count is compared with itself)
         let pulled = step.pulled.unwrap_or(pulls.get());
         same_of(rt, &of, &pulls.get(), &pulled);
     }
-    Ok(())
 }

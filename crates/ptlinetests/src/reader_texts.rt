@@ -31,23 +31,19 @@ fn pulls_of(text: &[u8], size: usize) -> u64 {
 // Reads the lines of a text in chunks of this size, and then twice the end of input.
 fn reads(
     rt: &impl Abort,
+    reader: &mut Reader<'_>,
     store: &mut Store,
+    pulls: &Cell<u64>,
     (text, size): (&[u8], usize),
-    zero: bool,
     lengths: &[usize],
 ) {
-    let pulls = Cell::new(0);
-    let mut reader = reader_of(&Input::Standard, text, (size, u64::MAX), &pulls);
-    if zero {
-        reader.set_ending(true);
-    }
     for length in lengths {
         let of = (*length, size);
-        same_of(rt, &of, &next(rt, &mut reader, store), &Ok(true));
+        same_of(rt, &of, &next(rt, reader, store), &Ok(true));
         holds_of(rt, &of, is_line(current(rt, store), *length));
     }
     for _ in 0..2 {
-        ends(rt, &("lengths", size), &mut reader, store);
+        ends(rt, &("lengths", size), reader, store);
         same_of(rt, &size, &pulls.get(), &pulls_of(text, size));
     }
 }
@@ -62,22 +58,27 @@ fn reads_text(
     let text = text_of(alloc, lengths, if zero { 0 } else { b'\n' }, terminated)?;
     for size in SIZES {
         let mut store = Store::new(alloc, 1)?;
+        let pulls = Cell::new(0);
+        let mut reader = reader_of(&Input::Standard, &text, (*size, u64::MAX), &pulls);
+        reader.set_ending(zero);
         let lengths = line_lengths(lengths, terminated);
-        reads(rt, &mut store, (&text, *size), zero, lengths);
+        reads(rt, &mut reader, &mut store, &pulls, (&text, *size), lengths);
     }
     Ok(())
 }
 
+fn is_repeated(line: &[u8], byte: u8) -> bool {
+    line.iter().all(|other| *other == byte)
+}
+
 // One line of a million bytes.
-fn has_long(
-    rt: &impl Abort,
-    reader: &mut LineReader<RepeatedByte, RepeatedByte>,
-    store: &mut Store,
-) {
-    same(rt, &next(rt, reader, store), &Ok(true));
+fn has_long(rt: &impl Abort, store: &mut Store) {
+    let source = RepeatedByte::new(b'a', 1_000_000, usize::MAX, u64::MAX);
+    let mut reader: LineReader<RepeatedByte, RepeatedByte> = LineReader::file(source);
+    same(rt, &next(rt, &mut reader, store), &Ok(true));
     same(rt, &current(rt, store).len(), &1_000_000);
-    assert!(rt; current(rt, store).iter().all(|byte| *byte == b'a'));
-    ends(rt, &("long", 0), reader, store);
+    assert!(rt; is_repeated(current(rt, store), b'a'));
+    ends(rt, &("long", 0), &mut reader, store);
     same(rt, &(store.peak(), store.now()), &(1_000_000, 0));
 }
 
@@ -89,39 +90,27 @@ fn lines_in_pieces_and_a_very_long_one(rt: HostRuntime) -> Result<(), Fail> {
         }
     }
     let mut store = Store::new(rt.alloc(), 1)?;
-    let mut reader = LineReader::file(RepeatedByte::new(b'a', 1_000_000, usize::MAX, u64::MAX));
-    has_long(&rt, &mut reader, &mut store);
+    has_long(&rt, &mut store);
     Ok(())
-}
-
-// Consumes the next bytes, at most `step`, which must be the next ones of the text, and returns how many.
-fn passes(
-    rt: &impl Abort,
-    reader: &mut Reader<'_>,
-    step: usize,
-    left: &[u8],
-) -> Result<usize, LineFault> {
-    let block = reader.block()?;
-    let count = block.len().min(step);
-    assert!(rt; block.len() <= 8192 && left.starts_with(&block[..count]));
-    reader.consume(count);
-    Ok(count)
 }
 
 // Consumes a text block by block, at most `step` bytes at a time.
 fn pass_all(
     rt: &impl Abort,
+    of: &(&str, usize),
     reader: &mut Reader<'_>,
     step: usize,
     text: &[u8],
 ) -> Result<(), LineFault> {
     let mut left = text;
     for _ in 0..100_000 {
-        let count = passes(rt, reader, step, left)?;
+        let next = &left[..step.min(left.len())];
+        let length = shows(rt, of, reader, next, step)?;
+        let count = length.min(step);
         if count == 0 {
             break;
         }
-        assert!(rt; count <= left.len());
+        assert!(rt; length <= 8192 && count <= left.len());
         left = &left[count..];
     }
     assert!(rt; left.is_empty());
@@ -132,9 +121,14 @@ fn pass_all(
 fn shows_all(rt: &impl Abort, text: &[u8], size: usize, step: usize) {
     let pulls = Cell::new(0);
     let mut reader = reader_of(&Input::Standard, text, (size, u64::MAX), &pulls);
-    let passed = pass_all(rt, &mut reader, step, text);
-    let of = (text.len(), size);
-    same_of(rt, &of, &(passed, shows(&mut reader)), &(Ok(()), Ok(0)));
+    let of = ("blocks", size);
+    same_of(
+        rt,
+        &of,
+        &pass_all(rt, &of, &mut reader, step, text),
+        &Ok(()),
+    );
+    same_of(rt, &of, &shows(rt, &of, &mut reader, b"", 0), &Ok(0));
     same_of(rt, &of, &pulls.get(), &pulls_of(text, size));
 }
 
@@ -162,61 +156,52 @@ fn blocks_in_pieces(rt: HostRuntime) -> Result<(), Fail> {
 // whether a request failed.
 fn reads_while_it_grows(
     rt: &impl Abort,
-    alloc: &FailingAlloc<Global>,
     reader: &mut Reader<'_>,
+    store: &mut Store<&FailingAlloc<Global>>,
     pulls: &Cell<u64>,
-) -> Result<bool, LineFault> {
-    let mut store = Store::new(alloc, 1)?;
-    let filled = next(rt, reader, &mut store);
-    let count = current(rt, &store).len();
-    assert!(rt; is_line(current(rt, &store), count));
-    let is_denied = store.denied();
+) -> bool {
+    let filled = next(rt, reader, store);
+    let count = current(rt, store).len();
+    assert!(rt; is_line(current(rt, store), count));
+    if !store.denied() {
+        same(rt, &(filled, count), &(Ok(true), 20000));
+        return false;
+    }
+    let pulled = pulls.get();
     same(
         rt,
-        &filled,
-        &if is_denied {
-            Err(LineFault::Memory)
-        } else {
-            Ok(true)
-        },
+        &(filled, count < 20000),
+        &(Err(LineFault::Memory), true),
     );
-    same(rt, &(count < 20000), &is_denied);
-    if is_denied {
-        let pulled = pulls.get();
-        for _ in 0..2 {
-            let fault = LineFault::Memory;
-            same(rt, &next(rt, reader, &mut store), &Err(fault));
-            same(rt, &shows(reader), &Err(fault));
-        }
-        same(
-            rt,
-            &(current(rt, &store).len(), pulls.get()),
-            &(count, pulled),
-        );
+    for _ in 0..2 {
+        same(rt, &next(rt, reader, store), &Err(LineFault::Memory));
+        let shown = shows(rt, &("denied", count), reader, b"", 0);
+        same(rt, &shown, &Err(LineFault::Memory));
     }
-    Ok(is_denied)
+    let left = (current(rt, store).len(), pulls.get());
+    same(rt, &left, &(count, pulled));
+    true
 }
 
-// Reads such a line after which the request number `ok_calls` fails, and returns whether one failed.
-fn fails_after(
+// Reads such a line with an allocator of which one request fails, and returns whether that one is made for the line.
+fn reads_long(
     rt: &impl Abort,
-    alloc: Global,
+    alloc: &FailingAlloc<Global>,
     text: &[u8],
-    ok_calls: u64,
 ) -> Result<bool, LineFault> {
-    let refusing = FailingAlloc::after(alloc, ok_calls);
+    let mut store = Store::new(alloc, 1)?;
     let pulls = Cell::new(0);
     let mut reader = reader_of(&Input::Standard, text, (usize::MAX, u64::MAX), &pulls);
-    let denied = reads_while_it_grows(rt, &refusing, &mut reader, &pulls);
-    same(rt, &refusing.refused(), &(denied != Ok(false)));
-    denied
+    Ok(reads_while_it_grows(rt, &mut reader, &mut store, &pulls))
 }
 
 // Lets each of the first requests fail in turn while a line is read, and returns how often the line was cut short.
 fn count_failures(rt: &impl Abort, alloc: Global, text: &[u8]) -> u32 {
     let mut refused = 0u32;
     for ok_calls in 0..30 {
-        let denied = fails_after(rt, alloc, text, ok_calls);
+        let refusing = FailingAlloc::after(alloc, ok_calls);
+        let denied = reads_long(rt, &refusing, text);
+        same_of(rt, &ok_calls, &refusing.refused(), &(denied != Ok(false)));
         // The first two requests are for the slot and its buffer.
         let is_first = denied == Err(LineFault::Memory);
         same_of(rt, &ok_calls, &is_first, &(ok_calls < 2));

@@ -3,7 +3,7 @@
 use crate::asserts::{holds_of, same, same_of};
 use crate::fake_cases::{Pull, pulls};
 use crate::reader_steps::{END, FAULT, LINE, Step, run_steps};
-use ptlines::{Failed, FromRead, FromWrite, LineReader, Out, Sink, WriteFault};
+use ptlines::{Failed, FromRead, FromWrite, LineReader, Out, Sink, Store, WriteFault};
 use std::alloc::Global;
 use std::cell::Cell;
 use std::io::{self, ErrorKind, Read, Write};
@@ -95,25 +95,27 @@ const OF_SLICE: &[Pull] = &[(Ok(1), b"x---"), (Ok(0), b"----")];
 // Covers each kind of result of a reader: bytes, the end of input, and a failure.
 #[test]
 fn readers_of_std_are_sources(rt: HostRuntime) -> Result<(), Fail> {
-    let pulled = Cell::new(0);
+    let mut store = Store::new(rt.alloc(), 1)?;
+    let mut other = Store::new(rt.alloc(), 1)?;
+    let uncounted = Cell::new(0);
     let mut reader: Through<&[u8]> = LineReader::standard(FromRead::new(b"ab\n\ncd".as_slice()));
     run_steps(
         &rt,
-        rt.alloc(),
         "to the end",
         &mut reader,
-        &pulled,
+        &mut store,
+        &uncounted,
         TO_THE_END,
-    )?;
+    );
     let mut reader: Through<Broken<'_>> = LineReader::file(FromRead::new(Broken(b"ab\ncd")));
     run_steps(
         &rt,
-        rt.alloc(),
         "to a fault",
         &mut reader,
-        &pulled,
+        &mut other,
+        &uncounted,
         TO_A_FAULT,
-    )?;
+    );
     pulls(&rt, &mut FromRead::new(Broken(b"abc")), OF_BROKEN);
     pulls(&rt, &mut FromRead::new(b"x".as_slice()), OF_SLICE);
     Ok(())

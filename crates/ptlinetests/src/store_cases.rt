@@ -30,11 +30,13 @@ type Row = (Step, Lines, Lines);
 // For an operation that requests no memory.
 const NONE: Lines = (&[], 0);
 
-// A name, the number of slots, and the operations in order.
-const CASES: &[(&str, usize, &[Row])] = &[
+// A name, the slots of a new store, and the operations in order.
+type Case = (&'static str, &'static [&'static [u8]], &'static [Row]);
+
+const CASES: &[Case] = &[
     (
         "slots hold lines",
-        3,
+        &[b"", b"", b""],
         &[
             (Step::Hold(0, b"abc"), (&[b"abc", b"", b""], 3), NONE),
             (Step::Hold(2, b"xy"), (&[b"abc", b"", b"xy"], 5), NONE),
@@ -48,7 +50,7 @@ const CASES: &[(&str, usize, &[Row])] = &[
     ),
     (
         "slots are copied and added",
-        3,
+        &[b"", b"", b""],
         &[
             (Step::Hold(1, b"xy"), (&[b"", b"xy", b""], 2), NONE),
             (Step::Copy(1, 0), (&[b"xy", b"xy", b""], 4), NONE),
@@ -63,7 +65,7 @@ const CASES: &[(&str, usize, &[Row])] = &[
             ),
         ],
     ),
-    ("no slots", 0, &[(Step::Add, (&[b""], 0), NONE)]),
+    ("no slots", &[], &[(Step::Add, (&[b""], 0), NONE)]),
 ];
 
 // Applies an operation. Its slots exist.
@@ -101,11 +103,9 @@ fn hold(
     let mut reader: LineReader<ChunkedSource<'_>, ChunkedSource<'_>> = LineReader::standard(
         ChunkedSource::whole(line),
     );
-    let given = reader.fill(store, slot);
-    if given.is_ok() {
-        same(rt, &given, &Ok(!line.is_empty()));
-    }
-    given.map(|_| ())
+    let given = reader.fill(store, slot)?;
+    same(rt, &given, &!line.is_empty());
+    Ok(())
 }
 
 // Fails the test unless the store has these lines and is denied or not, as expected.
@@ -133,26 +133,24 @@ fn is_refused(
     rt: &impl Abort,
     of: &(&str, usize),
     store: &mut Store<Lent<'_>>,
-    step: Step,
-    refused: Lines,
+    (step, lines, refused): Row,
 ) -> bool {
     let outcome = takes(rt, store, step);
-    if outcome.is_ok() {
-        return false;
+    let is_refused = outcome.is_err();
+    if is_refused {
+        same_of(rt, of, &outcome, &Err(LineFault::Memory));
+        has(rt, of, store, refused, true);
+        same_of(rt, of, &takes(rt, store, step), &Ok(()));
     }
-    same_of(rt, of, &outcome, &Err(LineFault::Memory));
-    has(rt, of, store, refused, true);
-    same_of(rt, of, &takes(rt, store, step), &Ok(()));
-    true
+    has(rt, of, store, lines, is_refused);
+    is_refused
 }
 
-// Applies these operations until one fails, and returns how many succeeded.
-fn run_steps(rt: &impl Abort, name: &str, store: &mut Store<Lent<'_>>, rows: &[Row]) -> usize {
-    for (number, (step, lines, refused)) in rows.iter().enumerate() {
-        let of = (name, number);
-        let stops = is_refused(rt, &of, store, *step, *refused);
-        has(rt, &of, store, *lines, stops);
-        if stops {
+// Applies these operations to a new store until one fails, and returns how many succeeded.
+fn run_steps(rt: &impl Abort, store: &mut Store<Lent<'_>>, (name, slots, rows): Case) -> usize {
+    has(rt, &(name, 0), store, (slots, 0), false);
+    for (number, row) in rows.iter().enumerate() {
+        if is_refused(rt, &(name, number), store, *row) {
             return number;
         }
     }
@@ -162,35 +160,29 @@ fn run_steps(rt: &impl Abort, name: &str, store: &mut Store<Lent<'_>>, rows: &[R
 #[test]
 fn slot_operations(rt: HostRuntime) -> Result<(), Fail> {
     let alloc = FailingAlloc::after(rt.alloc(), u64::MAX);
-    for (name, slots, rows) in CASES {
-        let mut store = Store::new(&alloc, *slots)?;
-        same_of(
-            &rt,
-            name,
-            &(store.slots(), store.denied()),
-            &(*slots, false),
-        );
-        same_of(&rt, name, &(store.now(), store.peak()), &(0, 0));
-        same_of(
-            &rt,
-            name,
-            &run_steps(&rt, name, &mut store, rows),
-            &rows.len(),
-        );
+    for case in CASES {
+        let (name, slots, rows) = *case;
+        let mut store = Store::new(&alloc, slots.len())?;
+        let done = run_steps(&rt, &mut store, *case);
+        same_of(&rt, &name, &done, &rows.len());
     }
     Ok(())
 }
 
-const ADDED: &[Row] = &[(Step::Add, (&[b""], 0), (&[], 0))];
+const ADDED: Case = ("empty", &[], &[(Step::Add, (&[b""], 0), (&[], 0))]);
 
 const LONG: &[u8] = b"0123456789012345678901234567890123456789012345678901234567890123456789";
 
 // Two slots grow in every way.
-const GROWING: &[Row] = &[
-    (Step::Hold(0, LONG), (&[LONG, b""], 70), (&[b"", b""], 0)),
-    (Step::Hold(1, b"b"), (&[LONG, b"b"], 71), (&[LONG, b""], 70)),
-    (Step::Copy(0, 1), (&[LONG, LONG], 140), (&[LONG, b""], 71)),
-];
+const GROWING: Case = (
+    "growing",
+    &[b"", b""],
+    &[
+        (Step::Hold(0, LONG), (&[LONG, b""], 70), (&[b"", b""], 0)),
+        (Step::Hold(1, b"b"), (&[LONG, b"b"], 71), (&[LONG, b""], 70)),
+        (Step::Copy(0, 1), (&[LONG, LONG], 140), (&[LONG, b""], 71)),
+    ],
+);
 
 // The lines after many slots were added.
 const MANY: &[&[u8]] = &[
@@ -203,12 +195,11 @@ const MANY: &[&[u8]] = &[
 fn add_many(rt: &impl Abort, store: &mut Store<Lent<'_>>) -> bool {
     for slot in 2..40usize {
         assert!(rt; slot < MANY.len());
-        let of = ("added", slot);
-        if is_refused(rt, &of, store, Step::Add, (&MANY[..slot], 140)) {
+        let row = (Step::Add, (&MANY[..=slot], 140), (&MANY[..slot], 140));
+        if is_refused(rt, &("added", slot), store, row) {
             return true;
         }
     }
-    has(rt, &("added", 40), store, (MANY, 140), false);
     false
 }
 
@@ -227,12 +218,14 @@ fn failing_stage_of(rt: &impl Abort, alloc: Lent<'_>) -> usize {
 const NOWHERE: usize = 5;
 
 fn failing_stage(rt: &impl Abort, store: &mut Store<Lent<'_>>) -> usize {
-    has(rt, &("new", 0), store, (&[b"", b""], 0), false);
-    let done = run_steps(rt, "growing", store, GROWING);
-    if done < GROWING.len() {
-        return done.saturating_add(1);
+    let done = run_steps(rt, store, GROWING);
+    if done < 3 {
+        done.saturating_add(1)
+    } else if add_many(rt, store) {
+        4
+    } else {
+        NOWHERE
     }
-    if add_many(rt, store) { 4 } else { NOWHERE }
 }
 
 #[test]
@@ -240,9 +233,8 @@ fn each_request_fails(rt: HostRuntime) {
     // An empty store requests no memory, and then its first slot fails.
     let refusing = FailingAlloc::after(rt.alloc(), 0);
     let mut store = Store::empty(&refusing);
-    has(&rt, &("empty", 0), &store, (&[], 0), false);
     assert!(rt; !refusing.refused());
-    same(&rt, &run_steps(&rt, "empty", &mut store, ADDED), &0);
+    same(&rt, &run_steps(&rt, &mut store, ADDED), &0);
     assert!(rt; refusing.refused());
     // How many of the first requests, failing in turn, belong to each stage.
     let mut counts = [0u32; 6];

@@ -21,5 +21,8 @@ checked_command_ok tool os operands i values number strings same are =
 module _ (name : List ℕ) (words : List (List ℕ)) (tool : Tool) (os : List ParsedOption) (operands : List (List ℕ)) where
   pub meaning_refused : (found : Option Fault) → tool_of_name name ≡ Some tool → ArgsPost tool words os operands
       → found ≡ constraints_fault tool os → IsFault found (command_of_args (name ∷ words))
-  meaning_refused None named r is = tt
-  meaning_refused _ named r is = grind arith
+  meaning_refused = grind arith
+
+  pub meaning_checked : tool_of_name name ≡ Some tool → ArgsPost tool words os operands
+      → constraints_fault tool os ≡ None → command_of_args (name ∷ words) ≡ checked_command tool os operands
+  meaning_checked = grind arith

@@ -2,7 +2,7 @@
 use Rattle.ptopts.proofs
 use proofs.Common.{Comm, Cut, Input, Job, Join, List, None, ParsedOption, Paste, RunComm, RunJoin, RunPaste, RunUniq}
 use proofs.Common.{Tool, Tr, Uniq, false, input_operands, is_flag, job, length, list_all, nat_le, nat_lt, not}
-use proofs.Common.{operands_fault, order_from, refl, syntax, takes_value, true, ℕ, ⊤, ◌≡◌, arith}
+use proofs.Common.{operands_fault, order_from, syntax, takes_value, true, ℕ, ⊤, ◌≡◌, arith}
 use proofs.InputCounts.{AreTwo, few_inputs, sole_input, two_inputs}
 
 pub record IsSyntaxOf (tool : Tool) : Type 0 where
@@ -12,12 +12,7 @@ pub record IsSyntaxOf (tool : Tool) : Type 0 where
   pub ascii : list_all (λ l. nat_lt l 128) (syntax tool).value_letters ≡ true
 
 pub syntax_is : (tool : Tool) → IsSyntaxOf tool
-syntax_is Cut = record { disjoint = refl; dash_is_no_flag = refl; dash_takes_no_value = refl; ascii = refl }
-syntax_is Paste = record { disjoint = refl; dash_is_no_flag = refl; dash_takes_no_value = refl; ascii = refl }
-syntax_is Uniq = record { disjoint = refl; dash_is_no_flag = refl; dash_takes_no_value = refl; ascii = refl }
-syntax_is Comm = record { disjoint = refl; dash_is_no_flag = refl; dash_takes_no_value = refl; ascii = refl }
-syntax_is Join = record { disjoint = refl; dash_is_no_flag = refl; dash_takes_no_value = refl; ascii = refl }
-syntax_is Tr = grind arith
+syntax_is = grind arith
 
 -- the number of inputs of a job, where it is bounded
 abbrev pub AreInputsOf : Job → List Input → Type 0

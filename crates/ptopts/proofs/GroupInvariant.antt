@@ -26,7 +26,7 @@ module _ (tool : Tool) (word : List ℕ) (next : Option (List ℕ)) (before : Li
       → is_flag tool (slice_index word index) ≡ true → option_view o ≡ flag (slice_index word index)
       → new ≡ items ++ o ∷ [] → GroupRead tool word next before (options_view items) (drop index word)
       → GroupRead tool word next before (options_view new) (drop (index + 1) word)
-  flag_read _ new _ o within is seen pushed a = grind usual
+  flag_read = grind usual
 
   pub value_read : (items new : List given.ParsedOption) (index : ℕ) (o : given.ParsedOption) → index < length word
       → is_flag tool (slice_index word index) ≡ false
@@ -35,7 +35,7 @@ module _ (tool : Tool) (word : List ℕ) (next : Option (List ℕ)) (before : Li
       (value_token tool word (slice_index word index) (drop (index + 1) word) next) ≡ None
       → new ≡ items ++ o ∷ [] → GroupRead tool word next before (options_view items) (drop index word)
       → GroupPost tool word next before (options_view new) (nat_eq (index + 1) (length word))
-  value_read _ new _ o within none given fine pushed a = grind (usual, letter_first)
+  value_read = grind (usual, letter_first)
 
   pub fault_read : (items : List given.ParsedOption) (index : ℕ) (found : Option Fault) → index < length word
       → is_flag tool (slice_index word index) ≡ false
@@ -43,4 +43,4 @@ module _ (tool : Tool) (word : List ℕ) (next : Option (List ℕ)) (before : Li
       (value_token tool word (slice_index word index) (drop (index + 1) word) next)
       → GroupRead tool word next before (options_view items) (drop index word)
       → OnSome found ((tokens : List Token) → parse_fault tool before (tokens_of tool word next ++ tokens) ≡ found)
-  fault_read _ _ _ within none is a = grind (arith, letter_first)
+  fault_read = grind (arith, letter_first)

@@ -9,8 +9,7 @@ order_length n [] = refl
 order_length n (operand ∷ operands) = grind (arith, order_length n operands, order_length (n + 1) operands)
 
 one_of : (operands : List (List ℕ)) → length (take 1 (or_stdin operands)) ≡ 1
-one_of [] = refl
-one_of _ = refl
+one_of = grind arith
 
 -- `uniq` has one input
 pub sole_input : (operands : List (List ℕ)) → length (order_from 0 (take 1 (or_stdin operands))) ≡ 1
@@ -18,7 +17,7 @@ sole_input operands = order_length 0 (take 1 (or_stdin operands)) ∙ one_of ope
 
 pub few_inputs : (os : List ParsedOption) (operands : List (List ℕ)) → operands_fault Paste os operands ≡ None
     → nat_le (length (order_from 0 operands)) 512 ≡ true
-few_inputs os _ none = grind (arith, order_length)
+few_inputs = grind (arith, order_length)
 
 pub record AreTwo (order : List Input) : Type 0 where
   pub first : Input
@@ -29,7 +28,5 @@ pub record AreTwo (order : List Input) : Type 0 where
 -- `comm` and `join` have two inputs
 pub two_inputs : (operands : List (List ℕ)) → cond (not (is_within 2 2 (length operands) && true)) (Some Operands)
     (cond (list_all is_standard operands) (Some StandardTwice) None) ≡ None → AreTwo (order_from 0 operands)
-two_inputs [] none = cc
-two_inputs (a ∷ []) none = cc
 two_inputs (a ∷ b ∷ []) none = grind arith
 two_inputs _ none = grind arith

@@ -2,16 +2,17 @@
 -- takes the rest of the word or the next word as its value.
 use Rattle.ptopts.proofs
 use Rattle.std.proofs.lemmas
-use proofs.Common.{AreFlags, Bool, EndOfOptions, FaultlessIsSpelled, Flags, List, MissingValue, None, OperandsAlone}
+use proofs.Common.{AreFlags, Bool, EndOfOptions, FaultlessIsSpelled, Flags, List, None, OperandsAlone}
 use proofs.Common.{ParseMatchesGrammar, ParsedOption, Spells, Token, Tool, Valid, ValueAttached, ValueNext, []}
 use proofs.Common.{ap, append_assoc, arith, codes, false, filter_map, flag}
 use proofs.Common.{is_end_of_options, is_flag, is_option_arg, is_some, list_all, map, option_of_token}
 use proofs.Common.{options, parse_fault, parsed_args_from, refl, rules, slice_get, subst, sym, takes_next, takes_value}
-use proofs.Common.{tokens_in, true, value_token, ℕ, ⊎_elim, ◌&&◌, ◌++◌, ◌==◌, ◌∷◌, ◌≡◌, usual}
+use proofs.Common.{tokens_in, true, value_token, ℕ, ⊎_elim, ◌&&◌, ◌++◌, ◌∷◌, ◌≡◌, usual}
 use proofs.SpelledIsParsed.{spelled, takes_next-all_flags, takes_next-flags, tokens_in-all_flags, tokens_in-flags}
 use lemmas.Slice.Eq.{bytes_eq-Decides}
 use lemmas.Bool.{and_from, cases_Bool, not_from_false}
 use Rattle.ptlangs.specs.Numbers.{is_empty}
+use Rattle.ptopts.specs.Faults.{with_token}
 
 abbrev all_given : List Token → Bool
 all_given tokens = list_all (λ e. is_some (option_of_token e)) tokens
@@ -68,23 +69,14 @@ GroupIsSpelled tool word ws tokens taken =
 
 flags_spelled : (tool : Tool) (f : ℕ) (fs : List ℕ) (ws : List (List ℕ)) → AreFlags tool (f ∷ fs)
     → IsSpelled tool ws false → GroupIsSpelled tool (45 ∷ f ∷ fs) ws (map Valid (map flag (f ∷ fs))) false
-flags_spelled _ f fs ws a more given = grind (arith, all_given-prefixed, options-prefixed, Flags)
-
-not_all_given : (os : List ParsedOption) (token : Token) (tokens : List Token) → option_of_token token ≡ None
-    → all_given ((map Valid os ++ token ∷ []) ++ tokens) ≡ true → ⊥
-not_all_given [] token tokens n h = cc
-not_all_given (o ∷ os) token tokens n h = not_all_given os token tokens n h
+flags_spelled = grind (arith, all_given-prefixed, options-prefixed, Flags)
 
 valued_spelled : (tool : Tool) (fs : List ℕ) (l : ℕ) (rest : List ℕ) (ws : List (List ℕ)) → AreFlags tool fs
     → is_flag tool l ≡ false → ((taken : Bool) → IsSpelled tool ws taken)
     → GroupIsSpelled tool (45 ∷ fs ++ l ∷ rest) ws
     (map Valid (map flag fs) ++ value_token tool (45 ∷ fs ++ l ∷ rest) l rest (slice_get ws 0) ∷ [])
     (takes_value tool l && is_empty rest)
-valued_spelled tool fs l (b ∷ bs) ws a n more =
-    grind (arith, append_assoc, all_given-prefixed, options-prefixed, ValueAttached)
-valued_spelled tool fs l [] [] a n more = grind (arith, not_all_given)
-valued_spelled _ fs l [] (value ∷ ws) a n more =
-    grind (arith, append_assoc, all_given-prefixed, options-prefixed, ValueNext)
+valued_spelled = grind (arith, append_assoc, all_given-prefixed, options-prefixed, ValueAttached, ValueNext)
 
 group_spelled : (tool : Tool) {letters : List ℕ} (ws : List (List ℕ)) → is_empty letters ≡ false → Split tool letters
     → ((taken : Bool) → IsSpelled tool ws taken)
@@ -106,11 +98,7 @@ operand_spelled tool word ws ends plain = rw (ends, plain) (λ given. OperandsAl
 
 word_spelled : (tool : Tool) (word : List ℕ) (ws : List (List ℕ)) → is_end_of_options word ≡ false
     → ((taken : Bool) → IsSpelled tool ws taken) → IsSpelled tool (word ∷ ws) false
-word_spelled tool [] ws ends more = operand_spelled tool [] ws refl refl
-word_spelled tool (b ∷ []) ws ends more = operand_spelled tool (b ∷ []) ws ends ends
-word_spelled tool (b ∷ l ∷ ls) ws ends more =
-    ⊎_elim (λ dash. (grind (usual, group_spelled tool ws refl (split tool (l ∷ ls)) more)))
-    (λ none. operand_spelled tool (b ∷ l ∷ ls) ws ends (rw none refl)) (cases_Bool (b == 45))
+word_spelled = grind (usual, group_spelled, split, operand_spelled)
 
 built : (tool : Tool) (ws : List (List ℕ)) (taken : Bool) → IsSpelled tool ws taken
 built _ [] true = λ given. OperandsAlone [] refl
@@ -122,15 +110,13 @@ built tool (word ∷ ws) false =
     (λ ends. word_spelled _ _ ws ends (built _ ws)) (cases_Bool _)
 
 pub read_as_spelled : ParseMatchesGrammar
-read_as_spelled tool words os operands = grind (arith, spelled, built, all_given-map, options-map)
+read_as_spelled = grind (arith, spelled, built, all_given-map, options-map)
 
 all_given_unless_faulty : (tool : Tool) (before : List ParsedOption) (tokens : List Token)
     → parse_fault tool before tokens ≡ None → all_given tokens ≡ true
 all_given_unless_faulty _ _ [] none = refl
-all_given_unless_faulty tool before (Valid o ∷ tokens) none =
-    grind (arith, all_given_unless_faulty tool (before ++ o ∷ []) tokens)
-all_given_unless_faulty tool before (MissingValue letter ∷ tokens) none = grind arith
-all_given_unless_faulty _ _ _ none = cc
+all_given_unless_faulty tool before (token ∷ tokens) none =
+    grind (arith, all_given_unless_faulty tool (with_token before token) tokens)
 
-pub spelled_unless_faulty : FaultlessIsSpelled
-spelled_unless_faulty tool words none = search (rules, built, all_given_unless_faulty)
+pub spelled_if_fine : FaultlessIsSpelled
+spelled_if_fine tool words none = search (rules, built, all_given_unless_faulty)

@@ -3,7 +3,7 @@
 use Rattle.ptopts.proofs
 use proofs.Common.{AreFlags, Bool, EndOfOptions, Flags, IsTrue, List, OperandsAlone, Option, ParsedOption, Spells}
 use proofs.Common.{Token, Tool, Valid, ValueAttached, ValueNext, [], ap, append-nil, arith, usual, false, flag, is_flag}
-use proofs.Common.{list_all, map, parsed_args_from, refl, slice_get, sym, syntax, takes_next, takes_value, tokens_in}
+use proofs.Common.{list_all, map, parsed_args_from, refl, slice_get, sym, takes_next, takes_value, tokens_in}
 use proofs.Common.{true, ℕ, ⊎_elim, ◌++◌, ◌==◌, ◌∙◌, ◌∷◌, ◌≡◌}
 use proofs.EachTool.{syntax_is}
 use Rattle.ptopts.specs.Args.{ParsedArgs, has_letter, prepend_tokens, starts_with_operand, with_value}
@@ -16,7 +16,7 @@ all_of p (c ∷ cs) l a h =
     ⊎_elim (grind (arith, eqb-true)) (all_of p cs l others) (or_cases (c == l) (has_letter l cs) h)
 
 pub no_flag : (tool : Tool) (l : ℕ) → takes_value tool l ≡ true → is_flag tool l ≡ false
-no_flag _ l h = grind (arith, not-true, all_of)
+no_flag = grind (arith, not-true, all_of)
 
 pub tokens_in-flags : (tool : Tool) (word : List ℕ) (next : Option (List ℕ)) (fs rest : List ℕ) → AreFlags tool fs
     → tokens_in tool word next (fs ++ rest) ≡ map Valid (map flag fs) ++ tokens_in tool word next rest
@@ -47,27 +47,29 @@ group_is_read : (tool : Tool) (l : ℕ) (ls : List ℕ) (ws : List (List ℕ)) �
     (parsed_args_from tool (takes_next tool (l ∷ ls)) ws)
 group_is_read _ l ls ws n = rw (ne_eqb l 45 n) refl
 
+value_not_dash : (tool : Tool) (l : ℕ) → takes_value tool l ≡ true → l ≡ 45 → ⊥
+value_not_dash = grind (arith, syntax_is)
+
+flag_not_dash : (tool : Tool) (f : ℕ) (fs : List ℕ) → AreFlags tool (f ∷ fs) → f ≡ 45 → ⊥
+flag_not_dash = grind (arith, syntax_is)
+
 valued_group : (tool : Tool) (fs : List ℕ) (l : ℕ) (rest : List ℕ) (ws : List (List ℕ)) → AreFlags tool fs
     → takes_value tool l ≡ true
     → parsed_args_from tool false ((45 ∷ fs ++ l ∷ rest) ∷ ws)
     ≡ prepend_tokens (tokens_in tool (45 ∷ fs ++ l ∷ rest) (slice_get ws 0) (fs ++ l ∷ rest))
     (parsed_args_from tool (takes_next tool (fs ++ l ∷ rest)) ws)
-valued_group _ [] l rest ws a t = grind (arith, syntax_is)
-valued_group _ _ l _ ws a t = grind (arith, syntax_is)
+valued_group tool [] l rest ws a t = group_is_read tool l rest ws (value_not_dash tool l t)
+valued_group tool (f ∷ fs) l rest ws a t = group_is_read tool f (fs ++ l ∷ rest) ws (flag_not_dash tool f fs a)
 
 pub map-Valid-append : (xs ys : List ParsedOption) → map Valid (xs ++ ys) ≡ map Valid xs ++ map Valid ys
-map-Valid-append [] ys = refl
-map-Valid-append _ ys = grind usual
+map-Valid-append = grind usual
 
 abbrev pub args_of : List ParsedOption → List (List ℕ) → ParsedArgs
 args_of options operands = record { tokens = map Valid options; operands = operands }
 
 ends_here : (tool : Tool) (ws : List (List ℕ)) → IsTrue (starts_with_operand ws)
     → parsed_args_from tool false ws ≡ args_of [] ws
-ends_here _ [] first = refl
-ends_here tool ([] ∷ ws) first = refl
-ends_here tool ((b ∷ []) ∷ ws) first = grind arith
-ends_here _ _ first = grind arith
+ends_here = grind usual
 
 -- the parse of flags and an option with a value, from its token and the parse of the words after it
 valued : (tool : Tool) (fs : List ℕ) (l : ℕ) (rest : List ℕ) (ws : List (List ℕ)) (o : ParsedOption) (t : Bool)
@@ -83,9 +85,8 @@ pub spelled : (tool : Tool) {ws : List (List ℕ)} {options : List ParsedOption}
 spelled _ (OperandsAlone operands first) = ends_here _ _ first
 spelled _ (EndOfOptions operands) = refl
 spelled tool (Flags f fs words options operands a s) =
-    let (first, _) = and_parts (is_flag tool f) (list_all (is_flag tool) fs) a in
     let tokens = tokens_in-all_flags tool (45 ∷ f ∷ fs) (slice_get words 0) (f ∷ fs) a in
-    group_is_read tool f fs words (grind (arith, syntax, syntax_is))
+    group_is_read tool f fs words (flag_not_dash tool f fs a)
     ∙ rw (tokens, takes_next-all_flags _ _ a, spelled _ s) (grind (arith, map-Valid-append))
 spelled _ (ValueAttached fs l b bs words options operands a t s) =
     valued _ fs l _ _ _ _ _ _ a t (rw (no_flag _ l t, t) refl) (rw (no_flag _ l t, t) refl) (spelled _ s)

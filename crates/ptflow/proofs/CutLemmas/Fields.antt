@@ -10,7 +10,7 @@ use proofs.Common.{cut_fields, is_selected, AreSeparated, Interval, select_from,
 use proofs.Common.{output_from_cursor, min, Option, None, Some, is_some, flat_map, list_any, list_any_at, IsFirstByte}
 use proofs.Common.{line_if_not_found, unlines, IsLine, is_field_delimiter, cut_line, cut_lines, IsPrefix, ◌⊎◌, inl, inr}
 use proofs.Common.{unwrap_or, complete_lines, AreLines, line_before_terminator, complete_lines_cons, the_lines}
-use proofs.Common.{the_complete_lines, CopyLinesPost, the_lines_of_parts, CutOfParts, rules}
+use proofs.Common.{the_complete_lines, CopyLinesPost, the_lines_of_parts, CutOfParts}
 use proofs.CutLemmas.CutBytes.{not_selected, select_first, select_slice, select_skip}
 use proofs.Passes.Exits.{line_split}
 use Rattle.ptflow.specs.declared.tools.cut.fields.FieldCursor.{FieldCursor}
@@ -257,11 +257,11 @@ free_lines d end (b ∷ bytes) free = grind (arith, free_lines d end bytes free.
 module _ (job : Cut) (by_fields : job.fields ≡ true) where
   lines_kept : job.only ≡ false → (ls : List (List ℕ)) → AreLines job.delimiter ls → flat_map (cut_line job) ls ≡ ls
   lines_kept keeps [] free = refl
-  lines_kept keeps (l ∷ ls) free = search (rules, lines_kept keeps ls free.1, of_line, none_of)
+  lines_kept keeps (l ∷ ls) free = search (lines_kept keeps ls free.1, of_line, none_of)
 
   lines_dropped : job.only ≡ true → (ls : List (List ℕ)) → AreLines job.delimiter ls → flat_map (cut_line job) ls ≡ []
   lines_dropped only [] free = refl
-  lines_dropped only (l ∷ ls) free = search (rules, lines_dropped only ls free.1, of_none, none_of)
+  lines_dropped only (l ∷ ls) free = search (lines_dropped only ls free.1, of_none, none_of)
 
 -- ---- the first lines of a block
 
@@ -294,7 +294,7 @@ module _ (job : Cut) (by_fields : job.fields ≡ true) {end : ℕ} (same : end �
 
     are_free : ((size ≡ to + 1) ⊎ (size ≤ up_to)) → AreLines job.delimiter front
     are_free (inl one) = grind (usual, complete_lines_cons, line_before_terminator)
-    are_free (inr le) = search (rules, free_lines, free_up_to)
+    are_free (inr le) = search (free_lines, free_up_to)
 
     pub puts_kept : {old new : List ℕ} → job.only ≡ false → new ≡ old ++ take size bytes
         → CopyLinesPost job end bytes size old new

@@ -127,9 +127,9 @@ module _ {tool : ToolSpec} {left : List ℕ → List ℕ} {old reader new : Read
       untouched = λ u unread. cc;
       never_failed = λ u read. never_failed;
       writable = grind usual;
-      wrote = search (rules, push_trans);
+      wrote = search push_trans;
       is_prefix = grind (arith, text_of, append_assoc);
-      bounded_lag = search (rules, bounded_lag_after);
+      bounded_lag = search bounded_lag_after;
       peak = grind arith;
       slots = λ texts a. omega arith;
       least = omega arith;
@@ -274,7 +274,7 @@ module _ {X : Type 0} {rest_from : X → List ℕ → List ℕ} {IsUnchanged : X
       pushed = run.pushed ++ part.pushed;
       reached = record {
         advance_ok = grind (usual, take_all, advance_ok_take);
-        wrote = search (rules, push_trans);
+        wrote = search push_trans;
         clean = part.clean;
       };
       on = grind (arith, append_assoc);

@@ -62,7 +62,9 @@ bounds_line {width} {most} {store} new slot bytes bounds within fits is =
       size = grind (arith, length-set);
       short = short;
       others = cc;
-      peak = grind (arith, bounded_total, short);
+      peak =
+          let all = ap (λ s. total_bytes s.lines) is in
+          omega (arith, bounded_total width most new.lines short (cc), ap (λ s. s.peak) is);
     }
 
 -- the first and the last slot were swapped, or none
@@ -193,9 +195,9 @@ module _ {S X E : Type 0} {tool : ToolSpec} {state : S → Slots → X} {rest_fr
         begins = run.begins;
         came = came;
         reached = record {
-          advance_ok = search (rules, advance_ok_trans);
+          advance_ok = search advance_ok_trans;
           wrote = rw (line_filter.apart run.passed processed.passed)
-              (search (rules, push_trans));
+              (search push_trans);
           clean = processed.clean run.reached.clean;
         };
         first = run.first;
@@ -285,7 +287,7 @@ module _ {S X E : Type 0} {tool : ToolSpec} {state : S → Slots → X} {rest_fr
 
           stored : {after : Slots} → SlotBounds width (max (max_length run.ls) (length piece)) before after
               → StoreBounds tool before after (received piece new)
-          stored bounds = search (rules, kept, piece_longest, is_line)
+          stored bounds = search (kept, piece_longest, is_line)
 
           piece_ending : {after : Slots} → StoreBounds tool before after (received piece new) → Ending new after piece
           piece_ending = ending reads piece new.buffered refl is_line (omega arith)

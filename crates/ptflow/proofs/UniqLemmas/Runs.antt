@@ -300,7 +300,7 @@ module _ {job : Uniq} {first block rest : List ℕ} {start count : ℕ} {line : 
       pub runs_loop_failed : {is' : Output} → PushEffect is is' (span_of block pending ++ run_text job run)
           → is'.write_failed ≡ true
           → RunsFailed job (run_of first start) (complete_lines job.terminator block) was is'
-      runs_loop_failed wrote fault = steps_failed steps (search (rules, entries, pending_pushed))
+      runs_loop_failed wrote fault = steps_failed steps (search (entries, pending_pushed))
           (complete_lines job.terminator (drop (at + 1) rest)) (front_more so_far.lies at found).lines fault
 
   -- no complete line is left
@@ -311,7 +311,7 @@ module _ {job : Uniq} {first block rest : List ℕ} {start count : ℕ} {line : 
     pub running_unended : is'.write_failed ≡ true
         → RunsFailed job (run_of first start) (complete_lines job.terminator block) was is'
     running_unended fault =
-        search (rules, steps_failed, rw so_far.waits.all at (wrote_then _ _ _ so_far.waits.wrote wrote))
+        search (steps_failed, rw so_far.waits.all at (wrote_then _ _ _ so_far.waits.wrote wrote))
 
 -- ---- the current run
 

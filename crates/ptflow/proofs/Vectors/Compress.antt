@@ -10,7 +10,7 @@ use proofs.Common.{pick_l-range_with_len, take-map, take-append-le, drop-append-
 use proofs.Common.{length-range_with_len, get_or-range_with_len, and_numeral, not, eqb, filter, append-nil}
 use proofs.Common.{take-append-drop, take-add, zip2, drop-drop, drop_all, length-chunk, length-zip2, bit_and, top}
 use proofs.Common.{cast_unsigned, mask_of, is_not_repeat, keep_flags, kept_bytes, FilterPre, bit_or, ◌-◌, rules}
-use proofs.Common.{slice_index_or, count_ones}
+use proofs.Common.{slice_index_or, count_ones, sym, ◌∙◌, take_all}
 pub use proofs.Vectors.Lanes.{shuffle_result}
 use Rattle.ptlines.proofs.MatchMasks.{mask_append}
 use Rattle.std.proofs.lemmas.Nat.{and_le_l, and_le_r, le_or_l, le_or_r}
@@ -129,8 +129,12 @@ row_next {place} {count} {row} low is begun = grind (usual, bit_mask_l, next_pla
 pub row_complete : {mask count : ℕ} {row : List ℕ} {flags : List Bool} → length flags ≡ 8 → mask ≡ mask_l flags
     → RowPrefix mask 8 count row → IsCompressRow flags row
 row_complete {count} {row} {flags} long masked begun =
-    let all : take count row ≡ true_indices flags = grind usual in
+    let all : take count row ≡ true_indices flags =
+    begun.indices flags long masked
+    ∙ (λ i. select_by (take_all 8 flags (omega arith) i) (range_with_len 0 (sym long i))) in
     grind (arith, length-take-le)
+
+pub ruleset row_steps = (row_next, row_complete)
 
 -- ---- the halves of a mask and of lanes
 
@@ -254,7 +258,7 @@ module _ (test : ℕ → Bool) where
 
       kept_full : (k : ℕ) → k + 16 ≤ length bytes → 65535 ≤ mask_l (flags_at k) → kept_at k 16 ≡ chunk k 16 bytes
       kept_full k room full =
-          let long : 2 ^ 16 ≡ 2 ^ length (chunk k 16 bytes) = search (rules, length-chunk) in
+          let long : 2 ^ 16 ≡ 2 ^ length (chunk k 16 bytes) = search length-chunk in
           let flags_long = pairs_long (λ a b. is_not_repeat test (a, b)) before bytes paired k room in
           let low : mask_l (flags_at k) < 2 ^ 16 = rw flags_long at (mask_l-lt (flags_at k)) in
           (all_kept _ _ (same_length k 16 room)).1 (omega arith)

@@ -280,7 +280,12 @@ module _ (rows : List ℕ) (found : List (List ℕ)) (count : ℕ) where
 
     pub halved_lane : (lane : ℕ) → lane < 16 → get_or rows lane 0 < count
         → get_or (halved (get_or rows lane 0 / 2)) lane 0 ≡ lane_of found rows lane
-    halved_lane lane low within = grind (usual, get_or-sel_l)
+    halved_lane lane low within =
+        let row = get_or rows lane 0 in
+        let bit = and_mask row 1 in
+        let a = lanes (2 * (row / 2)) [] (omega arith) in
+        let b = lanes (odd (row / 2)) [] (omega arith) in
+        grind (arith, get_or-sel_l, get_or-map, bits_long)
 
 -- ---- the images of 16 bytes
 
@@ -294,7 +299,7 @@ module _ (first n : ℕ) (table : List (List ℕ)) (within : first + 16 * n ≤ 
     image_is {images} has low high made long b byte =
         let i = (b - first) / 16 in
         grind (
-          usual,
+          arith,
           made i,
           get_or-chunk (first + 16 * i) 16 images ((b - first) % 16) b,
           get_or_default images b b 0,

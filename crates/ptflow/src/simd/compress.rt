@@ -20,6 +20,7 @@ pub(crate) struct CompressTable {
 }
 
 // The indices of the set bits of a mask.
+#[tactic(auto, using(crate::proofs::Vectors::Compress::row_steps, std::proofs::lemmas::Grind::common_steps))]
 fn compress_row(mask: usize) -> [u8; 16]
     ensures { (flags : List Bool) → length flags ≡ 8 → mask ≡ mask_l flags → IsCompressRow flags result }
 {

@@ -63,6 +63,7 @@ impl<'a> Bytes<'a> {
     }
 
     /// Passes the bytes that are left of a repeat or a fill of `byte` at once, and returns how many they were.
+    #[tactic(auto, using(crate::proofs::TrArrays::copies_left))]
     pub(crate) fn skip_repeats(&mut self, byte: u8) -> u128
         ensures passed { bytes_left self.old ≡ map Ok (plain_members (replicate result byte)) ++ bytes_left self.new }
         ensures fewer { most_left self.old ≡ result + most_left self.new }

@@ -72,6 +72,7 @@ impl CharClass {
     }
 
     /// The byte of the class with this index, in ascending order, or `None` past its end.
+    #[tactic(auto, using(crate::proofs::TrArrays::part_steps))]
     pub(crate) fn get(self, index: u128) -> Option<u8>
         ensures { result ≡ slice_get (class_bytes self) index }
     {

@@ -75,6 +75,7 @@ fn letters_len(bytes: &[u8]) -> usize
 }
 
 /// The index after the digits at `at`.
+#[tactic(auto, using(crate::proofs::TrGrammar::run_range, crate::proofs::TrGrammar::run_rest))]
 fn after_digits(text: &[u8], at: usize) -> usize
     requires { at ≤ length text.now }
     ensures run { slice_range text.now at result
@@ -88,6 +89,7 @@ fn after_digits(text: &[u8], at: usize) -> usize
 }
 
 /// The index after the lower-case letters at `at`.
+#[tactic(auto, using(crate::proofs::TrGrammar::run_range, crate::proofs::TrGrammar::run_rest))]
 fn after_letters(text: &[u8], at: usize) -> usize
     requires { at ≤ length text.now }
     ensures run { slice_range text.now at result
@@ -120,6 +122,7 @@ fn read_count(digits: &[u8]) -> Option<u16>
 }
 
 /// `[x*n]` from the index after its opening bracket.
+#[tactic(auto, using(crate::proofs::TrGrammar::run_passes))]
 fn repeat(text: &[u8], at: usize) -> Option<(SetElement, usize)>
     requires { at ≤ length text.now }
     ensures reads { option_map (element_and_rest text.now) result ≡ repeat_at (chars_from text.now at) }

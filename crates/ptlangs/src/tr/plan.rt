@@ -236,6 +236,7 @@ impl CharPlan {
 
 /// Does nothing at run time. Its contract states that the tables of a plan agree with the two arrays for every byte, as
 /// `specs/TrPlan.antt` defines it.
+#[tactic(auto, using(crate::proofs::TrArrays::table_at))]
 pub fn tables_match_plan()
     ensures { TablesMatchPlan }
 {}

@@ -5,8 +5,8 @@ use proofs.Common.{refl, arith, reads_nothing, usual, rules, Ok}
 use Rattle.ptlines.specs.ReadLine.{BlockResult}
 use proofs.Passes.Exits.{BlockLoopState, blocks_start, block_sent, block_taken, Ending, ending, block_failed, is_fault}
 use proofs.Passes.Exits.{nothing_more, pass_write, pass_done, pass_unended}
-use Rattle.ptflow.proofs.block_loop.run_blocks.Given as given
-use Rattle.ptflow.proofs.block_loop.run_blocks.Goals as goal
+use proofs.block_loop.run_blocks.Given as given
+use proofs.block_loop.run_blocks.Goals as goal
 use Rattle.ptflow.proofs.block_loop.run_blocks.Goals.{In-Ok}
 
 -- the state after the write, the end of a pass there, and what was read

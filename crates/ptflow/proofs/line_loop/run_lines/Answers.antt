@@ -4,8 +4,8 @@ use proofs.Passes.LineLoop.{run_starts, run_unslotted, run_sent, run_count, run_
 use proofs.Passes.LineLoop.{run_line_halts, Run, run_read, run_memory, run_done, run_unended, run_block}
 use proofs.Passes.LineLoop.{run_block_halts, bounds_start}
 use proofs.Passes.Exits.{is_fault}
-use Rattle.ptflow.proofs.line_loop.run_lines.Given as given
-use Rattle.ptflow.proofs.line_loop.run_lines.Goals as goal
+use proofs.line_loop.run_lines.Given as given
+use proofs.line_loop.run_lines.Goals as goal
 use Rattle.ptflow.proofs.line_loop.run_lines.Goals.{After-fill, In-Ok-true}
 use Rattle.ptflow.proofs.line_loop.run_lines.Goals.{In_ok-process_line-in-Ok-true}
 use proofs.Common.{refl, rules, arith, usual, ◌∙◌, ◌-◌, FillLine}

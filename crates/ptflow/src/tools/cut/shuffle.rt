@@ -45,6 +45,7 @@ impl PieceShuffle {
 }
 
 // The last selected position, or 0 if there is none.
+#[tactic(auto, using(crate::proofs::CutLemmas::CutBytes::none_after))]
 fn last_selected<A: Allocator>(list: &Ranges<A>) -> u64
     ensures { (index : ℕ) → result < index → is_selected list.now index ≡ false }
 {

@@ -96,6 +96,7 @@ fn skip_field(line: &[u8]) -> &[u8]
 
 // Skips `fields` fields. Out of line, since few jobs skip fields.
 #[inline(never)]
+#[tactic(auto, using(crate::proofs::UniqLemmas::Keys::suffix_step, crate::proofs::UniqLemmas::Keys::suffix_is))]
 fn skip_fields_cold(fields: u64, line: &[u8]) -> &[u8]
     ensures { result.now ≡ after_fields fields line.now }
 {

@@ -16,4 +16,4 @@ returns c =
     c.map-intervals.ensures.closure (λ x r q k. search rules))
     (λ x b q k. search rules) in
     let first = first_fault_is element_interval (elements c.args.text.now) in
-    first_of (grind arith, search rules)
+    grind arith

@@ -22,3 +22,9 @@ returns-clause-same g c = search (rules, drop_all)
 
 pub overflow_sub-next : goal.overflow_sub-next
 overflow_sub-next g c = grind usual
+
+pub returns-clause-separated : goal.returns-clause-separated
+returns-clause-separated g c = grind usual
+
+pub returns-in_default-clause-same : goal.returns-in_default-clause-same
+returns-in_default-clause-same g c = grind usual

@@ -15,4 +15,4 @@ returns g c =
     (λ b r q k. search rules)))
     c.filter_map.ensures.closure (λ x r q k. search rules)) in
     let all = values_are _ (elements c.args.text.now) c.requires in
-    first_of (search rules, grind arith)
+    grind arith

@@ -1,6 +1,4 @@
-use Rattle.ptflow.proofs
-use proofs.Common.{refl}
-use proofs.faults.FlowFaultFromWriteFault.from.Goals as goal
+use Rattle.ptflow.proofs.faults.FlowFaultFromWriteFault.from.Goals as goal
 
 pub returns : goal.returns
-returns c = refl
+returns c = cc

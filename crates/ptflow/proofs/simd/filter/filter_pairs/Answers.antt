@@ -10,6 +10,3 @@ loop-at-preserved c =
       kept = filter_piece c.loop-at.invariant.kept c.args.pairs.paired 64 (omega arith) made.end made.kept;
       few = omega arith;
     }
-
-pub returns-clause-kept : goal.returns-clause-kept
-returns-clause-kept c = cc

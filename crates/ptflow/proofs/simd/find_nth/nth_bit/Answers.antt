@@ -7,7 +7,7 @@ pub loop-bit-preserved : goal.loop-bit-preserved
 loop-bit-preserved c = λ bits is.
     let i = c.loop-bit._bit in
     let next : suc i ≡ i + 1 = omega arith in
-    cc (cleared i bits c.loop-bit.auto.rest-fits.fits (c.loop-bit.invariant bits is))
+    rw (← next) (cleared i bits c.loop-bit.auto.rest-fits.fits (c.loop-bit.invariant bits is))
 
 pub returns : goal.returns
 returns c = λ test bytes few is some.

@@ -2,7 +2,7 @@
 use Rattle.ptflow.proofs
 use proofs.Common.{◌∙◌, ap, arith, usual, count_ones, chunk, length-chunk, ones-mask_l, is_byte, IsNth, refl}
 use proofs.Vectors.FindNth.{count_chunk, nth_in_prefix, none_in_prefix, near}
-use Rattle.ptflow.proofs.simd.find_nth.nth_index.Goals as goal
+use proofs.simd.find_nth.nth_index.Goals as goal
 use Rattle.ptflow.proofs.simd.find_nth.nth_index.Goals.{After-nth_bit}
 
 here : (c : After-nth_bit)

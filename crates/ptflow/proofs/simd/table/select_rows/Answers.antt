@@ -14,7 +14,7 @@ loop-count-preserved g c =
           let shifted = ap (λ (l : List ℕ). get_or l lane 0)
           (zip2_splat (λ a b. a / 2 ^ b) loop.rows 16 1 loop.auto.rows.0)
           ∙ get_or-map (λ b. b / 2 ^ 1) loop.rows lane 0 0 (omega arith) in
-          (omega arith, cc (c.halve-left.ensures.kept lane low below));
+          (omega arith, rw shifted (c.halve-left.ensures.kept lane low below ∙ same));
     }
 
 pub returns-clause-lanes : goal.returns-clause-lanes

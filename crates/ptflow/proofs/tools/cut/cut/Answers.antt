@@ -2,7 +2,7 @@
 -- the contract of each loop carries over.
 use Rattle.ptflow.proofs
 use proofs.Common.{Bool, true, false, ◌≡◌, ◌++◌, refl, sym, ◌∙◌, ap, cond, cut_job, cut_tool, cut_list_from, Reader}
-use proofs.Common.{terminator, arith}
+use proofs.Common.{terminator, arith, rules}
 use proofs.CutLemmas.CutBytes.{rest_is_decided, made_is, rest_of_all}
 use proofs.Passes.Exits.{pass_unchanged, pass_set, ready_set}
 use proofs.tools.cut.cut.Goals as goal
@@ -13,7 +13,7 @@ ends true = refl
 ends false = refl
 
 pub returns-then-has_failed : goal.returns-then-has_failed
-returns-then-has_failed g c = pass_unchanged _ _ _ _ c.requires (sym c.has_failed.ensures ∙ c.if-has_failed.true)
+returns-then-has_failed g c = search (rules, pass_unchanged)
 
 pub run_lines-requires-clause-tool : goal.run_lines-requires-clause-tool
 run_lines-requires-clause-tool g c = grind (arith, (cut_sure (cut_job c.new.result.by.job.now)))

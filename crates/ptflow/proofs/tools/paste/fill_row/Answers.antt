@@ -9,8 +9,8 @@ use borrow.Author.Rules.{scaled_Fits}
 use proofs.PasteLemmas.BufferedRows.{next_reader, amid_next, amid_failed, with_slot, readable_after, amid_columns}
 use proofs.PasteLemmas.BufferedRows.{amid_copied, still_readable}
 use Rattle.ptflow.proofs.tools.paste.fill_row.Goals.{After-fill_cell, In_ok-has_line}
-use Rattle.ptflow.proofs.tools.paste.fill_row.Given as given
-use Rattle.ptflow.proofs.tools.paste.fill_row.Goals as goal
+use proofs.tools.paste.fill_row.Given as given
+use proofs.tools.paste.fill_row.Goals as goal
 
 pub cells-init : goal.cells-init
 cells-init g c = record {
@@ -35,7 +35,7 @@ fill_cell-requires-clause-readable g c = (next_reader c.cells.invariant.readable
 pub returns-in_err-has_line-clause-fills : goal.returns-in_err-has_line-clause-fills
 returns-in_err-has_line-clause-fills g c =
     rw (is_fault c.from_residual.ensures) (λ from first a. amid_failed (c.cells.invariant.amid from first a)
-    (search (rules, next_reader)) _ _ c.cells.into c.in_err-has_line.field-0.0 c.in_err-has_line.ensures.fills)
+    (search next_reader) _ _ c.cells.into c.in_err-has_line.field-0.0 c.in_err-has_line.ensures.fills)
 
 sent : (g : given.Over) (c : After-fill_cell g) → PushEffect c.args.out.now c.fill_cell.new.out []
 sent g c = push_trans _ _ _ _ _ c.cells.invariant.clean c.cells.invariant.wrote c.fill_cell.ensures.wrote
@@ -60,11 +60,11 @@ module _ (g : given.Over) (c : In_ok-has_line g) where
       amid_next (c.cells.invariant.amid from first a) (search (rules, next_reader)) _ _ (omega arith) sound _ fills
 
   ready : BufferedRowsPre (shape_of c.args.row) filled.readers
-  ready = readable_after (search (rules, next_reader)) _ c.cells.invariant.readable _ _
+  ready = readable_after (search next_reader) _ c.cells.invariant.readable _ _
       _ _ c.in_ok-has_line.ensures.fills.0
 
 pub copy_columns-begun-requires-clause-readable : goal.copy_columns-begun-requires-clause-readable
-copy_columns-begun-requires-clause-readable g c = search (rules, ready)
+copy_columns-begun-requires-clause-readable g c = search ready
 
 pub cells-preserved-in-Some : goal.cells-preserved-in-Some
 cells-preserved-in-Some g c =

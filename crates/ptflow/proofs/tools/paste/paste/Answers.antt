@@ -10,8 +10,8 @@ use proofs.PasteLemmas.{paste_fill_failed, paste_row_write_failed, HasStarted, i
 use proofs.PasteLemmas.{row_slots, invariant_slots, invariant_more, now_readable, RowsInvariant, still_readable}
 use proofs.PasteLemmas.{amid_starts, nothing_taken, rows_taken_none, slots_bound_start}
 use Rattle.ptflow.proofs.tools.paste.paste.Goals.{After-ensure_slots, In_ok-filled, In_ok-push}
-use Rattle.ptflow.proofs.tools.paste.paste.Given as given
-use Rattle.ptflow.proofs.tools.paste.paste.Goals as goal
+use proofs.tools.paste.paste.Given as given
+use proofs.tools.paste.paste.Goals as goal
 
 pub returns-then-has_failed : goal.returns-then-has_failed
 returns-then-has_failed g c = call_on_failed_output _ _ (cc) c.requires.not_denied

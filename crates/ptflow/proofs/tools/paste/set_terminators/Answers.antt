@@ -1,6 +1,6 @@
 -- A reader that several columns use is set more than once, with no further effect.
 use Rattle.ptflow.proofs
-use proofs.Common.{◌≡◌, ◌<◌, Bool, cond, length, get_or, arith, terminator, rules, take_all}
+use proofs.Common.{◌≡◌, ◌<◌, Bool, cond, length, get_or, arith, terminator, take_all}
 use borrow.Author.Rules.{scaled_Fits}
 use proofs.PasteLemmas.BufferedRows.Rows.{at_index, set_terminator_more}
 use proofs.tools.paste.set_terminators.Goals as goal
@@ -14,7 +14,7 @@ loop-input-preserved g c =
     let now = c.loop-input.readers in
     let within : get_or c.args.cells.now i 0 < length now = omega (arith, c.requires i 0 c.loop-input-test.true) in
     set_terminator_more _ _ i _ now _ c.loop-input-test.true within c.loop-input.invariant
-    (search (rules, at_index, ending_is)) c.set_ending.ensures.is_sound
+    (rw (at_index now _ _ within, ending_is) at c.set_ending.ensures.set) c.set_ending.ensures.is_sound
 
 pub bounds-readers-input : goal.bounds-readers-input
 bounds-readers-input g c =

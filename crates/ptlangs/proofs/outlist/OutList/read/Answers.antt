@@ -18,4 +18,4 @@ returns g c =
     (λ b r q k. search rules)))
     c.filter_map.ensures.closure (λ x r q k. search rules)) in
     let all = values_are element_field (elements c.args.text.now) (search rules) in
-    first_of (search rules, grind arith)
+    grind arith

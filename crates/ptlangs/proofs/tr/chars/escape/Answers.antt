@@ -1,6 +1,6 @@
 use Rattle.ptlangs.proofs
-use proofs.Common.{None, Some, rules}
-use proofs.TrGrammar.{octal_char, octal_digits}
+use proofs.Common.{None, Some, arith, rules}
+use proofs.TrGrammar.{octal_char, octal_digits, octal_steps}
 use proofs.tr.chars.escape.Goals as goal
 
 pub returns-in-Some-number-clause-denoted : goal.returns-in-Some-number-clause-denoted
@@ -15,3 +15,6 @@ returns-in-None-clause-denoted c =
 
 pub number-requires-clause-digits : goal.number-requires-clause-digits
 number-requires-clause-digits c = rw c.octal_len-count.ensures (octal_digits c.args.bytes.now)
+
+pub returns-in-None-clause-within : goal.returns-in-None-clause-within
+returns-in-None-clause-within c = grind (arith, octal_steps)

@@ -9,7 +9,7 @@ use Rattle.ptlangs.proofs.tr.images.read_images.Goals as goal
 
 unpaired : (c : After-identity) (to : List Member) → bytes_left c.args.second ≡ map Ok to
     → HasPaired [] to (record { table = c.identity.result; second = c.args.second; last = None })
-unpaired c to l = search rules
+unpaired = search rules
 
 pub returns-in_err-push_ascending : goal.returns-in_err-push_ascending
 returns-in_err-push_ascending c = λ ps to e f l.

@@ -23,3 +23,6 @@ returns-then-not-prepend-clause-found c =
 
 pub returns-clause-moves : goal.returns-clause-moves
 returns-clause-moves c = grind (usual, moves_by)
+
+pub loop-index-preserved : goal.loop-index-preserved
+loop-index-preserved c = grind usual

@@ -1,4 +1,4 @@
 use Rattle.ptlines.proofs.reader.LineReader.file.Goals as goal
 
 pub returns : goal.returns
-returns g c = c.from_input.ensures
+returns g c = cc

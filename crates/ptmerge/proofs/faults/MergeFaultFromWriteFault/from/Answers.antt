@@ -1,5 +1,4 @@
-use Rattle.std.proofs.Common.{refl}
 use Rattle.ptmerge.proofs.faults.MergeFaultFromWriteFault.from.Goals as goal
 
 pub returns : goal.returns
-returns c = refl
+returns c = cc

@@ -1,6 +1,6 @@
 -- The operands are the strings of the plan.
 use Rattle.ptopts.proofs
-use proofs.Common.{Bor, Err, List, Ok, Result, Some, [], arith, refl, result_err, slice_index_or, words_view, ℕ, ◌≡◌}
+use proofs.Common.{Bor, Err, List, Result, Some, [], arith, refl, result_err, slice_index_or, words_view, ℕ, ◌≡◌}
 use Rattle.ptlangs.specs.TrParsing.{ok_map}
 use Rattle.ptlangs.specs.TrPlan.{Plan}
 use Rattle.ptlangs.specs.TrTables.{Tables, tables}
@@ -15,8 +15,7 @@ first_word _ d none = refl
 
 read_fault : (p : Result Plan SetFault) (r : Result Tables SetFault) (e : SetFault) → r ≡ ok_map tables p → r ≡ Err e
     → result_err p ≡ Some e
-read_fault (Ok x) r e is read = cc
-read_fault (Err d) r e is read = cc
+read_fault = grind arith
 
 pub returns-in_err-plan-clause-fault : goal.returns-in_err-plan-clause-fault
 returns-in_err-plan-clause-fault g c = grind (arith, first_word, read_fault)

@@ -1,7 +1,7 @@
 -- A fault of `Delims::read` becomes the fault of the option, by cases on the three faults of a list.
 use Rattle.ptopts.proofs
 use Rattle.ptopts.specs
-use proofs.Common.{Bool, Bor, Err, List, None, Ok, Option, Result, Some, ap, cond, false, fault_view, is_ok, option_map}
+use proofs.Common.{Bool, Bor, List, None, Option, Result, Some, ap, cond, false, fault_view, is_ok, option_map}
 use proofs.Common.{refl, result_err, sym, true, ℕ, ◌∙◌, ◌≡◌, arith}
 use Rattle.ptlangs.specs.DelimLists.{delim_list_fault}
 use Rattle.ptlangs.specs.contracts.delims.DelimFault.{the_type}
@@ -17,12 +17,7 @@ module _ (letter : ℕ) (text : Bor (List ℕ)) (is_memory : DelimFault → Bool
   told : (e : DelimFault) (r : Result (List (Option ℕ)) DelimFault) → result_err r ≡ delim_list_fault e
       → fault_view (cond (is_memory e) fault.Memory (fault.Value letter text))
       ≡ cond (is_ok r) None (Some (faults.Value letter text.now))
-  told Empty (Ok ds) e = cc
-  told Escape (Ok ds) e = cc
-  told Memory (Ok ds) e = rw never refl
-  told Empty (Err d) e = rw empty refl
-  told Escape (Err d) e = rw escape refl
-  told Memory (Err d) e = cc
+  told = grind arith
 
 pub returns-in-Err-clause-fault : goal.returns-in-Err-clause-fault
 returns-in-Err-clause-fault g c =

@@ -3,4 +3,4 @@ use proofs.parsing.ParsedArgs.output_list.Goals as goal
 use proofs.Common.{usual}
 
 pub returns-in-Err-clause-fault : goal.returns-in-Err-clause-fault
-returns-in-Err-clause-fault g c = grind usual
+returns-in-Err-clause-fault g c = search usual

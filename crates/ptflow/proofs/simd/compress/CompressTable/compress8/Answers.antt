@@ -14,9 +14,10 @@ returns-clause-packed c flags long masked =
     let table = c.args.self.now.is_table in
     let rows = c.args.self.now.rows in
     let row = slice_index_or rows c.from.result [] in
-    cc (
+    rw (
       selected_stored c.args.at (count_ones c.args.keep) c.args.into.now (swz_l w8 16 v 0 row)
           (length-swz_l w8 16 v 0 row ∙ (row_of_mask rows c.from.result table (omega arith)).long)
           (omega (arith, ones-le 8 c.args.keep c.ranges.keep.fits)) (omega arith),
+      c.from.ensures,
       row_selects flags rows {mask = c.args.keep} v c.fits-v.0 table long masked,
     )

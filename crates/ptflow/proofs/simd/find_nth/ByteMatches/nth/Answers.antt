@@ -1,9 +1,9 @@
 -- The first match is known. Another one is found by the mask of the first bytes, shifted to those from an index on.
 use Rattle.ptflow.proofs
-use proofs.Common.{ℕ, ◌-◌, take, drop, arith, ones-mask_l, length-take-le, length-drop, usual}
-use proofs.Common.{count_by-le-length, is_byte, IsNth}
+use proofs.Common.{ℕ, ◌-◌, take, drop, arith, ones-mask_l, length-drop, usual}
+use proofs.Common.{is_byte, IsNth}
 use proofs.Vectors.FindNth.{first_is_nth, no_nth_before_first, no_nth, nth_in_prefix, none_in_prefix, mask_from}
-use Rattle.ptflow.proofs.simd.find_nth.ByteMatches.nth.Goals as goal
+use proofs.simd.find_nth.ByteMatches.nth.Goals as goal
 use Rattle.ptflow.proofs.simd.find_nth.ByteMatches.nth.Goals.{After-nth_bit-at, then-at-to, else-at-to}
 
 here : (c : After-nth_bit-at)
@@ -44,6 +44,3 @@ returns-else-at-len c =
     none_in_prefix (is_byte m.byte) (drop c.args.from m.bytes.now) (m.size - c.args.from) 0 c.args.before _
     (omega (arith, length-drop {A = ℕ})) (here (goal.at.returns-else-at-len c).After-nth_bit-at)
     {index = c.nth_bit-at.result} (omega arith) (omega arith) (omega arith)
-
-pub returns-then-before-len : goal.returns-then-before-len
-returns-then-before-len c = grind (usual, count_by-le-length, length-take-le)

@@ -1,5 +1,5 @@
 use Rattle.ptflow.proofs
-use proofs.Common.{◌%◌, [], ◌∷◌, length, ap, arith, mod-lt, mod-eq_of_lt}
+use proofs.Common.{◌%◌, [], ◌∷◌, length, ap, sym, ◌∙◌, arith, mod-lt, mod-eq_of_lt}
 use proofs.simd.replace.Cycle.new.Goals as goal
 
 pub invariant_of-result : goal.invariant_of-result
@@ -11,13 +11,12 @@ invariant_of-result c =
         some = c.requires.0;
         few = c.requires.1;
         at = λ number low.
-            cc (at number (omega arith), at (number % len) (omega arith), mod-eq_of_lt (mod-lt number c.requires.0));
+            at number (omega arith)
+            ∙ sym (rw (mod-eq_of_lt (mod-lt number c.requires.0)) at (at (number % len) (omega arith)));
       };
     }
 
 pub returns-clause-bytes : goal.returns-clause-bytes
 returns-clause-bytes c = λ number.
-    ap (λ x. x ∷ []) (cc (
-      c.loop-number.invariant.at (number % length c.args.bytes.now) (omega arith),
-      mod-eq_of_lt (mod-lt number c.requires.0),
-    ))
+    ap (λ x. x ∷ []) (rw (mod-eq_of_lt (mod-lt number c.requires.0)) at
+    (c.loop-number.invariant.at (number % length c.args.bytes.now) (omega arith)))

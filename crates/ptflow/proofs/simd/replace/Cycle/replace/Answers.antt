@@ -1,6 +1,6 @@
 use Rattle.ptflow.proofs
 use proofs.Common.{◌≡◌, ◌+◌, ◌%◌, ◌<◌, ℕ, [], ◌∷◌, refl, sym, ap, arith, length, length-set, slice_index_or, mod-lt}
-use proofs.Common.{mod-eq_of_lt, count_by, is_byte, take, ◌∙◌}
+use proofs.Common.{usual, mod-eq_of_lt, count_by, is_byte, take, ◌∙◌}
 use proofs.PasteLemmas.Replaced.{replaced_by_map, replaced_terminator, replaced_other}
 use proofs.simd.replace.Cycle.replace
 use replace.Goals as goal
@@ -12,7 +12,7 @@ returns-then-self-eq1-clause-replaced c =
     let first : (n : ℕ) → slice_index_or cycle.unrolled (n % cycle.len) 0 ≡ slice_index_or cycle.unrolled 0 0 =
     λ n. let zero : n % cycle.len ≡ 0 = omega (arith, mod-lt n cycle.is_unrolled.some) in
     ap (λ k. slice_index_or cycle.unrolled k 0) zero in
-    cc (replaced_by_map cycle.terminator _ _ first c.args.index c.args.from.now)
+    c.map_bytes.ensures ∙ sym (replaced_by_map cycle.terminator _ _ first c.args.index c.args.from.now)
 
 pub loop-at-preserved : goal.loop-at-preserved
 loop-at-preserved c =
@@ -35,3 +35,6 @@ loop-at-preserved c =
           rw (w.index-is, w.to-is) (replaced_other (length-set loop.to loop.at _
           ∙ loop.invariant.same) loop.invariant room w.if-from-at.false refl low)
     ]
+
+pub bounds-to-at-then-from-at : goal.bounds-to-at-then-from-at
+bounds-to-at-then-from-at = grind usual

@@ -16,14 +16,14 @@ loop-after-preserved c =
     let v = chunk c.args.at 64 c.args.from.now in
     let p = is_byte c.args.self.now.terminator in
     let number = c.args.index + c.loop-after.after in
-    let counted : count_ones c.match_mask-mask.result ≡ count_by p v = cc (ones-mask_l p v) in
+    let counted : count_ones c.match_mask-mask.result ≡ count_by p v = rw (c.match_mask-mask.ensures, ones-mask_l) in
     let low : number < c.args.self.now.len + 63 =
     omega (arith, count_by-le-length p v, length-chunk c.args.at 64 c.args.from.now c.requires.room) in
     replace_next c.loop-after.invariant c.match_mask-mask.ensures c.loop-after-test.true
     c.loop-after.auto.mask-fits.fits (c.args.self.now.is_unrolled.at number low) refl refl
 
 pub returns-clause-next : goal.returns-clause-next
-returns-clause-next c = cc (ones-mask_l (is_byte c.args.self.now.terminator) (chunk c.args.at 64 c.args.from.now))
+returns-clause-next c = rw (c.match_mask-mask.ensures, ones-mask_l) at c.after.ensures
 
 pub returns-clause-replaced : goal.returns-clause-replaced
 returns-clause-replaced c =

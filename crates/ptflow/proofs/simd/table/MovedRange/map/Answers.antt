@@ -1,5 +1,5 @@
 use Rattle.ptflow.proofs
-use proofs.Common.{◌*◌, ◌+◌, arith, length-chunk, refl}
+use proofs.Common.{usual, ◌*◌, ◌+◌, arith, length-chunk, refl}
 use proofs.Vectors.Lanes.{filled_next, image_is}
 use proofs.simd.table.MovedRange.map.Goals as goal
 
@@ -12,3 +12,6 @@ returns g c =
     let rows = c.loop-row.invariant in
     image_is c.min-first.result g.row.N c.loop-row.rows (omega arith) rows.long rows.lanes c.requires.moved
     (omega arith) (omega arith) (λ i few. rows.made i (omega (arith, few))) (omega arith)
+
+pub loop-row-init : goal.loop-row-init
+loop-row-init = grind usual

@@ -3,8 +3,8 @@ use Rattle.ptflow.proofs
 use proofs.Common.{◌+◌, ◌-◌, ◌≤◌, ◌++◌, take, drop, refl, ◌∙◌, ap, arith, length-take-le, length-drop, is_selected}
 use proofs.Common.{cut_job, cut_fields, output_from_cursor, usual, take-take}
 use proofs.CutLemmas.Fields.{selected_remaining, output_is_short, output_is_near, offset_start}
-use Rattle.ptflow.proofs.tools.cut.fields.copy_fields.Given as given
-use Rattle.ptflow.proofs.tools.cut.fields.copy_fields.Goals as goal
+use proofs.tools.cut.fields.copy_fields.Given as given
+use proofs.tools.cut.fields.copy_fields.Goals as goal
 use Rattle.ptflow.proofs.tools.cut.fields.copy_fields.Goals.{In-Some}
 use proofs.CutLemmas.CutBytes.{rest_of}
 
@@ -58,3 +58,6 @@ slices-preserved g c =
 
 pub copy_short-requires-clause-room : goal.copy_short-requires-clause-room
 copy_short-requires-clause-room g c = omega (arith, slice_near g (goal.at.copy_short-requires-clause-room g c).In-Some)
+
+pub returns-clause-put : goal.returns-clause-put
+returns-clause-put = grind usual

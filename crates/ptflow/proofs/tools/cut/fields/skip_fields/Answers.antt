@@ -30,3 +30,6 @@ returns-in-None-clause-offset c =
 
 pub overflow_add-result-in-Some : goal.overflow_add-result-in-Some
 overflow_add-result-in-Some c = grind usual
+
+pub overflow_add-result : goal.overflow_add-result
+overflow_add-result = grind usual

@@ -4,8 +4,8 @@ use proofs.Common.{◌≡◌, ◌-◌, ◌++◌, take, drop, length, ◌∙◌, 
 use proofs.Common.{output_from_cursor}
 use proofs.Passes.Exits.{prefix_starts, front_more, front_fails}
 use proofs.CutLemmas.Fields.{selected_remaining, offset_start}
-use Rattle.ptflow.proofs.tools.cut.fields.write_fields.Given as given
-use Rattle.ptflow.proofs.tools.cut.fields.write_fields.Goals as goal
+use proofs.tools.cut.fields.write_fields.Given as given
+use proofs.tools.cut.fields.write_fields.Goals as goal
 use Rattle.ptflow.proofs.tools.cut.fields.write_fields.Goals.{In-Some}
 
 pub slices-init : goal.slices-init

@@ -4,8 +4,8 @@ use proofs.Common.{◌≡◌, push_nothing, push_past_failure, sym, ◌∙◌, c
 use proofs.Common.{is_field_delimiter}
 use proofs.Passes.Exits.{wrote_then}
 use proofs.CutLemmas.Fields.{found, of_line, of_none, line_written, line_dropped}
-use Rattle.ptflow.proofs.tools.cut.fields.write_line.Given as given
-use Rattle.ptflow.proofs.tools.cut.fields.write_line.Goals as goal
+use proofs.tools.cut.fields.write_line.Given as given
+use proofs.tools.cut.fields.write_line.Goals as goal
 use Rattle.ptflow.proofs.tools.cut.fields.write_line.Goals.{After-is_some}
 
 has : (g : given.Over) (c : After-is_some g) → list_any (is_field_delimiter (cut_job c.args.by.now.job.now))

@@ -22,3 +22,6 @@ returns-clause-line g c =
 
 pub returns-clause-prefix_kept : goal.returns-clause-prefix_kept
 returns-clause-prefix_kept g c = grind usual
+
+pub returns-in_err-count : goal.returns-in_err-count
+returns-in_err-count = grind arith

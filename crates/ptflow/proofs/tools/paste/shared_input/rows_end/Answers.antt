@@ -38,7 +38,7 @@ loop-found-preserved c =
       within = omega arith;
       found = λ some. (
         omega arith,
-        eqb-true (get_or bytes last 0) _ (cc (get_or-take at bytes last 0 low)),
+        eqb-true (get_or bytes last 0) _ (rw (get_or-take at bytes last 0 low) at passes),
       );
     }
 

@@ -5,8 +5,8 @@ use proofs.Common.{[], ◌∷◌, ◌&&◌, ◌≡◌, refl, sym, subst, usual, 
 use proofs.Common.{RunsWritten, current_run_of, run_of, push_nothing, rules}
 use proofs.Passes.Exits.{on_err}
 use proofs.UniqLemmas.Runs.{RunSteps, steps_more, steps_next, steps_written, steps_failed}
-use Rattle.ptflow.proofs.tools.uniq.LineUniqLineFilter.process_line.Given as given
-use Rattle.ptflow.proofs.tools.uniq.LineUniqLineFilter.process_line.Goals as goal
+use proofs.tools.uniq.LineUniqLineFilter.process_line.Given as given
+use proofs.tools.uniq.LineUniqLineFilter.process_line.Goals as goal
 use Rattle.ptflow.proofs.tools.uniq.LineUniqLineFilter.process_line.Goals.{After-is_same_run}
 
 test : (g : given.Over) (c : After-is_same_run g)

@@ -1,6 +1,6 @@
 use Rattle.ptflow.proofs
-use proofs.Common.{◌-◌, sym, ◌∙◌, eqb-true, nil_from_length, rules}
-use proofs.UniqLemmas.Keys.{at_end, suffix_is, suffix_step}
+use proofs.Common.{◌-◌, sym, ◌∙◌, eqb-true, nil_from_length}
+use proofs.UniqLemmas.Keys.{at_end}
 use proofs.tools.uniq.line_key.skip_fields_cold.Goals as goal
 
 pub returns-then-is_empty : goal.returns-then-is_empty
@@ -8,9 +8,3 @@ returns-then-is_empty c =
     let rest = c.loop-field.rest.now in
     at_end (c.args.fields - c.loop-field._field) c.args.fields rest c.args.line.now
     (nil_from_length rest (eqb-true _ 0 (sym c.is_empty.ensures ∙ c.if-is_empty.true))) c.loop-field.invariant
-
-pub loop-field-preserved : goal.loop-field-preserved
-loop-field-preserved c = search (rules, suffix_step)
-
-pub returns : goal.returns
-returns c = search (rules, suffix_is)

@@ -44,3 +44,9 @@ returns-clause-is c =
     let (end, _) = rw c.in_default.is at c.in_ok-member.ensures.steps in
     let (ps, whole, bytes) = string-read _ _ _ _ c.if-is_empty.ensures (items_end read end) in
     rw whole (ap Ok (read.holds ∙ ap contents_of (ap member_bytes (sym bytes) ∙ member_bytes-array _ ps)))
+
+pub push-requires : goal.push-requires
+push-requires c = grind arith
+
+pub loop-member-smaller : goal.loop-member-smaller
+loop-member-smaller c = grind arith

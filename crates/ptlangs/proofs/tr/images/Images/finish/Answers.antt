@@ -19,3 +19,6 @@ loop-member-preserved c = λ from to h.
 
 pub returns : goal.returns
 returns c = search (rules, passing-end)
+
+pub loop-member-smaller : goal.loop-member-smaller
+loop-member-smaller c = grind arith

@@ -3,7 +3,7 @@ use Rattle.ptflow.proofs
 use proofs.Common.{arith, usual, ◌≤◌, drop, length, length-drop, take_rest, ℕ, ◌∙◌, ap, min, append-nil}
 use proofs.Common.{drop_all}
 use proofs.CutLemmas.CutBytes.{copied_ends, copied_more, select_none}
-use Rattle.ptflow.proofs.tools.cut.bytes.Selection.copy_selected.Goals as goal
+use proofs.tools.cut.bytes.Selection.copy_selected.Goals as goal
 use Rattle.ptflow.proofs.tools.cut.bytes.Selection.copy_selected.Goals.{Start}
 
 fits : (c : Start) → c.args.count ≤ length (drop c.args.line.start c.args.block.now)
@@ -32,3 +32,9 @@ overflow_add-at c = grind usual
 
 pub overflow_add-result : goal.overflow_add-result
 overflow_add-result c = grind usual
+
+pub copy_short-requires-in-loop-interval-clause-within : goal.copy_short-requires-in-loop-interval-clause-within
+copy_short-requires-in-loop-interval-clause-within = grind usual
+
+pub overflow_sub-at : goal.overflow_sub-at
+overflow_sub-at = grind usual

@@ -2,8 +2,8 @@
 use Rattle.ptflow.proofs
 use proofs.Common.{[], ap, arith, ◌∙◌, count_ones, ones-mask_l, is_byte}
 use proofs.Vectors.FindNth.{count_chunk}
-use Rattle.ptflow.proofs.tools.cut.bytes.Selection.cut_block.Goals as goal
-use Rattle.ptflow.proofs.tools.cut.bytes.Selection.cut_block.Goals.{then-mask-ne0, else-mask-ne0}
+use proofs.tools.cut.bytes.Selection.cut_block.Goals as goal
+use proofs.tools.cut.bytes.Selection.cut_block.Goals.{then-mask-ne0, else-mask-ne0}
 
 pub loop-from-preserved : goal.loop-from-preserved
 loop-from-preserved c =

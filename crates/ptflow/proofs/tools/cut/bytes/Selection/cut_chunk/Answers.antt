@@ -6,7 +6,7 @@ use proofs.Common.{ones-mask_l, is_byte}
 use lib.Count.{count_trailing_zeros}
 use proofs.CutLemmas.CutBytes.{line_cut, terminators_next, cut_next}
 use proofs.Vectors.FindNth.{NextTerminator, cleared, count_chunk, next_terminator}
-use Rattle.ptflow.proofs.tools.cut.bytes.Selection.cut_chunk.Goals as goal
+use proofs.tools.cut.bytes.Selection.cut_chunk.Goals as goal
 use Rattle.ptflow.proofs.tools.cut.bytes.Selection.cut_chunk.Goals.{In-loop-end}
 
 pub returns-then-line-eq0-clause-on : goal.returns-then-line-eq0-clause-on

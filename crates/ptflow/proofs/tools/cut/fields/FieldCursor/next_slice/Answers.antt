@@ -2,9 +2,9 @@
 use Rattle.ptflow.proofs
 use proofs.Common.{◌∙◌, refl, sym, arith, length, take, length-take-le, take_rest, usual, eqb-false}
 use proofs.CutLemmas.Fields.{ends_before, next_slice, none_left, none_selected}
-use Rattle.ptflow.proofs.tools.cut.fields.FieldCursor.next_slice.Goals as goal
-use Rattle.ptflow.proofs.tools.cut.fields.FieldCursor.next_slice.Goals.{then-is_empty-via-then-is_empty}
-use Rattle.ptflow.proofs.tools.cut.fields.FieldCursor.next_slice.Goals.{then-is_empty-via-else-is_empty+then-self-to}
+use proofs.tools.cut.fields.FieldCursor.next_slice.Goals as goal
+use proofs.tools.cut.fields.FieldCursor.next_slice.Goals.{then-is_empty-via-then-is_empty}
+use proofs.tools.cut.fields.FieldCursor.next_slice.Goals.{then-is_empty-via-else-is_empty+then-self-to}
 use proofs.CutLemmas.CutBytes.{select_none}
 
 pub returns-then-is_empty : goal.returns-then-is_empty
@@ -44,3 +44,6 @@ returns c =
 
 pub overflow_sub-last : goal.overflow_sub-last
 overflow_sub-last c = grind usual
+
+pub overflow_sub-first-2 : goal.overflow_sub-first-2
+overflow_sub-first-2 = grind usual

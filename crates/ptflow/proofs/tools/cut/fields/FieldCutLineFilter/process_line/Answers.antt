@@ -16,6 +16,3 @@ returns-clause-halts g c =
       fault = fault;
       is_prefix = λ more. (cut_lines job more, grind usual);
     })
-
-pub returns-clause-continues : goal.returns-clause-continues
-returns-clause-continues g c = grind usual

@@ -3,8 +3,8 @@ use Rattle.ptflow.proofs
 use proofs.Common.{ℕ, List, ◌+◌, ◌≤◌, length, drop, ◌++◌, take, ◌∙◌, ap, arith, length-drop, take_rest, IsLine, take_at}
 use proofs.Common.{complete_lines, line_if_not_found, complete_lines_none, cut_job, cut_lines, append-nil, usual}
 use proofs.Passes.Exits.{on_err, taken_more}
-use Rattle.ptflow.proofs.tools.cut.fields.FieldCutLineFilter.process_lines.Given as given
-use Rattle.ptflow.proofs.tools.cut.fields.FieldCutLineFilter.process_lines.Goals as goal
+use proofs.tools.cut.fields.FieldCutLineFilter.process_lines.Given as given
+use proofs.tools.cut.fields.FieldCutLineFilter.process_lines.Goals as goal
 use Rattle.ptflow.proofs.tools.cut.fields.FieldCutLineFilter.process_lines.Goals.{In_default}
 
 less_left : (start size : ℕ) (rest : List ℕ) {end all : ℕ} → size ≤ length rest → end ≤ start + size

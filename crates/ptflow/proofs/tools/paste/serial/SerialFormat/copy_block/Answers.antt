@@ -2,7 +2,7 @@
 use Rattle.ptflow.proofs
 use proofs.Common.{◌≡◌, ◌+◌, ◌-◌, ◌<◌, ◌++◌, ℕ, Bool, true, false, cond, List, [], ◌∷◌, length, take, get_or, refl}
 use proofs.Common.{arith, append_assoc, take_all, take_more_set, from_bool, row_rest, Option, ◌==◌, not, set}
-use proofs.Common.{eqb-true, take-set, length-append, usual}
+use proofs.Common.{eqb-true, take-set, length-append}
 use Rattle.std.proofs.lemmas.List.{length-take, take_more}
 use proofs.PasteLemmas.Replaced.{copied_on}
 use proofs.tools.paste.serial.SerialFormat.copy_block.Goals as goal
@@ -21,7 +21,7 @@ last_copied end delims number last more into {at} {size} low true is none =
     let same : at + size ≡ at = omega arith in cc (take-set into at last, eqb-true last end is)
 last_copied end delims number last more into {at} low false is one =
     grind (
-      usual,
+      arith,
       take_more_set into at last low,
       append_assoc (take at into) (last ∷ []) (row_rest end delims number more),
     )

@@ -13,7 +13,8 @@ pieces-preserved c =
     let rest = c.pieces.rest.now in
     let all : count - 0 ≡ count = omega arith in
     let piece = line_copied {format = c.args.self.now} c.pieces.index rest (take c.pieces.at c.pieces.into)
-    c.in-Some.ensures c.next_index-index.ensures (rw all at c.copy_short.ensures.copied) (cc (mod-eq_of_lt inv.low)) in
+    c.in-Some.ensures c.next_index-index.ensures (rw all at c.copy_short.ensures.copied)
+    (rw (mod-eq_of_lt inv.low) c.copy_option-at.ensures.copied) in
     rw take_rest (record {
       on = λ next after more. inv.on next after (rw (take-append-drop (count + 1) rest) at (copied_more piece more));
       low = omega arith;
@@ -36,5 +37,5 @@ returns-clause-copied c =
       is = rw all at c.copy_short-2.ensures.copied
           ∙ ap (◌++◌ (take c.pieces.at c.pieces.into)) (take_all (length rest) rest (omega arith)
           ∙ sym (replaced_none end _ _ _ free));
-      later = cc (mod-eq_of_lt inv.low);
+      later = rw (none, mod-eq_of_lt inv.low);
     })

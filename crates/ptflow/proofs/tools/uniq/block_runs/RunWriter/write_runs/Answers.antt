@@ -6,12 +6,12 @@ use proofs.Common.{uniq_job, usual, rules, take_at}
 use proofs.Passes.Exits.{on_err, wrote_then}
 use proofs.UniqLemmas.Runs.{RunsInvariant, runs_loop_starts, runs_loop_few, runs_loop_next, all_lines, runs_loop_failed}
 use proofs.UniqLemmas.Runs.{runs_loop_repeats, running_unended, passed_is, steps_written}
-use Rattle.ptflow.proofs.tools.uniq.block_runs.RunWriter.write_runs.Given as given
-use Rattle.ptflow.proofs.tools.uniq.block_runs.RunWriter.write_runs.Goals as goal
+use proofs.tools.uniq.block_runs.RunWriter.write_runs.Given as given
+use proofs.tools.uniq.block_runs.RunWriter.write_runs.Goals as goal
 use Rattle.ptflow.proofs.tools.uniq.block_runs.RunWriter.write_runs.Goals.{In_default, After-left-1}
 
 pub lines-init : goal.lines-init
-lines-init g c = search (rules, runs_loop_starts)
+lines-init g c = search runs_loop_starts
 
 after : (g : given.Over) (c : After-left-1 g)
     → RunsInvariant (uniq_job c.args.self.now.job.now) c.args.first.now c.args.block.now

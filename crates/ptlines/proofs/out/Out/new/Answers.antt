@@ -1,0 +1,4 @@
+use Rattle.ptlines.proofs.out.Out.new.Goals as goal
+
+pub returns : goal.returns
+returns g c = cc
