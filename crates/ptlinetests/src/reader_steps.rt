@@ -113,8 +113,8 @@ pub fn ends<S: Source, R: Source, A: Allocator + Copy>(
     same_of(rt, of, &current(rt, store).len(), &0);
 }
 
-/// Expects a block that begins with `text`, or with which `text` begins; consumes at most `most` bytes of it, and
-/// returns its length.
+/// Expects that the block and `text` agree as far as both go, consumes at most `most` bytes of the block, and returns
+/// its length.
 pub fn shows<S: Source, R: Source>(
     rt: &impl Abort,
     of: &(&str, usize),
@@ -161,7 +161,7 @@ fn takes<S: Source, R: Source, A: Allocator + Copy>(
     holds_of(rt, of, !store.denied());
 }
 
-/// Makes the calls of these steps in order, with a new store of one slot, and checks their results.
+/// Makes the calls of these steps in order, each into the one slot of `store`, and checks their results.
 pub fn run_steps<S: Source, R: Source>(
     rt: &impl Abort,
     name: &str,

@@ -60,7 +60,9 @@ fn reads_text(
         let mut store = Store::new(alloc, 1)?;
         let pulls = Cell::new(0);
         let mut reader = reader_of(&Input::Standard, &text, (*size, u64::MAX), &pulls);
-        reader.set_ending(zero);
+        if zero {
+            reader.set_ending(true);
+        }
         let lengths = line_lengths(lengths, terminated);
         reads(rt, &mut reader, &mut store, &pulls, (&text, *size), lengths);
     }
@@ -104,8 +106,8 @@ fn pass_all(
 ) -> Result<(), LineFault> {
     let mut left = text;
     for _ in 0..100_000 {
-        let next = &left[..step.min(left.len())];
-        let length = shows(rt, of, reader, next, step)?;
+        let expected = &left[..step.min(left.len())];
+        let length = shows(rt, of, reader, expected, step)?;
         let count = length.min(step);
         if count == 0 {
             break;
@@ -183,7 +185,8 @@ fn reads_while_it_grows(
     true
 }
 
-// Reads such a line with an allocator of which one request fails, and returns whether that one is made for the line.
+// Reads such a line with an allocator of which at most one request fails. Returns whether that one was made for the
+// line, or that memory ran out for the store.
 fn reads_long(
     rt: &impl Abort,
     alloc: &FailingAlloc<Global>,
