@@ -45,6 +45,7 @@ N ?= 1000
 PROGRAM ?= build/ptext
 # What the program and the library are built from.
 SOURCES := HANDLES crates.txt $(shell find crates -name out -prune -o -name 'must-fail*' -prune -o -type f -print)
+BUILDER := tools/project.py $(wildcard tools/builder/*.py)
 WITH_RT = command -v rt >/dev/null || { echo 'there is no rt in PATH: it is part of the toolchain, of which the README \
     says what can be had without it (if it is unpacked: export PATH=/opt/rattle/bin:$$PATH)' >&2; exit 1; }
 AGAINST ?= system
@@ -59,7 +60,7 @@ all: build/ptext
 # (The tests of a built program take build/ptext as it is.)
 ifndef PTEXT_AS_BUILT
 build/ptext: $(SOURCES)
-	python3 tools/build.py
+	python3 tools/builder program
 endif
 
 check:
@@ -89,15 +90,15 @@ check-program:
 static: build/ptext-static
 
 build/ptext-static: build/ptext
-	python3 tools/static.py
+	python3 tools/builder static
 
 lib: build/libptext.a
 
 # (The tests take build/libptext.a as it is, too.)
 ifndef PTEXT_AS_BUILT
-build/libptext.a: lib/ptext.c lib/ptext.h tools/library.py $(SOURCES)
+build/libptext.a: lib/ptext.c lib/ptext.h $(BUILDER) $(SOURCES)
 	@$(WITH_RT)
-	python3 tools/library.py
+	python3 tools/builder library
 endif
 
 install-lib: build/libptext.a
@@ -114,9 +115,9 @@ python: build/libptext.a
 
 page: build/page/ptext.html
 
-build/page/ptext.html: tools/page.py $(wildcard page/* man/ptext-*.1) $(SOURCES)
+build/page/ptext.html: $(BUILDER) $(wildcard page/* man/ptext-*.1) $(SOURCES)
 	@$(WITH_RT)
-	python3 tools/page.py
+	python3 tools/builder page
 
 bench: build/ptext
 	python3 bench/run.py build/ptext

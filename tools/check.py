@@ -4,115 +4,120 @@ the wrong bodies of the changed ones. Uncommitted changes count. It works over w
 
   python3 tools/check.py [COMMIT]      COMMIT is origin/main where that is known, else HEAD~1
 """
+import contextlib
 import os
 import re
 import resource
 import shutil
+import signal
 import subprocess
 import sys
 
-TOP = os.path.dirname(os.path.dirname(os.path.realpath(__file__)))
-NO_RT = (
-    "there is no rt in PATH: it is part of the toolchain, of which the README says what can be had without it "
-    "(if it is unpacked: export PATH=/opt/rattle/bin:$PATH)"
-)
+sys.dont_write_bytecode = True
+
+from project import NO_RT, TOP, Failed, read_text, read_uses, run_script
 
 
-def git(*words):
+def call_git(*words):
     """The output of git over this folder, or None if it fails."""
     # (Root may check a clone of somebody else.)
     did = subprocess.run(["git", "-c", f"safe.directory={TOP}", *words], cwd=TOP, capture_output=True, text=True)
     return None if did.returncode else did.stdout
 
 
-def commit(words):
+def choose_commit(words):
     if words:
         return words[0]
-    return "HEAD~1" if git("rev-parse", "-q", "--verify", "origin/main") is None else "origin/main"
+    return "HEAD~1" if call_git("rev-parse", "-q", "--verify", "origin/main") is None else "origin/main"
 
 
-def uses_of(text):
-    """The libraries that each crate uses, by the lines of crates.txt, lowest first."""
-    rows = [line.partition("#")[0].partition(":") for line in text.split("\n")]
-    # (A static library has `staticlib` after its name.)
-    left = {name.split()[0]: uses.split() for name, _, uses in rows if name.strip()}
-    uses = {}
-    while left:
-        ready = next(name for name in left if not any(it in left for it in left[name]))
-        uses[ready] = left.pop(ready)
-    return uses
-
-
-def changed_since(since, uses):
+def find_changed(since, uses):
     """The crates whose code, definitions or proofs changed, and those whose wrong bodies did."""
-    files = git("diff", "--name-only", since).split("\n") + git("ls-files", "-o", "--exclude-standard").split("\n")
+    files = call_git("diff", "--name-only", since).split("\n")
+    files += call_git("ls-files", "-o", "--exclude-standard").split("\n")
     parts = [file.split("/") for file in files if file.startswith("crates/")]
-    text = {it[1] for it in parts if it[2] in ("src", "specs", "proofs")}
-    edits = {it[1] for it in parts if it[2] == "must-fail" and os.path.isfile(f"{TOP}/{'/'.join(it)}")}
-    before = uses_of(git("show", f"{since}:crates.txt") or "")
-    return text | {it for it in uses if uses[it] != before.get(it)}, edits
+    text = {part[1] for part in parts if part[2] in ("src", "specs", "proofs")}
+    edits = {part[1] for part in parts if part[2] == "must-fail" and os.path.isfile(f"{TOP}/{'/'.join(part)}")}
+    before = read_uses(call_git("show", f"{since}:crates.txt") or "")
+    return text | {name for name in uses if uses[name] != before.get(name)}, edits
 
 
 def has_tests(crate):
-    for at, _, files in os.walk(f"{TOP}/crates/{crate}/src"):
-        for file in files:
-            with open(f"{at}/{file}", encoding="utf-8") as it:
-                if re.search(r"^\s*#\[test\]", it.read(), re.M):
-                    return True
+    for folder, _, files in os.walk(f"{TOP}/crates/{crate}/src"):
+        if any(re.search(r"^\s*#\[test\]", read_text(f"{folder}/{file}"), re.M) for file in files):
+            return True
     return False
 
 
-def ran(what, words, folder):
-    """Runs a command, shows what it says where it fails, and says what it took of the processor."""
+def end_group(child):
+    """Ends a command and all that it started."""
+    with contextlib.suppress(ProcessLookupError):
+        os.killpg(child.pid, signal.SIGTERM)
+    try:
+        child.wait(10)
+    except subprocess.TimeoutExpired:
+        os.killpg(child.pid, signal.SIGKILL)
+        child.wait()
+
+
+def run_part(name, words, folder):
+    """Runs a command, shows its output where it fails, and says what it took of the processor. Returns whether all went
+    well."""
     before = resource.getrusage(resource.RUSAGE_CHILDREN)
-    did = subprocess.run(
-        words, cwd=folder, stdin=subprocess.DEVNULL, stdout=subprocess.PIPE, stderr=subprocess.STDOUT, text=True
-    )
+    streams = {"stdin": subprocess.DEVNULL, "stdout": subprocess.PIPE, "stderr": subprocess.STDOUT}
+    child = subprocess.Popen(words, cwd=folder, text=True, errors="replace", start_new_session=True, **streams)
+    try:
+        said, _ = child.communicate()
+    except BaseException:
+        end_group(child)
+        raise
     after = resource.getrusage(resource.RUSAGE_CHILDREN)
     took = after.ru_utime + after.ru_stime - before.ru_utime - before.ru_stime
-    if did.returncode:
-        print(did.stdout, end="")
+    status = child.returncode
+    if status:
+        print(said, end="")
     # (What is killed says nothing itself. rt then ends with 256 less the signal.)
-    signal = -did.returncode if did.returncode < 0 else 256 - did.returncode if did.returncode > 192 else 0
-    end = f"FAILED, ended by signal {signal}" if signal else "FAILED" if did.returncode else "ok"
-    print(f"{took:8.1f} s  {what}: {end}", flush=True)
-    return not did.returncode
+    number = -status if status < 0 else 256 - status if status > 192 else 0
+    end = f"FAILED, ended by signal {number}" if number else "FAILED" if status else "ok"
+    print(f"{took:8.1f} s  {name}: {end}", flush=True)
+    return not status
 
 
-def main():
-    if not shutil.which("rt"):
-        return NO_RT
-    if not shutil.which("git"):
-        return "there is no git in PATH, which knows what changed: run make test, which proves all"
-    # (Without a .git, git would look at a repository around this folder.)
-    if not os.path.exists(f"{TOP}/.git"):
-        return "this folder is no clone, so git does not know what changed: run make test, which proves all"
-    since = commit(sys.argv[1:])
-    if git("rev-parse", "-q", "--verify", f"{since}^{{commit}}") is None:
-        return f"git knows no commit {since} here: name one that it knows, make check SINCE=COMMIT"
-    with open(f"{TOP}/crates.txt", encoding="utf-8") as it:
-        uses = uses_of(it.read())
-    text, edits = changed_since(since, uses)
-    above = set()
+def list_parts(uses, text, edits):
+    """What is run: a name, a command and its folder for each part."""
+    above, parts = set(), []
     for crate in uses:
-        if crate in text or any(it in above for it in uses[crate]):
+        if crate in text or any(name in above for name in uses[crate]):
             above.add(crate)
-    parts = []
-    for crate in [it for it in uses if it in above]:
+    for crate in [name for name in uses if name in above]:
         folder = f"{TOP}/crates/{crate}"
         parts.append((f"{crate}, the proof", ["rt", "check"], folder))
         if has_tests(crate):
             parts.append((f"{crate}, the tests", ["rt", "test"], folder))
-    for crate in [it for it in uses if it in text | edits and os.path.isdir(f"{TOP}/crates/{it}/must-fail")]:
+    for crate in [name for name in uses if name in text | edits and os.path.isdir(f"{TOP}/crates/{name}/must-fail")]:
         parts.append((f"{crate}, the wrong bodies", ["rt", "must-fail", crate], TOP))
-    print(f"since {since}: changed {' '.join(it for it in uses if it in text) or 'nothing'}")
+    return parts
+
+
+def main():
+    if not shutil.which("rt"):
+        raise Failed(NO_RT)
+    if not shutil.which("git"):
+        raise Failed("there is no git in PATH, which knows what changed: run make test, which proves all")
+    # (Without a .git, git would look at a repository around this folder.)
+    if not os.path.exists(f"{TOP}/.git"):
+        raise Failed("this folder is no clone, so git does not know what changed: run make test, which proves all")
+    since = choose_commit(sys.argv[1:])
+    if call_git("rev-parse", "-q", "--verify", f"{since}^{{commit}}") is None:
+        raise Failed(f"git knows no commit {since} here: name one that it knows, make check SINCE=COMMIT")
+    uses = read_uses()
+    text, edits = find_changed(since, uses)
+    parts = list_parts(uses, text, edits)
+    print(f"since {since}: changed {' '.join(name for name in uses if name in text) or 'nothing'}")
     if parts:
-        print(f"{len(parts)} parts, each of which may take minutes: {'; '.join(what for what, _, _ in parts)}", flush=True)
-    for part in parts:
-        if not ran(*part):
-            return 1
-    return 0
+        names = "; ".join(name for name, _, _ in parts)
+        print(f"{len(parts)} parts, each of which may take minutes: {names}", flush=True)
+    return 0 if all(run_part(*part) for part in parts) else 1
 
 
-if __name__ == "__main__":
-    sys.exit(main())
+run_script(main)

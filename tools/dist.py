@@ -31,7 +31,7 @@ import tempfile
 sys.dont_write_bytecode = True
 
 from install import TOP, bytes_of, files, files_of_tools, git, lines_of, source_id
-from static import ARCHIVES
+from project import ARCHIVES
 
 VERSION = bytes_of(f"{TOP}/VERSION").decode().strip()
 # The time that every file bears, in seconds: that of this version, if SOURCE_DATE_EPOCH names no other.

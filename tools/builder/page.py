@@ -1,0 +1,183 @@
+"""The tools over bytes in memory as WebAssembly, in one page without other files, build/page/ptext.html.
+
+The gate proves the crates below `ptrunc`, or takes what it proved on this machine, as for the library for C. It has no
+place for crates of WebAssembly. So the module is made here from copies: `ptrunc` as it is, except that its heap is
+another one, and that heap, which is the toolchain's with its three calls of C taken from the host. Both copies are
+checked as any crate, over what an earlier run kept, before they are compiled. docs/PAGE.md says what that shows.
+"""
+import base64
+import html
+import json
+import os
+import re
+import shlex
+import shutil
+import subprocess
+import sys
+import tempfile
+
+sys.path.append(os.path.join(os.path.dirname(os.path.dirname(os.path.dirname(os.path.realpath(__file__)))), "tests"))
+
+from pages import examples_of
+from library import CRATE, KEPT, make_words
+from names import NAMES
+from project import TOP, Failed, put, read_text, read_version, run, say, write_text
+from proving import Crates, describe_kept, leave_out, prove
+
+WASM = "wasm64-unknown-unknown"
+# The stack of the module, in bytes. (The calls of the program take a few tens of thousands.)
+STACK = 4 * 2**20
+# How many files the page has room for.
+FILES = 2
+HEAP = "hostheap"
+HEAP_KEPT = f"{TOP}/build/{HEAP}-kept"
+# What is changed in the copy of the toolchain's heap: in its code, in the declarations of its calls, and in its proofs.
+IN_CODE = [
+    ("libc::heap::", "crate::heap::"),
+    ("mod cmp;\npub mod impls;\n", "mod heap;\n"),
+]
+IN_CALLS = [
+    ('\nunsafe extern "C" {', '\n#[link(wasm_import_module = "host")]\nunsafe extern "C" {'),
+    ("crate::types::Tried", "libc::types::Tried"),
+]
+IN_PROOFS = [
+    ("Rattle.std_heap.", f"Rattle.{HEAP}."),
+    ("Rattle.libc.specs.contracts.heap.", f"Rattle.{HEAP}.specs.contracts.heap."),
+    ("Rattle.libc.proofs.heap.", f"Rattle.{HEAP}.proofs.heap."),
+    ("code.calls-libc::heap::", f"code.calls-{HEAP}::heap::"),
+]
+# What is changed in the copy of `ptrunc`, in src/lib.rt.
+IN_CRATE = [("use std::alloc::Global;", f"use {HEAP}::Global;")]
+
+
+def copy_changed(source, to, pairs):
+    """Copies a file and puts the second text of each pair in the place of the first."""
+    text = read_text(source)
+    for old, new in pairs:
+        if old not in text:
+            raise Failed(f"{source} is another one than this script knows: it lacks {old!r}")
+        text = text.replace(old, new)
+    write_text(to, text)
+
+
+def change_proof(text):
+    for old, new in IN_PROOFS:
+        text = text.replace(old, new)
+    return text
+
+
+def make_heap(kit, place):
+    """Makes the heap of the module in the place, and proves it."""
+    made, of_kit = f"{place}/{HEAP}", f"{kit}/rattle/std_heap"
+    copy_changed(f"{of_kit}/src/lib.rt", f"{made}/src/lib.rt", IN_CODE)
+    copy_changed(f"{kit}/rattle/libc/src/heap.rt", f"{made}/src/heap.rt", IN_CALLS)
+    for folder, _, names in os.walk(f"{of_kit}/proofs"):
+        for name in names:
+            inside = os.path.relpath(f"{folder}/{name}", of_kit)
+            write_text(f"{made}/{inside}", change_proof(read_text(f"{folder}/{name}")))
+    words = ["--crate-name", HEAP, "src/lib.rt"]
+    for name in ("core", "libc"):
+        words += ["--extern", f"{name}={kit}/rlibs/{name}.rlib"]
+    words += ["-L", f"dependency={kit}/rlibs", "--antt-project", f"{kit}/rattle/logic/antt-project.json"]
+    words += ["--logic-built", f"{kit}/logic_built", "--jobs", "2", "--incremental", HEAP_KEPT]
+    run([f"{kit}/bin/rattle", "build", *words, "-o", f"{place}/rlib/{HEAP}.rlib"], made)
+
+
+def make_module(kit, place, room, crates):
+    """Makes ptext.wasm in the place."""
+    made = f"{place}/{CRATE}"
+    shutil.copytree(f"{TOP}/crates/{CRATE}", made, ignore=leave_out)
+    copy_changed(f"{TOP}/crates/{CRATE}/src/lib.rt", f"{made}/src/lib.rt", IN_CRATE)
+    words = [*make_words(kit, room, crates, KEPT), "--extern", f"{HEAP}={place}/rlib/{HEAP}.rlib", "--target", WASM]
+    run([*words, "-o", f"{place}/ptext.a"], made)
+    link = ["--target", WASM, "--toolchain", f"{kit}/toolchain", "--stack", str(STACK)]
+    run([f"{kit}/bin/rattle-link", *link, "-o", f"{place}/ptext.wasm", f"{place}/ptext.a"], place)
+
+
+# ---- the page
+
+
+def run_shell(command, folder):
+    """The output of a command that makes an input."""
+    return subprocess.run(["sh", "-c", command], cwd=folder, capture_output=True, text=True, check=True).stdout
+
+
+def fill_fields(command, folder):
+    """What an example puts into the fields of the page: the commands of ptext, and the inputs that others make."""
+    makes, ptext, rest = command.partition("ptext ")
+    text = (ptext + rest).removesuffix("; echo $?").replace("| ptext ", "| ").removeprefix("ptext ")
+    found = {"command": text, "stdin": run_shell(makes.strip().removesuffix("|"), folder) if makes else ""}
+    names = dict.fromkeys(word for word in shlex.split(text) if os.path.isfile(f"{folder}/{word}"))
+    if len(names) > FILES:
+        raise Failed(f"an example in man/ needs more than {FILES} files, for which page/page.html has no room: {command}")
+    for number, name in enumerate(names, 1):
+        found |= {f"name{number}": name, f"file{number}": read_text(f"{folder}/{name}")}
+    return found
+
+
+def find_examples_of_tools():
+    """The examples of the pages of the tools, with the name of the tool. Of those with the same command, only the first
+    is taken: nobody could tell two buttons with the same text apart."""
+    for tool in NAMES:
+        known = []
+        with tempfile.TemporaryDirectory() as folder:
+            for _, command, _ in examples_of(f"man/ptext-{tool}.1"):
+                if "ptext " in command:
+                    example = fill_fields(command, folder)
+                    if example["command"] not in known:
+                        yield tool, example
+                    known.append(example["command"])
+                elif " > " in command:
+                    run_shell(command, folder)
+
+
+def make_buttons(all_examples):
+    """A list of buttons for each tool."""
+    text = ""
+    for tool in NAMES:
+        text += f'<h3>{tool}</h3>\n<ul aria-label="Examples of {tool}">\n'
+        for number, (of, example) in enumerate(all_examples):
+            if of == tool:
+                shown = html.escape(example["command"])
+                text += f'<li><button type="button" data-example="{number}"><code>{shown}</code></button></li>\n'
+        text += "</ul>\n"
+    return text
+
+
+def read_script(name):
+    """A module of page/ as a plain script."""
+    text = re.sub(r"^import .*\n", "", read_text(f"{TOP}/page/{name}"), flags=re.M)
+    return re.sub(r"^export ", "", text, flags=re.M)
+
+
+def make_page(wasm):
+    """The text of the page."""
+    all_examples = list(find_examples_of_tools())
+    with open(wasm, "rb") as file:
+        encoded = base64.b64encode(file.read()).decode()
+    parts = {
+        "page.css": read_text(f"{TOP}/page/page.css"),
+        "buttons": make_buttons(all_examples),
+        "version": read_version(),
+        "module": encoded,
+        # (Within a script, `</` could end it.)
+        "examples": json.dumps([example for _, example in all_examples]).replace("</", "<\\/"),
+        "library": "".join(read_script(name) for name in ("ptext.mjs", "command.mjs", "shown.mjs")),
+        "worker.mjs": read_script("worker.mjs"),
+        "page.mjs": read_script("page.mjs"),
+    }
+    return re.sub(r"\{\{([\w.]+)\}\}", lambda found: parts[found[1]], read_text(f"{TOP}/page/page.html"))
+
+
+def build(kit, place):
+    crates = Crates(CRATE, False)
+    say(f"proving the {len(crates.names)} crates below {CRATE}, which takes minutes; {describe_kept()}")
+    room = prove(crates, place)
+    say(f"proving {CRATE} over the heap of a page, and compiling it: a minute or two")
+    os.makedirs(f"{TOP}/build/page", exist_ok=True)
+    os.mkdir(f"{place}/rlib")
+    make_heap(kit, place)
+    make_module(kit, place, room, crates)
+    write_text(f"{place}/ptext.html", make_page(f"{place}/ptext.wasm"))
+    put(f"{place}/ptext.html", f"{TOP}/build/page/ptext.html")
+    return "build/page/ptext.html"
