@@ -17,14 +17,16 @@ that it breaks, the smallest command that was found is shown.
   unjudged         none of the above applies
 
 An implementation does not run a command that the definitions refuse, or one with a tool or an option that it lacks.
+All processors are used. Every ten seconds a line says how far it is. If it is stopped, what was counted until then is
+shown. Cases that are unjudged are shown as they are found, and at the end.
 The status is 1 if the program differs from the definitions, or if a difference of GNU's tools of the known version is
 unjudged.
 """
 import argparse
-import collections
 import os
 import random
 import re
+import signal
 import sys
 import tempfile
 
@@ -34,19 +36,14 @@ sys.path.insert(0, f"{TOP}/tools")
 
 import corpus
 from generating import some_case
-from judging import Judge
 from model import answer_of
 from points import POINTS
 from reading import FLAGS
-from report import KINDS, command_of, example_of, in_printf, rule_named, table_head, table_row
+from report import in_printf, table_head
 from running import SIDES, Side, multi_call, run, side_of
+from tallying import Stopped, Work, shorten, stop
 
 KNOWN_VERSION = "9.1"
-MOST_SHOWN = 300
-
-
-def short(text):
-    return repr(text) if len(text) <= MOST_SHOWN else f"{text[:MOST_SHOWN]!r}.. ({len(text)} bytes)"
 
 
 def check_headings():
@@ -61,53 +58,16 @@ def differs_from_definitions(program, case, room):
     wanted, got = answer_of(case), run([program, *case.words()], case, room)
     if wanted == got:
         return None
-    rows = [f"{name}: {it.status} {short(it.out)} {it.messages!r}" for name, it in (("wanted", wanted), ("found", got))]
-    inputs = {name: short(text) for name, text in case.inputs.items() if name in case.files()}
+    rows = [f"{name}: {it.status} {shorten(it.out)} {it.messages!r}" for name, it in (("wanted", wanted), ("found", got))]
+    inputs = {name: shorten(text) for name, text in case.inputs.items() if name in case.files()}
     return f"FAILED: {case.words()} in pieces of {case.piece}\n" + "\n".join(rows) + f"\ninputs: {inputs}\n"
 
 
-def cases_of(given):
-    """The random cases, each with its number."""
+def make_cases(given, share, shares):
+    """The random cases of a share of the work, each with its number."""
     tools = [given.tool] if given.tool else list(FLAGS)
-    for number in range(given.count) if given.only is None else [given.only]:
+    for number in range(share, given.count, shares) if given.only is None else [given.only] * (not share):
         yield number, some_case(tools[number % len(tools)], random.Random(f"{given.seed} {number}"))
-
-
-class Tally:
-    """The verdicts on one implementation."""
-
-    def __init__(self, side, room):
-        self.judge, self.side = Judge(side, tempfile.mkdtemp(dir=room)), side
-        self.counts, self.titles, self.unjudged = collections.Counter(), collections.Counter(), []
-
-    def add(self, case):
-        verdict = self.judge.judge(case)
-        if verdict:
-            self.counts[verdict.kind] += 1
-            self.titles[verdict.kind, case.tool, verdict.title] += verdict.kind != "equal"
-            if verdict.kind == "unjudged":
-                self.unjudged.append(verdict.case)
-
-    def row(self):
-        return table_row(self.side.name, self.side.version(), self.counts)
-
-    def details(self):
-        """The count of each difference, and the example of each wrong one."""
-        for (kind, tool, title), count in sorted(self.titles.items(), key=lambda it: (KINDS.index(it[0][0]), it[0])):
-            if count:
-                yield f"{count:6} {kind}: {tool}: {title}"
-        for (tool, title), (_, case) in sorted(self.judge.found.items()):
-            rule = rule_named(title, tool)
-            yield f"\n{self.side.name}: {tool}: {title} ({rule.section}: \"{rule.sentence}\")"
-            yield example_of(case, self.side, *self.judge.answers(case))
-        for case in self.unjudged:
-            wanted, got = self.judge.answers(case)
-            yield f"unjudged: {self.side.name}: {command_of(case, [case.tool])}"
-            yield f"wanted {wanted.status} {short(wanted.out)}, found {got.status} {short(got.out)} {got.messages!r}"
-
-    def found(self):
-        """The wrong cases, with the titles of their rules."""
-        return [(case, title) for (_, title), (_, case) in self.judge.found.items()]
 
 
 def check_corpus(program, folder, room):
@@ -142,26 +102,27 @@ def sides_of(given, program):
 def compare(given, program, room):
     """Runs the random cases and returns the exit status."""
     print(f"seed {given.seed}", flush=True)
-    tallies, bad, count = [Tally(it, room) for it in sides_of(given, program)], 0, 0
-    for number, case in cases_of(given):
-        count += 1
-        found = differs_from_definitions(program, case, room)
-        if found:
-            bad += 1
-            print(f"case {number}: {found}", flush=True)
-        elif answer_of(case).status != 2:
-            tallies[0].counts["equal"] += 1
-        for tally in tallies[0 if found else 1 :]:
-            tally.add(case)
+    all_work = Work(
+        sides_of(given, program),
+        lambda share, shares: make_cases(given, share, shares),
+        lambda case, folder: differs_from_definitions(program, case, folder),
+        room,
+    )
+    is_stopped = all_work.run(given.count)
+    tallies = all_work.tallies
     for tally in tallies if not given.brief else []:
         print(*tally.details(), sep="\n", flush=True)
     if not given.brief:
-        print(table_head(), *(it.row() for it in tallies), sep="\n")
+        print(table_head(), *(tally.row() for tally in tallies), sep="\n")
+    bad, count = tallies[0].failed, tallies[0].tried
     print(f"{count - bad} of {count} cases as the definitions have them")
     if given.keep:
-        corpus.add(given.keep, [it for tally in tallies for it in tally.found()])
-    is_known = [it for it in tallies if it.side.name == "system" and it.side.version() == KNOWN_VERSION]
-    return 1 if bad or any(it.unjudged for it in is_known) else 0
+        corpus.add(given.keep, [case for tally in tallies for case in tally.wrong_cases()])
+    if is_stopped:
+        print("stopped: of each implementation, the cases that were tried until then are counted")
+        return 130
+    is_known = [tally for tally in tallies if tally.side.name == "system" and tally.side.version() == KNOWN_VERSION]
+    return 1 if bad or any(tally.unjudged for tally in is_known) else 0
 
 
 def main():
@@ -181,8 +142,12 @@ def main():
     if lacking:
         return f"not in docs/COMPARISON.md: {', '.join(lacking)}"
     program = os.path.abspath(given.program)
+    signal.signal(signal.SIGTERM, stop)
     with tempfile.TemporaryDirectory() as room:
-        return check_corpus(program, given.corpus, room) if given.corpus else compare(given, program, room)
+        try:
+            return check_corpus(program, given.corpus, room) if given.corpus else compare(given, program, room)
+        except (KeyboardInterrupt, Stopped):
+            return 130
 
 
 if __name__ == "__main__":

@@ -51,6 +51,14 @@ def rule_of(case, wanted, got):
     return next((it for it in RULES if case.tool in it.tools.split() and it.is_broken(case, wanted, got)), None)
 
 
+def keep_smaller(found, mark, count, case):
+    """Adds to the count of this mark, and keeps the smaller example."""
+    before, smallest = found.get(mark, (0, None))
+    if smallest is None or size_of(case) < size_of(smallest):
+        smallest = case
+    found[mark] = (before + count, smallest)
+
+
 class Judge:
     """Judges the answers of one implementation. It keeps the smallest example for each rule."""
 
@@ -70,10 +78,7 @@ class Judge:
 
     def keep(self, title, case):
         """Keeps an example of a wrong answer, if it is the smallest."""
-        count, smallest = self.found.get((case.tool, title), (0, None))
-        if smallest is None or size_of(case) < size_of(smallest):
-            smallest = case
-        self.found[case.tool, title] = (count + 1, smallest)
+        keep_smaller(self.found, (case.tool, title), 1, case)
 
     def wants_example(self, case, title):
         """Whether fewer than `EXAMPLES` cases of the rule were made smaller."""
