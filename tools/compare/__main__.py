@@ -50,8 +50,8 @@ def short(text):
 
 
 def check_headings():
-    """The headings in points.py that docs/COMPARISON.md lacks."""
-    with open(f"{TOP}/docs/COMPARISON.md", encoding="utf-8") as it:
+    """The headings in points.py that docs/REPLACING.md lacks."""
+    with open(f"{TOP}/docs/REPLACING.md", encoding="utf-8") as it:
         known = re.findall(r"^#+ (.*)$", it.read(), re.M)
     return [it.heading for it in POINTS if it.heading and it.heading not in known]
 
@@ -179,7 +179,7 @@ def main():
     given = words.parse_args()
     lacking = check_headings()
     if lacking:
-        return f"not in docs/COMPARISON.md: {', '.join(lacking)}"
+        return f"not in docs/REPLACING.md: {', '.join(lacking)}"
     program = os.path.abspath(given.program)
     with tempfile.TemporaryDirectory() as room:
         return check_corpus(program, given.corpus, room) if given.corpus else compare(given, program, room)
