@@ -2,18 +2,20 @@
 """Runs the examples of the README, the pages and the docs, and lints the pages. Checks that the options of the pages and
 of the completion are those of the program, that the pages contain its messages and its version, that the commands of
 docs/REPLACING.md for GNU's options do the same as these, that the definitions, tests, modules and paths that the docs
-name exist, and that the wrong bodies that the gate leaves out still apply.
+name exist, that the README has the numbers of bench/README.md, and that the wrong bodies that the gate leaves out still
+apply.
 
   python3 tests/pages.py PROGRAM
 
 An example is a line `$ COMMAND` in a block. The lines below it are its output and messages, as a terminal shows them.
-The commands of one file run in their order and in one folder, in which `ptext` is PROGRAM. A line `bash$ COMMAND` needs
-bash. A line `gnu$ COMMAND` is an example of GNU's tools, and `busybox$ COMMAND` one of busybox's; `toybox$`, `uutils$`
-and `9base$` are of three others. If the system has another version than the documents compare with, their examples
-are left out. So are, each with a message, the lint if there is no mandoc, and the completion and
-the examples of bash if there is no bash.
+The commands of one file run in their order and in one folder, in which `ptext` is PROGRAM, and so is `build/ptext`. A
+line `bash$ COMMAND` needs bash. A line `gnu$ COMMAND` is an example of GNU's tools, and `busybox$ COMMAND` one of
+busybox's; `toybox$`, `uutils$` and `9base$` are of three others. If the system has another version than the documents
+compare with, their examples are left out. So are, each with a message, the lint if there is no mandoc, and the
+completion and the examples of bash if there is no bash.
 """
 import glob
+import math
 import os
 import re
 import shutil
@@ -108,8 +110,9 @@ def run_all(file, program, known):
     good = bad = 0
     with tempfile.TemporaryDirectory() as room:
         os.mkdir(f"{room}/bin")
-        os.mkdir(f"{room}/here")
+        os.makedirs(f"{room}/here/build")
         os.symlink(program, f"{room}/bin/ptext")
+        os.symlink(program, f"{room}/here/build/ptext")
         surroundings = {**os.environ, "PATH": f"{room}/bin:{os.environ['PATH']}", "LC_ALL": "C"}
         for side, command, wanted in examples_of(file):
             if side and not known[side]:
@@ -168,6 +171,23 @@ def other_versions():
         with open(f"{TOP}/{file}", encoding="utf-8") as it:
             found += [] if wanted in it.read() else [f"{file} does not name version {version}\n"]
     return "".join(found)
+
+
+def wrong_speed():
+    """The numbers of the README that are not those of bench/README.md: rows of its table, and how much faster than
+    GNU's tools the works are, as a geometric mean and at least."""
+    texts = []
+    for file in ("README.md", "bench/README.md"):
+        with open(f"{TOP}/{file}", encoding="utf-8") as read:
+            texts.append(read.read())
+    said, measured = texts
+    works = measured.partition("## By work")[2].partition("**geometric mean**")[0]
+    gains = [1 / float(ratio) for ratio in re.findall(r"^\| `.*?\| (\d[\d.]*) \|", works, re.M)]
+    mean, least = math.exp(sum(map(math.log, gains)) / len(gains)), min(gains)
+    wanted = [f"{mean:.1f} times as fast", f"the geometric mean of {len(gains)} works", f"the least is {least:.1f} times"]
+    found = [f"README.md does not say: {words}\n" for words in wanted if words not in re.sub(r"\s+", " ", said)]
+    rows = re.findall(r"^(\| `.* \| [\d,]+ \| [\d,]+ \|)$", said, re.M)
+    return "".join(found + [f"not a row of bench/README.md: {row}\n" for row in rows if row not in measured])
 
 
 def letters_of_program(program, tool):
@@ -368,7 +388,7 @@ def main():
         print(f"left out: the examples of {side} (the system does not have it, or has another version)")
     counts = [run_all(file, program, known) for file in FILES]
     good, bad = (sum(it) for it in zip(*counts))
-    found = lint() + macros_in_headings() + other_versions() + wrong_options(program) + lacking_messages()
+    found = lint() + macros_in_headings() + other_versions() + wrong_speed() + wrong_options(program) + lacking_messages()
     found += wrong_rows(program, known["gnu"]) + lacking_names() + lacking_paths() + lost_edits()
     print(f"{found}{good} of {good + bad} examples as wanted")
     return 1 if bad or found else 0
