@@ -11,11 +11,11 @@
 # make lib                  build/libptext.so and build/libptext.a with ptext.h: the tools over bytes in memory, for C
 # make install-lib          installs them and the page ptext(3) into PREFIX
 # make python               build/dist: a wheel of the Python module, with the library in it (docs/LIBRARY.md)
-# make page                 build/page/ptext.html: the tools in a browser, as one file (docs/PAGE.md)
+# make page                 build/page/ptext.html: the tools in a browser, as one file (docs/LIBRARY.md)
 # make bench                ratios to the system's tools, by the length of a line and by work: tables, data and chart in
 #                           bench/; and the tools over parts of their input, on all processors
 # make compare N=5000       random words and inputs, against the definitions and the system's tools; AGAINST=busybox,
-#                           toybox, uutils, 9base, all, or a path, compares with others (docs/OTHERS.md)
+#                           toybox, uutils, 9base, all, or a path, compares with others (docs/POSIX.md)
 # make install PREFIX=..    installs the program, its pages and completion into PREFIX (/usr/local), below DESTDIR
 # make install-tools        adds PREFIX/libexec/ptext/bin with each tool by its own name, a folder to put into PATH
 # make uninstall PREFIX=..  takes away exactly what these two and install-lib installed

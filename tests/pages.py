@@ -2,18 +2,20 @@
 """Runs the examples of the README, the pages and the docs, and lints the pages. Checks that the options of the pages and
 of the completion are those of the program, that the pages contain its messages and its version, that the commands of
 docs/REPLACING.md for GNU's options do the same as these, that the definitions, tests, modules and paths that the docs
-name exist, and that the wrong bodies that the gate leaves out still apply.
+name exist, that the README has the numbers of bench/README.md, and that the wrong bodies that the gate leaves out still
+apply.
 
   python3 tests/pages.py PROGRAM
 
 An example is a line `$ COMMAND` in a block. The lines below it are its output and messages, as a terminal shows them.
-The commands of one file run in their order and in one folder, in which `ptext` is PROGRAM. A line `bash$ COMMAND` needs
-bash. A line `gnu$ COMMAND` is an example of GNU's tools, and `busybox$ COMMAND` one of busybox's; `toybox$`, `uutils$`
-and `9base$` are of three others. If the system has another version than docs/COMPARISON.md and docs/OTHERS.md compare
-with, their examples are left out. So are, each with a message, the lint if there is no mandoc, and the completion and
-the examples of bash if there is no bash.
+The commands of one file run in their order and in one folder, in which `ptext` is PROGRAM, and so is `build/ptext`. A
+line `bash$ COMMAND` needs bash. A line `gnu$ COMMAND` is an example of GNU's tools, and `busybox$ COMMAND` one of
+busybox's; `toybox$`, `uutils$` and `9base$` are of three others. If the system has another version than the documents
+compare with, their examples are left out. So are, each with a message, the lint if there is no mandoc, and the
+completion and the examples of bash if there is no bash.
 """
 import glob
+import math
 import os
 import re
 import shutil
@@ -26,10 +28,11 @@ TOP = os.path.dirname(os.path.dirname(os.path.realpath(__file__)))
 sys.dont_write_bytecode = True
 sys.path.insert(0, f"{TOP}/tools")
 
+import manual
 from names import NAMES as TOOLS
 
 DOCS = ["README.md", "CONTRIBUTING.md", "CHANGELOG.md", "bench/README.md"]
-PAGES = [*glob.glob("man/*.[137]", root_dir=TOP), *glob.glob("docs/*.md", root_dir=TOP)]
+PAGES = [*glob.glob("man/*.[13]", root_dir=TOP), *glob.glob("docs/*.md", root_dir=TOP)]
 FILES = [*[it for it in DOCS if os.path.exists(f"{TOP}/{it}")], *sorted(PAGES)]
 VERSIONS = {
     "gnu": (["cut", "--version"], "(GNU coreutils) 9.1\n"),
@@ -61,7 +64,7 @@ SAMPLES = {"f": "A:1 p\na:1 p\na:1 p\nb:2 q\nb:2 q\nd:4 s\n", "g": "a:1 p\nb:2 q
 
 
 def is_page(file):
-    return file.endswith((".1", ".3", ".7"))
+    return file.endswith((".1", ".3"))
 
 
 def blocks_of_page(text):
@@ -107,8 +110,9 @@ def run_all(file, program, known):
     good = bad = 0
     with tempfile.TemporaryDirectory() as room:
         os.mkdir(f"{room}/bin")
-        os.mkdir(f"{room}/here")
+        os.makedirs(f"{room}/here/build")
         os.symlink(program, f"{room}/bin/ptext")
+        os.symlink(program, f"{room}/here/build/ptext")
         surroundings = {**os.environ, "PATH": f"{room}/bin:{os.environ['PATH']}", "LC_ALL": "C"}
         for side, command, wanted in examples_of(file):
             if side and not known[side]:
@@ -147,10 +151,12 @@ def lint():
     if not shutil.which("mandoc"):
         print("left out: the lint of the pages (there is no mandoc)")
         return ""
-    pages = sorted(glob.glob(f"{TOP}/man/*.[137]"))
-    words = ["mandoc", "-Tlint", "-Wstyle", *pages]
-    # (In one stream a line of the one kind could begin within a line of the other.)
-    did = subprocess.run(words, capture_output=True, text=True, check=False)
+    with tempfile.TemporaryDirectory() as room:
+        with open(f"{room}/{manual.NAME}", "w", encoding="utf-8") as made:
+            made.write(manual.make_page())
+        words = ["mandoc", "-Tlint", "-Wstyle", *sorted(glob.glob(f"{TOP}/man/*.[13]")), made.name]
+        # (In one stream a line of the one kind could begin within a line of the other.)
+        did = subprocess.run(words, capture_output=True, text=True, check=False)
     return "".join(it for it in (did.stdout + did.stderr).splitlines(keepends=True) if not MEANT.search(it))
 
 
@@ -165,6 +171,23 @@ def other_versions():
         with open(f"{TOP}/{file}", encoding="utf-8") as it:
             found += [] if wanted in it.read() else [f"{file} does not name version {version}\n"]
     return "".join(found)
+
+
+def wrong_speed():
+    """The numbers of the README that are not those of bench/README.md: rows of its table, and how much faster than
+    GNU's tools the works are, as a geometric mean and at least."""
+    texts = []
+    for file in ("README.md", "bench/README.md"):
+        with open(f"{TOP}/{file}", encoding="utf-8") as read:
+            texts.append(read.read())
+    said, measured = texts
+    works = measured.partition("## By work")[2].partition("**geometric mean**")[0]
+    gains = [1 / float(ratio) for ratio in re.findall(r"^\| `.*?\| (\d[\d.]*) \|", works, re.M)]
+    mean, least = math.exp(sum(map(math.log, gains)) / len(gains)), min(gains)
+    wanted = [f"{mean:.1f} times as fast", f"the geometric mean of {len(gains)} works", f"the least is {least:.1f} times"]
+    found = [f"README.md does not say: {words}\n" for words in wanted if words not in re.sub(r"\s+", " ", said)]
+    rows = re.findall(r"^(\| `.* \| [\d,]+ \| [\d,]+ \|)$", said, re.M)
+    return "".join(found + [f"not a row of bench/README.md: {row}\n" for row in rows if row not in measured])
 
 
 def letters_of_program(program, tool):
@@ -248,8 +271,8 @@ def rows_of_options():
 
 def wrong_rows(program, with_gnu):
     """The rows of docs/REPLACING.md whose first command is not refused with status 2, or whose second one does not the
-    same as GNU's tools do by the first (but for blanks before a count, and case if the row says so); and the commands
-    that the page of the tool or ptext-replacing(7) lacks. Also the long options of GNU's tools that have no row."""
+    same as GNU's tools do by the first (but for blanks before a count, and case if the row says so). Also the long
+    options of GNU's tools that have no row."""
     found = []
     with tempfile.TemporaryDirectory() as room:
         os.mkdir(f"{room}/bin")
@@ -265,14 +288,8 @@ def wrong_rows(program, with_gnu):
                 how = {"cwd": folder, "env": surroundings, "stdin": subprocess.DEVNULL, "capture_output": True}
                 return [subprocess.run(["sh", "-c", command], check=False, **how) for _ in range(count)]
 
-        if list(examples_of("docs/REPLACING.md")) != list(examples_of("man/ptext-replacing.7")):
-            found.append("the examples of docs/REPLACING.md are not those of man/ptext-replacing.7\n")
         for tool, rows in rows_of_options().items():
             found += [] if len(rows) > 5 else [f"docs/REPLACING.md has no rows for {tool}\n"]
-            pages = []
-            for page in (f"ptext-{tool}.1", "ptext-replacing.7"):
-                with open(f"{TOP}/man/{page}", encoding="utf-8") as it:
-                    pages.append((page, re.sub(r"\\(?:\(..|.)", lambda it: SIGNS.get(it[0], it[0]), it.read())))
             if with_gnu:
                 text = subprocess.run([tool, "--help"], capture_output=True, text=True, check=False).stdout
                 options = set(re.findall(r"^ .*?(--[a-z0-9-]+)", text, re.M)) - {"--help", "--version"}
@@ -282,9 +299,6 @@ def wrong_rows(program, with_gnu):
                 did = run(f"ptext {theirs}")[0]
                 if did.returncode != 2 or not did.stderr or did.stdout:
                     found.append(f"docs/REPLACING.md: not refused: {theirs}\n")
-                for page, text in pages:
-                    lacks = [it for it in (theirs, ours) if it and it not in text]
-                    found += [f"man/{page} lacks a command of docs/REPLACING.md: {it}\n" for it in lacks]
                 if ours:
                     # (Twice, since the first run leaves files.)
                     runs = run(ours, 2) + (run(theirs) if with_gnu else [])
@@ -374,7 +388,7 @@ def main():
         print(f"left out: the examples of {side} (the system does not have it, or has another version)")
     counts = [run_all(file, program, known) for file in FILES]
     good, bad = (sum(it) for it in zip(*counts))
-    found = lint() + macros_in_headings() + other_versions() + wrong_options(program) + lacking_messages()
+    found = lint() + macros_in_headings() + other_versions() + wrong_speed() + wrong_options(program) + lacking_messages()
     found += wrong_rows(program, known["gnu"]) + lacking_names() + lacking_paths() + lost_edits()
     print(f"{found}{good} of {good + bad} examples as wanted")
     return 1 if bad or found else 0

@@ -28,6 +28,7 @@ import tempfile
 
 sys.dont_write_bytecode = True
 
+import manual
 from names import NAMES
 
 TOP = os.path.dirname(os.path.dirname(os.path.realpath(__file__)))
@@ -102,7 +103,8 @@ def page(name, commit=None):
     commit = "" if commit == "unknown" else commit
     # (One word and no longer: groff leaves out the words after a version, and has the date between two of these.)
     made = f"+{commit[:8]}{'.changed' if is_changed else ''}" if commit else ""
-    lines = bytes_of(f"{TOP}/man/{name}").decode().splitlines(keepends=True)
+    text = manual.make_page() if name == manual.NAME else bytes_of(f"{TOP}/man/{name}").decode()
+    lines = text.splitlines(keepends=True)
     return "".join(f"{it.rstrip()}{made}\n" if it.startswith(".Os ") else it for it in lines).encode()
 
 
@@ -210,7 +212,7 @@ class Place:
 
 def pages_of_program():
     """The manual pages, without that of the library, which `make install-lib` installs."""
-    return sorted(it for it in os.listdir(f"{TOP}/man") if not it.endswith(".3"))
+    return sorted([manual.NAME, *(it for it in os.listdir(f"{TOP}/man") if not it.endswith(".3"))])
 
 
 def files(where, commit=None):

@@ -3,7 +3,7 @@
 The gate proves the crates below `ptrunc`, or takes what it proved on this machine, as for the library for C. It has no
 place for crates of WebAssembly. So the module is made here from copies: `ptrunc` as it is, except that its heap is
 another one, and that heap, which is the toolchain's with its three calls of C taken from the host. Both copies are
-checked as any crate, over what an earlier run kept, before they are compiled. docs/PAGE.md says what that shows.
+checked as any crate, over what an earlier run kept, before they are compiled. docs/LIBRARY.md says what that shows.
 """
 import base64
 import html

@@ -47,8 +47,8 @@ KNOWN_VERSION = "9.1"
 
 
 def check_headings():
-    """The headings in points.py that docs/COMPARISON.md lacks."""
-    with open(f"{TOP}/docs/COMPARISON.md", encoding="utf-8") as it:
+    """The headings in points.py that docs/REPLACING.md lacks."""
+    with open(f"{TOP}/docs/REPLACING.md", encoding="utf-8") as it:
         known = re.findall(r"^#+ (.*)$", it.read(), re.M)
     return [it.heading for it in POINTS if it.heading and it.heading not in known]
 
@@ -140,7 +140,7 @@ def main():
     given = words.parse_args()
     lacking = check_headings()
     if lacking:
-        return f"not in docs/COMPARISON.md: {', '.join(lacking)}"
+        return f"not in docs/REPLACING.md: {', '.join(lacking)}"
     program = os.path.abspath(given.program)
     signal.signal(signal.SIGTERM, stop)
     with tempfile.TemporaryDirectory() as room:

@@ -16,7 +16,7 @@ SURE = 2**31 - 1
 
 
 class Point(NamedTuple):
-    """A point, by its kind, a title, the tools it is about, and a condition. `heading` is that of docs/COMPARISON.md
+    """A point, by its kind, a title, the tools it is about, and a condition. `heading` is that of docs/REPLACING.md
     which has the difference to GNU's tools, if there is one. `closed` returns a similar case without the point, if
     the point can be removed."""
 

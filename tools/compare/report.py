@@ -85,7 +85,7 @@ def example_line(mark, words, case, answer):
 
 
 def example_of(case, side, wanted, got):
-    """A wrong answer as an example of docs/OTHERS.md: first that of the implementation, then that of ptext."""
+    """A wrong answer as an example of docs/POSIX.md: first that of the implementation, then that of ptext."""
     prompt = {"system": "gnu"}.get(side.name, side.name)
     theirs = example_line(f"{prompt}$", side.words_of(case.tool), case, got)
     return theirs + example_line("$", ["ptext", case.tool], case, wanted)
