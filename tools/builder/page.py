@@ -18,7 +18,7 @@ import tempfile
 
 sys.path.append(os.path.join(os.path.dirname(os.path.dirname(os.path.dirname(os.path.realpath(__file__)))), "tests"))
 
-from pages import examples_of
+from examples import find_examples
 from library import CRATE, KEPT, make_words
 from names import NAMES
 from project import TOP, Failed, put, read_text, read_version, run, say, write_text
@@ -121,7 +121,7 @@ def find_examples_of_tools():
     for tool in NAMES:
         known = []
         with tempfile.TemporaryDirectory() as folder:
-            for _, command, _ in examples_of(f"man/ptext-{tool}.1"):
+            for _, command, _ in find_examples(f"man/ptext-{tool}.1"):
                 if "ptext " in command:
                     example = fill_fields(command, folder)
                     if example["command"] not in known:

@@ -1,0 +1,92 @@
+#!/usr/bin/env python3
+"""Checks what documents name: the definitions, tests and cases of docs/POSIX.md, modules, types and paths; and that the
+README has the numbers of bench/README.md.
+
+  python3 tests/references.py
+"""
+import glob
+import math
+import os
+import re
+import sys
+
+sys.dont_write_bytecode = True
+sys.path.insert(0, os.path.join(os.path.dirname(os.path.dirname(os.path.realpath(__file__))), "tools"))
+
+from examples import FILES, TOP
+from project import read_text
+
+NAMING = [f"docs/{it}.md" for it in ("proofs", "definitions", "PROVED", "DECISIONS")]
+
+
+def compare_speed():
+    """The numbers of the README that are not those of bench/README.md: rows of its table, and how much faster than
+    GNU's tools the works are, as a geometric mean and at least."""
+    said, measured = (read_text(f"{TOP}/{file}") for file in ("README.md", "bench/README.md"))
+    works = measured.partition("## By work")[2].partition("**geometric mean**")[0]
+    gains = [1 / float(ratio) for ratio in re.findall(r"^\| `.*?\| (\d[\d.]*) \|", works, re.M)]
+    mean, least = math.exp(sum(map(math.log, gains)) / len(gains)), min(gains)
+    wanted = [f"{mean:.1f} times as fast", f"the geometric mean of {len(gains)} works", f"the least is {least:.1f} times"]
+    found = [f"README.md does not say: {words}\n" for words in wanted if words not in re.sub(r"\s+", " ", said)]
+    rows = re.findall(r"^(\| `.* \| [\d,]+ \| [\d,]+ \|)$", said, re.M)
+    return "".join(found + [f"not a row of bench/README.md: {row}\n" for row in rows if row not in measured])
+
+
+def find_lacking_names():
+    """Definitions, rows, tests and cases that docs/POSIX.md names and that are not there."""
+    text = read_text(f"{TOP}/docs/POSIX.md")
+    cases = read_text(f"{TOP}/tests/program.sh")
+
+    def holds(pattern, words):
+        paths = glob.glob(f"{TOP}/crates/{pattern}", recursive=True)
+        return any(re.search(words, read_text(path), re.M) for path in paths)
+
+    found = set(re.findall(r"`([A-Z]\w+)\.(\w+)`", text)) - {("File", "name")}
+    begin = r"^(abbrev )?(pub )?(unfoldable )?(pub )?(record |data )?"
+    lacking = [f"{one}.{two}" for one, two in found if not holds(f"*/specs/**/{one}.antt", rf"{begin}{two}\b")]
+    rows = set(re.findall(r"`(\w+Examples)`", text)) - {"FileExamples"}
+    lacking += [it for it in rows if not glob.glob(f"{TOP}/crates/pt*tests/proofs/**/{it}.antt", recursive=True)]
+    tests = set(re.findall(r"`(pt\w+)::(\w+)::(\w+)`", text))
+    lacking += ["::".join(it) for it in tests if not holds(f"{it[0]}/src/{it[1]}.rt", rf"^fn {it[2]}\b")]
+    # The name of a case comes after the test that has it.
+    for crate, module, case in re.findall(r'`(pt\w+)::(\w+)::\w+`, "([^"]*)"', text):
+        lacking += [] if holds(f"{crate}/src/{module}.rt", f'"{re.escape(case)}"') else [f"{crate}::{module}: {case}"]
+    # Titles come after program.sh, up to the end of a cell or a sentence.
+    for titles in re.findall(r'program\.sh, ("[^|.;`]*")', text):
+        lacking += [it for it in re.findall(r'"([^"]*)"', titles) if f'same "{it}"' not in cases]
+    return "".join(f"docs/POSIX.md names what is not there: {it}\n" for it in sorted(lacking))
+
+
+def find_lacking_paths():
+    """Paths in crates/ that a text names, and modules, types and definitions that NAMING does, that are not there."""
+    paths = glob.glob(f"{TOP}/crates/*/[ps]*/**/*.*t*", recursive=True)
+    known = {os.path.basename(it).partition(".")[0] for it in paths}
+    for path in [it for it in paths if "/proofs/" not in it]:
+        known.update(re.findall(r"\b[A-Z]\w+", read_text(path)))
+    found = []
+    for file in [it for it in FILES if it.endswith(".md")]:
+        text = read_text(f"{TOP}/{file}").replace("specs/File.antt", "specs")
+        for path in re.findall(r"\b(?:crates/|(?<=`)pt[a-z]+/)[\w/*.-]*[\w*]", text):
+            ends = [f"{TOP}/crates/{path.removeprefix('crates/')}{it}" for it in ("", ".rt", ".antt")]
+            # (What checks keep is there only after a check.)
+            is_there = path.endswith("/out") or any(glob.glob(it) for it in ends)
+            found += [] if is_there else [f"{file} names a path that is not there: {path}\n"]
+        # Paths in any crate, except patterns such as `src/NAME.rt`.
+        for path in re.findall(r"`((?:src|specs|proofs|must-fail(?:-release)?)/[\w/.-]+)`", text):
+            ends = [f"{TOP}/crates/*/{path}{it}" for it in ("", ".rt", ".antt")]
+            is_one = not re.search(r"\b(NAME|PATH|A/B)\b", path)
+            found += [f"{file} names a path that is not there: {path}\n"] if is_one and not any(map(glob.glob, ends)) else []
+        spans = " ".join(re.findall(r"`[^`\n]+`", text)) if file in NAMING else ""
+        words = set(re.findall(r"\b[A-Z][a-z]\w+", spans))
+        found += [f"{file} names what is not there: {it}\n" for it in sorted(words - known)]
+    return "".join(found)
+
+
+def main():
+    found = compare_speed() + find_lacking_names() + find_lacking_paths()
+    print(found or "what documents name is there")
+    return 1 if found else 0
+
+
+if __name__ == "__main__":
+    sys.exit(main())
