@@ -111,6 +111,7 @@ python: build/libptext.a
 	cp build/libptext.so.$(shell cat VERSION) build/python/ptext/libptext.so
 	@# (setuptools warns of `setup.py install`, which this runs for a folder that goes into the wheel.)
 	cd build/python && $(PYTHON) -W ignore setup.py -q bdist_wheel -d ../dist
+	@python3 tools/dist.py sums build/dist
 	@echo "built $$(echo build/dist/ptext-$(shell cat VERSION)-*.whl), which pip install takes"
 
 page: build/page/ptext.html

@@ -8,18 +8,9 @@
 set -u
 top=$(cd "$(dirname "$0")/.." && pwd)
 version=$(cat "$top/VERSION")
-room=$(mktemp -d)
-trap 'rm -rf "$room"' EXIT
+. "$top/tests/common.sh"
 # (Root's PATH lacks these here and there, and dpkg wants them.)
 PATH=$PATH:/usr/local/sbin:/usr/sbin:/sbin
-bad=0
-
-# is NAME WANTED FOUND: that the two are the same
-is() {
-    [ "$2" = "$3" ] && return
-    bad=$((bad + 1))
-    printf 'FAILED: %s\nwanted: %s\nfound: %s\n' "$1" "$2" "$3"
-}
 
 # same NAME FILE FILE: that two files have the same bytes
 same() {
@@ -88,6 +79,29 @@ for library in $(sed -n 's/^pt[a-z]*: *//p' "$top/crates.txt" | tr ' ' '\n' | gr
         break
     done
 done
+
+# The archive of the static program has all that the other one has, and what its license asks for. SHA256SUMS beside the
+# archives has all of them.
+if [ -x "$top/build/ptext-static" ] && [ -f "$top/build/ptext.o" ] && has rt; then
+    python3 "$top/tools/dist.py" static "$room/one" >"$room/said" 2>&1 || { cat "$room/said"; bad=$((bad + 1)); }
+    static=ptext-$version-linux-x86_64-static
+    mkdir "$room/static"
+    tar -xzf "$room/one/$static.tar.gz" -C "$room/static" --strip-components=1
+    is "what the static archive has besides" "relink/README relink/liblibc_c.a relink/libos_c.a relink/ptext.o " \
+        "$(for folder in program static; do (cd "$room/$folder" && find . -type f | sed 's|^[.]/||'); done |
+            LC_ALL=C sort | uniq -u | tr '\n' ' ')"
+    is "its checksums" "" "$(cd "$room/static" && sha256sum --quiet -c SHA256SUMS 2>&1)"
+    same "its program" "$room/static/bin/ptext" "$top/build/ptext-static"
+    is "NOTICES of it name the C library" 1 "$(grep -c 'GNU C Library' "$room/static/NOTICES")"
+    is "a tool of it by its own name" '1 a' "$(echo a | "$room/static/libexec/ptext/bin/uniq" -c)"
+    gcc -static -s -o "$room/linked" "$room/static/relink/ptext.o" "$room/static/relink/libos_c.a" \
+        "$room/static/relink/liblibc_c.a"
+    is "it can be linked anew" acd "$(echo abcd | "$room/linked" cut -c 3-,1)"
+    is "the checksums beside the archives" "3 OK" \
+        "$(cd "$room/one" && echo "$(wc -l <SHA256SUMS) $(sha256sum --quiet -c SHA256SUMS >/dev/null 2>&1 && echo OK)")"
+else
+    left_out "the archive of the static program (make static builds it; the toolchain has what is linked with it)"
+fi
 
 # The commands of INSTALL.md.
 lines() {
@@ -171,7 +185,7 @@ if command -v git >/dev/null; then
         "$(refused "$room/source" dist)"
     is "nothing is left of it" ptext "$(ls -A "$room/source/build")"
 else
-    echo "left out: archives of a checkout (there is no git)"
+    left_out "archives of a checkout (there is no git)"
     mkdir "$room/source/.git"
 fi
 # Without git, without the tools of the packages, and without the toolchain: one line, and nothing is left behind.
@@ -255,7 +269,7 @@ elif command -v dpkg-buildpackage >/dev/null && command -v dh >/dev/null; then
         into -P ptext-tools ptext
         is "nothing is left of the packages" "" "$(find "$room/root" -name '*ptext*')"
     else
-        echo "left out: the installation of the packages (it takes dpkg, and root)"
+        left_out "the installation of the packages (it takes dpkg, and root)"
     fi
     # The source package: the archive of the source, beside which a program was built and checks were made.
     mkdir "$room/of.source"
@@ -276,10 +290,10 @@ elif command -v dpkg-buildpackage >/dev/null && command -v dh >/dev/null; then
             lintian --fail-on none -I "$changes" 2>/dev/null | grep '^[EWI]:'
         done
     else
-        echo "left out: what lintian says of the packages (there is no lintian)"
+        left_out "what lintian says of the packages (there is no lintian)"
     fi
 else
-    echo "left out: the Debian packages (there is no dpkg-buildpackage, or no debhelper)"
+    left_out "the Debian packages (there is no dpkg-buildpackage, or no debhelper)"
 fi
 
 [ "$bad" = 0 ] && echo "archives and packages: made twice, looked into, installed and taken away"

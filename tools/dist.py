@@ -4,13 +4,14 @@ list of the packages has not: it names the time and the environment.)
 
   python3 tools/dist.py archives FOLDER [--changed]   ptext-VERSION.tar.gz, the source;
                                                       ptext-VERSION-linux-x86_64.tar.gz, the stripped program with its
-                                                      pages, docs and completion, and the tools by their own names;
-                                                      SHA256SUMS of both
-  python3 tools/dist.py static FOLDER                 ptext-VERSION-linux-x86_64-static.tar.gz: the program without shared
-                                                      libraries (make static), its pages, and what the license of the
+                                                      pages, docs and completion, and the tools by their own names
+  python3 tools/dist.py static FOLDER                 ptext-VERSION-linux-x86_64-static.tar.gz: the same with the program
+                                                      without shared libraries (make static), and what the license of the
                                                       C library asks for, to link it anew
   python3 tools/dist.py deb FOLDER                    two packages by dpkg-buildpackage, and its list of them, which has
                                                       their checksums
+
+  python3 tools/dist.py sums FOLDER                   SHA256SUMS of all that is there, as the others write it
 
 An archive contains COMMIT, which names the commit that the source is of, and SHA256SUMS of its files. If the source has
 changed since that commit, no archive is made; with --changed they are made, and COMMIT and the pages say that it has.
@@ -22,7 +23,6 @@ import io
 import os
 import re
 import shutil
-import signal
 import subprocess
 import sys
 import tarfile
@@ -31,7 +31,7 @@ import tempfile
 sys.dont_write_bytecode = True
 
 from install import TOP, bytes_of, files, files_of_tools, git, lines_of, source_id
-from project import ARCHIVES
+from project import ARCHIVES, Failed, find_kit, run_script
 
 VERSION = bytes_of(f"{TOP}/VERSION").decode().strip()
 # The time that every file bears, in seconds: that of this version, if SOURCE_DATE_EPOCH names no other.
@@ -134,12 +134,12 @@ def archive(path, front, members, commit):
     members = [*members, ("COMMIT", 0o644, f"{commit}\n".encode())]
     members.append(("SHA256SUMS", 0o644, sums_of(members).encode()))
     with open(path, "wb") as raw, gzip.GzipFile("", "wb", 9, raw, mtime=0) as packed:
-        with tarfile.open(mode="w", fileobj=packed, format=tarfile.USTAR_FORMAT) as it:
+        with tarfile.open(mode="w", fileobj=packed, format=tarfile.USTAR_FORMAT) as packing:
             for name, mode, text in sorted(members):
                 about = tarfile.TarInfo(f"{front}/{name}")
                 about.size, about.mode, about.mtime = len(text), mode, TIME
                 about.uname = about.gname = "root"
-                it.addfile(about, io.BytesIO(text))
+                packing.addfile(about, io.BytesIO(text))
 
 
 def source_members():
@@ -149,20 +149,23 @@ def source_members():
     return [(it, mode_of(f"{TOP}/{it}"), bytes_of(f"{TOP}/{it}")) for it in source_files()]
 
 
-def program_members(commit):
-    """The program as `make install install-tools` installs it, the docs that its README names, and how to remove it."""
+def program_members(commit, program=None, notices=b""):
+    """The program (that of build/, stripped, or this one) as `make install install-tools` installs it, the docs that its
+    README names, and how to remove it."""
     installed = [*files(BELOW, commit), *files_of_tools(BELOW, script, commit)]
-    listed = "".join(f"{it}\n" for it in sorted([*(name for name, _, _ in installed), "share/ptext/files"]))
-    docs = [f"docs/{it}" for it in os.listdir(f"{TOP}/docs") if it.endswith((".md", ".svg"))]
+    if program is not None:
+        installed = [(name, mode, program if name == "bin/ptext" else text) for name, mode, text in installed]
+    names = "".join(f"{name}\n" for name in sorted([*(name for name, _, _ in installed), "share/ptext/files"]))
+    docs = [f"docs/{name}" for name in os.listdir(f"{TOP}/docs") if name.endswith((".md", ".svg"))]
     read = ["README.md", "CHANGELOG.md", "CONTRIBUTING.md", "LICENSE-MIT", "LICENSE-APACHE", *docs]
     read += ["bench/README.md", "bench/speed.svg"]
     own = ["libexec/ptext/bin", "libexec/ptext/man/man1", "libexec/ptext/man", "libexec/ptext", "share/ptext"]
     return [
         *installed,
-        ("share/ptext/files", 0o644, listed.encode()),
+        ("share/ptext/files", 0o644, names.encode()),
         ("INSTALL.md", 0o644, INSTALL.replace("{folders}", " ".join(own)).encode()),
-        ("NOTICES", 0o644, bytes_of(f"{TOP}/debian/copyright")),
-        *((it, 0o644, bytes_of(f"{TOP}/{it}")) for it in read),
+        ("NOTICES", 0o644, bytes_of(f"{TOP}/debian/copyright") + notices),
+        *((name, 0o644, bytes_of(f"{TOP}/{name}")) for name in read),
     ]
 
 
@@ -184,128 +187,150 @@ def put_all(room, folder):
         raise
 
 
-def listed(names):
+def write_sums(folder):
+    """Writes SHA256SUMS of all files of a folder. They may be of several runs."""
+    names = sorted(name for name in os.listdir(folder) if name != "SHA256SUMS" and os.path.isfile(f"{folder}/{name}"))
+    sums = sums_of([(name, 0, bytes_of(f"{folder}/{name}")) for name in names if not name.startswith(".")])
+    with tempfile.TemporaryDirectory() as room:
+        with open(f"{room}/SHA256SUMS", "w", encoding="utf-8") as file:
+            file.write(sums)
+        put_all(room, folder)
+
+
+def shorten(names):
     return ", ".join(names[:3]) + (f" and {len(names) - 3} more" if len(names) > 3 else "")
 
 
-def archives(folder, is_changed):
-    source = source_members()
-    changed, commit = changes(source), source_id() or "unknown"
-    if changed is None and not is_changed:
-        return (
+def find_commit(changed):
+    """The commit of the source, as COMMIT has it, given what has changed."""
+    commit = source_id() or "unknown"
+    return commit + (" changed" if changed and not commit.endswith(" changed") else "")
+
+
+def refuse_changes(changed):
+    """Fails if the source is not that of a commit, or if that cannot be known."""
+    if changed is None:
+        raise Failed(
             "cannot tell which commit this is: it is no checkout with git, and no unpacked archive of the source. "
             "(`make dist CHANGED=yes` makes the archives all the same.) No archive was made."
         )
-    if changed and not is_changed:
-        is_checkout = os.path.exists(f"{TOP}/.git")
-        return (
-            f"not {'committed' if is_checkout else 'as in the archive of the source'}: {listed(changed)}. "
+    is_checkout = os.path.exists(f"{TOP}/.git")
+    if changed:
+        raise Failed(
+            f"not {'committed' if is_checkout else 'as in the archive of the source'}: {shorten(changed)}. "
             f"{'Commit first. ' if is_checkout else ''}(`make dist CHANGED=yes` makes the archives all the same, and "
             "they say so.) No archive was made."
         )
-    if changed and not commit.endswith(" changed"):
-        commit += " changed"
+
+
+def make_archives(folder, is_changed):
+    source = source_members()
+    changed = changes(source)
+    if not is_changed:
+        refuse_changes(changed)
+    commit = find_commit(changed)
     named, built = f"ptext-{VERSION}", f"ptext-{VERSION}-linux-x86_64"
     with tempfile.TemporaryDirectory() as room:
         archive(f"{room}/{named}.tar.gz", named, source, commit)
         archive(f"{room}/{built}.tar.gz", built, program_members(commit), commit)
-        sums = sums_of([(f"{it}.tar.gz", 0, bytes_of(f"{room}/{it}.tar.gz")) for it in (named, built)])
-        with open(f"{room}/SHA256SUMS", "w", encoding="ascii") as it:
-            it.write(sums)
         put_all(room, folder)
+    write_sums(folder)
     print(f"made {folder}/{named}.tar.gz, {built}.tar.gz and SHA256SUMS, of commit {commit}")
-    return 0
 
 
-def static(folder):
+def make_static(folder):
     """The archive of the static program."""
-    rt, needed = shutil.which("rt"), [f"{TOP}/build/ptext-static", f"{TOP}/build/ptext.o", LGPL]
-    lacking = [it for it in needed if not os.path.isfile(it)] + ([] if rt else ["rt (the toolchain) in PATH"])
+    needed = [f"{TOP}/build/ptext-static", f"{TOP}/build/ptext.o", LGPL]
+    lacking = [path for path in needed if not os.path.isfile(path)]
     if lacking:
-        return f"there is no {lacking[0]} (make static builds the program). No archive was made."
-    kit, commit = os.path.dirname(os.path.dirname(os.path.realpath(rt))), source_id() or "unknown"
+        raise Failed(f"there is no {lacking[0]} (make static builds the program). No archive was made.")
+    kit, commit = find_kit(), find_commit(changes(source_members()))
     named = f"ptext-{VERSION}-linux-x86_64-static"
-    installed = [it for it in files(BELOW, commit) if it[0] != "bin/ptext"]
-    links = [(f"relink/{os.path.basename(it)}", 0o644, bytes_of(f"{kit}/{it}")) for it in ARCHIVES]
     notices = (
-        bytes_of(f"{TOP}/debian/copyright")
-        + b"\nFiles: bin/ptext\nCopyright: the contributors of the GNU C Library\nLicense: LGPL-2.1+\n"
+        b"\nFiles: bin/ptext\nCopyright: the contributors of the GNU C Library\nLicense: LGPL-2.1+\n"
         + b"Comment: The program is linked with the static C library of Debian (libc6-dev).\n"
         + b" relink/ has what is needed to link it with another. The license follows.\n\n"
         + bytes_of(LGPL)
     )
+    links = [f"{TOP}/build/ptext.o", *(f"{kit}/{name}" for name in ARCHIVES)]
     members = [
-        *installed,
-        ("bin/ptext", 0o755, bytes_of(f"{TOP}/build/ptext-static")),
-        ("relink/ptext.o", 0o644, bytes_of(f"{TOP}/build/ptext.o")),
-        *links,
+        *program_members(commit, bytes_of(f"{TOP}/build/ptext-static"), notices),
+        *((f"relink/{os.path.basename(path)}", 0o644, bytes_of(path)) for path in links),
         ("relink/README", 0o644, RELINK.format(archives=" ".join(map(os.path.basename, ARCHIVES))).encode()),
-        ("NOTICES", 0o644, notices),
-        *((it, 0o644, bytes_of(f"{TOP}/{it}")) for it in ("LICENSE-MIT", "LICENSE-APACHE")),
     ]
     with tempfile.TemporaryDirectory() as room:
         archive(f"{room}/{named}.tar.gz", named, members, commit)
         put_all(room, folder)
-    print(f"made {folder}/{named}.tar.gz, of commit {commit}")
-    return 0
+    write_sums(folder)
+    print(f"made {folder}/{named}.tar.gz and SHA256SUMS, of commit {commit}")
 
 
-def deb(folder):
+def check_programs():
+    """Fails if a program that makes packages is lacking."""
     for program, package in (("dpkg-buildpackage", "dpkg-dev"), ("dh", "debhelper")):
         if not shutil.which(program):
-            return f"there is no {program}, which the Debian package {package} has. No package was made."
+            raise Failed(f"there is no {program}, which the Debian package {package} has. No package was made.")
+
+
+def copy_source(top):
+    """Makes a copy of the source with the built program, which is newer, so that nothing is proved again."""
+    members = source_members()
+    members.append(("COMMIT", 0o644, f"{find_commit(changes(members))}\n".encode()))
+    os.umask(0o022)
+    for name, mode, text in members:
+        os.makedirs(os.path.dirname(f"{top}/{name}"), exist_ok=True)
+        with open(f"{top}/{name}", "wb") as file:
+            file.write(text)
+        os.chmod(f"{top}/{name}", mode)
+        os.utime(f"{top}/{name}", (TIME, TIME))
+    os.mkdir(f"{top}/build")
+    shutil.copyfile(f"{TOP}/build/ptext", f"{top}/build/ptext")
+    os.chmod(f"{top}/build/ptext", 0o755)
+
+
+def make_packages(folder):
+    check_programs()
     if "nocheck" not in os.environ.get("DEB_BUILD_OPTIONS", ""):
         print("the program is tested too, which takes minutes; DEB_BUILD_OPTIONS=nocheck tests nothing", flush=True)
-    members = source_members()
     with tempfile.TemporaryDirectory() as room:
         top = f"{room}/ptext-{VERSION}"
-        commit = source_id() or "unknown"
-        if changes(members) and not commit.endswith(" changed"):
-            commit += " changed"
-        os.umask(0o022)
-        for name, mode, text in [*members, ("COMMIT", 0o644, f"{commit}\n".encode())]:
-            os.makedirs(os.path.dirname(f"{top}/{name}"), exist_ok=True)
-            with open(f"{top}/{name}", "wb") as it:
-                it.write(text)
-            os.chmod(f"{top}/{name}", mode)
-            os.utime(f"{top}/{name}", (TIME, TIME))
-        # It is newer than its source here, so that nothing is proved again.
-        os.mkdir(f"{top}/build")
-        shutil.copyfile(f"{TOP}/build/ptext", f"{top}/build/ptext")
-        os.chmod(f"{top}/build/ptext", 0o755)
+        copy_source(top)
         words = ["dpkg-buildpackage", "-us", "-uc", "-b"]
         # (These would be handed to the make of the package.)
-        kept = {it: value for it, value in os.environ.items() if it not in ("MAKEFLAGS", "MFLAGS", "MAKELEVEL")}
+        kept = {name: value for name, value in os.environ.items() if name not in ("MAKEFLAGS", "MFLAGS", "MAKELEVEL")}
         did = subprocess.run(words, cwd=top, env=kept, check=False, stdout=subprocess.PIPE, stderr=subprocess.STDOUT)
         if did.returncode:
             sys.stderr.buffer.write(did.stdout)
-            return "dpkg-buildpackage failed. No package was made."
+            raise Failed("dpkg-buildpackage failed. No package was made.")
         shutil.rmtree(top)
         made = sorted(os.listdir(room))
         put_all(room, folder)
+    write_sums(folder)
     print(f"made in {folder}: {', '.join(made)}")
-    return 0
 
 
 def main():
-    words = [it for it in sys.argv[1:] if it != "--changed"]
-    if len(words) != 2 or words[0] not in ("archives", "static", "deb"):
+    words = [word for word in sys.argv[1:] if word != "--changed"]
+    does = {
+        "archives": lambda folder: make_archives(folder, "--changed" in sys.argv),
+        "static": make_static,
+        "deb": make_packages,
+        "sums": write_sums,
+    }
+    if len(words) != 2 or words[0] not in does:
         return __doc__
     if not SECONDS.isdecimal():
         return f"SOURCE_DATE_EPOCH is no number of seconds: {SECONDS}. Nothing was made."
-    if not os.path.isfile(f"{TOP}/build/ptext"):
+    if not os.path.isfile(f"{TOP}/build/ptext") and words[0] != "sums":
         return "there is no build/ptext: run make first. Nothing was made."
-    # What is ended leaves nothing behind, as what is stopped by Ctrl-C.
-    signal.signal(signal.SIGTERM, signal.default_int_handler)
     try:
-        if words[0] == "archives":
-            return archives(words[1], "--changed" in sys.argv)
-        return deb(words[1]) if words[0] == "deb" else static(words[1])
+        does[words[0]](words[1])
     except OSError as why:
         return f"cannot write {why.filename or words[1]}: {why.strerror}. Nothing was made."
     except KeyboardInterrupt:
         return "stopped: nothing was made."
+    return 0
 
 
 if __name__ == "__main__":
-    sys.exit(main())
+    run_script(main)
