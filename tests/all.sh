@@ -1,27 +1,55 @@
 #!/bin/sh
-# The gate, and then the tests of the program that it built, so that all is proved once. The last line is the gate's.
+# The gate: every proof and most wrong bodies. Then the program that the gate built, and the static program, the library,
+# the Python module and the page, which are built from what the gate has just proved; and all tests of these. The last
+# line is the gate's; if more failed than the gate tried, that is counted there.
 # usage: tests/all.sh
 set -eu
 cd "$(dirname "$0")/.."
+. tests/common.sh
+# (In continuous integration no test may be left out.)
+PTEXT_GATE=$([ "${CI:-}" = true ] && echo all || echo yes)
+export PTEXT_GATE
+log=build/gate.log passed=0
 mkdir -p build
-{ rt ci || true; } | tee build/gate.log
-last=$(tail -n 1 build/gate.log)
-case $last in
-    *' passed, 0 failed') ;;
-    *) exit 1 ;;
-esac
-# The gate passes a wrong body that cannot be applied, compiled or read. Here it fails.
-if grep 'BAD EDIT' build/gate.log >&2; then
+
+# fail WHAT: ends the gate
+fail() {
+    echo "the gate fails: $1"
+    echo "$passed passed, 1 failed"
     exit 1
+}
+
+# What an earlier run made is not tested.
+rm -f "$log" crates/ptext/out/ptext* build/libptext* build/ptext-static build/page/ptext.html
+follow "$log" python3 tests/counts.py || fail "tests are lacking"
+follow "$log" python3 tests/edits.py || fail "a wrong body does not show that a contract refuses it"
+status=0
+follow "$log" rt ci || status=$?
+last=$(tail -n 1 "$log")
+passed=$(expr "$last" : '\([1-9][0-9]*\) passed, 0 failed$') || {
+    case $last in
+        *[1-9]' failed') exit 1 ;;
+        *) passed=0 && fail "the last line of rt ci is not that something passed and nothing failed" ;;
+    esac
+}
+[ "$status" = 0 ] || fail "rt ci ended with status $status"
+# `rt ci` passes wrong bodies that say nothing of a contract.
+if grep 'BAD EDIT\|says little of the contract' "$log"; then
+    fail "a wrong body does not show that a contract refuses it"
 fi
-# The gate built the program from what it had just proved. It appears in build/ whole, since an earlier one may be
-# running. An earlier object file, from which `make static` links, may be of other sources.
-rm -f build/ptext.o
-for file in ptext.o ptext; do
-    if [ -e "crates/ptext/out/$file" ]; then
-        cp "crates/ptext/out/$file" "build/$file.new"
-        mv "build/$file.new" "build/$file"
-    fi
+[ -x crates/ptext/out/ptext ] || fail "rt ci made no program"
+# The program appears in build/ whole, since an earlier one may be running. It is no older than its source.
+cp crates/ptext/out/ptext build/ptext.new
+mv build/ptext.new build/ptext
+# The object file is there only if the program was proved anew. An earlier one stays: `make static` takes it only if it
+# makes the same program.
+if [ -e crates/ptext/out/ptext.o ]; then
+    cp crates/ptext/out/ptext.o build/ptext.o.new
+    mv build/ptext.o.new build/ptext.o
+fi
+unset MAKEFLAGS MFLAGS MAKELEVEL
+for target in static lib page python; do
+    follow "$log" make --no-print-directory "$target" || fail "make $target"
 done
-sh tests/built.sh build/ptext
+follow "$log" sh tests/built.sh build/ptext || fail "a test of what was built"
 echo "$last"

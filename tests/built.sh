@@ -1,41 +1,74 @@
 #!/bin/sh
-# All tests of a built program, its pages, its installation and its packages. Nothing is proved.
+# All tests of a built program, its pages, its installation and its packages, and of the library, the Python module, the
+# page and the static program, if they are built. Nothing is proved. The last lines count and name what was left out.
 # usage: tests/built.sh PROGRAM
-set -eu
+set -u
 program=$(realpath "${1:?which program?}")
-cd "$(dirname "$0")/.."
+cd "$(dirname "$0")/.." || exit 1
+. tests/common.sh
+failed=
+began=$(date +%s)
 # Some tests run make: they need none of its flags here, and must not start a build, even if a source is newer.
 unset MAKEFLAGS MFLAGS MAKELEVEL
-export PTEXT_AS_BUILT=yes
-sh tests/program.sh "$program"
-sh tests/memory.sh "$program"
-sh tests/compare.sh "$program"
+
+# test_of NAME WORDS..: runs a test and says how long it took
+test_of() {
+    name=$1 at=$(date +%s)
+    shift
+    follow "$room/log" env PTEXT_AS_BUILT=yes "$@" || failed="$failed, $name"
+    echo "$name: $(($(date +%s) - at)) s"
+}
+
+# is_current FILE COMMAND: whether a file that is built is there, and newer than its source
+is_current() {
+    if [ ! -e "$1" ]; then
+        needed "$1, which is not there ($2 builds it)"
+    elif ! make -s -q "$1" 2>/dev/null; then
+        needed "$1, which is older than its source ($2 builds it anew)"
+    else
+        return 0
+    fi >>"$room/log"
+    return 1
+}
+
+test_of "the program" sh tests/program.sh "$program"
+test_of "calls of the system" sh tests/calls.sh "$program"
+test_of "memory" sh tests/memory.sh "$program"
+test_of "each number of operands" python3 tests/words.py "$program"
+test_of "the definitions" sh tests/compare.sh "$program"
 if [ -x build/ptext ]; then
-    sh tests/install.sh
-    sh tests/packages.sh
+    test_of "the installation" sh tests/install.sh
+    test_of "the packages" sh tests/packages.sh
 else
-    echo "left out: the installation and the packages (they are of build/ptext, which is not there)"
+    needed "the installation and the packages (they are of build/ptext, which is not there)" >>"$room/log"
 fi
-sh tests/parallel.sh "$program"
-python3 tests/waiting.py "$program"
-python3 tests/pages.py "$program"
-python3 tests/completion.py
-if [ -e build/libptext.so ]; then
-    sh tests/library.sh build
-    python3 tools/same.py "$program" 500
-else
-    echo "left out: the library (make lib builds it)"
+test_of "parts of files" sh tests/parallel.sh "$program"
+test_of "waiting" python3 tests/waiting.py "$program"
+test_of "the documents" sh tests/documents.sh "$program"
+test_of "completion" python3 tests/completion.py
+if is_current build/libptext.a "make lib"; then
+    test_of "the library" sh tests/library.sh build
+    test_of "the library and the program" python3 tools/same.py "$program" 500
 fi
-if [ -e build/page/ptext.html ]; then
-    sh tests/page.sh "$program"
-else
-    echo "left out: the page (make page builds it)"
+if is_current build/page/ptext.html "make page"; then
+    test_of "the page" sh tests/page.sh "$program"
 fi
-if [ ! -x build/ptext-static ]; then
-    echo "left out: the program without shared libraries (make static builds it)"
-elif [ -x build/ptext ] && [ -z "$(find build/ptext-static -newer build/ptext)" ]; then
-    echo "left out: build/ptext-static, which is older than build/ptext (make static builds it anew)"
-else
-    sh tests/static.sh build/ptext-static
+if is_current build/ptext-static "make static"; then
+    test_of "the static program" sh tests/static.sh build/ptext-static
 fi
-echo "all tests passed, except those left out above"
+sed -n 's/^left out: //p' "$room/log" | sort -u >"$room/left.out"
+echo "all tests took $(($(date +%s) - began)) s"
+if [ -s "$room/left.out" ]; then
+    echo "left out: $(wc -l <"$room/left.out")"
+    sed 's/^/  /' "$room/left.out"
+    if [ "${PTEXT_GATE:-}" = all ]; then
+        failed="$failed, what was left out (in continuous integration nothing is)"
+    elif [ "$bad" != 0 ]; then
+        failed="$failed, what was left out and make test needs"
+    fi
+fi
+if [ "$failed" ]; then
+    echo "FAILED: ${failed#, }"
+    exit 1
+fi
+echo "all tests passed$([ -s "$room/left.out" ] && echo ", but for those left out")"

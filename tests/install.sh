@@ -5,16 +5,7 @@
 # usage: tests/install.sh (the program is built)
 set -u
 top=$(cd "$(dirname "$0")/.." && pwd)
-room=$(mktemp -d)
-trap 'rm -rf "$room"' EXIT
-bad=0
-
-# is NAME WANTED FOUND: that the two are the same
-is() {
-    [ "$2" = "$3" ] && return
-    bad=$((bad + 1))
-    printf 'FAILED: %s\nwanted: %s\nfound: %s\n' "$1" "$2" "$3"
-}
+. "$top/tests/common.sh"
 
 # answer COMMAND..: what is said and how it ends, on the input of these tests
 answer() {
@@ -211,13 +202,17 @@ chmod 555 "$room/locked"
 chmod 711 "$room"
 as=
 [ "$(id -u)" = 0 ] && as='setpriv --reuid=65534 --regid=65534 --clear-groups'
+# (Nobody may not be able to read this folder.)
+mkdir -p "$room/readable"
+tar -C "$top" -cf - tools man docs completion VERSION crates/ptopts/src/tool.rt build/ptext | tar -xf - -C "$room/readable"
+chmod -R a+rX "$room/readable"
 for python in python3 /usr/bin/python3; do
-    $as "$python" -c 'open("'"$top"'/build/ptext")' 2>/dev/null && break
+    $as "$python" -c 'open("'"$room"'/readable/build/ptext")' 2>/dev/null && break
     python=
 done
 if [ -n "$python" ]; then
     is "no rights" "cannot install: $room/locked/bin: Permission denied. Nothing was installed." \
-        "$($as "$python" "$top/tools/install.py" install "$room/locked" 2>&1)"
+        "$($as "$python" "$room/readable/tools/install.py" install "$room/locked" 2>&1)"
     is "nothing is left without rights" "" "$(ls -A "$room/locked")"
     mkdir "$room/theirs"
     install install PREFIX="$room/theirs" DESTDIR=
@@ -225,11 +220,11 @@ if [ -n "$python" ]; then
     chmod -R a-w "$room/theirs"
     is "no rights to take it away" \
         "cannot uninstall: $room/theirs/bin/ptext: Permission denied. What is left is noted in $room/theirs/share/ptext/installed." \
-        "$($as "$python" "$top/tools/install.py" uninstall "$room/theirs" 2>&1)"
+        "$($as "$python" "$room/readable/tools/install.py" uninstall "$room/theirs" 2>&1)"
     is "it stands, and its notes" "$before" "$(listed "$room/theirs")"
     chmod -R u+w "$room/theirs"
 else
-    echo "left out: an installation without rights (nobody cannot read this folder)"
+    left_out "an installation without rights (there is no python3 that nobody can run)"
 fi
 
 [ "$bad" = 0 ] && echo "installed, run by each name, and taken away again"

@@ -4,18 +4,16 @@
 # is refused more room than it needs asks again for less.
 # usage: tests/memory.sh PROGRAM
 set -eu
-if ! command -v "${CC:-cc}" >/dev/null; then
-    echo "no C compiler (CC): no request for memory was refused"
-    exit 0
-fi
-program=$(cd "$(dirname "$1")" && pwd)/$(basename "$1")
+program=$(realpath "${1:?which program?}")
 source=$(cd "$(dirname "$0")" && pwd)/refusing.c
-room=$(mktemp -d)
-trap 'rm -rf "$room"' EXIT
+. "$(dirname "$0")/common.sh"
+if ! has "${CC:-cc}"; then
+    needed "refused requests for memory (there is no C compiler, CC)"
+    [ "$bad" = 0 ]
+    exit
+fi
 cd "$room"
 "${CC:-cc}" -O1 -shared -fPIC -o refusing.so "$source"
-count=0
-bad=0
 
 wrong() {
     bad=$((bad + 1))
@@ -78,5 +76,39 @@ each 6 "a\tb:a\t1\na\tc:a\t2\n$long:b\t3\n" paste -d : - second
 each 2 "a\tb:a\tc:$long\n" paste -s -d : -
 each 4 "a\t1\na\t2\nb\t3\n" comm -12 second second
 each 6 "a b 1\na b 2\na c 1\na c 2\n" join - second
+
+# The most bytes that a run has at a time, over short lines, over one line of a megabyte, and over a thousand lines of one
+# key. (No contract bounds the capacity of a buffer.)
+# most BYTES INPUT WORDS..: the run needs no more
+most() {
+    limit=$1 from=$2
+    shift 2
+    LD_PRELOAD="$room/refusing.so" COUNTED=peak "$program" "$@" <"$from" >out 2>messages || wrong "$*"
+    count=$((count + 1))
+    [ "$(cat peak)" -le "$limit" ] || wrong "$* <$from: $(cat peak) bytes at a time, wanted at most $limit"
+}
+
+seq -f '%07.0f abcd' 8000 >short
+{ head -c 1000000 /dev/zero | tr '\0' x; echo; } >long
+yes 'k some words' | head -n 1000 >keys
+most 16000 short cut -b 1-3
+most 16000 short cut -d 0 -f 2
+most 16000 short tr -s 0-9 a-j
+most 16000 short uniq -c -f 1
+most 20000 short paste - -
+most 20000 short paste -s -
+most 48000 short comm - short
+most 48000 short join -a 1 - short
+most 40000 long cut -b 2-
+most 2000000 long cut -f 1
+most 16000 long tr x y
+most 2000000 long uniq -c
+most 2000000 long paste -
+most 40000 long paste -s -
+most 3500000 long comm - long
+most 3500000 long join - long
+most 300000 keys join - keys
+most 40000 keys uniq -c
+
 [ "$bad" = 0 ] || exit 1
-echo "$count requests for memory were refused, each answered as wanted"
+echo "$count runs: each request for memory was refused in turn, and answered as wanted; no run needs too much of it"

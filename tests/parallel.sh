@@ -2,17 +2,18 @@
 # Tests the commands of docs/PARALLEL.md, except its sketches: their output from the parts of files of 64 MB, in parts of
 # several sizes, against one run over the whole; a second run over the files of the first; and cuts that the page warns
 # of, which have to be wrong. Several machines are network namespaces of this one, with an sshd in each.
-# usage: tests/parallel.sh PROGRAM (without GNU parallel and bash nothing is tested, and a message says so)
+# usage: tests/parallel.sh PROGRAM
 set -u
-if ! parallel --version 2>/dev/null | grep -q '^GNU parallel' || ! command -v bash >/dev/null; then
-    echo "tests/parallel.sh: left out, since GNU parallel or bash is not installed"
-    exit 0
-fi
-program=$(cd "$(dirname "$1")" && pwd)/$(basename "$1")
+program=$(realpath "${1:?which program?}")
 top=$(cd "$(dirname "$0")/.." && pwd)
 page=$top/docs/PARALLEL.md
-room=$(mktemp -d)
+. "$top/tests/common.sh"
 servers='' spaces='' made=''
+if ! parallel --version 2>/dev/null | grep -q '^GNU parallel' || ! has bash; then
+    left_out "parts of files (there is no GNU parallel, or no bash)"
+    [ "$bad" = 0 ]
+    exit
+fi
 
 # Stops the servers, and removes the namespaces and all files.
 clean() {
@@ -22,19 +23,17 @@ clean() {
     rm -rf "$room"
 }
 trap clean EXIT
-trap 'exit 1' INT TERM
 cd "$room" || exit 1
 if [ "$(df -Pk . | awk 'NR == 2 { print $4 }')" -lt 3000000 ]; then
-    echo "tests/parallel.sh: left out, since there are not 3 GB of space for temporary files"
-    exit 0
+    left_out "parts of files (there are not 3 GB of space for temporary files)"
+    [ "$bad" = 0 ]
+    exit
 fi
 mkdir bin
 ln -s "$program" bin/ptext
 ln -s "$top/tools/cut_at_keys.sh" bin/cut_at_keys.sh
 ln -s "$(command -v parallel)" bin/parallel
 export LC_ALL=C PATH="$room/bin:$PATH" PARALLEL_HOME="$room" PARALLEL=--will-cite
-count=0
-bad=0
 : >messages
 
 # failed NAME: reports a failure
@@ -318,7 +317,7 @@ if hosts; then
     run "seq 40 | $over -k --halt now,fail=1 'echo {}'"
     [ "$status" != 0 ] || failed "status 0, though a host is gone"
 else
-    echo "left out: several machines (they take root, ip, ssh and sshd)"
+    left_out "several machines (they take root, ip, ssh and sshd)"
     cat sshd.*.said 2>/dev/null
     printf '%s\n' "$there" "$shared" >>tested
 fi

@@ -5,15 +5,12 @@
 set -u
 program=$(realpath "${1:?which program?}")
 cd "$(dirname "$0")" || exit 1
-room=$(mktemp -d)
-trap 'rm -rf "$room"' EXIT
+. ./common.sh
 # (Root's PATH lacks this folder here and there.)
 PATH=$PATH:/usr/sbin
-count=0
-bad=0
 
-# is WANTED WORDS..: the output, the messages and the status of the program, on the input of these tests
-is() {
+# answers WANTED WORDS..: the output, the messages and the status of the program, on the input of these tests
+answers() {
     wanted=$1
     shift
     count=$((count + 1))
@@ -36,24 +33,24 @@ if command -v readelf >/dev/null; then
         echo "FAILED: the program needs shared libraries"
     fi
 else
-    echo "left out: whether the program names shared libraries (there is no readelf)"
+    left_out "whether the program names shared libraries (there is no readelf)"
 fi
 newline='
 '
 if [ "$(id -u)" != 0 ]; then
-    echo "left out: the program in an empty root (only the superuser may run chroot)"
+    left_out "the program in an empty root (only the superuser may run chroot)"
 elif ! chroot --userspec=65534:65534 --groups= / /bin/true 2>/dev/null; then
-    echo "left out: the program in an empty root (there is no chroot that runs a program as nobody)"
+    left_out "the program in an empty root (there is no chroot that runs a program as nobody)"
 else
-    is "b${newline}b${newline}d${newline}status 0" cut -d ' ' -f 2
-    is "a b${newline}status 0" uniq -d
-    is "A B${newline}A B${newline}C D${newline}status 0" tr a-z A-Z
-    is "a b:a b:c d${newline}status 0" paste -s -d : -
-    is "a b 1${newline}a b 1${newline}c d 2${newline}status 0" join - table
-    is "a 1${newline}c 2${newline}status 0" comm -13 - table
-    is "cut: none: cannot be opened${newline}status 1" cut -c 1 none
-    is "uniq: /new: cannot be opened${newline}status 1" uniq - /new
-    is "cut: unknown option in -q${newline}status 2" cut -q
+    answers "b${newline}b${newline}d${newline}status 0" cut -d ' ' -f 2
+    answers "a b${newline}status 0" uniq -d
+    answers "A B${newline}A B${newline}C D${newline}status 0" tr a-z A-Z
+    answers "a b:a b:c d${newline}status 0" paste -s -d : -
+    answers "a b 1${newline}a b 1${newline}c d 2${newline}status 0" join - table
+    answers "a 1${newline}c 2${newline}status 0" comm -13 - table
+    answers "cut: none: cannot be opened${newline}status 1" cut -c 1 none
+    answers "uniq: /new: cannot be opened${newline}status 1" uniq - /new
+    answers "cut: unknown option in -q${newline}status 2" cut -q
     echo "$((count - bad)) of $count checks without shared libraries as wanted"
 fi
 sh program.sh "$program" && [ "$bad" = 0 ]

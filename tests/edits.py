@@ -1,0 +1,180 @@
+#!/usr/bin/env python3
+"""Checks the wrong bodies in crates/*/must-fail and crates/*/must-fail-release before they are tried: each applies, and
+changes code, never a definition, a proof, or a clause of a contract. What changes a clause shows nothing if it is refused.
+
+  python3 tests/edits.py               says which do not
+  python3 tests/edits.py --list        prints each public function and the wrong bodies that belong to it, in brackets
+                                       those of must-fail-release, and where one is missing
+
+A wrong body belongs to the function that its first `old:` text is in, or to those that for.md beside it names for it.
+"""
+import collections
+import glob
+import os
+import re
+import sys
+
+TOP = os.path.dirname(os.path.dirname(os.path.realpath(__file__)))
+# Where a clause or another ghost item begins.
+GHOST = re.compile(r"\b(?:(requires|ensures)\b[^{;]*|ghost\b[^{;]*)([{;])")
+# Comments, and the literals in which `//`, a brace or a quote is no such thing.
+NO_CODE = re.compile(r"//[^\n]*|\"(?:\\.|[^\"\\])*\"|b?'(?:\\.[^']*|[^'\\])'", re.S)
+IMPL = re.compile(r"(?:unsafe )?impl(?:<.*?>)? (?:(?P<of>[\w:]+(?:<.*?>)?) for )?(?P<type>\w+)")
+FUNCTION = re.compile(r"(?P<indent> {4})?(?P<pub>pub )?(?:pub\(\w+\) )?(?:unsafe )?fn (?P<name>\w+)")
+
+
+def read(path):
+    with open(path, encoding="utf-8") as file:
+        return file.read()
+
+
+class Edit:
+    """A wrong body: the file that it changes, and the texts that it replaces."""
+
+    def __init__(self, path):
+        said = read(path)
+        self.path, self.label = path, os.path.basename(path).removesuffix(".edit")
+        self.crate = os.path.dirname(os.path.dirname(path))
+        self.is_of_release = os.path.basename(os.path.dirname(path)) == "must-fail-release"
+        self.file = (re.findall(r"^file: (.*)$", said, re.M) or [""])[0].strip()
+        self.changes = list(zip(*(re.findall(rf"^{key}: (.*)$", said, re.M) for key in ("old", "new"))))
+
+    def apply(self, text):
+        for old, new in self.changes:
+            text = text.replace(old, new)
+        return text
+
+
+def find_edits():
+    edits = [Edit(path) for path in glob.glob(f"{TOP}/crates/*/must-fail*/*.edit")]
+    return sorted(edits, key=lambda edit: (edit.crate, edit.is_of_release, edit.path))
+
+
+def find_code(text):
+    """The text of a file without comments and blanks."""
+    return "".join(re.sub(r"//[^\n]*", "", text).split())
+
+
+def find_end(text, begin):
+    """The index after the brace that closes the one at `begin`."""
+    depth = 0
+    for index in range(begin, len(text)):
+        depth += {"{": 1, "}": -1}.get(text[index], 0)
+        if not depth:
+            return index + 1
+    return len(text)
+
+
+def find_ghosts(text):
+    """The ghost text of a file: the clauses of each function together, and each other ghost item. Blanks do not count."""
+    text = NO_CODE.sub("''", text)
+    groups, end = [], -1
+    found = GHOST.search(text)
+    while found:
+        after = find_end(text, found.start(2)) if found[2] == "{" else found.end()
+        part = " ".join(text[found.start() : after].split())
+        # (The clauses of one function have nothing between them.)
+        if found[1] and groups and not text[end : found.start()].strip() and groups[-1][0].startswith(("req", "ens")):
+            groups[-1] += (part,)
+        else:
+            groups.append((part,))
+        end = after
+        found = GHOST.search(text, after)
+    return collections.Counter(groups)
+
+
+def find_fault(edit):
+    """The reason why a wrong body shows nothing, or an empty text."""
+    path = f"{edit.crate}/{edit.file}"
+    if not re.fullmatch(r"src/[\w/]+\.rt", edit.file) or not os.path.isfile(path):
+        return f"it changes no file of src/: {edit.file}"
+    if not edit.changes:
+        return "it has no text `old:`, or none `new:`"
+    text = read(path)
+    if any(text.count(old) != 1 for old, _ in edit.changes):
+        return f"its text is not once in {edit.file}"
+    if find_code(text) == find_code(edit.apply(text)):
+        return f"it changes nothing in {edit.file}"
+    before, after = find_ghosts(text), find_ghosts(edit.apply(text))
+    # (A body beside the right one, which then is that of a function `other`, has a copy of all its clauses.)
+    if before - after or (after - before).keys() - before.keys():
+        return f"it changes a clause or other ghost text of {edit.file}"
+    return ""
+
+
+# ---- which wrong body belongs to which function
+
+
+def find_functions(crate):
+    """The functions of a crate: file, index, name, whether it is public, whether it has a body."""
+    name_of_crate, lib = os.path.basename(crate), read(f"{crate}/src/lib.rt")
+    given = set(re.findall(r"\w+", " ".join(re.findall(r"^pub use (.*?);", lib, re.M | re.S))))
+    for path in sorted(glob.glob(f"{crate}/src/**/*.rt", recursive=True)):
+        text, inside = read(path), os.path.relpath(path, crate)
+        module = inside[len("src/") : -len(".rt")].replace("/", "::")
+        is_open = module == "lib" or f"pub mod {module};" in lib
+        shown = set(re.findall(r"^pub (?:struct|enum|union) (\w+)", text, re.M))
+        owner, place, inner = None, 0, ""
+        for line in text.split("\n"):
+            head, function = IMPL.match(line), FUNCTION.match(line)
+            if head and not line.startswith(" "):
+                owner, inner = head["type"], head["of"] or ""
+            elif line.startswith(("}", "pub trait", "pub(crate) trait", "trait")):
+                owner, inner = ("(trait)" if "trait" in line else None), ""
+            if function and bool(function["indent"]) == bool(owner):
+                is_given = is_open or (owner or function["name"]) in given
+                is_public = is_given and bool(function["pub"] or inner) and (not owner or owner in shown)
+                of = [name_of_crate, *([module] if is_open and module != "lib" else []), *([owner] if owner else [])]
+                name = "::".join(of) + (f": {inner}::{function['name']}" if inner else f"::{function['name']}")
+                body = re.compile(r"^( {4})?\{\}$|\{\}$|^( {4})?\{$|\{$", re.M).search(text, place)
+                yield inside, place, name, is_public, not (body and body[0].endswith("{}"))
+            place += len(line) + 1
+
+
+def find_owners(edit, functions, named):
+    """The functions to which a wrong body belongs."""
+    if edit.label in named:
+        return named[edit.label]
+    old = edit.changes[0][0]
+    index = read(f"{edit.crate}/{edit.file}").find(old) + len(old)
+    return [name for file, place, name, _, _ in functions if file == edit.file and place <= index][-1:]
+
+
+def list_crate(crate, edits):
+    functions = list(find_functions(crate))
+    rows = [re.findall(r"^- (\w+): (.*)$", read(path), re.M) for path in glob.glob(f"{crate}/must-fail*/for.md")]
+    named = {label: names.split(", ") for label, names in sum(rows, [])}
+    bodies = {name: [] for _, _, name, is_public, _ in functions if is_public}
+    stray = []
+    for edit in edits:
+        for name in find_owners(edit, functions, named):
+            shown = f"[{edit.label}]" if edit.is_of_release else edit.label
+            bodies.get(name, stray).append(shown if name in bodies else f"{edit.label} (in {name})")
+    of_release = sum(edit.is_of_release for edit in edits)
+    counts = f"{len(edits) - of_release} wrong bodies, {of_release} more for a release"
+    print(f"== {os.path.basename(crate)}: {len(bodies)} public functions, {counts}")
+    for _, _, name, is_public, has_body in functions:
+        if is_public:
+            print(f"{name:55} {', '.join(bodies[name]) or ('MISSING' if has_body else 'a law, without a body')}")
+    for name in stray:
+        print(f"of no public function: {name}")
+
+
+def main():
+    edits = find_edits()
+    if sys.argv[1:] == ["--list"]:
+        for crate in sorted({edit.crate for edit in edits if not edit.is_of_release}):
+            list_crate(crate, [edit for edit in edits if edit.crate == crate])
+        return 0
+    if sys.argv[1:]:
+        return __doc__
+    faults = [(os.path.relpath(edit.path, TOP), find_fault(edit)) for edit in edits]
+    lost = [f"{name}: {fault}" for name, fault in faults if fault]
+    if lost or not edits:
+        return "\n".join(lost or ["there are no wrong bodies"])
+    print(f"{len(edits)} wrong bodies: each applies, and changes code alone")
+    return 0
+
+
+if __name__ == "__main__":
+    sys.exit(main())
