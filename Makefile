@@ -3,8 +3,9 @@
 # make check                what to run while working: proves what changed since SINCE, what stands on it, its tests,
 #                           and the wrong bodies of the changed crates (SINCE=COMMIT; origin/main where it is known,
 #                           else HEAD~1)
-# make test                 the gate: every proof, most wrong bodies, all tests; then the program that the gate built,
-#                           its pages, its installation and its packages
+# make test                 the gate: every proof, most wrong bodies, all tests; then all tests of the program that it
+#                           built, and of the static program, the library, the Python module and the page, which are
+#                           built from what it proved (needs gcc and libc6-dev). It names what it leaves out
 # make must-fail            tries the wrong bodies that the gate leaves out: before a release
 # make check-program        all tests of a built program (PROGRAM=build/ptext): nothing is proved, and no toolchain needed
 # make static               build/ptext-static: the program as one file that needs no shared libraries

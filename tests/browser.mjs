@@ -9,7 +9,7 @@ import { pathToFileURL } from "node:url";
 const [chromium, page, program, picture] = process.argv.slice(2);
 const room = fs.mkdtempSync(path.join(os.tmpdir(), "ptext-page-"));
 const address = pathToFileURL(path.resolve(page)).href;
-let tests = 0, failed = 0;
+let tests = 0, failed = 0, browser = null;
 
 function is(what, found, wanted) {
     tests++;
@@ -220,6 +220,22 @@ async function large(browser) {
     is("a run after it", await browser.until(`(${RESULT}).out === "20000 k some more words\\n"`), true);
 }
 
+/** A run at which the worker fails is told, and so is the one after it. */
+async function failing(browser) {
+    await browser.value(`{ const send = Worker.prototype.postMessage;
+        Worker.prototype.postMessage = function (message, ...rest) {
+            const isRun = message.commands && message.commands[0][0] === "uniq";
+            return send.call(this, isRun ? { ...message, stdin: 7 } : message, ...rest);
+        }; }`);
+    await browser.type("command", "uniq");
+    is("a run that fails", await browser.until(`(${RESULT}).status.startsWith("Failed")`), true);
+    const failed = { status: "Failed: the module stopped", out: "",
+        messages: "TypeError: an input is a string, an ArrayBuffer or a view of one\n" };
+    is("its result", await browser.value(RESULT), failed);
+    await browser.type("command", "cut -q");
+    is("a run after it", await browser.until(`(${RESULT}).status.startsWith("Status 2: ")`), true);
+}
+
 /** Chooses a file of bytes that are no text, and one that cannot be read. */
 async function chosen(browser) {
     fs.writeFileSync(`${room}/bytes`, Buffer.from([0x61, 0xff, 0x0d, 0x0a]));
@@ -309,7 +325,7 @@ async function pictured(browser) {
 }
 
 async function main() {
-    const browser = new Browser();
+    browser = new Browser();
     await browser.open(address);
     await typed(browser);
     await clicked(browser);
@@ -319,6 +335,7 @@ async function main() {
     await chosen(browser);
     await messages(browser);
     await large(browser);
+    await failing(browser);
     const requests = browser.events.filter((it) => it.method === "Network.requestWillBeSent");
     const asked = requests.map((it) => it.params.request.url);
     is("requests beside the page", asked.filter((it) => it !== address && !/^(blob|data):/.test(it)), []);
@@ -332,10 +349,15 @@ async function main() {
     console.log(`${tests} tests in a browser: ${failed} failed`);
 }
 
+/** Ends the browser and removes all files. */
+function end(status) {
+    browser?.child.kill("SIGKILL");
+    fs.rmSync(room, { recursive: true, force: true, maxRetries: 5 });
+    process.exit(status);
+}
+
+for (const it of ["SIGTERM", "SIGINT", "SIGHUP"]) process.on(it, () => end(1));
 main().catch((error) => {
     console.log(`FAILED: ${error.stack}`);
     failed++;
-}).finally(() => {
-    fs.rmSync(room, { recursive: true, force: true });
-    process.exit(failed ? 1 : 0);
-});
+}).finally(() => end(failed ? 1 : 0));

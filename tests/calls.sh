@@ -1,6 +1,6 @@
 #!/bin/sh
-# Tests the calls of the system that the built program makes, as strace shows them: which files are opened and created, in
-# which order, and how often inputs are read and outputs written. No contract speaks of these.
+# Tests the calls of the system that the built program makes, as strace shows them: which files are opened and created,
+# in which order, and how often inputs are read and outputs written. No contract speaks of these.
 # usage: tests/calls.sh PROGRAM
 set -u
 program=$(realpath "${1:?which program?}")
@@ -12,9 +12,9 @@ if ! has strace || ! strace -qq -o trace "$program" cut -c 1 </dev/null; then
     exit
 fi
 
-# opened WANT WORDS..: the names that are opened, each with ! if it can't be and > if it is created, and | once something
-# was written. The program opens each operand once, in the order of the words, all before anything is written; the output
-# file of uniq is created after its input was opened, and by no other command.
+# opened WANT WORDS..: the names that are opened, each with ! if it can't be and > if it is created, and | once
+# something was written. The program opens each operand once, in the order of the words, all before anything is written;
+# the output file of uniq is created after its input was opened, and by no other command.
 opened() {
     wanted=$1
     shift

@@ -1,7 +1,7 @@
 # The part that tests in sh share. It makes the folder $room, which is removed at the end, and counts failures in $bad.
-# A test that needs a program says `left_out` where there is none: that fails where PTEXT_GATE is `all`, which tests/all.sh
-# sets in continuous integration, for which .ci/run installs all programs. `needed` is for the few programs without which
-# `make test` fails on any machine (PTEXT_GATE is `yes` or `all`).
+# A test that needs a program says `left_out` where there is none: that fails where PTEXT_GATE is `all`, which
+# tests/all.sh sets in continuous integration, for which .ci/run installs all programs. `needed` is for the few programs
+# without which `make test` fails on any machine (PTEXT_GATE is `yes` or `all`).
 count=0
 bad=0
 child=
@@ -9,7 +9,7 @@ room=$(mktemp -d)
 
 # Ends a test that `follow` started, and all that it started.
 stop_child() {
-    [ -z "$child" ] || kill -TERM -- "-$child" 2>/dev/null || true
+    [ -z "$child" ] || kill -TERM "-$child" 2>/dev/null || true
     [ -z "$child" ] || wait "$child" || true
     child=
 }
@@ -48,8 +48,8 @@ is() {
     printf 'FAILED: %s\nwanted: %s\nfound: %s\n' "$1" "$2" "$3"
 }
 
-# follow LOG WORDS..: runs a command, shows its output, and adds it to the file LOG. The status is that of the command. The
-# command and all that it starts end if this script is ended.
+# follow LOG WORDS..: runs a command, shows its output, and adds it to the file LOG. The status is that of the command.
+# The command and all that it starts end if this script is ended.
 follow() {
     rm -f "$room/status"
     setsid sh -c 'status=$1 log=$2; shift 2; { "$@"; echo $? >"$status"; } 2>&1 | tee -a "$log"' sh "$room/status" "$@" &

@@ -5,6 +5,7 @@
 
 A shell that is not installed is left out, with a line that says so.
 """
+import contextlib
 import os
 import pty
 import re
@@ -154,20 +155,18 @@ def wrong_of(shell, room, rows, first="", path=""):
     """The rows that a shell does not complete as wanted. One shell has all rows. As terminals are slow at times, a row
     that goes wrong is tried again in a shell of its own."""
     found = []
-    shared = Terminal(shell, room, first, path or f"{room}/bin")
-    for row in rows:
-        said, is_good = said_of(shared, row, 0.3)
-        shared.type("\x03", 0.2)
-        for attempt in (1, 2, 4):
+    with contextlib.closing(Terminal(shell, room, first, path or f"{room}/bin")) as shared:
+        for row in rows:
+            said, is_good = said_of(shared, row, 0.3)
+            shared.type("\x03", 0.2)
+            for attempt in (1, 2, 4):
+                if not is_good:
+                    with contextlib.closing(Terminal(shell, room, first, path or f"{room}/bin")) as terminal:
+                        terminal.type("\n", 0.5 * attempt)
+                        said, is_good = said_of(terminal, row, 0.5 * attempt)
             if not is_good:
-                at = Terminal(shell, room, first, path or f"{room}/bin")
-                at.type("\n", 0.5 * attempt)
-                said, is_good = said_of(at, row, 0.5 * attempt)
-                at.close()
-        if not is_good:
-            wanted = row.wanted if row.is_offered else f"none of {row.wanted}"
-            found.append(f"{shell}: `{row.typed}` and a tab: wanted {wanted}, the terminal has {said!r}\n")
-    shared.close()
+                wanted = row.wanted if row.is_offered else f"none of {row.wanted}"
+                found.append(f"{shell}: `{row.typed}` and a tab: wanted {wanted}, the terminal has {said!r}\n")
     return found
 
 
@@ -187,6 +186,8 @@ def all_wrong_of(shell, room):
 
 
 def main():
+    # (What is ended ends the shells that it runs.)
+    signal.signal(signal.SIGTERM, lambda *_: sys.exit(143))
     wrong, count = [], 0
     with tempfile.TemporaryDirectory(ignore_cleanup_errors=True) as room:
         for folder in ("bin", "ptext/bin"):
@@ -194,8 +195,8 @@ def main():
         with open(f"{room}/lonely", "w", encoding="ascii"):
             pass
         for name in NAMES:
-            with open(f"{room}/ptext/bin/{name}", "w", encoding="ascii") as it:
-                it.write("#!/bin/sh\n")
+            with open(f"{room}/ptext/bin/{name}", "w", encoding="ascii") as file:
+                file.write("#!/bin/sh\n")
             os.chmod(f"{room}/ptext/bin/{name}", 0o755)
             shutil.copy(f"{TOP}/completion/ptext-tools.fish", f"{room}/{name}.fish")
         for shell in SHELLS:

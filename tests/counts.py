@@ -12,11 +12,13 @@ import sys
 
 TOP = os.path.dirname(os.path.dirname(os.path.realpath(__file__)))
 COUNTS = f"{TOP}/tests/counts.txt"
-HEAD = """# How many tests, and how many assertions and rows, each file has. `python3 tests/counts.py --write` writes this file.
-"""
+HEAD = "# How many tests, and how many assertions and rows, each file has: python3 tests/counts.py --write writes it.\n"
 # For each kind of file, what begins a test, and what begins an assertion or a row of a table.
 KINDS = {
-    "crates/pt*tests/src/**/*.rt": (r"^\s*#\[test\]", r"\b(?:assert|expect)\w*!?\(|^    \($|^    \(&?[\w\[\"]|\bwanted:|\bCase \{"),
+    "crates/pt*tests/src/**/*.rt": (
+        r"^\s*#\[test\]",
+        r"\b(?:assert|expect)\w*!?\(|^    \($|^    \(&?[\w\[\"]|\bwanted:|\bCase \{",
+    ),
     "crates/pt*tests/proofs/**/*Examples.antt": (r"^(?:pub )?\w+\s*:", r"≡|≢|¬"),
     "python/tests/*.py": (r"^\s*def test_", r"\bself\.(?:assert\w+|is_so)\("),
     "tests/*.sh": (r"^test_of ", r"^\s*(?:is|same|refused|both|opened|each|expect\w*) |failed \"|bad=\$\(\(bad"),
@@ -51,8 +53,9 @@ def read_counts():
 
 
 def write_counts(found):
+    rows = [f"{name} {tests} {assertions}\n" for name, (tests, assertions) in sorted(found.items())]
     with open(COUNTS, "w", encoding="ascii") as file:
-        file.write(HEAD + "".join(f"{name} {tests} {assertions}\n" for name, (tests, assertions) in sorted(found.items())))
+        file.write(HEAD + "".join(rows))
 
 
 def main():
@@ -66,9 +69,8 @@ def main():
     for name in sorted({*found, *wanted}):
         if found.get(name) != wanted.get(name):
             (tests, assertions), (had, asserted) = found.get(name, (0, 0)), wanted.get(name, (0, 0))
-            differences.append(
-                f"{name} has {tests} tests and {assertions} assertions or rows; tests/counts.txt has {had} and {asserted}"
-            )
+            here, there = f"{tests} tests and {assertions} assertions or rows", f"{had} and {asserted}"
+            differences.append(f"{name} has {here}; tests/counts.txt has {there}")
     if differences:
         return "\n".join([*differences, "if that is meant: python3 tests/counts.py --write"])
     print(f"{sum(tests for tests, _ in found.values())} tests in {len(found)} files, as tests/counts.txt has them")

@@ -1,6 +1,7 @@
 #!/usr/bin/env python3
 """Checks the wrong bodies in crates/*/must-fail and crates/*/must-fail-release before they are tried: each applies, and
-changes code, never a definition, a proof, or a clause of a contract. What changes a clause shows nothing if it is refused.
+changes code, never a definition, a proof, or a clause of a contract. One that changes a clause shows nothing if it is
+refused.
 
   python3 tests/edits.py               says which do not
   python3 tests/edits.py --list        prints each public function and the wrong bodies that belong to it, in brackets
@@ -66,7 +67,7 @@ def find_end(text, begin):
 
 
 def find_ghosts(text):
-    """The ghost text of a file: the clauses of each function together, and each other ghost item. Blanks do not count."""
+    """The ghost text of a file: the clauses of each function, and each other ghost item. Blanks do not count."""
     text = NO_CODE.sub("''", text)
     groups, end = [], -1
     found = GHOST.search(text)

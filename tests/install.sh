@@ -204,7 +204,8 @@ as=
 [ "$(id -u)" = 0 ] && as='setpriv --reuid=65534 --regid=65534 --clear-groups'
 # (Nobody may not be able to read this folder.)
 mkdir -p "$room/readable"
-tar -C "$top" -cf - tools man docs completion VERSION crates/ptopts/src/tool.rt build/ptext | tar -xf - -C "$room/readable"
+tar -C "$top" -cf - tools man docs completion VERSION crates/ptopts/src/tool.rt build/ptext |
+    tar -xf - -C "$room/readable"
 chmod -R a+rX "$room/readable"
 for python in python3 /usr/bin/python3; do
     $as "$python" -c 'open("'"$room"'/readable/build/ptext")' 2>/dev/null && break

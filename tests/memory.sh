@@ -77,8 +77,8 @@ each 2 "a\tb:a\tc:$long\n" paste -s -d : -
 each 4 "a\t1\na\t2\nb\t3\n" comm -12 second second
 each 6 "a b 1\na b 2\na c 1\na c 2\n" join - second
 
-# The most bytes that a run has at a time, over short lines, over one line of a megabyte, and over a thousand lines of one
-# key. (No contract bounds the capacity of a buffer.)
+# The most bytes that a run has at a time, over short lines, over one line of a megabyte, and over a thousand lines of
+# one key. (No contract bounds the capacity of a buffer.)
 # most BYTES INPUT WORDS..: the run needs no more
 most() {
     limit=$1 from=$2

@@ -4,8 +4,8 @@
 # usage: tests/must_fail.sh [CRATE..]
 set -eu
 cd "$(dirname "$0")/.."
-room=$(mktemp -d)
-trap 'rm -rf "$room"' EXIT
+. tests/common.sh
+python3 tests/edits.py
 cp HANDLES crates.txt "$room"
 for crate in crates/*; do
     mkdir -p "$room/$crate"
@@ -15,6 +15,6 @@ for crate in crates/*; do
     [ ! -d "$crate/must-fail-release" ] || mv "$room/$crate/must-fail-release" "$room/$crate/must-fail"
 done
 cd "$room"
-{ rt must-fail "$@" && : >passed; } | tee said
+follow said rt must-fail "$@"
 # (Of a crate that is not proved itself, any wrong body is refused.)
-[ -e passed ] && ! grep 'did not end well' said
+! grep 'did not end well\|says little of the contract' said

@@ -92,7 +92,7 @@ if [ -x "$top/build/ptext-static" ] && [ -f "$top/build/ptext.o" ] && has rt; th
             LC_ALL=C sort | uniq -u | tr '\n' ' ')"
     is "its checksums" "" "$(cd "$room/static" && sha256sum --quiet -c SHA256SUMS 2>&1)"
     same "its program" "$room/static/bin/ptext" "$top/build/ptext-static"
-    is "NOTICES of it name the C library" 1 "$(grep -c 'GNU C Library' "$room/static/NOTICES")"
+    is "NOTICES of it name the C library" yes "$(grep -q "GNU C Library" "$room/static/NOTICES" && echo yes)"
     is "a tool of it by its own name" '1 a' "$(echo a | "$room/static/libexec/ptext/bin/uniq" -c)"
     gcc -static -s -o "$room/linked" "$room/static/relink/ptext.o" "$room/static/relink/libos_c.a" \
         "$room/static/relink/liblibc_c.a"

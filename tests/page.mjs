@@ -134,6 +134,73 @@ is("more than 64 KiB of messages", run(`cut -f 1 ${none.join(" ")}`),
     [1, "", none.map((it) => `cut: ${it}: cannot be opened\n`).join("")]);
 const statuses = runAll(ptext, commands("cut -q | cut -f 1 - none | tr a b"), "a\n", new Map()).statuses;
 is("the statuses of a chain", statuses, [2, 1, 0]);
+is("the messages of a chain", run("cut -q | cut -f 1 - none | tr a"), [2, "", "cut: unknown option in -q\n"
+    + "cut: none: cannot be opened\ntr: wrong number of operands\n"]);
+
+// ---- a module after calls of several kinds
+const sizeOf = (it) => it.exports.memory.buffer.byteLength;
+is("300 MB", run("tr x y", "x".repeat(150 * 10 ** 6))[0], 0);
+const most = sizeOf(ptext);
+is("a small run after it", run("cut -c 1", "ab\n"), [0, "a\n", ""]);
+is("its module is a new one", most > 3 * 10 ** 8 && sizeOf(ptext) < 10 ** 7, true);
+// A call that the host ends leaves the module as it stopped, with its part of the stack taken.
+const stopped = await load(page), take = stopped.heap.take;
+for (let turn = 0; turn < 1000; turn++) {
+    let requests = 0;
+    stopped.heap.take = function (size) {
+        if (this.requests && ++requests > 3) throw new RangeError("stopped");
+        return take.call(this, size);
+    };
+    const error = errorOf(() => stopped.run(["join", "f", "g"], "", new Map([["f", "a 1\n"], ["g", "a 2\n"]])));
+    if (error !== "RangeError" || stopped.exports) is(`the host ends call ${turn}`, [error, stopped.exports], []);
+}
+stopped.heap.take = take;
+is("a run after calls that failed", run("join f g", "", { f: "a 1\n", g: "a 2\n" }, stopped), [0, "a 1 2\n", ""]);
+
+// ---- a guard after each room that the module is given: nothing is written there
+const guarded = await load(page), { heap: ofGuarded } = guarded, GUARD = 64, rooms = [];
+const imports = ofGuarded.imports.bind(ofGuarded), ofHeap = ofGuarded.take.bind(ofGuarded);
+let isOfModule = false, faultsOfGuards = 0, looked = 0;
+const byModule = (call) => (...given) => {
+    isOfModule = true;
+    call(...given);
+    isOfModule = false;
+};
+ofGuarded.imports = () => Object.fromEntries(Object.entries(imports()).map(([name, call]) => [name, byModule(call)]));
+ofGuarded.take = (size) => {
+    const room = ofHeap(isOfModule ? size : size + GUARD);
+    if (!isOfModule && room) {
+        ofGuarded.bytes().fill(0xa5, room + size, room + size + GUARD);
+        rooms.push(room + size);
+    }
+    return room;
+};
+ofGuarded.begin = function (...given) {
+    rooms.length = 0;
+    Heap.prototype.begin.apply(this, given);
+};
+/** Looks at the guards after a call. */
+const thenLook = (call) => (...given) => {
+    call(...given);
+    looked += rooms.length;
+    const isIntact = (guard) => ofGuarded.bytes().subarray(guard, guard + GUARD).every((it) => it === 0xa5);
+    faultsOfGuards += rooms.filter((it) => !isIntact(it)).length;
+};
+guarded.run(["uniq"], "a\n");
+const { ptext_names_in_memory: namesOf, ptext_run_in_memory: runOf, ...others } = guarded.exports;
+guarded.exports = { ...others, ptext_names_in_memory: thenLook(namesOf), ptext_run_in_memory: thenLook(runOf) };
+is("a guarded run", run("join f - | uniq -c", "k 1\n", { f: "k 2\n" }, guarded), [0, "1 k 2 1\n", ""]);
+is("the guards", [looked, faultsOfGuards], [22, 0]);
+
+// ---- the worker: it answers each run, also one that fails
+const answers = [];
+globalThis.self = { postMessage: (message) => answers.push(message) };
+await import("../page/worker.mjs");
+globalThis.self.onmessage({ data: { module: ptext.module } });
+globalThis.self.onmessage({ data: { number: 1, commands: [["uniq"]], stdin: 7, files: [] } });
+globalThis.self.onmessage({ data: { number: 2, commands: [["uniq", "-c"]], stdin: "a\n", files: [] } });
+is("the worker after a run that fails", answers.map(({ number, error, out }) => [number, error, out && decode(out)]),
+    [[1, "TypeError: an input is a string, an ArrayBuffer or a view of one", undefined], [2, undefined, "1 a\n"]]);
 
 // ---- want of memory
 // (An input takes its own size, and as much as room for the output.)
@@ -233,6 +300,14 @@ is("a mark of order stays", asShown(0xef, 0xbb, 0xbf, 97), "\ufeffa");
 is("bytes that are no text", asShown(97, 0xff, 0xfe, 98, 0, 0x7f), "a<\\xff\\xfe>b<\\x00\\x7f>");
 is("half characters", asShown(0xc3, 97, 0xe2, 0x82), "<\\xc3>a<\\xe2\\x82>");
 is("no surrogates", asShown(0xed, 0xa0, 0x80), "<\\xed\\xa0\\x80>");
+for (const bytes of [[0xc0, 0x80], [0xc1, 0xbf], [0xe0, 0x80, 0xaf], [0xe0, 0x9f, 0xbf], [0xf0, 0x80, 0x80, 0xaf],
+    [0xf0, 0x8f, 0xbf, 0xbf], [0xf4, 0x90, 0x80, 0x80], [0xf5, 0x80, 0x80, 0x80], [0xf8, 0x88, 0x80, 0x80, 0x80]]) {
+    const wanted = bytes.map((it) => `\\x${it.toString(16)}`).join("");
+    is(`no longer form of a character, and none above the last: ${wanted}`, asShown(...bytes), `<${wanted}>`);
+}
+for (const text of ["\u07ff", "\u0800", "\ud7ff", "\ue000", "\uffff", "\u{10000}", "\u{10ffff}"]) {
+    is(`the first and the last of each length: ${encode(text)}`, asShown(...encode(text)), text);
+}
 is("no bytes", asShown(), "");
 is("the first bytes", [3, 4, 5].map((it) => firstOf(encode("ab€c"), it).length), [2, 2, 5]);
 

@@ -148,7 +148,8 @@ def main():
     program = os.path.abspath(sys.argv[1])
     if not os.access(program, os.X_OK):
         return f"there is no program {program}"
-    found = lint_pages() + find_macros_in_headings() + find_other_versions() + compare_options(program) + find_lacking_messages()
+    found = lint_pages() + find_macros_in_headings() + find_other_versions()
+    found += compare_options(program) + find_lacking_messages()
     print(found or "the pages are as the program is")
     return 1 if found else 0
 

@@ -242,8 +242,8 @@ def what_failed(program, case, way):
     """Tries a case; answers what was wrong, or nothing."""
     words, steps, last = case
     with tempfile.TemporaryDirectory() as room:
-        with open(f"{room}/{FILE}", "w", encoding="ascii") as it:
-            it.write("1\n23\n")
+        with open(f"{room}/{FILE}", "w", encoding="ascii") as file:
+            file.write("1\n23\n")
         run = Run(program, words.split(), way, room)
         wanted, at = b"", "the start"
         try:
@@ -281,6 +281,8 @@ def what_was_said(program, words):
 
 
 def main(program):
+    # (What is ended ends the program that it runs.)
+    signal.signal(signal.SIGTERM, lambda *_: sys.exit(143))
     program = os.path.realpath(program)
     tried = bad = 0
     for cases in CASES.values():

@@ -1,6 +1,6 @@
 #!/usr/bin/env python3
-"""Runs each tool with each number of operands from 0 to 513: none of them is denied memory, or refused, but those that the
-tool does not take.
+"""Runs each tool with each number of operands from 0 to 513: it is neither denied memory nor refused, unless the tool
+does not take so many.
 
   python3 tests/words.py PROGRAM
 """

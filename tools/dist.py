@@ -30,10 +30,10 @@ import tempfile
 
 sys.dont_write_bytecode = True
 
-from install import TOP, bytes_of, files, files_of_tools, git, lines_of, source_id
-from project import ARCHIVES, Failed, find_kit, run_script
+from install import call_git, find_source_id, list_files, list_files_of_tools, read_bytes, read_lines
+from project import ARCHIVES, TOP, Failed, find_kit, read_version, run_script
 
-VERSION = bytes_of(f"{TOP}/VERSION").decode().strip()
+VERSION = read_version()
 # The time that every file bears, in seconds: that of this version, if SOURCE_DATE_EPOCH names no other.
 SECONDS = os.environ.get("SOURCE_DATE_EPOCH") or "1795348800"
 TIME = int(SECONDS) if SECONDS.isdecimal() else 0
@@ -85,7 +85,7 @@ that library, in this folder:
 LGPL = "/usr/share/common-licenses/LGPL-2.1"
 
 
-def script(_, name):
+def make_script(_, name):
     """Runs a tool by its own name, from wherever the archive was unpacked, and through a link too."""
     return (
         '#!/bin/sh\nat=$0\n[ -L "$at" ] && at=$(readlink -f "$at")\n'
@@ -93,9 +93,9 @@ def script(_, name):
     ).encode()
 
 
-def source_files():
+def find_source_files():
     """The files of the source: those that git knows, or, outside a checkout, all but what was built."""
-    known = git("ls-files", "-z")
+    known = call_git("ls-files", "-z")
     if known is not None:
         return sorted(it for it in known.split("\0") if os.path.isfile(f"{TOP}/{it}") and it not in ADDED)
     found = []
@@ -114,25 +114,25 @@ def source_files():
     return sorted(it for it in found if it not in ADDED)
 
 
-def sums_of(members):
+def make_sums(members):
     return "".join(f"{hashlib.sha256(text).hexdigest()}  {name}\n" for name, _, text in sorted(members))
 
 
-def changes(members):
+def find_changes(members):
     """The files that are not those of the commit. None if that cannot be known."""
-    said = git("status", "--porcelain", "-z", "--no-renames", "--untracked-files=all")
+    said = call_git("status", "--porcelain", "-z", "--no-renames", "--untracked-files=all")
     if said is not None:
         return [it[3:] for it in said.split("\0") if it]
     if os.path.exists(f"{TOP}/.git") or not os.path.exists(f"{TOP}/SHA256SUMS"):
         return None
-    wanted, found = set(lines_of(f"{TOP}/SHA256SUMS")), set(sums_of(members).splitlines())
+    wanted, found = set(read_lines(f"{TOP}/SHA256SUMS")), set(make_sums(members).splitlines())
     return sorted({it.partition("  ")[2] for it in wanted ^ found} - set(ADDED))
 
 
-def archive(path, front, members, commit):
+def write_archive(path, front, members, commit):
     """An archive of members, each a name, a mode and bytes, below the folder `front`."""
     members = [*members, ("COMMIT", 0o644, f"{commit}\n".encode())]
-    members.append(("SHA256SUMS", 0o644, sums_of(members).encode()))
+    members.append(("SHA256SUMS", 0o644, make_sums(members).encode()))
     with open(path, "wb") as raw, gzip.GzipFile("", "wb", 9, raw, mtime=0) as packed:
         with tarfile.open(mode="w", fileobj=packed, format=tarfile.USTAR_FORMAT) as packing:
             for name, mode, text in sorted(members):
@@ -142,17 +142,17 @@ def archive(path, front, members, commit):
                 packing.addfile(about, io.BytesIO(text))
 
 
-def source_members():
+def make_source_members():
     def mode_of(path):
         return 0o755 if os.access(path, os.X_OK) else 0o644
 
-    return [(it, mode_of(f"{TOP}/{it}"), bytes_of(f"{TOP}/{it}")) for it in source_files()]
+    return [(it, mode_of(f"{TOP}/{it}"), read_bytes(f"{TOP}/{it}")) for it in find_source_files()]
 
 
-def program_members(commit, program=None, notices=b""):
+def make_program_members(commit, program=None, notices=b""):
     """The program (that of build/, stripped, or this one) as `make install install-tools` installs it, the docs that its
     README names, and how to remove it."""
-    installed = [*files(BELOW, commit), *files_of_tools(BELOW, script, commit)]
+    installed = [*list_files(BELOW, commit), *list_files_of_tools(BELOW, make_script, commit)]
     if program is not None:
         installed = [(name, mode, program if name == "bin/ptext" else text) for name, mode, text in installed]
     names = "".join(f"{name}\n" for name in sorted([*(name for name, _, _ in installed), "share/ptext/files"]))
@@ -164,8 +164,8 @@ def program_members(commit, program=None, notices=b""):
         *installed,
         ("share/ptext/files", 0o644, names.encode()),
         ("INSTALL.md", 0o644, INSTALL.replace("{folders}", " ".join(own)).encode()),
-        ("NOTICES", 0o644, bytes_of(f"{TOP}/debian/copyright") + notices),
-        *((name, 0o644, bytes_of(f"{TOP}/{name}")) for name in read),
+        ("NOTICES", 0o644, read_bytes(f"{TOP}/debian/copyright") + notices),
+        *((name, 0o644, read_bytes(f"{TOP}/{name}")) for name in read),
     ]
 
 
@@ -190,7 +190,7 @@ def put_all(room, folder):
 def write_sums(folder):
     """Writes SHA256SUMS of all files of a folder. They may be of several runs."""
     names = sorted(name for name in os.listdir(folder) if name != "SHA256SUMS" and os.path.isfile(f"{folder}/{name}"))
-    sums = sums_of([(name, 0, bytes_of(f"{folder}/{name}")) for name in names if not name.startswith(".")])
+    sums = make_sums([(name, 0, read_bytes(f"{folder}/{name}")) for name in names if not name.startswith(".")])
     with tempfile.TemporaryDirectory() as room:
         with open(f"{room}/SHA256SUMS", "w", encoding="utf-8") as file:
             file.write(sums)
@@ -203,7 +203,7 @@ def shorten(names):
 
 def find_commit(changed):
     """The commit of the source, as COMMIT has it, given what has changed."""
-    commit = source_id() or "unknown"
+    commit = find_source_id() or "unknown"
     return commit + (" changed" if changed and not commit.endswith(" changed") else "")
 
 
@@ -224,15 +224,15 @@ def refuse_changes(changed):
 
 
 def make_archives(folder, is_changed):
-    source = source_members()
-    changed = changes(source)
+    source = make_source_members()
+    changed = find_changes(source)
     if not is_changed:
         refuse_changes(changed)
     commit = find_commit(changed)
     named, built = f"ptext-{VERSION}", f"ptext-{VERSION}-linux-x86_64"
     with tempfile.TemporaryDirectory() as room:
-        archive(f"{room}/{named}.tar.gz", named, source, commit)
-        archive(f"{room}/{built}.tar.gz", built, program_members(commit), commit)
+        write_archive(f"{room}/{named}.tar.gz", named, source, commit)
+        write_archive(f"{room}/{built}.tar.gz", built, make_program_members(commit), commit)
         put_all(room, folder)
     write_sums(folder)
     print(f"made {folder}/{named}.tar.gz, {built}.tar.gz and SHA256SUMS, of commit {commit}")
@@ -244,22 +244,22 @@ def make_static(folder):
     lacking = [path for path in needed if not os.path.isfile(path)]
     if lacking:
         raise Failed(f"there is no {lacking[0]} (make static builds the program). No archive was made.")
-    kit, commit = find_kit(), find_commit(changes(source_members()))
+    kit, commit = find_kit(), find_commit(find_changes(make_source_members()))
     named = f"ptext-{VERSION}-linux-x86_64-static"
     notices = (
         b"\nFiles: bin/ptext\nCopyright: the contributors of the GNU C Library\nLicense: LGPL-2.1+\n"
         + b"Comment: The program is linked with the static C library of Debian (libc6-dev).\n"
         + b" relink/ has what is needed to link it with another. The license follows.\n\n"
-        + bytes_of(LGPL)
+        + read_bytes(LGPL)
     )
     links = [f"{TOP}/build/ptext.o", *(f"{kit}/{name}" for name in ARCHIVES)]
     members = [
-        *program_members(commit, bytes_of(f"{TOP}/build/ptext-static"), notices),
-        *((f"relink/{os.path.basename(path)}", 0o644, bytes_of(path)) for path in links),
+        *make_program_members(commit, read_bytes(f"{TOP}/build/ptext-static"), notices),
+        *((f"relink/{os.path.basename(path)}", 0o644, read_bytes(path)) for path in links),
         ("relink/README", 0o644, RELINK.format(archives=" ".join(map(os.path.basename, ARCHIVES))).encode()),
     ]
     with tempfile.TemporaryDirectory() as room:
-        archive(f"{room}/{named}.tar.gz", named, members, commit)
+        write_archive(f"{room}/{named}.tar.gz", named, members, commit)
         put_all(room, folder)
     write_sums(folder)
     print(f"made {folder}/{named}.tar.gz and SHA256SUMS, of commit {commit}")
@@ -274,8 +274,8 @@ def check_programs():
 
 def copy_source(top):
     """Makes a copy of the source with the built program, which is newer, so that nothing is proved again."""
-    members = source_members()
-    members.append(("COMMIT", 0o644, f"{find_commit(changes(members))}\n".encode()))
+    members = make_source_members()
+    members.append(("COMMIT", 0o644, f"{find_commit(find_changes(members))}\n".encode()))
     os.umask(0o022)
     for name, mode, text in members:
         os.makedirs(os.path.dirname(f"{top}/{name}"), exist_ok=True)

@@ -21,7 +21,6 @@ import os
 import re
 import shlex
 import shutil
-import signal
 import subprocess
 import sys
 import tempfile
@@ -30,8 +29,8 @@ sys.dont_write_bytecode = True
 
 import manual
 from names import NAMES
+from project import TOP, Failed, read_version, run_script
 
-TOP = os.path.dirname(os.path.dirname(os.path.realpath(__file__)))
 # Each file below datadir, its mode, and its source.
 OTHERS = [
     ("ptext/cut_at_keys.sh", 0o755, "tools/cut_at_keys.sh"),
@@ -48,25 +47,25 @@ OTHERS_OF_TOOLS = [
 VARIABLES = ("bindir", "libexecdir", "datadir", "mandir", "libdir", "includedir", "INSTALL_PROGRAM")
 
 
-def bytes_of(file):
-    with open(file, "rb") as it:
-        return it.read()
+def read_bytes(file):
+    with open(file, "rb") as opened:
+        return opened.read()
 
 
-def lines_of(file):
-    return bytes_of(file).decode().splitlines() if os.path.exists(file) else []
+def read_lines(file):
+    return read_bytes(file).decode().splitlines() if os.path.exists(file) else []
 
 
-def stripped(program):
+def strip_program(program):
     """The program without its symbols, or as it is if there is no strip."""
     if not shutil.which("strip"):
-        return bytes_of(program)
+        return read_bytes(program)
     with tempfile.TemporaryDirectory() as room:
         did = subprocess.run(["strip", "-o", f"{room}/program", program], check=False)
-        return bytes_of(program if did.returncode else f"{room}/program")
+        return read_bytes(program if did.returncode else f"{room}/program")
 
 
-def git(*words):
+def call_git(*words):
     """The output of git over this folder, or None if there is no git, or if this is no checkout."""
     if not os.path.exists(f"{TOP}/.git") or not shutil.which("git"):
         return None
@@ -78,42 +77,42 @@ def git(*words):
 
 def has_other_sums():
     """Whether a file of an unpacked archive is not as SHA256SUMS has it. (Packages are made without SHA256SUMS.)"""
-    sums = dict(reversed(it.split("  ", 1)) for it in lines_of(f"{TOP}/SHA256SUMS"))
+    sums = dict(reversed(it.split("  ", 1)) for it in read_lines(f"{TOP}/SHA256SUMS"))
     return any(
-        not os.path.isfile(f"{TOP}/{name}") or hashlib.sha256(bytes_of(f"{TOP}/{name}")).hexdigest() != wanted
+        not os.path.isfile(f"{TOP}/{name}") or hashlib.sha256(read_bytes(f"{TOP}/{name}")).hexdigest() != wanted
         for name, wanted in sums.items()
     )
 
 
 @functools.cache
-def source_id():
+def find_source_id():
     """The commit of the source: that of the checkout, or, in an archive of the source, that in its file COMMIT.
     "changed" follows if the source has changed since. Empty if the commit is not known."""
-    head = git("rev-parse", "HEAD")
+    head = call_git("rev-parse", "HEAD")
     if head is not None:
-        return head.strip() + (" changed" if git("status", "--porcelain") else "")
-    commit = "".join(lines_of(f"{TOP}/COMMIT"))
+        return head.strip() + (" changed" if call_git("status", "--porcelain") else "")
+    commit = "".join(read_lines(f"{TOP}/COMMIT"))
     return commit + (" changed" if commit and not commit.endswith(" changed") and has_other_sums() else "")
 
 
-def page(name, commit=None):
+def make_page(name, commit=None):
     """A manual page, whose last line has the commit (that of the source, or this one), if it is known, after the
     version: as 0.1.0+d24ebc21, or 0.1.0+d24ebc21.changed."""
-    commit, _, is_changed = (source_id() if commit is None else commit).partition(" ")
+    commit, _, is_changed = (find_source_id() if commit is None else commit).partition(" ")
     commit = "" if commit == "unknown" else commit
     # (One word and no longer: groff leaves out the words after a version, and has the date between two of these.)
     made = f"+{commit[:8]}{'.changed' if is_changed else ''}" if commit else ""
-    text = manual.make_page() if name == manual.NAME else bytes_of(f"{TOP}/man/{name}").decode()
+    text = manual.make_page() if name == manual.NAME else read_bytes(f"{TOP}/man/{name}").decode()
     lines = text.splitlines(keepends=True)
     return "".join(f"{it.rstrip()}{made}\n" if it.startswith(".Os ") else it for it in lines).encode()
 
 
-def script(bindir, name):
+def make_script(bindir, name):
     """Runs a tool by its own name."""
     return f'#!/bin/sh\nexec {shlex.quote(f"{bindir}/ptext")} {name} "$@"\n'.encode()
 
 
-def folders(prefix, given):
+def choose_folders(prefix, given):
     """The folders of an installation: those that are given, and the usual ones below the prefix."""
     usual = {"bindir": "bin", "libexecdir": "libexec", "datadir": "share", "libdir": "lib", "includedir": "include"}
     found = {**{name: f"{prefix}/{it}" for name, it in usual.items()}, **given}
@@ -130,9 +129,9 @@ class Place:
         self.root = self.destdir + self.prefix
         self.install_program = given.get("INSTALL_PROGRAM", "")
         given = {name: value for name, value in given.items() if name != "INSTALL_PROGRAM"}
-        self.folders = {it: os.path.abspath(value) for it, value in folders(prefix, given).items()}
+        self.folders = {it: os.path.abspath(value) for it, value in choose_folders(prefix, given).items()}
         self.notes = f"{self.destdir}{self.folders['datadir']}/ptext/installed"
-        self.noted = lines_of(self.notes)
+        self.noted = read_lines(self.notes)
         # the steps that restore the earlier state, the last one first
         self.undoing = []
         # the earlier files, under their temporary names
@@ -175,8 +174,8 @@ class Place:
                 os.remove(new)
                 os.symlink(text, new)
             else:
-                with open(new, "wb") as it:
-                    it.write(text)
+                with open(new, "wb") as file:
+                    file.write(text)
                 os.chmod(new, mode)
         except OSError as why:
             # (A write that fails, as on a full disk, does not name the file itself.)
@@ -210,39 +209,35 @@ class Place:
             os.remove(old)
 
 
-def pages_of_program():
+def list_pages():
     """The manual pages, without that of the library, which `make install-lib` installs."""
     return sorted([manual.NAME, *(it for it in os.listdir(f"{TOP}/man") if not it.endswith(".3"))])
 
 
-def files(where, commit=None):
+def list_files(where, commit=None):
     """The files to install into these folders: the path, the mode, and the bytes."""
-    pages = pages_of_program()
+    pages = list_pages()
     return [
-        (f"{where['bindir']}/ptext", 0o755, stripped(f"{TOP}/build/ptext")),
-        *((f"{where['mandir']}/man{name[-1]}/{name}", 0o644, page(name, commit)) for name in pages),
-        *((f"{where['datadir']}/{name}", mode, bytes_of(f"{TOP}/{source}")) for name, mode, source in OTHERS),
+        (f"{where['bindir']}/ptext", 0o755, strip_program(f"{TOP}/build/ptext")),
+        *((f"{where['mandir']}/man{name[-1]}/{name}", 0o644, make_page(name, commit)) for name in pages),
+        *((f"{where['datadir']}/{name}", mode, read_bytes(f"{TOP}/{source}")) for name, mode, source in OTHERS),
     ]
 
 
-def files_of_tools(where, script_of=script, commit=None):
+def list_files_of_tools(where, script_of=make_script, commit=None):
     """The files with which each tool has its own name: a folder for PATH, and beside it one in which `man` then finds
     the pages first."""
     beside = f"{where['libexecdir']}/ptext"
     return [
         *((f"{beside}/bin/{name}", 0o755, script_of(where["bindir"], name)) for name in NAMES),
-        *((f"{beside}/man/man1/{name}.1", 0o644, page(f"ptext-{name}.1", commit)) for name in NAMES),
-        *((f"{where['datadir']}/{name}", mode, bytes_of(f"{TOP}/{source}")) for name, mode, source in OTHERS_OF_TOOLS),
+        *((f"{beside}/man/man1/{name}.1", 0o644, make_page(f"ptext-{name}.1", commit)) for name in NAMES),
+        *((f"{where['datadir']}/{name}", mode, read_bytes(f"{TOP}/{source}")) for name, mode, source in OTHERS_OF_TOOLS),
     ]
 
 
-def version():
-    return "".join(lines_of(f"{TOP}/VERSION"))
-
-
-def settings(where, prefix):
+def make_settings(where, prefix):
     """What pkg-config reads."""
-    text = bytes_of(f"{TOP}/build/ptext.pc").decode()
+    text = read_bytes(f"{TOP}/build/ptext.pc").decode()
     for name, value in [("prefix", prefix), *((it, where[it]) for it in ("libdir", "includedir"))]:
         value = value.replace(f"{prefix}/", "${prefix}/", 1) if name != "prefix" else value
         line = f"{name}={value}".replace(" ", "\\ ")
@@ -250,74 +245,64 @@ def settings(where, prefix):
     return text.encode()
 
 
-def files_of_library(where, prefix):
+def list_files_of_library(where, prefix):
     """The library for C. Programs that are linked with it look for it under a name with the first number of the version
     only."""
-    whole, lib = f"libptext.so.{version()}", where["libdir"]
+    whole, lib = f"libptext.so.{read_version()}", where["libdir"]
     return [
-        (f"{lib}/libptext.a", 0o644, bytes_of(f"{TOP}/build/libptext.a")),
-        (f"{lib}/{whole}", 0o755, bytes_of(f"{TOP}/build/{whole}")),
-        (f"{lib}/libptext.so.{version().partition('.')[0]}", None, whole),
+        (f"{lib}/libptext.a", 0o644, read_bytes(f"{TOP}/build/libptext.a")),
+        (f"{lib}/{whole}", 0o755, read_bytes(f"{TOP}/build/{whole}")),
+        (f"{lib}/libptext.so.{read_version().partition('.')[0]}", None, whole),
         (f"{lib}/libptext.so", None, whole),
-        (f"{lib}/pkgconfig/ptext.pc", 0o644, settings(where, prefix)),
-        (f"{where['includedir']}/ptext.h", 0o644, bytes_of(f"{TOP}/lib/ptext.h")),
-        (f"{where['mandir']}/man3/ptext.3", 0o644, page("ptext.3")),
+        (f"{lib}/pkgconfig/ptext.pc", 0o644, make_settings(where, prefix)),
+        (f"{where['includedir']}/ptext.h", 0o644, read_bytes(f"{TOP}/lib/ptext.h")),
+        (f"{where['mandir']}/man3/ptext.3", 0o644, make_page("ptext.3")),
     ]
 
 
 def put_all(place, files_in):
-    """Puts all files in their places, or none. Returns a message if it failed."""
+    """Puts all files in their places, or none."""
     try:
         for name, mode, text in files_in(place.folders):
             place.put(name, mode, text)
         place.keep_notes()
     except OSError as why:
         place.undo()
-        return f"cannot install: {why.filename}: {why.strerror}. Nothing was installed."
-    except KeyboardInterrupt:
+        raise Failed(f"cannot install: {why.filename}: {why.strerror}. Nothing was installed.") from why
+    except KeyboardInterrupt as why:
         place.undo()
-        return "stopped: nothing was installed."
+        raise Failed("stopped: nothing was installed.") from why
     place.settle()
-    return ""
 
 
-def beside(place, name):
+def describe_folder(place, name):
     """One of the folders as a message has it: below the root, without the root."""
     path = place.destdir + place.folders[name]
     return os.path.relpath(path, place.root) if path.startswith(f"{place.root}/") else path
 
 
 def install(place):
-    why = put_all(place, files)
-    if why:
-        return why
+    put_all(place, list_files)
     print(
-        f"installed in {place.root}: {beside(place, 'bindir')}/ptext, {len(pages_of_program())} pages in "
-        f"{beside(place, 'mandir')}, completion for bash, zsh and fish, {beside(place, 'datadir')}/ptext/cut_at_keys.sh"
+        f"installed in {place.root}: {describe_folder(place, 'bindir')}/ptext, {len(list_pages())} pages in "
+        f"{describe_folder(place, 'mandir')}, completion for bash, zsh and fish, {describe_folder(place, 'datadir')}/ptext/cut_at_keys.sh"
     )
-    return 0
 
 
 def install_tools(place):
-    why = put_all(place, files_of_tools)
-    if why:
-        return why
+    put_all(place, list_files_of_tools)
     file = shlex.quote(f"{place.folders['datadir']}/{OTHERS_OF_TOOLS[0][0]}")
     print(f"to complete them in bash, ~/.bash_completion needs: . {file}")
     print(f"installed in {place.destdir}{place.folders['libexecdir']}/ptext/bin: {', '.join(NAMES)}")
-    return 0
 
 
 def install_library(place):
-    why = put_all(place, lambda where: files_of_library(where, place.prefix))
-    if why:
-        return why
-    lib = beside(place, "libdir")
+    put_all(place, lambda where: list_files_of_library(where, place.prefix))
+    lib = describe_folder(place, "libdir")
     print(
-        f"installed in {place.root}: {lib}/libptext.a, {lib}/libptext.so.{version()}, {lib}/pkgconfig/ptext.pc, "
-        f"{beside(place, 'includedir')}/ptext.h, the page ptext(3)"
+        f"installed in {place.root}: {lib}/libptext.a, {lib}/libptext.so.{read_version()}, {lib}/pkgconfig/ptext.pc, "
+        f"{describe_folder(place, 'includedir')}/ptext.h, the page ptext(3)"
     )
-    return 0
 
 
 def uninstall(place):
@@ -325,7 +310,7 @@ def uninstall(place):
     paths = [os.path.normpath(f"{place.root}/{it}") for it in place.noted]
     if not paths:
         print(f"nothing is noted as installed in {place.root}")
-        return 0
+        return
     # The notes go last, so that what is left is known.
     try:
         for path in sorted(paths, key=lambda it: it == place.notes):
@@ -335,9 +320,9 @@ def uninstall(place):
             if os.path.isdir(path) and not os.listdir(path):
                 os.rmdir(path)
     except OSError as why:
-        return f"cannot uninstall: {why.filename}: {why.strerror}. What is left is noted in {place.notes}."
+        noted = f"What is left is noted in {place.notes}."
+        raise Failed(f"cannot uninstall: {why.filename}: {why.strerror}. {noted}") from why
     print(f"what was installed in {place.root} is removed")
-    return 0
 
 
 def main():
@@ -353,10 +338,9 @@ def main():
             return f"{name} begins with ~, which the shell did not expand: write $HOME. Nothing was done."
     if words[0] == "install" and not os.path.isfile(f"{TOP}/build/ptext"):
         return "there is no build/ptext: run make first. Nothing was installed."
-    # An installation that is ended leaves all as it was, as one that is stopped by Ctrl-C.
-    signal.signal(signal.SIGTERM, signal.default_int_handler)
-    return does[words[0]](Place(words[1], (words[2:] or [""])[0], given))
+    does[words[0]](Place(words[1], (words[2:] or [""])[0], given))
+    return 0
 
 
 if __name__ == "__main__":
-    sys.exit(main())
+    run_script(main)

@@ -7,14 +7,14 @@ SOURCE = os.path.join(os.path.dirname(os.path.dirname(os.path.realpath(__file__)
 
 
 def listed():
-    with open(SOURCE, encoding="utf-8") as it:
-        return re.search(r'^pub const TOOLS: &str = "(.*)";$', it.read(), re.M)[1]
+    with open(SOURCE, encoding="utf-8") as file:
+        return re.search(r'^pub const TOOLS: &str = "(.*)";$', file.read(), re.M)[1]
 
 
 def letters_of(field):
     """For each tool, the letters of one field of its `Syntax`: `flags` or `value_letters`."""
-    with open(SOURCE, encoding="utf-8") as it:
-        rows = re.findall(rf'^const (\w+): Syntax = Syntax \{{.*?\n    {field}: b"(\w*)",', it.read(), re.M | re.S)
+    with open(SOURCE, encoding="utf-8") as file:
+        rows = re.findall(rf'^const (\w+): Syntax = Syntax \{{.*?\n    {field}: b"(\w*)",', file.read(), re.M | re.S)
     return {name.lower(): found for name, found in rows}
 
 

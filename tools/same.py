@@ -8,9 +8,11 @@ node.
 """
 import argparse
 import base64
+import contextlib
 import json
 import os
 import random
+import signal
 import subprocess
 import sys
 import tempfile
@@ -35,6 +37,9 @@ class Library:
 
         self.names, self.run_all = _library.names, _library.run_all
 
+    def close(self):
+        """There is nothing to end."""
+
 
 class Page:
     """Calls of the module of a page, by node."""
@@ -44,6 +49,10 @@ class Page:
         options = [] if subprocess.run(["node", OPTION, "-e", ""], **how).returncode else [OPTION]
         words = ["node", *options, f"{TOP}/page/node.mjs", page]
         self.node = subprocess.Popen(words, stdin=subprocess.PIPE, stdout=subprocess.PIPE, text=True)
+
+    def close(self):
+        self.node.kill()
+        self.node.wait()
 
     def asked(self, words, stdin=b"", files=None, **more):
         """The answer to one call."""
@@ -67,14 +76,14 @@ def of_program(program, words, inputs, output, room):
     with tempfile.TemporaryDirectory(dir=room) as folder:
         for name, text in inputs.items():
             if name != "-" and "/" not in name and name:
-                with open(f"{folder}/{name}", "wb") as it:
-                    it.write(text)
+                with open(f"{folder}/{name}", "wb") as file:
+                    file.write(text)
         how = {"input": inputs.get("-", b""), "capture_output": True, "cwd": folder, "check": False}
         did = subprocess.run([program, *words], **how)
         out = did.stdout
         if output is not None and os.path.isfile(f"{folder}/{output}") and did.returncode != 2:
-            with open(f"{folder}/{output}", "rb") as it:
-                out = it.read()
+            with open(f"{folder}/{output}", "rb") as file:
+                out = file.read()
         return did.returncode, out, did.stderr
 
 
@@ -90,7 +99,8 @@ def main():
     given = takes.parse_args()
     program, other = os.path.realpath(given.program), Page(given.page) if given.page else Library()
     tools, differences, left_out = list(FLAGS), 0, 0
-    with tempfile.TemporaryDirectory() as room:
+    signal.signal(signal.SIGTERM, lambda *_: sys.exit(143))
+    with contextlib.closing(other), tempfile.TemporaryDirectory() as room:
         for number in range(given.count):
             case = some_case(tools[number % len(tools)], random.Random(f"library {number}"))
             words, inputs = case.words(), dict(case.inputs)

@@ -8,9 +8,10 @@ import sys
 import tempfile
 import threading
 import unittest
+import unittest.mock
 
 import ptext
-from ptext import _library
+from ptext import __main__, _library
 
 # Runs out of memory: the output is far longer than the inputs. It prints whether `out` of the exception is a beginning.
 NO_MEMORY = """
@@ -66,6 +67,22 @@ class Tools(unittest.TestCase):
         out = ptext.join("a", "b", files={"a": b"k 0123456789\n" * 300, "b": b"k abcdefghij\n" * 300})
         self.assertEqual(out, b"k 0123456789 abcdefghij\n" * 90_000)
 
+    def test_texts_are_utf_8(self):
+        self.assertEqual(ptext.cut("-b", "1-", stdin="aé€\n"), "aé€\n".encode())
+        self.assertEqual(ptext.cut("-b", "1-", "ä", files={"ä": "é\n"}), "é\n".encode())
+        out = ptext.join("-a", "1", "-e", "é", "-o", "0,2.2", "-", "f", stdin="k\n", files={"f": ""})
+        self.assertEqual(out, "k é\n".encode())
+
+    def test_names_of_each_length_and_each_byte(self):
+        names = ["x" * length for length in range(1, 70)] + [f"y{chr(code)}y" for code in range(1, 256)]
+        files = {name: f"{number}\n".encode() for number, name in enumerate(names)}
+        self.assertEqual(ptext.cut("-b", "1-", *names, files=files), b"".join(files.values()))
+        self.assertEqual(ptext.names(["paste", *names]), (names, None))
+
+    def test_output_with_byte_0(self):
+        self.assertEqual(ptext.cut("-z", "-b", "1", stdin=b"ab\0cd\0"), b"a\0c\0")
+        self.assertEqual(ptext.tr("a", r"\0", stdin=b"bab\n"), b"b\0b\n")
+
     def test_names(self):
         self.assertEqual(ptext.names(["join", "a b", "-"]), (["a b"], None))
         self.assertEqual(ptext.names(["uniq", "in", "out"]), (["in"], "out"))
@@ -100,7 +117,6 @@ class Failures(unittest.TestCase):
         error = self.refused(["comm", "-", "f"], stdin=b"b\na\n", files={"f": b""})
         self.assertEqual((error.status, error.out), (1, b"b\n"))
         self.assertIn("line 2 is out of order", error.message)
-
 
     def test_error_passes_from_process_to_process(self):
         error = pickle.loads(pickle.dumps(ptext.Error(1, "a message", b"output")))
@@ -162,6 +178,25 @@ class Program(unittest.TestCase):
         self.assertFalse(os.path.exists(f"{self.room}/made2"))
         self.is_so("ptext uniq - none/made", (1, "", "uniq: none/made: cannot be opened\n"))
         self.is_so("ptext uniq f /dev/full", (1, "", "uniq: output: write failed\n"))
+
+    def test_more_messages_than_the_first_room_holds(self):
+        names = [f"none{number:0200}" for number in range(300)]
+        messages = "".join(f"cut: {name}: cannot be opened\n" for name in names)
+        self.is_so(f"ptext cut -b 1 {' '.join(names)}", (1, "", messages))
+
+    def test_output_that_is_taken_byte_by_byte(self):
+        begin, end = os.pipe()
+        self.addCleanup(os.close, begin)
+        write = os.write
+        with unittest.mock.patch("os.write", lambda to, text: write(to, text[:1])):
+            __main__.write_all(end, b"some text\n")
+        os.close(end)
+        self.assertEqual(os.read(begin, 100), b"some text\n")
+
+    def test_file_that_may_not_grow(self):
+        with open(f"{self.room}/long", "wb") as file:
+            file.write(b"x" * 10_000)
+        self.is_so("ulimit -f 1; ptext cut -b 1- long >made", (1, "", "cut: output: write failed\n"))
 
     def test_failures(self):
         self.is_so("ptext", (2, "", "ptext: first word: cut, paste, join, comm, uniq or tr\n"))

@@ -109,7 +109,7 @@ def fill_fields(command, folder):
     found = {"command": text, "stdin": run_shell(makes.strip().removesuffix("|"), folder) if makes else ""}
     names = dict.fromkeys(word for word in shlex.split(text) if os.path.isfile(f"{folder}/{word}"))
     if len(names) > FILES:
-        raise Failed(f"an example in man/ needs more than {FILES} files, for which page/page.html has no room: {command}")
+        raise Failed(f"page/page.html has no room for more than {FILES} files, which an example in man/ has: {command}")
     for number, name in enumerate(names, 1):
         found |= {f"name{number}": name, f"file{number}": read_text(f"{folder}/{name}")}
     return found

@@ -1,6 +1,6 @@
-"""Proves crates: by the gate itself (`rt ci`), on a copy of these crates without their wrong bodies. The gate of some kits
-keeps what it proved, beside the toolchain, under checksums of all that it read. Then nothing that was proved once on this
-machine is proved again, whether by `make`, by `make test` or in another clone.
+"""Proves crates: by the gate itself (`rt ci`), on a copy of these crates without their wrong bodies. The gate of some
+kits keeps what it proved, beside the toolchain, under checksums of all that it read. Then nothing that was proved once
+on this machine is proved again, whether by `make`, by `make test` or in another clone.
 
 One run of the gate gives each crate one processor while other crates wait to be proved. If the gate keeps what it
 proved, crates that do not depend on each other are therefore proved first, each in a run of its own, all at the same

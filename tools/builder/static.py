@@ -49,7 +49,8 @@ def compile_object(kit, room, crates, into):
     """Checks the crate of the program in the room, and compiles it to an object file."""
     words = crates.make_words(kit, room, "src/main.rt")
     checked, folder = f"{os.path.dirname(room)}/checked", f"{room}/crates/{PROGRAM}"
-    run([f"{kit}/bin/rattle", "check", *words, "--logic-built", f"{kit}/logic_built", "--jobs", "2", "-o", checked], folder)
+    how = ["--logic-built", f"{kit}/logic_built", "--jobs", "2", "-o", checked]
+    run([f"{kit}/bin/rattle", "check", *words, *how], folder)
     words += ["--crate-checked", checked, "--toolchain", f"{kit}/toolchain", "--backend", "llvm", "-o", into]
     run([f"{kit}/bin/rattle", "build", *words], folder)
 

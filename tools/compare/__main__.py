@@ -48,8 +48,8 @@ KNOWN_VERSION = "9.1"
 
 def check_headings():
     """The headings in points.py that docs/REPLACING.md lacks."""
-    with open(f"{TOP}/docs/REPLACING.md", encoding="utf-8") as it:
-        known = re.findall(r"^#+ (.*)$", it.read(), re.M)
+    with open(f"{TOP}/docs/REPLACING.md", encoding="utf-8") as file:
+        known = re.findall(r"^#+ (.*)$", file.read(), re.M)
     return [it.heading for it in POINTS if it.heading and it.heading not in known]
 
 
@@ -90,8 +90,8 @@ def sides_of(given, program):
     sides = [side_of(it) for it in names]
     if given.without:
         sides = [it._replace(lacks={**it.lacks, given.without: None}) for it in sides]
-    with open(f"{TOP}/VERSION", encoding="ascii") as it:
-        version = it.read().strip()
+    with open(f"{TOP}/VERSION", encoding="ascii") as file:
+        version = file.read().strip()
     ours = Side("ptext", multi_call(program), [], {})._replace(fixed_version=version)
     there = [it for it in sides if it.version() or it.name not in SIDES]
     for side in [it for it in sides if it not in there]:

@@ -53,8 +53,8 @@ def read(folder):
     for tool in FLAGS:
         path = f"{folder}/{tool}.tsv"
         if os.path.exists(path):
-            with open(path, encoding="ascii") as it:
-                found += [case_of(line) for line in it if not line.startswith("#")]
+            with open(path, encoding="ascii") as file:
+                found += [case_of(line) for line in file if not line.startswith("#")]
     return found
 
 
@@ -64,8 +64,8 @@ def add(folder, cases):
     for tool in sorted({case.tool for case, _ in cases}):
         path, lines = f"{folder}/{tool}.tsv", set()
         if os.path.exists(path):
-            with open(path, encoding="ascii") as it:
-                lines = {line for line in it if not line.startswith("#")}
+            with open(path, encoding="ascii") as file:
+                lines = {line for line in file if not line.startswith("#")}
         lines |= {line_of(case, title) for case, title in cases if case.tool == tool}
-        with open(path, "w", encoding="ascii") as it:
-            it.write(HEAD + "".join(sorted(lines)))
+        with open(path, "w", encoding="ascii") as file:
+            file.write(HEAD + "".join(sorted(lines)))

@@ -127,8 +127,8 @@ def output_file(case, folder, inputs):
     created = sorted(set(os.listdir(folder)) - inputs)
     if not created:
         return b""
-    with open(f"{folder}/{created[0]}", "rb") as it:
-        return b"output file:" + case.end() + it.read()
+    with open(f"{folder}/{created[0]}", "rb") as file:
+        return b"output file:" + case.end() + file.read()
 
 
 def run(words, case, room):
@@ -136,8 +136,8 @@ def run(words, case, room):
     with tempfile.TemporaryDirectory(dir=room) as folder:
         inputs = set(case.files()) & set(case.inputs) - {"-"}
         for name in inputs:
-            with open(f"{folder}/{name}", "wb") as it:
-                it.write(case.inputs[name])
+            with open(f"{folder}/{name}", "wb") as file:
+                file.write(case.inputs[name])
         take, give = os.pipe2(os.O_DIRECT | os.O_CLOEXEC)
         feeder = threading.Thread(target=packets, args=(case.piece, case.inputs["-"], give))
         pipes = {"stdin": take, "stdout": subprocess.PIPE, "stderr": subprocess.PIPE}
@@ -155,8 +155,8 @@ def run_side(side, case, room):
     """The answer of an implementation. Its standard input is a file."""
     tool, *rest = case.words()
     for name in set(case.files()) & set(case.inputs) | {"-"}:
-        with open(f"{room}/{'standard' if name == '-' else name}", "wb") as it:
-            it.write(case.inputs[name])
+        with open(f"{room}/{'standard' if name == '-' else name}", "wb") as file:
+            file.write(case.inputs[name])
     with open(f"{room}/standard", "rb") as standard:
         pipes = {"stdin": standard, "stdout": subprocess.PIPE, "stderr": subprocess.PIPE}
         words, surroundings = side.words_of(tool) + rest, {**os.environ, "LC_ALL": "C"}

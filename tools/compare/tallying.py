@@ -77,9 +77,9 @@ class Tally:
 
     def details(self):
         """The count of each difference, and the example of each wrong one."""
-        for (kind, tool, title), count in sorted(self.titles.items(), key=lambda item: (KINDS.index(item[0][0]), item[0])):
-            if count:
-                yield f"{count:6} {kind}: {tool}: {title}"
+        for mark in sorted(self.titles, key=lambda mark: (KINDS.index(mark[0]), mark)):
+            if self.titles[mark]:
+                yield f"{self.titles[mark]:6} {': '.join(mark)}"
         for (tool, title), (_, case) in sorted(self.judge.found.items()):
             rule = rule_named(title, tool)
             yield f"\n{self.side.name}: {tool}: {title} ({rule.section}: \"{rule.sentence}\")"
