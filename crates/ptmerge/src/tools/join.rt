@@ -1,7 +1,7 @@
 //! The engine of `join`: a merge that keeps the second input's lines of one key at a time, if it writes pairs.
 //!
 //! `field_keys` is the order of lines by their join fields, and `key_group` copies the lines of a key. `fields` splits
-//! a line into fields, `output` writes an output line, and `words` searches for blanks.
+//! a line into fields, `output` writes an output line, and `separators` and `words` find separators and blanks by masks.
 
 ghost use Rattle.std.specs.Prelude.{◌≡◌, ℕ, List, ◌∷◌, []};
 ghost use Rattle.ptlangs.specs.Jobs.{join_job};
@@ -22,6 +22,7 @@ mod field_keys;
 mod fields;
 mod key_group;
 mod output;
+mod separators;
 mod words;
 
 use crate::faults::MergeFault;

@@ -277,8 +277,9 @@ pub(crate) fn write_pair<'a, A: Allocator, W: Sink>(
     write_entry(&entry, terminator, out)
 }
 
-// Writes the output line of an unpaired line of the first input, whose join field is `key`, and its terminator.
-#[inline(always)]
+// Writes the output line of an unpaired line of the first input, whose join field is `key`, and its terminator. Not
+// inlined, so that asking whether it is to be written is.
+#[inline(never)]
 pub(crate) fn write_first<'a, A: Allocator, W: Sink>(
     job: &'a JoinJob<A>,
     key: &'a [u8],
@@ -303,7 +304,7 @@ pub(crate) fn write_first<'a, A: Allocator, W: Sink>(
 }
 
 // Writes the output line of an unpaired line of the second input, like `write_first`.
-#[inline(always)]
+#[inline(never)]
 pub(crate) fn write_second<'a, A: Allocator, W: Sink>(
     job: &'a JoinJob<A>,
     key: &'a [u8],
