@@ -44,6 +44,12 @@ pub record IsCanonical (separator : Option ℕ) (number : ℕ) (line : List ℕ)
   pub first : number - 1 ≡ 0
   pub is : with_prefix (output_separator separator) (join_fields separator line) ≡ output_separator separator ∷ line
 
+-- The output lines of this line of the first input begin with it, unchanged: there is no output list, and the line is
+-- canonical.
+pub record BeginsOutput (job : Join) (line : List ℕ) : Type 0 where
+  pub list : job.list ≡ None
+  pub canonical : IsCanonical job.separator job.field1 line
+
 -- The bytes are words with a single space between them, and without blanks at either end. `blank` is true if a blank
 -- precedes the bytes.
 abbrev pub is_single_spaced : Bool → List ℕ → Bool

@@ -22,7 +22,8 @@ use specs.declared.key_order.Span.{Span}
 use lemmas.Simd.{mask_l-lt, trailing_mask_l}
 use Rattle.std.specs.Simd.Lanes.{chunk, mask_l, top, zip2}
 use Rattle.memchr.specs.Find.{is_byte, IsFirstByte}
-use Rattle.std.proofs.Math.Nat.{div-div-eq-div-mul, mul-lt-mul_of_pos_right, mul_assoc, one-le-pow}
+use Rattle.std.proofs.Common.{pow-suc, div-one}
+use Rattle.std.proofs.Math.Nat.{zero-div, div-div-eq-div-mul, mul-lt-mul_of_pos_right, mul_assoc, one-le-pow}
 use Rattle.std.proofs.Math.Pow.{pow-add, pow-lt, pow_mono}
 use lib.Bits.{and_step, or_step, or_zero_l, or_zero_r, and_zero_l, or_shifted_r, and_mod, and_le_l, and_self, or_self}
 use lib.Count.{count_trailing_zeros}
@@ -731,3 +732,101 @@ module _ {line : List ℕ} {passed words : ℕ} (short : length line < 64) (left
         })
 
 pub ruleset word_steps = (any_fits, words_start, word_passed, none_left, word_found)
+
+-- ---- fields by a mask of their separators
+
+shifted : (n : ℕ) (bits : List Bool) → mask_l bits / 2 ^ n ≡ mask_l (drop n bits)
+shifted zero bits = div-one (mask_l bits)
+shifted (suc n) [] = zero-div (2 ^ suc n)
+shifted (suc n) (b ∷ bits) =
+    let half : (b : Bool) → (cond b 1 0 + 2 * mask_l bits) / 2 ≡ mask_l bits = grind arith in
+    grind (arith, half, pow-suc, div-div-eq-div-mul, shifted n bits)
+
+mask_after : (test : ℕ → Bool) (v : List ℕ) (n : ℕ) {mask : ℕ} → mask ≡ mask_l (map test v)
+    → mask / 2 ^ n / 2 ≡ mask_l (map test (drop (n + 1) v))
+mask_after test v n {mask} is =
+    let twice : 2 ^ n * 2 ≡ 2 ^ (n + 1) = omega (arith, pow-add 2 n 1) in
+    cc (div-div-eq-div-mul mask (2 ^ n) 2, shifted (n + 1) (map test v), drop-map test (n + 1) v)
+
+no_separator : (c : ℕ) (v : List ℕ) → mask_l (map (is_byte c) v) ≡ 0 → join_fields (Some c) v ≡ v ∷ []
+no_separator c [] none = refl
+no_separator c (b ∷ v) none = grind (arith, no_separator c v)
+
+-- the first separator of `v` is at the index `n`
+record FirstSeparator (c : ℕ) (v : List ℕ) (n : ℕ) : Type 0 where
+  low : n < length v
+  split : join_fields (Some c) v ≡ take n v ∷ join_fields (Some c) (drop (n + 1) v)
+  at : drop n v ≡ c ∷ drop (n + 1) v
+
+first_separator : (c : ℕ) (v : List ℕ) → 0 < mask_l (map (is_byte c) v)
+    → FirstSeparator c v (prefix_len (λ b. not (is_byte c b)) v)
+first_separator c [] some = absurd (omega arith)
+first_separator c (b ∷ v) some =
+    ⊎_elim
+    (λ (e : (b == c) ≡ true). let is = eqb-true b c e in grind (arith, e, is))
+    (λ (e : (b == c) ≡ false). let w = first_separator c v (grind arith) in grind (arith, e, w, one_more))
+    (cases_Bool (b == c))
+
+-- `passed` separators of the line have been passed. After them the line goes on at the index `start`, and `rest` is the
+-- mask of the separators from there on.
+pub record SeparatedLeft (c : ℕ) (line : List ℕ) (passed start rest : ℕ) : Type 0 where
+  pub within : start ≤ length line
+  pub mask : rest ≡ mask_l (map (is_byte c) (drop start line))
+  pub fields : drop passed (join_fields (Some c) line) ≡ join_fields (Some c) (drop start line)
+
+module _ {c : ℕ} {line : List ℕ} {passed start rest : ℕ} (short : length line < 64)
+    (left : SeparatedLeft c line passed start rest) where
+  abbrev tail : List ℕ
+  tail = drop start line
+
+  last_field : rest ≡ 0 → drop passed (join_fields (Some c) line) ≡ tail ∷ []
+  last_field none = left.fields ∙ no_separator c tail (sym left.mask ∙ none)
+
+  pub none_separated : (number : ℕ) → rest ≡ 0 → passed < number - 1
+      → drop (number - 1) (join_fields (Some c) line) ≡ []
+  none_separated number none low =
+      none_past _ (passed + 1) (number - 1) (drop_next _ [] tail passed (last_field none)) (omega arith)
+
+  pub last_found : (number : ℕ) → rest ≡ 0 → passed ≡ number - 1 → IsFieldAt (Some c) number line
+      (record { start = start; end = length line })
+  last_found number none is =
+      let none_after : Lines = [] in
+      let all = last_field none in grind (usual, all, none_after, left.within)
+
+  module _ (some : rest ≢ 0) where
+    first_at : FirstSeparator c tail (count_trailing_zeros 64 rest)
+    first_at =
+        let few : length tail ≤ 64 = omega (arith, length-drop start line) in
+        rw (left.mask, trailing_mask_l (is_byte c) 64 tail few (omega (arith, left.mask)))
+        (first_separator c tail (omega (arith, left.mask)))
+
+    pub next_in : start + (count_trailing_zeros 64 rest + 1) ≤ length line
+    next_in = omega (arith, first_at.low, length-drop start line)
+
+    pub separator_passed : SeparatedLeft c line (passed + 1) (start + (count_trailing_zeros 64 rest + 1))
+        (rest / 2 ^ count_trailing_zeros 64 rest / 2)
+    separator_passed =
+        let n = count_trailing_zeros 64 rest in
+        let after : drop (start + (n + 1)) line ≡ drop (n + 1) tail = sym (drop-drop (n + 1) start line) in
+        record {
+          within = next_in;
+          mask = rw after (mask_after (is_byte c) tail n left.mask);
+          fields = rw after (drop_next _ _ _ passed (left.fields ∙ first_at.split));
+        }
+
+    pub separated_found : (number : ℕ) → passed ≡ number - 1 → IsFieldAt (Some c) number line
+        (record { start = start; end = start + count_trailing_zeros 64 rest })
+    separated_found number is =
+        let n = count_trailing_zeros 64 rest in
+        let more = join_fields (Some c) (drop (n + 1) tail) in
+        let after : drop (start + n) line ≡ drop n tail = sym (drop-drop n start line) in
+        let size : start + n - start ≡ n = omega arith in
+        record {
+          more = more;
+          is = rw (← is, size) (left.fields ∙ first_at.split);
+          ordered = omega arith;
+          within = omega (arith, next_in);
+          after = λ e. rw after (prefixed_fields c (drop (n + 1) tail) ∙ sym first_at.at);
+        }
+
+pub ruleset separator_steps = (none_separated, last_found, next_in, separator_passed, separated_found)

@@ -1,7 +1,7 @@
 //! The engine of `join`: a merge that keeps the second input's lines of one key at a time, if it writes pairs.
 //!
 //! `field_keys` is the order of lines by their join fields, and `key_group` copies the lines of a key. `fields` splits
-//! a line into fields, `output` writes an output line, and `words` searches for blanks.
+//! a line into fields, `output` writes an output line, and `separators` and `words` find separators and blanks by masks.
 
 ghost use Rattle.std.specs.Prelude.{◌≡◌, ℕ, List, ◌∷◌, []};
 ghost use Rattle.ptlangs.specs.Jobs.{join_job};
@@ -22,6 +22,7 @@ mod field_keys;
 mod fields;
 mod key_group;
 mod output;
+mod separators;
 mod words;
 
 use crate::faults::MergeFault;
@@ -31,7 +32,7 @@ use crate::merging::four_slots::clear_four_slots;
 use crate::merging::{Merge, Step};
 use crate::tools::join::field_keys::FieldKeys;
 use crate::tools::join::key_group::{clear_group, group_slots, read_group_line};
-use crate::tools::join::output::write_entry;
+use crate::tools::join::output::{begins_output, write_first, write_pair, write_second};
 use ptlangs::jobs::JoinJob;
 use ptlines::{LineReader, Out, Sink, Source, Store, WriteFault};
 use std::alloc::Allocator;
@@ -51,8 +52,8 @@ fn write_unpaired_entry<B: Allocator, W: Sink>(
         WriteBytesPost out.old out.new (unlines terminator entry) result }
 {
     match side {
-        First if job.unpaired[0] => write_entry(job, key, Some(line), None, terminator, out),
-        Second if job.unpaired[1] => write_entry(job, key, None, Some(line), terminator, out),
+        First if job.unpaired[0] => write_first(job, key, line, terminator, out),
+        Second if job.unpaired[1] => write_second(job, key, line, terminator, out),
         _ => Ok(()),
     }
 }
@@ -79,9 +80,10 @@ fn write_pair_entries<A: Allocator + Copy, B: Allocator, W: Sink>(
     if !job.pairs {
         return Ok(());
     }
+    let begins = begins_output(job, line);
     for slot in from..end {
         let other = store.line(slot);
-        write_entry(job, key, Some(line), Some(other), terminator, out)?;
+        write_pair(job, key, line, begins, other, terminator, out)?;
     }
     Ok(())
 }

@@ -2,14 +2,17 @@
 //! or one after another (`next_field`), and `field_keys` finds the span of the join field (`field_span`).
 
 ghost use Rattle.std.specs.Prelude.{◌≡◌, ◌∷◌, [], None, Some, ◌<◌, ◌+◌, length, position, option_copied, IfSome};
-ghost use Rattle.std.specs.Prelude.{MatchOption};
+ghost use Rattle.std.specs.Prelude.{MatchOption, map, ℕ};
 ghost use Rattle.std.specs.List.{slice_split};
+ghost use Rattle.std.specs.Simd.Lanes.{mask_l};
+ghost use Rattle.memchr.specs.Find.{is_byte};
 ghost use Rattle.ptmerge.specs.Join.{nth_field};
 ghost use Rattle.ptmerge.specs.JoinFields.{AreBlanks, IsFieldFound, IsFirstPieceEnd, IsFieldIn, IsPiece};
 ghost use Rattle.ptmerge.specs.JoinFields.{is_evenly_separated, is_separator, remaining_fields};
 ghost use Rattle.ptmerge.specs.KeySpan.{IsKeySpan};
 
 use crate::key_order::Span;
+use crate::tools::join::separators::{find_separated, separators_of};
 use crate::tools::join::words::{Blanks, blanks_of, find_blank, find_word, is_single_spaced};
 use ptlines::find_byte;
 
@@ -111,13 +114,28 @@ fn blanks_if_short(separator: Option<u8>, line: &[u8]) -> Blanks
     blanks_of(line)
 }
 
-// A line that is split into fields. If it is short and has no separators, its blanks are found only once.
+// Returns the mask of the separators of a short line, if it has separators. The result for others does not matter.
+#[inline(always)]
+fn separators_if_short(separator: Option<u8>, line: &[u8]) -> u64
+    ensures { (byte : ℕ) → separator ≡ Some byte → length line.now < 64
+        → result ≡ mask_l (map (is_byte byte) line.now) }
+{
+    match separator {
+        Some(byte) if line.len() < 64 => separators_of(byte, line),
+        _ => 0,
+    }
+}
+
+// A line that is split into fields. If it is short, its blanks or separators are found only once.
 #[derive(Clone, Copy)]
 pub(crate) struct SplitLine<'a> {
     pub(crate) separator: Option<u8>,
     pub(crate) line: &'a [u8],
     blanks: Blanks,
+    separators: u64,
     ghost masks: { separator ≡ None → length line.now < 64 → AreBlanks line.now blanks },
+    ghost mask: { (byte : ℕ) → separator ≡ Some byte → length line.now < 64
+        → separators ≡ mask_l (map (is_byte byte) line.now) },
 }
 
 impl<'a> SplitLine<'a> {
@@ -129,6 +147,7 @@ impl<'a> SplitLine<'a> {
             separator,
             line,
             blanks: blanks_if_short(separator, line),
+            separators: separators_if_short(separator, line),
         }
     }
 
@@ -137,9 +156,12 @@ impl<'a> SplitLine<'a> {
     pub(crate) fn find(&self, number: u64) -> Option<Span>
         ensures { IsFieldFound self.now.separator number self.now.line.now result }
     {
+        if self.line.len() >= 64 {
+            return find_by_pieces(self.separator, number, self.line);
+        }
         match self.separator {
-            None if self.line.len() < 64 => find_word(number, self.line, self.blanks),
-            separator => find_by_pieces(separator, number, self.line),
+            Some(byte) => find_separated(byte, number, self.line, self.separators),
+            None => find_word(number, self.line, self.blanks),
         }
     }
 

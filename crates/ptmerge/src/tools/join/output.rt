@@ -4,8 +4,9 @@ ghost use Rattle.std.specs.Prelude.{◌≡◌, ◌≤◌, ◌++◌, IfSome, leng
 ghost use Rattle.std.proofs.Props.{props};
 ghost use Rattle.ptlines.specs.Outputs.{PushPost};
 ghost use Rattle.ptlangs.specs.Jobs.{join_job};
-ghost use Rattle.ptmerge.specs.Join.{join_fields, other_fields, output_separator, or_filler, field_named};
-ghost use Rattle.ptmerge.specs.JoinFields.{IsCanonical, IsKeyOf, IsSplit, around, entry_with_list, remaining_fields};
+ghost use Rattle.ptmerge.specs.Join.{join_fields, join_key, other_fields, output_separator, or_filler, field_named};
+ghost use Rattle.ptmerge.specs.Join.{entry};
+ghost use Rattle.ptmerge.specs.JoinFields.{BeginsOutput, IsCanonical, IsKeyOf, IsSplit, around, entry_with_list, remaining_fields};
 ghost use Rattle.ptmerge.specs.JoinFields.{with_prefix};
 ghost use Rattle.ptmerge.specs.Write.{WriteBytesPost};
 ghost use Rattle.ptmerge.specs.declared.key_order.Side.TheVariants.{First, Second};
@@ -189,9 +190,7 @@ fn write_listed_fields<A: Allocator, W: Sink>(
     Ok(())
 }
 
-// Writes an output line field by field, without its terminator. Not inlined, so that the code for canonical lines stays
-// short.
-#[inline(never)]
+// Writes an output line field by field, without its terminator.
 fn write_fields<A: Allocator, W: Sink>(
     entry: &Entry<'_, A>,
     out: &mut Out<W>,
@@ -211,6 +210,23 @@ fn write_fields<A: Allocator, W: Sink>(
     }
 }
 
+// Writes an output line field by field, and its terminator. Not inlined, so that the code for canonical lines stays
+// short.
+#[inline(never)]
+fn write_entry<A: Allocator, W: Sink>(
+    entry: &Entry<'_, A>,
+    terminator: u8,
+    out: &mut Out<W>,
+) -> Result<(), WriteFault>
+    ensures { let job = join_job entry.now.job.now in
+        let one = option_copied entry.now.one in
+        let two = option_copied entry.now.two in
+        PushPost out.old out.new (entry_with_list job job.list entry.now.key.now one two ++ terminator ∷ []) result }
+{
+    write_fields(entry, out)?;
+    out.push(&[terminator])
+}
+
 // Checks whether a line equals the output of its own fields, with the field of this number first.
 #[inline(always)]
 #[tactic(auto, using(crate::proofs::JoinLemmas::Fields::even_prefixed))]
@@ -220,38 +236,94 @@ fn is_canonical(separator: Option<u8>, number: u64, line: &[u8]) -> bool
     number <= 1 && SplitLine::new(separator, line).is_single_spaced()
 }
 
-// Writes the output line of a pair of lines or of an unpaired line, whose join field is `key`, and its terminator.
-// Canonical lines are written without splitting them: the first line, and after it the second one without its join
-// field.
+// Checks whether the output lines of a line of the first input begin with it, unchanged. That is the same for all of its
+// pairs.
 #[inline(always)]
-pub(crate) fn write_entry<'a, A: Allocator, W: Sink>(
+pub(crate) fn begins_output<A: Allocator>(job: &JoinJob<A>, line: &[u8]) -> bool
+    ensures { result ≡ true → BeginsOutput (join_job job.now) line.now }
+{
+    job.list.is_none() && is_canonical(job.sep, job.field[0], line)
+}
+
+// Writes the output line of a pair of lines, whose join field is `key`, and its terminator. If both lines are canonical,
+// they are not split: the first line is written, and after it the second one without its join field. `begins` is true
+// if the first line is.
+#[inline(always)]
+pub(crate) fn write_pair<'a, A: Allocator, W: Sink>(
     job: &'a JoinJob<A>,
     key: &'a [u8],
-    one: Option<&'a [u8]>,
-    two: Option<&'a [u8]>,
+    one: &'a [u8],
+    begins: bool,
+    two: &'a [u8],
     terminator: u8,
     out: &mut Out<W>,
 ) -> Result<(), WriteFault>
-    requires one { IsKeyOf (join_job job.now) First key.now (option_copied one) }
-    requires two { IsKeyOf (join_job job.now) Second key.now (option_copied two) }
-    ensures { let job = join_job job.now in
-        let bytes = entry_with_list job job.list key.now (option_copied one.entry) (option_copied two.entry) in
+    requires one { join_key (join_job job.now) First one.now ≡ key.now }
+    requires begins { begins ≡ true → BeginsOutput (join_job job.now) one.now }
+    requires two { join_key (join_job job.now) Second two.now ≡ key.now }
+    ensures { let fields = join_fields (join_job job.now).separator in
+        let bytes = entry (join_job job.now) key.now (fields one.now) (fields two.now) in
         PushPost out.old out.new (bytes ++ terminator ∷ []) result }
 {
-    match (&job.list, one, two) {
-        (None, Some(first), Some(second))
-            if is_canonical(job.sep, job.field[0], first)
-                && is_canonical(job.sep, job.field[1], second) => {
-            return out.push_line(first, &second[key.len()..], &[terminator]);
-        }
-        (None, Some(line), None) if is_canonical(job.sep, job.field[0], line) => {
-            return out.push_line(line, b"", &[terminator]);
-        }
-        (None, None, Some(line)) if is_canonical(job.sep, job.field[1], line) => {
-            return out.push_line(b"", line, &[terminator]);
-        }
-        _ => {}
+    if begins && is_canonical(job.sep, job.field[1], two) {
+        return out.push_line(one, &two[key.len()..], &[terminator]);
     }
-    write_fields(&Entry { job, key, one, two }, out)?;
-    out.push(&[terminator])
+    let entry = Entry {
+        job,
+        key,
+        one: Some(one),
+        two: Some(two),
+    };
+    write_entry(&entry, terminator, out)
+}
+
+// Writes the output line of an unpaired line of the first input, whose join field is `key`, and its terminator. Not
+// inlined, so that asking whether it is to be written is.
+#[inline(never)]
+pub(crate) fn write_first<'a, A: Allocator, W: Sink>(
+    job: &'a JoinJob<A>,
+    key: &'a [u8],
+    line: &'a [u8],
+    terminator: u8,
+    out: &mut Out<W>,
+) -> Result<(), WriteFault>
+    requires { join_key (join_job job.now) First line.now ≡ key.now }
+    ensures { let fields = join_fields (join_job job.now).separator in
+        PushPost out.old out.new (entry (join_job job.now) key.now (fields line.now) [] ++ terminator ∷ []) result }
+{
+    if begins_output(job, line) {
+        return out.push_line(b"", line, &[terminator]);
+    }
+    let entry = Entry {
+        job,
+        key,
+        one: Some(line),
+        two: None,
+    };
+    write_entry(&entry, terminator, out)
+}
+
+// Writes the output line of an unpaired line of the second input, like `write_first`.
+#[inline(never)]
+pub(crate) fn write_second<'a, A: Allocator, W: Sink>(
+    job: &'a JoinJob<A>,
+    key: &'a [u8],
+    line: &'a [u8],
+    terminator: u8,
+    out: &mut Out<W>,
+) -> Result<(), WriteFault>
+    requires { join_key (join_job job.now) Second line.now ≡ key.now }
+    ensures { let fields = join_fields (join_job job.now).separator in
+        PushPost out.old out.new (entry (join_job job.now) key.now [] (fields line.now) ++ terminator ∷ []) result }
+{
+    if job.list.is_none() && is_canonical(job.sep, job.field[1], line) {
+        return out.push_line(b"", line, &[terminator]);
+    }
+    let entry = Entry {
+        job,
+        key,
+        one: None,
+        two: Some(line),
+    };
+    write_entry(&entry, terminator, out)
 }

@@ -54,14 +54,21 @@ pub(crate) fn blanks_of(bytes: &[u8]) -> Blanks
     requires { length bytes.now ≤ 64 }
     ensures { AreBlanks bytes.now result }
 {
-    match bytes.len() {
-        0 => Blanks { any: 0, tabs: 0 },
-        1 => blanks_of_ends::<1>(bytes),
-        2..=3 => blanks_of_ends::<2>(bytes),
-        4..=7 => blanks_of_ends::<4>(bytes),
-        8..=15 => blanks_of_ends::<8>(bytes),
-        16..=31 => blanks_of_ends::<16>(bytes),
-        _ => blanks_of_ends::<32>(bytes),
+    let size = bytes.len();
+    if size >= 32 {
+        blanks_of_ends::<32>(bytes)
+    } else if size >= 16 {
+        blanks_of_ends::<16>(bytes)
+    } else if size >= 8 {
+        blanks_of_ends::<8>(bytes)
+    } else if size >= 4 {
+        blanks_of_ends::<4>(bytes)
+    } else if size >= 2 {
+        blanks_of_ends::<2>(bytes)
+    } else if size == 1 {
+        blanks_of_ends::<1>(bytes)
+    } else {
+        Blanks { any: 0, tabs: 0 }
     }
 }
 
