@@ -18,12 +18,12 @@ use memchr::memrchr;
 use ptlines::{LineReader, Out, Sink, Source, WriteFault};
 
 // The replacements of the terminators of a row: after each column but the last its delimiter, and at the end the
-// terminator of the row. `None` unless there are at most 64 columns, all with the same reader, and every delimiter
+// terminator of the row. `None` unless there are at most 128 columns, all with the same reader, and every delimiter
 // between them is one byte. (Few rows of more columns are in a block at a time.)
 pub(crate) fn shared_cycle(row: RowFormat) -> Option<Cycle>
     ensures { IfSome result (IsSharedCycle (shape_of row.entry)) }
 {
-    if row.cells.is_empty() || row.cells.len() > 64 {
+    if row.cells.is_empty() || row.cells.len() > 128 {
         return None;
     }
     for input in row.cells {
