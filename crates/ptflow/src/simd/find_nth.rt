@@ -1,13 +1,13 @@
 //! Finds occurrences of a byte by match masks of 64 bytes. `cut` by fields finds delimiters and terminators by
 //! `ByteMatches`; `paste` calls `nth_index`. `cut` by bytes and `replace` use a `match_mask` alone.
 
-ghost use Rattle.std.specs.Prelude.{◌≡◌, ◌<◌, ◌≤◌, ◌+◌, ◌-◌, ℕ, Bool, List, length, map, take, drop};
+ghost use Rattle.std.specs.Prelude.{◌≡◌, ◌<◌, ◌≤◌, ◌+◌, ◌-◌, ℕ, Bool, List, Some, IfSome, length, map, take, drop};
 ghost use Rattle.std.specs.List.{count_by};
 ghost use Rattle.std.specs.Simd.Lanes.{mask_l, chunk};
 ghost use Rattle.memchr.specs.Find.{IsFirstByte, is_byte};
 ghost use Rattle.ptflow.specs.Private.Vectors.FindNth.{IsFirstByte-prop, IsNth, IsNthResult};
 
-use ptlines::find_byte;
+use ptlines::{find_byte, find_in_chunk};
 use std::simd::prelude::*;
 
 // The match mask of a byte in the 64 bytes at index `at`: bit `i` is set if the byte at `at + i` is equal to it.
@@ -108,6 +108,17 @@ fn first_match(byte: u8, bytes: &[u8], mask: u64, size: usize) -> Option<usize>
     Some(size + at)
 }
 
+// The index of the first match, if it is among the first 16 bytes.
+#[inline(always)]
+fn find_near(byte: u8, bytes: &[u8]) -> Option<usize>
+    ensures { IfSome result (λ at. IsFirstByte (is_byte byte) bytes.now (Some at)) }
+{
+    if bytes.len() < 16 {
+        return None;
+    }
+    find_in_chunk::<16>(byte, bytes, 0)
+}
+
 impl<'a> ByteMatches<'a> {
     #[inline(always)]
     pub(crate) fn new(byte: u8, bytes: &'a [u8]) -> Self
@@ -154,6 +165,11 @@ impl<'a> ByteMatches<'a> {
                 let at = nth_bit(mask, before);
                 return if at < len { Some(at) } else { None };
             }
+        }
+        if before == 0
+            && let Some(at) = find_near(self.byte, &self.bytes[from..])
+        {
+            return if at < len { Some(at) } else { None };
         }
         if before >= len as u64 {
             return None;

@@ -1,10 +1,11 @@
 -- The first match is known. Another one is found by the mask of the first bytes, shifted to those from an index on.
 use Rattle.ptflow.proofs
-use proofs.Common.{ℕ, ◌-◌, take, drop, arith, ones-mask_l, length-drop, usual}
+use proofs.Common.{ℕ, ◌≡◌, ◌≤◌, ◌-◌, length, take, drop, refl, arith, ones-mask_l, length-drop, take_rest, usual}
 use proofs.Common.{is_byte, IsNth}
 use proofs.Vectors.FindNth.{first_is_nth, no_nth_before_first, no_nth, nth_in_prefix, none_in_prefix, mask_from}
 use proofs.simd.find_nth.ByteMatches.nth.Goals as goal
 use Rattle.ptflow.proofs.simd.find_nth.ByteMatches.nth.Goals.{After-nth_bit-at, then-at-to, else-at-to}
+use Rattle.ptflow.proofs.simd.find_nth.ByteMatches.nth.Goals.{then-at-len-2, else-at-len-2}
 
 here : (c : After-nth_bit-at)
     → IsNth (is_byte c.args.self.now.byte) 0 c.args.before
@@ -44,3 +45,18 @@ returns-else-at-len c =
     none_in_prefix (is_byte m.byte) (drop c.args.from m.bytes.now) (m.size - c.args.from) 0 c.args.before _
     (omega (arith, length-drop {A = ℕ})) (here (goal.at.returns-else-at-len c).After-nth_bit-at)
     {index = c.nth_bit-at.result} (omega arith) (omega arith) (omega arith)
+
+pub returns : goal.returns
+returns c =
+    let m = c.args.self.now in
+    let rest = drop c.args.from m.bytes.now in
+    let len = c.args.to - c.args.from in
+    let within : len ≤ length rest = omega (arith, length-drop {A = ℕ}) in
+    let first = rw take_rest at c.in-Some.ensures in
+    let same : len - 0 ≡ len = omega arith in
+    elim c.if-at-len-2.branch [
+      | then-at-len-2 w ↦ rw w.result-is (rw same at (first_is_nth m.byte rest refl c.if-before-eq0-2.true within
+          c.in-Some.at first w.if-at-len-2.true))
+      | else-at-len-2 w ↦ rw w.result-is (rw same at (no_nth_before_first m.byte rest refl c.if-before-eq0-2.true
+          within c.in-Some.at first (omega arith)))
+    ]
