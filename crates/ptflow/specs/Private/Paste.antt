@@ -7,3 +7,4 @@ pub mod SerialRest
 pub mod TakenLines
 pub mod RowCells
 pub mod BufferedRows
+pub mod Segments
