@@ -24,4 +24,5 @@ for file in ptext.o ptext; do
     fi
 done
 sh tests/built.sh build/ptext
+sh tests/definitions.sh build/ptext
 echo "$last"
