@@ -2,6 +2,7 @@
 import collections
 import re
 import shlex
+import shutil
 import tempfile
 
 from bounds import bounds_of, stretches_of
@@ -32,7 +33,8 @@ class Lemmas:
         self.subjects[name] = subject
 
     def write(self, crate):
-        """Writes the files of the lemmas into the crate."""
+        """Writes the files of the lemmas into the crate, in place of those that are there."""
+        shutil.rmtree(f"{crate}/proofs", ignore_errors=True)
         starts = range(0, len(self.texts), LEMMAS_PER_FILE)
         for start in starts:
             texts = self.texts[start : start + LEMMAS_PER_FILE]
