@@ -17,6 +17,9 @@
 #                           bench/; and the tools over parts of their input, on all processors
 # make compare N=5000       random words and inputs, against the definitions and the system's tools; AGAINST=busybox,
 #                           toybox, uutils, 9base, all, or a path, compares with others (docs/POSIX.md)
+# make definitions N=500    has the prover compute the definitions on random words and inputs, and compares the results
+#                           with a model in Python, the system's tools, and the built program if there is one
+# make docs                 writes docs/PROMISE.md, the page of the definitions, from crates/*/specs
 # make install PREFIX=..    installs the program, its pages and completion into PREFIX (/usr/local), below DESTDIR
 # make install-tools        adds PREFIX/libexec/ptext/bin with each tool by its own name, a folder to put into PATH
 # make uninstall PREFIX=..  takes away exactly what these two and install-lib installed
@@ -51,8 +54,8 @@ WITH_RT = command -v rt >/dev/null || { echo 'there is no rt in PATH: it is part
     says what can be had without it (if it is unpacked: export PATH=/opt/rattle/bin:$$PATH)' >&2; exit 1; }
 AGAINST ?= system
 
-.PHONY: all try check must-fail check-program test static lib install-lib python page bench compare install is-built \
-    install-tools uninstall dist dist-static deb clean help
+.PHONY: all try check must-fail check-program test static lib install-lib python page bench compare definitions docs \
+    install is-built install-tools uninstall dist dist-static deb clean help
 
 all: build/ptext
 	@echo '$$ echo abcd | build/ptext cut -c 3-,1' && echo abcd | build/ptext cut -c 3-,1
@@ -127,6 +130,13 @@ bench: build/ptext
 
 compare: build/ptext
 	python3 tools/compare build/ptext $(N) --against "$(AGAINST)"
+
+definitions:
+	@$(WITH_RT)
+	python3 tools/definitions $(N) $(if $(wildcard $(PROGRAM)),--program $(PROGRAM))
+
+docs:
+	python3 tools/promise.py
 
 # As root no proof begins on the way: the program has to be there, and newer than its source.
 install: $(if $(filter 0,$(shell id -u)),is-built,build/ptext)

@@ -52,4 +52,5 @@ for target in static lib page; do
     follow "$log" make --no-print-directory "$target" || fail "make $target"
 done
 follow "$log" sh tests/built.sh build/ptext || fail "a test of what was built"
+follow "$log" sh tests/definitions.sh build/ptext || fail "a definition does not give what it should"
 echo "$last"

@@ -162,10 +162,10 @@ def groups_of(case):
     return [(key, *groups[key]) for key, rank in known.items() if not found or rank <= found[0]]
 
 
-def comm_entries(case, meant):
+def comm_entries(case, meant, groups):
     lead_two = b"" if "1" in meant else b"\t"
     lead_both = lead_two + (b"" if "2" in meant else b"\t")
-    for key, first, second in groups_of(case):
+    for key, first, second in groups:
         common = min(len(first), len(second))
         yield from [lead_both + key] * (0 if "3" in meant else common)
         yield from [key] * (0 if "1" in meant else len(first) - common)
@@ -191,9 +191,9 @@ def join_line(case, meant, key, lines):
     return separator.join(fields)
 
 
-def join_entries(case, meant):
+def join_entries(case, meant, groups):
     asked = set(meant.get("a", [])) | set(meant.get("v", []))
-    for key, first, second in groups_of(case):
+    for key, first, second in groups:
         if first and second and "v" not in meant:
             yield from (join_line(case, meant, key, (one, two)) for one in first for two in second)
         if 1 in asked and not second:
@@ -209,7 +209,7 @@ def merged(case, meant, operands):
     if lacking:
         return b"", lacking
     entries = comm_entries if case.tool == "comm" else join_entries
-    out = b"".join(it + case.end() for it in entries(case, meant))
+    out = b"".join(it + case.end() for it in entries(case, meant, groups_of(case)))
     found = disorder(case)
     if not found:
         return out, ""

@@ -5,3 +5,4 @@ pub mod Passes
 pub mod PasteLemmas
 pub mod TrLemmas
 pub mod UniqLemmas
+pub mod OutputLaws

@@ -7,3 +7,4 @@ pub mod PasteText
 pub mod Uniqs
 pub mod PasteCall
 pub mod Parts
+pub mod Laws

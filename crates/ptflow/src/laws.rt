@@ -1,5 +1,8 @@
 //! Theorems on inputs that are cut into parts: when the output for the whole is the outputs for the parts, one after
-//! another. Callers that work in parallel rely on them; the functions do nothing.
+//! another. Callers that work in parallel rely on them; the functions do nothing. After them theorems on the output for a
+//! whole input, by which a reader can judge the definitions.
+ghost use Rattle.ptflow.specs.Laws.Outputs.{CutOfAll, CutAfterPaste, CountsAddUp, RepeatedOrSingle, UniqTwice};
+ghost use Rattle.ptflow.specs.Laws.Outputs.{TranslationKeepsLength, DeletedOrKept};
 ghost use Rattle.ptflow.specs.Parts.{CutOfParts, TrOfAnyParts, TrOfParts, TrAfterByte, TrMeetsTwice, UniqOfParts};
 ghost use Rattle.ptflow.specs.Parts.{UniqByKey, PasteOfParts};
 
@@ -49,4 +52,47 @@ pub fn uniq_by_key()
 /// This function does nothing at run time. Its contract states the theorem.
 pub fn parts_of_paste()
     ensures { PasteOfParts }
+{}
+
+/// If all bytes of a line or all its fields are selected, as by `cut -b 1-` and `cut -f 1-`, the lines are written as
+/// they are.
+/// This function does nothing at run time. Its contract states the theorem.
+pub fn cut_of_all()
+    ensures { CutOfAll }
+{}
+
+/// `cut -f` takes a column out of the rows that `paste` writes with the same delimiter, if no field contains it.
+/// This function does nothing at run time. Its contract states the theorem.
+pub fn cut_after_paste()
+    ensures { CutAfterPaste }
+{}
+
+/// The counts that `uniq -c` writes add up to the number of lines.
+/// This function does nothing at run time. Its contract states the theorem.
+pub fn counts_add_up()
+    ensures { CountsAddUp }
+{}
+
+/// Each line that `uniq` writes is written by exactly one of `uniq -d` and `uniq -u`.
+/// This function does nothing at run time. Its contract states the theorem.
+pub fn repeated_or_single()
+    ensures { RepeatedOrSingle }
+{}
+
+/// `uniq` leaves its own output as it is, with `-f` and `-s` too.
+/// This function does nothing at run time. Its contract states the theorem.
+pub fn uniq_twice()
+    ensures { UniqTwice }
+{}
+
+/// `tr` with two strings, and without `-d` and `-s`, keeps the number of bytes.
+/// This function does nothing at run time. Its contract states the theorem.
+pub fn translation_keeps_length()
+    ensures { TranslationKeepsLength }
+{}
+
+/// `tr -d` and `tr -cd` share out the bytes: each byte is kept by exactly one of them, in its order.
+/// This function does nothing at run time. Its contract states the theorem.
+pub fn deleted_or_kept()
+    ensures { DeletedOrKept }
 {}

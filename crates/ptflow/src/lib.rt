@@ -5,7 +5,7 @@
 //! - `simd` has the vector code. It uses no reader and no output.
 //! - `block_loop` is the loop of the tools that work block by block, and `line_loop` that of the tools that work line
 //!   by line. `slots` adds the missing slots of a store.
-//! - `laws` states which tools can be run on parts of their input.
+//! - `laws` states which tools can be run on parts of their input, and theorems on their output.
 #![tactic(auto)]
 
 mod block_loop;
@@ -17,7 +17,11 @@ mod slots;
 mod tools;
 
 pub use faults::FlowFault;
-pub use laws::{parts_of_cut, parts_of_paste, parts_of_tr, parts_of_uniq, uniq_by_key};
+pub use laws::{
+    counts_add_up, cut_after_paste, cut_of_all, deleted_or_kept, parts_of_cut, parts_of_paste,
+    parts_of_tr, parts_of_uniq, repeated_or_single, translation_keeps_length, uniq_by_key,
+    uniq_twice,
+};
 pub use simd::shift::translate;
 pub use tools::cut::cut;
 pub use tools::paste::paste;

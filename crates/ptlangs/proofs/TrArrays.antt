@@ -346,7 +346,7 @@ has_byte-filter = grind (arith, any-filter_same)
 has_byte-all : (b : ℕ) → b < 256 → has_byte b all_bytes ≡ true
 has_byte-all b low = list_any_at _ all_bytes b 0 (omega (arith, length-all)) (eq-eqb _ b (get_or-all b 0 low))
 
-has_byte-complement : (bytes : List ℕ) (b : ℕ) → b < 256 → has_byte b (complement_of bytes) ≡ not (has_byte b bytes)
+pub has_byte-complement : (bytes : List ℕ) (b : ℕ) → b < 256 → has_byte b (complement_of bytes) ≡ not (has_byte b bytes)
 has_byte-complement = grind (arith, has_byte-filter, has_byte-all)
 
 pub complement-is : (old : Contents) (bytes : List ℕ) (has : List Bool) (count : ℕ) → old ≡ contents_of bytes

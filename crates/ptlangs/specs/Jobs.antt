@@ -93,7 +93,7 @@ comm_job job = record {
   descending = job.descending;
 }
 
--- written for an empty field that the output list names
+-- `comm` without options: all three columns
 abbrev pub default_comm : Comm
 default_comm = record { hide1 = false; hide2 = false; hide3 = false; terminator = 10; descending = false }
 

@@ -174,8 +174,8 @@ fn clear_slots<A: Allocator + Copy>(cells: &[usize], store: &mut Store<A>)
 /// bytes have room for it. Missing slots are added before anything is read. If at most 128 columns all read one input,
 /// and no delimiter between them is empty, all complete rows in its buffer are written at once.
 ///
-/// A row is written before 16,384 more bytes of any of its inputs are read. Not proved but tested: it is written before
-/// anything more is read, nothing of it is written before all of its lines are known, and the buffered output is
+/// A row is pushed before 16,384 more bytes of any of its inputs are read. Not proved but tested: it is pushed before
+/// anything more is read, nothing of it is pushed before all of its lines are known, and the buffered output is
 /// written out before a read that may block ([`LineReader::write_out_before_blocking`]). If the output has failed
 /// before the call, or `cells` is empty, nothing is read or written.
 /// # Errors

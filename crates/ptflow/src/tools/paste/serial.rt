@@ -144,8 +144,8 @@ impl<'a> BlockFilter for SerialPaste<'a> {
 /// option `-s`). The row ends with newline, or with byte 0 with `-z`, an extension of POSIX. An input without lines
 /// gives an empty row.
 ///
-/// The store is not used. The output that is determined by the input so far is written before 16,384 more bytes are
-/// read. Not proved but tested: it is written before the next read. If the output has failed before the call, nothing
+/// The store is not used. The output that is determined by the input so far is pushed before 16,384 more bytes are
+/// read. Not proved but tested: it is pushed before the next read. If the output has failed before the call, nothing
 /// is read.
 /// # Errors
 /// - `Read` with index 0 if a read failed.

@@ -1,0 +1,6 @@
+use Rattle.ptflow.proofs
+use proofs.OutputLaws.Uniqs.{repeated_or_single}
+use proofs.laws.repeated_or_single.Goals as goal
+
+pub returns : goal.returns
+returns c = repeated_or_single

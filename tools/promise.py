@@ -1,0 +1,202 @@
+#!/usr/bin/env python3
+"""What a reader has to believe: the definitions that the contract of a whole run rests on.
+
+  python3 tools/promise.py            writes those of a command to docs/PROMISE.md, in reading order with their comments
+  python3 tools/promise.py --check    fails if that page is not what this would write
+  python3 tools/promise.py --size     prints how much the contracts of `run` and `perform` rest on, crate by crate, and
+                                      which files have other definitions beside these
+"""
+import argparse
+import re
+import sys
+from os.path import dirname, realpath
+
+sys.dont_write_bytecode = True
+TOP = dirname(dirname(realpath(__file__)))
+sys.path.insert(1, f"{TOP}/tools/definitions")
+
+from crate import declared_types
+from specs import Specs, is_of_code, line_count, root_of
+
+PAGE = f"{TOP}/docs/PROMISE.md"
+WIDTH = 128
+# The contracts of a whole run: the file of the code, and the name of the function.
+CONTRACTS = [("crates/ptrun/src/running.rt", "run"), ("crates/ptext/src/files.rt", "perform")]
+# What the page shows: the specification that words have, and the messages of a run without a failure.
+SHOWN = [root_of("ptrun.SpecOfArgs.spec_of_args"), root_of("ptrun.CommandSpec.messages")]
+# The sections of the page: a title, a sentence, the modules, and the definition whose lines the table counts.
+SECTIONS = [
+    ("Bytes and lines", "", ["ptlines.Text", "ptlines.ByteOrder", "ptlines.Received", "ptlines.Slots"], ""),
+    ("Lists", "", ["ptlangs.Numbers", "ptlangs.CutLists", "ptlangs.DelimLists", "ptlangs.OutLists"], ""),
+    ("Jobs", "A job is the options of a tool as plain values.", ["ptlangs.Jobs"], ""),
+    ("cut", "", ["ptflow.ToolSpec", "ptflow.Cuts"], "ptflow.Cuts.cut_tool"),
+    ("paste", "", ["ptflow.PasteText", "ptflow.PasteCall"], "ptflow.PasteCall.paste_engine"),
+    ("uniq", "", ["ptflow.Uniqs"], "ptflow.Uniqs.uniq_tool"),
+    ("tr", "First what it does to a text; then its strings, from characters to the plan that two of them make.",
+     ["ptflow.TrOutput", "ptlangs.TrTables", "ptlangs.TrChars", "ptlangs.TrClasses", "ptlangs.TrElements",
+      "ptlangs.TrPlan"], "ptflow.TrOutput.tr_tool ptlangs.TrTables.tables ptlangs.TrPlan.plan"),
+    ("Merges", "`comm` and `join` are merges.", ["ptmerge.Orders", "ptmerge.Sides", "ptmerge.MergeSpec"], ""),
+    ("comm", "", ["ptmerge.Comm"], "ptmerge.Comm.comm_tool ptmerge.MergeCall.merge_engine"),
+    ("join", "", ["ptmerge.Join"], "ptmerge.Join.join_tool ptmerge.MergeCall.merge_engine"),
+    ("Words", "From the words of a command line to a job, its inputs and its output, or to the first fault.",
+     ["ptopts.Syntax", "ptopts.Args", "ptopts.Faults", "ptopts.Commands"], "ptopts.Commands.command_of_args"),
+    ("Messages", "", ["ptrun.MessageWrites", "ptrun.Messages"], "ptrun.Messages.usage_message"),
+    ("A run", "From a job and the bytes of its inputs to the output, the messages and the status.",
+     ["ptrun.Files", "ptrun.CommandSpec", "ptlines.Calls", "ptflow.Passes", "ptmerge.MergeCall", "ptrun.Engines",
+      "ptrun.Operands", "ptrun.Joint", "ptrun.Tools", "ptrun.SpecOfArgs"], "ptrun.SpecOfArgs.spec_of_args"),
+]
+INTRODUCTION = """\
+# The promise
+
+This is all that has to be believed of what the tools do: the definitions from which the words of a command line and the
+bytes of its inputs give the output, the messages, the exit status, what is decided by a part of the inputs, and the
+bounds of memory. `ptrun::run` and the program are proved to do what they say; [PROVED.md](PROVED.md) has the contracts.
+[definitions.md](definitions.md) is the introduction, in words. `make docs` writes this page from crates/*/specs, word
+for word, but for `abbrev`, `pub`, imports and line breaks. A type of the code is listed by its variants. What is not
+defined here is of the toolchain's library: operations on lists, options and numbers, as `flat_map` or `slice_split`.
+
+`make definitions` has the prover compute them on random commands, and compares the results with the tools of the system
+(where POSIX decides) and with a model in Python. The table counts lines without comments: those of a part, and those of
+all definitions on which it rests, its own included.
+"""
+
+
+def joined(clause):
+    """A clause in one line, if that is short enough; the fields of a record on few lines; any other clause as it is."""
+    one = re.sub(r";? \}", " }", " ".join(clause.split()))
+    if " -- " in clause or " where" in one:
+        return clause.split("\n")
+    if len(one) <= WIDTH:
+        return [one]
+    if not re.match(r"[^=]*= record \{", one):
+        return clause.split("\n")
+    lines = [""]
+    for field in one.split("; "):
+        if len(lines[-1]) + len(field) + 1 > WIDTH:
+            lines.append("   ")
+        lines[-1] += f" {field};" if lines[-1] else f"{field};"
+    return [*lines[:-1], lines[-1].rstrip(";")]
+
+
+def with_comments_beside(lines):
+    """The lines, with each comment of one line after the line that it is about, if there is room."""
+    found = []
+    for line in lines:
+        comment = found[-1].strip() if found and found[-1].strip().startswith("-- ") else ""
+        alone = len(found) < 2 or not found[-2].strip().startswith("--")
+        if comment and alone and not line.strip().startswith("--") and len(line) + len(comment) + 2 <= WIDTH:
+            found[-1] = f"{line}  {comment}"
+        else:
+            found.append(line)
+    return found
+
+
+def shown(definition):
+    """The lines of a definition on the page."""
+    first, *clauses = definition.blocks
+    first = re.sub(r"^(?:(?:abbrev|unfoldable|opaque|pub) )+", "", first)
+    first = re.sub(r"^  pub ", "  ", first, flags=re.M)
+    lines = [*definition.comment, *joined(first)]
+    for clause in clauses:
+        lines += joined(clause)
+    return with_comments_beside(lines)
+
+
+def variants(text):
+    """A type of the code in one line: its fields or its variants."""
+    head, _, body = text.partition("{")
+    names = [line.strip().rstrip(",") for line in body.split("\n") if line.strip() not in ("", "}")]
+    mark = " | " if "enum" in head else ", "
+    return f"{head.split()[-1]} = {mark.join(re.sub('^pub | = [0-9]+$', '', name) for name in names)}"
+
+
+def count_of(specs, roots):
+    """The lines that some definitions rest on."""
+    needed, _ = specs.rest([root_of(root) for root in roots.split()])
+    return sum(line_count(definitions) for definitions in needed.values())
+
+
+def anchor(title):
+    return title.lower().replace(" ", "-")
+
+
+def section(specs, needed, declared, title, sentence, modules):
+    """The text of a section of the page."""
+    lines = [f"## {title}", *([sentence] if sentence else []), "```"]
+    lines += [variants(declared[name]) for name in declared]
+    for module in modules:
+        for definition in needed.pop(f"Rattle.{module.replace('.', '.specs.', 1)}", []):
+            lines += shown(definition)
+    return "\n".join([*lines, "```", ""])
+
+
+def page():
+    """The text of the page. Raises ValueError if a definition has no section."""
+    specs = Specs()
+    needed, types = specs.rest(SHOWN)
+    total = sum(line_count(definitions) for definitions in needed.values())
+    count = sum(map(len, needed.values()))
+    rows, texts, told = ["| Part | Its lines | It rests on |", "|---|---|---|"], [], set()
+    for title, sentence, modules, roots in SECTIONS:
+        paths = [f"Rattle.{module.replace('.', '.specs.', 1)}" for module in modules]
+        used = {target for path in paths for definition in needed.get(path, [])
+                for _, (target, _) in specs.uses(path, definition) if is_of_code(target)}
+        declared = {name: text for name, text in declared_types(specs, used).items() if name not in told}
+        told |= set(declared)
+        own = sum(line_count(needed.get(path, [])) for path in paths)
+        rows.append(f"| [{title}](#{anchor(title)}) | {own} | {count_of(specs, roots) if roots else ''} |")
+        texts.append(section(specs, needed, declared, title, sentence, modules))
+    if needed:
+        raise ValueError(f"no section has {', '.join(needed)}")
+    rows.append(f"| All {count} definitions | {total} | |")
+    return "\n".join([INTRODUCTION, *rows, "", *texts])
+
+
+def roots_of_contract(specs, file, name):
+    """What the contract of a public function names: pairs of a module and a name."""
+    with open(f"{TOP}/{file}", encoding="utf-8") as code:
+        text = code.read()
+    imports = {}
+    for module, names in re.findall(r"^ghost use (Rattle\.pt\w+\.specs\.\S+)\.\{(.*)\};$", text, re.M):
+        imports.update({word.strip(): (module, word.strip()) for word in names.split(",")})
+    contract = re.search(rf"^pub fn {name}<.*?^\{{", text, re.M | re.S)[0]
+    return [imports[word] for word in sorted(set(re.findall(r"\w+", contract))) if word in imports]
+
+
+def size():
+    """How much the contracts of a whole run rest on, as text."""
+    specs = Specs()
+    roots = [root for contract in CONTRACTS for root in roots_of_contract(specs, *contract)]
+    needed, _ = specs.rest(roots)
+    modules = {path: specs.module(path).definitions for path in specs.all_modules()}
+    rows = []
+    for crate in dict.fromkeys(path.split(".")[1] for path in modules):
+        mine = [path for path in modules if path.split(".")[1] == crate]
+        lines = [sum(line_count(known.get(path, [])) for path in mine) for known in (needed, modules)]
+        counts = [sum(len(known.get(path, [])) for path in mine) for known in (needed, modules)]
+        rows.append(f"{crate}: {lines[0]} of {lines[1]} lines, {counts[0]} of {counts[1]} definitions")
+    mixed = [path for path in needed if len(needed[path]) < len(modules[path])]
+    lines = [sum(map(line_count, known.values())) for known in (needed, modules)]
+    rows.append(f"all: {lines[0]} of {lines[1]} lines, in {len(needed)} of {len(modules)} files")
+    rows.append(f"files with other definitions beside these: {', '.join(path[7:] for path in sorted(mixed))}")
+    return "\n".join(rows)
+
+
+def main():
+    words = argparse.ArgumentParser(description=__doc__, formatter_class=argparse.RawDescriptionHelpFormatter)
+    words.add_argument("--check", action="store_true")
+    words.add_argument("--size", action="store_true")
+    given = words.parse_args()
+    if given.size:
+        print(size())
+        return 0
+    if given.check:
+        with open(PAGE, encoding="utf-8") as file:
+            return 0 if file.read() == page() else "docs/PROMISE.md is stale: run make docs"
+    with open(PAGE, "w", encoding="utf-8") as file:
+        file.write(page())
+    return 0
+
+
+if __name__ == "__main__":
+    sys.exit(main())
