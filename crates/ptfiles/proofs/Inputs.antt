@@ -30,9 +30,11 @@ content_added : (content : ℕ → List ℕ → Option Content) (count : ℕ) (n
 content_added content count [] inputs name input are is =
     rw are (subst (λ n. IsContent (content n name) input) (sym (plus_zero count)) is, refl)
 content_added content count (n ∷ names) [] name input are is = absurd are
-content_added content count (n ∷ names) (i ∷ inputs) name input are is =
-    (are.0, content_added content (suc count) names inputs name input are.1
-    (subst (λ n. IsContent (content n name) input) (plus_suc count (length names)) is))
+content_added content count (n ∷ names) (i ∷ inputs) name input are is = (
+  are.0,
+  content_added content (suc count) names inputs name input are.1
+      (subst (λ n. IsContent (content n name) input) (plus_suc count (length names)) is),
+)
 
 pub none_opened : (s : FilesState) (standard : SourceState) (r : Reader) → r ≡ new_reader standard false
     → HaveOpened s s [] standard (r ∷ [])
@@ -115,11 +117,15 @@ count_of_contents content count (n ∷ names) (i ∷ inputs) are =
 pub opened_are_new : (old new : FilesState) (names : List (List ℕ)) (standard : SourceState) (readers : List Reader)
     → IsFresh standard → HaveOpened old new names standard readers → AreNewInputs (length names) readers
 opened_are_new old new names standard readers fresh h = rw h.readers_are (
-  omega (arith, length-map h.inputs reader_of_input, count_of_contents old.content (length old.opened) names h.inputs
-  h.contents),
+  omega (
+    arith,
+    length-map h.inputs reader_of_input,
+    count_of_contents old.content (length old.opened) names h.inputs
+        h.contents,
+  ),
   All-cons IsNewOrUnopened (new_reader standard false) (map reader_of_input h.inputs)
-  (λ opened. record { buffered = refl; eof = fresh.not_eof; pulled = refl; fault = refl })
-  (inputs_are_new h.inputs h.are_new),
+      (λ opened. record { buffered = refl; eof = fresh.not_eof; pulled = refl; fault = refl })
+      (inputs_are_new h.inputs h.are_new),
 )
 
 -- ---- known bytes

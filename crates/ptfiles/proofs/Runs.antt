@@ -165,12 +165,15 @@ module _ (words : List (List ℕ)) (b : Before) (a : After) {Unused : Type 0} {f
     contents = opened.contents;
     new = new;
     ran = rw (opened.readers_are, opened.opened) at ran;
-  } in inl (h, λ bytes contents is short have unfailed written fits parsed.
-      h.ran.is_exact parsed (Some bytes ∷ contents)
-      (readers_have_bytes b.files.content (length b.files.opened)
-      (input_names (command_to_run words a.out_of_memory)) opened.inputs b.standard bytes contents is short
-      opened.contents have)
-      unfailed written fits)
+  } in inl (
+    h,
+    λ bytes contents is short have unfailed written fits parsed.
+        h.ran.is_exact parsed (Some bytes ∷ contents)
+        (readers_have_bytes b.files.content (length b.files.opened)
+        (input_names (command_to_run words a.out_of_memory)) opened.inputs b.standard bytes contents is short
+        opened.contents have)
+        unfailed written fits,
+  )
 
   not_created : IsNotCreated words old (record b { files = files }) a Unused → RunOverFilesPost words b a Unused
   not_created n = inr (inl (record {
@@ -185,30 +188,30 @@ module _ (words : List (List ℕ)) (b : Before) (a : After) {Unused : Type 0} {f
 module _ {A : Type 0} (command : Result (code.Command A) UseFault) {names : List (List ℕ)}
     (named : names ≡ input_names (command_of_parsed command)) {before_open files : FilesState} {standard : SourceState}
     {old readers : List Reader} (same : old ≡ readers) (opened : HaveOpened before_open files names standard readers)
-    where
-  count_of_names : file_count command ≡ length (input_names (command_of_parsed command))
-  count_of_names = by_result command
-    where
-      by_result : (r : Result (code.Command A) UseFault) → file_count r ≡ length (input_names (command_of_parsed r))
-      by_result (Ok c) = refl
-      by_result (Err fault) = refl
+  where
+    count_of_names : file_count command ≡ length (input_names (command_of_parsed command))
+    count_of_names = by_result command
+      where
+        by_result : (r : Result (code.Command A) UseFault) → file_count r ≡ length (input_names (command_of_parsed r))
+        by_result (Ok c) = refl
+        by_result (Err fault) = refl
 
-  -- The files that the parsed command names were opened, so the inputs of the run are new.
-  pub fresh_inputs : IsFresh standard → AreNewInputs (file_count command) old
-  fresh_inputs fresh = rw (count_of_names, ← named, same)
-      (opened_are_new before_open files names standard readers fresh opened)
+    -- The files that the parsed command names were opened, so the inputs of the run are new.
+    pub fresh_inputs : IsFresh standard → AreNewInputs (file_count command) old
+    fresh_inputs fresh = rw (count_of_names, ← named, same)
+        (opened_are_new before_open files names standard readers fresh opened)
 
-  pub run_over_files : (words : List (List ℕ)) → CommandPost command (command_of_args words) → {new : List Reader}
-      (out messages : SinkState) (store : Slots) (a : After) {Unused : Type 0}
-      → a.out_of_memory ≡ is_memory_fault command
-      → RunOverInputsPost words old new (before files standard out messages store) a Unused
-      → RunOverFilesPost words (before before_open standard out messages store) a Unused
-  run_over_files words meant out messages store a oom post =
-      over_opened words (before before_open standard out messages store) a
-      (subst (λ l. HaveOpened before_open files (input_names (command_to_run words a.out_of_memory)) standard l) (sym same)
-      (subst (λ l. HaveOpened before_open files l standard readers)
-      (named ∙ ap input_names (to_run command words meant a.out_of_memory oom)) opened))
-      post
+    pub run_over_files : (words : List (List ℕ)) → CommandPost command (command_of_args words) → {new : List Reader}
+        (out messages : SinkState) (store : Slots) (a : After) {Unused : Type 0}
+        → a.out_of_memory ≡ is_memory_fault command
+        → RunOverInputsPost words old new (before files standard out messages store) a Unused
+        → RunOverFilesPost words (before before_open standard out messages store) a Unused
+    run_over_files words meant out messages store a oom post =
+        over_opened words (before before_open standard out messages store) a
+        (subst (λ l. HaveOpened before_open files (input_names (command_to_run words a.out_of_memory)) standard l) (sym same)
+        (subst (λ l. HaveOpened before_open files l standard readers)
+        (named ∙ ap input_names (to_run command words meant a.out_of_memory oom)) opened))
+        post
 
 pub in_own_store : {words : List (List ℕ)} {files : FilesState} {standard : SourceState} {out messages : SinkState}
     {store own : Slots} {a : After} {Unused : Type 0} → store ≡ own

@@ -157,12 +157,12 @@ pub record IsOutOfMemory (b : Before) (a : After) (Unused : Type 0) : Type 0 whe
 
 -- The output file could not be created, though all inputs were opened.
 pub record IsNotCreated (words : List (List ℕ)) (old : List Reader) (b : Before) (a : After) (Unused : Type 0) : Type 0
-    where
-  pub name : List ℕ
-  pub parsed : a.out_of_memory ≡ false
-  pub is : output_names (command_to_run words a.out_of_memory) old ≡ name ∷ []
-  pub files : a.files ≡ with_created b.files (name ∷ []) (None ∷ [])
-  pub said : HasOnlySaid (unopened_message (codes "uniq") name) b a Unused
+  where
+    pub name : List ℕ
+    pub parsed : a.out_of_memory ≡ false
+    pub is : output_names (command_to_run words a.out_of_memory) old ≡ name ∷ []
+    pub files : a.files ≡ with_created b.files (name ∷ []) (None ∷ [])
+    pub said : HasOnlySaid (unopened_message (codes "uniq") name) b a Unused
 
 -- The inputs that the words name were opened, but the output file could not be created.
 pub record IsOutputUnopened (words : List (List ℕ)) (b : Before) (a : After) (Unused : Type 0) : Type 0 where

@@ -97,7 +97,9 @@ struct Sinks<W, E> {
 }
 
 // Returns the names of the files that a command reads; none if the words are not valid.
-fn names_of<'a, 'b, A: Allocator>(command: &'b Result<Command<'a, A>, UseFault<'a>>) -> &'b [&'a str]
+fn names_of<'a, 'b, A: Allocator>(
+    command: &'b Result<Command<'a, A>, UseFault<'a>>,
+) -> &'b [&'a str]
     ensures { words_view result.now ≡ input_names (command_of_parsed command.now) }
 {
     match command {
