@@ -1,1 +1,1 @@
-pub mod Performed
+mod Performed

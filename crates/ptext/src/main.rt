@@ -1,10 +1,10 @@
 //! The program: `ptext TOOL WORDS...` over the standard streams and real files.
 #![tactic(auto)]
 
-mod files;
-mod output;
+mod perform;
+mod system;
 
-use files::{perform, report_no_memory, report_not_utf8};
+use perform::{perform, report_no_memory, report_not_utf8};
 use ptlines::{FromRead, FromWrite};
 use ptrun::Report;
 use std::alloc::{AllocError, Allocator};

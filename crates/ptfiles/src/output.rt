@@ -1,4 +1,7 @@
-//! `Output`, the sink of a command that does not write to standard output. `perform` chooses it.
+//! `Output`, the sink of a command that does not write to standard output. Used by `shell`.
+
+ghost use Rattle.std.specs.Prelude.{◌≡◌, option_map};
+ghost use Rattle.ptfiles.specs.Outputs.{file_of_output};
 
 use ptlines::{Failed, Sink};
 
@@ -12,8 +15,20 @@ pub enum Output<F: Sink> {
     Closed(bool),
 }
 
+impl<F: Sink> Output<F> {
+    /// Returns the file.
+    pub fn into_file(self) -> Option<F>
+        ensures { result ≡ file_of_output self }
+    {
+        match self {
+            Output::File(file) => Some(file),
+            Output::Closed(_) => None,
+        }
+    }
+}
+
 impl<F: Sink> Sink for Output<F> {
-    ghost use Rattle.ptext.specs.CommandOutput.{output_state};
+    ghost use Rattle.ptfiles.specs.Outputs.{output_state};
 
     ghost state = { output_state F.state };
 

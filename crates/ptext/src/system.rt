@@ -1,0 +1,59 @@
+//! `SystemFiles`, the files of the system. `perform` runs commands over them.
+
+ghost use Rattle.std.specs.Prelude.{◌≡◌};
+ghost use Rattle.ptext.specs.Perform.{no_calls};
+
+use ptfiles::{Calls, Files};
+use ptlines::{FromRead, FromWrite};
+use std::fs;
+
+/// The files of the system. Which names were opened and created is recorded for contracts alone.
+#[derive(Drop)]
+pub struct SystemFiles<'a, R: fs::Files> {
+    rt: &'a R,
+    opens: Calls<Option<FromRead<R::File>>>,
+    creates: Calls<Option<FromWrite<R::File>>>,
+}
+
+impl<'a, R: fs::Files> SystemFiles<'a, R> {
+    /// No file was opened or created yet.
+    pub fn new(rt: &'a R) -> Self
+        ensures { ⟦<SystemFiles<'a, R> as Files>⟧.state result ≡ no_calls }
+    {
+        SystemFiles {
+            rt,
+            opens: Calls::new(),
+            creates: Calls::new(),
+        }
+    }
+}
+
+impl<R: fs::Files> Files for SystemFiles<'_, R> {
+    ghost use Rattle.std.specs.Prelude.{None, map, option_map};
+    ghost use Rattle.ptlines.specs.Sinks.{hide_accepted};
+    ghost use Rattle.ptlines.specs.Sources.{hide_left};
+
+    type Input = FromRead<R::File>;
+
+    type Output = FromWrite<R::File>;
+
+    ghost state = { λ s. record {
+      opened = s.opens.names;
+      inputs = map (option_map hide_left) s.opens.results;
+      created = s.creates.names;
+      outputs = map (option_map hide_accepted) s.creates.results;
+      content = λ count name. None;
+    } };
+
+    fn open(&mut self, name: &str) -> Option<FromRead<R::File>> {
+        let file = fs::open(self.rt, name).ok().map(FromRead::new);
+        self.opens = self.opens.with(name, &file);
+        file
+    }
+
+    fn create(&mut self, name: &str) -> Option<FromWrite<R::File>> {
+        let file = fs::create(self.rt, name).ok().map(FromWrite::new);
+        self.creates = self.creates.with(name, &file);
+        file
+    }
+}

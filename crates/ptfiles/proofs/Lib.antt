@@ -1,0 +1,4 @@
+pub mod Inputs
+pub mod Outputs
+pub mod Runs
+mod CallsMade

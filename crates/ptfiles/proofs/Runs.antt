@@ -1,0 +1,221 @@
+-- The words and the parsed command agree on the command that is run. So a run over the parsed command is one that the
+-- words mean, and its inputs are the files that they name.
+use Rattle.std.proofs.Common.{◌≡◌, ℕ, Bool, true, false, List, [], ◌∷◌, Option, Some, None, Result, Ok, Err, inl, inr}
+use Rattle.std.proofs.Common.{sym, ◌∙◌, ap, refl, subst, ⊎_elim, if◌then◌else◌, is_none, length, option_map}
+use Rattle.std.proofs.lemmas.Bool.{false≢true}
+use Rattle.std.proofs.lemmas.List.{append-nil}
+use Rattle.std.specs.List.{list_any}
+use Rattle.ptopts.specs.Commands.{Command, command_of_args}
+use Rattle.ptopts.specs.Faults.{Fault}
+use Rattle.ptopts.specs.View.{CommandPost, fault_view}
+use Rattle.ptopts.specs.declared.command.Command as code
+use Rattle.ptopts.specs.declared.fault.UseFault.{UseFault}
+use Rattle.ptlangs.specs.Results.{IsFault}
+use Rattle.ptlines.specs.Readers.{Reader}
+use Rattle.ptlines.specs.Sinks.{SinkState}
+use Rattle.ptlines.specs.Slots.{Slots}
+use Rattle.ptlines.specs.Sources.{SourceState, IsFresh}
+use Rattle.ptrun.specs.Files.{AreNewInputs}
+use Rattle.ptrun.specs.Runs.{Outcome, IsExactUnlessFailed, IsRunInStore, IsStoreUnchangedIfUnread, IsUnchangedIfUnread}
+use Rattle.ptrun.specs.Runs.{sinks}
+use Rattle.ptrun.specs.SpecOfArgs.{is_memory_fault, file_count, spec_of_args, spec_of_parsed, spec_unless_memory}
+use Rattle.ptfiles.specs.Files.{FilesState, Output, new_readers, with_created}
+use Rattle.ptfiles.specs.Outputs.{closed_state, file_of_output, mark, output_state}
+use Rattle.ptfiles.specs.Shell.{After, Before, HasRun, HasRunOver, HaveOpened, IsDirected, IsNotCreated}
+use Rattle.ptfiles.specs.Shell.{RunOverFilesPost, RunOverInputsPost, command_of_parsed, command_to_run, input_names}
+use Rattle.ptfiles.specs.Shell.{has_standard_output, name_of, output_names, valid_command, before}
+use Rattle.ptfiles.specs.declared.output.Output.{Output as code_output}
+use Rattle.ptfiles.specs.declared.output.Output.TheVariants.{File}
+use Rattle.ptfiles.proofs.Inputs.{opened_are_new, readers_have_bytes}
+use Rattle.ptfiles.proofs.Outputs.{exact_of_file, file_returned, run_of_file, unread_of_file}
+
+pub nothing_created : (s : FilesState) → s ≡ with_created s [] []
+nothing_created s = λ i. record {
+  opened = s.opened;
+  inputs = s.inputs;
+  created = sym (append-nil s.created) i;
+  outputs = sym (append-nil s.outputs) i;
+  content = s.content;
+}
+
+pub no_output_file : (command : Option Command) (readers : List Reader) → has_standard_output command ≡ true
+    → output_names command readers ≡ []
+no_output_file None readers standard = refl
+no_output_file (Some command) readers standard = by_output command.output (list_any (λ r. r.refused) readers) standard
+  where
+    by_output : (output : Option (List ℕ)) (unopened : Bool) → is_none output ≡ true
+        → (if unopened then [] else name_of output) ≡ []
+    by_output output true none = refl
+    by_output None false none = refl
+    by_output (Some name) false none = absurd (false≢true none)
+
+pub with_sink : (o ran : Outcome) → o.messages ≡ ran.messages → o.status ≡ ran.status → o.peak ≡ ran.peak
+    → o.denied ≡ ran.denied → record o { out = ran.out } ≡ ran
+with_sink o ran messages status peak denied =
+    λ i. record { out = ran.out; messages = messages i; status = status i; peak = peak i; denied = denied i }
+
+module _ {A : Type 0} (command : Result (code.Command A) UseFault) (words : List (List ℕ))
+    (meant : CommandPost command (command_of_args words)) where
+  -- The parsed command is the one that the words mean, unless memory ran out.
+  pub parsed_is : command_of_parsed command ≡ command_to_run words (is_memory_fault command)
+  parsed_is = by_result command meant
+    where
+      by_view : (seen : Option Fault) → IsFault seen (command_of_args words)
+          → None ≡ command_to_run words (is_none seen)
+      by_view None meant = refl
+      by_view (Some e) meant = ap valid_command (sym meant)
+
+      by_result : (r : Result (code.Command A) UseFault) → CommandPost r (command_of_args words)
+          → command_of_parsed r ≡ command_to_run words (is_memory_fault r)
+      by_result (Ok c) meant = ap valid_command (sym meant)
+      by_result (Err fault) meant = by_view (fault_view fault) meant
+
+  pub to_run : (out_of_memory : Bool) → out_of_memory ≡ is_memory_fault command
+      → command_of_parsed command ≡ command_to_run words out_of_memory
+  to_run out_of_memory oom = parsed_is ∙ ap (command_to_run words) (sym oom)
+
+  module _ (old new : List Reader) (b : Before) (a : After) (Unused : Type 0)
+      (oom : a.out_of_memory ≡ is_memory_fault command) (ran : Outcome) (same : record a.outcome { out = ran.out } ≡ ran)
+      (store : (a.outcome.peak ≡ a.store.peak) × (a.outcome.denied ≡ a.store.denied))
+      (keeps : IsStoreUnchangedIfUnread (spec_of_parsed command words) old b.store a.store) where
+    -- The run was given this sink, and returned one with the state of that of `ran`.
+    pub ran_over : (sink : SinkState) (outputs : List Output)
+        → a.files ≡ with_created b.files (output_names (command_of_parsed command) old) outputs
+        → IsDirected (has_standard_output (command_of_parsed command)) (output_names (command_of_parsed command) old) b a
+        outputs sink ran.out Unused
+        → IsRunInStore (spec_of_parsed command words) old new (sinks sink b.messages) ran b.store a.store
+        → (is_memory_fault command ≡ false
+        → IsExactUnlessFailed (spec_of_args words) old new (sinks sink b.messages) ran)
+        → IsUnchangedIfUnread (spec_of_parsed command words) old new sink ran
+        → HasRunOver words old new b a Unused
+    ran_over sink outputs created directed run exact unread = record {
+      outputs = outputs;
+      sink = sink;
+      sink_after = ran.out;
+      created = subst (λ c. a.files ≡ with_created b.files (output_names c old) outputs)
+          (to_run a.out_of_memory oom) created;
+      directed = subst
+          (λ c. IsDirected (has_standard_output c) (output_names c old) b a outputs sink ran.out Unused)
+          (to_run a.out_of_memory oom) directed;
+      run = subst (λ o. IsRunInStore (spec_unless_memory words a.out_of_memory) old new (sinks sink b.messages) o b.store
+          a.store) (sym same)
+          (subst (λ memory. IsRunInStore (spec_unless_memory words memory) old new (sinks sink b.messages) ran b.store
+          a.store) (sym oom) run);
+      is_exact = λ parsed. subst (λ o. IsExactUnlessFailed (spec_of_args words) old new (sinks sink b.messages) o)
+          (sym same) (exact (sym oom ∙ parsed));
+      reads_nothing = subst (λ o. IsUnchangedIfUnread (spec_unless_memory words a.out_of_memory) old new sink o) (sym same)
+          (subst (λ memory. IsUnchangedIfUnread (spec_unless_memory words memory) old new sink ran) (sym oom) unread);
+      keeps_nothing = subst
+          (λ memory. IsStoreUnchangedIfUnread (spec_unless_memory words memory) old b.store a.store) (sym oom) keeps;
+      store = store;
+    }
+
+  -- The run was given a file that was created, and returned it.
+  module _ (old new : List Reader) (b : Before) (a : After) (Unused : Type 0)
+      (oom : a.out_of_memory ≡ is_memory_fault command) (ran : Outcome) (same : record a.outcome { out = ran.out } ≡ ran)
+      (store : (a.outcome.peak ≡ a.store.peak) × (a.outcome.denied ≡ a.store.denied))
+      (keeps : IsStoreUnchangedIfUnread (spec_of_parsed command words) old b.store a.store)
+      {F : Type 0} (of_file : F → SinkState) (given : F) (output : code_output F)
+      (returned : ran.out ≡ output_state of_file output) where
+    pub ran_to_file : (name : List ℕ) → has_standard_output (command_of_parsed command) ≡ false
+        → output_names (command_of_parsed command) old ≡ name ∷ []
+        → a.files ≡ with_created b.files (name ∷ []) (Some (of_file given) ∷ [])
+        → a.file ≡ option_map of_file (file_of_output output) → Unused
+        → IsRunInStore (spec_of_parsed command words) old new (sinks (mark (of_file given)) b.messages) ran b.store a.store
+        → (is_memory_fault command ≡ false
+        → IsExactUnlessFailed (spec_of_args words) old new (sinks (mark (of_file given)) b.messages) ran)
+        → IsUnchangedIfUnread (spec_of_parsed command words) old new (mark (of_file given)) ran
+        → HasRunOver words old new b a Unused
+    ran_to_file name not_standard names created file unused run exact unread =
+        let f = file_returned of_file output (of_file given) run.run.written (rw (← returned) run.run.output) in
+        let with_out : SinkState → Outcome = λ s. record ran { out = s } in
+        let to_file : Outcome → Outcome = λ o. record o { out = of_file f.0 } in
+        let m = spec_of_parsed command words in
+        let is : ran ≡ with_out (mark (of_file f.0)) = ap with_out (returned ∙ ap (output_state of_file) f.1) in
+        ran_over old new b a Unused oom (to_file ran) (ap to_file same) store keeps (of_file given)
+        (Some (of_file given) ∷ []) (rw names created)
+        (rw (not_standard, names) (refl, file ∙ ap (λ o. option_map of_file (file_of_output o)) f.1, unused))
+        (run_of_file m old new b.messages (of_file given) (of_file f.0) ran b.store a.store
+        (subst (λ o. IsRunInStore m old new (sinks (mark (of_file given)) b.messages) o b.store a.store) is run))
+        (λ parsed. exact_of_file (spec_of_args words) old new b.messages (of_file given) (of_file f.0) ran
+        (subst (λ o. IsExactUnlessFailed (spec_of_args words) old new (sinks (mark (of_file given)) b.messages) o) is
+        (exact parsed)))
+        (unread_of_file m old new (of_file given) (of_file f.0) ran
+        (subst (λ o. IsUnchangedIfUnread m old new (mark (of_file given)) o) is unread))
+
+-- A command with an output file was parsed.
+pub output_is_parsed : {A : Type 0} (command : Result (code.Command A) UseFault) (readers : List Reader) (name : List ℕ)
+    → output_names (command_of_parsed command) readers ≡ name ∷ [] → is_memory_fault command ≡ false
+output_is_parsed (Ok command) readers name is = refl
+output_is_parsed (Err fault) readers name is = absurd (nil_is_not_cons is)
+  where
+    nil_is_not_cons : [] ≡ name ∷ [] → ⊥
+    nil_is_not_cons is = cc
+
+-- ---- runs over files
+
+-- The files that the words name were opened, and the command was run over them.
+module _ (words : List (List ℕ)) (b : Before) (a : After) {Unused : Type 0} {files : FilesState}
+    {old new : List Reader}
+    (opened : HaveOpened b.files files (input_names (command_to_run words a.out_of_memory)) b.standard old)
+    (after_open : RunOverInputsPost words old new (record b { files = files }) a Unused) where
+  has_run : HasRunOver words old new (record b { files = files }) a Unused → RunOverFilesPost words b a Unused
+  has_run ran = let h : HasRun words b a Unused = record {
+    inputs = opened.inputs;
+    contents = opened.contents;
+    new = new;
+    ran = rw (opened.readers_are, opened.opened) at ran;
+  } in inl (
+    h,
+    λ bytes contents is short have unfailed written fits parsed.
+        h.ran.is_exact parsed (Some bytes ∷ contents)
+        (readers_have_bytes b.files.content (length b.files.opened)
+        (input_names (command_to_run words a.out_of_memory)) opened.inputs b.standard bytes contents is short
+        opened.contents have)
+        unfailed written fits,
+  )
+
+  not_created : IsNotCreated words old (record b { files = files }) a Unused → RunOverFilesPost words b a Unused
+  not_created n = inr (inl (record {
+    inputs = opened.inputs;
+    contents = opened.contents;
+    not_created = rw (opened.readers_are, opened.opened) at n;
+  }))
+
+  over_opened : RunOverFilesPost words b a Unused
+  over_opened = ⊎_elim has_run not_created after_open
+
+module _ {A : Type 0} (command : Result (code.Command A) UseFault) {names : List (List ℕ)}
+    (named : names ≡ input_names (command_of_parsed command)) {before_open files : FilesState} {standard : SourceState}
+    {old readers : List Reader} (same : old ≡ readers) (opened : HaveOpened before_open files names standard readers)
+  where
+    count_of_names : file_count command ≡ length (input_names (command_of_parsed command))
+    count_of_names = by_result command
+      where
+        by_result : (r : Result (code.Command A) UseFault) → file_count r ≡ length (input_names (command_of_parsed r))
+        by_result (Ok c) = refl
+        by_result (Err fault) = refl
+
+    -- The files that the parsed command names were opened, so the inputs of the run are new.
+    pub fresh_inputs : IsFresh standard → AreNewInputs (file_count command) old
+    fresh_inputs fresh = rw (count_of_names, ← named, same)
+        (opened_are_new before_open files names standard readers fresh opened)
+
+    pub run_over_files : (words : List (List ℕ)) → CommandPost command (command_of_args words) → {new : List Reader}
+        (out messages : SinkState) (store : Slots) (a : After) {Unused : Type 0}
+        → a.out_of_memory ≡ is_memory_fault command
+        → RunOverInputsPost words old new (before files standard out messages store) a Unused
+        → RunOverFilesPost words (before before_open standard out messages store) a Unused
+    run_over_files words meant out messages store a oom post =
+        over_opened words (before before_open standard out messages store) a
+        (subst (λ l. HaveOpened before_open files (input_names (command_to_run words a.out_of_memory)) standard l) (sym same)
+        (subst (λ l. HaveOpened before_open files l standard readers)
+        (named ∙ ap input_names (to_run command words meant a.out_of_memory oom)) opened))
+        post
+
+pub in_own_store : {words : List (List ℕ)} {files : FilesState} {standard : SourceState} {out messages : SinkState}
+    {store own : Slots} {a : After} {Unused : Type 0} → store ≡ own
+    → RunOverFilesPost words (before files standard out messages store) a Unused
+    → RunOverFilesPost words (before files standard out messages own) a Unused
+in_own_store {words} {files} {standard} {out} {messages} {store} {own} {a} {Unused} same post =
+    subst (λ s. RunOverFilesPost words (before files standard out messages s) a Unused) same post

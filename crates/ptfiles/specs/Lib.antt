@@ -1,0 +1,3 @@
+pub mod Files
+pub mod Outputs
+pub mod Shell
