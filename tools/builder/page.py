@@ -31,6 +31,7 @@ STACK = 4 * 2**20
 FILES = 2
 HEAP = "hostheap"
 HEAP_KEPT = f"{TOP}/build/{HEAP}-kept"
+MODULE_KEPT = f"{TOP}/build/module-kept"
 # What is changed in the copy of the toolchain's heap: in its code, in the declarations of its calls, and in its proofs.
 IN_CODE = [
     ("libc::heap::", "crate::heap::"),
@@ -88,7 +89,10 @@ def make_module(kit, place, room, crates):
     made = f"{place}/{CRATE}"
     shutil.copytree(f"{TOP}/crates/{CRATE}", made, ignore=leave_out)
     copy_changed(f"{TOP}/crates/{CRATE}/src/lib.rt", f"{made}/src/lib.rt", IN_CRATE)
-    words = [*make_words(kit, room, crates, KEPT), "--extern", f"{HEAP}={place}/rlib/{HEAP}.rlib", "--target", WASM]
+    # (Most of the proof is that for the library. Each of the two keeps its own.)
+    if os.path.isdir(KEPT) and not os.path.isdir(MODULE_KEPT):
+        shutil.copytree(KEPT, MODULE_KEPT)
+    words = [*make_words(kit, room, crates, MODULE_KEPT), "--extern", f"{HEAP}={place}/rlib/{HEAP}.rlib", "--target", WASM]
     run([*words, "-o", f"{place}/ptext.a"], made)
     link = ["--target", WASM, "--toolchain", f"{kit}/toolchain", "--stack", str(STACK)]
     run([f"{kit}/bin/rattle-link", *link, "-o", f"{place}/ptext.wasm", f"{place}/ptext.a"], place)
