@@ -1,5 +1,6 @@
 #!/usr/bin/env python3
-"""Tries the commands of docs/REPLACING.md: each of GNU's own commands is refused, and the one for it does the same.
+"""Tries the commands of docs/REPLACING.md: each of GNU's own commands is refused, and the one for it does the same. The
+page that is made from it has each of them, and each of its examples.
 
   python3 tests/replacing.py PROGRAM
 """
@@ -12,6 +13,7 @@ import tempfile
 sys.dont_write_bytecode = True
 sys.path.insert(0, os.path.join(os.path.dirname(os.path.dirname(os.path.realpath(__file__))), "tools"))
 
+import manual
 from examples import TOP, can_run
 from names import NAMES as TOOLS
 from project import read_text
@@ -71,6 +73,15 @@ def compare_rows(program, with_gnu):
     return "".join(found)
 
 
+def find_lost_commands():
+    """The commands and the lines of code of docs/REPLACING.md that ptext-replacing(7) lacks."""
+    signs = {escaped: sign for sign, escaped in manual.SIGNS.items()} | {r"\&": ""}
+    page = re.sub(r"\\(?:\(..|.)", lambda found: signs.get(found[0], found[0]), manual.make_page())
+    wanted = re.findall(r"^ {4}(.+)$", read_text(f"{TOP}/docs/REPLACING.md"), re.M)
+    wanted += [command for rows in read_rows().values() for theirs, ours, _ in rows for command in (theirs, ours)]
+    return "".join(f"ptext-replacing(7) lacks: {command}\n" for command in wanted if command not in page)
+
+
 def main():
     if len(sys.argv) != 2:
         return __doc__
@@ -78,7 +89,7 @@ def main():
     if not os.access(program, os.X_OK):
         return f"there is no program {program}"
     # (That GNU's tools are lacking is said by the examples.)
-    found = compare_rows(program, can_run("gnu"))
+    found = compare_rows(program, can_run("gnu")) + find_lost_commands()
     print(found or "the commands of docs/REPLACING.md do what GNU's do")
     return 1 if found else 0
 

@@ -56,7 +56,7 @@ def format_text(text):
 def format_sentences(text):
     """A text as lines of at most 79 signs, each sentence on lines of its own."""
     sentences = re.sub(r"(?<=[^.][.?!]) (?=[A-Z`(\\])", "\n", format_text(text)).split("\n")
-    wrapped = [textwrap.wrap(it, 79, break_long_words=False, break_on_hyphens=False) for it in sentences]
+    wrapped = [textwrap.wrap(text, 79, break_long_words=False, break_on_hyphens=False) for text in sentences]
     return "".join(f"{guard(line)}\n" for lines in wrapped for line in lines)
 
 
@@ -85,7 +85,7 @@ def format_list(lines):
     return ".Bl -bullet\n" + "".join(f".It\n{format_sentences(entry[2:])}" for entry in entries) + ".El\n"
 
 
-def cells_of(line):
+def split_cells(line):
     return [cell.strip().replace("\\|", "|") for cell in re.split(r"(?<!\\)\|", line)[1:-1]]
 
 
@@ -99,16 +99,16 @@ def format_cell(head, cell):
 
 
 def format_table(lines):
-    heads = cells_of(lines[0])
+    heads = split_cells(lines[0])
     text = ".Bl -tag -width Ds\n"
     for line in lines[2:]:
-        first, *others = cells_of(line)
+        first, *others = split_cells(line)
         text += f".It {quote(format_text(first))}\n"
         text += "".join(format_cell(head, cell) for head, cell in zip(heads[1:], others))
     return text + ".El\n"
 
 
-def blocks_of(text):
+def split_blocks(text):
     """The blocks of the document: lists of lines. A block of code keeps its empty lines."""
     for block in re.findall(r"(?:^ {4}.*\n|^\n(?= {4}))+|(?:^(?! {4}).+\n)+", text, re.M):
         lines = block.strip("\n").split("\n")
@@ -119,7 +119,7 @@ def make_page():
     date = re.match(r"\.Dd .*", read("man/ptext.1"))[0]
     page = HEAD.format(date=date, version=read("VERSION").strip())
     is_first = True
-    for lines, is_code in blocks_of(read(DOCUMENT)):
+    for lines, is_code in split_blocks(read(DOCUMENT)):
         if lines[0].startswith("# ") or lines[0].startswith("- ["):
             continue
         if is_code:

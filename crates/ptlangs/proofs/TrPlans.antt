@@ -42,7 +42,7 @@ translated : (form : Form) → takes_second form ≡ true → (form ≡ DeleteSq
 translated form two other from to true = grind (arith, none_contained)
 translated form two other from to false = grind (arith, none_contained)
 
--- What reading the second string gives: its array `to`, which is all of `items`, and the tables of the plan or their
+-- The result of reading the second string: its array `to`, which is all of `items`, and the tables of the plan or their
 -- fault, `plan`, for a form that deletes and for one that translates, where reading the images gives `answer`.
 -- `squeezed` is the table of the squeezed bytes.
 pub record SecondRead (form : Form) (from : List ℕ) (firsts : List Member) (items : List (Result Member SetFaultKind))

@@ -7,8 +7,8 @@ use Rattle.ptrunc.specs.declared.memory.Filling.{Filling}
 abbrev pub filling_bytes : {A : Type 0} → Filling A → List ℕ
 filling_bytes s = take s.room.written s.room.bytes.now ++ s.rest.items
 
--- The state as a sink. Before the bytes stands the ghost name of the room, a number that no other room has. So a run
--- that returns a sink to which it has added bytes has returned the one that fills this room.
+-- The state as a sink. It begins with the ghost name of the room, a number that no other room has. So a run that returns
+-- a sink to which it has added bytes has returned the one that fills this room.
 abbrev pub filling_state : {A : Type 0} → Filling A → SinkState
 filling_state s = record {
   accepted = Some (s.room.bytes.ghost_name ∷ filling_bytes s);
