@@ -96,7 +96,7 @@ class Browser {
     }
 }
 
-// What the page shows. Escapes are shown, too: so these inputs have none.
+// The texts that the page shows. Escapes are shown, too: so these inputs have none.
 const RESULT = `Object.fromEntries(["status", "out", "messages"]
     .map((id) => [id, document.getElementById(id).textContent]))`;
 const FIELDS = `Object.fromEntries(["command", "stdin", "name1", "file1", "name2", "file2"]

@@ -13,7 +13,7 @@ from proving import Crates, describe_kept, prove
 
 CRATE = "ptrunc"
 HEAP = "c/liblibc_c.a"
-# What is kept of the proof of the crate for the next run. (The gate proves it from nothing.)
+# The proof of the crate as it is kept for the next run. (The gate proves it from nothing.)
 KEPT = f"{TOP}/build/{CRATE}-kept"
 # The first number of the version is that of the interface: programs link with libptext.so.0.
 EXPORTED = ["ptext_run", "ptext_names"]

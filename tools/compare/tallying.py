@@ -60,7 +60,7 @@ class Tally:
         )
 
     def results(self):
-        """What another process can be sent."""
+        """The part of a tally that can be sent to another process."""
         return self.counts, self.titles, self.unjudged, self.judge.found, self.failed, self.tried
 
     def merge(self, counts, titles, unjudged, found, failed, tried):
