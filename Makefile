@@ -47,7 +47,7 @@ INSTALL_TO = "$(PREFIX)" "$(DESTDIR)" bindir="$(bindir)" libexecdir="$(libexecdi
     mandir="$(mandir)" libdir="$(libdir)" includedir="$(includedir)" INSTALL_PROGRAM="$(INSTALL_PROGRAM)"
 N ?= 1000
 PROGRAM ?= build/ptext
-# What the program and the library are built from.
+# The files from which the program and the library are built.
 SOURCES := HANDLES crates.txt $(shell find crates -name out -prune -o -name 'must-fail*' -prune -o -type f -print)
 BUILDER := tools/project.py $(wildcard tools/builder/*.py)
 WITH_RT = command -v rt >/dev/null || { echo 'there is no rt in PATH: it is part of the toolchain, of which the README \

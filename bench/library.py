@@ -95,8 +95,8 @@ def main():
     with tempfile.TemporaryDirectory() as room:
         for words, stdin, files, others in COMMANDS:
             for name, text in files.items():
-                with open(f"{room}/{name}", "wb") as it:
-                    it.write(text)
+                with open(f"{room}/{name}", "wb") as file:
+                    file.write(text)
             size = len(stdin) + sum(map(len, files.values()))
             wanted = ptext.run(words, stdin, files)
             for name, other in others:

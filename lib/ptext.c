@@ -14,7 +14,7 @@ void ptext_names_in_memory(const uint8_t *words, size_t words_size, uint8_t *nam
 /* No bytes, for null pointers with size 0. Nothing is written there. */
 static size_t nothing;
 
-/* What a pointer leads to, up to its last byte. */
+/* The bytes that a pointer leads to. */
 struct span {
     const void *at;
     size_t size;

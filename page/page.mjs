@@ -18,7 +18,7 @@ const STATUSES = {
     2: "the command is wrong, and nothing was read",
     4: "memory ran out: the output is a beginning of the whole",
 };
-/** What differs if commands are chained. */
+/** The differences if commands are chained. */
 const OF_LAST = { ...STATUSES, 0: "the output of the last command was written", 2: "the last command is wrong" };
 
 /** The inputs that no field can hold, as a text or as bytes: long ones, and those that are not UTF-8. */
@@ -181,7 +181,7 @@ function finish(data) {
     say(`Status ${data.status}`, meaningOf(data.statuses));
 }
 
-/** What the statuses of chained commands mean. */
+/** Describes the statuses of chained commands. */
 function meaningOf(statuses) {
     const last = statuses.at(-1), earlier = statuses.slice(0, -1).find((it) => it !== 0);
     const meaning = (statuses.length > 1 ? OF_LAST : STATUSES)[last];

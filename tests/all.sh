@@ -19,7 +19,7 @@ fail() {
     exit 1
 }
 
-# What an earlier run made is not tested.
+# Nothing that an earlier run made is tested.
 rm -f "$log" crates/ptext/out/ptext* build/libptext* build/ptext-static build/page/ptext.html
 follow "$log" python3 tests/counts.py || fail "tests are lacking"
 follow "$log" python3 tests/edits.py || fail "a wrong body does not show that a contract refuses it"

@@ -96,7 +96,7 @@ class Browser {
     }
 }
 
-// What the page shows. Escapes are shown, too: so these inputs have none.
+// The texts that the page shows. Escapes are shown, too: so these inputs have none.
 const RESULT = `Object.fromEntries(["status", "out", "messages"]
     .map((id) => [id, document.getElementById(id).textContent]))`;
 const FIELDS = `Object.fromEntries(["command", "stdin", "name1", "file1", "name2", "file2"]
@@ -251,7 +251,9 @@ async function chosen(browser) {
         await browser.type("command", "cut -b 1- bytes");
         is(`no file is chosen before: ${turn}`, await browser.value(count), 0);
         await choose();
-        is("a file is taken", await browser.until(`(${RESULT}).out.startsWith("a\\\\xff")`), true);
+        // (Until then the output is that of the turn before.)
+        const isTaken = `${held} !== "" && (${RESULT}).out.startsWith("a\\\\xff")`;
+        is("a file is taken", await browser.until(isTaken), true);
         is("its bytes", numbered(await browser.value(RESULT)), { status: 0, out: "a\\xff\\x0d\n", messages: "" });
         is("it is held", [await browser.value(held), await browser.value(count)],
             ["4 bytes, which cannot be edited here.", 1]);

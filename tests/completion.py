@@ -124,7 +124,7 @@ class Terminal:
 
 
 def shown(came, between=b""):
-    """What a terminal would show, with this in place of what moves its cursor or colours."""
+    """The text that a terminal would show, with this in place of what moves its cursor or colours."""
     return ESCAPES.sub(between, came).decode(errors="replace")
 
 
@@ -137,7 +137,7 @@ def offers(text, typed, words):
 
 
 def said_of(at, row, quiet):
-    """What a terminal has after a row is typed, and whether that is as wanted."""
+    """The text of a terminal after a row is typed, and whether that is as wanted."""
     if isinstance(row.wanted, str):
         said = shown(at.type(row.typed + "\t", quiet))
         if row.wanted not in said.replace("\n", ""):
@@ -171,7 +171,7 @@ def wrong_of(shell, room, rows, first="", path=""):
 
 
 def all_wrong_of(shell, room):
-    """What a shell does not complete as wanted in any of the three surroundings, and how many rows there were."""
+    """The rows that a shell does not complete as wanted in one of three surroundings, and how many rows there were."""
     found, count = wrong_of(shell, room, ROWS), len(ROWS)
     if shell == "bash" and not os.path.exists(SYSTEMS):
         print("left out: the tools by their own names in bash (there is no bash-completion)")
@@ -186,7 +186,7 @@ def all_wrong_of(shell, room):
 
 
 def main():
-    # (What is ended ends the shells that it runs.)
+    # (A test that is ended ends the shells that it runs.)
     signal.signal(signal.SIGTERM, lambda *_: sys.exit(143))
     wrong, count = [], 0
     with tempfile.TemporaryDirectory(ignore_cleanup_errors=True) as room:

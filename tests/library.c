@@ -141,7 +141,7 @@ static void overlaps(int is_run) {
             lay(spans);
             join_spans(spans, i, j);
             int is_known = i == MESSAGES || j == MESSAGES;
-            /* (What is moved may come to lie over the messages, which follow `out`.) */
+            /* (A span that is moved may come to lie over the messages, which follow `out`.) */
             for (int k = 0; k < count; k++)
                 is_known |= k != MESSAGES && spans[k].at < spans[MESSAGES].at + spans[MESSAGES].size &&
                             spans[MESSAGES].at < spans[k].at + spans[k].size;

@@ -276,7 +276,8 @@ hosts() {
     ssh-keygen -q -t ed25519 -N '' -f key && ssh-keygen -q -t ed25519 -N '' -f hostkey || return 1
     : >ssh.config
     for n in 1 2; do
-        space=ptext-$$-$n net=198.18.$n
+        # (Another run of this test may have hosts of its own.)
+        space=ptext-$$-$n net=198.18.$((2 * ($$ % 120) + n))
         ip netns add "$space" 2>>messages || return 1
         spaces="$spaces $space"
         ip link add "pt$$-$n" type veth peer name eth0 netns "$space" 2>>messages || return 1

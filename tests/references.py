@@ -68,7 +68,7 @@ def find_lacking_paths():
         text = read_text(f"{TOP}/{file}").replace("specs/File.antt", "specs")
         for path in re.findall(r"\b(?:crates/|(?<=`)pt[a-z]+/)[\w/*.-]*[\w*]", text):
             ends = [f"{TOP}/crates/{path.removeprefix('crates/')}{it}" for it in ("", ".rt", ".antt")]
-            # (What checks keep is there only after a check.)
+            # (The files that checks keep are there only after a check.)
             is_there = path.endswith("/out") or any(glob.glob(it) for it in ends)
             found += [] if is_there else [f"{file} names a path that is not there: {path}\n"]
         # Paths in any crate, except patterns such as `src/NAME.rt`.

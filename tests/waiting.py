@@ -270,7 +270,7 @@ def what_failed(program, case, way):
 
 
 def what_was_said(program, words):
-    """What comes on standard error while standard input is open and nothing is given."""
+    """The text that comes on standard error while standard input is open and nothing is given."""
     with tempfile.TemporaryDirectory() as room:
         streams = {"stdin": subprocess.PIPE, "stdout": subprocess.DEVNULL, "stderr": subprocess.PIPE}
         with subprocess.Popen([program, *words.split()], cwd=room, **streams) as child:
@@ -281,7 +281,7 @@ def what_was_said(program, words):
 
 
 def main(program):
-    # (What is ended ends the program that it runs.)
+    # (A test that is ended ends the program that it runs.)
     signal.signal(signal.SIGTERM, lambda *_: sys.exit(143))
     program = os.path.realpath(program)
     tried = bad = 0

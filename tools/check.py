@@ -76,7 +76,7 @@ def run_part(name, words, folder):
     status = child.returncode
     if status:
         print(said, end="")
-    # (What is killed says nothing itself. rt then ends with 256 less the signal.)
+    # (A command that is killed says nothing itself. rt then ends with 256 less the signal.)
     number = -status if status < 0 else 256 - status if status > 192 else 0
     end = f"FAILED, ended by signal {number}" if number else "FAILED" if status else "ok"
     print(f"{took:8.1f} s  {name}: {end}", flush=True)
@@ -84,7 +84,7 @@ def run_part(name, words, folder):
 
 
 def list_parts(uses, text, edits):
-    """What is run: a name, a command and its folder for each part."""
+    """The parts of a check: a name, a command and its folder for each."""
     above, parts = set(), []
     for crate in uses:
         if crate in text or any(name in above for name in uses[crate]):

@@ -39,7 +39,7 @@ SECONDS = os.environ.get("SOURCE_DATE_EPOCH") or "1795348800"
 TIME = int(SECONDS) if SECONDS.isdecimal() else 0
 # The files that an archive has besides those that were given to it.
 ADDED = ("COMMIT", "SHA256SUMS")
-# What dpkg-buildpackage makes in the folder debian, if it is called in this one.
+# The files that dpkg-buildpackage makes in the folder debian, if it is called in this one.
 OF_BUILD = re.compile(r"\.debhelper|debhelper-build-stamp|files|tmp|ptext|ptext-tools|.*\.(substvars|debhelper\.log)")
 # The folders of an installation, below that into which the archive of the program is unpacked.
 BELOW = {"bindir": "bin", "libexecdir": "libexec", "datadir": "share", "mandir": "share/man"}

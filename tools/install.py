@@ -236,7 +236,7 @@ def list_files_of_tools(where, script_of=make_script, commit=None):
 
 
 def make_settings(where, prefix):
-    """What pkg-config reads."""
+    """The file that pkg-config reads."""
     text = read_bytes(f"{TOP}/build/ptext.pc").decode()
     for name, value in [("prefix", prefix), *((it, where[it]) for it in ("libdir", "includedir"))]:
         value = value.replace(f"{prefix}/", "${prefix}/", 1) if name != "prefix" else value

@@ -1,4 +1,4 @@
-"""What the scripts share: the folder of the project, its crates and its version, and how they run commands and fail."""
+"""The part that scripts share: the folder of the project, its crates and its version, how to run a command and fail."""
 import os
 import shutil
 import signal
@@ -10,12 +10,12 @@ NO_RT = (
     "there is no rt in PATH: it is part of the toolchain, of which the README says what can be had without it "
     "(if it is unpacked: export PATH=/opt/rattle/bin:$PATH)"
 )
-# What the toolchain links into a program beside its object file.
+# The archives that the toolchain links into a program beside its object file.
 ARCHIVES = ["c/libos_c.a", "c/liblibc_c.a"]
 
 
 class Failed(Exception):
-    """What a script could not do. The message is all that its user is told."""
+    """A script cannot do its work. The user sees the message and nothing else."""
 
 
 def say(text):

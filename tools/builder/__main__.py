@@ -25,7 +25,7 @@ def main():
         return __doc__
     kit, began = find_kit(), time.monotonic()
     if not os.access(f"{TOP}/build" if os.path.isdir(f"{TOP}/build") else TOP, os.W_OK):
-        raise Failed(f"cannot write to {TOP}/build: what is built is put there. Copy the source to where you may write.")
+        raise Failed(f"cannot write to {TOP}/build, where all that is built is put: copy the source to another folder")
     with tempfile.TemporaryDirectory(prefix="ptext-") as place:
         try:
             made = importlib.import_module(sys.argv[1]).build(kit, place)

@@ -13,7 +13,7 @@ from proving import Crates, describe_kept, prove
 
 CRATE = "ptrunc"
 HEAP = "c/liblibc_c.a"
-# What is kept of the proof of the crate for the next run. (The gate proves it from nothing.)
+# The proof of the crate as it is kept for the next run. (The gate proves it from nothing.)
 KEPT = f"{TOP}/build/{CRATE}-kept"
 # The first number of the version is that of the interface: programs link with libptext.so.0.
 EXPORTED = ["ptext_run", "ptext_names"]
@@ -66,7 +66,7 @@ def build(kit, place):
     crates, version = Crates(CRATE, False), read_version()
     say(f"proving the {len(crates.names)} crates below {CRATE}, which takes minutes; {describe_kept()}")
     room = prove(crates, place)
-    say(f"proving {CRATE} and compiling it: a minute or two; some seconds where an earlier run of this kept its proof")
+    say(f"proving {CRATE} and compiling it: a minute or two, or half a minute where an earlier run kept its proof")
     os.makedirs(os.path.dirname(KEPT), exist_ok=True)
     run([*make_words(kit, room, crates, KEPT), "-o", f"{place}/{CRATE}.a"], f"{TOP}/crates/{CRATE}")
     link(kit, place)

@@ -31,7 +31,8 @@ STACK = 4 * 2**20
 FILES = 2
 HEAP = "hostheap"
 HEAP_KEPT = f"{TOP}/build/{HEAP}-kept"
-# What is changed in the copy of the toolchain's heap: in its code, in the declarations of its calls, and in its proofs.
+MODULE_KEPT = f"{TOP}/build/module-kept"
+# The changes in the copy of the toolchain's heap: in its code, in the declarations of its calls, and in its proofs.
 IN_CODE = [
     ("libc::heap::", "crate::heap::"),
     ("mod cmp;\npub mod impls;\n", "mod heap;\n"),
@@ -46,7 +47,7 @@ IN_PROOFS = [
     ("Rattle.libc.proofs.heap.", f"Rattle.{HEAP}.proofs.heap."),
     ("code.calls-libc::heap::", f"code.calls-{HEAP}::heap::"),
 ]
-# What is changed in the copy of `ptrunc`, in src/lib.rt.
+# The change in the copy of `ptrunc`, in src/lib.rt.
 IN_CRATE = [("use std::alloc::Global;", f"use {HEAP}::Global;")]
 
 
@@ -88,7 +89,11 @@ def make_module(kit, place, room, crates):
     made = f"{place}/{CRATE}"
     shutil.copytree(f"{TOP}/crates/{CRATE}", made, ignore=leave_out)
     copy_changed(f"{TOP}/crates/{CRATE}/src/lib.rt", f"{made}/src/lib.rt", IN_CRATE)
-    words = [*make_words(kit, room, crates, KEPT), "--extern", f"{HEAP}={place}/rlib/{HEAP}.rlib", "--target", WASM]
+    # (Most of the proof is that for the library. Each of the two keeps its own.)
+    if os.path.isdir(KEPT) and not os.path.isdir(MODULE_KEPT):
+        shutil.copytree(KEPT, MODULE_KEPT)
+    words = make_words(kit, room, crates, MODULE_KEPT)
+    words += ["--extern", f"{HEAP}={place}/rlib/{HEAP}.rlib", "--target", WASM]
     run([*words, "-o", f"{place}/ptext.a"], made)
     link = ["--target", WASM, "--toolchain", f"{kit}/toolchain", "--stack", str(STACK)]
     run([f"{kit}/bin/rattle-link", *link, "-o", f"{place}/ptext.wasm", f"{place}/ptext.a"], place)
@@ -103,7 +108,7 @@ def run_shell(command, folder):
 
 
 def fill_fields(command, folder):
-    """What an example puts into the fields of the page: the commands of ptext, and the inputs that others make."""
+    """The fields of the page for an example: the commands of ptext, and the inputs that others make."""
     makes, ptext, rest = command.partition("ptext ")
     text = (ptext + rest).removesuffix("; echo $?").replace("| ptext ", "| ").removeprefix("ptext ")
     found = {"command": text, "stdin": run_shell(makes.strip().removesuffix("|"), folder) if makes else ""}

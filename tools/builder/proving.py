@@ -76,7 +76,7 @@ def keeps():
 
 
 def describe_kept():
-    """What the user is told of what is proved again."""
+    """A part of a sentence: which crates are proved again."""
     place, is_kept = find_kept()
     if is_kept:
         return "nothing that was proved on this machine is proved again"
@@ -139,7 +139,7 @@ def follow(child, progress):
 
 
 def run_gates(runs, room, progress):
-    """Runs the gate on each of these lists of crates, all at the same time. The first run that fails ends the others."""
+    """Runs the gate on each of these lists of crates, all at once. The first run that fails ends the others."""
     is_crowded = 2 * len(runs) > len(os.sched_getaffinity(0))
     children = [start(names, room, is_crowded and names is not runs[0]) for names in runs]
     with ThreadPoolExecutor(len(runs)) as pool:

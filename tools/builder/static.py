@@ -57,7 +57,7 @@ def compile_object(kit, room, crates, into):
 
 def make_object(kit, place):
     """Makes build/ptext.o."""
-    say("there is no object file of the program as it is: making it takes some two minutes, if the libraries are proved")
+    say("there is no object file of the program as it is: it takes some two minutes, if the libraries are proved")
     crates = Crates(PROGRAM, True)
     room = prove(crates, place)
     made = f"{room}/crates/{PROGRAM}/out/{PROGRAM}.o"

@@ -60,10 +60,11 @@ def keep_smaller(found, mark, count, case):
 
 
 class Judge:
-    """Judges the answers of one implementation. It keeps the smallest example for each rule."""
+    """Judges the answers of one implementation. It keeps the smallest example for each rule, and makes the cases of so
+    many examples smaller."""
 
-    def __init__(self, side, room):
-        self.side, self.room = side, room
+    def __init__(self, side, room, examples=EXAMPLES):
+        self.side, self.room, self.examples = side, room, examples
         self.found = {}
 
     def answers(self, case):
@@ -81,8 +82,8 @@ class Judge:
         keep_smaller(self.found, (case.tool, title), 1, case)
 
     def wants_example(self, case, title):
-        """Whether fewer than `EXAMPLES` cases of the rule were made smaller."""
-        return self.found.get((case.tool, title), (0, None))[0] < EXAMPLES
+        """Whether more cases of the rule are made smaller."""
+        return self.found.get((case.tool, title), (0, None))[0] < self.examples
 
     def judge(self, case):
         """The verdict on one case, or None if the implementation does not run it."""

@@ -9,7 +9,7 @@ import tempfile
 import time
 from multiprocessing import connection
 
-from judging import Judge, keep_smaller
+from judging import EXAMPLES, Judge, keep_smaller
 from model import answer_of
 from report import KINDS, command_of, example_of, rule_named, table_row
 
@@ -36,8 +36,8 @@ def shorten(text):
 class Tally:
     """The verdicts on one implementation, and the cases in which the program differs from the definitions."""
 
-    def __init__(self, side, room):
-        self.judge, self.side = Judge(side, tempfile.mkdtemp(dir=room)), side
+    def __init__(self, side, room, examples=EXAMPLES):
+        self.judge, self.side = Judge(side, tempfile.mkdtemp(dir=room), examples), side
         self.counts, self.titles, self.unjudged = collections.Counter(), collections.Counter(), []
         self.failed = self.tried = 0
 
@@ -60,7 +60,7 @@ class Tally:
         )
 
     def results(self):
-        """What another process can be sent."""
+        """The part of a tally that can be sent to another process."""
         return self.counts, self.titles, self.unjudged, self.judge.found, self.failed, self.tried
 
     def merge(self, counts, titles, unjudged, found, failed, tried):
@@ -121,16 +121,18 @@ def work(tally, cases, differs, to):
 
 
 class Work:
-    """All processes. Each side has some, and each of these has some of the cases."""
+    """All processes. Each side has as many as there are processors, since one may take far longer than another. Each
+    process has a share of the cases, and of the examples that are made smaller."""
 
     def __init__(self, sides, cases_of_share, differs, room):
         self.tallies = [Tally(side, room) for side in sides]
-        shares = math.ceil(len(os.sched_getaffinity(0)) / len(sides))
+        shares = len(os.sched_getaffinity(0))
         self.ends, self.began, self.shown = {}, time.monotonic(), time.monotonic()
         for index, side in enumerate(sides):
             for share in range(shares):
                 here, there = FORK.Pipe(False)
-                given = (Tally(side, room), cases_of_share(share, shares), None if index else differs, there)
+                tally = Tally(side, room, math.ceil(EXAMPLES / shares))
+                given = (tally, cases_of_share(share, shares), None if index else differs, there)
                 child = FORK.Process(target=work, args=given)
                 child.start()
                 there.close()
