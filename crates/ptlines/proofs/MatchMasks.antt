@@ -3,10 +3,11 @@ use Rattle.ptlines.proofs
 use Rattle.std.proofs.lemmas
 use proofs.Common.{◌≡◌, ℕ, ◌+◌, ◌*◌, ◌^◌, ◌%◌, ◌<◌, ◌≤◌, Bool, not, List, [], ◌∷◌, ◌++◌, rules, Option, Some, length}
 use proofs.Common.{map, refl, sym, ◌∙◌, ap, subst, arith, bit_or, take-add, drop-drop, length-map, length-chunk}
-use proofs.Common.{prefix_len, mask_l, chunk, Nowhere, Passes, IsFirst}
+use proofs.Common.{None, drop, ◌-◌, prefix_len, mask_l, chunk, Nowhere, Passes, IsFirst, IsFirstByte, usual}
+use Rattle.std.specs.Option.{option_map}
 use Rattle.std.proofs.Math.Nat.{pow-succ'}
 use lemmas.Grind.{or_before_shift}
-use lemmas.List.{map-append}
+use lemmas.List.{get_or-drop, length-drop, map-append}
 use lib.Count.{count_trailing_zeros}
 use lemmas.Simd.{mask_l-lt, none_from_empty_mask, run_in_chunk_fails, run_in_chunk_stops, trailing_mask_l}
 
@@ -37,6 +38,25 @@ module _ (P : ℕ → Type 0) where
   pub first_after : (i j k later : ℕ) (r : Option ℕ) → i ≤ j → j ≤ later → Nowhere P i later → IsFirst P j k r
       → IsFirst P i k r
   first_after = grind arith
+
+-- If there is no match among the first bytes, the first match is that among the bytes after them.
+module _ (test : ℕ → Bool) (hay : List ℕ) (size : ℕ) (none : Nowhere (Passes test hay) 0 size) where
+  there : (k : ℕ) → size ≤ k → Passes test hay k → Passes test (drop size hay) (k - size)
+  there k low passes = grind usual
+
+  pub first_in_rest : (r : Option ℕ) → IsFirstByte test (drop size hay) r
+      → IsFirstByte test hay (option_map (λ at. size + at) r)
+  first_in_rest None first = nowhere_trans (Passes test hay) 0 size (length hay) none (λ k low high passes.
+      first (k - size) (omega arith) (omega (arith, length-drop size hay)) (there k low passes))
+  first_in_rest (Some at) (first, found) = (
+    record {
+      low = omega arith;
+      high = grind usual;
+      before = nowhere_trans (Passes test hay) 0 size (size + at) none
+          (λ k low high passes. first.before (k - size) (omega arith) (omega arith) (there k low passes));
+    },
+    cc (get_or-drop size hay at 0),
+  )
 
 -- ---- masks of adjacent chunks
 

@@ -1,7 +1,7 @@
-//! Copies of byte strings that are fast for few bytes, used by the output block and by the tools.
+//! A copy of a byte string that is fast for few bytes, used by the tools.
 
 ghost use Rattle.std.specs.Prelude.{◌≡◌, ◌≤◌, ◌+◌, ◌-◌, ◌++◌, length, take, drop};
-ghost use Rattle.ptlines.specs.Bounds.{IsCoveredByEnds, CopyChunkPre};
+ghost use Rattle.ptlines.specs.Bounds.{CopyChunkPre};
 
 use std::simd::prelude::*;
 
@@ -15,38 +15,6 @@ fn copy_chunk<const N: usize>(bytes: &[u8], from: usize, into: &mut [u8], at: us
     Simd::<u8, N>::from_slice(&bytes[from..]).copy_to_slice(&mut into[at..]);
 }
 
-// Copies all bytes as one vector of the first `N` bytes and one of the last `N`. The two may overlap.
-#[inline(always)]
-fn copy_overlapping<const N: usize>(bytes: &[u8], into: &mut [u8], at: usize)
-    requires few { IsCoveredByEnds N bytes.now }
-    requires room { at + length bytes.now ≤ length into.old }
-    ensures long { length into.new ≡ length into.old }
-    ensures copied { take (at + length bytes.now) into.new ≡ take at into.old ++ bytes.now }
-{
-    let last = bytes.len() - N;
-    copy_chunk::<N>(bytes, 0, into, at);
-    copy_chunk::<N>(bytes, last, into, at + last);
-}
-
-// Copies all bytes to `into[at..]` and changes nothing after them. Up to 64 bytes are copied without a call.
-#[inline(always)]
-pub(crate) fn copy_all(bytes: &[u8], into: &mut [u8], at: usize)
-    requires { at + length bytes.now ≤ length into.old }
-    ensures long { length into.new ≡ length into.old }
-    ensures copied { take (at + length bytes.now) into.new ≡ take at into.old ++ bytes.now }
-{
-    match bytes.len() {
-        0 => {}
-        1 => copy_overlapping::<1>(bytes, into, at),
-        2..=3 => copy_overlapping::<2>(bytes, into, at),
-        4..=7 => copy_overlapping::<4>(bytes, into, at),
-        8..=15 => copy_overlapping::<8>(bytes, into, at),
-        16..=31 => copy_overlapping::<16>(bytes, into, at),
-        32..=64 => copy_overlapping::<32>(bytes, into, at),
-        _ => copy_long(bytes, into, at),
-    }
-}
-
 // Copies any number of bytes. It is out of line, so that few bytes are copied without a call.
 #[inline(never)]
 fn copy_long(bytes: &[u8], into: &mut [u8], at: usize)
@@ -55,16 +23,6 @@ fn copy_long(bytes: &[u8], into: &mut [u8], at: usize)
     ensures copied { take (at + length bytes.now) into.new ≡ take at into.old ++ bytes.now }
 {
     into[at..at + bytes.len()].copy_from_slice(bytes);
-}
-
-// Like `copy_all`, but out of line, to keep the code of its callers short.
-#[inline(never)]
-pub(crate) fn copy_cold(bytes: &[u8], into: &mut [u8], at: usize)
-    requires { at + length bytes.now ≤ length into.old }
-    ensures long { length into.new ≡ length into.old }
-    ensures copied { take (at + length bytes.now) into.new ≡ take at into.old ++ bytes.now }
-{
-    copy_all(bytes, into, at);
 }
 
 /// Copies `bytes[from..to]` to the index `at` of `into`. It is meant for few bytes: up to 16 are copied as one vector,

@@ -8,6 +8,7 @@ ghost use Rattle.std.specs.Simd.Lanes.{mask_l, chunk};
 ghost use Rattle.ptlines.specs.Bounds.{HasChunk, IsCoveredByEnds};
 ghost use Rattle.memchr.specs.Find.{Nowhere, IsFirst, IsFirstByte, Passes, is_byte};
 
+use memchr::memchr;
 use std::simd::prelude::*;
 
 // A slice of at least 64 bytes, so that a vector of any length can be loaded from its beginning.
@@ -121,27 +122,35 @@ fn find_short(byte: u8, bytes: &[u8]) -> Option<usize>
     }
 }
 
-// Searches 16 bytes or more. It is out of line, so that a match among the first 16 bytes is found without a call.
+// Searches the first 64 bytes, of which the first 16 have no match.
+#[inline(always)]
+#[tactic(auto, using(crate::proofs::MatchMasks::first_after))]
+fn find_after_16(byte: u8, bytes: &[u8]) -> Option<usize>
+    requires none { Nowhere (Passes (is_byte byte) bytes.now) 0 16 }
+    requires long { 64 ≤ length bytes.now }
+    ensures { IsFirst (Passes (is_byte byte) bytes.now) 0 64 result }
+{
+    if let Some(at) = find_in_chunk::<32>(byte, bytes, 16) {
+        return Some(at);
+    }
+    find_in_chunk::<16>(byte, bytes, 48)
+}
+
+// Searches bytes of which the first 16 have no match, with `memchr` from index 64 on, or if there are fewer than 64. It is
+// out of line, so that a match among the first 16 bytes is found without a call.
 #[inline(never)]
 fn find_long(byte: u8, bytes: &[u8]) -> Option<usize>
-    requires { 16 ≤ length bytes.now }
+    requires { Nowhere (Passes (is_byte byte) bytes.now) 0 16 }
     ensures { IsFirstByte (is_byte byte) bytes.now result }
 {
-    if bytes.len() <= 32 {
-        return find_overlapping::<16>(byte, bytes);
+    if bytes.len() < 64 {
+        return memchr(byte, bytes);
     }
-    if bytes.len() <= 64 {
-        return find_overlapping::<32>(byte, bytes);
+    if let Some(at) = find_after_16(byte, bytes) {
+        return Some(at);
     }
-    let mut at = 0;
-    while bytes.len() - at >= 64 {
-        let near = find_in_chunk::<64>(byte, bytes, at);
-        if near.is_some() {
-            return near;
-        }
-        at += 64;
-    }
-    find_in_chunk::<64>(byte, bytes, bytes.len() - 64)
+    let at = memchr(byte, &bytes[64..])?;
+    Some(64 + at)
 }
 
 /// Returns the index of the first byte equal to `byte`, like `memchr`. It is faster than `memchr` if the match is among
@@ -153,9 +162,8 @@ pub fn find_byte(byte: u8, bytes: &[u8]) -> Option<usize>
     if bytes.len() < 16 {
         return find_short(byte, bytes);
     }
-    let near = find_in_chunk::<16>(byte, bytes, 0);
-    if near.is_some() {
-        return near;
+    if let Some(at) = find_in_chunk::<16>(byte, bytes, 0) {
+        return Some(at);
     }
     find_long(byte, bytes)
 }
