@@ -15,7 +15,8 @@ use Rattle.ptlines.proofs.Push.{push_past_failure}
 use Rattle.std.specs.List.{flat_map, slice_range, prefix_len, join_with_byte, onto_first}
 use Rattle.std.proofs.Common.{rules, ◌/◌, bit_and, bit_or, replicate, take, ◌%◌, ◌||◌}
 use specs.Write.{WriteBytesPost}
-use lemmas.List.{length-take-le, drop-map, map-id, take-map, drop-drop, length-map, take-append-drop}
+use proofs.Common.{drop_more}
+use lemmas.List.{take_all, length-take-le, drop-map, map-id, take-map, drop-drop, length-map, take-append-drop}
 use lemmas.List.Quantifiers.{position-Some}
 use Rattle.ptlangs.specs.declared.outlist.OutField.{OutField}
 use specs.declared.key_order.Span.{Span}
@@ -767,66 +768,129 @@ first_separator c (b ∷ v) some =
     (λ (e : (b == c) ≡ false). let w = first_separator c v (grind arith) in grind (arith, e, w, one_more))
     (cases_Bool (b == c))
 
--- `passed` separators of the line have been passed. After them the line goes on at the index `start`, and `rest` is the
--- mask of the separators from there on.
-pub record SeparatedLeft (c : ℕ) (line : List ℕ) (passed start rest : ℕ) : Type 0 where
+-- `passed` separators of the line have been passed, and after them the line goes on at the index `start`
+pub record FieldsFrom (c : ℕ) (line : List ℕ) (passed start : ℕ) : Type 0 where
   pub within : start ≤ length line
-  pub mask : rest ≡ mask_l (map (is_byte c) (drop start line))
   pub fields : drop passed (join_fields (Some c) line) ≡ join_fields (Some c) (drop start line)
 
-module _ {c : ℕ} {line : List ℕ} {passed start rest : ℕ} (short : length line < 64)
-    (left : SeparatedLeft c line passed start rest) where
+module _ {c : ℕ} {line : List ℕ} {passed start : ℕ} (left : FieldsFrom c line passed start) where
   abbrev tail : List ℕ
   tail = drop start line
 
-  last_field : rest ≡ 0 → drop passed (join_fields (Some c) line) ≡ tail ∷ []
-  last_field none = left.fields ∙ no_separator c tail (sym left.mask ∙ none)
+  module _ (last : join_fields (Some c) tail ≡ tail ∷ []) where
+    none_after : (number : ℕ) → passed < number - 1 → drop (number - 1) (join_fields (Some c) line) ≡ []
+    none_after number low =
+        none_past _ (passed + 1) (number - 1) (drop_next _ [] tail passed (left.fields ∙ last)) (omega arith)
+
+    last_at : (number : ℕ) → passed ≡ number - 1 → IsFieldAt (Some c) number line
+        (record { start = start; end = length line })
+    last_at number is =
+        let more : Lines = [] in
+        let all : drop passed (join_fields (Some c) line) ≡ tail ∷ [] = left.fields ∙ last in
+        grind (usual, all, more, left.within)
+
+  module _ {n : ℕ} (first : FirstSeparator c tail n) where
+    next_within : start + (n + 1) ≤ length line
+    next_within = omega (arith, first.low, length-drop start line)
+
+    passed_on : FieldsFrom c line (passed + 1) (start + (n + 1))
+    passed_on = record {
+      within = next_within;
+      fields = rw (sym (drop-drop (n + 1) start line)) (drop_next _ _ _ passed (left.fields ∙ first.split));
+    }
+
+    found_at : (number : ℕ) → passed ≡ number - 1 → IsFieldAt (Some c) number line
+        (record { start = start; end = start + n })
+    found_at number is =
+        let size : start + n - start ≡ n = omega arith in
+        record {
+          more = join_fields (Some c) (drop (n + 1) tail);
+          is = rw (← is, size) (left.fields ∙ first.split);
+          ordered = omega arith;
+          within = omega (arith, next_within);
+          after = λ e. rw (sym (drop-drop n start line)) (prefixed_fields c (drop (n + 1) tail) ∙ sym first.at);
+        }
+
+-- `rest` is the mask of the separators from the index `start` on
+pub record SeparatedLeft (c : ℕ) (line : List ℕ) (passed start rest : ℕ) : Type 0 where
+  pub from : FieldsFrom c line passed start
+  pub mask : rest ≡ mask_l (map (is_byte c) (drop start line))
+
+module _ {c : ℕ} {line : List ℕ} {passed start rest : ℕ} (short : length line < 64)
+    (left : SeparatedLeft c line passed start rest) where
+  is_last : rest ≡ 0 → join_fields (Some c) (drop start line) ≡ drop start line ∷ []
+  is_last none = no_separator c (drop start line) (sym left.mask ∙ none)
 
   pub none_separated : (number : ℕ) → rest ≡ 0 → passed < number - 1
       → drop (number - 1) (join_fields (Some c) line) ≡ []
-  none_separated number none low =
-      none_past _ (passed + 1) (number - 1) (drop_next _ [] tail passed (last_field none)) (omega arith)
+  none_separated number none low = none_after left.from (is_last none) number low
 
   pub last_found : (number : ℕ) → rest ≡ 0 → passed ≡ number - 1 → IsFieldAt (Some c) number line
       (record { start = start; end = length line })
-  last_found number none is =
-      let none_after : Lines = [] in
-      let all = last_field none in grind (usual, all, none_after, left.within)
+  last_found number none is = last_at left.from (is_last none) number is
 
   module _ (some : rest ≢ 0) where
-    first_at : FirstSeparator c tail (count_trailing_zeros 64 rest)
+    first_at : FirstSeparator c (drop start line) (count_trailing_zeros 64 rest)
     first_at =
-        let few : length tail ≤ 64 = omega (arith, length-drop start line) in
-        rw (left.mask, trailing_mask_l (is_byte c) 64 tail few (omega (arith, left.mask)))
-        (first_separator c tail (omega (arith, left.mask)))
+        let v = drop start line in
+        let few : length v ≤ 64 = omega (arith, length-drop start line) in
+        rw (left.mask, trailing_mask_l (is_byte c) 64 v few (omega (arith, left.mask)))
+        (first_separator c v (omega (arith, left.mask)))
 
     pub next_in : start + (count_trailing_zeros 64 rest + 1) ≤ length line
-    next_in = omega (arith, first_at.low, length-drop start line)
+    next_in = next_within left.from first_at
 
     pub separator_passed : SeparatedLeft c line (passed + 1) (start + (count_trailing_zeros 64 rest + 1))
         (rest / 2 ^ count_trailing_zeros 64 rest / 2)
     separator_passed =
         let n = count_trailing_zeros 64 rest in
-        let after : drop (start + (n + 1)) line ≡ drop (n + 1) tail = sym (drop-drop (n + 1) start line) in
         record {
-          within = next_in;
-          mask = rw after (mask_after (is_byte c) tail n left.mask);
-          fields = rw after (drop_next _ _ _ passed (left.fields ∙ first_at.split));
+          from = passed_on left.from first_at;
+          mask = rw (sym (drop-drop (n + 1) start line)) (mask_after (is_byte c) (drop start line) n left.mask);
         }
 
     pub separated_found : (number : ℕ) → passed ≡ number - 1 → IsFieldAt (Some c) number line
         (record { start = start; end = start + count_trailing_zeros 64 rest })
-    separated_found number is =
-        let n = count_trailing_zeros 64 rest in
-        let more = join_fields (Some c) (drop (n + 1) tail) in
-        let after : drop (start + n) line ≡ drop n tail = sym (drop-drop n start line) in
-        let size : start + n - start ≡ n = omega arith in
-        record {
-          more = more;
-          is = rw (← is, size) (left.fields ∙ first_at.split);
-          ordered = omega arith;
-          within = omega (arith, next_in);
-          after = λ e. rw after (prefixed_fields c (drop (n + 1) tail) ∙ sym first_at.at);
-        }
+    separated_found number is = found_at left.from first_at number is
 
 pub ruleset separator_steps = (none_separated, last_found, next_in, separator_passed, separated_found)
+
+-- in a line of any length, `v` are the bytes from the index `start` on
+module _ {c : ℕ} {line : List ℕ} {passed start : ℕ} (left : FieldsFrom c line passed start) {v : List ℕ}
+    (is_tail : v ≡ drop start line) where
+  all_is_last : IsFirstByte (is_byte c) v None → join_fields (Some c) (drop start line) ≡ drop start line ∷ []
+  all_is_last none = rw is_tail at (split_whole (is_byte c) v (sym (first_is_position (is_byte c) v None none)))
+
+  pub none_separated_long : (number : ℕ) → IsFirstByte (is_byte c) v None → passed < number - 1
+      → drop (number - 1) (join_fields (Some c) line) ≡ []
+  none_separated_long number none low = none_after left (all_is_last none) number low
+
+  pub last_found_long : (number : ℕ) → IsFirstByte (is_byte c) v None → passed ≡ number - 1
+      → IsFieldAt (Some c) number line (record { start = start; end = length line })
+  last_found_long number none is = last_at left (all_is_last none) number is
+
+  module _ {n : ℕ} (found : IsFirstByte (is_byte c) v (Some n)) where
+    first_in : FirstSeparator c (drop start line) n
+    first_in =
+        let (range, passes) = found in
+        let split = split_around (is_byte c) v n (sym (first_is_position (is_byte c) v (Some n) found)) in
+        let rest = take_all (length v - (n + 1)) (drop (n + 1) v) (omega (arith, length-drop (n + 1) v)) in
+        let all : FirstSeparator c v n = record {
+          low = range.high;
+          split = rw rest at split;
+          at = rw (eqb-true (get_or v n 0) c passes) at (drop_more v n 0 range.high);
+        } in
+        rw is_tail at all
+
+    pub next_in_long : start + (n + 1) ≤ length line
+    next_in_long = next_within left first_in
+
+    pub separator_passed_long : FieldsFrom c line (passed + 1) (start + (n + 1))
+    separator_passed_long = passed_on left first_in
+
+    pub separated_found_long : (number : ℕ) → passed ≡ number - 1 → IsFieldAt (Some c) number line
+        (record { start = start; end = start + n })
+    separated_found_long number is = found_at left first_in number is
+
+pub tail_is : (line : List ℕ) (start : ℕ) → take (length line - start) (drop start line) ≡ drop start line
+tail_is line start = take_all (length line - start) (drop start line) (omega (arith, length-drop start line))

@@ -12,7 +12,7 @@ ghost use Rattle.ptmerge.specs.JoinFields.{is_evenly_separated, is_separator, re
 ghost use Rattle.ptmerge.specs.KeySpan.{IsKeySpan};
 
 use crate::key_order::Span;
-use crate::tools::join::separators::{find_separated, separators_of};
+use crate::tools::join::separators::{find_separated, find_separated_long, separators_of};
 use crate::tools::join::words::{Blanks, blanks_of, find_blank, find_word, is_single_spaced};
 use ptlines::find_byte;
 
@@ -156,12 +156,12 @@ impl<'a> SplitLine<'a> {
     pub(crate) fn find(&self, number: u64) -> Option<Span>
         ensures { IsFieldFound self.now.separator number self.now.line.now result }
     {
-        if self.line.len() >= 64 {
-            return find_by_pieces(self.separator, number, self.line);
-        }
+        let is_short = self.line.len() < 64;
         match self.separator {
-            Some(byte) => find_separated(byte, number, self.line, self.separators),
-            None => find_word(number, self.line, self.blanks),
+            Some(byte) if is_short => find_separated(byte, number, self.line, self.separators),
+            Some(byte) => find_separated_long(byte, number, self.line),
+            None if is_short => find_word(number, self.line, self.blanks),
+            None => find_by_pieces(None, number, self.line),
         }
     }
 

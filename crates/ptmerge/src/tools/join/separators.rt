@@ -1,5 +1,5 @@
-//! A mask of the separators of a short line of `join`: bit i is set if and only if byte i is the separator. The fields
-//! of the line are found by it.
+//! Fields of a line of `join` between separators. In a short line they are found by a mask of its separators: bit i is
+//! set if and only if byte i is the separator.
 ghost use Rattle.std.specs.Prelude.{◌≡◌, ◌≤◌, ◌<◌, Some, length, map};
 ghost use Rattle.std.specs.Simd.Lanes.{chunk, mask_l};
 ghost use Rattle.memchr.specs.Find.{is_byte};
@@ -7,6 +7,7 @@ ghost use Rattle.ptlines.specs.Bounds.{HasChunk, IsCoveredByEnds};
 ghost use Rattle.ptmerge.specs.JoinFields.{IsFieldFound};
 
 use crate::key_order::Span;
+use ptlines::find_byte;
 use std::simd::prelude::*;
 
 // Returns the mask of the separators among the N bytes from `at` on.
@@ -85,4 +86,21 @@ pub(crate) fn find_separated(separator: u8, number: u64, line: &[u8], mask: u64)
         start,
         end: start + rest.trailing_zeros() as usize,
     })
+}
+
+// Returns the span of the field with this number, counted from 1, in a line of any length, or `None` if there is none.
+// Not inlined, so that finding a field of a short line stays small.
+#[inline(never)]
+pub(crate) fn find_separated_long(separator: u8, number: u64, line: &[u8]) -> Option<Span>
+    ensures { IsFieldFound (Some separator) number line.now result }
+{
+    let mut start = 0;
+    for _passed in 0..number.saturating_sub(1) {
+        start += find_byte(separator, &line[start..])? + 1;
+    }
+    let end = match find_byte(separator, &line[start..]) {
+        Some(size) => start + size,
+        None => line.len(),
+    };
+    Some(Span { start, end })
 }
