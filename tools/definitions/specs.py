@@ -11,7 +11,7 @@ NAME = r"[^\s(){}\[\],;]+"
 
 class Definition(NamedTuple):
     """A definition: its names (a `data` has those of its constructors too), its kind, its comment, the heading above
-    it, and its blocks, which are the declaration and the clauses."""
+    it, and its blocks, which are the declaration and the clauses. Definitions with common parameters are one."""
 
     names: list
     kind: str
@@ -84,7 +84,11 @@ class Module:
         if flat.startswith(("use ", "pub use ")):
             self.take_import(block, flat)
             return None
-        if flat.startswith(("module ", "pub mod ", "mod ")):
+        if flat.startswith(("pub mod ", "mod ")):
+            return None
+        if flat.startswith("module "):
+            names = re.findall(rf"^ +(?:(?:abbrev|unfoldable) (?:pub )?|(?:pub )?(?:record|data) )({NAME})", block, re.M)
+            self.define(names, "module", comment, heading, block)
             return None
         found = re.match(rf"(?:pub )?(data|record) (?:pub )?({NAME})", flat)
         if found:
@@ -119,8 +123,8 @@ class Module:
 
 
 def is_of_code(module):
-    """Whether a module is that of a type of the code."""
-    return ".declared." in module
+    """Whether a module is that of a type of the code, or of the contracts of one."""
+    return ".declared." in module or ".contracts." in module
 
 
 class Specs:

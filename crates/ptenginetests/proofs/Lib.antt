@@ -4,6 +4,7 @@ mod JoinExamples
 mod LagExamples
 mod MergePartsExamples
 mod PartsExamples
+mod LawExamples
 mod PasteExamples
 mod TrExamples
 mod UniqExamples

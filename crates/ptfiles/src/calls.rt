@@ -4,7 +4,7 @@ ghost use Rattle.std.specs.Borrow.{ftrue};
 
 use std::marker::{Model, PhantomData};
 
-/// The calls of one method of a place of files so far: the names that were passed, in order, and what each call
+/// The calls of one method of a `Files` so far: the names that were passed, in order, and what each call
 /// returned. Only contracts read it: it takes no memory, and its methods do nothing at run time.
 #[derive(Drop)]
 pub struct Calls<T> {

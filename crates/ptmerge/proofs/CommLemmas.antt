@@ -13,7 +13,7 @@ use Rattle.ptmerge.specs.Comm.{comm_with, entries, column_entries, tab_if_shown}
 
 -- ---- each line adds one entry
 
-no_entries : (hidden : Bool) (tabs line : List ℕ) → column_entries hidden tabs 0 line ≡ []
+pub no_entries : (hidden : Bool) (tabs line : List ℕ) → column_entries hidden tabs 0 line ≡ []
 no_entries = grind arith
 
 -- whether the column of a line of one input alone is hidden

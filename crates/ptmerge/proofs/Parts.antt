@@ -113,11 +113,11 @@ module _ (cmp : Cmp) (o : IsKeyOrder cmp) (key : Key) where
 module _ (tool : MergeTool) (o : IsKeyOrder tool.cmp) where
   open tool use {cmp, key}
 
-  none_disordered : (ls : Side → Lines) → disorder tool ls ≡ None → (side : Side)
+  pub none_disordered : (ls : Side → Lines) → disorder tool ls ≡ None → (side : Side)
       → first_disorder cmp (key side) (ls side) ≡ None
   none_disordered = grind arith
 
-  merged_in_order : (ls : Side → Lines) → disorder tool ls ≡ None
+  pub merged_in_order : (ls : Side → Lines) → disorder tool ls ≡ None
       → merged_entries tool ls ≡ entries_by_key tool all_keys ls
   merged_in_order = grind (arith, sorted_from_start, sorted_from_none, none_disordered)
 

@@ -8,6 +8,7 @@ pub mod WriteAndAdvance
 pub mod MergeCall
 pub mod Orders
 pub mod Parts
+pub mod Laws
 pub mod Cursor
 pub mod Write
 pub mod Sides

@@ -1,6 +1,7 @@
 //! Two laws for `comm` and for `join`, so that a caller can run them on parts of the inputs, one after another or in
-//! parallel.
+//! parallel. After them laws of their output for whole inputs, by which a reader can judge the definitions.
 
+ghost use Rattle.ptmerge.specs.Laws.Outputs.{CommOfItself, CommSharesFirst, CommSwapped, JoinCounts};
 ghost use Rattle.ptmerge.specs.Parts.{CommOfParts, JoinOfParts, CommByKey, JoinByKey};
 
 /// States that the output of `comm` is the output for a first part of each file followed by the output for the rest of
@@ -39,4 +40,30 @@ pub fn comm_by_key()
 /// The call does nothing at run time; its contract states the law.
 pub fn join_by_key()
     ensures { JoinByKey }
+{}
+
+/// States that `comm` of sorted lines and themselves writes each of them in the third column, and nothing else.
+/// The call does nothing at run time; its contract states the law.
+pub fn comm_of_itself()
+    ensures { CommOfItself }
+{}
+
+/// States that the columns 1 and 3 of `comm` together have the lines of the first input: `comm -23` and `comm -12` of
+/// sorted inputs write each line together as often as it is there.
+/// The call does nothing at run time; its contract states the law.
+pub fn comm_shares_first()
+    ensures { CommSharesFirst }
+{}
+
+/// States that `comm -13` of two inputs is `comm -23` of them in the other order, also if they are out of order.
+/// The call does nothing at run time; its contract states the law.
+pub fn comm_swapped()
+    ensures { CommSwapped }
+{}
+
+/// States that `join` of sorted inputs, without `-a` and `-v`, writes as many lines as there are pairs of lines with
+/// equal join fields.
+/// The call does nothing at run time; its contract states the law.
+pub fn join_counts()
+    ensures { JoinCounts }
 {}

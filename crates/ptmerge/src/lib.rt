@@ -3,7 +3,7 @@
 //! - `merging` is the merge itself, which reads both inputs and selects the least key.
 //! - `key_order` has what an order of lines is, and that of `comm`.
 //! - `tools` has a module for each tool, with its engine and its private functions, and the order of `join`.
-//! - `laws` states how both tools may be run on parts of their inputs.
+//! - `laws` states how both tools may be run on parts of their inputs, and laws of their output.
 #![tactic(auto)]
 
 mod faults;
@@ -14,7 +14,10 @@ mod tools;
 
 pub use faults::MergeFault;
 pub use key_order::{Descending, KeyOrder, Side, Span, WholeLine};
-pub use laws::{comm_by_key, join_by_key, parts_of_comm, parts_of_join};
+pub use laws::{
+    comm_by_key, comm_of_itself, comm_shares_first, comm_swapped, join_by_key, join_counts,
+    parts_of_comm, parts_of_join,
+};
 pub use merging::{Merge, Step};
 pub use tools::comm::comm;
 pub use tools::join::join;

@@ -1,11 +1,10 @@
 -- A run without a failure has a message if and only if its status is not 0. Each message ends with newline, so none is
 -- empty; and what gives a message gives the status.
-use Rattle.std.proofs.Common.{◌≡◌, ℕ, ◌+◌, List, [], ◌∷◌, ◌++◌, Bool, true, false, refl, length, arith, Option, Some, None, Result, Ok, Err}
-use Rattle.std.proofs.Common.{take, sym, ◌∙◌, ap, length-append}
+use Rattle.std.proofs.Common.{◌≡◌, ℕ, ◌+◌, List, [], ◌∷◌, ◌++◌, Bool, true, false, refl, length, arith, Option, Some}
+use Rattle.std.proofs.Common.{None, Result, Ok, Err, take, sym, ◌∙◌, ap, length-append}
 use Rattle.std.proofs.lemmas.List.{append-nil, take_all}
-use Rattle.std.specs.Prelude.{◌||◌, codes}
+use Rattle.std.specs.Prelude.{◌||◌, codes, ◌↔◌, if◌then◌else◌, flat_map}
 use mathlib.Core.Bool.{true≢false}
-use Rattle.std.specs.Prelude.{◌↔◌, if◌then◌else◌, flat_map}
 use Rattle.std.specs.List.{list_any}
 use Rattle.ptrun.specs.Files.{is_unopened}
 use Rattle.ptrun.specs.CommandSpec.{unopened_messages}
@@ -13,8 +12,7 @@ use Rattle.ptrun.specs.Messages.{string_word, kind_word, usage_message}
 use Rattle.ptrun.specs.Joint.{disorder_status, disorder_text}
 use Rattle.ptrun.specs.Tools.{ToolInRun, OneByOne, Together, spec_of_tool}
 use Rattle.ptopts.specs.Faults.{Fault, NoTool, Unknown, NeedsValue, Twice, Together as Conflict, Value, Operands}
-use Rattle.ptopts.specs.Faults.{StandardTwice}
-use Rattle.ptopts.specs.Faults.{NeedsList, InString}
+use Rattle.ptopts.specs.Faults.{StandardTwice, NeedsList, InString}
 use Rattle.ptopts.specs.Commands.{Command, command_of_args}
 use Rattle.ptrun.specs.SpecOfArgs.{spec_of_result, tool_of_job, word_of_job, tool_name}
 use Rattle.ptrun.specs.Laws.Silence.{SilentIfZero, IsSilentIfZero}
@@ -27,8 +25,14 @@ front_empty xs ys e = omega (arith, length-append xs ys, ap (λ l. length l) e)
 
 message_step : (b any : Bool) (text rest : List ℕ) → (any ≡ false) ↔ (rest ≡ [])
     → ((b || any) ≡ false) ↔ ((if b then text ++ 10 ∷ [] else []) ++ rest ≡ [])
-message_step true any text rest known =
-    (λ e. absurd (true≢false e), λ e. absurd (omega (arith, length-append text (10 ∷ []), front_empty (text ++ 10 ∷ []) rest e)))
+message_step true any text rest known = (
+  λ e. absurd (true≢false e),
+  λ e. absurd (omega (
+    arith,
+    length-append text (10 ∷ []),
+    front_empty (text ++ 10 ∷ []) rest e,
+  )),
+)
 message_step false any text rest known = known
 
 message_iff : (tool : List ℕ) (names : List (List ℕ)) (test : ℕ → Bool) (ps : List ℕ)
@@ -82,7 +86,8 @@ usage_not_empty tool Operands e = not_empty _ e
 usage_not_empty tool StandardTwice e = not_empty _ e
 usage_not_empty tool NeedsList e = omega (arith, ap (λ l. length l) e)
 usage_not_empty tool (InString fault) e =
-    not_empty (flat_map (λ p. p) (codes "tr: wrong " ∷ string_word fault.string ∷ codes ": " ∷ kind_word fault.kind ∷ [])) e
+    not_empty (flat_map (λ p. p) (codes "tr: wrong " ∷ string_word fault.string ∷ codes ": " ∷ kind_word fault.kind ∷
+    [])) e
 
 of_result : (tool : List ℕ) (r : Result Command Fault) → IsSilentIfZero (spec_of_result tool r)
 of_result tool (Ok c) w = of_tool (word_of_job c.job) c.names (tool_of_job c.job) _ w

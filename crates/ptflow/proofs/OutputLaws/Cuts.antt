@@ -1,5 +1,5 @@
--- Theorems about the output of `cut`. If all is selected, a line is what it was split into, joined again. The fields of a
--- row of `paste` are what the row is split into.
+-- Theorems about the output of `cut`. If all is selected, a line is what it was split into, joined again. The fields of
+-- a row of `paste` are what the row is split into.
 use Rattle.ptflow.proofs
 use Rattle.ptflow.specs
 use Rattle.std.proofs.Common.{◌≡◌, ◌≢◌, ℕ, ◌+◌, ◌<◌, ◌≤◌, ◌==◌, Bool, true, false, List, [], ◌∷◌, ◌++◌, refl, ap, sym}
@@ -30,7 +30,8 @@ select_all : {X : Type 0} (test : ℕ → Bool) (n m : ℕ) (xs : List X)
 select_all test n m [] all low = refl
 select_all test n m (x ∷ xs) all low =
     let here = all n (omega arith) (omega (arith, low)) in
-    rw here (ap (λ l. x ∷ l) (select_all test (n + 1) m xs (λ i from to. all i (omega (arith, from)) to) (omega (arith, low))))
+    rw here (ap (λ l. x ∷ l) (select_all test (n + 1) m xs (λ i from to. all i (omega (arith, from)) to)
+    (omega (arith, low))))
 
 abbrev AreAtMost : ℕ → List (List ℕ) → Type 0
 AreAtMost n ls = AllByRecursion (λ line. length line ≤ n) ls
@@ -69,7 +70,8 @@ whole_line job bytes line whole all low =
     let joined = ap (join_with_byte job.delimiter) (select_all job.selected 1 (length bytes + 1) fields all fits)
     ∙ join_with_byte-slice_split job.delimiter line in
     elim job.fields as (λ t. (if t then (if list_any (is_field_delimiter job) line
-    then join_with_byte job.delimiter (select_from job.selected 1 fields) ∷ [] else (if job.only then [] else line ∷ []))
+    then join_with_byte job.delimiter (select_from job.selected 1 fields) ∷ [] else
+    (if job.only then [] else line ∷ []))
     else select_from job.selected 1 line ∷ []) ≡ line ∷ []) [
       | true ↦ one_line (list_any (is_field_delimiter job) line) job.only _ line whole joined
       | false ↦ ap (λ x. x ∷ []) (select_all job.selected 1 (length bytes + 1) line all (omega (arith, low)))
@@ -91,7 +93,8 @@ one_delimiter : (c k : ℕ) → delimiter (Some c ∷ []) k ≡ c ∷ []
 one_delimiter c k = rw (mod-one k) refl
 
 -- a field, the delimiter, and the others
-joined_two : (c k : ℕ) (field next : List ℕ) (row : List (List ℕ)) → join_with_cycle (Some c ∷ []) k (field ∷ next ∷ row)
+joined_two : (c k : ℕ) (field next : List ℕ) (row : List (List ℕ)) → join_with_cycle (Some c ∷ []) k
+    (field ∷ next ∷ row)
     ≡ field ++ c ∷ join_with_cycle (Some c ∷ []) (k + 1) (next ∷ row)
 joined_two c k field next row = rw (one_delimiter c k) (append_assoc field (c ∷ []) _)
 
@@ -133,7 +136,8 @@ row_is_line c end k apart (field ∷ next ∷ row) (here, more) = rw (joined_two
 has_delimiter : (c : ℕ) (field more : List ℕ) → list_any (λ b. b == c) (field ++ c ∷ more) ≡ true
 has_delimiter c field more = grind (arith, list_any-append, eq-eqb c c refl)
 
-one_of : (any only : Bool) (chosen line wanted : List ℕ) → only ≡ false → chosen ≡ wanted → (any ≡ false → line ≡ wanted)
+one_of : (any only : Bool) (chosen line wanted : List ℕ) → only ≡ false → chosen ≡ wanted →
+    (any ≡ false → line ≡ wanted)
     → (if any then chosen ∷ [] else (if only then [] else line ∷ [])) ≡ wanted ∷ []
 one_of true only chosen line wanted o e w = ap (λ x. x ∷ []) e
 one_of false only chosen line wanted o e w = rw (o, w refl) refl
@@ -192,5 +196,6 @@ rows_are_lines c end n apart (row ∷ rows) (here, more) =
 pub cut_after_paste : CutAfterPaste
 cut_after_paste job paste n rows fields selected only delimiters terminator apart are =
     let all = recursion_from_All _ rows are in
-    rw (delimiters, terminator) (rw (lines-unlines job.terminator _ (rows_are_lines job.delimiter job.terminator n apart rows all))
+    rw (delimiters, terminator) (rw (lines-unlines job.terminator _
+    (rows_are_lines job.delimiter job.terminator n apart rows all))
     (ap (unlines job.terminator) (columns_of_rows job n fields selected only rows all)))

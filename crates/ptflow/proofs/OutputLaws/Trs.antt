@@ -1,8 +1,7 @@
 -- Theorems about the output of `tr` for plans of one or two arrays: what the tables of a plan have for each byte.
 use Rattle.ptflow.proofs
 use Rattle.ptflow.specs
-use Rattle.std.proofs.Common.{◌≡◌, ℕ, ◌<◌, Bool, false, List, [], ◌∷◌, refl, ◌∙◌, arith}
-use Rattle.std.proofs.Common.{map, filter, not, get_or, None}
+use Rattle.std.proofs.Common.{◌≡◌, ℕ, ◌<◌, Bool, false, List, [], ◌∷◌, refl, ◌∙◌, arith, map, filter, not, get_or, None}
 use Rattle.std.specs.List.{AllByRecursion}
 use Rattle.std.proofs.lemmas.List.Elements.{recursion_from_All}
 use Rattle.std.proofs.lemmas.List.{length-map}
@@ -39,7 +38,13 @@ deletion : (t : Tables) (keeps : ℕ → Bool) → ((b : ℕ) → b < 256 → de
     → ((b : ℕ) → b < 256 → image t b ≡ b) → (bytes : List ℕ) → AllByRecursion (λ b. b < 256) bytes
     → translation t bytes ≡ filter keeps bytes
 deletion t keeps same own [] low = refl
-deletion t keeps same own (b ∷ bytes) (here, more) = grind (arith, same b here, own b here, deletion t keeps same own bytes more)
+deletion t keeps same own (b ∷ bytes) (here, more) = grind (
+  arith,
+  same b here,
+  own b here,
+  deletion t keeps same own
+      bytes more,
+)
 
 own_image : (plan : Plan) → plan.from ≡ [] → plan.to ≡ [] → (b : ℕ) → b < 256 → image (tables plan) b ≡ b
 own_image plan f t b low = table_at (image_of plan) b 0 low ∙ rw f refl
@@ -59,5 +64,6 @@ deleted_or_kept array bytes low =
       unsqueezed (tables deletes) bytes (squeezes_none deletes refl)
           ∙ deletion (tables deletes) _ (not_in_table deletes array refl) (own_image deletes refl refl) bytes all,
       unsqueezed (tables keeps) bytes (squeezes_none keeps refl)
-          ∙ deletion (tables keeps) (λ b. has_byte b array) (λ b l. is_in_table keeps b l ∙ has_byte-complement array b l) (own_image keeps refl refl) bytes all,
+          ∙ deletion (tables keeps) (λ b. has_byte b array) (λ b l. is_in_table keeps b l ∙ has_byte-complement array b
+          l) (own_image keeps refl refl) bytes all,
     )

@@ -2,8 +2,7 @@
 -- its key, so adjacent runs have different keys, and the first lines of the runs are runs of their own.
 use Rattle.ptflow.proofs
 use Rattle.ptflow.specs
-use Rattle.std.proofs.Common.{◌≡◌, ℕ, ◌+◌, ◌<◌, true, false, List, [], ◌∷◌, ◌++◌, refl, ap, ◌∙◌, arith}
-use Rattle.std.proofs.Common.{map}
+use Rattle.std.proofs.Common.{◌≡◌, ℕ, ◌+◌, ◌<◌, true, false, List, [], ◌∷◌, ◌++◌, refl, ap, ◌∙◌, arith, map}
 use Rattle.std.specs.Prelude.{All, sum_by, if◌then◌else◌}
 use Rattle.std.specs.List.{AllByRecursion, flat_map}
 use Rattle.std.proofs.lemmas.List.Sums.{sum_by-cons}
@@ -108,11 +107,14 @@ of_first : (P : List ℕ → Type 0) (rs : List Run) → AreLinesIn P rs → All
 of_first P [] a = tt
 of_first P (run ∷ rs) (here, more) = (here, of_first P rs more)
 
-first_twice : (job : Uniq) (ls : List (List ℕ)) → first_lines (runs job (first_lines (runs job ls))) ≡ first_lines (runs job ls)
-first_twice job ls = ap first_lines (runs_of_first job (runs job ls) (runs_alternate job ls)) ∙ first_of_alone (runs job ls)
+first_twice : (job : Uniq) (ls : List (List ℕ)) → first_lines (runs job (first_lines (runs job ls))) ≡ first_lines
+    (runs job ls)
+first_twice job ls = ap first_lines (runs_of_first job (runs job ls) (runs_alternate job ls)) ∙ first_of_alone
+    (runs job ls)
 
 pub uniq_twice : UniqTwice
 uniq_twice job bytes all =
     let kept = runs_keep job (IsLine job.terminator) (lines job.terminator bytes) (lines_are job.terminator bytes) in
-    let again = lines-unlines job.terminator _ (of_first (IsLine job.terminator) (runs job (lines job.terminator bytes)) kept) in
+    let again = lines-unlines job.terminator _ (of_first (IsLine job.terminator) (runs job (lines job.terminator bytes))
+    kept) in
     rw all (rw again (ap (unlines job.terminator) (first_twice job (lines job.terminator bytes))))

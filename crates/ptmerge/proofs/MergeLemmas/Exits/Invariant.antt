@@ -41,7 +41,7 @@ is_greater = grind arith
 pub same_bytes : {a b : List ℕ} → a ≡ b → bytes_eq a b ≡ true
 same_bytes = search rules
 
-not_same : (a b : List ℕ) → (a ≡ b → ⊥) → bytes_eq a b ≡ false
+pub not_same : (a b : List ℕ) → (a ≡ b → ⊥) → bytes_eq a b ≡ false
 not_same a b n = grind (arith, bytes_decides a b)
 
 module _ (cmp : Cmp) (o : IsKeyOrder cmp) where
@@ -261,7 +261,7 @@ pub record IsProcessedPrefix (cmp : Cmp) (key : Key) (ls p : Lines) (b : Bound) 
 abbrev pub all_keys : List ℕ → Bool
 all_keys k = true
 
-filter_all : (w : List ℕ → Bool) (ks : Lines) → Each (λ k. w k ≡ true) ks → filter w ks ≡ ks
+pub filter_all : (w : List ℕ → Bool) (ks : Lines) → Each (λ k. w k ≡ true) ks → filter w ks ≡ ks
 filter_all w [] e = refl
 filter_all w (k ∷ ks) (here, more) = cc (filter_all w ks more)
 
@@ -283,7 +283,7 @@ module _ (cmp : Cmp) (o : IsKeyOrder cmp) where
   ascends_insert k (x ∷ xs) (above, more) =
       grind (arith, Each-weaker, Each-insert, less_flips, ascends_insert k xs more)
 
-  ascends_distinct : (ks : Lines) → Ascends cmp (distinct_keys cmp ks)
+  pub ascends_distinct : (ks : Lines) → Ascends cmp (distinct_keys cmp ks)
   ascends_distinct [] = tt
   ascends_distinct (k ∷ ks) = ascends_insert k _ (ascends_distinct ks)
 

@@ -1,0 +1,6 @@
+use Rattle.ptmerge.proofs
+use proofs.OutputLaws.Counts.{comm_shares_first}
+use proofs.laws.comm_shares_first.Goals as goal
+
+pub returns : goal.returns
+returns c = comm_shares_first

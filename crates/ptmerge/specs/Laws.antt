@@ -1,0 +1,2 @@
+-- Theorems about the definitions, which public functions state.
+pub mod Outputs
