@@ -5,9 +5,9 @@
 
 What the definitions give for words and inputs is computed: output, messages, status, and the bounds of the store. It
 has to be what the definitions in Python give (tools/compare/model.py), and what the program and, where POSIX decides,
-the system's tools write. There are COUNT random commands, COUNT with parts of their inputs for what is decided by them,
-the worked examples in examples.py, and those of the standard. Only definitions are checked, in a crate of their own:
-none of the program is proved. The status is 1 if something differs."""
+the system's tools write. There are COUNT random commands; a quarter as many with parts of their inputs, for what is
+decided by them; the worked examples in examples.py; and those of the standard. Only definitions are checked, in a crate
+of their own: none of the program is proved. The status is 1 if something differs."""
 import argparse
 import os
 import shutil
@@ -43,7 +43,7 @@ def evaluate(given, room):
     """Writes the crate and its lemmas into a folder, checks them, and returns the exit status."""
     crate = write_crate(Specs(), [root_of(root) for root in ROOTS], room)
     others = Others(given.program and os.path.abspath(given.program), room)
-    partial = given.count if given.partial is None else given.partial
+    partial = given.count // 4 if given.partial is None else given.partial
     lemmas, differences = all_lemmas(given.seed, given.count, partial, others)
     lemmas.write(crate)
     return report(lemmas, others, differences, *check(crate))

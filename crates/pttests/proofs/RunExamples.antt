@@ -135,6 +135,14 @@ last_run_is_undecided : map (λ (example : List (List ℕ)
 unfolding digits
 last_run_is_undecided = refl
 
+-- The status is 0 without a message, also if nothing is written; and with a message it is not, also if something is.
+silent_without_output : outcome (words "uniq -d") (input (codes "a\n")) ≡ writes []
+silent_without_output = refl
+
+message_beside_output : outcome (words "cut -c 1 f g") (Some [] ∷ Some (codes "ab\n") ∷ None ∷ [])
+    ≡ record { out = codes "a\n"; messages = codes "cut: g: cannot be opened\n"; status = 1 }
+message_beside_output = refl
+
 -- at most twice the longest line is held
 memory_bound_of_uniq : (spec_of_args (words "uniq")).memory_bound (Some (codes "abc\nd\n") ∷ []) ≡ 6
 memory_bound_of_uniq = refl
