@@ -21,7 +21,11 @@ from specs import Specs, is_of_code, line_count, root_of
 PAGE = f"{TOP}/docs/PROMISE.md"
 WIDTH = 128
 # The contracts of a whole run: the file of the code, and the name of the function.
-CONTRACTS = [("crates/ptrun/src/running.rt", "run"), ("crates/ptext/src/files.rt", "perform")]
+CONTRACTS = [
+    ("crates/ptrun/src/running.rt", "run"),
+    ("crates/ptfiles/src/shell.rt", "run_over_files"),
+    ("crates/ptext/src/perform.rt", "perform"),
+]
 # What the page shows: the specification that words have, and the messages of a run without a failure.
 SHOWN = [root_of("ptrun.SpecOfArgs.spec_of_args"), root_of("ptrun.CommandSpec.messages")]
 # The sections of the page: a title, a sentence, the modules, and the definition whose lines the table counts.

@@ -4,7 +4,7 @@ import re
 from typing import NamedTuple
 
 TOP = os.path.dirname(os.path.dirname(os.path.dirname(os.path.realpath(__file__))))
-LIBRARIES = ["ptlines", "ptlangs", "ptopts", "ptflow", "ptmerge", "ptrun", "ptext"]
+LIBRARIES = ["ptlines", "ptlangs", "ptopts", "ptflow", "ptmerge", "ptrun", "ptfiles", "ptext"]
 HEADING = "-- ---- "
 NAME = r"[^\s(){}\[\],;]+"
 
