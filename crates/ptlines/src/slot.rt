@@ -85,10 +85,15 @@ impl<A: Allocator + Copy> Slot<A> {
         let from = self.size;
         let to = from + bytes.len();
         if to + 64 > self.buffer.len() {
-            // The buffer grows by the length of `bytes`. The values of the new bytes do not matter.
-            self.buffer.extend_from_slice(bytes)?;
+            let missing = to + 64 - self.buffer.len();
+            self.buffer.reserve(missing)?;
+            // There is room now, so none of these calls fails.
+            self.buffer.truncate(from);
+            let _ = self.buffer.extend_from_slice(bytes);
+            let _ = self.buffer.resize(to + 64, 0);
+        } else {
+            self.buffer[from..to].copy_from_slice(bytes);
         }
-        self.buffer[from..to].copy_from_slice(bytes);
         self.size = to;
         Ok(())
     }
