@@ -39,7 +39,7 @@ if [ "$built" = "$PWD/build" ]; then
     at uninstall
     is "nothing is left" "" "$(ls -A "$room/a b")"
     if [ -e /usr/lib/python3/dist-packages/setuptools ] && [ -e /usr/lib/python3/dist-packages/wheel ]; then
-        make -s python >"$room/said" || cat "$room/said"
+        make -s python >"$room/said" 2>&1 || cat "$room/said"
         # (A wheel is an archive of what is installed.)
         /usr/bin/python3 -m zipfile -e build/dist/ptext-*.whl "$room/wheel"
         is "the wheel" "a c" "$(cd "$room/wheel" && echo 'a b c' | /usr/bin/python3 -m ptext cut -d ' ' -f 1,3)"
