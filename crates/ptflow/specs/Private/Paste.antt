@@ -7,4 +7,3 @@ pub mod SerialRest
 pub mod TakenLines
 pub mod RowCells
 pub mod BufferedRows
-pub mod Segments

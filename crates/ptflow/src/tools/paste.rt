@@ -13,7 +13,6 @@ ghost use Rattle.ptflow.specs.Private.Paste.RowCells.{after_cell, begun_in, job_
 
 mod buffered_rows;
 mod row;
-mod segments;
 pub(crate) mod serial;
 mod shared_input;
 
