@@ -30,6 +30,7 @@ impl<'a> Files for NamedFiles<'a> {
     ghost use Rattle.ptfakes.specs.FakeSource.{source_state};
 
     type Input = ChunkedSource<'a>;
+
     type Output = VecSink;
 
     ghost state = { λ s. record {

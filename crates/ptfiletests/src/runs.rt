@@ -6,10 +6,7 @@ use ptfiles::{FilesReport, Streams, run_over_files};
 use std::alloc::Global;
 use std::process::Abort;
 
-const FILES: &[(&str, &[u8])] = &[
-    ("f", b"a 1\nb 2\nb 2\n"),
-    ("g", b"b 3\nc 4\n"),
-];
+const FILES: &[(&str, &[u8])] = &[("f", b"a 1\nb 2\nb 2\n"), ("g", b"b 3\nc 4\n")];
 
 type Run = FilesReport<VecSink, VecSink, VecSink>;
 
