@@ -21,6 +21,7 @@
 #                           with a model in Python, the system's tools, and the built program if there is one
 # make docs                 writes docs/PROMISE.md, the page of the definitions, from crates/*/specs
 # make install PREFIX=..    installs the program, its pages and completion into PREFIX (/usr/local), below DESTDIR
+#                           (build/ptext-static if `make static` made it of build/ptext as it is, unless STATIC=no)
 # make install-tools        adds PREFIX/libexec/ptext/bin with each tool by its own name, a folder to put into PATH
 # make uninstall PREFIX=..  takes away exactly what these two and install-lib installed
 # make dist                 build/dist: an archive of the source, one of the program, and their checksums. All has to be
@@ -43,8 +44,11 @@ datadir = $(PREFIX)/share
 mandir = $(datadir)/man
 # The command that puts the program in its place, as `install`. Without one it is stripped, if there is strip.
 INSTALL_PROGRAM =
+# With `no`, build/ptext is installed even if there is a build/ptext-static.
+STATIC =
 INSTALL_TO = "$(PREFIX)" "$(DESTDIR)" bindir="$(bindir)" libexecdir="$(libexecdir)" datadir="$(datadir)" \
-    mandir="$(mandir)" libdir="$(libdir)" includedir="$(includedir)" INSTALL_PROGRAM="$(INSTALL_PROGRAM)"
+    mandir="$(mandir)" libdir="$(libdir)" includedir="$(includedir)" INSTALL_PROGRAM="$(INSTALL_PROGRAM)" \
+    STATIC="$(STATIC)"
 N ?= 1000
 PROGRAM ?= build/ptext
 # The files from which the program and the library are built.

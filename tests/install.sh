@@ -89,8 +89,8 @@ rmdir "$top/build/rooted"
 # Each says what it did, in one line.
 mkdir "$room/said.here"
 is "what install says" \
-    "installed in $room/said.here: bin/ptext, 8 pages in share/man, completion for bash, zsh and fish, share/ptext/cut_at_keys.sh" \
-    "$(make -s -C "$top" install PREFIX="$room/said.here" DESTDIR=)"
+    "installed in $room/said.here: bin/ptext (of build/ptext), 8 pages in share/man, completion for bash, zsh and fish, share/ptext/cut_at_keys.sh" \
+    "$(make -s -C "$top" install PREFIX="$room/said.here" DESTDIR= STATIC=no)"
 is "what install-tools says" \
     "to complete them in bash, ~/.bash_completion needs: . $room/said.here/share/bash-completion/completions/ptext-tools
 installed in $room/said.here/libexec/ptext/bin: cut, paste, join, comm, uniq, tr" \
@@ -117,9 +117,10 @@ is "nothing is left of it" "" "$(ls -Ad "$room/a b" 2>/dev/null)"
 
 # The folders and the command that other projects let one choose too.
 mkdir "$room/parts.of"
-set -- prefix=/usr bindir=/usr/progs libexecdir=/usr/lib datadir=/opt/data mandir=/usr/man DESTDIR="$room/parts.of"
-is "what install says of other folders" "installed in $room/parts.of/usr: progs/ptext, 8 pages in man, completion for \
-bash, zsh and fish, $room/parts.of/opt/data/ptext/cut_at_keys.sh" \
+set -- prefix=/usr bindir=/usr/progs libexecdir=/usr/lib datadir=/opt/data mandir=/usr/man DESTDIR="$room/parts.of" \
+    STATIC=no
+is "what install says of other folders" "installed in $room/parts.of/usr: progs/ptext (of build/ptext), 8 pages in \
+man, completion for bash, zsh and fish, $room/parts.of/opt/data/ptext/cut_at_keys.sh" \
     "$(make -s -C "$top" install "$@" INSTALL_PROGRAM='install -m 511')"
 install install-tools "$@" INSTALL_PROGRAM='install -m 511'
 is "the mode of INSTALL_PROGRAM" 511 "$(stat -c %a "$room/parts.of/usr/progs/ptext")"
@@ -135,6 +136,31 @@ is "an empty folder" "mandir is empty. Nothing was done." \
     "$(fails install prefix=/usr DESTDIR="$room/parts.of" mandir=)"
 is "nothing is left of both" "" "$(ls -A "$room/parts.of")"
 set --
+
+# The program without shared libraries is taken if it is not older than the other one, unless STATIC=no. (Here it is the
+# other one with one more line.)
+if [ -f /usr/share/common-licenses/LGPL-2.1 ]; then
+    mkdir -p "$room/tree/build" "$room/static"
+    tar -C "$top" -cf - --exclude='crates/*/out' Makefile VERSION HANDLES crates.txt crates man completion tools |
+        tar -xf - -C "$room/tree"
+    cp "$top/build/ptext" "$room/tree/build/ptext"
+    { cat "$top/build/ptext" && echo; } >"$room/tree/build/ptext-static"
+    set -- PTEXT_AS_BUILT=yes PREFIX="$room/static" DESTDIR= INSTALL_PROGRAM='install -m 755'
+    for wanted in static-yes dynamic-no dynamic-; do
+        make -s -C "$room/tree" install "$@" STATIC="${wanted#*-}" >"$room/said"
+        [ "${wanted%-*}" = static ] && other=-static || other=
+        is "the program that is taken ($wanted)" same \
+            "$(cmp -s "$room/tree/build/ptext$other" "$room/static/bin/ptext" && echo same)"
+        is "it says which ($wanted)" 1 "$(grep -c "bin/ptext (of build/ptext$other[),]" "$room/said")"
+        [ "$other" = "" ] ||
+            is "the license of its C library" yes \
+                "$(grep -q 'GNU LESSER GENERAL' "$room/static/share/ptext/NOTICES" && echo yes)"
+        make -s -C "$room/tree" uninstall PREFIX="$room/static" DESTDIR= >/dev/null
+        is "nothing is left of it ($wanted)" "" "$(ls -A "$room/static")"
+        touch -d 2001-01-01 "$room/tree/build/ptext-static"
+    done
+    set --
+fi
 
 # As root, an installation proves nothing: it says what to do first.
 if [ "$(id -u)" = 0 ]; then

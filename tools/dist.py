@@ -30,7 +30,8 @@ import tempfile
 
 sys.dont_write_bytecode = True
 
-from install import call_git, find_source_id, list_files, list_files_of_tools, read_bytes, read_lines
+from install import LGPL, call_git, find_source_id, list_files, list_files_of_tools, make_notice_of_c_library
+from install import read_bytes, read_lines
 from project import ARCHIVES, TOP, Failed, find_kit, read_version, run_script
 
 VERSION = read_version()
@@ -81,8 +82,6 @@ that library, in this folder:
 
     gcc -static -s -o ../bin/ptext ptext.o {archives}
 """
-# The license of the C library, where Debian keeps it.
-LGPL = "/usr/share/common-licenses/LGPL-2.1"
 
 
 def make_script(_, name):
@@ -246,12 +245,7 @@ def make_static(folder):
         raise Failed(f"there is no {lacking[0]} (make static builds the program). No archive was made.")
     kit, commit = find_kit(), find_commit(find_changes(make_source_members()))
     named = f"ptext-{VERSION}-linux-x86_64-static"
-    notices = (
-        b"\nFiles: bin/ptext\nCopyright: the contributors of the GNU C Library\nLicense: LGPL-2.1+\n"
-        + b"Comment: The program is linked with the static C library of Debian (libc6-dev).\n"
-        + b" relink/ has what is needed to link it with another. The license follows.\n\n"
-        + read_bytes(LGPL)
-    )
+    notices = b"\n" + make_notice_of_c_library("relink/ has what is needed to link it with another.")
     links = [f"{TOP}/build/ptext.o", *(f"{kit}/{name}" for name in ARCHIVES)]
     members = [
         *make_program_members(commit, read_bytes(f"{TOP}/build/ptext-static"), notices),

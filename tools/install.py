@@ -11,6 +11,9 @@ The names are those of other projects: bindir (PREFIX/bin), libexecdir (PREFIX/l
 (datadir/man), libdir (PREFIX/lib), includedir (PREFIX/include) and INSTALL_PROGRAM, the command that puts the program
 in its place (without one, it is stripped).
 
+The program is build/ptext-static, which starts faster, if `make static` made it of build/ptext as it is, and otherwise
+build/ptext. With STATIC=no it is build/ptext in any case.
+
 Each file and each folder that was made is noted in datadir/ptext/installed. Every path that is written to begins with
 DESTDIR, but no file contains it. If something cannot be written, the earlier state is restored.
 """
@@ -44,7 +47,11 @@ OTHERS_OF_TOOLS = [
     ("zsh/site-functions/_ptext_tools", 0o644, "completion/_ptext_tools"),
     *((f"fish/vendor_completions.d/{name}.fish", 0o644, "completion/ptext-tools.fish") for name in NAMES),
 ]
-VARIABLES = ("bindir", "libexecdir", "datadir", "mandir", "libdir", "includedir", "INSTALL_PROGRAM")
+VARIABLES = ("bindir", "libexecdir", "datadir", "mandir", "libdir", "includedir", "INSTALL_PROGRAM", "STATIC")
+# The program that needs the system's C library, and the one that contains one.
+DYNAMIC, STATIC = f"{TOP}/build/ptext", f"{TOP}/build/ptext-static"
+# The license of the C library, where Debian keeps it.
+LGPL = "/usr/share/common-licenses/LGPL-2.1"
 
 
 def read_bytes(file):
@@ -63,6 +70,24 @@ def strip_program(program):
     with tempfile.TemporaryDirectory() as room:
         did = subprocess.run(["strip", "-o", f"{room}/program", program], check=False)
         return read_bytes(program if did.returncode else f"{room}/program")
+
+
+def find_program(given):
+    """The program to install: the static one if there is one of build/ptext as it is, and the license of the C library
+    that it contains is there too."""
+    if given == "no" or not all(os.path.isfile(path) for path in (DYNAMIC, STATIC, LGPL)):
+        return DYNAMIC
+    return STATIC if os.path.getmtime(STATIC) >= os.path.getmtime(DYNAMIC) else DYNAMIC
+
+
+def make_notice_of_c_library(relinked):
+    """The notice that goes with the static program, whose C library can be replaced as this text says."""
+    return (
+        b"Files: bin/ptext\nCopyright: the contributors of the GNU C Library\nLicense: LGPL-2.1+\n"
+        b"Comment: The program is linked with the static C library of Debian (libc6-dev).\n"
+        + f" {relinked} The license follows.\n\n".encode()
+        + read_bytes(LGPL)
+    )
 
 
 def call_git(*words):
@@ -128,8 +153,9 @@ class Place:
         self.prefix = os.path.abspath(prefix)
         self.root = self.destdir + self.prefix
         self.install_program = given.get("INSTALL_PROGRAM", "")
-        given = {name: value for name, value in given.items() if name != "INSTALL_PROGRAM"}
-        self.folders = {it: os.path.abspath(value) for it, value in choose_folders(prefix, given).items()}
+        self.program = find_program(given.get("STATIC"))
+        given = {name: value for name, value in given.items() if name not in ("INSTALL_PROGRAM", "STATIC")}
+        self.folders = {name: os.path.abspath(value) for name, value in choose_folders(prefix, given).items()}
         self.notes = f"{self.destdir}{self.folders['datadir']}/ptext/installed"
         self.noted = read_lines(self.notes)
         # the steps that restore the earlier state, the last one first
@@ -181,7 +207,7 @@ class Place:
             # (A write that fails, as on a full disk, does not name the file itself.)
             raise OSError(why.errno, why.strerror, path if why.filename is None else why.filename) from why
         if self.install_program and path == f"{self.destdir}{self.folders['bindir']}/ptext":
-            did = subprocess.run([*shlex.split(self.install_program), f"{TOP}/build/ptext", new], check=False)
+            did = subprocess.run([*shlex.split(self.install_program), self.program, new], check=False)
             if did.returncode:
                 raise OSError(0, f"{self.install_program} failed", path)
         if os.path.lexists(path):
@@ -214,14 +240,22 @@ def list_pages():
     return sorted([manual.NAME, *(it for it in os.listdir(f"{TOP}/man") if not it.endswith(".3"))])
 
 
-def list_files(where, commit=None):
+def list_files(where, commit=None, program=DYNAMIC):
     """The files to install into these folders: the path, the mode, and the bytes."""
     pages = list_pages()
     return [
-        (f"{where['bindir']}/ptext", 0o755, strip_program(f"{TOP}/build/ptext")),
+        (f"{where['bindir']}/ptext", 0o755, strip_program(program)),
         *((f"{where['mandir']}/man{name[-1]}/{name}", 0o644, make_page(name, commit)) for name in pages),
         *((f"{where['datadir']}/{name}", mode, read_bytes(f"{TOP}/{source}")) for name, mode, source in OTHERS),
     ]
+
+
+def list_files_of_program(where, program):
+    """The files of `make install`, with the license of the C library if the program contains it."""
+    if program != STATIC:
+        return list_files(where)
+    notice = make_notice_of_c_library("The source of ptext links it with another, by `make static`.")
+    return [*list_files(where, program=program), (f"{where['datadir']}/ptext/NOTICES", 0o644, notice)]
 
 
 def list_files_of_tools(where, script_of=make_script, commit=None):
@@ -282,10 +316,13 @@ def describe_folder(place, name):
 
 
 def install(place):
-    put_all(place, list_files)
+    put_all(place, lambda where: list_files_of_program(where, place.program))
+    datadir = describe_folder(place, "datadir")
+    license_at = f", with the license of its C library in {datadir}/ptext/NOTICES" if place.program == STATIC else ""
     print(
-        f"installed in {place.root}: {describe_folder(place, 'bindir')}/ptext, {len(list_pages())} pages in "
-        f"{describe_folder(place, 'mandir')}, completion for bash, zsh and fish, {describe_folder(place, 'datadir')}/ptext/cut_at_keys.sh"
+        f"installed in {place.root}: {describe_folder(place, 'bindir')}/ptext "
+        f"(of {os.path.relpath(place.program, TOP)}{license_at}), {len(list_pages())} pages in "
+        f"{describe_folder(place, 'mandir')}, completion for bash, zsh and fish, {datadir}/ptext/cut_at_keys.sh"
     )
 
 
@@ -332,11 +369,11 @@ def main():
     if len(words) not in (2, 3) or words[0] not in does:
         return __doc__
     for name, value in [("PREFIX", words[1]), *given.items()]:
-        if not value and name != "INSTALL_PROGRAM":
+        if not value and name not in ("INSTALL_PROGRAM", "STATIC"):
             return f"{name} is empty. Nothing was done."
         if value.startswith("~"):
             return f"{name} begins with ~, which the shell did not expand: write $HOME. Nothing was done."
-    if words[0] == "install" and not os.path.isfile(f"{TOP}/build/ptext"):
+    if words[0] == "install" and not os.path.isfile(DYNAMIC):
         return "there is no build/ptext: run make first. Nothing was installed."
     does[words[0]](Place(words[1], (words[2:] or [""])[0], given))
     return 0
