@@ -141,7 +141,7 @@ set --
 # other one with one more line.)
 if [ -f /usr/share/common-licenses/LGPL-2.1 ]; then
     mkdir -p "$room/tree/build" "$room/static"
-    tar -C "$top" -cf - --exclude='crates/*/out' Makefile VERSION HANDLES crates.txt crates man completion tools |
+    tar -C "$top" -cf - --exclude='crates/*/out' Makefile VERSION HANDLES crates.txt crates docs man completion tools |
         tar -xf - -C "$room/tree"
     cp "$top/build/ptext" "$room/tree/build/ptext"
     { cat "$top/build/ptext" && echo; } >"$room/tree/build/ptext-static"
