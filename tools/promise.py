@@ -26,7 +26,7 @@ CONTRACTS = [
     ("crates/ptfiles/src/shell.rt", "run_over_files"),
     ("crates/ptext/src/perform.rt", "perform"),
 ]
-# What the page shows: the specification that words have, and the messages of a run without a failure.
+# The page shows the specification that words have, and the messages of a run without a failure.
 SHOWN = [root_of("ptrun.SpecOfArgs.spec_of_args"), root_of("ptrun.CommandSpec.messages")]
 # The sections of the page: a title, a sentence, the modules, and the definition whose lines the table counts.
 SECTIONS = [
