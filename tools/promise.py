@@ -1,5 +1,5 @@
 #!/usr/bin/env python3
-"""What a reader has to believe: the definitions that the contract of a whole run rests on.
+"""Shows the definitions that the contract of a whole run rests on: all that a reader has to believe.
 
   python3 tools/promise.py            writes those of a command to docs/PROMISE.md, in reading order with their comments
   python3 tools/promise.py --check    fails if that page is not what this would write
@@ -26,7 +26,7 @@ CONTRACTS = [
     ("crates/ptfiles/src/shell.rt", "run_over_files"),
     ("crates/ptext/src/perform.rt", "perform"),
 ]
-# What the page shows: the specification that words have, and the messages of a run without a failure.
+# Roots of the page: the specification that words have, and the messages of a run without a failure.
 SHOWN = [root_of("ptrun.SpecOfArgs.spec_of_args"), root_of("ptrun.CommandSpec.messages")]
 # The sections of the page: a title, a sentence, the modules, and the definition whose lines the table counts.
 SECTIONS = [
@@ -169,7 +169,7 @@ def page():
 
 
 def roots_of_contract(specs, file, name):
-    """What the contract of a public function names: pairs of a module and a name."""
+    """The names in the contract of a public function: pairs of a module and a name."""
     with open(f"{TOP}/{file}", encoding="utf-8") as code:
         text = code.read()
     imports = {}
