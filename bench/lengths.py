@@ -156,14 +156,10 @@ def data(rows):
 
 
 def table(rows):
-    """Ratio, and instructions a line behind it, of each command and length; then the means of the tools."""
+    """The ratios of each command and length; then the means of the tools."""
     text = ["| command | " + " | ".join(f"{it:,}" for it in LENGTHS) + " |", "|---" * (len(LENGTHS) + 1) + "|"]
     for words in dict.fromkeys(row[1] for row in rows):
-        cells = [
-            f"{row[3] / row[4]:.2f}" + ("" if row[5] is None else f" ({row[5]:,.0f})")
-            for row in rows
-            if row[1] == words
-        ]
+        cells = [f"{row[3] / row[4]:.2f}" for row in rows if row[1] == words]
         text.append(f"| `{words}` | " + " | ".join(cells) + " |")
     for tool, means in means_of(rows).items():
         text.append(f"| **{tool}**, geometric mean | " + " | ".join(f"**{means[it]:.2f}**" for it in LENGTHS) + " |")
@@ -187,7 +183,7 @@ def run(folder, ptext, other, quick, to):
     rows = measured(folder, ptext, other, quick)
     part = 10 if quick else 1
     said = (
-        "Ratios by the bytes of a line, without its newline, and in brackets the instructions of `ptext` a line.\n"
+        "Ratios by the bytes of a line, without its newline; speed.tsv has the instructions of `ptext` a line, too.\n"
         f"{'Each command once' if quick else f'The best of {RUNS} runs'}, over {(SIZE >> 20) / part:g} MB (`join` "
         f"and `comm` over at most {LINES // part:,} lines), on {os.cpu_count()} processors; other work on the machine "
         f"at the start: {load:.1f} of them.\n"

@@ -161,7 +161,7 @@ class Specs:
         return path, name
 
     def uses(self, path, definition):
-        """What a definition names: (module, name), with the local name; those of the code too."""
+        """The names in a definition: (module, name), with the local name; those of the code too."""
         module = self.module(path)
         for name in set().union(*(names_in(block) for block in definition.blocks)):
             if name in module.named and module.named[name] is not definition:
@@ -176,7 +176,7 @@ class Specs:
                     yield name, (module.aliases[alias], member.split(".")[0])
 
     def rest(self, roots):
-        """What definitions rest on, themselves included: for each module the definitions that are needed, and the types
+        """The definitions that some rest on, themselves included: for each module those that are needed, and the types
         of the code. A root is a pair of a module and a name."""
         needed, types, left = {}, set(), list(roots)
         while left:
