@@ -19,7 +19,7 @@ use std::fs::Files;
 
 /// Parses the words and runs the command over the files of the system, as `run_over_files` does.
 ///
-/// The files that the words name are opened in their order, each once, before anything is read. The output file of
+/// The files that the words name are opened in their order, each once, before the command is run. The output file of
 /// `uniq` is created, or emptied, after its input was opened; if the input cannot be opened or the words are not valid,
 /// it is not created and nothing is written. `out` is returned unchanged unless the words mean a command that writes to
 /// standard output. `standard` must have neither reached its end nor failed, and neither sink may have failed.

@@ -161,6 +161,7 @@ module _ (words : List (List ℕ)) (b : Before) (a : After) {Unused : Type 0} {f
   has_run : HasRunOver words old new (record b { files = files }) a Unused → RunOverFilesPost words b a Unused
   has_run ran = let h : HasRun words b a Unused = record {
     inputs = opened.inputs;
+    are_new = opened.are_new;
     contents = opened.contents;
     new = new;
     ran = rw (opened.readers_are, opened.opened) at ran;
@@ -177,6 +178,7 @@ module _ (words : List (List ℕ)) (b : Before) (a : After) {Unused : Type 0} {f
   not_created : IsNotCreated words old (record b { files = files }) a Unused → RunOverFilesPost words b a Unused
   not_created n = inr (inl (record {
     inputs = opened.inputs;
+    are_new = opened.are_new;
     contents = opened.contents;
     not_created = rw (opened.readers_are, opened.opened) at n;
   }))

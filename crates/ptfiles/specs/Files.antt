@@ -29,7 +29,8 @@ pub record FilesState : Type 0 where
   -- the names that were created so far, in order, and what each call returned
   pub created : List (List ℕ)
   pub outputs : List Output
-  -- the file that is opened by a name after a number of others; `None` if nothing is known of it, as of a real file
+  -- the content of a file, by the number of files that were opened before it, and by its name; `None` if nothing is known
+  -- of it, as of a real file
   pub content : ℕ → List ℕ → Option Content
 
 -- the source of these bytes, none of which was read yet

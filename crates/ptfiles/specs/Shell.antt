@@ -118,6 +118,7 @@ pub record HasRunOver (words : List (List ℕ)) (old new : List Reader) (b : Bef
 -- returned. No other file was opened; none if the words are not valid.
 pub record HasRun (words : List (List ℕ)) (b : Before) (a : After) (Unused : Type 0) : Type 0 where
   pub inputs : List Input
+  pub are_new : All IsNewInput inputs
   pub contents : AreContents b.files.content (length b.files.opened)
       (input_names (command_to_run words a.out_of_memory)) inputs
   -- the readers after the run
@@ -167,6 +168,7 @@ pub record IsNotCreated (words : List (List ℕ)) (old : List Reader) (b : Befor
 -- The inputs that the words name were opened, but the output file could not be created.
 pub record IsOutputUnopened (words : List (List ℕ)) (b : Before) (a : After) (Unused : Type 0) : Type 0 where
   pub inputs : List Input
+  pub are_new : All IsNewInput inputs
   pub contents : AreContents b.files.content (length b.files.opened)
       (input_names (command_to_run words a.out_of_memory)) inputs
   pub not_created : IsNotCreated words (new_readers b.standard inputs)

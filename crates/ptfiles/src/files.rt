@@ -4,7 +4,7 @@ ghost use Rattle.ptfiles.specs.Files.{FilesState, OpenPost, CreatePost, opened_s
 
 use ptlines::{Sink, Source};
 
-/// Files under names: those of the system, bytes in memory, or those of a test.
+/// Files under names, such as those of the system.
 pub trait Files {
     /// An opened file to read from.
     type Input: Source;

@@ -1,6 +1,6 @@
 //! From the words of a command, and files under names, to a report: opens the files that the words name, runs the
-//! command over them, and writes its output where the words say. Where the files are is up to the caller, which
-//! implements `Files`: `ptext` opens those of the system, and `ptrunc` has bytes in memory.
+//! command over them, and writes its output where the words say. The files are any that implement `Files`: those of the
+//! system in `ptext`, and bytes in memory in tests.
 #![tactic(auto)]
 
 mod calls;

@@ -22,7 +22,7 @@ pub struct FilesReport<W, F, E> {
 
 impl<W: Sink, F, E: Sink> FilesReport<W, F, E> {
     /// Reports that memory for the list of the inputs could not be allocated.
-    pub fn no_memory(out: W, messages: E) -> Self
+    pub(crate) fn no_memory(out: W, messages: E) -> Self
         requires { (E.state messages).failed ≡ false }
         ensures status { (result.report.status ≡ 1) × (result.out_of_memory ≡ true) }
         ensures memory { (result.report.peak ≡ 0) × (result.report.denied ≡ false) }
@@ -34,7 +34,7 @@ impl<W: Sink, F, E: Sink> FilesReport<W, F, E> {
     }
 
     /// Reports that the output file of `uniq` cannot be created.
-    pub fn not_created(name: &str, out: W, messages: E) -> Self
+    pub(crate) fn not_created(name: &str, out: W, messages: E) -> Self
         requires { (E.state messages).failed ≡ false }
         ensures status { (result.report.status ≡ 1) × (result.out_of_memory ≡ false) }
         ensures memory { (result.report.peak ≡ 0) × (result.report.denied ≡ false) }
@@ -72,7 +72,7 @@ impl<W: Sink, F, E: Sink> FilesReport<W, F, E> {
 
 impl<W, F: Sink, E> FilesReport<W, F, E> {
     /// The report of a run that did not write to standard output, which is `out`.
-    pub fn of_output(report: Report<Output<F>, E>, out: W, out_of_memory: bool) -> Self
+    pub(crate) fn of_output(report: Report<Output<F>, E>, out: W, out_of_memory: bool) -> Self
         ensures status { (result.report.status ≡ report.status) × (result.out_of_memory ≡ out_of_memory) }
         ensures memory { (result.report.peak ≡ report.peak) × (result.report.denied ≡ report.denied) }
         ensures out { (result.report.out ≡ out) × (result.file ≡ file_of_output report.out) }

@@ -21,10 +21,13 @@ use ptopts::{Command, UseFault};
 use ptrun::run_with_store;
 use std::alloc::{AllocError, Allocator};
 
-/// The standard streams of a run: its input, its output and its messages.
+/// The standard streams of a run.
 pub struct Streams<S, W, E> {
+    /// Standard input.
     pub standard: S,
+    /// Standard output.
     pub out: W,
+    /// Standard error, for messages.
     pub messages: E,
 }
 
@@ -47,18 +50,27 @@ pub fn run_over_files<A: Allocator + Copy, F: Files, S: Source, W: Sink, E: Sink
     run_over_files_in_store(alloc, &mut store, files, words, streams)
 }
 
-/// Parses the words and runs the command: opens the files that they name, in order, each once, before anything is read,
-/// and returns the report of the run. A file that cannot be opened is reported by the run when the tool reaches it.
+/// Parses the words and runs the command: opens the files that they name, in order, each once, then runs the command over
+/// them, and returns the report of the run. A file that cannot be opened is reported by the run when the tool reaches it.
 /// If the words are not valid, no file is opened.
 ///
 /// The output file of `uniq` is created after its input was opened. If the input cannot be opened, it is not created.
-/// If it cannot be created, this is reported with status 1, and nothing is read. No other file is created. Standard
-/// output is returned unchanged unless the words mean a command that writes to it. A file that is input and output is
-/// emptied before it is read (POSIX leaves this unspecified).
+/// If it cannot be created, this is reported with status 1, and the command is not run. No other file is created.
+/// Standard output is returned unchanged unless the words mean a command that writes to it. A file that is input and
+/// output is emptied before it is read (POSIX leaves this unspecified).
 ///
 /// The store must never have been used. The peak in the report, and whether memory was denied, are the store's own.
-pub fn run_over_files_in_store<A: Allocator + Copy, F: Files, S: Source, W: Sink, E: Sink>(
-    alloc: A,
+/// `alloc` allocates the lists of the words and of the inputs. It is of a type of its own, so that no other store can be
+/// made here.
+pub fn run_over_files_in_store<
+    A: Allocator + Copy,
+    B: Allocator + Copy,
+    F: Files,
+    S: Source,
+    W: Sink,
+    E: Sink,
+>(
+    alloc: B,
     store: &mut Store<A>,
     files: &mut F,
     words: &[&str],
@@ -147,10 +159,10 @@ enum Destination<'a> {
 }
 
 // Runs a command over its inputs, as `run_over_files` does.
-fn run_over_inputs<A: Allocator + Copy, F: Files, S: Source, W: Sink, E: Sink>(
+fn run_over_inputs<A: Allocator + Copy, B: Allocator + Copy, F: Files, S: Source, W: Sink, E: Sink>(
     store: &mut Store<A>,
     files: &mut F,
-    command: Result<Command<'_, A>, UseFault<'_>>,
+    command: Result<Command<'_, B>, UseFault<'_>>,
     words: &[&str],
     inputs: &mut [LineReader<S, F::Input>],
     sinks: Sinks<W, E>,
