@@ -158,14 +158,10 @@ def format_data(rows):
 
 
 def format_table(rows):
-    """Ratio, and instructions a line behind it, of each command and length; then the means of the tools."""
+    """The ratios of each command and length; then the means of the tools."""
     text = ["| command | " + " | ".join(f"{length:,}" for length in LENGTHS) + " |", "|---" * (len(LENGTHS) + 1) + "|"]
     for words in dict.fromkeys(row[1] for row in rows):
-        cells = [
-            f"{row[3] / row[4]:.2f}" + ("" if row[5] is None else f" ({row[5]:,.0f})")
-            for row in rows
-            if row[1] == words
-        ]
+        cells = [f"{row[3] / row[4]:.2f}" for row in rows if row[1] == words]
         text.append(f"| `{words}` | " + " | ".join(cells) + " |")
     for tool, means in find_means(rows).items():
         cells = [f"**{means[length]:.2f}**" for length in LENGTHS]
@@ -190,7 +186,7 @@ def run(folder, ptext, other, quick, to):
     rows = measure_all(folder, ptext, other, quick)
     part = 10 if quick else 1
     said = (
-        "Ratios by the bytes of a line, without its newline, and in brackets the instructions of `ptext` a line.\n"
+        "Ratios by the bytes of a line, without its newline; speed.tsv has the instructions of `ptext` a line, too.\n"
         f"{'Each command once' if quick else f'The best of {RUNS} runs'}, over {(SIZE >> 20) / part:g} MB (`join` "
         f"and `comm` over at most {LINES // part:,} lines), on {os.cpu_count()} processors; other work on the machine "
         f"at the start: {load:.1f} of them.\n"

@@ -8,8 +8,8 @@
   bench/run.py PTEXT work                  by work (works.py)
 
 Each case gives both the same input, in turn and five times, and the best of each counts. The outputs are compared
-first. Where valgrind is there, the instructions of ptext in user space stand beside the ratio: they are the same on
-every run, which times are not. With --against OTHER the other side is another build of ptext.
+first. Where valgrind is there, the instructions of ptext in user space are counted, too: they are the same on every
+run, which times are not. With --against OTHER the other side is another build of ptext.
 """
 
 import argparse

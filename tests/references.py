@@ -16,7 +16,7 @@ sys.path.insert(0, os.path.join(os.path.dirname(os.path.dirname(os.path.realpath
 from examples import FILES, TOP
 from project import read_text
 
-NAMING = [f"docs/{name}.md" for name in ("proofs", "definitions", "PROVED", "DECISIONS")]
+NAMING = [f"docs/{name}.md" for name in ("proofs", "PROVED", "DECISIONS")]
 
 
 def compare_speed():

@@ -1,5 +1,5 @@
 #!/usr/bin/env python3
-"""What a reader has to believe: the definitions that the contract of a whole run rests on.
+"""Shows the definitions that the contract of a whole run rests on: all that a reader has to believe.
 
   python3 tools/promise.py            writes those of a command to docs/PROMISE.md, in reading order with their comments
   python3 tools/promise.py --check    fails if that page is not what this would write
@@ -27,7 +27,7 @@ CONTRACTS = [
     ("crates/ptfiles/src/shell.rt", "run_over_files"),
     ("crates/ptext/src/perform.rt", "perform"),
 ]
-# What the page shows: the specification that words have, and the messages of a run without a failure.
+# Roots of the page: the specification that words have, and the messages of a run without a failure.
 SHOWN = [parse_root("ptrun.SpecOfArgs.spec_of_args"), parse_root("ptrun.CommandSpec.messages")]
 # The sections of the page: a title, a sentence, the modules, and the definition whose lines the table counts.
 SECTIONS = [
@@ -56,9 +56,21 @@ INTRODUCTION = """\
 This is all that has to be believed of what the tools do: the definitions from which the words of a command line and the
 bytes of its inputs give the output, the messages, the exit status, what is decided by a part of the inputs, and the
 bounds of memory. `ptrun::run` and the program are proved to do what they say; [PROVED.md](PROVED.md) has the contracts.
-[definitions.md](definitions.md) is the introduction, in words. `make docs` writes this page from crates/*/specs, word
-for word, but for `abbrev`, `pub`, imports and line breaks. A type of the code is listed by its variants. What is not
-defined here is of the toolchain's library: operations on lists, options and numbers, as `flat_map` or `slice_split`.
+`make docs` writes this page from crates/*/specs, word for word, but for `abbrev`, `pub`, imports and line breaks. A type
+of the code is listed by its variants. What is not defined here is of the toolchain's library: operations on lists,
+options and numbers, as `flat_map` or `slice_split`.
+
+**In words.** The **terminator** ends a line: newline, or byte 0 with `-z`. What was **received** of an input is the bytes
+that were read of it, and whether its end was reached. An input is **consistent** with that if it begins so, and equals it
+if the end was reached. Output is **decided** by what was received if no consistent input changes it; each tool says how
+much of that it has to write. Of an incomplete line `cut` has to write nothing, and `uniq` nothing of the last **run**, the
+adjacent lines with equal **keys**. `comm` and `join` merge two inputs key by key, and write an **entry** a line; the
+**group** of a key is the second input's lines with it. A **disorder** is the first line of an input whose key comes before
+that of the previous line; if both inputs have one, that with the lesser previous key is reported, or the first input's, and
+no entry of a key after that one is written. The **store** keeps lines in numbered **slots**. A tool of one input is five
+things (`ToolSpec`): output, decided output, bounds on the bytes in its slots and on their number, and terminator. Inputs
+have **positions**: 0 is standard input, i + 1 is file i. Operands are read **one after another** (`cut`, `tr`, `paste -s`),
+or **together** (the others). A file that could not be opened is **unopened**.
 
 `make definitions` has the prover compute them on random commands, and compares the results with the tools of the system
 (where POSIX decides) and with a model in Python. The table counts lines without comments: those of a part, and those of
@@ -158,7 +170,7 @@ def make_page():
 
 
 def find_roots(specs, file, name):
-    """What the contract of a public function names: pairs of a module and a name."""
+    """The names in the contract of a public function: pairs of a module and a name."""
     with open(f"{TOP}/{file}", encoding="utf-8") as code:
         text = code.read()
     imports = {}

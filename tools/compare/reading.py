@@ -1,6 +1,6 @@
 """Command lines by the definitions: which words are refused and with which message, and the meaning of the others.
 
-It was written from docs/definitions.md and the manual pages. It shares nothing with the source or the proofs but the
+It was written from the definitions in words and the manual pages. It shares nothing with the source or the proofs but the
 letters of the options."""
 import re
 

@@ -162,7 +162,7 @@ class Specs:
         return path, name
 
     def find_uses(self, path, definition):
-        """What a definition names: (module, name), with the local name; those of the code too."""
+        """The names in a definition: (module, name), with the local name; those of the code too."""
         module = self.read_module(path)
         for name in set().union(*(find_names(block) for block in definition.blocks)):
             if name in module.named and module.named[name] is not definition:
@@ -177,7 +177,7 @@ class Specs:
                     yield name, (module.aliases[alias], member.split(".")[0])
 
     def find_needed(self, roots):
-        """What definitions rest on, themselves included: for each module the definitions that are needed, and the types
+        """The definitions that some rest on, themselves included: for each module those that are needed, and the types
         of the code. A root is a pair of a module and a name."""
         needed, types, left = {}, set(), list(roots)
         while left:

@@ -1,6 +1,6 @@
 -- The inputs that were opened are new, and have the bytes that are known of their files.
 use Rattle.std.proofs.Common.{◌≡◌, ℕ, zero, suc, ◌+◌, List, [], ◌∷◌, ◌++◌, Option, Some, None, All, ap, sym, ◌∙◌, refl}
-use Rattle.std.proofs.Common.{true, false, arith, length, map, take, get_or, length-append, append_assoc, subst}
+use Rattle.std.proofs.Common.{false, arith, length, map, take, get_or, length-append, append_assoc, subst}
 use Rattle.std.proofs.Common.{◌<◌, ◌≤◌, Bor}
 use Rattle.std.proofs.Math.Seq.{take-length, take-suc}
 use Rattle.std.proofs.lemmas.Bool.{true≢false}
@@ -11,7 +11,7 @@ use Rattle.ptlines.specs.Sources.{SourceState, IsFresh}
 use Rattle.ptopts.specs.View.{words_view}
 use Rattle.ptrun.specs.Files.{AreNewInputs, HasBytes, HasBytesAt, IsNewOrUnopened}
 use Rattle.ptfiles.specs.Files.{AreContents, Content, FilesState, HaveContents, Input, IsContent, IsNewInput, IsShort}
-use Rattle.ptfiles.specs.Files.{OpenPost, new_readers, reader_of_input, source_of, with_opened}
+use Rattle.ptfiles.specs.Files.{OpenPost, new_readers, reader_of_input, source_of}
 use Rattle.ptfiles.specs.Shell.{HaveOpened}
 
 plus_zero : (n : ℕ) → n ≡ n + 0

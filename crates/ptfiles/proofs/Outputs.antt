@@ -1,6 +1,6 @@
 -- A run that is given a file returns a file: no file has the state of a closed sink. And what is said of the state of an
 -- output holds of the file itself.
-use Rattle.std.proofs.Common.{◌≡◌, ℕ, true, false, List, [], ◌∷◌, ◌++◌, Option, Some, None, ap, sym, ◌∙◌, refl, option_map}
+use Rattle.std.proofs.Common.{◌≡◌, ℕ, false, List, [], ◌∷◌, Option, Some, None, ap, sym, ◌∙◌, refl, option_map}
 use Rattle.std.specs.Io.KnownBytes.{append_known}
 use Rattle.ptlines.specs.Readers.{Reader}
 use Rattle.ptlines.specs.Sinks.{SinkState}
@@ -31,7 +31,7 @@ unmark_mark s = λ i. record s { accepted = by_bytes s.accepted i }
 pub marks_are_equal : (a b : SinkState) → mark a ≡ mark b → a ≡ b
 marks_are_equal a b same = sym (unmark_mark a) ∙ ap unmark same ∙ unmark_mark b
 
--- bytes that were added to those of a file behind its mark were added to the file
+-- bytes that were added after those of a file, with its mark before them, were added to the file
 added_to_file : (old new : Option (List ℕ)) (bytes : List ℕ)
     → option_map (λ l. 1 ∷ l) new ≡ append_known (option_map (λ l. 1 ∷ l) old) bytes → new ≡ append_known old bytes
 added_to_file None None bytes is = refl

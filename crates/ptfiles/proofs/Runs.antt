@@ -19,13 +19,12 @@ use Rattle.ptrun.specs.Files.{AreNewInputs}
 use Rattle.ptrun.specs.Runs.{Outcome, IsExactUnlessFailed, IsRunInStore, IsStoreUnchangedIfUnread, IsUnchangedIfUnread}
 use Rattle.ptrun.specs.Runs.{sinks}
 use Rattle.ptrun.specs.SpecOfArgs.{is_memory_fault, file_count, spec_of_args, spec_of_parsed, spec_unless_memory}
-use Rattle.ptfiles.specs.Files.{FilesState, Output, new_readers, with_created}
-use Rattle.ptfiles.specs.Outputs.{closed_state, file_of_output, mark, output_state}
+use Rattle.ptfiles.specs.Files.{FilesState, Output, with_created}
+use Rattle.ptfiles.specs.Outputs.{file_of_output, mark, output_state}
 use Rattle.ptfiles.specs.Shell.{After, Before, HasRun, HasRunOver, HaveOpened, IsDirected, IsNotCreated}
 use Rattle.ptfiles.specs.Shell.{RunOverFilesPost, RunOverInputsPost, command_of_parsed, command_to_run, input_names}
-use Rattle.ptfiles.specs.Shell.{has_standard_output, name_of, output_names, valid_command, before}
+use Rattle.ptfiles.specs.Shell.{has_standard_output, name_of_output, output_names, valid_command, before}
 use Rattle.ptfiles.specs.declared.output.Output.{Output as code_output}
-use Rattle.ptfiles.specs.declared.output.Output.TheVariants.{File}
 use Rattle.ptfiles.proofs.Inputs.{opened_are_new, readers_have_bytes}
 use Rattle.ptfiles.proofs.Outputs.{exact_of_file, file_returned, run_of_file, unread_of_file}
 
@@ -44,7 +43,7 @@ no_output_file None readers standard = refl
 no_output_file (Some command) readers standard = by_output command.output (list_any (λ r. r.refused) readers) standard
   where
     by_output : (output : Option (List ℕ)) (unopened : Bool) → is_none output ≡ true
-        → (if unopened then [] else name_of output) ≡ []
+        → (if unopened then [] else name_of_output output) ≡ []
     by_output output true none = refl
     by_output None false none = refl
     by_output (Some name) false none = absurd (false≢true none)

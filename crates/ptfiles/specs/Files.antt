@@ -1,5 +1,5 @@
 -- The model of `Files`: the names that were opened and created, and what is known of the files.
-use Rattle.std.specs.Prelude.{◌≡◌, ℕ, suc, ◌+◌, ◌^◌, ◌<◌, true, false, List, [], ◌∷◌, ◌++◌, Option, Some, None, ⊤}
+use Rattle.std.specs.Prelude.{◌≡◌, ℕ, suc, ◌^◌, ◌<◌, true, false, List, [], ◌∷◌, ◌++◌, Option, Some, None, ⊤}
 use Rattle.std.specs.Prelude.{length, map, option_map}
 use Rattle.ptlines.specs.Readers.{Reader, new_reader}
 use Rattle.ptlines.specs.Sinks.{SinkState}
@@ -12,11 +12,11 @@ Input = Option SourceState
 abbrev pub Output : Type 0
 Output = Option SinkState
 
-abbrev pub input_state : {I : Type 0} → (I → SourceState) → Option I → Input
-input_state of result = option_map of result
+abbrev pub opened_state : {I : Type 0} → (I → SourceState) → Option I → Input
+opened_state of result = option_map of result
 
-abbrev pub output_state : {O : Type 0} → (O → SinkState) → Option O → Output
-output_state of result = option_map of result
+abbrev pub created_state : {O : Type 0} → (O → SinkState) → Option O → Output
+created_state of result = option_map of result
 
 -- The bytes of a file. `None` is a file that cannot be opened.
 abbrev pub Content : Type 0

@@ -1,5 +1,5 @@
 -- The sink of a command that does not write to standard output.
-use Rattle.std.specs.Prelude.{ℕ, Bool, false, List, [], ◌∷◌, Option, Some, None, option_map}
+use Rattle.std.specs.Prelude.{Bool, false, [], ◌∷◌, Option, Some, None, option_map}
 use Rattle.ptlines.specs.Sinks.{SinkState}
 use Rattle.ptfiles.specs.declared.output.Output.{Output}
 use Rattle.ptfiles.specs.declared.output.Output.TheVariants.{File, Closed}

@@ -1,5 +1,5 @@
 -- The contract of a run over files: which names are opened and created, and the run over them.
-use Rattle.std.specs.Prelude.{◌≡◌, ◌⊎◌, ℕ, ◌^◌, ◌<◌, Bool, true, false, List, [], ◌∷◌, Option, Some, None, Result, Ok, Err}
+use Rattle.std.specs.Prelude.{◌≡◌, ◌⊎◌, ℕ, Bool, true, false, List, [], ◌∷◌, Option, Some, None, Result, Ok, Err}
 use Rattle.std.specs.Prelude.{All, codes, is_none, length, if◌then◌else◌}
 use Rattle.std.specs.List.{list_any}
 use Rattle.ptlines.specs.Readers.{Reader}
@@ -23,7 +23,7 @@ use Rattle.ptfiles.specs.Outputs.{closed_state}
 use Rattle.ptfiles.specs.declared.shell.Destination.{Destination}
 use Rattle.ptfiles.specs.declared.shell.Destination.TheVariants as to
 
--- What a run over files is given: the files, the standard streams, and a store.
+-- The files, the standard streams and the store that a run over files is given.
 pub record Before : Type 0 where
   pub files : FilesState
   pub standard : SourceState
@@ -31,7 +31,7 @@ pub record Before : Type 0 where
   pub messages : SinkState
   pub store : Slots
 
--- What it leaves: the files, the store, the file that was created for the output, whether memory ran out before the
+-- The state after it: the files, the store, the file that was created for the output, whether memory ran out before the
 -- run, and the outcome that is reported.
 pub record After : Type 0 where
   pub files : FilesState
@@ -67,14 +67,14 @@ abbrev pub input_names : Option Command → List (List ℕ)
 input_names None = []
 input_names (Some command) = command.names
 
-abbrev pub name_of : Option (List ℕ) → List (List ℕ)
-name_of None = []
-name_of (Some name) = name ∷ []
+abbrev pub name_of_output : Option (List ℕ) → List (List ℕ)
+name_of_output None = []
+name_of_output (Some name) = name ∷ []
 
 -- the name of the file that is created: the output file, if all inputs were opened
 abbrev pub output_names : Option Command → List Reader → List (List ℕ)
 output_names None readers = []
-output_names (Some command) readers = if list_any (λ r. r.refused) readers then [] else name_of command.output
+output_names (Some command) readers = if list_any (λ r. r.refused) readers then [] else name_of_output command.output
 
 -- the command writes to standard output
 abbrev pub has_standard_output : Option Command → Bool

@@ -1,6 +1,6 @@
 //! The trait `Files` for everything that has files under names.
 
-ghost use Rattle.ptfiles.specs.Files.{FilesState, OpenPost, CreatePost, input_state, output_state};
+ghost use Rattle.ptfiles.specs.Files.{FilesState, OpenPost, CreatePost, opened_state, created_state};
 
 use ptlines::{Sink, Source};
 
@@ -18,9 +18,9 @@ pub trait Files {
 
     /// Opens the file with this name, to read from its beginning. Returns `None` if it cannot be opened.
     fn open(&mut self, name: &str) -> Option<Self::Input>
-        ensures { OpenPost (state self.old) (state self.new) name.now (input_state Self.Input.state result) };
+        ensures { OpenPost (state self.old) (state self.new) name.now (opened_state Self.Input.state result) };
 
     /// Creates the file with this name, or empties it if it exists. Returns `None` if it cannot be written.
     fn create(&mut self, name: &str) -> Option<Self::Output>
-        ensures { CreatePost (state self.old) (state self.new) name.now (output_state Self.Output.state result) };
+        ensures { CreatePost (state self.old) (state self.new) name.now (created_state Self.Output.state result) };
 }

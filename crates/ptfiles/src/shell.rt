@@ -9,7 +9,7 @@ ghost use Rattle.ptopts.specs.View.{words_view, CommandPost, HasToolName};
 ghost use Rattle.ptrun.specs.Files.{AreNewInputs};
 ghost use Rattle.ptrun.specs.Runs.{RunPre, outcome, sinks as run_sinks};
 ghost use Rattle.ptrun.specs.SpecOfArgs.{file_count, is_memory_fault};
-ghost use Rattle.ptfiles.specs.Files.{IsNewInput, input_state, output_state, reader_of_input};
+ghost use Rattle.ptfiles.specs.Files.{IsNewInput, opened_state, created_state, reader_of_input};
 ghost use Rattle.ptfiles.specs.Shell.{RunOverFilesPost, RunOverFilesInOwnStore, RunOverInputsPost, HaveOpened};
 ghost use Rattle.ptfiles.specs.Shell.{IsDestination, before, after, command_of_parsed, input_names};
 
@@ -40,7 +40,7 @@ pub fn run_over_files<A: Allocator + Copy, F: Files, S: Source, W: Sink, E: Sink
     requires messages_writable { (E.state streams.messages).failed ≡ false }
     ensures { RunOverFilesInOwnStore (words_view words.now) (F.state files.old) (F.state files.new)
         (S.state streams.standard) (W.state streams.out) (E.state streams.messages)
-        (output_state F.Output.state result.file) result.out_of_memory (outcome W.state E.state result.report)
+        (created_state F.Output.state result.file) result.out_of_memory (outcome W.state E.state result.report)
         (result.report.out ≡ streams.out) }
 {
     let mut store = Store::empty(alloc);
@@ -68,7 +68,7 @@ pub fn run_over_files_in_store<A: Allocator + Copy, F: Files, S: Source, W: Sink
     requires unused { RunPre store.old (run_sinks (W.state streams.out) (E.state streams.messages)) }
     ensures { RunOverFilesPost (words_view words.now)
         (before (F.state files.old) (S.state streams.standard) (W.state streams.out) (E.state streams.messages) store.old)
-        (after (F.state files.new) store.new (output_state F.Output.state result.file) result.out_of_memory
+        (after (F.state files.new) store.new (created_state F.Output.state result.file) result.out_of_memory
         (outcome W.state E.state result.report)) (result.report.out ≡ streams.out) }
 {
     let Streams {
@@ -130,8 +130,8 @@ fn open_inputs<A: Allocator, F: Files, S: Source>(
 
 // Creates the reader of a file that was opened, or could not be opened.
 fn reader_of<S: Source, R: Source>(input: Option<R>) -> LineReader<S, R>
-    requires { IsNewInput (input_state R.state input) }
-    ensures { result ≡ reader_of_input (input_state R.state input) }
+    requires { IsNewInput (opened_state R.state input) }
+    ensures { result ≡ reader_of_input (opened_state R.state input) }
 {
     match input {
         Some(source) => LineReader::file(source),
@@ -162,7 +162,7 @@ fn run_over_inputs<A: Allocator + Copy, F: Files, S: Source, W: Sink, E: Sink>(
     ensures out_of_memory { result.out_of_memory ≡ is_memory_fault command.entry }
     ensures run { (standard : SourceState) → RunOverInputsPost (words_view words.now) inputs.old inputs.new
         (before (F.state files.old) standard (W.state sinks.out) (E.state sinks.messages) store.old)
-        (after (F.state files.new) store.new (output_state F.Output.state result.file) result.out_of_memory
+        (after (F.state files.new) store.new (created_state F.Output.state result.file) result.out_of_memory
         (outcome W.state E.state result.report)) (result.report.out ≡ sinks.out) }
 {
     let Sinks { out, messages } = sinks;

@@ -1,4 +1,4 @@
-//! What runs over named files write, to standard output, to a file, and as messages.
+//! The output of runs over named files, to standard output and to a file, and their messages.
 
 use crate::named_files::NamedFiles;
 use ptfakes::{ChunkedSource, VecSink};

@@ -1,8 +1,8 @@
 -- The sink of the run is where the words say. A file that is created is the one that they name.
-use Rattle.std.proofs.Common.{false, [], ◌∷◌, Some, inl, inr, refl, sym, ◌∙◌, ap}
+use Rattle.std.proofs.Common.{false, [], inl, inr, refl, sym, ◌∙◌, ap}
 use Rattle.ptopts.specs.View.{words_view}
 use Rattle.ptrun.specs.Runs.{outcome}
-use Rattle.ptfiles.specs.Files.{output_state as returned_state}
+use Rattle.ptfiles.specs.Files.{created_state}
 use Rattle.ptfiles.specs.Outputs.{closed_state, output_state}
 use Rattle.ptfiles.specs.Shell.{command_of_parsed, output_names}
 use Rattle.ptfiles.proofs.Outputs.{no_file_returned}
@@ -36,7 +36,7 @@ returns-in-None-clause-run g c standard =
         status_is = told.status.0;
         no_memory = told.memory;
         store = refl;
-        file = ap (returned_state g.F.Output.Sink.state) told.out.1;
+        file = ap (created_state g.F.Output.Sink.state) told.out.1;
         unused = told.out.0;
       };
     })
@@ -56,9 +56,9 @@ returns-clause-run g c standard =
           (o.memory.0 ∙ r.store.0, o.memory.1 ∙ r.store.1) r.reads_nothing.1 g.F.Output.Sink.state w.in-Some.file
           c.run_with_store-report-2.result.out refl w.in-File.name.now w.in-File.ensures.0 w.in-File.ensures.1
           (rw w.files-is (rw w.in-Some.is at w.create.ensures.created))
-          (ap (returned_state g.F.Output.Sink.state) o.out.1) o.out.0 (rw w.output-is at r.run)
+          (ap (created_state g.F.Output.Sink.state) o.out.1) o.out.0 (rw w.output-is at r.run)
           (λ parsed. rw w.output-is at r.is_exact parsed) (rw w.output-is at r.reads_nothing.0))
-      | in-Nowhere w ↦ let no_file = ap (returned_state g.F.Output.Sink.state) (o.out.1
+      | in-Nowhere w ↦ let no_file = ap (created_state g.F.Output.Sink.state) (o.out.1
           ∙ no_file_returned g.F.Output.Sink.state c.run_with_store-report-2.result.out r.run.run.written
           (rw w.output-is at r.run.run.output)) in inl (ran_over given words c.requires.meant _ _ _ _ _ oom ran same
           (o.memory.0 ∙ r.store.0, o.memory.1 ∙ r.store.1) r.reads_nothing.1 (closed_state false) []
