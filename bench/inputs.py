@@ -15,15 +15,15 @@ DNA = "".join("".join(GIVEN.choices("ACGT", k=60)) + "\n" for _ in range(PIECE))
 BYTES = GIVEN.randbytes(1 << 20).decode("latin-1")
 
 
-def name(number):
+def choose_name(number):
     return NAMES[number % PIECE]
 
 
-def item_line(number):
-    return f"{number * 7919 % 1000003} {name(number)}\n"
+def make_item_line(number):
+    return f"{number * 7919 % 1000003} {choose_name(number)}\n"
 
 
-def log_line(number):
+def make_log_line(number):
     """A line of a log, each a millisecond later."""
     time = f"{number // 3600000:02}:{number // 60000 % 60:02}:{number // 1000 % 60:02}.{number % 1000:03}"
     return (
@@ -32,90 +32,90 @@ def log_line(number):
     )
 
 
-def person_line(number):
-    return f"{number:08} {name(number)} {name(number + 7)} {number * 7919 % 65536}\n"
+def make_person_line(number):
+    return f"{number:08} {choose_name(number)} {choose_name(number + 7)} {number * 7919 % 65536}\n"
 
 
-def comma_line(number):
-    return person_line(number).replace(" ", ",")
+def make_comma_line(number):
+    return make_person_line(number).replace(" ", ",")
 
 
-def third_line(number):
-    return f"{name(number)} {number * 7919 % 65536} {number:08} {name(number + 7)}\n"
+def make_third_line(number):
+    return f"{choose_name(number)} {number * 7919 % 65536} {number:08} {choose_name(number + 7)}\n"
 
 
-def second_line(number):
-    return f"{name(number + 3)} {number:08} {number * 7919 % 65536} {name(number + 5)}\n"
+def make_second_line(number):
+    return f"{choose_name(number + 3)} {number:08} {number * 7919 % 65536} {choose_name(number + 5)}\n"
 
 
-def padded_line(number):
-    return f"{name(number):10}{number * 7919 % 65536:>8}  {name(number + 7):10}{number % 1000:>6}\n"
+def make_padded_line(number):
+    return f"{choose_name(number):10}{number * 7919 % 65536:>8}  {choose_name(number + 7):10}{number % 1000:>6}\n"
 
 
-def repeated(text):
+def repeat_text(text):
     """One file: the text again and again, to the size or a little more."""
     return lambda size: [text * -(-size // len(text))]
 
 
-def lines(line):
-    return repeated("".join(line(number) for number in range(PIECE)))
+def repeat_lines(line):
+    return repeat_text("".join(line(number) for number in range(PIECE)))
 
 
-def item_lines(size, first):
+def make_item_lines(size, first):
     """Lines of 13 bytes in the mean, from this number on."""
-    return "".join(item_line(number) for number in range(first, first + size // 13))
+    return "".join(make_item_line(number) for number in range(first, first + size // 13))
 
 
-def items(count):
+def make_items(count):
     """So many files of as many lines."""
-    return lambda size: [item_lines(size // count, 1000 * number) for number in range(count)]
+    return lambda size: [make_item_lines(size // count, 1000 * number) for number in range(count)]
 
 
-def halving(size):
+def make_halves(size):
     """8 files, of which each is half as long as the one before."""
-    return [item_lines(size >> number, 1000 * number) for number in range(1, 9)]
+    return [make_item_lines(size >> number, 1000 * number) for number in range(1, 9)]
 
 
-def thirds(first, second):
+def make_thirds(first, second):
     """Two files of ascending numbers. The first lacks each third number, and the second another third: half of the
     lines of each have a partner."""
 
-    def made(size):
+    def make(size):
         count = size * 3 // 4 // len(first(123456))
         return [
             "".join(first(number) for number in range(count) if number % 3 != 2),
             "".join(second(number) for number in range(count) if number % 3 != 0),
         ]
 
-    return made
+    return make
 
 
-def one_to_many(size):
+def make_one_to_many(size):
     """Keys of one line in the first file and of 300,000 in the second."""
     group = 300000
-    count = size // len(person_line(123456))
+    count = size // len(make_person_line(123456))
     keys = range(-(-count // group))
-    many = "".join(f"{number // group:08} {name(number)} {number * 7919 % 65536}\n" for number in range(count))
-    return ["".join(person_line(number) for number in keys), many]
+    many = "".join(f"{number // group:08} {choose_name(number)} {number * 7919 % 65536}\n" for number in range(count))
+    return ["".join(make_person_line(number) for number in keys), many]
 
 
 @functools.cache
-def dictionary(count):
+def make_dictionary(count):
     """So many words less those that come twice, in order."""
     given = random.Random(1)
     return sorted({"".join(given.choices(SYLLABLES, k=given.randint(2, 5))) + "\n" for _ in range(count)})
 
 
-def word_lists(size):
+def make_word_lists(size):
     """Two files of words, of half the size, as in `thirds`."""
-    words = dictionary(size // 16)
+    words = make_dictionary(size // 16)
     return [
         "".join(word for number, word in enumerate(words) if number % 3 != 2),
         "".join(word for number, word in enumerate(words) if number % 3 != 0),
     ]
 
 
-def words_of_a_text(size):
+def make_words_of_a_text(size):
     """All words of a text in order: half of the different ones are there once, and few a thousand times."""
     given = random.Random(1)
-    return ["".join(word * min(int(1 / (1 - given.random())), 1000) for word in dictionary(size // 64))]
+    return ["".join(word * min(int(1 / (1 - given.random())), 1000) for word in make_dictionary(size // 64))]

@@ -8,7 +8,7 @@ import shutil
 import statistics
 
 import chart
-from measuring import FILE, OTHER, RUNS, compare, instructions_beyond_none
+from measuring import FILE, OTHER, RUNS, compare, count_beyond_none
 
 LENGTHS = [0, 1, 2, 4, 8, 16, 30, 100, 1000, 10000]
 # The bytes of an input, and of the greater one of two.
@@ -22,26 +22,26 @@ KEY = 8
 
 
 @functools.cache
-def words_of(length):
+def list_words(length):
     """All words of so many letters, in order."""
     return ["".join(letters) for letters in itertools.product(LETTERS, repeat=length)]
 
 
-def word(number, length):
+def make_word(number, length):
     """The number in letters, so that words of one length ascend as their numbers do."""
     if length <= KEY // 2:
-        return words_of(length)[number]
+        return list_words(length)[number]
     first, last = divmod(number, 26 ** (KEY // 2))
-    return words_of(length - KEY // 2)[first] + words_of(KEY // 2)[last]
+    return list_words(length - KEY // 2)[first] + list_words(KEY // 2)[last]
 
 
-def kept(count, lacks):
+def count_kept(count, lacks):
     """How many of the first numbers are left if each third one is taken away, the first of these being `lacks`; all, if
     that is None."""
     return count if lacks is None else count - (count + 2 - lacks) // 3
 
 
-def lines(length, count, lacks, among, separator):
+def make_lines(length, count, lacks, among, separator):
     """Lines for the first numbers, without each third one from `lacks` on. They ascend. Each is a key of up to 8
     letters, and after it fields of 7 letters. There are `among` keys, or all words of so many letters if these are
     fewer; then keys repeat."""
@@ -49,79 +49,81 @@ def lines(length, count, lacks, among, separator):
     rest = ((separator + "xyzxyzx") * (length // 8 + 1))[: length - key] + "\n"
     words = 26**key
     if words >= among:
-        numbers = (it for it in range(count) if lacks is None or it % 3 != lacks)
-        return "".join(word(it * words // among, key) + rest for it in numbers)
+        numbers = (number for number in range(count) if lacks is None or number % 3 != lacks)
+        return "".join(make_word(number * words // among, key) + rest for number in numbers)
     # The numbers at which each word begins, and the one at which the last word ends.
-    ends = [min(-(-it * among // words), count) for it in range(words + 1)]
-    return "".join((word(it, key) + rest) * (kept(ends[it + 1], lacks) - kept(ends[it], lacks)) for it in range(words))
+    ends = [min(-(-index * among // words), count) for index in range(words + 1)]
+    counts = [count_kept(end, lacks) for end in ends]
+    return "".join((make_word(index, key) + rest) * (counts[index + 1] - counts[index]) for index in range(words))
 
 
 @functools.cache
-def in_thirds(kind):
+def make_thirds(kind):
     """The lines of two inputs of one length: of the places of both, the first lacks each third one, and the second
     another third; so half of each is common."""
 
-    def made(length, count, separator):
+    def make(length, count, separator):
         among = count * 3 // 2
-        first = lines(length, among, 2, among, separator)
+        first = make_lines(length, among, 2, among, separator)
         if kind == "both":
-            return first, lines(length, among, 0, among, separator)
+            return first, make_lines(length, among, 0, among, separator)
         # Each key once: a key of the first that is there many times pairs with one line.
         keys = min(among, 26 ** min(length, KEY))
-        return first, lines(length, keys, None if keys == 1 else 0, keys, separator)
+        return first, make_lines(length, keys, None if keys == 1 else 0, keys, separator)
 
-    return made
-
-
-def alone(length, count, separator):
-    return lines(length, count, None, count, separator), ""
+    return make
 
 
-def fields(length, count, separator):
+def make_one(length, count, separator):
+    """One input of such lines. The other one is empty."""
+    return make_lines(length, count, None, count, separator), ""
+
+
+def make_fields(length, count, separator):
     """Lines with a separator as the second byte, and then as each fourth."""
     line = ("a" + (separator + "bcd") * (length // 4 + 1))[:length] + "\n"
     return line * count, ""
 
 
-# Of each tool its commands: what its inputs are made of, and the byte between their fields.
+# Of each tool its commands: what makes its inputs, and the byte between their fields.
 CASES = {
-    "cut": [(alone, " ", ["cut", "-c", "2-4"]), (fields, ",", ["cut", "-d", ",", "-f", "2"])],
+    "cut": [(make_one, " ", ["cut", "-c", "2-4"]), (make_fields, ",", ["cut", "-d", ",", "-f", "2"])],
     "paste": [
-        (alone, " ", ["paste", "-", FILE]),
-        (alone, " ", ["paste", "-", "/dev/null"]),
-        (alone, " ", ["paste", "-", "-", "-"]),
-        (alone, " ", ["paste", "-s", "-"]),
+        (make_one, " ", ["paste", "-", FILE]),
+        (make_one, " ", ["paste", "-", "/dev/null"]),
+        (make_one, " ", ["paste", "-", "-", "-"]),
+        (make_one, " ", ["paste", "-s", "-"]),
     ],
     "join": [
-        (in_thirds("once"), " ", ["join", "-", OTHER]),
-        (in_thirds("once"), " ", ["join", "-a", "1", "-", OTHER]),
-        (in_thirds("once"), ",", ["join", "-t", ",", "-", OTHER]),
+        (make_thirds("once"), " ", ["join", "-", OTHER]),
+        (make_thirds("once"), " ", ["join", "-a", "1", "-", OTHER]),
+        (make_thirds("once"), ",", ["join", "-t", ",", "-", OTHER]),
     ],
-    "comm": [(in_thirds("both"), " ", ["comm", "-", OTHER]), (in_thirds("both"), " ", ["comm", "-12", "-", OTHER])],
-    "uniq": [(alone, " ", ["uniq"]), (alone, " ", ["uniq", "-c"]), (alone, " ", ["uniq", "-f", "1"])],
+    "comm": [(make_thirds("both"), " ", ["comm", "-", OTHER]), (make_thirds("both"), " ", ["comm", "-12", "-", OTHER])],
+    "uniq": [(make_one, " ", ["uniq"]), (make_one, " ", ["uniq", "-c"]), (make_one, " ", ["uniq", "-f", "1"])],
     "tr": [
-        (alone, " ", ["tr", "a-z", "A-Z"]),
-        (alone, " ", ["tr", "-d", "aeiou"]),
-        (alone, " ", ["tr", "-cs", "[:alpha:]", "[\\n*]"]),
+        (make_one, " ", ["tr", "a-z", "A-Z"]),
+        (make_one, " ", ["tr", "-d", "aeiou"]),
+        (make_one, " ", ["tr", "-cs", "[:alpha:]", "[\\n*]"]),
     ],
 }
 
 
-def write(folder, name, text):
+def write_input(folder, name, text):
     path = os.path.join(folder, name)
     with open(path, "w", encoding="ascii") as file:
         file.write(text)
     return path
 
 
-def instructions_a_line(folder, ptext, made, separator, words, length):
+def count_a_line(folder, ptext, make, separator, words, length):
     """Those of a short input, without those of an empty one, for each line of standard input."""
     count = min(COUNTED_LINES, COUNTED_SIZE // (length + 1))
-    paths = [write(folder, f"few{place}", text) for place, text in enumerate(made(length, count, separator))]
-    return instructions_beyond_none(folder, paths, ptext, words) / count
+    paths = [write_input(folder, f"few{place}", text) for place, text in enumerate(make(length, count, separator))]
+    return count_beyond_none(folder, paths, ptext, words) / count
 
 
-def measured(folder, ptext, other, quick):
+def measure_all(folder, ptext, other, quick):
     """A row for each command and length: tool, command, length, seconds of both, instructions of ptext a line."""
     counted = shutil.which("valgrind") is not None
     rows = []
@@ -130,13 +132,13 @@ def measured(folder, ptext, other, quick):
         for tool, cases in CASES.items():
             whole = SIZE // (length + 1)
             count = (min(whole, LINES) if tool in ("join", "comm") else whole) // (10 if quick else 1)
-            for made, separator, words in cases:
-                if (made, separator) not in inputs:
+            for make, separator, words in cases:
+                if (make, separator) not in inputs:
                     place = len(inputs)
-                    texts = made(length, count, separator)
-                    inputs[made, separator] = [write(folder, f"in{place}{it}", text) for it, text in enumerate(texts)]
-                ours, theirs = compare(folder, inputs[made, separator], ptext, other, words, 1 if quick else RUNS)
-                few = instructions_a_line(folder, ptext, made, separator, words, length) if counted else None
+                    texts = enumerate(make(length, count, separator))
+                    inputs[make, separator] = [write_input(folder, f"in{place}{at}", text) for at, text in texts]
+                ours, theirs = compare(folder, inputs[make, separator], ptext, other, words, 1 if quick else RUNS)
+                few = count_a_line(folder, ptext, make, separator, words, length) if counted else None
                 rows.append((tool, " ".join(words), length, ours, theirs, few))
                 said = "" if few is None else f"{few:10.0f} instructions a line"
                 print(
@@ -146,7 +148,7 @@ def measured(folder, ptext, other, quick):
     return rows
 
 
-def data(rows):
+def format_data(rows):
     head = "tool\tcommand\tbytes a line\tptext s\tother s\tratio\tinstructions a line\n"
     texts = []
     for tool, words, length, ours, theirs, few in rows:
@@ -155,18 +157,19 @@ def data(rows):
     return head + "".join(texts)
 
 
-def table(rows):
+def format_table(rows):
     """The ratios of each command and length; then the means of the tools."""
-    text = ["| command | " + " | ".join(f"{it:,}" for it in LENGTHS) + " |", "|---" * (len(LENGTHS) + 1) + "|"]
+    text = ["| command | " + " | ".join(f"{length:,}" for length in LENGTHS) + " |", "|---" * (len(LENGTHS) + 1) + "|"]
     for words in dict.fromkeys(row[1] for row in rows):
         cells = [f"{row[3] / row[4]:.2f}" for row in rows if row[1] == words]
         text.append(f"| `{words}` | " + " | ".join(cells) + " |")
-    for tool, means in means_of(rows).items():
-        text.append(f"| **{tool}**, geometric mean | " + " | ".join(f"**{means[it]:.2f}**" for it in LENGTHS) + " |")
+    for tool, means in find_means(rows).items():
+        cells = [f"**{means[length]:.2f}**" for length in LENGTHS]
+        text.append(f"| **{tool}**, geometric mean | " + " | ".join(cells) + " |")
     return "\n".join(text) + "\n"
 
 
-def means_of(rows):
+def find_means(rows):
     """The geometric mean of the ratios of each tool at each length."""
     return {
         tool: {
@@ -180,7 +183,7 @@ def means_of(rows):
 def run(folder, ptext, other, quick, to):
     """The text and the table for the README; the data and the chart are written."""
     load = os.getloadavg()[0]
-    rows = measured(folder, ptext, other, quick)
+    rows = measure_all(folder, ptext, other, quick)
     part = 10 if quick else 1
     said = (
         "Ratios by the bytes of a line, without its newline; speed.tsv has the instructions of `ptext` a line, too.\n"
@@ -189,7 +192,7 @@ def run(folder, ptext, other, quick, to):
         f"at the start: {load:.1f} of them.\n"
         "`OTHER` is the second input, of lines as long; `FILE` is the first once more.\n\n"
     )
-    write(to, "speed.tsv", data(rows))
+    write_input(to, "speed.tsv", format_data(rows))
     with open(os.path.join(to, "speed.svg"), "w", encoding="utf-8") as file:
-        file.write(chart.drawn(means_of(rows)))
-    return said + table(rows)
+        file.write(chart.draw(find_means(rows)))
+    return said + format_table(rows)

@@ -20,13 +20,14 @@ sys.path[:0] = [f"{TOP}/python", f"{TOP}/tools"]
 os.environ.setdefault("PTEXT_LIBRARY", f"{TOP}/build/libptext.so")
 
 import ptext
+from project import Failed, run_script
 from same import Page
 
 PAGE = f"{TOP}/build/page/ptext.html"
 SIZE, CALLS = 1_000_000, 15
 
 
-def lines_up_to(size, line):
+def make_lines(size, line):
     """Lines of about this many bytes in all."""
     found, length = [], 0
     while length < size:
@@ -35,26 +36,26 @@ def lines_up_to(size, line):
     return b"".join(found)
 
 
-ROWS = lines_up_to(SIZE, lambda i: b"%07d,some,words,%d\n" % (i, i * 7))
-LEFT = lines_up_to(SIZE // 2, lambda i: b"%07d,some words\n" % i)
-RIGHT = lines_up_to(SIZE // 2, lambda i: b"%07d,other words\n" % (2 * i))
-REPEATED = lines_up_to(SIZE, lambda i: b"%07d some words\n" % (i // 3))
+ROWS = make_lines(SIZE, lambda i: b"%07d,some,words,%d\n" % (i, i * 7))
+LEFT = make_lines(SIZE // 2, lambda i: b"%07d,some words\n" % i)
+RIGHT = make_lines(SIZE // 2, lambda i: b"%07d,other words\n" % (2 * i))
+REPEATED = make_lines(SIZE, lambda i: b"%07d some words\n" % (i // 3))
 
 
 def cut_by_split():
-    return b"".join(it.split(b",")[1] + b"\n" for it in ROWS.splitlines())
+    return b"".join(line.split(b",")[1] + b"\n" for line in ROWS.splitlines())
 
 
 def cut_by_csv():
     out = io.StringIO()
     writer = csv.writer(out, lineterminator="\n")
-    writer.writerows([it[1]] for it in csv.reader(io.StringIO(ROWS.decode())))
+    writer.writerows([row[1]] for row in csv.reader(io.StringIO(ROWS.decode())))
     return out.getvalue().encode()
 
 
 def join_by_dict():
-    right = dict(it.split(b",", 1) for it in RIGHT.splitlines())
-    pairs = (it.split(b",", 1) for it in LEFT.splitlines())
+    right = dict(line.split(b",", 1) for line in RIGHT.splitlines())
+    pairs = (line.split(b",", 1) for line in LEFT.splitlines())
     return b"".join(b"%b,%b,%b\n" % (key, rest, right[key]) for key, rest in pairs if key in right)
 
 
@@ -78,7 +79,7 @@ COMMANDS = [
 ]
 
 
-def best(call, size):
+def measure_best(call, size):
     """MB/s of the fastest call."""
     times = []
     for _ in range(CALLS):
@@ -101,17 +102,17 @@ def main():
             wanted = ptext.run(words, stdin, files)
             for name, other in others:
                 if other() != wanted:
-                    return f"{words}: {name} has another output"
+                    raise Failed(f"{words}: {name} has another output")
             if page and page.run_all(words, stdin, files)[1] != wanted:
-                return f"{words}: the page has another output"
-            by_page = f"{size / page.asked(words, stdin, files, repeat=CALLS)['seconds'] / 1e6:,.0f}" if page else ""
-            by_library = best(lambda: ptext.run(words, stdin, files), size)
+                raise Failed(f"{words}: the page has another output")
+            by_page = f"{size / page.ask(words, stdin, files, repeat=CALLS)['seconds'] / 1e6:,.0f}" if page else ""
+            by_library = measure_best(lambda: ptext.run(words, stdin, files), size)
             how = {"input": stdin, "stdout": subprocess.PIPE, "cwd": room, "check": True}
-            by_program = best(lambda: subprocess.run([program, *words], **how), size)
-            by_python = ", ".join(f"{name} {best(other, size):,.0f}" for name, other in others)
+            by_program = measure_best(lambda: subprocess.run([program, *words], **how), size)
+            by_python = ", ".join(f"{name} {measure_best(other, size):,.0f}" for name, other in others)
             print(f"| `{' '.join(words)}` | {by_library:,.0f} | {by_page} | {by_program:,.0f} | {by_python} |")
     return 0
 
 
 if __name__ == "__main__":
-    sys.exit(main())
+    run_script(main)

@@ -4,7 +4,8 @@ import os
 import re
 import resource
 import subprocess
-import sys
+
+from project import Failed
 
 RUNS = 5
 # Operands of a case: the input that is standard input, the other input, and all inputs.
@@ -13,13 +14,13 @@ OTHER = "OTHER"
 FILES = "FILES"
 
 
-def filled(words, paths):
+def fill_in(words, paths):
     """The words, with the paths of the inputs in place of their names."""
     operands = {FILE: paths[:1], OTHER: paths[1:2], FILES: paths}
-    return [it for word in words for it in operands.get(word, [word])]
+    return [operand for word in words for operand in operands.get(word, [word])]
 
 
-def ran(command, path, output, limit=resource.RLIM_INFINITY, messages=None):
+def run_timed(command, path, output, limit=resource.RLIM_INFINITY, messages=None):
     """The exit status, and the seconds of user and system time. After so many of these the command is killed."""
     with open(path, "rb") as standard, open(output, "wb") as out:
         child = subprocess.Popen(
@@ -34,13 +35,13 @@ def ran(command, path, output, limit=resource.RLIM_INFINITY, messages=None):
 
 def measure(command, path, output):
     """Seconds of user and system time of a command that succeeds."""
-    status, seconds = ran(command, path, output)
+    status, seconds = run_timed(command, path, output)
     if status != 0:
-        sys.exit(f"{command[:9]} ended with {status}")
+        raise Failed(f"{command[:9]} ended with {status}")
     return seconds
 
 
-def same(words, one, other):
+def is_same(words, one, other):
     """Whether the outputs are the same. GNU puts blanks in front of a count; here there are none."""
     if words[:2] == ["uniq", "-c"]:
         command = f"sed 's/^ *//' {other} | cmp -s {one} -"
@@ -51,24 +52,24 @@ def same(words, one, other):
 def compare(folder, paths, ptext, other, words, runs=RUNS):
     """The best seconds of ptext and of the other side. The output of ptext stays in the file `ours`."""
     ours, theirs = [], []
-    words = filled(words, paths)
+    words = fill_in(words, paths)
     ours_out, theirs_out = os.path.join(folder, "ours"), os.path.join(folder, "theirs")
     measure([ptext, *words], paths[0], ours_out)
     measure([*other, *words], paths[0], theirs_out)
-    if not same(words, ours_out, theirs_out):
-        sys.exit(f"{words[:9]}: the outputs differ")
+    if not is_same(words, ours_out, theirs_out):
+        raise Failed(f"{words[:9]}: the outputs differ")
     for _ in range(runs):
         ours.append(measure([ptext, *words], paths[0], os.devnull))
         theirs.append(measure([*other, *words], paths[0], os.devnull))
     return min(ours), min(theirs)
 
 
-def instructions(folder, paths, ptext, words):
+def count_instructions(folder, paths, ptext, words):
     """How many instructions of ptext run in user space."""
     counting = ["valgrind", "--tool=callgrind", f"--callgrind-out-file={folder}/counts"]
     with open(paths[0], "rb") as standard:
         ended = subprocess.run(
-            [*counting, ptext, *filled(words, paths)],
+            [*counting, ptext, *fill_in(words, paths)],
             stdin=standard,
             stdout=subprocess.DEVNULL,
             stderr=subprocess.PIPE,
@@ -77,11 +78,12 @@ def instructions(folder, paths, ptext, words):
     return int(re.search(rb"Collected : ([0-9]+)", ended.stderr)[1])
 
 
-def instructions_beyond_none(folder, paths, ptext, words):
+def count_beyond_none(folder, paths, ptext, words):
     """Those that are not run over as many empty inputs."""
     empty = os.path.join(folder, "empty")
     open(empty, "wb").close()
-    return instructions(folder, paths, ptext, words) - instructions(folder, [empty] * len(paths), ptext, words)
+    none = count_instructions(folder, [empty] * len(paths), ptext, words)
+    return count_instructions(folder, paths, ptext, words) - none
 
 
 def runs_within(command, path, size):
@@ -97,7 +99,7 @@ def runs_within(command, path, size):
     return ended.returncode == 0
 
 
-def least_space(command, path):
+def find_least_space(command, path):
     """The least address space in KiB, to 4 KiB."""
     low, high = 0, 1 << 20
     while high - low > 4:

@@ -57,23 +57,23 @@ def write_lines(name, size, line):
             number += 10000
 
 
-def log_line(number):
+def make_log_line(number):
     return f"2026-11-22T10:{number // 60 % 60:02}:{number % 60:02}Z host{number % 17} GET /items/{number % 9973} 200\n"
 
 
-def processor_seconds():
+def read_processor_seconds():
     used = resource.getrusage(resource.RUSAGE_CHILDREN)
     return used.ru_utime + used.ru_stime
 
 
-def seconds(command):
+def measure(command):
     """Wall time and processor time of a command of the shell."""
-    before = time.monotonic(), processor_seconds()
+    before = time.monotonic(), read_processor_seconds()
     subprocess.run(["sh", "-c", command], stdin=subprocess.DEVNULL, stdout=subprocess.DEVNULL, check=True)
-    return time.monotonic() - before[0], processor_seconds() - before[1]
+    return time.monotonic() - before[0], read_processor_seconds() - before[1]
 
 
-def shown(times):
+def format_times(times):
     return f"{times[0]:.2f} s ({times[1]:.2f} s)"
 
 
@@ -88,7 +88,7 @@ def main():
         os.environ.update(
             LC_ALL="C", PARALLEL="--will-cite", PARALLEL_HOME=folder, PATH=f"{folder}/bin:{os.environ['PATH']}"
         )
-        write_lines("log", size, log_line)
+        write_lines("log", size, make_log_line)
         write_lines("left", size, lambda number: f"{number * 2:010} first__________ second_________\n")
         write_lines("right", size, lambda number: f"{number * 3:010} first__________ second_________\n")
         print(f"load at the start: {os.getloadavg()[0]:.1f} of {cores} processors")
@@ -99,9 +99,9 @@ def main():
                 if not cutting
                 else cutting.replace("CORES", str(cores)).replace("CUT", f"{TOP}/tools/cut_at_keys.sh")
             )
-            taken = shown(seconds(cut)) if cut else ""
-            one, many = (min(seconds(command) for _ in range(RUNS)) for command in (whole, parts))
-            print(f"| `{tool}` | {shown(one)} | {shown(many)} | {taken} |", flush=True)
+            taken = format_times(measure(cut)) if cut else ""
+            one, many = (min(measure(command) for _ in range(RUNS)) for command in (whole, parts))
+            print(f"| `{tool}` | {format_times(one)} | {format_times(many)} | {taken} |", flush=True)
 
 
 if __name__ == "__main__":

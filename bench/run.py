@@ -14,12 +14,17 @@ run, which times are not. With --against OTHER the other side is another build o
 
 import argparse
 import os
+import sys
 import tempfile
+
+sys.dont_write_bytecode = True
+HERE = os.path.dirname(os.path.realpath(__file__))
+sys.path.insert(1, f"{os.path.dirname(HERE)}/tools")
 
 import lengths
 import works
+from project import run_script
 
-HERE = os.path.dirname(os.path.realpath(__file__))
 PARTS = {"length": lengths.run, "work": works.run}
 
 
@@ -53,4 +58,4 @@ def main():
 
 
 if __name__ == "__main__":
-    main()
+    run_script(main)

@@ -13,23 +13,34 @@ from typing import Callable, NamedTuple
 from inputs import (
     BYTES,
     DNA,
-    comma_line,
-    halving,
-    item_line,
-    items,
-    lines,
-    log_line,
-    one_to_many,
-    padded_line,
-    person_line,
-    repeated,
-    second_line,
-    third_line,
-    thirds,
-    word_lists,
-    words_of_a_text,
+    make_comma_line,
+    make_halves,
+    make_item_line,
+    make_items,
+    make_log_line,
+    make_one_to_many,
+    make_padded_line,
+    make_person_line,
+    make_second_line,
+    make_third_line,
+    make_thirds,
+    make_word_lists,
+    make_words_of_a_text,
+    repeat_lines,
+    repeat_text,
 )
-from measuring import FILE, FILES, OTHER, RUNS, compare, filled, instructions_beyond_none, least_space, ran, same
+from measuring import (
+    FILE,
+    FILES,
+    OTHER,
+    RUNS,
+    compare,
+    count_beyond_none,
+    fill_in,
+    find_least_space,
+    is_same,
+    run_timed,
+)
 
 # The bytes of all files of a work, about; and of those over which instructions are counted.
 SIZE = 24 << 20
@@ -50,21 +61,22 @@ class Work(NamedTuple):
     """Its title, the texts of its files for a size in bytes, its words, and those of awk that do the same."""
 
     title: str
-    made: Callable
+    make: Callable
     words: list
     awk: list | None = None
 
+    @property
     def unit(self):
         return "byte" if self.words[0] in ("cut", "tr") else "line"
 
-    def units(self, texts):
-        return sum(len(it) if self.unit() == "byte" else it.count("\n") for it in texts)
+    def count_units(self, texts):
+        return sum(len(text) if self.unit == "byte" else text.count("\n") for text in texts)
 
-    def read_by(self, texts):
+    def count_bytes(self, texts):
         """The bytes of the files that it reads."""
         return sum(map(len, texts if OTHER in self.words or FILES in self.words else texts[:1]))
 
-    def words_for(self, program):
+    def find_words(self, program):
         """The words by which another program does it, if there are any."""
         if program == "mawk":
             return self.awk and ["mawk", *self.awk]
@@ -94,14 +106,14 @@ OUTER = ["-a", "1", "-a", "2", "-e", "-", "-o", "0,1.2,1.3,2.2,2.3"]
 SCATTERED = ["aeiouyAEIOUY,.;:-", "4310vYqXQWZ&_|%+/"]
 PERMUTED = ["\\000-\\377", "".join(f"\\{byte:03o}" for byte in random.Random(1).sample(range(256), 256))]
 
-LOG, ITEMS, PADDED = lines(log_line), lines(item_line), lines(padded_line)
-TENS, SEVENTIES = lines("{:010}\n".format), lines("{0:010}{0:010}{0:010}{0:010}{0:010}{0:010}{0:010}\n".format)
-BY_FIRST, BY_COMMAS, LOGS = (thirds(line, line) for line in (person_line, comma_line, log_line))
-BY_FAR = thirds(third_line, second_line)
+LOG, ITEMS, PADDED = repeat_lines(make_log_line), repeat_lines(make_item_line), repeat_lines(make_padded_line)
+TENS, SEVENTIES = repeat_lines("{:010}\n".format), repeat_lines(f"{'{0:010}' * 7}\n".format)
+BY_FIRST, BY_COMMAS, LOGS = (make_thirds(line, line) for line in (make_person_line, make_comma_line, make_log_line))
+BY_FAR = make_thirds(make_third_line, make_second_line)
 
 WORKS = [
-    *[Work(f"`paste` of {count} files", items(count), ["paste", FILES]) for count in (2, 10, 50, 100, 500)],
-    Work("`paste` of 8 files, each half as long as the one before", halving, ["paste", FILES]),
+    *[Work(f"`paste` of {count} files", make_items(count), ["paste", FILES]) for count in (2, 10, 50, 100, 500)],
+    Work("`paste` of 8 files, each half as long as the one before", make_halves, ["paste", FILES]),
     Work("`paste - - - -`", ITEMS, ["paste", *"----"], ['{ ORS = NR % 4 ? "\t" : "\n"; print }', FILE]),
     Work("`paste` with `-` 20 times", ITEMS, ["paste", *"-" * 20]),
     Work("`paste` with `-` 100 times", ITEMS, ["paste", *"-" * 100]),
@@ -109,10 +121,10 @@ WORKS = [
     Work("`join -1 3 -2 2`", BY_FAR, ["join", "-1", "3", "-2", "2", FILE, OTHER], FAR_IN_AWK),
     Work(f"`join {' '.join(OUTER)}`", BY_FIRST, ["join", *OUTER, FILE, OTHER]),
     Work("`join -t ,`", BY_COMMAS, ["join", "-t", ",", FILE, OTHER], ["-F", ",", *NEAR_IN_AWK]),
-    Work("`join`, one line to 300,000", one_to_many, ["join", FILE, OTHER], MANY_IN_AWK),
-    Work("`comm` of lists of words", word_lists, ["comm", FILE, OTHER]),
-    Work("`comm -12` of lists of words", word_lists, ["comm", "-12", FILE, OTHER], COMMON_IN_AWK),
-    Work("`uniq -c` of the sorted words of a text", words_of_a_text, ["uniq", "-c", FILE], COUNT_IN_AWK),
+    Work("`join`, one line to 300,000", make_one_to_many, ["join", FILE, OTHER], MANY_IN_AWK),
+    Work("`comm` of lists of words", make_word_lists, ["comm", FILE, OTHER]),
+    Work("`comm -12` of lists of words", make_word_lists, ["comm", "-12", FILE, OTHER], COMMON_IN_AWK),
+    Work("`uniq -c` of the sorted words of a text", make_words_of_a_text, ["uniq", "-c", FILE], COUNT_IN_AWK),
     Work("`cut -c 1,3,5,..,69`, lines of 70 bytes", SEVENTIES, ["cut", "-c", ODD, FILE]),
     Work("`cut -c 2-4`, lines of 10 bytes", TENS, ["cut", "-c", "2-4", FILE], ["{ print substr($0, 2, 3) }", FILE]),
     Work(
@@ -122,8 +134,8 @@ WORKS = [
         ["{ print substr($0, 1, 1) substr($0, 3) }", FILE],
     ),
     Work("`cut -d ' ' -f 2,5` of a log", LOG, ["cut", "-d", " ", "-f", "2,5", FILE], ["{ print $2, $5 }", FILE]),
-    Work("`tr`, all 256 bytes permuted", repeated(BYTES), ["tr", *PERMUTED]),
-    Work("`tr ACGT TGCA`", repeated(DNA), ["tr", "ACGT", "TGCA"]),
+    Work("`tr`, all 256 bytes permuted", repeat_text(BYTES), ["tr", *PERMUTED]),
+    Work("`tr ACGT TGCA`", repeat_text(DNA), ["tr", "ACGT", "TGCA"]),
     Work("`tr` of 17 scattered bytes in a log", LOG, ["tr", *SCATTERED]),
     Work("`tr A-Za-z N-ZA-Mn-za-m` of a log", LOG, ["tr", "A-Za-z", "N-ZA-Mn-za-m"]),
     Work("`tr a-z A-Z` of a log", LOG, ["tr", "a-z", "A-Z"], ["{ print toupper($0) }"]),
@@ -154,7 +166,7 @@ class Row(NamedTuple):
     count: float | None
 
 
-def write(folder, texts):
+def write_files(folder, texts):
     """The paths of files of these texts."""
     paths = [os.path.join(folder, f"file{number}") for number in range(len(texts))]
     for path, text in zip(paths, texts):
@@ -163,57 +175,57 @@ def write(folder, texts):
     return paths
 
 
-def seconds_of(folder, paths, work, program, runs):
+def measure_other(folder, paths, work, program, runs):
     """The best seconds of another program, or why there are none. The file `ours` has the output of ptext."""
-    words = work.words_for(program)
+    words = work.find_words(program)
     if not words or not shutil.which(words[0]):
         return ""
-    words, output = filled(words, paths), os.path.join(folder, "theirs")
-    status, _ = ran(words, paths[0], output, LIMIT, subprocess.DEVNULL)
+    words, output = fill_in(words, paths), os.path.join(folder, "theirs")
+    status, _ = run_timed(words, paths[0], output, LIMIT, subprocess.DEVNULL)
     if status in (-signal.SIGXCPU, -signal.SIGKILL):
         return f"over {LIMIT} s"
     if status != 0:
         return ""
-    if not same(work.words, os.path.join(folder, "ours"), output):
+    if not is_same(work.words, os.path.join(folder, "ours"), output):
         return "differs"
-    return min(ran(words, paths[0], os.devnull)[1] for _ in range(runs))
+    return min(run_timed(words, paths[0], os.devnull)[1] for _ in range(runs))
 
 
-def counted(folder, ptext, work):
+def count_a_unit(folder, ptext, work):
     """The instructions of ptext for each line or byte, if they can be counted."""
     if not shutil.which("valgrind"):
         return None
-    texts = work.made(COUNTED)
-    return instructions_beyond_none(folder, write(folder, texts), ptext, work.words) / work.units(texts)
+    texts = work.make(COUNTED)
+    return count_beyond_none(folder, write_files(folder, texts), ptext, work.words) / work.count_units(texts)
 
 
-def measured(folder, ptext, other, works, quick):
+def measure_works(folder, ptext, other, works, quick):
     """A row for each work."""
     rows = []
     for work in works:
-        count = counted(folder, ptext, work) if works is WORKS else None
-        texts = work.made(COUNTED if quick else SIZE)
-        paths = write(folder, texts)
+        count = count_a_unit(folder, ptext, work) if works is WORKS else None
+        texts = work.make(COUNTED if quick else SIZE)
+        paths = write_files(folder, texts)
         ours, theirs = compare(folder, paths, ptext, other, work.words, 1 if quick else RUNS)
-        others = {it: seconds_of(folder, paths, work, it, 1 if quick else FEW_RUNS) for it in OTHERS}
-        rows.append(Row(work, work.read_by(texts) / 1e6, ours, theirs, others, count))
+        others = {program: measure_other(folder, paths, work, program, 1 if quick else FEW_RUNS) for program in OTHERS}
+        rows.append(Row(work, work.count_bytes(texts) / 1e6, ours, theirs, others, count))
         print(f"{work.title:60} {ours:7.3f} s {theirs:7.3f} s {ours / theirs:6.2f}", flush=True)
     return rows
 
 
-def row_of(cells):
+def format_row(cells):
     return "| " + " | ".join(cells) + " |\n"
 
 
-def ratio(ours, theirs):
+def format_ratio(ours, theirs):
     return theirs if isinstance(theirs, str) else f"{ours / theirs:.2f}"
 
 
-def speed(size, seconds):
+def format_speed(size, seconds):
     return seconds if isinstance(seconds, str) else f"{size / seconds:,.0f}"
 
 
-def columns(rows):
+def list_ratios(rows):
     """For GNU's tools and for each other program, all ratios."""
     found = [[row.ours / row.theirs for row in rows]]
     for program in OTHERS:
@@ -222,62 +234,63 @@ def columns(rows):
     return found
 
 
-def table(rows, side):
+def format_table(rows, side):
     """The ratios of each work to GNU's and to other programs; then the geometric means and the largest ones."""
-    text = row_of(["work", side, *OTHERS, "instructions"]) + "|---" * (len(OTHERS) + 3) + "|\n"
+    text = format_row(["work", side, *OTHERS, "instructions"]) + "|---" * (len(OTHERS) + 3) + "|\n"
     for row in rows:
-        count = "" if row.count is None else f"{row.count:,.1f} a {row.work.unit()}"
-        others = [ratio(row.ours, row.others[it]) for it in OTHERS]
-        text += row_of([row.work.title, ratio(row.ours, row.theirs), *others, count])
+        count = "" if row.count is None else f"{row.count:,.1f} a {row.work.unit}"
+        others = [format_ratio(row.ours, row.others[program]) for program in OTHERS]
+        text += format_row([row.work.title, format_ratio(row.ours, row.theirs), *others, count])
     for title, value in [("geometric mean", statistics.geometric_mean), ("largest", max)]:
-        cells = [f"**{value(ratios):.2f}**" if ratios else "" for ratios in columns(rows)]
-        text += row_of([f"**{title}**", *cells, ""])
+        cells = [f"**{value(ratios):.2f}**" if ratios else "" for ratios in list_ratios(rows)]
+        text += format_row([f"**{title}**", *cells, ""])
     return text
 
 
-def speeds(rows, side, starts):
+def format_speeds(rows, side, starts):
     """The MB that each program reads in a second, and its start-up time."""
-    text = row_of(["over logs", "ptext", side, *OTHERS]) + "|---" * (len(OTHERS) + 3) + "|\n"
+    text = format_row(["over logs", "ptext", side, *OTHERS]) + "|---" * (len(OTHERS) + 3) + "|\n"
     for row in rows:
-        cells = [speed(row.size, it) for it in (row.ours, row.theirs, *row.others.values())]
-        text += row_of([row.work.title, *cells])
-    return text + row_of([STARTING.title, *starts])
+        cells = [format_speed(row.size, seconds) for seconds in (row.ours, row.theirs, *row.others.values())]
+        text += format_row([row.work.title, *cells])
+    return text + format_row([STARTING.title, *starts])
 
 
-def start_times(folder, ptext, other):
+def measure_starts(folder, ptext, other):
     """The milliseconds of each program over an empty file, in the median."""
-    path = write(folder, STARTING.made(0))[0]
-    commands = [[ptext, *STARTING.words], [*other, *STARTING.words], *[STARTING.words_for(it) for it in OTHERS]]
+    path = write_files(folder, STARTING.make(0))[0]
+    commands = [[ptext, *STARTING.words], [*other, *STARTING.words]]
+    commands += [STARTING.find_words(program) for program in OTHERS]
     cells = []
     for words in commands:
-        times = [ran(words, path, os.devnull)[1] for _ in range(STARTS)] if shutil.which(words[0]) else []
+        times = [run_timed(words, path, os.devnull)[1] for _ in range(STARTS)] if shutil.which(words[0]) else []
         cells.append(f"{statistics.median(times) * 1000:.1f}" if times else "")
     return cells
 
 
-def spaces(folder, ptext):
+def measure_spaces(folder, ptext):
     """The least address space in which `cut` runs, over an empty line and over a long one."""
     words = [ptext, "cut", "-c", "2"]
-    return [least_space(words, write(folder, [text])[0]) for text in ("\n", "0123456789abcdef" * (4 << 20))]
+    return [find_least_space(words, write_files(folder, [text])[0]) for text in ("\n", "0123456789abcdef" * (4 << 20))]
 
 
 def run(folder, ptext, other, quick, _):
     load = os.getloadavg()[0]
-    rows = measured(folder, ptext, other, WORKS, quick)
-    of_logs = measured(folder, ptext, other, OF_LOGS, quick)
+    rows = measure_works(folder, ptext, other, WORKS, quick)
+    of_logs = measure_works(folder, ptext, other, OF_LOGS, quick)
     size = (COUNTED if quick else SIZE) >> 20
     runs = "Each command once" if quick else f"The best of {RUNS} runs (of {FEW_RUNS} of busybox and those after it)"
     side = "other" if other else "GNU"
-    empty, long = spaces(folder, ptext)
+    empty, long = measure_spaces(folder, ptext)
     return (
         "Ratios of the time of `ptext` to that of other programs, and the instructions of `ptext`.\n"
         f"{runs}, over {size // 2} to {size} MB in all files together, on {os.cpu_count()} processors; other work on "
         f"the machine at the start: {load:.1f} of them.\n"
         "No number: the program lacks the tool or an option, or no command of awk is tried; `differs`: its output is "
         "another one.\n\n"
-        + table(rows, side)
+        + format_table(rows, side)
         + "\nMB of input in a second of user and system time, and the start-up time (`cut -c 1` of an empty file).\n\n"
-        + speeds(of_logs, side, start_times(folder, ptext, other))
+        + format_speeds(of_logs, side, measure_starts(folder, ptext, other))
         + f"\nThe least address space in which `cut -c 2` runs: {empty:,} KiB over an empty line, {long:,} KiB over "
         "a line of 64 MB.\n"
     )

@@ -21,9 +21,9 @@ TOP = os.path.dirname(os.path.dirname(os.path.realpath(__file__)))
 sys.dont_write_bytecode = True
 sys.path.insert(0, f"{TOP}/tools")
 
-from names import NAMES, letters_of
+from names import NAMES, read_letters
 
-FLAGS, VALUED = letters_of("flags"), letters_of("value_letters")
+FLAGS, VALUED = read_letters("flags"), read_letters("value_letters")
 # How each shell is started, and what is typed first. (@ stands for the folder of the completions, % for that of the
 # test.)
 SHELLS = {
@@ -59,7 +59,7 @@ ROWS = [
     Row("ptext cut -f 1 $PTEXT_T", "ptext cut -f 1 $PTEXT_TESTED"),
     Row("ptext cut -f 1 $PTEXT_TESTED/lo", "lonely"),
     Row("ptext ", NAMES),
-    *(Row(f"ptext {tool} -", [f"-{it}" for it in FLAGS[tool] + VALUED[tool]]) for tool in NAMES),
+    *(Row(f"ptext {tool} -", [f"-{letter}" for letter in FLAGS[tool] + VALUED[tool]]) for tool in NAMES),
     Row("ptext cut -sf 1 -", ["-d", "-z"]),
     Row("ptext join -a ", ["1", "2"]),
     Row("ptext tr -d '[:", CLASSES),
@@ -70,7 +70,7 @@ ROWS = [
 ]
 # The tools by their own names, if the first in PATH is ptext's.
 ROWS_BY_NAME = [
-    *(Row(f"{tool} -", [f"-{it}" for it in FLAGS[tool] + VALUED[tool]]) for tool in NAMES),
+    *(Row(f"{tool} -", [f"-{letter}" for letter in FLAGS[tool] + VALUED[tool]]) for tool in NAMES),
     Row("cut --", ["--bytes", "--complement", "--help", "--version"], False),
     Row("uniq lo", "uniq lonely"),
     Row("tr -d '[:dig", "tr -d '[:digit:]"),
@@ -123,64 +123,64 @@ class Terminal:
         os.close(self.end)
 
 
-def shown(came, between=b""):
+def strip_escapes(came, between=b""):
     """The text that a terminal would show, with this in place of what moves its cursor or colours."""
     return ESCAPES.sub(between, came).decode(errors="replace")
 
 
-def offers(text, typed, words):
+def find_offered(text, typed, words):
     """The words of these that stand in a text by themselves."""
     rest = text.replace(typed, " ", 1)
     if typed.endswith(":"):
-        return {it for it in words if re.search(rf"(?<![a-z]){it}(?![a-z])", rest)}
-    return {it for it in words if re.search(rf"(?<![\w-]){re.escape(it)}(?![\w-])", rest)}
+        return {word for word in words if re.search(rf"(?<![a-z]){word}(?![a-z])", rest)}
+    return {word for word in words if re.search(rf"(?<![\w-]){re.escape(word)}(?![\w-])", rest)}
 
 
-def said_of(at, row, quiet):
+def type_row(at, row, quiet):
     """The text of a terminal after a row is typed, and whether that is as wanted."""
     if isinstance(row.wanted, str):
-        said = shown(at.type(row.typed + "\t", quiet))
+        said = strip_escapes(at.type(row.typed + "\t", quiet))
         if row.wanted not in said.replace("\n", ""):
             # The line is drawn anew, whole.
-            said += shown(at.type("\x0c", 0.5))
+            said += strip_escapes(at.type("\x0c", 0.5))
         return said, row.wanted in said.replace("\n", "")
-    came = b"".join(at.type(it, quiet) for it in (row.typed, "\t", "\t"))
-    said = shown(came)
-    found = (offers(said, row.typed, row.wanted), offers(shown(came, b" "), row.typed, row.wanted))
+    came = b"".join(at.type(keys, quiet) for keys in (row.typed, "\t", "\t"))
+    said = strip_escapes(came)
+    found = (find_offered(said, row.typed, row.wanted), find_offered(strip_escapes(came, b" "), row.typed, row.wanted))
     # The typed text is on the terminal, so nothing is left out for lack of time.
     return said, set(row.wanted) in found if row.is_offered else row.typed in said and not any(found)
 
 
-def wrong_of(shell, room, rows, first="", path=""):
+def find_wrong_rows(shell, room, rows, first="", path=""):
     """The rows that a shell does not complete as wanted. One shell has all rows. As terminals are slow at times, a row
     that goes wrong is tried again in a shell of its own."""
     found = []
     with contextlib.closing(Terminal(shell, room, first, path or f"{room}/bin")) as shared:
         for row in rows:
-            said, is_good = said_of(shared, row, 0.3)
+            said, is_good = type_row(shared, row, 0.3)
             shared.type("\x03", 0.2)
             for attempt in (1, 2, 4):
                 if not is_good:
                     with contextlib.closing(Terminal(shell, room, first, path or f"{room}/bin")) as terminal:
                         terminal.type("\n", 0.5 * attempt)
-                        said, is_good = said_of(terminal, row, 0.5 * attempt)
+                        said, is_good = type_row(terminal, row, 0.5 * attempt)
             if not is_good:
                 wanted = row.wanted if row.is_offered else f"none of {row.wanted}"
                 found.append(f"{shell}: `{row.typed}` and a tab: wanted {wanted}, the terminal has {said!r}\n")
     return found
 
 
-def all_wrong_of(shell, room):
+def find_all_wrong_rows(shell, room):
     """The rows that a shell does not complete as wanted in one of three surroundings, and how many rows there were."""
-    found, count = wrong_of(shell, room, ROWS), len(ROWS)
+    found, count = find_wrong_rows(shell, room, ROWS), len(ROWS)
     if shell == "bash" and not os.path.exists(SYSTEMS):
         print("left out: the tools by their own names in bash (there is no bash-completion)")
         return found, count
-    found += wrong_of(shell, room, ROWS_BY_NAME, BY_NAME[shell], f"{room}/ptext/bin")
+    found += find_wrong_rows(shell, room, ROWS_BY_NAME, BY_NAME[shell], f"{room}/ptext/bin")
     count += len(ROWS_BY_NAME)
     said = subprocess.run(["cut", "--help"], check=False, capture_output=True, text=True).stdout
     if "--complement" in said:
-        found += wrong_of(shell, room, ROWS_OF_THE_SYSTEM, BY_NAME[shell])
+        found += find_wrong_rows(shell, room, ROWS_OF_THE_SYSTEM, BY_NAME[shell])
         count += len(ROWS_OF_THE_SYSTEM)
     return found, count
 
@@ -204,7 +204,7 @@ def main():
                 print(f"left out: completion in {shell} (there is no {shell})")
                 continue
             try:
-                found, of = all_wrong_of(shell, room)
+                found, of = find_all_wrong_rows(shell, room)
             except OSError as why:
                 print(f"left out: completion in {shell} (no terminal: {why})")
                 continue

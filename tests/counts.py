@@ -1,6 +1,6 @@
 #!/usr/bin/env python3
-"""Compares the number of tests and of assertions in each file of tests with tests/counts.txt. So a test that is lost, or
-that asserts nothing any more, does not go unnoticed.
+"""Compares the number of tests and of assertions in each file of tests with tests/counts.txt. So a test that is lost,
+or that asserts nothing any more, does not go unnoticed.
 
   python3 tests/counts.py            says which files have fewer or more
   python3 tests/counts.py --write    writes the numbers as they are now, after tests were added or removed
@@ -10,7 +10,11 @@ import os
 import re
 import sys
 
-TOP = os.path.dirname(os.path.dirname(os.path.realpath(__file__)))
+sys.dont_write_bytecode = True
+sys.path.insert(0, os.path.join(os.path.dirname(os.path.dirname(os.path.realpath(__file__))), "tools"))
+
+from project import TOP, Failed, run_script
+
 COUNTS = f"{TOP}/tests/counts.txt"
 HEAD = "# How many tests, and how many assertions and rows, each file has: python3 tests/counts.py --write writes it.\n"
 # For each kind of file, what begins a test, and what begins an assertion or a row of a table.
@@ -22,7 +26,7 @@ KINDS = {
     "crates/pt*tests/proofs/**/*Examples.antt": (r"^(?:pub )?\w+\s*:", r"≡|≢|¬"),
     "python/tests/*.py": (r"^\s*def test_", r"\bself\.(?:assert\w+|is_so)\("),
     "tests/*.sh": (r"^test_of ", r"^\s*(?:is|same|refused|both|opened|each|expect\w*) |failed \"|bad=\$\(\(bad"),
-    "tests/*.py": (r"^def test_", r"^\s*(?:lines|Row)\(|\bfound (?:\+=|=)|\.append\("),
+    "tests/*.py": (r"^def test_", r"^\s*(?:expect|Row)\(|\bfound (?:\+=|=)|\.append\("),
     "tests/*.mjs": (r"^async function |^for \(const", r"\bis\("),
     "tests/*.c": (r"^static void |^int main", r"\bexpect\w*\("),
     "tests/corpus/*.tsv": (r"^[^#]", r"^[^#]"),
@@ -72,10 +76,10 @@ def main():
             here, there = f"{tests} tests and {assertions} assertions or rows", f"{had} and {asserted}"
             differences.append(f"{name} has {here}; tests/counts.txt has {there}")
     if differences:
-        return "\n".join([*differences, "if that is meant: python3 tests/counts.py --write"])
+        raise Failed("\n".join([*differences, "if that is meant: python3 tests/counts.py --write"]))
     print(f"{sum(tests for tests, _ in found.values())} tests in {len(found)} files, as tests/counts.txt has them")
     return 0
 
 
 if __name__ == "__main__":
-    sys.exit(main())
+    run_script(main)

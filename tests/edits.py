@@ -15,7 +15,11 @@ import os
 import re
 import sys
 
-TOP = os.path.dirname(os.path.dirname(os.path.realpath(__file__)))
+sys.dont_write_bytecode = True
+sys.path.insert(0, os.path.join(os.path.dirname(os.path.dirname(os.path.realpath(__file__))), "tools"))
+
+from project import TOP, Failed, read_text, run_script
+
 # Where a clause or another ghost item begins.
 GHOST = re.compile(r"\b(?:(requires|ensures)\b[^{;]*|ghost\b[^{;]*)([{;])")
 # Comments, and the literals in which `//`, a brace or a quote is no such thing.
@@ -24,16 +28,11 @@ IMPL = re.compile(r"(?:unsafe )?impl(?:<.*?>)? (?:(?P<of>[\w:]+(?:<.*?>)?) for )
 FUNCTION = re.compile(r"(?P<indent> {4})?(?P<pub>pub )?(?:pub\(\w+\) )?(?:unsafe )?fn (?P<name>\w+)")
 
 
-def read(path):
-    with open(path, encoding="utf-8") as file:
-        return file.read()
-
-
 class Edit:
     """A wrong body: the file that it changes, and the texts that it replaces."""
 
     def __init__(self, path):
-        said = read(path)
+        said = read_text(path)
         self.path, self.label = path, os.path.basename(path).removesuffix(".edit")
         self.crate = os.path.dirname(os.path.dirname(path))
         self.is_of_release = os.path.basename(os.path.dirname(path)) == "must-fail-release"
@@ -84,23 +83,22 @@ def find_ghosts(text):
     return collections.Counter(groups)
 
 
-def find_fault(edit):
-    """The reason why a wrong body shows nothing, or an empty text."""
+def check_edit(edit):
+    """Raises Failed if a wrong body shows nothing."""
     path = f"{edit.crate}/{edit.file}"
     if not re.fullmatch(r"src/[\w/]+\.rt", edit.file) or not os.path.isfile(path):
-        return f"it changes no file of src/: {edit.file}"
+        raise Failed(f"it changes no file of src/: {edit.file}")
     if not edit.changes:
-        return "it has no text `old:`, or none `new:`"
-    text = read(path)
+        raise Failed("it has no text `old:`, or none `new:`")
+    text = read_text(path)
     if any(text.count(old) != 1 for old, _ in edit.changes):
-        return f"its text is not once in {edit.file}"
+        raise Failed(f"its text is not once in {edit.file}")
     if find_code(text) == find_code(edit.apply(text)):
-        return f"it changes nothing in {edit.file}"
+        raise Failed(f"it changes nothing in {edit.file}")
     before, after = find_ghosts(text), find_ghosts(edit.apply(text))
     # (A body beside the right one, which then is that of a function `other`, has a copy of all its clauses.)
     if before - after or (after - before).keys() - before.keys():
-        return f"it changes a clause or other ghost text of {edit.file}"
-    return ""
+        raise Failed(f"it changes a clause or other ghost text of {edit.file}")
 
 
 # ---- which wrong body belongs to which function
@@ -108,10 +106,10 @@ def find_fault(edit):
 
 def find_functions(crate):
     """The functions of a crate: file, index, name, whether it is public, whether it has a body."""
-    name_of_crate, lib = os.path.basename(crate), read(f"{crate}/src/lib.rt")
+    name_of_crate, lib = os.path.basename(crate), read_text(f"{crate}/src/lib.rt")
     given = set(re.findall(r"\w+", " ".join(re.findall(r"^pub use (.*?);", lib, re.M | re.S))))
     for path in sorted(glob.glob(f"{crate}/src/**/*.rt", recursive=True)):
-        text, inside = read(path), os.path.relpath(path, crate)
+        text, inside = read_text(path), os.path.relpath(path, crate)
         module = inside[len("src/") : -len(".rt")].replace("/", "::")
         is_open = module == "lib" or f"pub mod {module};" in lib
         shown = set(re.findall(r"^pub (?:struct|enum|union) (\w+)", text, re.M))
@@ -137,13 +135,13 @@ def find_owners(edit, functions, named):
     if edit.label in named:
         return named[edit.label]
     old = edit.changes[0][0]
-    index = read(f"{edit.crate}/{edit.file}").find(old) + len(old)
+    index = read_text(f"{edit.crate}/{edit.file}").find(old) + len(old)
     return [name for file, place, name, _, _ in functions if file == edit.file and place <= index][-1:]
 
 
 def list_crate(crate, edits):
     functions = list(find_functions(crate))
-    rows = [re.findall(r"^- (\w+): (.*)$", read(path), re.M) for path in glob.glob(f"{crate}/must-fail*/for.md")]
+    rows = [re.findall(r"^- (\w+): (.*)$", read_text(path), re.M) for path in glob.glob(f"{crate}/must-fail*/for.md")]
     named = {label: names.split(", ") for label, names in sum(rows, [])}
     bodies = {name: [] for _, _, name, is_public, _ in functions if is_public}
     stray = []
@@ -169,13 +167,17 @@ def main():
         return 0
     if sys.argv[1:]:
         return __doc__
-    faults = [(os.path.relpath(edit.path, TOP), find_fault(edit)) for edit in edits]
-    lost = [f"{name}: {fault}" for name, fault in faults if fault]
+    lost = []
+    for edit in edits:
+        try:
+            check_edit(edit)
+        except Failed as why:
+            lost.append(f"{os.path.relpath(edit.path, TOP)}: {why}")
     if lost or not edits:
-        return "\n".join(lost or ["there are no wrong bodies"])
+        raise Failed("\n".join(lost or ["there are no wrong bodies"]))
     print(f"{len(edits)} wrong bodies: each applies, and changes code alone")
     return 0
 
 
 if __name__ == "__main__":
-    sys.exit(main())
+    run_script(main)

@@ -20,11 +20,11 @@ import tempfile
 sys.dont_write_bytecode = True
 sys.path.insert(0, os.path.join(os.path.dirname(os.path.dirname(os.path.realpath(__file__))), "tools"))
 
-from project import TOP, read_text
+from project import TOP, Failed, read_text, run_script
 
 DOCS = ["README.md", "CONTRIBUTING.md", "CHANGELOG.md", "bench/README.md"]
 PAGES = [*glob.glob("man/*.[13]", root_dir=TOP), *glob.glob("docs/*.md", root_dir=TOP)]
-FILES = [*[it for it in DOCS if os.path.exists(f"{TOP}/{it}")], *sorted(PAGES)]
+FILES = [*[file for file in DOCS if os.path.exists(f"{TOP}/{file}")], *sorted(PAGES)]
 VERSIONS = {
     "gnu": (["cut", "--version"], "(GNU coreutils) 9.1\n"),
     "busybox": (["busybox"], "BusyBox v1.35."),
@@ -42,7 +42,7 @@ def is_page(file):
 
 def split_page(text):
     for block in re.findall(r"^\.Bd -literal.*?\n(.*?)^\.Ed$", text, re.M | re.S):
-        yield re.sub(r"\\(?:\(..|.)", lambda it: SIGNS[it[0]], block)
+        yield re.sub(r"\\(?:\(..|.)", lambda found: SIGNS[found[0]], block)
 
 
 def split_text(text):
@@ -106,15 +106,15 @@ def main():
         return __doc__
     program = os.path.abspath(sys.argv[1])
     if not os.access(program, os.X_OK):
-        return f"there is no program {program}"
+        raise Failed(f"there is no program {program}")
     known = {side: can_run(side) for side in [*VERSIONS, "bash"]}
-    for side in [it for it in known if not known[it]]:
+    for side in [other for other in known if not known[other]]:
         print(f"left out: the examples of {side} (the system does not have it, or has another version)")
     counts = [run_examples(file, program, known) for file in FILES]
-    good, bad = (sum(it) for it in zip(*counts))
+    good, bad = (sum(numbers) for numbers in zip(*counts))
     print(f"{good} of {good + bad} examples as wanted")
     return 1 if bad else 0
 
 
 if __name__ == "__main__":
-    sys.exit(main())
+    run_script(main)

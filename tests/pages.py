@@ -1,6 +1,6 @@
 #!/usr/bin/env python3
-"""Lints the manual pages, and compares them, and the completion of bash, with the program: its options, its messages and
-its version.
+"""Lints the manual pages, and compares them, and the completion of bash, with the program: its options, its messages
+and its version.
 
   python3 tests/pages.py PROGRAM
 
@@ -21,7 +21,7 @@ sys.path.insert(0, os.path.join(os.path.dirname(os.path.dirname(os.path.realpath
 import manual
 from examples import FILES, TOP, is_page
 from names import NAMES as TOOLS
-from project import read_text
+from project import Failed, read_text, run_script
 
 COMPLETED = [
     ("ptext ", TOOLS),
@@ -46,7 +46,7 @@ MEANT = re.compile(
 def find_macros_in_headings():
     """The headings of pages with a word of plain text that mdoc takes for a macro, as `In`."""
     found = []
-    for file in [it for it in FILES if is_page(it)]:
+    for file in [name for name in FILES if is_page(name)]:
         lines = re.findall(r"^\.S[hs] [^\"\n]*\b[A-Z][a-z]\b.*$", read_text(f"{TOP}/{file}"), re.M)
         found += [f"{file}: quote this heading, since it contains the name of a macro: {line}\n" for line in lines]
     return "".join(found)
@@ -63,7 +63,7 @@ def lint_pages():
         words = ["mandoc", "-Tlint", "-Wstyle", *sorted(glob.glob(f"{TOP}/man/*.[13]")), made.name]
         # (In one stream a line of the one kind could begin within a line of the other.)
         did = subprocess.run(words, capture_output=True, text=True, check=False)
-    return "".join(it for it in (did.stdout + did.stderr).splitlines(keepends=True) if not MEANT.search(it))
+    return "".join(line for line in (did.stdout + did.stderr).splitlines(keepends=True) if not MEANT.search(line))
 
 
 def find_other_versions():
@@ -71,18 +71,18 @@ def find_other_versions():
     version = read_text(f"{TOP}/VERSION").strip()
     found = []
     named = [("CHANGELOG.md", f"## {version}\n")]
-    named += [("README.md", it) for it in (f"ptext_{version}-1_amd64.deb", f"ptext-{version}-linux")]
-    for file, wanted in [*((it, f".Os ptext {version}\n") for it in FILES if is_page(it)), *named]:
+    named += [("README.md", name) for name in (f"ptext_{version}-1_amd64.deb", f"ptext-{version}-linux")]
+    for file, wanted in [*((page, f".Os ptext {version}\n") for page in FILES if is_page(page)), *named]:
         found += [] if wanted in read_text(f"{TOP}/{file}") else [f"{file} does not name version {version}\n"]
     return "".join(found)
 
 
 def find_letters_of_program(program, tool):
     """The letters that the program does not call unknown."""
-    words = [[program, tool, f"-{it}"] for it in string.ascii_letters + string.digits]
+    words = [[program, tool, f"-{letter}"] for letter in string.ascii_letters + string.digits]
     how = {"stdin": subprocess.DEVNULL, "capture_output": True, "text": True, "check": False}
-    said = [subprocess.run(it, **how).stderr for it in words]
-    return {it[2][1] for it, text in zip(words, said) if "unknown option" not in text}
+    said = [subprocess.run(command, **how).stderr for command in words]
+    return {command[2][1] for command, text in zip(words, said) if "unknown option" not in text}
 
 
 def find_letters_of_page(tool):
@@ -106,7 +106,7 @@ def compare_options(program):
         taken = find_letters_of_program(program, tool)
         if find_letters_of_page(tool) != taken:
             found.append(f"the options of man/ptext-{tool}.1 are not those of the program, {sorted(taken)}\n")
-        if shutil.which("bash") and set(complete(["ptext", tool, "-"])) != {f"-{it}" for it in taken}:
+        if shutil.which("bash") and set(complete(["ptext", tool, "-"])) != {f"-{letter}" for letter in taken}:
             found.append(f"the completion of {tool} has not the options of the program, {sorted(taken)}\n")
     for text, wanted in COMPLETED if shutil.which("bash") else []:
         if sorted(complete(text.split(" "))) != sorted(wanted):
@@ -132,14 +132,14 @@ def find_lacking_messages():
     texts = {}
     for name in ["man/ptext.1", "man/ptext-tr.1", "tests/refused.txt", "tests/program.sh"]:
         texts[name] = read_text(f"{TOP}/{name}")
-    forms = [make_pattern(it) for it in re.findall(r"^\.It (.*: .*)$", texts["man/ptext.1"], re.M)]
-    rows = [it.partition("|")[0] for it in texts["tests/refused.txt"].splitlines() if not it.startswith("#")]
+    forms = [make_pattern(item) for item in re.findall(r"^\.It (.*: .*)$", texts["man/ptext.1"], re.M)]
+    rows = [line.partition("|")[0] for line in texts["tests/refused.txt"].splitlines() if not line.startswith("#")]
     cases = re.findall(r"^want '.*' '(.+)'$", texts["tests/program.sh"], re.M)
-    wanted = [it for row in cases for it in row.split("\\n") if it]
-    lacking = [it for it in rows + wanted if not any(re.fullmatch(form, it) for form in forms)]
-    kinds = {it.rpartition(" ")[2] for it in rows if "wrong string" in it}
-    lacking += [it for it in sorted(kinds) if f"\n.It {it}\n" not in texts["man/ptext-tr.1"]]
-    return "".join(f"not in the pages: {it}\n" for it in lacking)
+    wanted = [line for row in cases for line in row.split("\\n") if line]
+    lacking = [line for line in rows + wanted if not any(re.fullmatch(form, line) for form in forms)]
+    kinds = {line.rpartition(" ")[2] for line in rows if "wrong string" in line}
+    lacking += [kind for kind in sorted(kinds) if f"\n.It {kind}\n" not in texts["man/ptext-tr.1"]]
+    return "".join(f"not in the pages: {line}\n" for line in lacking)
 
 
 def main():
@@ -147,7 +147,7 @@ def main():
         return __doc__
     program = os.path.abspath(sys.argv[1])
     if not os.access(program, os.X_OK):
-        return f"there is no program {program}"
+        raise Failed(f"there is no program {program}")
     found = lint_pages() + find_macros_in_headings() + find_other_versions()
     found += compare_options(program) + find_lacking_messages()
     print(found or "the pages are as the program is")
@@ -155,4 +155,4 @@ def main():
 
 
 if __name__ == "__main__":
-    sys.exit(main())
+    run_script(main)

@@ -16,7 +16,7 @@ sys.path.insert(0, os.path.join(os.path.dirname(os.path.dirname(os.path.realpath
 from examples import FILES, TOP
 from project import read_text
 
-NAMING = [f"docs/{it}.md" for it in ("proofs", "PROVED", "DECISIONS")]
+NAMING = [f"docs/{name}.md" for name in ("proofs", "PROVED", "DECISIONS")]
 
 
 def compare_speed():
@@ -26,7 +26,8 @@ def compare_speed():
     works = measured.partition("## By work")[2].partition("**geometric mean**")[0]
     gains = [1 / float(ratio) for ratio in re.findall(r"^\| `.*?\| (\d[\d.]*) \|", works, re.M)]
     mean, least = math.exp(sum(map(math.log, gains)) / len(gains)), min(gains)
-    wanted = [f"{mean:.1f} times as fast", f"the geometric mean of {len(gains)} works", f"the least is {least:.1f} times"]
+    wanted = [f"{mean:.1f} times as fast", f"the geometric mean of {len(gains)} works"]
+    wanted += [f"the least is {least:.1f} times"]
     found = [f"README.md does not say: {words}\n" for words in wanted if words not in re.sub(r"\s+", " ", said)]
     rows = re.findall(r"^(\| `.* \| [\d,]+ \| [\d,]+ \|)$", said, re.M)
     return "".join(found + [f"not a row of bench/README.md: {row}\n" for row in rows if row not in measured])
@@ -45,40 +46,41 @@ def find_lacking_names():
     begin = r"^(abbrev )?(pub )?(unfoldable )?(pub )?(record |data )?"
     lacking = [f"{one}.{two}" for one, two in found if not holds(f"*/specs/**/{one}.antt", rf"{begin}{two}\b")]
     rows = set(re.findall(r"`(\w+Examples)`", text)) - {"FileExamples"}
-    lacking += [it for it in rows if not glob.glob(f"{TOP}/crates/pt*tests/proofs/**/{it}.antt", recursive=True)]
+    lacking += [name for name in rows if not glob.glob(f"{TOP}/crates/pt*tests/proofs/**/{name}.antt", recursive=True)]
     tests = set(re.findall(r"`(pt\w+)::(\w+)::(\w+)`", text))
-    lacking += ["::".join(it) for it in tests if not holds(f"{it[0]}/src/{it[1]}.rt", rf"^fn {it[2]}\b")]
+    lacking += ["::".join(test) for test in tests if not holds(f"{test[0]}/src/{test[1]}.rt", rf"^fn {test[2]}\b")]
     # The name of a case comes after the test that has it.
     for crate, module, case in re.findall(r'`(pt\w+)::(\w+)::\w+`, "([^"]*)"', text):
         lacking += [] if holds(f"{crate}/src/{module}.rt", f'"{re.escape(case)}"') else [f"{crate}::{module}: {case}"]
     # Titles come after program.sh, up to the end of a cell or a sentence.
     for titles in re.findall(r'program\.sh, ("[^|.;`]*")', text):
-        lacking += [it for it in re.findall(r'"([^"]*)"', titles) if f'same "{it}"' not in cases]
-    return "".join(f"docs/POSIX.md names what is not there: {it}\n" for it in sorted(lacking))
+        lacking += [title for title in re.findall(r'"([^"]*)"', titles) if f'same "{title}"' not in cases]
+    return "".join(f"docs/POSIX.md names what is not there: {name}\n" for name in sorted(lacking))
 
 
 def find_lacking_paths():
     """Paths in crates/ that a text names, and modules, types and definitions that NAMING does, that are not there."""
     paths = glob.glob(f"{TOP}/crates/*/[ps]*/**/*.*t*", recursive=True)
-    known = {os.path.basename(it).partition(".")[0] for it in paths}
-    for path in [it for it in paths if "/proofs/" not in it]:
+    known = {os.path.basename(path).partition(".")[0] for path in paths}
+    for path in [known_path for known_path in paths if "/proofs/" not in known_path]:
         known.update(re.findall(r"\b[A-Z]\w+", read_text(path)))
     found = []
-    for file in [it for it in FILES if it.endswith(".md")]:
+    for file in [name for name in FILES if name.endswith(".md")]:
         text = read_text(f"{TOP}/{file}").replace("specs/File.antt", "specs")
         for path in re.findall(r"\b(?:crates/|(?<=`)pt[a-z]+/)[\w/*.-]*[\w*]", text):
-            ends = [f"{TOP}/crates/{path.removeprefix('crates/')}{it}" for it in ("", ".rt", ".antt")]
+            ends = [f"{TOP}/crates/{path.removeprefix('crates/')}{end}" for end in ("", ".rt", ".antt")]
             # (The files that checks keep are there only after a check.)
-            is_there = path.endswith("/out") or any(glob.glob(it) for it in ends)
+            is_there = path.endswith("/out") or any(glob.glob(pattern) for pattern in ends)
             found += [] if is_there else [f"{file} names a path that is not there: {path}\n"]
         # Paths in any crate, except patterns such as `src/NAME.rt`.
         for path in re.findall(r"`((?:src|specs|proofs|must-fail(?:-release)?)/[\w/.-]+)`", text):
-            ends = [f"{TOP}/crates/*/{path}{it}" for it in ("", ".rt", ".antt")]
-            is_one = not re.search(r"\b(NAME|PATH|A/B)\b", path)
-            found += [f"{file} names a path that is not there: {path}\n"] if is_one and not any(map(glob.glob, ends)) else []
+            ends = [f"{TOP}/crates/*/{path}{end}" for end in ("", ".rt", ".antt")]
+            is_pattern = re.search(r"\b(NAME|PATH|A/B)\b", path)
+            is_there = is_pattern or any(map(glob.glob, ends))
+            found += [] if is_there else [f"{file} names a path that is not there: {path}\n"]
         spans = " ".join(re.findall(r"`[^`\n]+`", text)) if file in NAMING else ""
         words = set(re.findall(r"\b[A-Z][a-z]\w+", spans))
-        found += [f"{file} names what is not there: {it}\n" for it in sorted(words - known)]
+        found += [f"{file} names what is not there: {word}\n" for word in sorted(words - known)]
     return "".join(found)
 
 

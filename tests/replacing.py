@@ -16,7 +16,7 @@ sys.path.insert(0, os.path.join(os.path.dirname(os.path.dirname(os.path.realpath
 import manual
 from examples import TOP, can_run
 from names import NAMES as TOOLS
-from project import read_text
+from project import Failed, read_text, run_script
 
 # The files f and g of the rows: sorted by lines, by both fields, and if case is ignored.
 SAMPLES = {"f": "A:1 p\na:1 p\na:1 p\nb:2 q\nb:2 q\nd:4 s\n", "g": "a:1 p\nb:2 q\nc:3 r\nd:4 s\n"}
@@ -57,8 +57,8 @@ def compare_rows(program, with_gnu):
             if with_gnu:
                 text = subprocess.run([tool, "--help"], capture_output=True, text=True, check=False).stdout
                 options = set(re.findall(r"^ .*?(--[a-z0-9-]+)", text, re.M)) - {"--help", "--version"}
-                lacks = [it for it in sorted(options) if not any(it in theirs for theirs, _, _ in rows)]
-                found += [f"docs/REPLACING.md has no row for {tool} {it}\n" for it in lacks]
+                lacks = [option for option in sorted(options) if not any(option in theirs for theirs, _, _ in rows)]
+                found += [f"docs/REPLACING.md has no row for {tool} {option}\n" for option in lacks]
             for theirs, ours, note in rows:
                 did = run(f"ptext {theirs}")[0]
                 if did.returncode != 2 or not did.stderr or did.stdout:
@@ -66,9 +66,9 @@ def compare_rows(program, with_gnu):
                 if ours:
                     # (Twice, since the first run leaves files.)
                     runs = run(ours, 2) + (run(theirs) if with_gnu else [])
-                    outs = [re.sub(rb"^ +", b"", it.stdout, flags=re.M) for it in runs]
-                    outs = [it.lower() for it in outs] if "lower case" in note else outs
-                    if any(it.returncode or it.stderr for it in runs[:2]) or len(set(outs)) != 1:
+                    outs = [re.sub(rb"^ +", b"", did.stdout, flags=re.M) for did in runs]
+                    outs = [out.lower() for out in outs] if "lower case" in note else outs
+                    if any(did.returncode or did.stderr for did in runs[:2]) or len(set(outs)) != 1:
                         found.append(f"docs/REPLACING.md: not the same as {theirs}: {ours}\n")
     return "".join(found)
 
@@ -87,7 +87,7 @@ def main():
         return __doc__
     program = os.path.abspath(sys.argv[1])
     if not os.access(program, os.X_OK):
-        return f"there is no program {program}"
+        raise Failed(f"there is no program {program}")
     # (That GNU's tools are lacking is said by the examples.)
     found = compare_rows(program, can_run("gnu")) + find_lost_commands()
     print(found or "the commands of docs/REPLACING.md do what GNU's do")
@@ -95,4 +95,4 @@ def main():
 
 
 if __name__ == "__main__":
-    sys.exit(main())
+    run_script(main)

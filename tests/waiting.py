@@ -20,6 +20,11 @@ import termios
 import time
 import tty
 
+sys.dont_write_bytecode = True
+sys.path.insert(0, os.path.join(os.path.dirname(os.path.dirname(os.path.realpath(__file__))), "tools"))
+
+from project import Failed
+
 # How long anything may take, in seconds; another program may use the processor meanwhile.
 MOST = 20
 FILE = "file"
@@ -31,54 +36,56 @@ NUMBERS = "".join(f"{n:05}\n" for n in range(1364)) + "013640\n"
 MORE = "cd\n" * 5000
 
 
-def lines(words, *steps, last=""):
+def expect(words, *steps, last=""):
     """A case: the words, and what is given, each with what has to come out before the next; and what comes at the end.
     (@ is the input, & another one; a step that gives to the other is (text, out, 1).)"""
-    return words, [(*it, 0) if len(it) == 2 else it for it in steps], last
+    return words, [(*step, 0) if len(step) == 2 else step for step in steps], last
 
 
 CASES = {
     "cut": [
-        lines("cut -b 1 @", ("ab\n", "a\n"), ("cd\n", "c\n"), ("\n", "\n"), ("ef", ""), last="e\n"),
-        lines("cut -c 2- @", ("abc\n", "bc\n"), ("de\nf\n", "e\n\n")),
-        lines("cut -b 1 -z @", ("ab\0", "a\0"), ("c\nd\0", "c\0")),
-        lines("cut -f 2 @", ("a\tb\n", "b\n"), ("c\n", "c\n"), ("d\te\nf\tg\n", "e\ng\n"), ("h\t", ""), ("i\n", "i\n")),
-        lines("cut -d : -f 1 -s @", ("a:b\n", "a\n"), ("c\n", ""), ("d:\n", "d\n")),
-        lines("cut -d : -f 1 -z @", ("a:b\0", "a\0"), ("c\0", "c\0")),
+        expect("cut -b 1 @", ("ab\n", "a\n"), ("cd\n", "c\n"), ("\n", "\n"), ("ef", ""), last="e\n"),
+        expect("cut -c 2- @", ("abc\n", "bc\n"), ("de\nf\n", "e\n\n")),
+        expect("cut -b 1 -z @", ("ab\0", "a\0"), ("c\nd\0", "c\0")),
+        expect(
+            "cut -f 2 @", ("a\tb\n", "b\n"), ("c\n", "c\n"), ("d\te\nf\tg\n", "e\ng\n"), ("h\t", ""), ("i\n", "i\n")
+        ),
+        expect("cut -d : -f 1 -s @", ("a:b\n", "a\n"), ("c\n", ""), ("d:\n", "d\n")),
+        expect("cut -d : -f 1 -z @", ("a:b\0", "a\0"), ("c\0", "c\0")),
         # The output for a file comes out before the next input is waited for.
-        lines("cut -c 1 file @", ("", "1\n2\n"), ("ab\n", "a\n")),
-        lines("cut -d 2 -f 1 file @", ("", "1\n\n"), ("a2\n", "a\n")),
-        lines("cut -c 1 @ file", ("ab\n", "a\n"), last="1\n2\n"),
+        expect("cut -c 1 file @", ("", "1\n2\n"), ("ab\n", "a\n")),
+        expect("cut -d 2 -f 1 file @", ("", "1\n\n"), ("a2\n", "a\n")),
+        expect("cut -c 1 @ file", ("ab\n", "a\n"), last="1\n2\n"),
     ],
     "tr": [
-        lines("tr a-z A-Z", ("ab\n", "AB\n"), ("c", "C"), ("d\n", "D\n")),
-        lines("tr -d a", ("abc\n", "bc\n"), ("aa\n", "\n"), ("d", "d")),
-        lines("tr -s a", ("aab\n", "ab\n"), ("a", "a"), ("a\n", "\n")),
-        lines("tr -ds a b", ("aab\n", "b\n"), ("abb\n", "b\n")),
+        expect("tr a-z A-Z", ("ab\n", "AB\n"), ("c", "C"), ("d\n", "D\n")),
+        expect("tr -d a", ("abc\n", "bc\n"), ("aa\n", "\n"), ("d", "d")),
+        expect("tr -s a", ("aab\n", "ab\n"), ("a", "a"), ("a\n", "\n")),
+        expect("tr -ds a b", ("aab\n", "b\n"), ("abb\n", "b\n")),
     ],
     "uniq": [
-        lines("uniq @", ("a\n", ""), ("a\n", ""), ("b\n", "a\n"), ("c\n", "b\n"), ("c\nd\ne\n", "c\nd\n"), last="e\n"),
-        lines("uniq -c @", ("a\n", ""), ("a\n", ""), ("b\n", "2 a\n"), ("c\n", "1 b\n"), last="1 c\n"),
-        lines("uniq -d @", ("a\n", ""), ("a\n", ""), ("b\n", "a\n"), ("b\nc\n", "b\n")),
-        lines("uniq -u @", ("a\n", ""), ("b\n", "a\n"), ("b\n", ""), ("c\n", ""), ("d\n", "c\n"), last="d\n"),
-        lines("uniq -z @", ("a\0", ""), ("b\0", "a\0"), ("c\0", "b\0"), last="c\0"),
+        expect("uniq @", ("a\n", ""), ("a\n", ""), ("b\n", "a\n"), ("c\n", "b\n"), ("c\nd\ne\n", "c\nd\n"), last="e\n"),
+        expect("uniq -c @", ("a\n", ""), ("a\n", ""), ("b\n", "2 a\n"), ("c\n", "1 b\n"), last="1 c\n"),
+        expect("uniq -d @", ("a\n", ""), ("a\n", ""), ("b\n", "a\n"), ("b\nc\n", "b\n")),
+        expect("uniq -u @", ("a\n", ""), ("b\n", "a\n"), ("b\n", ""), ("c\n", ""), ("d\n", "c\n"), last="d\n"),
+        expect("uniq -z @", ("a\0", ""), ("b\0", "a\0"), ("c\0", "b\0"), last="c\0"),
     ],
     "paste in series": [
-        lines("paste -s @", ("a\n", "a"), ("b\n", "\tb"), ("c\nd\n", "\tc\td"), last="\n"),
-        lines("paste -s -z -d , @", ("a\0", "a"), ("b\0", ",b"), last="\0"),
-        lines("paste -s file @", ("", "1\t23\n"), ("a\n", "a"), ("b\n", "\tb"), last="\n"),
+        expect("paste -s @", ("a\n", "a"), ("b\n", "\tb"), ("c\nd\n", "\tc\td"), last="\n"),
+        expect("paste -s -z -d , @", ("a\0", "a"), ("b\0", ",b"), last="\0"),
+        expect("paste -s file @", ("", "1\t23\n"), ("a\n", "a"), ("b\n", "\tb"), last="\n"),
     ],
     "paste in rows": [
-        lines("paste @", ("a\n", "a\n"), ("b\nc\n", "b\nc\n")),
-        lines("paste -d , @ @", ("a\n", ""), ("b\n", "a,b\n"), ("c\nd\n", "c,d\n"), ("e\n", ""), last="e,\n"),
-        lines("paste -z -d , @ @", ("a\0", ""), ("b\0", "a,b\0")),
-        lines("paste -d , file @", ("a\n", "1,a\n"), ("b\n", "23,b\n"), ("c\n", ",c\n")),
-        lines("paste -d , @ &", ("a\n", ""), ("x\n", "a,x\n", 1), ("y\n", "", 1), ("b\n", "b,y\n")),
+        expect("paste @", ("a\n", "a\n"), ("b\nc\n", "b\nc\n")),
+        expect("paste -d , @ @", ("a\n", ""), ("b\n", "a,b\n"), ("c\nd\n", "c,d\n"), ("e\n", ""), last="e,\n"),
+        expect("paste -z -d , @ @", ("a\0", ""), ("b\0", "a,b\0")),
+        expect("paste -d , file @", ("a\n", "1,a\n"), ("b\n", "23,b\n"), ("c\n", ",c\n")),
+        expect("paste -d , @ &", ("a\n", ""), ("x\n", "a,x\n", 1), ("y\n", "", 1), ("b\n", "b,y\n")),
     ],
     # Decided are the entries whose key is below the last key of each input that may go on.
     "comm": [
-        lines("comm @ file", ("0\n", ""), ("1\n", "0\n"), ("22\n", "\t\t1\n"), ("24\n", "22\n"), last="\t23\n24\n"),
-        lines(
+        expect("comm @ file", ("0\n", ""), ("1\n", "0\n"), ("22\n", "\t\t1\n"), ("24\n", "22\n"), last="\t23\n24\n"),
+        expect(
             "comm -3 @ &",
             ("a\n", ""),
             ("b\n", "", 1),
@@ -88,11 +95,11 @@ CASES = {
             ("e\n", "c\n"),
             last="\td\ne\n",
         ),
-        lines("comm -z @ &", ("a\0", ""), ("b\0", "", 1), ("b\0", "a\0"), last="\t\tb\0"),
+        expect("comm -z @ &", ("a\0", ""), ("b\0", "", 1), ("b\0", "a\0"), last="\t\tb\0"),
     ],
     "join": [
-        lines("join @ file", ("0 x\n", ""), ("1 y\n", ""), ("2 z\n", "1 y\n"), ("23 u\n", ""), last="23 u\n"),
-        lines(
+        expect("join @ file", ("0 x\n", ""), ("1 y\n", ""), ("2 z\n", "1 y\n"), ("23 u\n", ""), last="23 u\n"),
+        expect(
             "join -a 1 @ &",
             ("a 1\n", ""),
             ("b 2\n", "", 1),
@@ -102,21 +109,21 @@ CASES = {
             ("d 6\n", "c 4\n"),
             last="d 6 5\n",
         ),
-        lines("join -z @ &", ("a\0", ""), ("a\0", "", 1), ("b\0", ""), ("b\0", "a\0", 1), last="b\0"),
+        expect("join -z @ &", ("a\0", ""), ("a\0", "", 1), ("b\0", ""), ("b\0", "a\0", 1), last="b\0"),
         # Output before that of a pair comes out with it, before the line after the pair is waited for.
-        lines("join -a 1 @ &", ("b 2\nc 1\n", "", 1), ("a 1\nb 3\n", "a 1\nb 3 2\n")),
+        expect("join -a 1 @ &", ("b 2\nc 1\n", "", 1), ("a 1\nb 3\n", "a 1\nb 3 2\n")),
     ],
     "much at once": [
-        lines("cut -b 1-2 @", (MANY, MANY), (MORE, MORE), ("e\n", "e\n")),
-        lines("cut -f 1 @", (MANY, MANY), (MORE, MORE), ("e\n", "e\n")),
-        lines("tr a x", (MANY, MANY.replace("a", "x")), (MORE, MORE), ("e", "e")),
-        lines("uniq @", (NUMBERS, NUMBERS[:-7]), (MORE, "013640\n"), ("e\n", "cd\n"), last="e\n"),
-        lines(
+        expect("cut -b 1-2 @", (MANY, MANY), (MORE, MORE), ("e\n", "e\n")),
+        expect("cut -f 1 @", (MANY, MANY), (MORE, MORE), ("e\n", "e\n")),
+        expect("tr a x", (MANY, MANY.replace("a", "x")), (MORE, MORE), ("e", "e")),
+        expect("uniq @", (NUMBERS, NUMBERS[:-7]), (MORE, "013640\n"), ("e\n", "cd\n"), last="e\n"),
+        expect(
             "paste -s @", (MANY, MANY[:-1].replace("\n", "\t")), (MORE, "\t" + MORE[:-1].replace("\n", "\t")), last="\n"
         ),
-        lines("paste @", (MANY, MANY), (MORE, MORE), ("e\n", "e\n")),
-        lines("comm @ file", (NUMBERS, NUMBERS), ("2\n", "\t1\n"), last="2\n\t23\n"),
-        lines("join -a 1 @ file", (NUMBERS, NUMBERS), ("2\n", ""), last="2\n"),
+        expect("paste @", (MANY, MANY), (MORE, MORE), ("e\n", "e\n")),
+        expect("comm @ file", (NUMBERS, NUMBERS), ("2\n", "\t1\n"), last="2\n\t23\n"),
+        expect("join -a 1 @ file", (NUMBERS, NUMBERS), ("2\n", ""), last="2\n"),
     ],
 }
 WAYS = ["pipe", "FIFO", "terminal"]
@@ -133,12 +140,12 @@ class Late(Exception):
     """Something did not come in time."""
 
 
-def shown(text):
+def shorten(text):
     """A text for a message; of a long one the end, which is where texts differ here."""
     return repr(text) if len(text) <= 60 else f"{len(text)} that end with {text[-40:]!r}"
 
 
-def fifo_to_write(path):
+def open_fifo(path):
     """The end of a FIFO for who writes, once somebody reads it."""
     until = time.monotonic() + MOST
     while time.monotonic() < until:
@@ -153,7 +160,7 @@ def fifo_to_write(path):
     raise Late(f"{os.path.basename(path)} was not opened")
 
 
-def quiet_terminal():
+def open_quiet_terminal():
     """A pseudo-terminal that takes lines and shows none."""
     near, far = pty.openpty()
     how = termios.tcgetattr(far)
@@ -162,7 +169,7 @@ def quiet_terminal():
     return near, far
 
 
-def bare_terminal():
+def open_bare_terminal():
     """A pseudo-terminal that changes nothing of what is written to it."""
     near, far = pty.openpty()
     tty.setraw(far)
@@ -175,34 +182,34 @@ class Run:
     def __init__(self, program, words, way, room):
         self.way, self.room, self.came, self.ends = way, room, b"", {}
         names = {"@": "first" if way == "FIFO" else "-", "&": "second"}
-        self.fifos = [it for it, mark in enumerate(("@", "&")) if mark in words and names[mark] != "-"]
-        for it in self.fifos:
-            os.mkfifo(f"{room}/{names['@&'[it]]}")
-        given, into = quiet_terminal() if way == "terminal" else os.pipe()[::-1]
-        self.out, out = bare_terminal() if way == "terminal" else os.pipe()
+        self.fifos = [index for index, mark in enumerate(("@", "&")) if mark in words and names[mark] != "-"]
+        for index in self.fifos:
+            os.mkfifo(f"{room}/{names['@&'[index]]}")
+        given, into = open_quiet_terminal() if way == "terminal" else os.pipe()[::-1]
+        self.out, out = open_bare_terminal() if way == "terminal" else os.pipe()
         if way == "FIFO":
             os.close(given)
         else:
             self.ends[0] = given
-        words = [program, *(names.get(it, it) for it in words)]
+        words = [program, *(names.get(word, word) for word in words)]
         self.child = subprocess.Popen(words, stdin=into, stdout=out, cwd=room, close_fds=True, start_new_session=True)
         os.close(into)
         os.close(out)
 
     def open(self):
         # The program opens all operands before it reads.
-        for it in self.fifos:
-            self.end_of(it)
+        for index in self.fifos:
+            self.open_end(index)
 
-    def end_of(self, which):
+    def open_end(self, which):
         if which not in self.ends:
-            self.ends[which] = fifo_to_write(f"{self.room}/{('first', 'second')[which]}")
+            self.ends[which] = open_fifo(f"{self.room}/{('first', 'second')[which]}")
         return self.ends[which]
 
     def give(self, which, text):
         # (A terminal hands over what is no whole line once control-D is typed.)
         pushed = "" if self.way != "terminal" or which or text.endswith("\n") else "\x04"
-        os.write(self.end_of(which), (text + pushed).encode())
+        os.write(self.open_end(which), (text + pushed).encode())
 
     def end(self):
         for which, end in self.ends.items():
@@ -218,7 +225,7 @@ class Run:
         while count is None or len(self.came) < count:
             ready, _, _ = select.select([self.out], [], [], max(until - time.monotonic(), 0))
             if not ready:
-                raise Late(f"only {shown(self.came)} came")
+                raise Late(f"only {shorten(self.came)} came")
             try:
                 piece = os.read(self.out, 65536)
             except OSError:
@@ -227,19 +234,19 @@ class Run:
             if not piece:
                 if count is None:
                     return
-                raise Late(f"it ended with {shown(self.came)}")
+                raise Late(f"it ended with {shorten(self.came)}")
             self.came += piece
 
     def close(self):
         if self.child.poll() is None:
             self.child.send_signal(signal.SIGKILL)
         self.child.wait()
-        for end in [self.out, *(it for it in self.ends.values() if it is not None)]:
+        for end in [self.out, *(other for other in self.ends.values() if other is not None)]:
             os.close(end)
 
 
-def what_failed(program, case, way):
-    """Tries a case; answers what was wrong, or nothing."""
+def try_case(program, case, way):
+    """Tries a case. Raises Failed if something else comes than is wanted."""
     words, steps, last = case
     with tempfile.TemporaryDirectory() as room:
         with open(f"{room}/{FILE}", "w", encoding="ascii") as file:
@@ -249,7 +256,7 @@ def what_failed(program, case, way):
         try:
             run.open()
             for number, (text, out, which) in enumerate(steps):
-                at = f"step {number + 1}, {shown(text)}"
+                at = f"step {number + 1}, {shorten(text)}"
                 if text:
                     run.give(which, text)
                 wanted += out.encode()
@@ -259,17 +266,16 @@ def what_failed(program, case, way):
             run.end()
             run.wait_for(None)
             if run.came != wanted:
-                return f"{shown(run.came)} came, and not {shown(wanted)}"
+                raise Failed(f"{shorten(run.came)} came, and not {shorten(wanted)}")
             if run.child.wait(MOST):
-                return f"the status is {run.child.returncode}"
+                raise Failed(f"the status is {run.child.returncode}")
         except (Late, BrokenPipeError) as why:
-            return f"at {at}: {why}, and {shown(wanted)} was wanted"
+            raise Failed(f"at {at}: {why}, and {shorten(wanted)} was wanted") from why
         finally:
             run.close()
-    return ""
 
 
-def what_was_said(program, words):
+def read_messages(program, words):
     """The text that comes on standard error while standard input is open and nothing is given."""
     with tempfile.TemporaryDirectory() as room:
         streams = {"stdin": subprocess.PIPE, "stdout": subprocess.DEVNULL, "stderr": subprocess.PIPE}
@@ -295,16 +301,17 @@ def main(program):
                 if way == "terminal" and any(len(text) > 1000 for text, _, _ in case[1]):
                     continue
                 tried += 1
-                why = what_failed(program, case, way)
-                if why:
+                try:
+                    try_case(program, case, way)
+                except Failed as why:
                     bad += 1
                     print(f"FAILED: {case[0]}, by a {way}: {why}")
     for words, wanted in SAID.items():
         tried += 1
-        said = what_was_said(program, words)
+        said = read_messages(program, words)
         if said != wanted:
             bad += 1
-            print(f"FAILED: {words}: {shown(said)} was said, and not {shown(wanted)}")
+            print(f"FAILED: {words}: {shorten(said)} was said, and not {shorten(wanted)}")
     print(f"waiting: {tried - bad} passed, {bad} failed")
     return 1 if bad else 0
 

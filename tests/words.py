@@ -9,6 +9,11 @@ import subprocess
 import sys
 import tempfile
 
+sys.dont_write_bytecode = True
+sys.path.insert(0, os.path.join(os.path.dirname(os.path.dirname(os.path.realpath(__file__))), "tools"))
+
+from project import Failed
+
 MOST = 512
 REFUSED = "{}: wrong number of operands\n"
 # For each command, the least and the greatest number of operands, and what it writes for so many names of the file.
@@ -31,8 +36,8 @@ def run(program, words, folder):
     return did.returncode, did.stdout, did.stderr
 
 
-def compare(program, command, count, folder):
-    """A message if the command does not do what it should, or nothing."""
+def check(program, command, count, folder):
+    """Raises Failed if the command with so many operands does not do what it should."""
     least, most, write = COMMANDS[command]
     tool = command.split()[0]
     wanted = (0, write(count), "") if least <= count <= most else (2, "", REFUSED.format(tool))
@@ -40,7 +45,8 @@ def compare(program, command, count, folder):
     if command == "uniq" and count == 2:
         wanted = (0, "", "")
     found = run(program, [*command.split(), *["f"] * count], folder)
-    return "" if found == wanted else f"FAILED: {command}, {count} operands: {found}, wanted {wanted}"
+    if found != wanted:
+        raise Failed(f"FAILED: {command}, {count} operands: {found}, wanted {wanted}")
 
 
 def main():
@@ -52,10 +58,11 @@ def main():
             with tempfile.TemporaryDirectory() as folder:
                 with open(f"{folder}/f", "w", encoding="ascii") as file:
                     file.write("a\n")
-                found = compare(program, command, count, folder)
-            if found:
-                failed += 1
-                print(found[:500])
+                try:
+                    check(program, command, count, folder)
+                except Failed as why:
+                    failed += 1
+                    print(str(why)[:500])
     print(f"{len(COMMANDS) * (MOST + 2)} runs with 0 to {MOST + 1} operands, {failed} failed")
     return 1 if failed else 0
 

@@ -96,21 +96,21 @@ def find_source_files():
     """The files of the source: those that git knows, or, outside a checkout, all but what was built."""
     known = call_git("ls-files", "-z")
     if known is not None:
-        return sorted(it for it in known.split("\0") if os.path.isfile(f"{TOP}/{it}") and it not in ADDED)
+        return sorted(path for path in known.split("\0") if os.path.isfile(f"{TOP}/{path}") and path not in ADDED)
     found = []
     for at, folders, names in os.walk(TOP):
         inside = os.path.relpath(at, TOP)
         is_crate = os.path.dirname(inside) == "crates"
         if inside == "debian":
-            folders[:], names = ([it for it in some if not OF_BUILD.fullmatch(it)] for some in (folders, names))
+            folders[:], names = ([name for name in some if not OF_BUILD.fullmatch(name)] for some in (folders, names))
         folders[:] = [
-            it
-            for it in folders
-            if not (it == "out" and is_crate or it in ("build", ".git") and inside == "." or it == "__pycache__")
+            name
+            for name in folders
+            if not (name == "out" and is_crate or name in ("build", ".git") and inside == "." or name == "__pycache__")
         ]
         # (In a second worktree .git is a file.)
-        found += [os.path.normpath(f"{inside}/{it}") for it in names if it != ".git"]
-    return sorted(it for it in found if it not in ADDED)
+        found += [os.path.normpath(f"{inside}/{name}") for name in names if name != ".git"]
+    return sorted(path for path in found if path not in ADDED)
 
 
 def make_sums(members):
@@ -121,11 +121,11 @@ def find_changes(members):
     """The files that are not those of the commit. None if that cannot be known."""
     said = call_git("status", "--porcelain", "-z", "--no-renames", "--untracked-files=all")
     if said is not None:
-        return [it[3:] for it in said.split("\0") if it]
+        return [row[3:] for row in said.split("\0") if row]
     if os.path.exists(f"{TOP}/.git") or not os.path.exists(f"{TOP}/SHA256SUMS"):
         return None
     wanted, found = set(read_lines(f"{TOP}/SHA256SUMS")), set(make_sums(members).splitlines())
-    return sorted({it.partition("  ")[2] for it in wanted ^ found} - set(ADDED))
+    return sorted({line.partition("  ")[2] for line in wanted ^ found} - set(ADDED))
 
 
 def write_archive(path, front, members, commit):
@@ -142,15 +142,15 @@ def write_archive(path, front, members, commit):
 
 
 def make_source_members():
-    def mode_of(path):
+    def find_mode(path):
         return 0o755 if os.access(path, os.X_OK) else 0o644
 
-    return [(it, mode_of(f"{TOP}/{it}"), read_bytes(f"{TOP}/{it}")) for it in find_source_files()]
+    return [(path, find_mode(f"{TOP}/{path}"), read_bytes(f"{TOP}/{path}")) for path in find_source_files()]
 
 
 def make_program_members(commit, program=None, notices=b""):
-    """The program (that of build/, stripped, or this one) as `make install install-tools` installs it, the docs that its
-    README names, and how to remove it."""
+    """The program (that of build/, stripped, or this one) as `make install install-tools` installs it, the docs that
+    its README names, and how to remove it."""
     installed = [*list_files(BELOW, commit), *list_files_of_tools(BELOW, make_script, commit)]
     if program is not None:
         installed = [(name, mode, program if name == "bin/ptext" else text) for name, mode, text in installed]

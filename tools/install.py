@@ -102,7 +102,7 @@ def call_git(*words):
 
 def has_other_sums():
     """Whether a file of an unpacked archive is not as SHA256SUMS has it. (Packages are made without SHA256SUMS.)"""
-    sums = dict(reversed(it.split("  ", 1)) for it in read_lines(f"{TOP}/SHA256SUMS"))
+    sums = dict(reversed(line.split("  ", 1)) for line in read_lines(f"{TOP}/SHA256SUMS"))
     return any(
         not os.path.isfile(f"{TOP}/{name}") or hashlib.sha256(read_bytes(f"{TOP}/{name}")).hexdigest() != wanted
         for name, wanted in sums.items()
@@ -129,7 +129,7 @@ def make_page(name, commit=None):
     made = f"+{commit[:8]}{'.changed' if is_changed else ''}" if commit else ""
     text = manual.make_page() if name == manual.NAME else read_bytes(f"{TOP}/man/{name}").decode()
     lines = text.splitlines(keepends=True)
-    return "".join(f"{it.rstrip()}{made}\n" if it.startswith(".Os ") else it for it in lines).encode()
+    return "".join(f"{line.rstrip()}{made}\n" if line.startswith(".Os ") else line for line in lines).encode()
 
 
 def make_script(bindir, name):
@@ -140,7 +140,7 @@ def make_script(bindir, name):
 def choose_folders(prefix, given):
     """The folders of an installation: those that are given, and the usual ones below the prefix."""
     usual = {"bindir": "bin", "libexecdir": "libexec", "datadir": "share", "libdir": "lib", "includedir": "include"}
-    found = {**{name: f"{prefix}/{it}" for name, it in usual.items()}, **given}
+    found = {**{name: f"{prefix}/{below}" for name, below in usual.items()}, **given}
     return {"mandir": f"{found['datadir']}/man", **found}
 
 
@@ -177,7 +177,7 @@ class Place:
             os.chmod(folder, 0o755)
             self.note(folder)
 
-    def unused_beside(self, path):
+    def find_unused_beside(self, path):
         """A new empty file in the folder of the path. It is removed if the installation fails."""
         try:
             descriptor, name = tempfile.mkstemp(prefix=".ptext-", dir=os.path.dirname(path))
@@ -194,7 +194,7 @@ class Place:
         self.make_folder(os.path.dirname(path))
         if os.path.isdir(path) and not os.path.islink(path):
             raise IsADirectoryError(0, "there is a folder of that name", path)
-        new = self.unused_beside(path)
+        new = self.find_unused_beside(path)
         try:
             if mode is None:
                 os.remove(new)
@@ -211,7 +211,7 @@ class Place:
             if did.returncode:
                 raise OSError(0, f"{self.install_program} failed", path)
         if os.path.lexists(path):
-            old = self.unused_beside(path)
+            old = self.find_unused_beside(path)
             os.replace(path, old)
             self.undoing.append(lambda: os.replace(old, path))
             self.kept.append(old)
@@ -222,7 +222,7 @@ class Place:
     def keep_notes(self):
         self.make_folder(os.path.dirname(self.notes))
         self.note(self.notes)
-        self.put(self.notes[len(self.destdir) :], 0o644, "".join(f"{it}\n" for it in self.noted).encode())
+        self.put(self.notes[len(self.destdir) :], 0o644, "".join(f"{path}\n" for path in self.noted).encode())
 
     def undo(self):
         for step in reversed(self.undoing):
@@ -237,7 +237,7 @@ class Place:
 
 def list_pages():
     """The manual pages, without that of the library, which `make install-lib` installs."""
-    return sorted([manual.NAME, *(it for it in os.listdir(f"{TOP}/man") if not it.endswith(".3"))])
+    return sorted([manual.NAME, *(name for name in os.listdir(f"{TOP}/man") if not name.endswith(".3"))])
 
 
 def list_files(where, commit=None, program=DYNAMIC):
@@ -258,24 +258,24 @@ def list_files_of_program(where, program):
     return [*list_files(where, program=program), (f"{where['datadir']}/ptext/NOTICES", 0o644, notice)]
 
 
-def list_files_of_tools(where, script_of=make_script, commit=None):
+def list_files_of_tools(where, make_tool=make_script, commit=None):
     """The files with which each tool has its own name: a folder for PATH, and beside it one in which `man` then finds
     the pages first."""
     beside = f"{where['libexecdir']}/ptext"
     return [
-        *((f"{beside}/bin/{name}", 0o755, script_of(where["bindir"], name)) for name in NAMES),
+        *((f"{beside}/bin/{name}", 0o755, make_tool(where["bindir"], name)) for name in NAMES),
         *((f"{beside}/man/man1/{name}.1", 0o644, make_page(f"ptext-{name}.1", commit)) for name in NAMES),
-        *((f"{where['datadir']}/{name}", mode, read_bytes(f"{TOP}/{source}")) for name, mode, source in OTHERS_OF_TOOLS),
+        *((f"{where['datadir']}/{name}", mode, read_bytes(f"{TOP}/{path}")) for name, mode, path in OTHERS_OF_TOOLS),
     ]
 
 
 def make_settings(where, prefix):
     """The file that pkg-config reads."""
     text = read_bytes(f"{TOP}/build/ptext.pc").decode()
-    for name, value in [("prefix", prefix), *((it, where[it]) for it in ("libdir", "includedir"))]:
+    for name, value in [("prefix", prefix), *((folder, where[folder]) for folder in ("libdir", "includedir"))]:
         value = value.replace(f"{prefix}/", "${prefix}/", 1) if name != "prefix" else value
         line = f"{name}={value}".replace(" ", "\\ ")
-        text = re.sub(f"^{name}=.*", lambda _, it=line: it, text, flags=re.M)
+        text = re.sub(f"^{name}=.*", lambda _, new=line: new, text, flags=re.M)
     return text.encode()
 
 
@@ -344,13 +344,13 @@ def install_library(place):
 
 def uninstall(place):
     """Files first, then the folders that were made, the innermost first, where nothing else has come into them."""
-    paths = [os.path.normpath(f"{place.root}/{it}") for it in place.noted]
+    paths = [os.path.normpath(f"{place.root}/{path}") for path in place.noted]
     if not paths:
         print(f"nothing is noted as installed in {place.root}")
         return
     # The notes go last, so that what is left is known.
     try:
-        for path in sorted(paths, key=lambda it: it == place.notes):
+        for path in sorted(paths, key=lambda path: path == place.notes):
             if os.path.isfile(path) or os.path.islink(path):
                 os.remove(path)
         for path in sorted(paths, key=len, reverse=True):
@@ -364,8 +364,8 @@ def uninstall(place):
 
 def main():
     does = {"install": install, "tools": install_tools, "library": install_library, "uninstall": uninstall}
-    words = [it for it in sys.argv[1:] if it.partition("=")[0] not in VARIABLES or "=" not in it]
-    given = dict(it.split("=", 1) for it in sys.argv[1:] if it not in words)
+    words = [word for word in sys.argv[1:] if word.partition("=")[0] not in VARIABLES or "=" not in word]
+    given = dict(word.split("=", 1) for word in sys.argv[1:] if word not in words)
     if len(words) not in (2, 3) or words[0] not in does:
         return __doc__
     for name, value in [("PREFIX", words[1]), *given.items()]:

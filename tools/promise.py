@@ -15,8 +15,9 @@ sys.dont_write_bytecode = True
 TOP = dirname(dirname(realpath(__file__)))
 sys.path.insert(1, f"{TOP}/tools/definitions")
 
-from crate import declared_types
-from specs import Specs, is_of_code, line_count, root_of
+from crate import find_declared_types
+from project import Failed, read_text, run_script
+from specs import Specs, count_lines, is_of_code, parse_root
 
 PAGE = f"{TOP}/docs/PROMISE.md"
 WIDTH = 128
@@ -27,7 +28,7 @@ CONTRACTS = [
     ("crates/ptext/src/perform.rt", "perform"),
 ]
 # Roots of the page: the specification that words have, and the messages of a run without a failure.
-SHOWN = [root_of("ptrun.SpecOfArgs.spec_of_args"), root_of("ptrun.CommandSpec.messages")]
+SHOWN = [parse_root("ptrun.SpecOfArgs.spec_of_args"), parse_root("ptrun.CommandSpec.messages")]
 # The sections of the page: a title, a sentence, the modules, and the definition whose lines the table counts.
 SECTIONS = [
     ("Bytes and lines", "", ["ptlines.Text", "ptlines.ByteOrder", "ptlines.Received", "ptlines.Slots"], ""),
@@ -77,7 +78,7 @@ all definitions on which it rests, its own included.
 """
 
 
-def joined(clause):
+def join_lines(clause):
     """A clause in one line, if that is short enough; the fields of a record on few lines; any other clause as it is."""
     one = re.sub(r";? \}", " }", " ".join(clause.split()))
     if " -- " in clause or " where" in one:
@@ -94,7 +95,7 @@ def joined(clause):
     return [*lines[:-1], lines[-1].rstrip(";")]
 
 
-def with_comments_beside(lines):
+def put_comments_beside(lines):
     """The lines, with each comment of one line after the line that it is about, if there is room."""
     found = []
     for line in lines:
@@ -107,18 +108,18 @@ def with_comments_beside(lines):
     return found
 
 
-def shown(definition):
+def format_definition(definition):
     """The lines of a definition on the page."""
     first, *clauses = definition.blocks
     first = re.sub(r"^(?:(?:abbrev|unfoldable|opaque|pub) )+", "", first)
     first = re.sub(r"^  pub ", "  ", first, flags=re.M)
-    lines = [*definition.comment, *joined(first)]
+    lines = [*definition.comment, *join_lines(first)]
     for clause in clauses:
-        lines += joined(clause)
-    return with_comments_beside(lines)
+        lines += join_lines(clause)
+    return put_comments_beside(lines)
 
 
-def variants(text):
+def format_variants(text):
     """A type of the code in one line: its fields or its variants."""
     head, _, body = text.partition("{")
     names = [line.strip().rstrip(",") for line in body.split("\n") if line.strip() not in ("", "}")]
@@ -126,49 +127,49 @@ def variants(text):
     return f"{head.split()[-1]} = {mark.join(re.sub('^pub | = [0-9]+$', '', name) for name in names)}"
 
 
-def count_of(specs, roots):
+def count_below(specs, roots):
     """The lines that some definitions rest on."""
-    needed, _ = specs.rest([root_of(root) for root in roots.split()])
-    return sum(line_count(definitions) for definitions in needed.values())
+    needed, _ = specs.find_needed([parse_root(root) for root in roots.split()])
+    return sum(count_lines(definitions) for definitions in needed.values())
 
 
-def anchor(title):
+def make_anchor(title):
     return title.lower().replace(" ", "-")
 
 
-def section(specs, needed, declared, title, sentence, modules):
+def format_section(specs, needed, declared, title, sentence, modules):
     """The text of a section of the page."""
     lines = [f"## {title}", *([sentence] if sentence else []), "```"]
-    lines += [variants(declared[name]) for name in declared]
+    lines += [format_variants(declared[name]) for name in declared]
     for module in modules:
         for definition in needed.pop(f"Rattle.{module.replace('.', '.specs.', 1)}", []):
-            lines += shown(definition)
+            lines += format_definition(definition)
     return "\n".join([*lines, "```", ""])
 
 
-def page():
+def make_page():
     """The text of the page. Raises ValueError if a definition has no section."""
     specs = Specs()
-    needed, types = specs.rest(SHOWN)
-    total = sum(line_count(definitions) for definitions in needed.values())
+    needed, types = specs.find_needed(SHOWN)
+    total = sum(count_lines(definitions) for definitions in needed.values())
     count = sum(map(len, needed.values()))
     rows, texts, told = ["| Part | Its lines | It rests on |", "|---|---|---|"], [], set()
     for title, sentence, modules, roots in SECTIONS:
         paths = [f"Rattle.{module.replace('.', '.specs.', 1)}" for module in modules]
         used = {target for path in paths for definition in needed.get(path, [])
-                for _, (target, _) in specs.uses(path, definition) if is_of_code(target)}
-        declared = {name: text for name, text in declared_types(specs, used).items() if name not in told}
+                for _, (target, _) in specs.find_uses(path, definition) if is_of_code(target)}
+        declared = {name: text for name, text in find_declared_types(specs, used).items() if name not in told}
         told |= set(declared)
-        own = sum(line_count(needed.get(path, [])) for path in paths)
-        rows.append(f"| [{title}](#{anchor(title)}) | {own} | {count_of(specs, roots) if roots else ''} |")
-        texts.append(section(specs, needed, declared, title, sentence, modules))
+        own = sum(count_lines(needed.get(path, [])) for path in paths)
+        rows.append(f"| [{title}](#{make_anchor(title)}) | {own} | {count_below(specs, roots) if roots else ''} |")
+        texts.append(format_section(specs, needed, declared, title, sentence, modules))
     if needed:
         raise ValueError(f"no section has {', '.join(needed)}")
     rows.append(f"| All {count} definitions | {total} | |")
     return "\n".join([INTRODUCTION, *rows, "", *texts])
 
 
-def roots_of_contract(specs, file, name):
+def find_roots(specs, file, name):
     """The names in the contract of a public function: pairs of a module and a name."""
     with open(f"{TOP}/{file}", encoding="utf-8") as code:
         text = code.read()
@@ -179,20 +180,20 @@ def roots_of_contract(specs, file, name):
     return [imports[word] for word in sorted(set(re.findall(r"\w+", contract))) if word in imports]
 
 
-def size():
+def describe_size():
     """How much the contracts of a whole run rest on, as text."""
     specs = Specs()
-    roots = [root for contract in CONTRACTS for root in roots_of_contract(specs, *contract)]
-    needed, _ = specs.rest(roots)
-    modules = {path: specs.module(path).definitions for path in specs.all_modules()}
+    roots = [root for contract in CONTRACTS for root in find_roots(specs, *contract)]
+    needed, _ = specs.find_needed(roots)
+    modules = {path: specs.read_module(path).definitions for path in specs.list_modules()}
     rows = []
     for crate in dict.fromkeys(path.split(".")[1] for path in modules):
         mine = [path for path in modules if path.split(".")[1] == crate]
-        lines = [sum(line_count(known.get(path, [])) for path in mine) for known in (needed, modules)]
+        lines = [sum(count_lines(known.get(path, [])) for path in mine) for known in (needed, modules)]
         counts = [sum(len(known.get(path, [])) for path in mine) for known in (needed, modules)]
         rows.append(f"{crate}: {lines[0]} of {lines[1]} lines, {counts[0]} of {counts[1]} definitions")
     mixed = [path for path in needed if len(needed[path]) < len(modules[path])]
-    lines = [sum(map(line_count, known.values())) for known in (needed, modules)]
+    lines = [sum(map(count_lines, known.values())) for known in (needed, modules)]
     rows.append(f"all: {lines[0]} of {lines[1]} lines, in {len(needed)} of {len(modules)} files")
     rows.append(f"files with other definitions beside these: {', '.join(path[7:] for path in sorted(mixed))}")
     return "\n".join(rows)
@@ -204,15 +205,16 @@ def main():
     words.add_argument("--size", action="store_true")
     given = words.parse_args()
     if given.size:
-        print(size())
+        print(describe_size())
         return 0
     if given.check:
-        with open(PAGE, encoding="utf-8") as file:
-            return 0 if file.read() == page() else "docs/PROMISE.md is stale: run make docs"
+        if read_text(PAGE) != make_page():
+            raise Failed("docs/PROMISE.md is stale: run make docs")
+        return 0
     with open(PAGE, "w", encoding="utf-8") as file:
-        file.write(page())
+        file.write(make_page())
     return 0
 
 
 if __name__ == "__main__":
-    sys.exit(main())
+    run_script(main)

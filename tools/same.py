@@ -22,7 +22,7 @@ TOP = os.path.dirname(os.path.dirname(os.path.realpath(__file__)))
 sys.path[:0] = [f"{TOP}/tools/compare", f"{TOP}/tools", f"{TOP}/python"]
 os.environ.setdefault("PTEXT_LIBRARY", f"{TOP}/build/libptext.so")
 
-from generating import some_case
+from generating import make_case
 from reading import FLAGS
 
 # (Before version 24, node has memories with 64-bit addresses by this option only.)
@@ -54,7 +54,7 @@ class Page:
         self.node.kill()
         self.node.wait()
 
-    def asked(self, words, stdin=b"", files=None, **more):
+    def ask(self, words, stdin=b"", files=None, **more):
         """The answer to one call."""
         given = {name: base64.b64encode(text).decode() for name, text in (files or {}).items()}
         call = {"words": words, "stdin": base64.b64encode(stdin).decode(), "files": given, **more}
@@ -63,15 +63,15 @@ class Page:
         return json.loads(self.node.stdout.readline())
 
     def names(self, words):
-        answer = self.asked(words)
+        answer = self.ask(words)
         return answer["read"], answer["output"]
 
     def run_all(self, words, stdin, files):
-        answer = self.asked(words, stdin, files)
-        return (answer["status"], *(base64.b64decode(answer[it]) for it in ("out", "messages")))
+        answer = self.ask(words, stdin, files)
+        return (answer["status"], *(base64.b64decode(answer[stream]) for stream in ("out", "messages")))
 
 
-def of_program(program, words, inputs, output, room):
+def run_program(program, words, inputs, output, room):
     """The status, the output (also that to a file) and the messages of the program."""
     with tempfile.TemporaryDirectory(dir=room) as folder:
         for name, text in inputs.items():
@@ -88,7 +88,7 @@ def of_program(program, words, inputs, output, room):
 
 
 def is_text(words):
-    return not any("\udc80" <= it <= "\udcff" for word in words for it in word)
+    return not any("\udc80" <= character <= "\udcff" for word in words for character in word)
 
 
 def main():
@@ -102,15 +102,15 @@ def main():
     signal.signal(signal.SIGTERM, lambda *_: sys.exit(143))
     with contextlib.closing(other), tempfile.TemporaryDirectory() as room:
         for number in range(given.count):
-            case = some_case(tools[number % len(tools)], random.Random(f"library {number}"))
-            words, inputs = case.words(), dict(case.inputs)
+            case = make_case(tools[number % len(tools)], random.Random(f"library {number}"))
+            words, inputs = case.words, dict(case.inputs)
             # (Nobody can type a word that is not UTF-8 into a page.)
             read, output = other.names(words) if not given.page or is_text(words) else ([""], "")
             if output is not None and output in read:
                 left_out += 1
                 continue
-            wanted = of_program(program, words, inputs, output, room)
-            found = other.run_all(words, inputs.get("-", b""), {it: inputs[it] for it in read if it in inputs})
+            wanted = run_program(program, words, inputs, output, room)
+            found = other.run_all(words, inputs.get("-", b""), {name: inputs[name] for name in read if name in inputs})
             if wanted != found:
                 differences += 1
                 print(f"FAILED: {words}\nprogram: {wanted}\nlibrary: {found}\ninputs: {inputs}")

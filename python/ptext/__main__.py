@@ -15,7 +15,7 @@ class Failed(Exception):
     """A call of the system failed, with this message of the program."""
 
 
-def opened(name: str, flags: int) -> int | None:
+def open_file(name: str, flags: int) -> int | None:
     """A file that is open, or None if it cannot be opened."""
     try:
         return os.open(name, flags, 0o666)
@@ -40,7 +40,7 @@ def write_all(descriptor: int, text: bytes) -> None:
         rest = rest[os.write(descriptor, rest) :]
 
 
-def standard_input() -> bytes:
+def read_standard_input() -> bytes:
     # (If it is closed, its number may be that of another file.)
     return read_all(0 if sys.stdin else -1, "standard input")
 
@@ -62,14 +62,14 @@ def write_messages(messages: bytes) -> None:
 def run(words: list[str]) -> int:
     """Runs a command, as the program does: an output file is made when all inputs are open, before they are read."""
     inputs, output = names(words)
-    open_files = {name: opened(name, READ) for name in dict.fromkeys(inputs)}
+    open_files = {name: open_file(name, READ) for name in dict.fromkeys(inputs)}
     to = 1 if sys.stdout else -1
     if output is not None and None not in open_files.values():
-        made = opened(output, WRITE)
+        made = open_file(output, WRITE)
         if made is None:
             raise Failed(f"{output}: cannot be opened")
         to = made
-    stdin = standard_input() if reads_stdin(words) else b""
+    stdin = read_standard_input() if reads_stdin(words) else b""
     files = {name: read_all(at, name) for name, at in open_files.items() if at is not None}
     status, out, messages = run_all(words, stdin, files)
     try:

@@ -36,7 +36,7 @@ class _Answer(ctypes.Structure):
     _fields_ = [("out", _Part), ("messages", _Part), ("status", ctypes.c_uint8)]
 
 
-def _found() -> ctypes.CDLL:
+def _find_library() -> ctypes.CDLL:
     """The library: PTEXT_LIBRARY, that in this package, or that of the system."""
     here = os.path.dirname(os.path.abspath(__file__))
     for path in (os.environ.get("PTEXT_LIBRARY"), f"{here}/libptext.so"):
@@ -48,7 +48,7 @@ def _found() -> ctypes.CDLL:
     return ctypes.CDLL(name)
 
 
-_LIBRARY = _found()
+_LIBRARY = _find_library()
 _BYTES, _SIZE, _ENDS = ctypes.c_void_p, ctypes.c_size_t, ctypes.POINTER(ctypes.c_size_t)
 _RUN = _LIBRARY.ptext_run
 _RUN.restype = ctypes.c_uint8
@@ -64,49 +64,49 @@ _NAMES.restype = ctypes.c_uint8
 _NAMES.argtypes = [ctypes.c_char_p, _SIZE, *[_BYTES, _SIZE] * 2, ctypes.POINTER(_Answer)]
 
 
-def _bytes_of(given: Input) -> bytes:
+def _read_bytes(given: Input) -> bytes:
     if isinstance(given, bytes):
         return given
     if isinstance(given, str):
         return given.encode()
     if isinstance(given, (bytearray, memoryview)):
         return bytes(given)
-    return _bytes_of(given.read())
+    return _read_bytes(given.read())
 
 
-def _listed(words: Iterable[str]) -> list[str]:
+def _list_words(words: Iterable[str]) -> list[str]:
     if isinstance(words, (str, bytes)):
         raise TypeError("words are a list of texts, as ['cut', '-f', '1']")
     return list(words)
 
 
-def _words_of(words: Iterable[str]) -> bytes:
-    encoded = [os.fsencode(it) for it in words]
-    if any(0 in it for it in encoded):
+def _encode_words(words: Iterable[str]) -> bytes:
+    encoded = [os.fsencode(word) for word in words]
+    if any(0 in word for word in encoded):
         raise ValueError("a word contains byte 0")
-    return b"".join(it + b"\0" for it in encoded)
+    return b"".join(word + b"\0" for word in encoded)
 
 
-def _texts(buffer: ctypes.Array[ctypes.c_char], size: int) -> list[str]:
-    return [os.fsdecode(it) for it in buffer.raw[:size].split(b"\0")[:-1]]
+def _decode_names(buffer: ctypes.Array[ctypes.c_char], size: int) -> list[str]:
+    return [os.fsdecode(name) for name in buffer.raw[:size].split(b"\0")[:-1]]
 
 
 def names(words: Iterable[str]) -> tuple[list[str], str | None]:
     """The names of the files that a command reads, in their order, and that of its output file, if it names one. Words
     that are no command name no file."""
-    given = _words_of(_listed(words))
+    given = _encode_words(_list_words(words))
     room = len(given)
     read, written, answer = ctypes.create_string_buffer(room + 1), ctypes.create_string_buffer(room + 1), _Answer()
     status = _NAMES(given, len(given), read, room, written, room, answer)
     if status == MEMORY:
         raise MemoryError("ptext: out of memory")
-    outputs = _texts(written, answer.messages.written)
-    return _texts(read, answer.out.written), outputs[0] if outputs else None
+    outputs = _decode_names(written, answer.messages.written)
+    return _decode_names(read, answer.out.written), outputs[0] if outputs else None
 
 
 def reads_stdin(words: Iterable[str]) -> bool:
     """Whether a command reads standard input. Words that are no command do not."""
-    words = _listed(words)
+    words = _list_words(words)
     if run_all(words)[0] == WRONG:
         return False
     other = "x"
@@ -114,7 +114,7 @@ def reads_stdin(words: Iterable[str]) -> bool:
         other += "x"
     # A word `-` is standard input if another word in its place would be the name of an input. (It may be a delimiter.)
     replaced = ([*words[:at], other, *words[at + 1 :]] for at, word in enumerate(words) if word == "-")
-    return not names(words)[0] or any(other in names(it)[0] for it in replaced)
+    return not names(words)[0] or any(other in names(other_words)[0] for other_words in replaced)
 
 
 def run(words: Iterable[str], stdin: Input = b"", files: Mapping[str, Input] | None = None) -> bytes:
@@ -123,7 +123,7 @@ def run(words: Iterable[str], stdin: Input = b"", files: Mapping[str, Input] | N
     An open file is read once, also if its name is there twice. Raises `Error` if the status is not 0, with the status,
     the messages and the output; and `MemoryError`, of which `out` has the beginning of the output if the library raised
     it."""
-    words = _listed(words)
+    words = _list_words(words)
     status, out, messages = run_all(words, stdin, files)
     if status == MEMORY:
         error = MemoryError("ptext: out of memory")
@@ -138,12 +138,12 @@ def run_all(
     words: Iterable[str], stdin: Input = b"", files: Mapping[str, Input] | None = None
 ) -> tuple[int, bytes, bytes]:
     """The status of a command, its output and its messages. The status is MEMORY if the library ran out of memory."""
-    words = _listed(words)
-    given, text = _words_of(words), _bytes_of(stdin)
+    words = _list_words(words)
+    given, text = _encode_words(words), _read_bytes(stdin)
     read = names(words)[0] if files else []
-    contents = {it: _bytes_of(files[it]) for it in dict.fromkeys(read) if files and files.get(it) is not None}
-    parts = [contents.get(it) for it in read]
-    present = [it for it in parts if it is not None]
+    contents = {name: _read_bytes(files[name]) for name in dict.fromkeys(read) if files and files.get(name) is not None}
+    parts = [contents.get(name) for name in read]
+    present = [part for part in parts if part is not None]
     joined = present[0] if len(present) == 1 else b"".join(present)
     ends, end = (ctypes.c_size_t * len(parts))(), 0
     for index, part in enumerate(parts):

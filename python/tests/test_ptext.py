@@ -133,15 +133,15 @@ class Failures(unittest.TestCase):
 
 class Threads(unittest.TestCase):
     def test_calls_at_the_same_time(self):
-        text = b"".join(b"%d some words\n" % it for it in range(20_000))
+        text = b"".join(b"%d some words\n" % number for number in range(20_000))
         wanted, found = ptext.cut("-d", " ", "-f", "1", stdin=text), []
         threads = [
             threading.Thread(target=lambda: found.append(ptext.cut("-d", " ", "-f", "1", stdin=text))) for _ in range(8)
         ]
-        for it in threads:
-            it.start()
-        for it in threads:
-            it.join()
+        for thread in threads:
+            thread.start()
+        for thread in threads:
+            thread.join()
         self.assertEqual(found, [wanted] * 8)
 
 
@@ -159,7 +159,7 @@ class Program(unittest.TestCase):
     def is_so(self, command, wanted, **more):
         """Runs a command by a shell. `ptext` is the module. Compares the status, the output and the messages."""
         words = command.replace("ptext", f"exec {sys.executable} -m ptext", 1)
-        path = os.pathsep.join(os.path.abspath(it) for it in sys.path if it)
+        path = os.pathsep.join(os.path.abspath(folder) for folder in sys.path if folder)
         how = {"capture_output": True, "cwd": self.room, "timeout": 60, "env": {**os.environ, "PYTHONPATH": path}}
         did = subprocess.run(["sh", "-c", words], **how, **({"input": b""} | more))
         self.assertEqual((did.returncode, did.stdout.decode(), did.stderr.decode()), wanted, command)

@@ -35,48 +35,53 @@ TOP = os.path.dirname(os.path.dirname(os.path.dirname(os.path.realpath(__file__)
 sys.path.insert(0, f"{TOP}/tools")
 
 import corpus
-from generating import some_case
-from model import answer_of
+from generating import make_case
+from model import compute_answer
 from points import POINTS
+from project import Failed, run_script
 from reading import FLAGS
-from report import in_printf, table_head
-from running import SIDES, Side, multi_call, run, side_of
+from report import format_for_printf, format_head
+from running import SIDES, Side, call_program, find_side, run
 from tallying import Stopped, Work, shorten, stop
 
 KNOWN_VERSION = "9.1"
 
 
 def check_headings():
-    """The headings in points.py that docs/REPLACING.md lacks."""
+    """Raises Failed if docs/REPLACING.md lacks headings that points.py names."""
     with open(f"{TOP}/docs/REPLACING.md", encoding="utf-8") as file:
         known = re.findall(r"^#+ (.*)$", file.read(), re.M)
-    return [it.heading for it in POINTS if it.heading and it.heading not in known]
+    lacking = [point.heading for point in POINTS if point.heading and point.heading not in known]
+    if lacking:
+        raise Failed(f"not in docs/REPLACING.md: {', '.join(lacking)}")
 
 
-def differs_from_definitions(program, case, room):
+def describe_difference(program, case, room):
     """A report of how the program differs from the definitions, or None."""
-    wanted, got = answer_of(case), run([program, *case.words()], case, room)
+    wanted, got = compute_answer(case), run([program, *case.words], case, room)
     if wanted == got:
         return None
-    rows = [f"{name}: {it.status} {shorten(it.out)} {it.messages!r}" for name, it in (("wanted", wanted), ("found", got))]
-    inputs = {name: shorten(text) for name, text in case.inputs.items() if name in case.files()}
-    return f"FAILED: {case.words()} in pieces of {case.piece}\n" + "\n".join(rows) + f"\ninputs: {inputs}\n"
+    answers = {"wanted": wanted, "found": got}.items()
+    rows = [f"{name}: {one.status} {shorten(one.out)} {one.messages!r}" for name, one in answers]
+    inputs = {name: shorten(text) for name, text in case.inputs.items() if name in case.files}
+    return f"FAILED: {case.words} in pieces of {case.piece}\n" + "\n".join(rows) + f"\ninputs: {inputs}\n"
 
 
 def make_cases(given, share, shares):
     """The random cases of a share of the work, each with its number."""
     tools = [given.tool] if given.tool else list(FLAGS)
     for number in range(share, given.count, shares) if given.only is None else [given.only] * (not share):
-        yield number, some_case(tools[number % len(tools)], random.Random(f"{given.seed} {number}"))
+        yield number, make_case(tools[number % len(tools)], random.Random(f"{given.seed} {number}"))
 
 
 def check_corpus(program, folder, room):
     """Runs the corpus and returns the exit status."""
-    cases, bad = corpus.read(folder), 0
+    cases, bad = corpus.read_cases(folder), 0
     for case, wanted, title in cases:
-        found = differs_from_definitions(program, case, room)
-        if answer_of(case).out != wanted:
-            found = f"FAILED: the definitions do not give what the corpus has: {case.words()} {in_printf(wanted)}\n"
+        found = describe_difference(program, case, room)
+        if compute_answer(case).out != wanted:
+            shown = f"{case.words} {format_for_printf(wanted)}"
+            found = f"FAILED: the definitions do not give what the corpus has: {shown}\n"
         if found:
             bad += 1
             print(f"{title}: {found}")
@@ -84,17 +89,17 @@ def check_corpus(program, folder, room):
     return 1 if bad or not cases else 0
 
 
-def sides_of(given, program):
+def find_sides(given, program):
     """The program itself, and those of the requested implementations that are installed."""
     names = list(SIDES) if given.against == "all" else [given.against]
-    sides = [side_of(it) for it in names]
+    sides = [find_side(name) for name in names]
     if given.without:
-        sides = [it._replace(lacks={**it.lacks, given.without: None}) for it in sides]
+        sides = [side._replace(lacks={**side.lacks, given.without: None}) for side in sides]
     with open(f"{TOP}/VERSION", encoding="ascii") as file:
         version = file.read().strip()
-    ours = Side("ptext", multi_call(program), [], {})._replace(fixed_version=version)
-    there = [it for it in sides if it.version() or it.name not in SIDES]
-    for side in [it for it in sides if it not in there]:
+    ours = Side("ptext", call_program(program), [], {})._replace(fixed_version=version)
+    there = [side for side in sides if side.find_version() or side.name not in SIDES]
+    for side in [side for side in sides if side not in there]:
         print(f"left out: {side.name} (the system does not have it)")
     return [ours, *there]
 
@@ -103,26 +108,26 @@ def compare(given, program, room):
     """Runs the random cases and returns the exit status."""
     print(f"seed {given.seed}", flush=True)
     all_work = Work(
-        sides_of(given, program),
+        find_sides(given, program),
         lambda share, shares: make_cases(given, share, shares),
-        lambda case, folder: differs_from_definitions(program, case, folder),
+        lambda case, folder: describe_difference(program, case, folder),
         room,
     )
     is_stopped = all_work.run(given.count)
     tallies = all_work.tallies
     for tally in tallies if not given.brief else []:
-        print(*tally.details(), sep="\n", flush=True)
+        print(*tally.list_details(), sep="\n", flush=True)
     if not given.brief:
-        print(table_head(), *(tally.row() for tally in tallies), sep="\n")
+        print(format_head(), *(tally.format_row() for tally in tallies), sep="\n")
     bad, count = tallies[0].failed, tallies[0].tried
     print(f"{count - bad} of {count} cases as the definitions have them")
     if given.keep:
-        corpus.add(given.keep, [case for tally in tallies for case in tally.wrong_cases()])
+        corpus.add_cases(given.keep, [case for tally in tallies for case in tally.list_wrong_cases()])
     if is_stopped:
         print("stopped: of each implementation, the cases that were tried until then are counted")
         return 130
-    is_known = [tally for tally in tallies if tally.side.name == "system" and tally.side.version() == KNOWN_VERSION]
-    return 1 if bad or any(tally.unjudged for tally in is_known) else 0
+    known = [tally for tally in tallies if tally.side.name == "system" and tally.side.find_version() == KNOWN_VERSION]
+    return 1 if bad or any(tally.unjudged for tally in known) else 0
 
 
 def main():
@@ -138,9 +143,7 @@ def main():
     words.add_argument("--corpus", metavar="FOLDER", help="runs the cases of a corpus")
     words.add_argument("--keep", metavar="FOLDER", help="adds the smallest wrong cases to a corpus")
     given = words.parse_args()
-    lacking = check_headings()
-    if lacking:
-        return f"not in docs/REPLACING.md: {', '.join(lacking)}"
+    check_headings()
     program = os.path.abspath(given.program)
     signal.signal(signal.SIGTERM, stop)
     with tempfile.TemporaryDirectory() as room:
@@ -151,4 +154,4 @@ def main():
 
 
 if __name__ == "__main__":
-    sys.exit(main())
+    run_script(main)

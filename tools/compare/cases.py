@@ -18,54 +18,57 @@ class Case(NamedTuple):
 
     def has(self, letter):
         """Whether the option is among those before the operands."""
-        return any(it == letter for it, _ in self.options)
+        return any(other == letter for other, _ in self.options)
 
-    def values(self, letter):
+    def list_values(self, letter):
         """The values of an option, in their order."""
-        return [value for it, value in self.options if it == letter]
+        return [value for other, value in self.options if other == letter]
 
+    @property
     def end(self):
         """The line terminator."""
         return b"\0" if self.has("z") else b"\n"
 
+    @property
     def files(self):
         """The operands that name inputs, and `-` if standard input is read without an operand."""
         if self.tool == "tr":
             return ["-"]
-        named = self.operands + late_words(self)
+        named = self.operands + list_late_words(self)
         if self.tool == "uniq":
             named = named[:1]
         return named or ["-"]
 
-    def lines(self, name):
+    def read_lines(self, name):
         """The lines of an input, without their terminators."""
-        return lines_of(self.inputs.get(name, b""), self.end())
+        return split_lines(self.inputs.get(name, b""), self.end)
 
-    def with_lines(self, change):
+    def change_lines(self, change):
         """The case with other lines: change(index, lines) returns those of the operand with that index."""
         inputs = dict(self.inputs)
         for index, name in enumerate(self.operands):
             if name in inputs:
-                inputs[name] = b"".join(it + self.end() for it in change(index, self.lines(name)))
+                inputs[name] = b"".join(line + self.end for line in change(index, self.read_lines(name)))
         return self._replace(inputs=inputs)
 
+    @property
     def words(self):
         """The tool and its words, as they are given to a program."""
-        return spelled(self)
+        return spell_words(self)
 
 
-def lines_of(text, end):
+def split_lines(text, end):
     """The lines of a text. The last line may lack its terminator."""
     parts = text.split(end)
     return parts[:-1] if not parts[-1] else parts
 
 
-def late_words(case):
+def list_late_words(case):
     """The words of the options after the operands. By POSIX they are operands."""
     return [word for letter, value in case.late for word in ["-" + letter] + ([] if value is None else [value])]
 
 
-def spelled(case):
+def spell_words(case):
     """The options and operands as words, in the spelling of the case."""
     rng = random.Random(case.spelling) if case.spelling else None
 
@@ -87,4 +90,4 @@ def spelled(case):
     first = case.operands[0] if case.operands else ""
     if case.operands and (first.startswith("-") and len(first) > 1 or sometimes(0.05)):
         words.append("--")
-    return words + case.operands + late_words(case)
+    return words + case.operands + list_late_words(case)

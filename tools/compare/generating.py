@@ -1,9 +1,8 @@
 """Random cases: mostly command lines that POSIX allows, and now and then a mistake or an extension."""
-import random
 
 from cases import Case
 from model import key_of, ranks
-from reading import LARGEST, Refused, meaning_of
+from reading import LARGEST, Refused, read_command
 
 # A pair has the usual values and the rare ones.
 NUMBER = ["1", "2", "3", "4"], ["0", "9", "007", str(LARGEST), str(LARGEST + 1)]
@@ -26,11 +25,11 @@ SET_FORMS = ["[:foo:]", "[:alpha", "[::]", "[==]", "[a*x]", "[a*99999]", "[a*08]
 ODD_SETS = ["", r"\400", "\\", "z-a", r"\q", r"\8", "a-", "--/", *SET_FORMS]
 
 
-def chosen(rng, from_these, odd, often=0.96):
+def choose(rng, from_these, odd, often=0.96):
     return rng.choice(from_these if rng.random() < often else odd)
 
 
-def some_list(rng):
+def make_list(rng):
     if rng.random() < 0.05:
         return rng.choice(LISTS)
     text = ""
@@ -41,17 +40,17 @@ def some_list(rng):
     return text
 
 
-def some_set(rng):
+def make_set(rng):
     if rng.random() < 0.04:
         return rng.choice(["", rng.choice(SET_PARTS)]) + rng.choice(ODD_SETS)
     return "".join(rng.choice(SET_PARTS) for _ in range(rng.choice([1, 1, 2, 3])))
 
 
-def options_of_cut(rng):
+def choose_cut_options(rng):
     letter = rng.choice("bcfff")
-    options = [(letter, some_list(rng))]
+    options = [(letter, make_list(rng))]
     if letter == "f" and rng.random() < 0.7:
-        options.append(("d", chosen(rng, *CUT_DELIMITERS)))
+        options.append(("d", choose(rng, *CUT_DELIMITERS)))
     if letter == "f" and rng.random() < 0.3 or rng.random() < 0.02:
         options.append(("s", None))
     if letter == "b" and rng.random() < 0.2 or rng.random() < 0.02:
@@ -59,25 +58,25 @@ def options_of_cut(rng):
     return options
 
 
-def options_of_paste(rng):
+def choose_paste_options(rng):
     options = [("s", None)] if rng.random() < 0.4 else []
     if rng.random() < 0.7:
         text = "".join(rng.choice(PASTE_ELEMENTS) for _ in range(rng.randint(1, 4)))
-        options.append(("d", chosen(rng, [text], PASTE_LISTS)))
+        options.append(("d", choose(rng, [text], PASTE_LISTS)))
     return options
 
 
-def options_of_uniq(rng):
+def choose_uniq_options(rng):
     options = [(rng.choice("cdu"), None)] if rng.random() < 0.6 else []
-    options += [(letter, chosen(rng, *NUMBER, 0.8)) for letter in "fs" if rng.random() < 0.4]
+    options += [(letter, choose(rng, *NUMBER, 0.8)) for letter in "fs" if rng.random() < 0.4]
     return options + ([rng.choice(UNIQ_OPTIONS)] if rng.random() < 0.04 else [])
 
 
-def options_of_comm(rng):
+def choose_comm_options(rng):
     return [(letter, None) for letter in "123" if rng.random() < 0.3] + ([("r", None)] if rng.random() < 0.1 else [])
 
 
-def options_of_join(rng):
+def choose_join_options(rng):
     letter = rng.choice("av")
     options = [(letter, number) for number in "12" if rng.random() < 0.35]
     options += [("r", None)] if rng.random() < 0.1 else []
@@ -87,14 +86,14 @@ def options_of_join(rng):
         text = rng.choice(JOIN_FIELDS)
         for _ in range(rng.randint(0, 3)):
             text += rng.choice([",", " "]) + rng.choice(JOIN_FIELDS)
-        options.append(("o", chosen(rng, [text], JOIN_LISTS)))
+        options.append(("o", choose(rng, [text], JOIN_LISTS)))
     if rng.random() < 0.5:
-        options.append(("t", chosen(rng, *JOIN_SEPARATORS)))
-    options += [(letter, chosen(rng, *JOIN_NUMBERS)) for letter in "12" if rng.random() < 0.25]
+        options.append(("t", choose(rng, *JOIN_SEPARATORS)))
+    options += [(letter, choose(rng, *JOIN_NUMBERS)) for letter in "12" if rng.random() < 0.25]
     return options + ([rng.choice(JOIN_OPTIONS)] if rng.random() < 0.02 else [])
 
 
-def options_of_tr(rng):
+def choose_tr_options(rng):
     options = [(letter, None) for letter in rng.choice(["", "", "s", "s", "d", "ds"])]
     if rng.random() < 0.3:
         options.append((rng.choice("cC"), None))
@@ -104,20 +103,20 @@ def options_of_tr(rng):
 
 
 OPTIONS = {
-    "cut": options_of_cut,
-    "paste": options_of_paste,
-    "uniq": options_of_uniq,
-    "comm": options_of_comm,
-    "join": options_of_join,
-    "tr": options_of_tr,
+    "cut": choose_cut_options,
+    "paste": choose_paste_options,
+    "uniq": choose_uniq_options,
+    "comm": choose_comm_options,
+    "join": choose_join_options,
+    "tr": choose_tr_options,
 }
 
 
-def operands_of(tool, options, rng):
-    letters = [it for it, _ in options]
+def choose_operands(tool, options, rng):
+    letters = [letter for letter, _ in options]
     if tool == "tr":
         count = 1 if "d" in letters and "s" not in letters or letters == ["s"] and rng.random() < 0.5 else 2
-        return [some_set(rng) for _ in range(count if rng.random() < 0.98 else rng.randint(0, 3))]
+        return [make_set(rng) for _ in range(count if rng.random() < 0.98 else rng.randint(0, 3))]
     names = ["-", "f", "g", "h", "none" if rng.random() < 0.15 else "f"]
     if tool == "uniq":
         return ([rng.choice(names)] + ["out"] * (rng.random() < 0.2)) * (rng.random() < 0.7)
@@ -128,46 +127,46 @@ def operands_of(tool, options, rng):
     ]
 
 
-def some_line(rng, end, kind):
+def make_line(rng, end, kind):
     if rng.random() < 0.01:
         return bytes(rng.choice(kind) for _ in range(7)) * rng.choice([500, 1170, 1171, 2000])
     return bytes(rng.choice(kind) for _ in range(rng.choice([0, 1, 1, 2, 3, 5, 8, 13]))).replace(end, b"")
 
 
-def some_text(rng, end, count):
+def make_text(rng, end, count):
     kind = rng.choice([b"ab", b"ab,: \t", b"aab, ", b"abcxyzABZ0189.,:-[]\\ \t\xc3\xa9\xff", b"a,\n\0 ", b"1 \t"])
-    lines = [some_line(rng, end, kind) for _ in range(count)]
+    lines = [make_line(rng, end, kind) for _ in range(count)]
     if rng.random() < 0.5:
-        lines = [it for line in lines for it in [line] * rng.choice([1, 1, 2, 3])]
-    text = b"".join(it + end for it in lines)
+        lines = [copy for line in lines for copy in [line] * rng.choice([1, 1, 2, 3])]
+    text = b"".join(line + end for line in lines)
     return text[: -len(end)] if rng.random() < 0.15 and text and lines[-1] else text
 
 
-def in_order(case, rng):
+def sort_often(case, rng):
     """The case with its files in order, mostly. If the order descends, each line has a join field."""
     if case.tool not in ("comm", "join") or not has_keys(case):
         return case
     if case.tool == "join" and case.has("r"):
-        case = case.with_lines(lambda index, lines: [it for it in lines if key_of(case, index, it)])
-    return case if rng.random() < 0.15 else sorted_case(case)
+        case = case.change_lines(lambda index, lines: [line for line in lines if key_of(case, index, line)])
+    return case if rng.random() < 0.15 else sort_files(case)
 
 
 def has_keys(case):
     """Whether a command line of comm or join is taken, so that each line has a key."""
     try:
-        meaning_of(case.words())
+        read_command(case.words)
     except Refused:
         return False
-    return all(it in case.inputs for it in case.operands)
+    return all(name in case.inputs for name in case.operands)
 
 
-def sorted_case(case):
+def sort_files(case):
     """The case with its files in order."""
     known = ranks(case)
-    return case.with_lines(lambda index, lines: sorted(lines, key=lambda it: known[key_of(case, index, it)]))
+    return case.change_lines(lambda index, lines: sorted(lines, key=lambda line: known[key_of(case, index, line)]))
 
 
-def some_case(tool, rng):
+def make_case(tool, rng):
     """A random case of a tool."""
     options = OPTIONS[tool](rng)
     if tool != "tr" and rng.random() < 0.15:
@@ -178,10 +177,10 @@ def some_case(tool, rng):
         options.append(("q", None))
     rng.shuffle(options)
     late = [options.pop()] if tool != "tr" and options and rng.random() < 0.02 else []
-    operands = operands_of(tool, options, rng)
+    operands = choose_operands(tool, options, rng)
     end = b"\0" if ("z", None) in options else b"\n"
     most = 3 if rng.random() < 0.2 else 12 if rng.random() < 0.95 else 150 if tool == "join" else 2000
-    inputs = {name: some_text(rng, end, rng.randint(0, most)) for name in "-fgh"}
+    inputs = {name: make_text(rng, end, rng.randint(0, most)) for name in "-fgh"}
     piece = rng.choice([1, 7, 4096, 4096] if len(inputs["-"]) < 3000 else [7, 4096])
     spelling = rng.randrange(1, 1 << 30)
-    return in_order(Case(tool, options, operands, late if operands else [], inputs, spelling, piece), rng)
+    return sort_often(Case(tool, options, operands, late if operands else [], inputs, spelling, piece), rng)

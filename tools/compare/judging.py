@@ -2,11 +2,11 @@
 import re
 from typing import NamedTuple
 
-from model import answer_of
-from points import closed, open_points
+from model import compute_answer
+from points import close_points, find_open_points
 from rules import HIGH_BYTES, RULES
 from running import run_side
-from shrinking import BUDGET, shrunk, size_of
+from shrinking import BUDGET, measure, shrink
 
 BUDGET_OF_HANGING, EXAMPLES = 8, 3
 
@@ -20,41 +20,41 @@ class Verdict(NamedTuple):
     case: object = None
 
 
-def without_leading_blanks(case, out):
+def strip_leading_blanks(case, out):
     """The output of uniq -c with one space after each count, and none before it."""
     if case.tool != "uniq" or not case.has("c"):
         return out
-    lines = out.split(case.end())
-    return case.end().join(re.sub(rb"\A[ \t]*(\d+)[ \t]", rb"\1 ", it) for it in lines)
+    lines = out.split(case.end)
+    return case.end.join(re.sub(rb"\A[ \t]*(\d+)[ \t]", rb"\1 ", line) for line in lines)
 
 
 def is_same(case, wanted, got):
     """Whether two answers are the same but for the messages, and the blanks around the counts of uniq."""
-    outs = [without_leading_blanks(case, it.out) for it in (wanted, got)]
+    outs = [strip_leading_blanks(case, answer.out) for answer in (wanted, got)]
     return outs[0] == outs[1] and (wanted.status == 0) == (got.status == 0)
 
 
-def without_high_bytes(case):
+def replace_high_bytes(case):
     """The case with an x for each character above 127, in its words and its inputs."""
     inputs = {name: re.sub(rb"[\x80-\xff]", b"x", text) for name, text in case.inputs.items()}
     options = [(letter, value and re.sub(r"[^\0-\x7f]", "x", value)) for letter, value in case.options]
-    operands = [re.sub(r"[^\0-\x7f]", "x", it) for it in case.operands]
+    operands = [re.sub(r"[^\0-\x7f]", "x", operand) for operand in case.operands]
     return case._replace(options=options, operands=operands, inputs=inputs)
 
 
-def rule_of(case, wanted, got):
+def find_broken_rule(case, wanted, got):
     """The rule of POSIX that an answer to a decided case breaks, or None.
 
     If a case depends on the spelling of its options, the result is None, since no rule is about spelling."""
     if case.spelling:
         return None
-    return next((it for it in RULES if case.tool in it.tools.split() and it.is_broken(case, wanted, got)), None)
+    return next((rule for rule in RULES if case.tool in rule.tools.split() and rule.is_broken(case, wanted, got)), None)
 
 
 def keep_smaller(found, mark, count, case):
     """Adds to the count of this mark, and keeps the smaller example."""
     before, smallest = found.get(mark, (0, None))
-    if smallest is None or size_of(case) < size_of(smallest):
+    if smallest is None or measure(case) < measure(smallest):
         smallest = case
     found[mark] = (before + count, smallest)
 
@@ -67,14 +67,14 @@ class Judge:
         self.side, self.room, self.examples = side, room, examples
         self.found = {}
 
-    def answers(self, case):
-        return answer_of(case), run_side(self.side, case, self.room)
+    def find_answers(self, case):
+        return compute_answer(case), run_side(self.side, case, self.room)
 
     def differs(self, case):
         """Whether the implementation differs on a case that the definitions accept."""
-        if answer_of(case).status == 2 or not self.side.has(case):
+        if compute_answer(case).status == 2 or not self.side.has(case):
             return False
-        wanted, got = self.answers(case)
+        wanted, got = self.find_answers(case)
         return not is_same(case, wanted, got)
 
     def keep(self, title, case):
@@ -87,33 +87,33 @@ class Judge:
 
     def judge(self, case):
         """The verdict on one case, or None if the implementation does not run it."""
-        if answer_of(case).status == 2 or not self.side.has(case):
+        if compute_answer(case).status == 2 or not self.side.has(case):
             return None
-        wanted, got = self.answers(case)
+        wanted, got = self.find_answers(case)
         if is_same(case, wanted, got):
             return Verdict("equal", "") if wanted.out == got.out else Verdict("choice", "blanks before a count")
-        points = open_points(case)
+        points = find_open_points(case)
         if not points:
             return self.judge_decided(case, wanted, got)
-        other = closed(case)
+        other = close_points(case)
         if other and self.differs(other):
-            return self.judge_decided(other, *self.answers(other))
+            return self.judge_decided(other, *self.find_answers(other))
         return Verdict(points[0].kind, points[0].title, case)
 
     def judge_decided(self, case, wanted, got):
         """The verdict on a case that POSIX decides. The first cases of a rule are made smaller, for its example."""
         spelled_out = case._replace(spelling=0, piece=4096)
         if case != spelled_out and self.differs(spelled_out):
-            return self.judge_decided(spelled_out, *self.answers(spelled_out))
-        rule = rule_of(case, wanted, got)
+            return self.judge_decided(spelled_out, *self.find_answers(spelled_out))
+        rule = find_broken_rule(case, wanted, got)
         if rule and rule.title == HIGH_BYTES:
-            plain = without_high_bytes(case)
-            if not open_points(plain) and self.differs(plain):
-                return self.judge_decided(plain, *self.answers(plain))
+            plain = replace_high_bytes(case)
+            if not find_open_points(plain) and self.differs(plain):
+                return self.judge_decided(plain, *self.find_answers(plain))
         if rule and not self.wants_example(case, rule.title):
             return Verdict("wrong", rule.title, case)
-        case = shrunk(case, self.differs, open_points, BUDGET_OF_HANGING if got.status < 0 else BUDGET)
-        rule = rule_of(case, *self.answers(case))
+        case = shrink(case, self.differs, find_open_points, BUDGET_OF_HANGING if got.status < 0 else BUDGET)
+        rule = find_broken_rule(case, *self.find_answers(case))
         if not rule:
             return Verdict("unjudged", "", case)
         self.keep(rule.title, case)

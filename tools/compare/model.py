@@ -1,12 +1,15 @@
-"""The answer of the definitions: output, status and messages of a case, computed as simply as possible."""
+"""The answer of the definitions: output, status and messages of a case, computed as simply as possible.
+
+Functions that model the definitions and the terms of these are named after them, so their names are nouns. The names of
+the others are verbs."""
 import re
 from collections import deque
 from itertools import groupby
 from typing import NamedTuple
 
-from cases import lines_of
-from reading import Refused, meaning_of
-from sets import plan_of
+from cases import split_lines
+from reading import Refused, read_command
+from sets import make_plan
 
 
 class Answer(NamedTuple):
@@ -17,11 +20,11 @@ class Answer(NamedTuple):
     messages: str
 
 
-def name_of(operand):
+def name_operand(operand):
     return "standard input" if operand == "-" else operand
 
 
-def texts_once(case, operands):
+def read_once(case, operands):
     """Each operand with its text: standard input is empty the second time, and a missing file is None."""
     is_used = False
     for name in operands:
@@ -47,17 +50,17 @@ def cut_line(line, meant):
     fields = line.split(delimiter)
     if len(fields) == 1:
         return None if "s" in meant else line
-    return delimiter.join(it for position, it in enumerate(fields, 1) if is_selected(meant["f"][0], position))
+    return delimiter.join(field for position, field in enumerate(fields, 1) if is_selected(meant["f"][0], position))
 
 
 def cut(case, meant, operands):
     out, messages = [], ""
-    for name, text in texts_once(case, operands or ["-"]):
+    for name, text in read_once(case, operands or ["-"]):
         if text is None:
             messages += f"cut: {name}: cannot be opened\n"
             continue
-        done = [cut_line(it, meant) for it in lines_of(text, case.end())]
-        out += [it + case.end() for it in done if it is not None]
+        done = [cut_line(line, meant) for line in split_lines(text, case.end)]
+        out += [line + case.end for line in done if line is not None]
     return b"".join(out), messages
 
 
@@ -68,20 +71,20 @@ def joined_by_turns(cells, delimiters):
 
 
 def paste(case, meant, operands):
-    delimiters, end = (meant["d"][0] if "d" in meant else [b"\t"]), case.end()
-    lacking = "".join(f"paste: {it}: cannot be opened\n" for it in operands if it not in case.inputs)
+    delimiters, end = (meant["d"][0] if "d" in meant else [b"\t"]), case.end
+    lacking = "".join(f"paste: {name}: cannot be opened\n" for name in operands if name not in case.inputs)
     if "s" in meant:
-        texts = [text for _, text in texts_once(case, operands) if text is not None]
-        rows = [joined_by_turns(lines_of(it, end), delimiters) for it in texts]
-        return b"".join(it + end for it in rows), lacking
+        texts = [text for _, text in read_once(case, operands) if text is not None]
+        rows = [joined_by_turns(split_lines(text, end), delimiters) for text in texts]
+        return b"".join(row + end for row in rows), lacking
     if lacking:
         return b"", lacking
-    standard = deque(case.lines("-"))
-    columns = [standard if it == "-" else deque(case.lines(it)) for it in operands]
+    standard = deque(case.read_lines("-"))
+    columns = [standard if name == "-" else deque(case.read_lines(name)) for name in operands]
     rows = []
     while any(columns):
-        rows.append(joined_by_turns([it.popleft() if it else b"" for it in columns], delimiters))
-    return b"".join(it + end for it in rows), ""
+        rows.append(joined_by_turns([column.popleft() if column else b"" for column in columns], delimiters))
+    return b"".join(row + end for row in rows), ""
 
 
 def uniq_key(line, meant):
@@ -94,13 +97,13 @@ def uniq(case, meant, operands):
     name = operands[0] if operands else "-"
     if name not in case.inputs:
         return b"", f"uniq: {name}: cannot be opened\n"
-    runs = [list(it) for _, it in groupby(case.lines(name), lambda line: uniq_key(line, meant))]
+    runs = [list(run) for _, run in groupby(case.read_lines(name), lambda line: uniq_key(line, meant))]
     out = b""
-    for line, count in [(it[0], len(it)) for it in runs]:
+    for line, count in [(run[0], len(run)) for run in runs]:
         if not ("d" in meant and count == 1 or "u" in meant and count > 1):
-            out += (b"%d " % count if "c" in meant else b"") + line + case.end()
+            out += (b"%d " % count if "c" in meant else b"") + line + case.end
     to_file = len(operands) == 2 and operands[1] != "-"
-    return (b"output file:" + case.end() if to_file else b"") + out, ""
+    return (b"output file:" + case.end if to_file else b"") + out, ""
 
 
 # --- comm and join
@@ -108,14 +111,14 @@ def uniq(case, meant, operands):
 
 def fields_of(case, line):
     """The fields of a line of join."""
-    if case.values("t"):
-        return line.split(case.values("t")[0].encode())
-    return [it for it in re.split(rb"[ \t]+", line) if it]
+    if case.list_values("t"):
+        return line.split(case.list_values("t")[0].encode())
+    return [field for field in re.split(rb"[ \t]+", line) if field]
 
 
 def join_number(case, index):
     """The number of the join field of a file."""
-    return int((case.values("12"[index]) or ["1"])[0])
+    return int((case.list_values("12"[index]) or ["1"])[0])
 
 
 def key_of(case, index, line):
@@ -128,13 +131,13 @@ def key_of(case, index, line):
 
 def ranks(case):
     """The rank of each key in ascending order, or in descending order with -r."""
-    keys = {key_of(case, index, line) for index, name in enumerate(case.operands) for line in case.lines(name)}
+    keys = {key_of(case, index, line) for index, name in enumerate(case.operands) for line in case.read_lines(name)}
     return {key: index for index, key in enumerate(sorted(keys, reverse=case.has("r")))}
 
 
 def beginning(case, index, known):
     """The longest prefix of a file that is in order, and its last rank if a line out of order follows it."""
-    lines = case.lines(case.operands[index])
+    lines = case.read_lines(case.operands[index])
     ranked = [known[key_of(case, index, line)] for line in lines]
     for at in range(1, len(lines)):
         if ranked[at] < ranked[at - 1]:
@@ -181,12 +184,12 @@ def other_fields(case, index, line):
 def join_line(case, meant, key, lines):
     """The output line of a pair, or of one line if the other is None."""
     if "o" not in meant:
-        there = [(index, it) for index, it in enumerate(lines) if it is not None]
-        fields = [key] + [field for index, it in there for field in other_fields(case, index, it)]
+        there = [(index, line) for index, line in enumerate(lines) if line is not None]
+        fields = [key] + [field for index, line in there for field in other_fields(case, index, line)]
     else:
-        has = [[] if it is None else fields_of(case, it) for it in lines]
+        has = [[] if line is None else fields_of(case, line) for line in lines]
         chosen = [(has[file - 1][number - 1 : number] or [b""])[0] if file else key for file, number in meant["o"][0]]
-        fields = [it or meant.get("e", [b""])[0] for it in chosen]
+        fields = [field or meant.get("e", [b""])[0] for field in chosen]
     separator = meant["t"][0] if "t" in meant else b" "
     return separator.join(fields)
 
@@ -197,30 +200,30 @@ def join_entries(case, meant, groups):
         if first and second and "v" not in meant:
             yield from (join_line(case, meant, key, (one, two)) for one in first for two in second)
         if 1 in asked and not second:
-            yield from (join_line(case, meant, key, (it, None)) for it in first)
+            yield from (join_line(case, meant, key, (line, None)) for line in first)
         if 2 in asked and not first:
-            yield from (join_line(case, meant, key, (None, it)) for it in second)
+            yield from (join_line(case, meant, key, (None, line)) for line in second)
 
 
 def merged(case, meant, operands):
     """The output and messages of comm or join."""
     case = case._replace(operands=operands)
-    lacking = "".join(f"{case.tool}: {it}: cannot be opened\n" for it in operands if it not in case.inputs)
+    lacking = "".join(f"{case.tool}: {name}: cannot be opened\n" for name in operands if name not in case.inputs)
     if lacking:
         return b"", lacking
     entries = comm_entries if case.tool == "comm" else join_entries
-    out = b"".join(it + case.end() for it in entries(case, meant, groups_of(case)))
+    out = b"".join(entry + case.end for entry in entries(case, meant, groups_of(case)))
     found = disorder(case)
     if not found:
         return out, ""
-    return out, f"{case.tool}: {name_of(operands[found[1]])}: line {found[2]} is out of order\n"
+    return out, f"{case.tool}: {name_operand(operands[found[1]])}: line {found[2]} is out of order\n"
 
 
 # --- tr
 
 
 def tr(case, meant, operands):
-    plan = plan_of(set(meant), operands)
+    plan = make_plan(set(meant), operands)
     out = bytearray()
     for byte in case.inputs["-"]:
         if byte not in plan.deleted:
@@ -233,11 +236,11 @@ def tr(case, meant, operands):
 TOOLS = {"cut": cut, "paste": paste, "uniq": uniq, "comm": merged, "join": merged, "tr": tr}
 
 
-def answer_of(case):
+def compute_answer(case):
     """The answer of the definitions to a case."""
     try:
-        tool, meant, operands = meaning_of(case.words())
+        tool, meant, operands = read_command(case.words)
         out, messages = TOOLS[tool](case, meant, operands)
-    except Refused as it:
-        return Answer(b"", 2, f"{it}\n")
+    except Refused as why:
+        return Answer(b"", 2, f"{why}\n")
     return Answer(out, 1 if messages else 0, messages)

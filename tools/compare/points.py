@@ -5,11 +5,11 @@ Each point has a kind: `extension` (POSIX has no such option), `undefined` (an i
 import re
 from typing import Callable, NamedTuple, Optional
 
-from cases import late_words
-from generating import has_keys, sorted_case
+from cases import list_late_words
+from generating import has_keys, sort_files
 from model import disorder, fields_of, join_number
-from reading import Refused, meaning_of
-from sets import plan_of
+from reading import Refused, read_command
+from sets import make_plan
 
 LINE_MAX = 2048
 SURE = 2**31 - 1
@@ -17,7 +17,7 @@ SURE = 2**31 - 1
 
 class Point(NamedTuple):
     """A point, by its kind, a title, the tools it is about, and a condition. `heading` is that of docs/REPLACING.md
-    which has the difference to GNU's tools, if there is one. `closed` returns a similar case without the point, if
+    which has the difference to GNU's tools, if there is one. `close` returns a similar case without the point, if
     the point can be removed."""
 
     kind: str
@@ -25,58 +25,58 @@ class Point(NamedTuple):
     tools: str
     when: Callable
     heading: str = ""
-    closed: Optional[Callable] = None
+    close: Optional[Callable] = None
 
 
-def texts_of(case):
+def list_texts(case):
     """The inputs that are read."""
-    return [case.inputs[it] for it in case.files() if it in case.inputs]
+    return [case.inputs[name] for name in case.files if name in case.inputs]
 
 
 def lacks_file(case):
-    return any(it not in case.inputs for it in case.files())
+    return any(name not in case.inputs for name in case.files)
 
 
 def lacks_end(case):
-    return case.tool != "tr" and any(it and not it.endswith(case.end()) for it in texts_of(case))
+    return case.tool != "tr" and any(text and not text.endswith(case.end) for text in list_texts(case))
 
 
 def has_byte_0(case):
-    return case.tool != "tr" and not case.has("z") and any(b"\0" in it for it in texts_of(case))
+    return case.tool != "tr" and not case.has("z") and any(b"\0" in text for text in list_texts(case))
 
 
 def has_long_line(case):
-    return any(len(it) >= LINE_MAX for name in case.files() for it in case.lines(name))
+    return any(len(line) >= LINE_MAX for name in case.files for line in case.read_lines(name))
 
 
 def is_out_of_order(case):
-    return all(it in case.inputs for it in case.files()) and disorder(case) is not None
+    return all(name in case.inputs for name in case.files) and disorder(case) is not None
 
 
 def has_option_twice(case):
     """An option that is repeated, which no synopsis allows, except for -a and -v of join with another value."""
-    marks = [(it, value if case.tool == "join" and it in "av" else None) for it, value in case.options]
+    marks = [(letter, value if case.tool == "join" and letter in "av" else None) for letter, value in case.options]
     return len(set(marks)) < len(marks)
 
 
 def has_large_number(case):
-    return any(int(it) > SURE for _, value in case.options for it in re.findall("[0-9]+", value or ""))
+    return any(int(number) > SURE for _, value in case.options for number in re.findall("[0-9]+", value or ""))
 
 
 def has_zero(case):
-    return any(int(it) == 0 for it in case.values("f") + case.values("s") if it)
+    return any(int(number) == 0 for number in case.list_values("f") + case.list_values("s") if number)
 
 
 def has_mixed_list(case):
     """A list with separators of two kinds."""
-    return any(re.search("[ \t]", value) and "," in value for letter in "bcfo" for value in case.values(letter))
+    return any(re.search("[ \t]", value) and "," in value for letter in "bcfo" for value in case.list_values(letter))
 
 
 def selects_nothing(case):
     """A line with a delimiter of which no field is selected."""
-    delimiter = (case.values("d") or ["\t"])[0].encode()
-    texts = [line for name in case.files() for line in case.lines(name) if delimiter in line]
-    numbers = [int(it) for it in re.findall("[0-9]+", (case.values("f") or ["1"])[0])]
+    delimiter = (case.list_values("d") or ["\t"])[0].encode()
+    texts = [line for name in case.files for line in case.read_lines(name) if delimiter in line]
+    numbers = [int(number) for number in re.findall("[0-9]+", (case.list_values("f") or ["1"])[0])]
     return case.has("f") and any(line.count(delimiter) + 1 < min(numbers) for line in texts)
 
 
@@ -86,7 +86,7 @@ def reads_standard_twice(case):
 
 
 def has_odd_empty_string(case):
-    return any(re.search(r"\\0[0-9xX]", it) for it in case.values("d"))
+    return any(re.search(r"\\0[0-9xX]", value) for value in case.list_values("d"))
 
 
 def has_word_of_minus(case):
@@ -96,16 +96,17 @@ def has_word_of_minus(case):
 
 def lacks_join_field(case):
     """A line without its join field."""
-    lines = [(index, line) for index, it in enumerate(case.operands) for line in case.lines(it)]
+    lines = [(index, line) for index, name in enumerate(case.operands) for line in case.read_lines(name)]
     return any(len(fields_of(case, line)) < join_number(case, index) for index, line in lines)
 
 
 def has_last_blanks(case):
-    return not case.has("t") and any(re.search(rb"[ \t]\Z", line) for it in case.operands for line in case.lines(it))
+    lines = [line for name in case.operands for line in case.read_lines(name)]
+    return not case.has("t") and any(re.search(rb"[ \t]\Z", line) for line in lines)
 
 
 def has_empty_line(case):
-    return case.has("t") and any(not line for it in case.operands for line in case.lines(it))
+    return case.has("t") and any(not line for name in case.operands for line in case.read_lines(name))
 
 
 def fills_without_list(case):
@@ -115,58 +116,60 @@ def fills_without_list(case):
 # --- changes that remove a point
 
 
-def without_option(letter):
+def remove_option(letter):
     """The change that leaves out an option."""
-    return lambda case: case._replace(options=[it for it in case.options if it[0] != letter])
+    return lambda case: case._replace(options=[option for option in case.options if option[0] != letter])
 
 
-def with_texts(change):
+def change_texts(change):
     """The change of each input by a function of its text."""
     return lambda case: case._replace(inputs={name: change(text) for name, text in case.inputs.items()})
 
 
-def with_values(change, letters=None):
+def change_values(change, letters=None):
     """The change of the values of options: of those with these letters, or of all."""
 
-    def changed(case):
-        is_meant = {it for it, value in case.options if value is not None and (not letters or it in letters)}
-        return case._replace(options=[(it, change(value) if it in is_meant else value) for it, value in case.options])
+    def change_case(case):
+        meant = {letter for letter, value in case.options if value is not None and (not letters or letter in letters)}
+        options = [(letter, change(value) if letter in meant else value) for letter, value in case.options]
+        return case._replace(options=options)
 
-    return changed
+    return change_case
 
 
-def with_kept_lines(keeps):
+def keep_lines(keeps):
     """The change that keeps the lines for which keeps(case, index, line) is true."""
-    return lambda case: case.with_lines(lambda index, lines: [it for it in lines if keeps(case, index, it)])
+    return lambda case: case.change_lines(lambda index, lines: [line for line in lines if keeps(case, index, line)])
 
 
-def without_z(case):
-    swapped = with_texts(lambda text: text.replace(b"\n", b"x").replace(b"\0", b"\n"))
-    return swapped(without_option("z")(case))
+def remove_z(case):
+    swapped = change_texts(lambda text: text.replace(b"\n", b"x").replace(b"\0", b"\n"))
+    return swapped(remove_option("z")(case))
 
 
-def in_its_order(case):
-    return sorted_case(case) if has_keys(case) else case
+def sort_if_keyed(case):
+    return sort_files(case) if has_keys(case) else case
 
 
-def with_last_newline(case):
-    end = case.end()
-    return with_texts(lambda text: text + end if text and not text.endswith(end) else text)(case)
+def add_last_newline(case):
+    end = case.end
+    return change_texts(lambda text: text + end if text and not text.endswith(end) else text)(case)
 
 
-def with_short_lines(case):
-    return with_texts(lambda text: b"\n".join(it[:80] for it in text.split(b"\n")))(case)
+def shorten_lines(case):
+    return change_texts(lambda text: b"\n".join(line[:80] for line in text.split(b"\n")))(case)
 
 
-def with_files_that_are_there(case):
+def replace_lacking_files(case):
     outputs = 1 if case.tool == "uniq" else len(case.operands)
-    names = [it if it in case.inputs else "h" for it in case.operands[:outputs]]
+    names = [name if name in case.inputs else "h" for name in case.operands[:outputs]]
     return case._replace(operands=names + case.operands[outputs:])
 
 
-def with_standard_once(case):
+def replace_second_standard(case):
     after = case.operands.index("-") + 1
-    return case._replace(operands=case.operands[:after] + ["g" if it == "-" else it for it in case.operands[after:]])
+    rest = ["g" if name == "-" else name for name in case.operands[after:]]
+    return case._replace(operands=case.operands[:after] + rest)
 
 
 def has_join_field(case, index, line):
@@ -176,8 +179,8 @@ def has_join_field(case, index, line):
 # --- tr
 
 
-def plan(case):
-    return plan_of({it for it, _ in case.options}, case.operands)
+def plan_case(case):
+    return make_plan({letter for letter, _ in case.options}, case.operands)
 
 
 def translates(case):
@@ -186,16 +189,16 @@ def translates(case):
 
 def is_short(case):
     """A second string that is shorter than the first one."""
-    return translates(case) and len(plan(case).to_array) < len(plan(case).from_array)
+    return translates(case) and len(plan_case(case).to_array) < len(plan_case(case).from_array)
 
 
 def is_long(case):
-    return translates(case) and len(plan(case).to_array) > len(plan(case).from_array)
+    return translates(case) and len(plan_case(case).to_array) > len(plan_case(case).from_array)
 
 
 def has_twice(case):
     """A character that occurs twice in the first string."""
-    array = plan(case).from_array
+    array = plan_case(case).from_array
     return translates(case) and len(set(array)) < len(array)
 
 
@@ -203,35 +206,35 @@ def has_order_of_class(case):
     """A class whose members become different characters, other than by a change of case."""
     if not translates(case) or case.has("c") or case.has("C"):
         return False
-    at, paired = 0, plan(case)
+    at, paired = 0, plan_case(case)
     for part in paired.first:
         images = paired.to_array[at : at + len(part.members)]
         if part.kind == "class" and part.name not in ("lower", "upper") and len(set(images)) > 1:
             return True
-        if part.kind == "class" and len(set(images)) > 1 and not any(it.kind == "class" for it in paired.second):
+        if part.kind == "class" and len(set(images)) > 1 and not any(other.kind == "class" for other in paired.second):
             return True
         at += len(part.members)
     return False
 
 
 def has_odd_escape(case):
-    return any(re.search(r"(?<!\\)(\\\\)*\\([^0-7abfnrtv\\]|\Z)", it, re.S) for it in case.operands)
+    return any(re.search(r"(?<!\\)(\\\\)*\\([^0-7abfnrtv\\]|\Z)", operand, re.S) for operand in case.operands)
 
 
 def has_wide_escape(case):
     """An octal escape of fewer than three digits before another digit, which POSIX calls ambiguous."""
-    return any(re.search(r"\\[0-7]{1,2}[89]", it) for it in case.operands)
+    return any(re.search(r"\\[0-7]{1,2}[89]", operand) for operand in case.operands)
 
 
-def parts_of_case(case):
-    found = plan(case)
+def list_parts(case):
+    found = plan_case(case)
     return found.first + (found.second or [])
 
 
 def has_chain(case):
     """A dash after a range, as in `a-c-e`, or one beside a form: whether it is a range."""
     before = None
-    for part in parts_of_case(case):
+    for part in list_parts(case):
         if part.text == b"-" and before is not None:
             return True
         before = part.text
@@ -240,97 +243,98 @@ def has_chain(case):
 
 def has_bracket(case):
     """A bracket that begins no form, but resembles one."""
-    return any(part.kind in ("byte", "range") and part.text.startswith(b"[") for part in parts_of_case(case))
+    return any(part.kind in ("byte", "range") and part.text.startswith(b"[") for part in list_parts(case))
 
 
 def has_close_bracket(case):
     """A form of a bracket itself, as `[]*2]` or `[=]=]`."""
-    forms = [it for it in parts_of_case(case) if it.kind in ("equivalence", "repeat", "fill")]
-    return any(it.members[:1] in ([91], [93]) for it in forms)
+    forms = [part for part in list_parts(case) if part.kind in ("equivalence", "repeat", "fill")]
+    return any(form.members[:1] in ([91], [93]) for form in forms)
 
 
 def has_fill_without_first(case):
-    return case.has("d") and any(it.kind in ("fill", "repeat") for it in plan(case).second or [])
+    return case.has("d") and any(part.kind in ("fill", "repeat") for part in plan_case(case).second or [])
 
 
 def has_class_of_complement(case):
-    return (case.has("c") or case.has("C")) and translates(case) and any(it.kind == "class" for it in plan(case).first)
+    is_complement = translates(case) and (case.has("c") or case.has("C"))
+    return is_complement and any(part.kind == "class" for part in plan_case(case).first)
 
 
 def has_high_class_complement(case):
     """A class of which POSIX leaves open whether it has bytes above 127 (as punct or cntrl)."""
     open_classes = ("cntrl", "punct", "print", "graph")
-    has_class = any(it.kind == "class" and it.name in open_classes for it in parts_of_case(case))
+    has_class = any(part.kind == "class" and part.name in open_classes for part in list_parts(case))
     return has_class and any(byte > 127 for byte in case.inputs["-"])
 
 
 POINTS = [
-    Point("extension", "`-z`", "cut paste uniq comm join", lambda case: case.has("z"), closed=without_z),
+    Point("extension", "`-z`", "cut paste uniq comm join", lambda case: case.has("z"), close=remove_z),
     Point(
         "extension", "`-r`", "comm join", lambda case: case.has("r"), "Descending order",
-        closed=lambda case: in_its_order(without_option("r")(case)),
+        close=lambda case: sort_if_keyed(remove_option("r")(case)),
     ),
     Point(
         "extension", "options after operands", "cut paste uniq comm join",
-        lambda case: bool(late_words(case)),
+        lambda case: bool(list_late_words(case)),
         "Options come before operands",
-        closed=lambda case: case._replace(late=[]),
+        close=lambda case: case._replace(late=[]),
     ),
     Point(
         "undefined", "a last line without its newline", "cut paste uniq comm join", lacks_end,
-        closed=with_last_newline,
+        close=add_last_newline,
     ),
     Point(
         "undefined", "byte 0 in a text file", "cut paste uniq comm join", has_byte_0,
-        closed=with_texts(lambda text: text.replace(b"\0", b"x")),
+        close=change_texts(lambda text: text.replace(b"\0", b"x")),
     ),
-    Point("undefined", "a line of more than LINE_MAX bytes", "uniq comm join", has_long_line, closed=with_short_lines),
+    Point("undefined", "a line of more than LINE_MAX bytes", "uniq comm join", has_long_line, close=shorten_lines),
     Point(
         "undefined", "files out of order", "comm join", is_out_of_order, "A line out of order is a fault",
-        closed=in_its_order,
+        close=sort_if_keyed,
     ),
     Point(
         "choice", "an option twice", "cut paste uniq comm join tr", has_option_twice, "Options that are refused",
-        closed=lambda case: case._replace(options=list(dict(case.options).items())),
+        close=lambda case: case._replace(options=list(dict(case.options).items())),
     ),
-    Point("choice", "a file that is not there", "uniq comm join", lacks_file, closed=with_files_that_are_there),
+    Point("choice", "a file that is not there", "uniq comm join", lacks_file, close=replace_lacking_files),
     Point(
         "choice", "a number above 2147483647", "cut uniq join", has_large_number,
-        closed=with_values(lambda value: re.sub("[0-9]{10,}", "9", value)),
+        close=change_values(lambda value: re.sub("[0-9]{10,}", "9", value)),
     ),
     Point(
         "choice", "zero fields or characters", "uniq", has_zero,
-        closed=with_values(lambda value: "1" if not int(value or 1) else value),
+        close=change_values(lambda value: "1" if not int(value or 1) else value),
     ),
     Point(
         "choice", "a list with commas and blanks", "cut join", has_mixed_list,
-        closed=with_values(lambda value: re.sub("[ \t]", ",", value), "bcfo"),
+        close=change_values(lambda value: re.sub("[ \t]", ",", value), "bcfo"),
     ),
     Point(
         "choice", "a line of which no field is selected", "cut", selects_nothing,
-        closed=with_values(lambda value: "1," + value, "f"),
+        close=change_values(lambda value: "1," + value, "f"),
     ),
-    Point("choice", "standard input twice", "cut paste", reads_standard_twice, closed=with_standard_once),
+    Point("choice", "standard input twice", "cut paste", reads_standard_twice, close=replace_second_standard),
     Point(
         "choice", "`\\0` before a digit or x", "paste", has_odd_empty_string,
-        closed=with_values(lambda value: re.sub(r"\\0[0-9xX]", ",", value)),
+        close=change_values(lambda value: re.sub(r"\\0[0-9xX]", ",", value)),
     ),
     Point(
         "choice", "`-` as the output", "uniq", has_word_of_minus,
-        closed=lambda case: case._replace(operands=case.operands[:1]),
+        close=lambda case: case._replace(operands=case.operands[:1]),
     ),
-    Point("choice", "a line without its join field", "join", lacks_join_field, closed=with_kept_lines(has_join_field)),
+    Point("choice", "a line without its join field", "join", lacks_join_field, close=keep_lines(has_join_field)),
     Point(
         "choice", "blanks at the end of a line", "join", has_last_blanks, "Blanks at the end of a line make no field",
-        closed=lambda case: case.with_lines(lambda _, lines: [it.rstrip(b" \t") for it in lines]),
+        close=lambda case: case.change_lines(lambda _, lines: [line.rstrip(b" \t") for line in lines]),
     ),
     Point(
         "choice", "an empty line", "join", has_empty_line, "An empty line has one empty field with `-t`",
-        closed=with_kept_lines(lambda case, index, line: line),
+        close=keep_lines(lambda case, index, line: line),
     ),
     Point(
         "choice", "`-e` without `-o`", "join", fills_without_list, "`-e` fills the fields of `-o`",
-        closed=without_option("e"),
+        close=remove_option("e"),
     ),
     Point("choice", "a second string that is shorter", "tr", is_short),
     Point("choice", "a second string that is longer", "tr", is_long),
@@ -347,25 +351,25 @@ POINTS = [
 ]
 
 
-def open_points(case):
+def find_open_points(case):
     """The points of a case. A refused command line has none."""
     try:
-        meaning_of(case.words())
-        return [it for it in POINTS if case.tool in it.tools.split() and it.when(case)]
+        read_command(case.words)
+        return [point for point in POINTS if case.tool in point.tools.split() and point.when(case)]
     except Refused:
         return []
 
 
-def closed(case):
+def close_points(case):
     """A similar case that meets none of the points, or None if they cannot all be removed."""
     for _ in range(3):
-        points = open_points(case)
+        points = find_open_points(case)
         if not points:
             return case
-        if not all(it.closed for it in points):
+        if not all(point.close for point in points):
             return None
-        for it in points:
-            case = it.closed(case) if it.when(case) else case
+        for point in points:
+            case = point.close(case) if point.when(case) else case
         if case.tool in ("comm", "join"):
-            case = in_its_order(case)
+            case = sort_if_keyed(case)
     return None

@@ -4,9 +4,9 @@ It was written from the definitions in words and the manual pages. It shares not
 letters of the options."""
 import re
 
-from names import LISTED, letters_of
+from names import LISTED, read_letters
 
-FLAGS, VALUED = letters_of("flags"), letters_of("value_letters")
+FLAGS, VALUED = read_letters("flags"), read_letters("value_letters")
 LARGEST = 2**64 - 1
 TOGETHER = {
     "cut": ["bc", "bf", "cf", "", "cn", "fn", "bd", "cd", "bs", "cs"],
@@ -24,7 +24,7 @@ class Refused(Exception):
     """A refused command line. Its text is the message."""
 
 
-def word_events(tool, words):
+def read_words(tool, words):
     """The options as pairs of letter and value, and the operands; raises Refused at the first fault of a word."""
     options, index = [], 0
     while index < len(words):
@@ -41,7 +41,7 @@ def word_events(tool, words):
                 continue
             if letter not in VALUED[tool]:
                 raise Refused(f"{tool}: unknown option in {word}")
-            if any(it == letter for it, _ in options) and not (tool == "join" and letter in "av"):
+            if any(other == letter for other, _ in options) and not (tool == "join" and letter in "av"):
                 raise Refused(f"{tool}: option -{letter} is given twice")
             value = word[at + 1 :]
             if not value and index == len(words):
@@ -63,70 +63,70 @@ def check_together(tool, letters):
             raise Refused("cut: one of -b, -c and -f is needed")
 
 
-def number_of(text, least):
+def read_number(text, least):
     """The number that the text is, or None."""
     if not re.fullmatch("[0-9]+", text) or not least <= int(text) <= LARGEST:
         return None
     return int(text)
 
 
-def cut_list(text):
+def read_cut_list(text):
     """The ranges of a list, as pairs of the first and the last position, or None."""
     ranges = []
     for item in re.split("[, \t]", text):
         found = re.fullmatch("([0-9]*)(-?)([0-9]*)", item)
         if not found or item in ("", "-"):
             return None
-        first = number_of(found[1] or "1", 1)
-        last = number_of(found[3] or (str(LARGEST) if found[2] else found[1]), 1)
+        first = read_number(found[1] or "1", 1)
+        last = read_number(found[3] or (str(LARGEST) if found[2] else found[1]), 1)
         if first is None or last is None or last < first:
             return None
         ranges.append((first, last))
     return ranges
 
 
-def one_byte(text, end):
+def read_byte(text, end):
     """The single byte of a delimiter, or None."""
     value = text.encode()
     return value if len(value) == 1 and value != end else None
 
 
-def paste_list(text):
+def read_paste_list(text):
     """The delimiters of a list, or None."""
     known = {b"\\n": b"\n", b"\\t": b"\t", b"\\\\": b"\\", b"\\0": b""}
     items = re.findall(rb"\\.?|[^\\]", text.encode(), re.S)
-    if not items or any(it.startswith(b"\\") and it not in known for it in items):
+    if not items or any(item.startswith(b"\\") and item not in known for item in items):
         return None
-    return [known.get(it, it) for it in items]
+    return [known.get(item, item) for item in items]
 
 
-def output_list(text):
+def read_output_list(text):
     """The fields of `join -o`, as pairs of the file (0 for the join field) and the field, or None."""
     fields = []
     for item in re.split("[, \t]", text):
         found = re.fullmatch(r"([12])\.([0-9]+)", item)
         if item == "0":
             fields.append((0, 0))
-        elif found and number_of(found[2], 1):
+        elif found and read_number(found[2], 1):
             fields.append((int(found[1]), int(found[2])))
         else:
             return None
     return fields
 
 
-def meaning_of_value(tool, letter, value, end):
+def read_value(tool, letter, value, end):
     """The meaning of an option's value, or None if it is refused."""
     if tool == "cut":
-        return one_byte(value, end) if letter == "d" else cut_list(value)
+        return read_byte(value, end) if letter == "d" else read_cut_list(value)
     if tool == "paste":
-        return paste_list(value)
+        return read_paste_list(value)
     if tool == "uniq":
-        return number_of(value, 0)
+        return read_number(value, 0)
     if letter in "av":
         return int(value) if value in ("1", "2") else None
     if letter == "o":
-        return output_list(value)
-    return one_byte(value, end) if letter == "t" else number_of(value, 1)
+        return read_output_list(value)
+    return read_byte(value, end) if letter == "t" else read_number(value, 1)
 
 
 def check_operands(tool, letters, operands):
@@ -140,19 +140,19 @@ def check_operands(tool, letters, operands):
         raise Refused(f"{tool}: standard input is named twice")
 
 
-def meaning_of(words):
+def read_command(words):
     """The tool, its options (a letter gives the list of the meanings of its values) and its operands."""
     if not words or words[0] not in FLAGS:
         raise Refused(f"ptext: first word: {LISTED}")
     tool = words[0]
-    options, operands = word_events(tool, words[1:])
-    letters = {it for it, _ in options}
+    options, operands = read_words(tool, words[1:])
+    letters = {letter for letter, _ in options}
     check_together(tool, letters)
     end = b"\0" if "z" in letters else b"\n"
-    meant = {it: [] for it in letters}
+    meant = {letter: [] for letter in letters}
     for wanted in VALUE_ORDER[tool]:
         for value in [value for letter, value in options if letter == wanted]:
-            found = meaning_of_value(tool, wanted, value, end)
+            found = read_value(tool, wanted, value, end)
             if found is None:
                 raise Refused(f"{tool}: wrong value for option -{wanted}: {value}")
             meant[wanted].append(found)

@@ -5,8 +5,8 @@ of them. The sentences are those of the page of the tool in XCU, and `[..]` is l
 import re
 from typing import Callable, NamedTuple
 
-from cases import lines_of
-from sets import plan_of
+from cases import split_lines
+from sets import make_plan
 
 
 HIGH_BYTES = "bytes above 127"
@@ -35,46 +35,46 @@ def hangs(case, wanted, got):
 def is_refused_with(letters, pattern):
     """The check that words are refused, and that the value of one of the letters has the pattern."""
     return lambda case, wanted, got: refuses(case, wanted, got) and any(
-        re.search(pattern, value or "") for letter in letters for value in case.values(letter)
+        re.search(pattern, value or "") for letter in letters for value in case.list_values(letter)
     )
 
 
 def has_high_byte(case, wanted, got):
     """Whether a word or an input has a byte above 127."""
-    texts = ["".join(case.words()).encode(), *(case.inputs.get(it, b"") for it in case.files())]
+    texts = ["".join(case.words).encode(), *(case.inputs.get(name, b"") for name in case.files)]
     return any(byte > 127 for text in texts for byte in text)
 
 
 # --- cut
 
 
-def pairs_of_lines(case, wanted, got):
+def pair_lines(case, wanted, got):
     """Each input line with the wanted line and the line that was written; empty if their numbers differ."""
-    read = [line for name in case.files() for line in case.lines(name)]
-    lines = [lines_of(it.out, case.end()) for it in (wanted, got)]
+    read = [line for name in case.files for line in case.read_lines(name)]
+    lines = [split_lines(answer.out, case.end) for answer in (wanted, got)]
     return list(zip(read, *lines)) if len(read) == len(lines[0]) == len(lines[1]) else []
 
 
-def delimiter_of(case):
-    return (case.values("d") or ["\t"])[0].encode()
+def find_delimiter(case):
+    return (case.list_values("d") or ["\t"])[0].encode()
 
 
 def changes_whole_line(case, wanted, got):
-    found = pairs_of_lines(case, wanted, got) if case.has("f") and not case.has("s") else []
-    return any(delimiter_of(case) not in read and read != written for read, _, written in found)
+    found = pair_lines(case, wanted, got) if case.has("f") and not case.has("s") else []
+    return any(find_delimiter(case) not in read and read != written for read, _, written in found)
 
 
 def keeps_lines(case, wanted, got):
     if not (case.has("f") and case.has("s")) or got.status:
         return False
-    return len(lines_of(got.out, case.end())) > len(lines_of(wanted.out, case.end()))
+    return len(split_lines(got.out, case.end)) > len(split_lines(wanted.out, case.end))
 
 
 def has_other_delimiters(case, wanted, got):
     if not case.has("f") or got.status:
         return False
-    lines = [lines_of(it.out, case.end()) for it in (wanted, got)]
-    mark = delimiter_of(case)
+    lines = [split_lines(answer.out, case.end) for answer in (wanted, got)]
+    mark = find_delimiter(case)
     return len(lines[0]) == len(lines[1]) and any(one.count(mark) != two.count(mark) for one, two in zip(*lines))
 
 
@@ -87,7 +87,7 @@ def is_other_selection(letter):
 
 
 def is_lacking_file(case):
-    return any(it not in case.inputs for it in case.files())
+    return any(name not in case.inputs for name in case.files)
 
 
 def stops_at_lacking_file(case, wanted, got):
@@ -118,19 +118,19 @@ def lacks_last_newline(case, wanted, got):
 
 
 def omits_empty_file(case, wanted, got):
-    is_empty = any(not case.inputs.get(it, b"x") for it in case.files())
+    is_empty = any(not case.inputs.get(name, b"x") for name in case.files)
     return case.has("s") and is_empty and len(got.out) < len(wanted.out)
 
 
 def ends_early(case, wanted, got):
     """An input has fewer lines than another one, and the row lacks its delimiter."""
-    counts = {len(case.lines(it)) for it in case.operands}
+    counts = {len(case.read_lines(name)) for name in case.operands}
     has_fewer = len(counts) > 1 or case.operands.count("-") > 1
     return not case.has("s") and has_fewer and got.status == 0 and len(got.out) < len(wanted.out)
 
 
 def has_escape_as_element(case, wanted, got):
-    return any("\\" in it for it in case.values("d"))
+    return any("\\" in value for value in case.list_values("d"))
 
 
 def has_other_element(case, wanted, got):
@@ -159,7 +159,7 @@ def has_other_output(case, wanted, got):
 
 def has_other_order(case, wanted, got):
     """The lines are the wanted ones in another order. The tabs of their columns do not count."""
-    lines = [sorted(it.lstrip(b"\t") for it in lines_of(answer.out, b"\n")) for answer in (wanted, got)]
+    lines = [sorted(line.lstrip(b"\t") for line in split_lines(answer.out, b"\n")) for answer in (wanted, got)]
     return lines[0] == lines[1] and wanted.out != got.out
 
 
@@ -180,9 +180,9 @@ def has_part(*kinds):
     """The check that a string has a part of one of the kinds."""
 
     def check(case, wanted, got):
-        found = plan_of({it for it, _ in case.options}, case.operands)
+        found = make_plan({letter for letter, _ in case.options}, case.operands)
         parts = found.first + (found.second or [])
-        return any(it.kind in kinds for it in parts)
+        return any(part.kind in kinds for part in parts)
 
     return check
 
@@ -193,11 +193,11 @@ def squeezes_after_deleting(case, wanted, got):
 
 
 def has_octal(case, wanted, got):
-    return any(re.search(r"\\[0-7]", it) for it in case.operands)
+    return any(re.search(r"\\[0-7]", operand) for operand in case.operands)
 
 
 def has_escape(case, wanted, got):
-    return any(re.search(r"\\[abfnrtv\\]", it) for it in case.operands)
+    return any(re.search(r"\\[abfnrtv\\]", operand) for operand in case.operands)
 
 
 def is_case_conversion(case, wanted, got):

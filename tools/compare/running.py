@@ -25,12 +25,12 @@ class Side(NamedTuple):
     tool lacks (None if the tool is lacking), and the version, if it is known without a command."""
 
     name: str
-    words_of: Callable
+    make_words: Callable
     version_words: list
     lacks: dict
     fixed_version: str = ""
 
-    def version(self):
+    def find_version(self):
         """The version that it prints, or an empty text."""
         if self.fixed_version:
             return self.fixed_version
@@ -43,7 +43,7 @@ class Side(NamedTuple):
     def has(self, case):
         """Whether it has the tool and each option of the case."""
         lacking = self.lacks.get(case.tool, "")
-        if lacking is None or not is_there(self.words_of(case.tool)[0]):
+        if lacking is None or not is_there(self.make_words(case.tool)[0]):
             return False
         if self.name == "9base" and needs_more_than_plan_9(case):
             return False
@@ -56,15 +56,15 @@ def needs_more_than_plan_9(case):
     if case.tool == "tr" and case.has("s") and len(case.operands) == 1:
         return True
     if case.tool == "tr":
-        return any(re.search(r"\[[^\]]*[:=*]|\\[abfnrtv]", it) for it in case.operands)
+        return any(re.search(r"\[[^\]]*[:=*]|\\[abfnrtv]", operand) for operand in case.operands)
     return case.tool == "uniq" and len(case.operands) > 1
 
 
-def multi_call(name):
+def call_program(name):
     return lambda tool: [name, tool]
 
 
-def of_folder(folder):
+def call_in_folder(folder):
     return lambda tool: [f"{folder}/{tool}"]
 
 
@@ -73,37 +73,37 @@ SIDES = {
     "system": Side("system", lambda tool: [tool], ["cut", "--version"], dict.fromkeys(["comm", "join"], EXTENSION)),
     "busybox": Side(
         "busybox",
-        multi_call("busybox"),
+        call_program("busybox"),
         ["busybox"],
         {"cut": "z", "paste": "z", "uniq": "z", "tr": "C", "comm": None, "join": None},
     ),
     "toybox": Side(
         "toybox",
-        multi_call("toybox"),
+        call_program("toybox"),
         ["toybox", "--version"],
         {"cut": "z", "paste": "z", "comm": "rz", "join": None, "tr": None},
     ),
     "uutils": Side(
-        "uutils", of_folder(UUTILS), [f"{UUTILS}/cut", "--version"], {"cut": "n", "comm": "r", "join": "r"}
+        "uutils", call_in_folder(UUTILS), [f"{UUTILS}/cut", "--version"], {"cut": "n", "comm": "r", "join": "r"}
     ),
     "9base": Side(
         "9base",
-        of_folder(NINE),
+        call_in_folder(NINE),
         ["dpkg-query", "-W", "-f", "${Version}", "9base"],
         {"cut": None, "paste": None, "comm": None, "uniq": "fsz", "join": "rz", "tr": "C"},
     ),
 }
 
 
-def side_of(name):
+def find_side(name):
     """The implementation of a name, or of a path: a folder with the tools, or a program that takes the tool first."""
     if name in SIDES:
         return SIDES[name]
     path = os.path.abspath(name)
-    return Side(name, of_folder(path) if os.path.isdir(path) else multi_call(path), [], {})
+    return Side(name, call_in_folder(path) if os.path.isdir(path) else call_program(path), [], {})
 
 
-def packets(piece, text, into):
+def write_pieces(piece, text, into):
     """Writes the text in pieces, each of which one read returns."""
     try:
         for at in range(0, len(text), piece):
@@ -121,25 +121,25 @@ def limit_time(process):
         pass
 
 
-def output_file(case, folder, inputs):
-    """The output file of uniq after a mark: the file that is not one of the inputs (its name may be that of an option, as
-    in `uniq - -d`). An empty text if there is none."""
+def read_output_file(case, folder, inputs):
+    """Returns the output file of uniq after a mark: the file that is not one of the inputs (its name may be that of an
+    option, as in `uniq - -d`). An empty text if there is none."""
     created = sorted(set(os.listdir(folder)) - inputs)
     if not created:
         return b""
     with open(f"{folder}/{created[0]}", "rb") as file:
-        return b"output file:" + case.end() + file.read()
+        return b"output file:" + case.end + file.read()
 
 
 def run(words, case, room):
     """The answer of a program: standard output and then the output file, if there is one."""
     with tempfile.TemporaryDirectory(dir=room) as folder:
-        inputs = set(case.files()) & set(case.inputs) - {"-"}
+        inputs = set(case.files) & set(case.inputs) - {"-"}
         for name in inputs:
             with open(f"{folder}/{name}", "wb") as file:
                 file.write(case.inputs[name])
         take, give = os.pipe2(os.O_DIRECT | os.O_CLOEXEC)
-        feeder = threading.Thread(target=packets, args=(case.piece, case.inputs["-"], give))
+        feeder = threading.Thread(target=write_pieces, args=(case.piece, case.inputs["-"], give))
         pipes = {"stdin": take, "stdout": subprocess.PIPE, "stderr": subprocess.PIPE}
         with subprocess.Popen(words, cwd=folder, env={**os.environ, "LC_ALL": "C"}, **pipes) as child:
             os.close(take)
@@ -147,23 +147,23 @@ def run(words, case, room):
             limit_time(child.pid)
             out, messages = child.communicate()
             feeder.join()
-        out += output_file(case, folder, inputs)
+        out += read_output_file(case, folder, inputs)
         return Answer(out, child.returncode, messages.decode(errors="replace"))
 
 
 def run_side(side, case, room):
     """The answer of an implementation. Its standard input is a file."""
-    tool, *rest = case.words()
-    for name in set(case.files()) & set(case.inputs) | {"-"}:
+    tool, *rest = case.words
+    for name in set(case.files) & set(case.inputs) | {"-"}:
         with open(f"{room}/{'standard' if name == '-' else name}", "wb") as file:
             file.write(case.inputs[name])
     with open(f"{room}/standard", "rb") as standard:
         pipes = {"stdin": standard, "stdout": subprocess.PIPE, "stderr": subprocess.PIPE}
-        words, surroundings = side.words_of(tool) + rest, {**os.environ, "LC_ALL": "C"}
+        words, surroundings = side.make_words(tool) + rest, {**os.environ, "LC_ALL": "C"}
         with subprocess.Popen(words, cwd=room, env=surroundings, **pipes) as child:
             limit_time(child.pid)
             out, messages = child.communicate()
-    out += output_file(case, room, set(case.inputs) | {"standard"})
+    out += read_output_file(case, room, set(case.inputs) | {"standard"})
     for name in os.listdir(room):
         os.remove(f"{room}/{name}")
     return Answer(out, child.returncode, messages.decode(errors="replace"))

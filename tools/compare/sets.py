@@ -7,15 +7,15 @@ from reading import Refused
 ESCAPES = {b"\\": 92, b"a": 7, b"b": 8, b"f": 12, b"n": 10, b"r": 13, b"t": 9, b"v": 11}
 ALL = range(256)
 CLASSES = {
-    "alnum": [it for it in ALL if chr(it).isalnum() and it < 128],
-    "alpha": [it for it in ALL if chr(it).isalpha() and it < 128],
+    "alnum": [byte for byte in ALL if chr(byte).isalnum() and byte < 128],
+    "alpha": [byte for byte in ALL if chr(byte).isalpha() and byte < 128],
     "blank": [9, 32],
     "cntrl": [*range(32), 127],
     "digit": [*range(48, 58)],
     "graph": [*range(33, 127)],
     "lower": [*range(97, 123)],
     "print": [*range(32, 127)],
-    "punct": [it for it in range(33, 127) if not chr(it).isalnum()],
+    "punct": [byte for byte in range(33, 127) if not chr(byte).isalnum()],
     "space": [*range(9, 14), 32],
     "upper": [*range(65, 91)],
     "xdigit": [*range(48, 58), *range(65, 71), *range(97, 103)],
@@ -43,7 +43,7 @@ class Unit(NamedTuple):
     plain: bool
 
 
-def unit_at(text, at):
+def read_unit(text, at):
     """The character at an offset of a string, as itself or as an escape."""
     if text[at : at + 1] != b"\\":
         return Unit(text[at], at + 1, True)
@@ -58,24 +58,24 @@ def unit_at(text, at):
     return Unit(ESCAPES.get(following, following[0]), at + 2, False)
 
 
-def unit_or_none(text, at):
+def read_unit_or_none(text, at):
     """Like unit_at, but None if there is no character."""
     try:
-        return unit_at(text, at) if at < len(text) else None
+        return read_unit(text, at) if at < len(text) else None
     except Wrong:
         return None
 
 
-def repeat_at(text, at):
+def read_repeat(text, at):
     """The repeat `[x*n]` at an offset and the offset after it, or None."""
-    unit = unit_or_none(text, at + 1)
+    unit = read_unit_or_none(text, at + 1)
     found = unit and re.compile(rb"\*([0-9]*)\]").match(text, unit.after)
     if not found:
         return None
     return unit.value, found[1], found.end()
 
 
-def repeat_part(value, digits, is_second):
+def make_repeat(value, digits, is_second):
     """The part of a repeat. Raises Wrong if the string or the count does not allow one."""
     if not is_second:
         raise Wrong("repeat")
@@ -88,18 +88,18 @@ def repeat_part(value, digits, is_second):
     return Part("repeat", [value] * count) if count else Part("fill", [value])
 
 
-def form_at(text, at, is_second, squeezes_second):
+def read_form(text, at, is_second, squeezes_second):
     """The form in brackets at an offset, and the offset after it; None if there is no form."""
-    repeat = repeat_at(text, at)
+    repeat = read_repeat(text, at)
     if repeat:
-        return repeat_part(repeat[0], repeat[1], is_second), repeat[2]
+        return make_repeat(repeat[0], repeat[1], is_second), repeat[2]
     found = re.compile(rb"\[:([a-z]+):\]").match(text, at)
     if found:
         name = found[1].decode()
         if name not in CLASSES:
             raise Wrong("class")
         return Part("class", CLASSES[name], name), found.end()
-    unit = unit_or_none(text, at + 2) if text[at : at + 2] == b"[=" else None
+    unit = read_unit_or_none(text, at + 2) if text[at : at + 2] == b"[=" else None
     if unit and text[unit.after : unit.after + 2] == b"=]":
         if is_second and not squeezes_second:
             raise Wrong("equivalence")
@@ -107,27 +107,27 @@ def form_at(text, at, is_second, squeezes_second):
     return None
 
 
-def part_at(text, at, is_second, squeezes_second):
+def read_part(text, at, is_second, squeezes_second):
     """The part of a string at an offset, and the offset after it."""
-    form = form_at(text, at, is_second, squeezes_second) if text[at : at + 1] == b"[" else None
+    form = read_form(text, at, is_second, squeezes_second) if text[at : at + 1] == b"[" else None
     if form:
         return form
-    low = unit_at(text, at)
+    low = read_unit(text, at)
     if text[low.after : low.after + 1] == b"-" and low.after + 1 < len(text):
-        high = unit_at(text, low.after + 1)
+        high = read_unit(text, low.after + 1)
         if high.value < low.value:
             raise Wrong("descending")
         return Part("range", [*range(low.value, high.value + 1)]), high.after
     return Part("byte", [low.value]), low.after
 
 
-def parts_of(text, is_second=False, squeezes_second=False):
+def read_parts(text, is_second=False, squeezes_second=False):
     """The parts of a string; raises Wrong at its first fault."""
     if not text:
         raise Wrong("empty")
     parts, at, fills = [], 0, 0
     while at < len(text):
-        part, after = part_at(text, at, is_second, squeezes_second)
+        part, after = read_part(text, at, is_second, squeezes_second)
         fills += part.kind == "fill"
         if fills > 1:
             raise Wrong("fill")
@@ -136,11 +136,11 @@ def parts_of(text, is_second=False, squeezes_second=False):
     return parts
 
 
-def array_of(parts, length=0):
+def make_array(parts, length=0):
     """The members of all parts. A fill extends the array to `length`."""
-    known = sum(len(it.members) for it in parts if it.kind != "fill")
+    known = sum(len(part.members) for part in parts if part.kind != "fill")
     missing = max(0, length - known)
-    return [byte for it in parts for byte in (it.members * missing if it.kind == "fill" else it.members)]
+    return [byte for part in parts for byte in (part.members * missing if part.kind == "fill" else part.members)]
 
 
 def check_classes(first, second, length, is_complement):
@@ -150,7 +150,7 @@ def check_classes(first, second, length, is_complement):
     for part in first:
         starts.setdefault(at, []).append(part.name)
         at += len(part.members)
-    known = sum(len(it.members) for it in second if it.kind != "fill")
+    known = sum(len(part.members) for part in second if part.kind != "fill")
     at = 0
     for part in second:
         other = {"lower": "upper", "upper": "lower"}.get(part.name)
@@ -171,26 +171,26 @@ class Plan(NamedTuple):
     to_array: list
 
 
-def plan_of(letters, operands):
+def make_plan(letters, operands):
     """The plan of tr's strings; raises Refused with the message of a fault."""
-    strings = [it.encode() for it in operands]
+    strings = [operand.encode() for operand in operands]
     deletes, is_complement = "d" in letters, bool(letters & {"c", "C"})
     try:
-        first = parts_of(strings[0])
-    except Wrong as it:
-        raise Refused(f"tr: wrong string1: {it}") from None
-    from_array = array_of(first)
+        first = read_parts(strings[0])
+    except Wrong as why:
+        raise Refused(f"tr: wrong string1: {why}") from None
+    from_array = make_array(first)
     if is_complement:
-        from_array = [it for it in ALL if it not in from_array]
+        from_array = [byte for byte in ALL if byte not in from_array]
     second, to_array = None, []
     if len(strings) == 2:
         try:
-            second = parts_of(strings[1], True, deletes)
+            second = read_parts(strings[1], True, deletes)
             if not deletes:
                 check_classes(first, second, len(from_array), is_complement)
-        except Wrong as it:
-            raise Refused(f"tr: wrong string2: {it}") from None
-        to_array = array_of(second, len(from_array))
+        except Wrong as why:
+            raise Refused(f"tr: wrong string2: {why}") from None
+        to_array = make_array(second, len(from_array))
     images = {}
     if second is not None and not deletes and from_array:
         padded = to_array + to_array[-1:] * (len(from_array) - len(to_array))

@@ -1,7 +1,7 @@
 """Makes a case smaller while it still shows a difference."""
 import re
 
-from cases import lines_of
+from cases import split_lines
 
 BUDGET = 250
 PLAIN = b"\t\n" + bytes(range(32, 127))
@@ -12,7 +12,7 @@ PIECES = {
 }
 
 
-def without_one(items):
+def list_fewer(items):
     """The items without one half, and without each single one."""
     if len(items) > 3:
         half = len(items) // 2
@@ -23,7 +23,7 @@ def without_one(items):
             yield items[:index] + items[index + 1 :]
 
 
-def smaller_numbers(text):
+def list_smaller_numbers(text):
     """The text with one of its numbers made smaller."""
     for found in re.finditer("[0-9]+", text):
         for number in {1, int(found[0]) // 2, int(found[0]) - 1}:
@@ -31,46 +31,46 @@ def smaller_numbers(text):
                 yield text[: found.start()] + str(number) + text[found.end() :]
 
 
-def smaller_values(tool, letter, value):
+def list_smaller_values(tool, letter, value):
     """Smaller values of an option."""
     if tool == "cut" and letter in "bcf" or letter == "o":
         items = re.findall(PIECES["list"], value)
         yield ",".join(items)
-        for fewer in without_one(items):
+        for fewer in list_fewer(items):
             if fewer:
                 yield ",".join(fewer)
-        yield from smaller_numbers(value)
+        yield from list_smaller_numbers(value)
     elif tool == "paste" and letter == "d":
-        for fewer in without_one(re.findall(PIECES["delimiters"], value, re.S)):
+        for fewer in list_fewer(re.findall(PIECES["delimiters"], value, re.S)):
             if fewer:
                 yield "".join(fewer)
     elif tool == "uniq" or letter in "12":
-        yield from smaller_numbers(value)
+        yield from list_smaller_numbers(value)
     elif letter == "e":
         yield "x"
 
 
-def fewer_options(case):
+def list_fewer_options(case):
     """The case with fewer or simpler options."""
     for index, (letter, value) in enumerate(case.options):
         before, after = case.options[:index], case.options[index + 1 :]
         if not (case.tool == "cut" and letter in "bcf"):
             yield case._replace(options=before + after)
-        for smaller in smaller_values(case.tool, letter, value or ""):
+        for smaller in list_smaller_values(case.tool, letter, value or ""):
             yield case._replace(options=before + [(letter, smaller)] + after)
     if case.late:
         yield case._replace(late=[])
 
 
-def fewer_operands(case):
+def list_fewer_operands(case):
     """The case with fewer or simpler operands."""
     if case.tool == "tr":
         for index, text in enumerate(case.operands):
-            for fewer in without_one(re.findall(PIECES["set"], text, re.S)):
+            for fewer in list_fewer(re.findall(PIECES["set"], text, re.S)):
                 if fewer:
                     yield case._replace(operands=case.operands[:index] + ["".join(fewer)] + case.operands[index + 1 :])
     elif case.tool in ("cut", "paste", "uniq"):
-        for fewer in without_one(case.operands):
+        for fewer in list_fewer(case.operands):
             yield case._replace(operands=fewer)
     for index, name in enumerate(case.operands):
         if case.tool != "tr" and name not in ("f", "g", "-", "out"):
@@ -80,66 +80,66 @@ def fewer_operands(case):
                 yield case._replace(operands=changed)
 
 
-def smaller_text(text, end):
+def list_smaller_texts(text, end):
     """Smaller forms of an input: first with its last terminator, then with fewer lines, then with fewer bytes."""
     if text and not text.endswith(end):
         yield text + end
-    lines = lines_of(text, end)
-    for fewer in without_one(lines):
-        yield b"".join(it + end for it in fewer)
+    lines = split_lines(text, end)
+    for fewer in list_fewer(lines):
+        yield b"".join(line + end for line in fewer)
     if len(lines) > 6:
         return
     for index, line in enumerate(lines):
         before, after = lines[:index], lines[index + 1 :]
-        for fewer in without_one(line):
-            yield b"".join(it + end for it in before + [fewer] + after)
+        for fewer in list_fewer(line):
+            yield b"".join(line + end for line in before + [fewer] + after)
         odd = re.search(rb"[^ -~\t]", line)
         if odd:
-            yield b"".join(it + end for it in before + [line.replace(odd[0], b"x")] + after)
+            yield b"".join(other + end for other in before + [line.replace(odd[0], b"x")] + after)
 
 
-def smaller_inputs(case):
+def list_smaller_inputs(case):
     """The case with one smaller input."""
-    used = set(case.files())
+    used = set(case.files)
     for name, text in case.inputs.items():
         if text and name not in used:
             yield case._replace(inputs={**case.inputs, name: b""})
     for name in sorted(used & set(case.inputs)):
-        for smaller in smaller_text(case.inputs[name], case.end()):
+        for smaller in list_smaller_texts(case.inputs[name], case.end):
             yield case._replace(inputs={**case.inputs, name: smaller})
 
 
-def neighbours(case):
+def list_neighbours(case):
     """Simpler cases, the largest steps first."""
     yield case._replace(spelling=0)
     yield case._replace(piece=4096)
-    yield from fewer_options(case)
-    yield from fewer_operands(case)
-    yield from smaller_inputs(case)
+    yield from list_fewer_options(case)
+    yield from list_fewer_operands(case)
+    yield from list_smaller_inputs(case)
 
 
-def size_of(case):
+def measure(case):
     """The size of a case. Words count more than bytes, and unprintable bytes more than others."""
-    words, texts = case.words(), list(case.inputs.values())
-    odd = sum(len(it.translate(None, PLAIN)) for it in texts)
+    words, texts = case.words, list(case.inputs.values())
+    odd = sum(len(text.translate(None, PLAIN)) for text in texts)
     of_words = 4 * len(words) + sum(map(len, words)) + bool(case.spelling)
     return of_words + sum(map(len, texts)) + 2 * odd + (case.piece != 4096)
 
 
-def shrunk(case, differs, open_points, budget=BUDGET):
+def shrink(case, differs, open_points, budget=BUDGET):
     """The smallest case without open points that was found to differ."""
-    size, tried, seen = size_of(case), 0, set()
+    size, tried, seen = measure(case), 0, set()
     found = True
     while found:
         found = False
-        for other in neighbours(case):
+        for other in list_neighbours(case):
             mark = repr(other)
-            if size_of(other) >= size or mark in seen or open_points(other):
+            if measure(other) >= size or mark in seen or open_points(other):
                 continue
             seen.add(mark)
             tried += 1
             if differs(other):
-                found, case, size = True, other, size_of(other)
+                found, case, size = True, other, measure(other)
                 break
             if tried >= budget:
                 return case

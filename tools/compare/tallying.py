@@ -10,8 +10,8 @@ import time
 from multiprocessing import connection
 
 from judging import EXAMPLES, Judge, keep_smaller
-from model import answer_of
-from report import KINDS, command_of, example_of, rule_named, table_row
+from model import compute_answer
+from report import KINDS, find_rule, format_command, format_example, format_row
 
 SECONDS_BETWEEN_LINES = 10
 MOST_SHOWN = 300
@@ -53,13 +53,13 @@ class Tally:
         return None
 
     def describe_unjudged(self, case):
-        wanted, got = self.judge.answers(case)
+        wanted, got = self.judge.find_answers(case)
         return (
-            f"unjudged: {self.side.name}: {command_of(case, [case.tool])}\n"
+            f"unjudged: {self.side.name}: {format_command(case, [case.tool])}\n"
             f"wanted {wanted.status} {shorten(wanted.out)}, found {got.status} {shorten(got.out)} {got.messages!r}"
         )
 
-    def results(self):
+    def collect_results(self):
         """The part of a tally that can be sent to another process."""
         return self.counts, self.titles, self.unjudged, self.judge.found, self.failed, self.tried
 
@@ -72,22 +72,22 @@ class Tally:
         for mark, (count, case) in found.items():
             keep_smaller(self.judge.found, mark, count, case)
 
-    def row(self):
-        return table_row(self.side.name, self.side.version(), self.counts)
+    def format_row(self):
+        return format_row(self.side.name, self.side.find_version(), self.counts)
 
-    def details(self):
+    def list_details(self):
         """The count of each difference, and the example of each wrong one."""
         for mark in sorted(self.titles, key=lambda mark: (KINDS.index(mark[0]), mark)):
             if self.titles[mark]:
                 yield f"{self.titles[mark]:6} {': '.join(mark)}"
         for (tool, title), (_, case) in sorted(self.judge.found.items()):
-            rule = rule_named(title, tool)
+            rule = find_rule(title, tool)
             yield f"\n{self.side.name}: {tool}: {title} ({rule.section}: \"{rule.sentence}\")"
-            yield example_of(case, self.side, *self.judge.answers(case))
+            yield format_example(case, self.side, *self.judge.find_answers(case))
         for case in self.unjudged:
             yield self.describe_unjudged(case)
 
-    def wrong_cases(self):
+    def list_wrong_cases(self):
         """The wrong cases, with the titles of their rules."""
         return [(case, title) for (_, title), (_, case) in self.judge.found.items()]
 
@@ -99,12 +99,12 @@ def tally_program(tally, number, case, differs):
         tally.failed += 1
         tally.add(case)
         return f"case {number}: {found}"
-    if answer_of(case).status != 2:
+    if compute_answer(case).status != 2:
         tally.counts["equal"] += 1
     return None
 
 
-def work(tally, cases, differs, to):
+def run_share(tally, cases, differs, to):
     """The work of one process: all its cases. It sends each report, and at the end its results."""
     # (By Ctrl-C at a terminal, each process is told; the first one then ends the others.)
     signal.signal(signal.SIGINT, signal.SIG_IGN)
@@ -116,7 +116,7 @@ def work(tally, cases, differs, to):
             to.send((report, tally.tried))
     except Stopped:
         pass
-    to.send(tally.results())
+    to.send(tally.collect_results())
     to.close()
 
 
@@ -124,7 +124,7 @@ class Work:
     """All processes. Each side has as many as there are processors, since one may take far longer than another. Each
     process has a share of the cases, and of the examples that are made smaller."""
 
-    def __init__(self, sides, cases_of_share, differs, room):
+    def __init__(self, sides, make_cases, differs, room):
         self.tallies = [Tally(side, room) for side in sides]
         shares = len(os.sched_getaffinity(0))
         self.ends, self.began, self.shown = {}, time.monotonic(), time.monotonic()
@@ -132,8 +132,8 @@ class Work:
             for share in range(shares):
                 here, there = FORK.Pipe(False)
                 tally = Tally(side, room, math.ceil(EXAMPLES / shares))
-                given = (tally, cases_of_share(share, shares), None if index else differs, there)
-                child = FORK.Process(target=work, args=given)
+                given = (tally, make_cases(share, shares), None if index else differs, there)
+                child = FORK.Process(target=run_share, args=given)
                 child.start()
                 there.close()
                 self.ends[here] = [index, child, 0]

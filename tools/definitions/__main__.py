@@ -20,8 +20,9 @@ TOP = os.path.dirname(os.path.dirname(HERE))
 sys.path[1:1] = [f"{TOP}/tools/compare", f"{TOP}/tools"]
 
 from crate import check, write_crate
-from lemmas import Others, all_lemmas, failures
-from specs import Specs, root_of
+from lemmas import Others, describe_failures, make_lemmas
+from project import Failed, run_script
+from specs import Specs, parse_root
 from terms import ROOTS
 
 MOST_SHOWN = 10
@@ -29,7 +30,7 @@ MOST_SHOWN = 10
 
 def report(lemmas, others, differences, proved, said):
     """Prints what differs, and returns the exit status."""
-    wrong = [*failures(lemmas, said)]
+    wrong = [*describe_failures(lemmas, said)]
     shown = [*differences, *wrong][:MOST_SHOWN]
     print(*shown, sep="\n", end="\n" if shown else "")
     if not proved and not wrong:
@@ -41,10 +42,10 @@ def report(lemmas, others, differences, proved, said):
 
 def evaluate(given, room):
     """Writes the crate and its lemmas into a folder, checks them, and returns the exit status."""
-    crate = write_crate(Specs(), [root_of(root) for root in ROOTS], room)
+    crate = write_crate(Specs(), [parse_root(root) for root in ROOTS], room)
     others = Others(given.program and os.path.abspath(given.program), room)
     partial = given.count // 4 if given.partial is None else given.partial
-    lemmas, differences = all_lemmas(given.seed, given.count, partial, others)
+    lemmas, differences = make_lemmas(given.seed, given.count, partial, others)
     lemmas.write(crate)
     return report(lemmas, others, differences, *check(crate))
 
@@ -58,7 +59,7 @@ def main():
     words.add_argument("--keep", metavar="FOLDER", help="where the crate with the lemmas is left")
     given = words.parse_args()
     if not shutil.which("rt"):
-        return "there is no rt in PATH: it is part of the toolchain, which the README names"
+        raise Failed("there is no rt in PATH: it is part of the toolchain, which the README names")
     if given.keep:
         return evaluate(given, given.keep)
     with tempfile.TemporaryDirectory() as room:
@@ -66,4 +67,4 @@ def main():
 
 
 if __name__ == "__main__":
-    sys.exit(main())
+    run_script(main)

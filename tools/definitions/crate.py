@@ -14,26 +14,26 @@ pub mod types;
 """
 
 
-def name_of_module(path):
+def name_module(path):
     """The name of a module in the new crate: the crate and the names of the module in one word."""
     _, crate, _, *names = path.split(".")
     return crate.capitalize() + "".join(names)
 
 
-def name_of_type(path):
+def find_type(path):
     """The type of the code that a module is about."""
     return [name for name in path.split(".") if name[0].isupper() and name not in ("Rattle", "TheVariants")][-1]
 
 
-def new_path(path):
+def make_path(path):
     """The path of a module in the new crate."""
     if not is_of_code(path):
-        return f"Rattle.{CRATE}.specs.{name_of_module(path)}"
+        return f"Rattle.{CRATE}.specs.{name_module(path)}"
     variants = ".TheVariants" if path.endswith(".TheVariants") else ""
-    return f"Rattle.{CRATE}.specs.declared.types.{name_of_type(path)}{variants}"
+    return f"Rattle.{CRATE}.specs.declared.types.{find_type(path)}{variants}"
 
 
-def types_of_code(folder):
+def read_types(folder):
     """The types that the code of a crate declares, by name, without comments and attributes."""
     found = {}
     for at, _, files in os.walk(folder):
@@ -48,16 +48,16 @@ def types_of_code(folder):
     return found
 
 
-def declared_types(specs, types):
+def find_declared_types(specs, types):
     """The declarations of these types of the code, and of the types that they mention, by name."""
     left, found, known = sorted(types), {}, {}
     while left:
         path = left.pop(0)
-        crate, name = path.split(".")[1], name_of_type(path)
+        crate, name = path.split(".")[1], find_type(path)
         if name in found:
             continue
         if crate not in known:
-            known[crate] = types_of_code(f"{specs.crates}/{crate}/src")
+            known[crate] = read_types(f"{specs.crates}/{crate}/src")
         found[name] = known[crate][name]
         mentioned = re.sub(r"^ {4}\w+(?=[,({ ])", "", found[name].partition("{")[2], flags=re.M)
         left += [f"Rattle.{crate}.specs.declared.{word}" for word in re.findall(r"\b[A-Z]\w+", mentioned)
@@ -65,28 +65,28 @@ def declared_types(specs, types):
     return found
 
 
-def text_of_module(specs, path, definitions):
+def format_module(specs, path, definitions):
     """The file of a module in the new crate: what it imports, and its definitions."""
-    module, imported, aliases = specs.module(path), {}, {}
+    module, imported, aliases = specs.read_module(path), {}, {}
     for definition in definitions:
-        for name, (target, original) in specs.uses(path, definition):
+        for name, (target, original) in specs.find_uses(path, definition):
             local = name.split(".")[0]
             if local in module.aliases:
                 aliases[local] = module.aliases[local]
             elif target != path:
-                imported[name] = specs.origin(target, original) if not is_of_code(target) else (target, original)
+                imported[name] = specs.find_origin(target, original) if not is_of_code(target) else (target, original)
     by_module = {}
     for local, (target, original) in sorted(imported.items()):
         word = original if original == local else f"{original} as {local}"
-        by_module.setdefault(new_path(target), []).append(word)
+        by_module.setdefault(make_path(target), []).append(word)
     lines = module.libraries + [f"use {target}.{{{', '.join(words)}}}" for target, words in sorted(by_module.items())]
-    lines += [f"use {new_path(target)} as {local}" for local, target in sorted(aliases.items())]
+    lines += [f"use {make_path(target)} as {local}" for local, target in sorted(aliases.items())]
     for definition in definitions:
         lines += ["", *definition.comment, *definition.blocks]
     return "\n".join(lines) + "\n"
 
 
-def write(path, text):
+def write_file(path, text):
     os.makedirs(os.path.dirname(path), exist_ok=True)
     with open(path, "w", encoding="utf-8") as file:
         file.write(text)
@@ -94,17 +94,17 @@ def write(path, text):
 
 def write_crate(specs, roots, room):
     """Writes what the roots rest on as a crate below the folder `room`, and returns the folder of the crate."""
-    needed, types = specs.rest(roots)
+    needed, types = specs.find_needed(roots)
     crate = f"{room}/crates/{CRATE}"
-    write(f"{room}/crates.txt", f"{CRATE}:\n")
-    write(f"{room}/HANDLES", "Handles allowed: none.\n")
-    declared = declared_types(specs, types)
+    write_file(f"{room}/crates.txt", f"{CRATE}:\n")
+    write_file(f"{room}/HANDLES", "Handles allowed: none.\n")
+    declared = find_declared_types(specs, types)
     texts = [f"\n/// `{name}`.\n#[derive(Clone, Copy)]\n{declared[name]}\n" for name in sorted(declared)]
-    write(f"{crate}/src/types.rt", "//! The types of the code that the definitions name.\n" + "".join(texts))
-    write(f"{crate}/src/lib.rt", CODE_HEAD)
+    write_file(f"{crate}/src/types.rt", "//! The types of the code that the definitions name.\n" + "".join(texts))
+    write_file(f"{crate}/src/lib.rt", CODE_HEAD)
     for path, definitions in needed.items():
-        write(f"{crate}/specs/{name_of_module(path)}.antt", text_of_module(specs, path, definitions))
-    write(f"{crate}/specs/Lib.antt", "".join(f"pub mod {name}\n" for name in sorted(map(name_of_module, needed))))
+        write_file(f"{crate}/specs/{name_module(path)}.antt", format_module(specs, path, definitions))
+    write_file(f"{crate}/specs/Lib.antt", "".join(f"pub mod {name}\n" for name in sorted(map(name_module, needed))))
     return crate
 
 

@@ -5,18 +5,18 @@ import shlex
 import shutil
 import tempfile
 
-from bounds import bounds_of, stretches_of
+from bounds import count_stretches, find_bounds
 from cases import Case
-from commands import commands
-from crate import write
+from commands import make_commands
+from crate import write_file
 from examples import PARTLY_READ, ROWS, STANDARD, STRETCHES
 from judging import is_same
-from model import answer_of
-from partial import partly_read
-from points import open_points
-from reading import Refused, meaning_of, word_events
+from model import compute_answer
+from partial import make_partly_read
+from points import find_open_points
+from reading import Refused, read_command, read_words
 from running import SIDES, run, run_side
-from terms import HARNESS, HEAD, decided_lemma, outcome_lemma, stretches_lemma
+from terms import HARNESS, HEAD, format_decided_lemma, format_outcome_lemma, format_stretches_lemma
 
 LEMMAS_PER_FILE = 100
 
@@ -38,23 +38,23 @@ class Lemmas:
         starts = range(0, len(self.texts), LEMMAS_PER_FILE)
         for start in starts:
             texts = self.texts[start : start + LEMMAS_PER_FILE]
-            write(f"{crate}/proofs/Lemmas{start // LEMMAS_PER_FILE}.antt", HEAD + "".join(texts))
-        write(f"{crate}/proofs/Harness.antt", HARNESS)
+            write_file(f"{crate}/proofs/Lemmas{start // LEMMAS_PER_FILE}.antt", HEAD + "".join(texts))
+        write_file(f"{crate}/proofs/Harness.antt", HARNESS)
         files = "".join(f"pub mod Lemmas{start // LEMMAS_PER_FILE}\n" for start in starts)
-        write(f"{crate}/proofs/Lib.antt", "pub mod Harness\n" + files)
+        write_file(f"{crate}/proofs/Lib.antt", "pub mod Harness\n" + files)
 
 
-def without_mark(case, out):
+def remove_mark(case, out):
     """The output without the mark of an output file of uniq."""
-    return out.removeprefix(b"output file:" + case.end()) if case.tool == "uniq" else out
+    return out.removeprefix(b"output file:" + case.end) if case.tool == "uniq" else out
 
 
-def command_of(words, inputs):
+def format_command(words, inputs):
     return f"{shlex.join(words)}   {inputs}"
 
 
-def used_inputs(case):
-    return {name: case.inputs[name] for name in sorted(set(case.files()) & set(case.inputs))}
+def find_used_inputs(case):
+    return {name: case.inputs[name] for name in sorted(set(case.files) & set(case.inputs))}
 
 
 class Others:
@@ -63,15 +63,15 @@ class Others:
     def __init__(self, program, room):
         self.program, self.room, self.counts = program, room, collections.Counter()
 
-    def differences(self, case):
-        wanted, subject = answer_of(case), command_of(case.words(), used_inputs(case))
+    def find_differences(self, case):
+        wanted, subject = compute_answer(case), format_command(case.words, find_used_inputs(case))
         if self.program:
             self.counts["the program"] += 1
-            got = run([self.program, *case.words()], case, self.room)
+            got = run([self.program, *case.words], case, self.room)
             if got != wanted:
                 yield f"the program differs from the model: {subject}: {got}, {wanted}"
         system = SIDES["system"]
-        if wanted.status != 2 and system.has(case) and not open_points(case):
+        if wanted.status != 2 and system.has(case) and not find_open_points(case):
             self.counts["the system's tools"] += 1
             with tempfile.TemporaryDirectory(dir=self.room) as folder:
                 got = run_side(system, case, folder)
@@ -83,24 +83,24 @@ def add_commands(lemmas, cases, others):
     """Adds the lemmas of random commands, and returns how the other programs differ on them."""
     found = []
     for case in cases:
-        answer, used = answer_of(case), used_inputs(case)
-        subject = command_of(case.words(), used)
-        outcome = (without_mark(case, answer.out), answer.messages, answer.status, *bounds_of(case))
-        lemmas.add("command", subject, outcome_lemma, case.words(), used, outcome)
-        count = stretches_of(case.words())
+        answer, used = compute_answer(case), find_used_inputs(case)
+        subject = format_command(case.words, used)
+        outcome = (remove_mark(case, answer.out), answer.messages, answer.status, *find_bounds(case))
+        lemmas.add("command", subject, format_outcome_lemma, case.words, used, outcome)
+        count = count_stretches(case.words)
         if count is not None:
-            lemmas.add("stretches", subject, stretches_lemma, case.words(), count)
-        found += others.differences(case)
+            lemmas.add("stretches", subject, format_stretches_lemma, case.words, count)
+        found += others.find_differences(case)
     return found
 
 
-def case_of_example(example):
+def make_case_of(example):
     """An example as a case of tools/compare, or None if its words are refused."""
     try:
-        meaning_of(example.words)
+        read_command(example.words)
     except Refused:
         return None
-    options, operands = word_events(example.words[0], example.words[1:])
+    options, operands = read_words(example.words[0], example.words[1:])
     return Case(example.words[0], options, operands, [], {"-": b"", **example.inputs}, 0, 4096)
 
 
@@ -108,54 +108,54 @@ def differs_from_model(example, case):
     """Whether an example is not what the definitions in Python give."""
     if case is None:
         try:
-            meaning_of(example.words)
+            read_command(example.words)
         except Refused as fault:
             return example[2:] != (b"", f"{fault}\n", 2)
-    answer = answer_of(case)
-    return example[2:] != (without_mark(case, answer.out), answer.messages, answer.status)
+    answer = compute_answer(case)
+    return example[2:] != (remove_mark(case, answer.out), answer.messages, answer.status)
 
 
 def add_examples(lemmas, others):
     """Adds the lemmas of the worked examples, and returns how the other programs differ on them."""
     found = []
     for example in ROWS + STANDARD:
-        case = case_of_example(example)
-        bounds = bounds_of(case) if case else (0, 0)
+        case = make_case_of(example)
+        bounds = find_bounds(case) if case else (0, 0)
         outcome = (example.out, example.messages, example.status, *bounds)
-        subject = command_of(example.words, example.inputs)
-        lemmas.add("example", subject, outcome_lemma, example.words, example.inputs, outcome)
+        subject = format_command(example.words, example.inputs)
+        lemmas.add("example", subject, format_outcome_lemma, example.words, example.inputs, outcome)
         if differs_from_model(example, case):
             found.append(f"the model gives something else: {subject}")
-        found += others.differences(case) if case else []
+        found += others.find_differences(case) if case else []
     for text, parts, out in PARTLY_READ:
         words = shlex.split(text)
-        lemmas.add("decided", command_of(words, parts), decided_lemma, words, parts.items(), out)
+        lemmas.add("decided", format_command(words, parts), format_decided_lemma, words, parts.items(), out)
     for words, count in STRETCHES:
-        lemmas.add("stretches", words, stretches_lemma, shlex.split(words), count)
+        lemmas.add("stretches", words, format_stretches_lemma, shlex.split(words), count)
     return found
 
 
 def add_partly_read(lemmas, cases):
     for case, parts, out in cases:
-        lemmas.add("decided", command_of(case.words(), parts), decided_lemma, case.words(), parts.items(), out)
+        lemmas.add("decided", format_command(case.words, parts), format_decided_lemma, case.words, parts.items(), out)
 
 
-def failed_lemmas(said):
+def find_failed_lemmas(said):
     """The names of the lemmas that do not hold, in their order, by what the checker said."""
     return sorted(set(re.findall(r"error: `(\w+_\d+)`", said)), key=lambda name: int(name.split("_")[1]))
 
 
-def failures(lemmas, said):
+def describe_failures(lemmas, said):
     """The lemmas that do not hold, each with what was computed."""
-    for name in failed_lemmas(said):
+    for name in find_failed_lemmas(said):
         found = re.search(rf"`{name}`.*?computed as far as they go, (.*?)\n  expected type", said, re.S)
         yield f"the definitions give something else: {lemmas.subjects[name]}\n    {found[1] if found else ''}"
 
 
-def all_lemmas(seed, count, partial, others):
+def make_lemmas(seed, count, partial, others):
     """The lemmas of all examples and of random commands, and how the other programs differ on these."""
     lemmas = Lemmas()
     differences = add_examples(lemmas, others)
-    differences += add_commands(lemmas, commands(seed, count), others)
-    add_partly_read(lemmas, partly_read(seed, partial))
+    differences += add_commands(lemmas, make_commands(seed, count), others)
+    add_partly_read(lemmas, make_partly_read(seed, partial))
     return lemmas, differences

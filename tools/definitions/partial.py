@@ -3,29 +3,29 @@ the bytes that were received, and whether they are all."""
 import random
 
 import model
-from cases import lines_of
-from commands import TOOLS, groups, two_disorders
-from generating import some_case
-from reading import Refused, meaning_of
+from cases import split_lines
+from commands import TOOLS, make_groups, make_two_disorders
+from generating import make_case
+from reading import Refused, read_command
 
 MOST_BYTES = 400
 
 
-def known_lines(part, end):
+def read_known_lines(part, end):
     """All lines of a whole input, and the complete ones of any other."""
     data, eof = part
-    return lines_of(data if eof else data[: data.rfind(end) + 1], end)
+    return split_lines(data if eof else data[: data.rfind(end) + 1], end)
 
 
-def decided_in_order(case, meant, names, parts):
+def decide_in_order(case, meant, names, parts):
     """The output of cut and paste -s: nothing is decided after an input that has not ended."""
-    out, end = b"", case.end()
+    out, end = b"", case.end
     delimiters = meant["d"][0] if "d" in meant else [b"\t"]
     for at, name in enumerate(names):
         part = (b"", True) if name == "-" and name in names[:at] else parts.get(name)
         if part is None:
             continue
-        lines = known_lines(part, end)
+        lines = read_known_lines(part, end)
         if case.tool == "cut":
             cut_lines = [model.cut_line(line, meant) for line in lines]
             out += b"".join(line + end for line in cut_lines if line is not None)
@@ -36,10 +36,10 @@ def decided_in_order(case, meant, names, parts):
     return out
 
 
-def decided_rows(case, meant, names, parts):
+def decide_rows(case, meant, names, parts):
     """The rows of paste whose cells are all known, or known not to exist."""
-    end, uses = case.end(), names.count("-")
-    lines = {name: known_lines(parts[name], end) for name in names}
+    end, uses = case.end, names.count("-")
+    lines = {name: read_known_lines(parts[name], end) for name in names}
     columns = [
         lines[name][names[:at].count("-") :: uses] if name == "-" else lines[name] for at, name in enumerate(names)
     ]
@@ -52,9 +52,9 @@ def decided_rows(case, meant, names, parts):
     return out
 
 
-def decided_runs(case, meant, name, parts):
+def decide_runs(case, meant, name, parts):
     """The output of uniq for all runs but the last."""
-    lines, end = known_lines(parts[name], case.end()), case.end()
+    lines, end = read_known_lines(parts[name], case.end), case.end
     keys = [model.uniq_key(line, meant) for line in lines]
     after = len(keys)
     while after and keys[after - 1] == keys[-1]:
@@ -63,10 +63,10 @@ def decided_runs(case, meant, name, parts):
     return model.uniq(case._replace(inputs={name: text}, operands=[name]), meant, [name])[0]
 
 
-def decided_entries(case, meant, names, parts):
+def decide_entries(case, meant, names, parts):
     """The output of a merge for the keys of which neither input can have another line."""
-    end = case.end()
-    texts = {name: b"".join(line + end for line in known_lines(parts[name], end)) for name in names}
+    end = case.end
+    texts = {name: b"".join(line + end for line in read_known_lines(parts[name], end)) for name in names}
     part = case._replace(inputs=texts, operands=names)
     known, found, limits = model.ranks(part), model.disorder(part), []
     lines = {key: ([], []) for key in known}
@@ -85,30 +85,30 @@ def decided_entries(case, meant, names, parts):
     return b"".join(entry + end for entry in entries(part, meant, kept))
 
 
-def decided(case, parts):
+def decide(case, parts):
     """The output that parts of the inputs decide, by the names of these. A file that is not there has no part."""
-    tool, meant, operands = meaning_of(case.words())
+    tool, meant, operands = read_command(case.words)
     if tool == "tr":
         return model.tr(case._replace(inputs={"-": parts["-"][0]}), meant, operands)[0]
     names = (operands[:1] if tool == "uniq" else operands) or ["-"]
     if tool == "cut" or tool == "paste" and "s" in meant:
-        return decided_in_order(case, meant, names, parts)
+        return decide_in_order(case, meant, names, parts)
     if any(name not in parts for name in names):
         return b""
     if tool == "paste":
-        return decided_rows(case, meant, names, parts)
-    return decided_runs(case, meant, names[0], parts) if tool == "uniq" else decided_entries(case, meant, names, parts)
+        return decide_rows(case, meant, names, parts)
+    return decide_runs(case, meant, names[0], parts) if tool == "uniq" else decide_entries(case, meant, names, parts)
 
 
-def partly_read(seed, count):
+def make_partly_read(seed, count):
     """Random commands with parts of their inputs, and the output that these decide."""
     found, number = [], 0
     while len(found) < count:
         rng = random.Random(f"decided {seed} {number}")
-        shape = (None, None, groups, None, two_disorders)[number % 5]
-        case = shape(rng, number // 5) if shape else some_case(TOOLS[number // 5 % len(TOOLS)], rng)
+        shape = (None, None, make_groups, None, make_two_disorders)[number % 5]
+        case = shape(rng, number // 5) if shape else make_case(TOOLS[number // 5 % len(TOOLS)], rng)
         number += 1
-        used = sorted((set(case.files()) | {"-"}) & set(case.inputs))
+        used = sorted((set(case.files) | {"-"}) & set(case.inputs))
         if sum(len(case.inputs[name]) for name in used) > MOST_BYTES:
             continue
         parts = {}
@@ -116,7 +116,7 @@ def partly_read(seed, count):
             data, eof = case.inputs[name], rng.random() < 0.4
             parts[name] = data if eof else data[: rng.randint(0, len(data))], eof
         try:
-            found.append((case, parts, decided(case, parts)))
+            found.append((case, parts, decide(case, parts)))
         except Refused:
             continue
     return found

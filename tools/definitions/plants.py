@@ -19,19 +19,19 @@ TOP = os.path.dirname(os.path.dirname(HERE))
 sys.path[1:1] = [f"{TOP}/tools/compare", f"{TOP}/tools"]
 
 from crate import check, write_crate
-from lemmas import Others, all_lemmas, failed_lemmas
-from specs import LIBRARIES, Specs, root_of
+from lemmas import Others, find_failed_lemmas, make_lemmas
+from specs import LIBRARIES, Specs, parse_root
 from terms import ROOTS
 
 
-def plants():
+def read_plants():
     """The wrong definitions in plants.txt: what is wrong, the file, and a text in it with the wrong one."""
     with open(f"{HERE}/plants.txt", encoding="utf-8") as file:
         text = file.read()
     return re.findall(r"^(\S.*)\n  file: (.*)\n  old: (.*)\n  new: (.*)$", text, re.M)
 
 
-def copied(room):
+def copy_definitions(room):
     """A copy of the definitions and the code of the libraries."""
     for crate in LIBRARIES:
         for part in ("specs", "src"):
@@ -39,7 +39,7 @@ def copied(room):
     return f"{room}/crates"
 
 
-def replaced(path, old, new):
+def replace_text(path, old, new):
     """Replaces a text that the file has once. Raises ValueError if it has not."""
     with open(path, encoding="utf-8") as file:
         text = file.read()
@@ -49,17 +49,17 @@ def replaced(path, old, new):
         file.write(text.replace(old, new))
 
 
-def refusals(crates, lemmas, room):
+def find_refusals(crates, lemmas, room):
     """The lemmas that do not hold over the definitions below `crates`, and whether all the rest is proved."""
-    crate = write_crate(Specs(crates), [root_of(root) for root in ROOTS], room)
+    crate = write_crate(Specs(crates), [parse_root(root) for root in ROOTS], room)
     lemmas.write(crate)
     proved, said = check(crate)
-    found = failed_lemmas(said)
+    found = find_failed_lemmas(said)
     elsewhere = [line for line in said.split("\n") if ": error" in line and not re.search(r"`\w+_\d+`", line)]
     return found, elsewhere if not proved else []
 
 
-def kinds_of(names):
+def count_kinds(names):
     """How many lemmas of each kind, and the first of each, as text."""
     kinds = {}
     for name in names:
@@ -67,18 +67,18 @@ def kinds_of(names):
     return ", ".join(f"{len(found)} {kind} (first {found[0]})" for kind, found in kinds.items())
 
 
-def is_found(plant, crates, sets, room):
-    """Plants one wrong definition, and says which lemmas refuse it. Takes it back."""
+def try_plant(plant, crates, sets, room):
+    """Plants one wrong definition, says which lemmas refuse it, and takes it back. Returns whether one does."""
     title, file, old, new = plant
     path = f"{crates}/{file}.antt"
-    replaced(path, old, new)
+    replace_text(path, old, new)
     began, found, elsewhere = time.time(), [], []
     for lemmas in sets:
-        found, elsewhere = refusals(crates, lemmas, room)
+        found, elsewhere = find_refusals(crates, lemmas, room)
         if found or elsewhere:
             break
     shutil.copy(f"{TOP}/crates/{file}.antt", path)
-    result = kinds_of(found) or f"NOT FOUND {elsewhere[:1] or ''}"
+    result = count_kinds(found) or f"NOT FOUND {elsewhere[:1] or ''}"
     print(f"{title}: {result}, of {len(lemmas.texts)}, in {time.time() - began:.0f} s", flush=True)
     return bool(found)
 
@@ -87,14 +87,14 @@ def main():
     words = argparse.ArgumentParser(description=__doc__, formatter_class=argparse.RawDescriptionHelpFormatter)
     words.add_argument("count", nargs="?", type=int, default=2000)
     words.add_argument("--seed", type=int, default=1)
-    words.add_argument("--only", type=int, nargs="+", metavar="NUMBER", default=range(len(plants())))
+    words.add_argument("--only", type=int, nargs="+", metavar="NUMBER", default=range(len(read_plants())))
     given = words.parse_args()
     with tempfile.TemporaryDirectory() as room:
         counts = [given.count // 10, given.count]
-        sets = [all_lemmas(given.seed, count, count // 4, Others(None, room))[0] for count in counts]
-        crates = copied(f"{room}/changed")
-        chosen = [plants()[number] for number in given.only]
-        lost = [plant[0] for plant in chosen if not is_found(plant, crates, sets, f"{room}/sliced")]
+        sets = [make_lemmas(given.seed, count, count // 4, Others(None, room))[0] for count in counts]
+        crates = copy_definitions(f"{room}/changed")
+        chosen = [read_plants()[number] for number in given.only]
+        lost = [plant[0] for plant in chosen if not try_plant(plant, crates, sets, f"{room}/sliced")]
     print(f"{len(given.only) - len(lost)} of {len(given.only)} found; not found: {', '.join(lost) or 'none'}")
     return 1 if lost else 0
 

@@ -19,12 +19,12 @@ class Definition(NamedTuple):
     heading: str
     blocks: list
 
-    def lines(self):
+    def list_lines(self):
         """Its lines, without comments."""
         return [line for block in self.blocks for line in block.split("\n") if not line.strip().startswith("--")]
 
 
-def blocks_of(text):
+def split_blocks(text):
     """The items of a file, each with the comment above it and the heading before that. An item begins at the margin."""
     blocks, comment, heading = [], [], ""
     for line in text.split("\n"):
@@ -42,13 +42,13 @@ def blocks_of(text):
     return blocks
 
 
-def without_comments(text):
+def remove_comments(text):
     """A text of definitions without its comments and its strings."""
     lines = [line.split(" -- ")[0] for line in text.split("\n") if not line.strip().startswith("--")]
     return re.sub(r'"(\\.|[^"\\])*"', " ", "\n".join(lines))
 
 
-def bound_names(block):
+def find_bound_names(block):
     """The names that a clause binds itself: its parameters, and those of `λ` and `let`."""
     head, equals, _ = block.partition(" =")
     bound = set(re.findall(NAME, head)[1:]) if equals and " : " not in head.partition("(")[0] else set()
@@ -56,12 +56,12 @@ def bound_names(block):
     return {name for name in bound if name[0].islower()}
 
 
-def names_in(block):
+def find_names(block):
     """The names that a block may mean: words, and words of a module with a dot between. Fields of records are none."""
-    text = re.sub(rf"(?:(?<=[{{;])|\bpub|^)(\s+){NAME} (?==|:)", r"\1", without_comments(block), flags=re.M)
+    text = re.sub(rf"(?:(?<=[{{;])|\bpub|^)(\s+){NAME} (?==|:)", r"\1", remove_comments(block), flags=re.M)
     words = set(re.findall(NAME, text))
     found = words | {word.split(".")[0] for word in words} | {re.sub(r"\.$", "", word) for word in words}
-    return found - bound_names(block)
+    return found - find_bound_names(block)
 
 
 class Module:
@@ -75,7 +75,7 @@ class Module:
             text = file.read()
         self.introduction = re.match(r"(?:--.*\n)*", text)[0].splitlines()
         last = None
-        for comment, heading, block in blocks_of(text):
+        for comment, heading, block in split_blocks(text):
             last = self.take(comment, heading, block, last)
 
     def take(self, comment, heading, block, last):
@@ -87,7 +87,8 @@ class Module:
         if flat.startswith(("pub mod ", "mod ")):
             return None
         if flat.startswith("module "):
-            names = re.findall(rf"^ +(?:(?:abbrev|unfoldable) (?:pub )?|(?:pub )?(?:record|data) )({NAME})", block, re.M)
+            begin = r"(?:abbrev|unfoldable) (?:pub )?|(?:pub )?(?:record|data) "
+            names = re.findall(rf"^ +(?:{begin})({NAME})", block, re.M)
             self.define(names, "module", comment, heading, block)
             return None
         found = re.match(rf"(?:pub )?(data|record) (?:pub )?({NAME})", flat)
@@ -133,7 +134,7 @@ class Specs:
     def __init__(self, crates=f"{TOP}/crates"):
         self.crates, self.known = crates, {}
 
-    def module(self, path):
+    def read_module(self, path):
         """The module of a path such as Rattle.ptflow.specs.Cuts."""
         if path not in self.known:
             _, crate, _, *names = path.split(".")
@@ -141,7 +142,7 @@ class Specs:
             self.known[path] = Module(crate, name, f"{self.crates}/{crate}/specs/{'/'.join(names)}.antt")
         return self.known[path]
 
-    def all_modules(self):
+    def list_modules(self):
         """The paths of all modules of the libraries and the program, in order."""
         for crate in LIBRARIES:
             folder = f"{self.crates}/{crate}/specs"
@@ -150,20 +151,20 @@ class Specs:
                     name = os.path.relpath(f"{at}/{file}", folder).removesuffix(".antt").replace("/", ".")
                     yield f"Rattle.{crate}.specs.{name}"
 
-    def origin(self, path, name):
+    def find_origin(self, path, name):
         """Where a name comes from: the module that defines it, and its name there."""
-        module = self.module(path)
+        module = self.read_module(path)
         while name not in module.named:
             path, name = module.imports[name]
             if is_of_code(path):
                 break
-            module = self.module(path)
+            module = self.read_module(path)
         return path, name
 
-    def uses(self, path, definition):
+    def find_uses(self, path, definition):
         """The names in a definition: (module, name), with the local name; those of the code too."""
-        module = self.module(path)
-        for name in set().union(*(names_in(block) for block in definition.blocks)):
+        module = self.read_module(path)
+        for name in set().union(*(find_names(block) for block in definition.blocks)):
             if name in module.named and module.named[name] is not definition:
                 yield name, (path, name)
             elif name in module.imports and name not in definition.names:
@@ -175,36 +176,36 @@ class Specs:
                 if not is_of_code(module.aliases[alias]):
                     yield name, (module.aliases[alias], member.split(".")[0])
 
-    def rest(self, roots):
+    def find_needed(self, roots):
         """The definitions that some rest on, themselves included: for each module those that are needed, and the types
         of the code. A root is a pair of a module and a name."""
         needed, types, left = {}, set(), list(roots)
         while left:
             path, name = left.pop()
             if not is_of_code(path):
-                path, name = self.origin(path, name)
+                path, name = self.find_origin(path, name)
             if is_of_code(path):
                 types.add(path)
                 continue
-            definition = self.module(path).named[name]
+            definition = self.read_module(path).named[name]
             chosen = needed.setdefault(path, [])
             if not any(definition is other for other in chosen):
                 chosen.append(definition)
-                left += [target for _, target in self.uses(path, definition)]
-        return {path: self.in_order(path, chosen) for path, chosen in needed.items()}, types
+                left += [target for _, target in self.find_uses(path, definition)]
+        return {path: self.sort(path, chosen) for path, chosen in needed.items()}, types
 
-    def in_order(self, path, chosen):
+    def sort(self, path, chosen):
         """Definitions of a module in the order of its file."""
-        return [known for known in self.module(path).definitions if any(known is other for other in chosen)]
+        return [known for known in self.read_module(path).definitions if any(known is other for other in chosen)]
 
 
-def root_of(text):
+def parse_root(text):
     """The root that a text such as ptrun.SpecOfArgs.spec_of_args names."""
     crate, _, rest = text.partition(".")
     module, _, name = rest.rpartition(".")
     return f"Rattle.{crate}.specs.{module}", name
 
 
-def line_count(definitions):
+def count_lines(definitions):
     """The number of lines of definitions, without comments."""
-    return sum(len(definition.lines()) for definition in definitions)
+    return sum(len(definition.list_lines()) for definition in definitions)

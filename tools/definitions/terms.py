@@ -1,5 +1,5 @@
 """Lemmas as text: terms for bytes, words and files, and the definitions that the lemmas are about."""
-from crate import CRATE, new_path
+from crate import CRATE, make_path
 
 SHORT = {10: "\\n", 9: "\\t", 13: "\\r", 92: "\\\\", 34: '\\"'}
 EVALUATES = "unfolding lib.Utf8.encode digits all_bytes\n"
@@ -8,20 +8,20 @@ ROOTS = ["ptrun.SpecOfArgs.spec_of_args", "ptrun.CommandSpec.messages", "ptrun.F
 ROOTS += ["ptrun.Files.ReceivedInputs", "ptlangs.TrShifts.stretches", "ptopts.Commands.command_of_args"]
 
 
-def specs_of(crate, module):
-    return new_path(f"Rattle.{crate}.specs.{module}")
+def make_specs_path(crate, module):
+    return make_path(f"Rattle.{crate}.specs.{module}")
 
 
 HARNESS = f"""-- What the definitions give for words, standard input and files.
 use Rattle.std.proofs.Common.{{ℕ, List, [], ◌∷◌, map, Some, None, codes}}
 use Rattle.std.specs.Prelude.{{Option, Result, Ok, Err, length, bytes_eq, find, option_map}}
-use {specs_of("ptrun", "SpecOfArgs")}.{{spec_of_args}}
-use {specs_of("ptrun", "CommandSpec")}.{{CommandSpec, messages}}
-use {specs_of("ptopts", "Commands")}.{{Command, Job, RunTr, command_of_args}}
-use {specs_of("ptopts", "Faults")}.{{Fault}}
-use {specs_of("ptlangs", "TrShifts")}.{{stretches}}
-use {specs_of("ptrun", "Files")}.{{InputBytes, ReceivedInputs}}
-use {specs_of("ptlines", "Received")}.{{Received}}
+use {make_specs_path("ptrun", "SpecOfArgs")}.{{spec_of_args}}
+use {make_specs_path("ptrun", "CommandSpec")}.{{CommandSpec, messages}}
+use {make_specs_path("ptopts", "Commands")}.{{Command, Job, RunTr, command_of_args}}
+use {make_specs_path("ptopts", "Faults")}.{{Fault}}
+use {make_specs_path("ptlangs", "TrShifts")}.{{stretches}}
+use {make_specs_path("ptrun", "Files")}.{{InputBytes, ReceivedInputs}}
+use {make_specs_path("ptlines", "Received")}.{{Received}}
 
 -- the output, the messages and the status of a command, and the bounds of the bytes and of the slots of its store
 pub record Outcome : Type 0 where
@@ -73,7 +73,7 @@ stretch_count words = of_command (command_of_args words)
 HEAD = f"""-- Each lemma evaluates the definitions on one command.
 use Rattle.std.proofs.Common.{{◌≡◌, ℕ, List, [], ◌∷◌, ◌++◌, refl, codes, true, false, Some}}
 use Rattle.std.specs.Fmt.{{digits}}
-use {specs_of("ptlangs", "TrClasses")}.{{all_bytes}}
+use {make_specs_path("ptlangs", "TrClasses")}.{{all_bytes}}
 use Rattle.{CRATE}.proofs.Harness.{{ran, wrote, decides, stretch_count}}
 """
 
@@ -83,7 +83,7 @@ def is_plain(byte):
     return byte in SHORT or 32 <= byte < 127 or byte >= 161 and byte != 173
 
 
-def bytes_term(data):
+def format_bytes(data):
     """A term for some bytes: strings of plain bytes, and numbers."""
     parts, at = [], 0
     while at < len(data):
@@ -97,42 +97,46 @@ def bytes_term(data):
     return f"({term[:-3]})" if term.endswith(" ++") else f"({term} [])" if term else "[]"
 
 
-def list_term(terms):
+def format_list(terms):
     return "(" + "".join(f"{term} ∷ " for term in terms) + "[])"
 
 
-def words_term(words):
-    return list_term(bytes_term(word.encode()) for word in words)
+def format_words(words):
+    return format_list(format_bytes(word.encode()) for word in words)
 
 
-def files_term(files):
+def format_files(files):
     """A term for files: pairs of a name and the content."""
-    return list_term(f"({bytes_term(name.encode())}, {bytes_term(files[name])})" for name in sorted(files))
+    return format_list(f"({format_bytes(name.encode())}, {format_bytes(files[name])})" for name in sorted(files))
 
 
-def parts_term(parts):
+def format_parts(parts):
     """A term for what was received: pairs of a name, and the bytes with whether they are all."""
-    texts = {name: f"record {{ bytes = {bytes_term(data)}; eof = {str(eof).lower()} }}" for name, (data, eof) in parts}
-    return list_term(f"({bytes_term(name.encode())}, {text})" for name, text in texts.items())
+
+    def format_part(name, data, eof):
+        return f"({format_bytes(name.encode())}, record {{ bytes = {format_bytes(data)}; eof = {str(eof).lower()} }})"
+
+    return format_list(format_part(name, data, eof) for name, (data, eof) in parts)
 
 
-def lemma(name, left, right):
+def format_lemma(name, left, right):
     return f"\n{name} : {left}\n    ≡ {right}\n{EVALUATES}{name} = refl\n"
 
 
-def outcome_lemma(name, words, inputs, outcome):
+def format_outcome_lemma(name, words, inputs, outcome):
     """The lemma that words over inputs, by name, have an outcome: output, messages, status, and the two bounds."""
     files = {file: text for file, text in inputs.items() if file != "-"}
-    left = f"ran {words_term(words)} {bytes_term(inputs.get('-', b''))} {files_term(files)}"
+    left = f"ran {format_words(words)} {format_bytes(inputs.get('-', b''))} {format_files(files)}"
     out, messages, status, most, slots = outcome
-    return lemma(name, left, f"wrote {bytes_term(out)} {bytes_term(messages.encode())} {status} {most} {slots}")
+    right = f"wrote {format_bytes(out)} {format_bytes(messages.encode())} {status} {most} {slots}"
+    return format_lemma(name, left, right)
 
 
-def decided_lemma(name, words, parts, out):
+def format_decided_lemma(name, words, parts, out):
     """The lemma that some output is decided by parts of inputs: pairs of a name and (bytes, whether they are all)."""
-    return lemma(name, f"decides {words_term(words)} {parts_term(parts)}", bytes_term(out))
+    return format_lemma(name, f"decides {format_words(words)} {format_parts(parts)}", format_bytes(out))
 
 
-def stretches_lemma(name, words, count):
+def format_stretches_lemma(name, words, count):
     """The lemma that a command of tr has so many stretches."""
-    return lemma(name, f"stretch_count {words_term(words)}", f"Some {count}")
+    return format_lemma(name, f"stretch_count {format_words(words)}", f"Some {count}")
