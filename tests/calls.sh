@@ -1,6 +1,6 @@
 #!/bin/sh
 # Tests the calls of the system that the built program makes, as strace shows them: which files are opened and created,
-# in which order, and how often inputs are read and outputs written. No contract speaks of how often and when; that of run_over_files says which names.
+# in which order, and how often inputs are read and outputs written. No contract speaks of how often and when.
 # usage: tests/calls.sh PROGRAM
 set -u
 program=$(realpath "${1:?which program?}")
