@@ -47,7 +47,7 @@ SECTIONS = [
      ["ptopts.Syntax", "ptopts.Args", "ptopts.Faults", "ptopts.Commands"], "ptopts.Commands.command_of_args"),
     ("Messages", "", ["ptrun.MessageWrites", "ptrun.Messages"], "ptrun.Messages.usage_message"),
     ("A run", "From a job and the bytes of its inputs to the output, the messages and the status.",
-     ["ptrun.Files", "ptrun.CommandSpec", "ptlines.Calls", "ptflow.Passes", "ptmerge.MergeCall", "ptrun.Engines",
+     ["ptrun.Files", "ptrun.CommandSpec", "ptlines.Engines", "ptflow.Passes", "ptmerge.MergeCall", "ptrun.Engines",
       "ptrun.Operands", "ptrun.Joint", "ptrun.Tools", "ptrun.SpecOfArgs"], "ptrun.SpecOfArgs.spec_of_args"),
 ]
 INTRODUCTION = """\

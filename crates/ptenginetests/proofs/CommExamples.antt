@@ -1,7 +1,8 @@
 -- Worked examples of `comm`.
 use Rattle.std.proofs.Common.{◌≡◌, ℕ, List, Option, Some, Bool, true, false, refl}
 use Rattle.std.specs.Prelude.{codes}
-use Rattle.ptlangs.specs.Jobs.{Comm, default_comm}
+use Rattle.ptlangs.specs.Jobs.{Comm}
+use Rattle.ptlangs.specs.Private.Jobs.{default_comm}
 use Rattle.ptmerge.specs.declared.key_order.Side.TheVariants.{First, Second}
 use Rattle.ptmerge.specs.Comm.{comm_tool}
 use Rattle.ptmerge.specs.MergeSpec.{MergeDisorder, decided_output, disorder, lines_of, merge_output}

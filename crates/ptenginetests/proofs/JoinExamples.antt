@@ -2,7 +2,8 @@
 use Rattle.std.proofs.Common.{◌≡◌, ℕ, ◌+◌, ◌*◌, List, [], ◌∷◌, Option, Some, None, Bool, true, false, refl}
 use Rattle.std.specs.Prelude.{codes}
 use Rattle.std.specs.Str.{byte}
-use Rattle.ptlangs.specs.Jobs.{Join, default_join}
+use Rattle.ptlangs.specs.Jobs.{Join}
+use Rattle.ptlangs.specs.Calls.Jobs.{default_join}
 use Rattle.ptlines.specs.Text.{lines}
 use Rattle.ptmerge.specs.declared.key_order.Side.TheVariants.{First, Second}
 use Rattle.ptmerge.specs.Join.{join_fields, join_tool}

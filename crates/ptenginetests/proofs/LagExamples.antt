@@ -6,16 +6,21 @@ use Rattle.std.specs.Prelude.{replicate}
 use Rattle.std.proofs.lemmas.Bool.{false≢true}
 use Rattle.std.proofs.lemmas.List.{length-replicate}
 use Rattle.ptlines.specs.Received.{Received, empty_input, known_lines}
-use Rattle.ptlines.specs.Lag.{LaggedInput, BoundedLag}
-use Rattle.ptlines.specs.Outputs.{Output}
-use Rattle.ptlines.specs.Text.{unlines, IsLine, AreLines}
+use Rattle.ptlines.specs.Lag.{LaggedInput}
+use Rattle.ptlines.specs.Calls.Lag.{BoundedLag}
+use Rattle.ptlines.specs.Calls.Outputs.{Output}
+use Rattle.ptlines.specs.Text.{unlines}
+use Rattle.ptlines.specs.Calls.Text.{IsLine}
+use Rattle.ptlines.specs.Laws.Text.{AreLines}
 use Rattle.ptlines.proofs.TextLaws.{complete_lines_of_unlines}
-use Rattle.ptlangs.specs.Jobs.{default_comm}
+use Rattle.ptlangs.specs.Private.Jobs.{default_comm}
 use Rattle.ptmerge.specs.declared.key_order.Side.TheVariants.{First}
 use Rattle.ptmerge.specs.Comm.{comm_tool}
-use Rattle.ptmerge.specs.MergeSpec.{Lines, decided_output, decided_entries, disorder, lines_decide_disorder}
-use Rattle.ptmerge.specs.MergeSpec.{disorder_is_decided}
-use Rattle.ptmerge.specs.Sides.{both, with_side}
+use Rattle.ptmerge.specs.MergeSpec.{Lines, decided_output, decided_entries, disorder}
+use Rattle.ptmerge.specs.Calls.MergeSpec.{lines_decide_disorder}
+use Rattle.ptmerge.specs.Calls.MergeSpec.{disorder_is_decided}
+use Rattle.ptmerge.specs.Sides.{both}
+use Rattle.ptmerge.specs.Calls.Sides.{with_side}
 
 -- Of two prefixes of the same bytes, the longer one begins with the shorter one.
 front_of : (front more xs ys : List ℕ) → front ++ more ≡ xs ++ ys → length front ≤ length xs → (rest : List ℕ)

@@ -1,7 +1,9 @@
 -- Worked examples of the theorems on whole outputs: results of them, and outputs that show what they do not say.
 use Rattle.std.proofs.Common.{◌≡◌, ℕ, ◌+◌, ◌==◌, List, [], ◌∷◌, ◌++◌, Bool, true, false, refl, length, codes, Some}
 use Rattle.std.specs.Fmt.{digits}
-use Rattle.ptlangs.specs.Jobs.{Cut, Uniq, Comm, Join, default_comm, default_join}
+use Rattle.ptlangs.specs.Jobs.{Cut, Uniq, Comm, Join}
+use Rattle.ptlangs.specs.Private.Jobs.{default_comm}
+use Rattle.ptlangs.specs.Calls.Jobs.{default_join}
 use Rattle.ptlangs.specs.TrClasses.{all_bytes}
 use Rattle.ptlangs.specs.TrPlan.{Plan, plan_of, complement_of}
 use Rattle.ptlangs.specs.TrTables.{tables}

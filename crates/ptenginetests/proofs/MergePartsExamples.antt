@@ -6,15 +6,17 @@ use Rattle.std.specs.Prelude.{bytes_eq, codes, filter, flat_map}
 use Rattle.std.specs.List.{range_with_len}
 use Rattle.std.specs.List.Sorted.{IsPermutation}
 use Rattle.std.proofs.lemmas.List.Sorted.{length_permutation}
-use Rattle.ptlines.specs.Parts.{HasOnlyCompleteLines}
+use Rattle.ptlines.specs.Laws.Parts.{HasOnlyCompleteLines}
 use Rattle.ptlines.specs.Text.{unlines}
-use Rattle.ptlangs.specs.Jobs.{Comm, Join, default_comm, default_join}
+use Rattle.ptlangs.specs.Jobs.{Comm, Join}
+use Rattle.ptlangs.specs.Private.Jobs.{default_comm}
+use Rattle.ptlangs.specs.Calls.Jobs.{default_join}
 use Rattle.ptmerge.specs.declared.key_order.Side.{Side}
 use Rattle.ptmerge.specs.declared.key_order.Side.TheVariants.{First, Second}
 use Rattle.ptmerge.specs.Comm.{comm_tool}
 use Rattle.ptmerge.specs.Join.{join_tool}
 use Rattle.ptmerge.specs.MergeSpec.{Lines, MergeTool, keys, lines_of, merge_output}
-use Rattle.ptmerge.specs.Parts.{AllKeysBelow, AreSplitByKey, AreInputsSorted, text_of_part, output_lines}
+use Rattle.ptmerge.specs.Laws.Parts.{AllKeysBelow, AreSplitByKey, AreInputsSorted, text_of_part, output_lines}
 use Rattle.ptmerge.specs.Sides.{both}
 use Rattle.ptmerge.proofs.Parts.{comm_of_keys, join_of_keys, comm_of_parts, join_of_parts}
 

@@ -5,7 +5,7 @@ use Rattle.std.specs.Prelude.{slice_index_or, unwrap_or, filter, bytes_eq}
 use Rattle.std.specs.Fmt.{digits}
 use Rattle.std.specs.Str.{byte}
 use Rattle.std.proofs.lemmas.Bool.Decides.{nat_tests}
-use Rattle.ptlines.specs.Parts.{HasOnlyCompleteLines}
+use Rattle.ptlines.specs.Laws.Parts.{HasOnlyCompleteLines}
 use Rattle.ptlines.specs.Text.{unlines, lines}
 use Rattle.ptlangs.specs.CutLists.{is_selected}
 use Rattle.ptlangs.specs.Jobs.{Cut, Uniq, Paste}
@@ -19,7 +19,7 @@ use Rattle.ptflow.specs.Cuts.{cut}
 use Rattle.ptflow.specs.PasteText.{paste, paste_serial, uses_of}
 use Rattle.ptflow.specs.TrOutput.{tr}
 use Rattle.ptflow.specs.Uniqs.{Run, uniq, key, runs, output_of}
-use Rattle.ptflow.specs.Parts.{EndsWith, KeysChange, IsRowSplit}
+use Rattle.ptflow.specs.Laws.Parts.{EndsWith, KeysChange, IsRowSplit}
 use Rattle.ptflow.proofs.UniqLemmas.Runs.{uniq_of_parts}
 use Rattle.ptflow.proofs.PasteLemmas.BufferedRows.Rows.Grid.{paste_of_parts}
 use Rattle.ptflow.proofs.CutLemmas.Fields.{cut_of_parts}

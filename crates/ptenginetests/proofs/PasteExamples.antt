@@ -5,12 +5,14 @@ use Rattle.std.specs.Prelude.{replicate, slice_index_or}
 use Rattle.std.proofs.lemmas.Bool.{false≢true}
 use Rattle.std.proofs.lemmas.List.{length-replicate}
 use Rattle.ptlines.specs.Received.{Received, empty_input, known_lines}
-use Rattle.ptlines.specs.Lag.{LaggedInput, BoundedLag}
-use Rattle.ptlines.specs.Outputs.{Output}
-use Rattle.ptlines.specs.Text.{lines, complete_lines, IsLine}
+use Rattle.ptlines.specs.Lag.{LaggedInput}
+use Rattle.ptlines.specs.Calls.Lag.{BoundedLag}
+use Rattle.ptlines.specs.Calls.Outputs.{Output}
+use Rattle.ptlines.specs.Text.{lines, complete_lines}
+use Rattle.ptlines.specs.Calls.Text.{IsLine}
 use Rattle.ptlines.proofs.TextLaws.{complete_lines_none}
 use Rattle.ptlangs.specs.Jobs.{Paste}
-use Rattle.ptflow.specs.PasteCall.{update_at}
+use Rattle.ptflow.specs.Private.PasteCall.{update_at}
 use Rattle.ptflow.specs.PasteText.{columns, known_rows, rows_text, paste, paste_serial, paste_decided}
 use Rattle.ptflow.specs.PasteText.{paste_serial_decided, paste_size}
 

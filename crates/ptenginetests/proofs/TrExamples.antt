@@ -1,7 +1,8 @@
 -- Worked examples of `tr`, given its string operands.
 use Rattle.std.proofs.Common.{◌≡◌, ℕ, List, [], true, false, refl, codes, Option, Some, None, Result, Ok, Err}
 use Rattle.ptlangs.specs.declared.faults.SetFault.{SetFault}
-use Rattle.ptlangs.specs.declared.tr.plan.Form.TheVariants.{Translate, TranslateSqueeze, Squeeze, Delete, DeleteSqueeze}
+use Rattle.ptlangs.specs.declared.tr.plan.Form.TheVariants.{Translate, TranslateSqueeze, Squeeze, Delete}
+use Rattle.ptlangs.specs.declared.tr.plan.Form.TheVariants.{DeleteSqueeze}
 use Rattle.ptlangs.specs.TrClasses.{all_bytes}
 use Rattle.ptlangs.specs.TrPlan.{Plan, plan}
 use Rattle.ptlangs.specs.TrTables.{tables}

@@ -16,8 +16,8 @@ struct SkipFirstByte;
 impl KeyOrder for SkipFirstByte {
     ghost use Rattle.std.specs.Prelude.{drop};
     ghost use Rattle.std.specs.Cmp.Lexicographic.{nat_list_cmp_total};
-    ghost use Rattle.ptmerge.specs.OrderLaws.{byte_cmp_equal};
-    ghost use Rattle.ptmerge.specs.Orders.{byte_cmp};
+    ghost use Rattle.ptlines.specs.Private.ByteOrder.{byte_cmp_equal};
+    ghost use Rattle.ptlines.specs.ByteOrder.{byte_cmp};
 
     ghost key_of = { λ s side line. drop 1 line };
 

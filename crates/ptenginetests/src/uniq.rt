@@ -1,6 +1,6 @@
 //! Tests of `uniq` over in-memory inputs.
 
-ghost use Rattle.ptflow.specs.Passes.{PassPre};
+ghost use Rattle.ptflow.specs.Calls.Passes.{PassPre};
 
 use crate::asserts::assert_same;
 use crate::one_input::{Job, NO_FAILURE, check_run};

@@ -5,8 +5,9 @@ ghost use Rattle.ptlines.specs.Sources.{IsFresh};
 ghost use Rattle.ptext.specs.Perform.{PerformPost};
 ghost use Rattle.ptfiles.specs.Shell.{has_standard_output, valid_command};
 ghost use Rattle.ptopts.specs.Commands.{command_of_args};
-ghost use Rattle.ptopts.specs.View.{words_view};
-ghost use Rattle.ptrun.specs.MessageWrites.{HasSaid, line_of, texts};
+ghost use Rattle.ptopts.specs.Commands.{words_view};
+ghost use Rattle.ptrun.specs.MessageWrites.{HasSaid, line_of};
+ghost use Rattle.ptrun.specs.Calls.MessageWrites.{texts};
 ghost use Rattle.ptrun.specs.Messages.{memory_message};
 ghost use Rattle.ptrun.specs.Runs.{outcome};
 

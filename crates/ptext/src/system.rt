@@ -30,8 +30,8 @@ impl<'a, R: fs::Files> SystemFiles<'a, R> {
 
 impl<R: fs::Files> Files for SystemFiles<'_, R> {
     ghost use Rattle.std.specs.Prelude.{None, map, option_map};
-    ghost use Rattle.ptlines.specs.Sinks.{hide_accepted};
-    ghost use Rattle.ptlines.specs.Sources.{hide_left};
+    ghost use Rattle.ptlines.specs.Private.Sinks.{hide_accepted};
+    ghost use Rattle.ptlines.specs.Private.Sources.{hide_left};
 
     type Input = FromRead<R::File>;
 

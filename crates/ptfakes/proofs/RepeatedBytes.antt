@@ -6,7 +6,7 @@ use Rattle.std.proofs.Common.{true, false, ◌∷◌, length-drop, eq-eqb}
 use Rattle.std.proofs.lemmas.Bool.Decides.{nat_tests}
 use Rattle.std.specs.Prelude.{◌||◌, ◌==◌}
 use Rattle.std.proofs.lemmas.List.{take-replicate, drop-replicate, length-replicate}
-use Rattle.ptlines.specs.Sources.{PullOk}
+use Rattle.ptlines.specs.Private.Sources.{PullOk}
 use Rattle.ptfakes.specs.Calls.{count_after}
 use Rattle.ptfakes.specs.FakeSource.{FakeSource, FakePullOk, source_state}
 

@@ -1,7 +1,8 @@
 //! `ArraySink`, a sink that collects what is written in an array. Used by tests that must allocate nothing.
 
 ghost use Rattle.std.specs.Prelude.{◌≡◌, ◌<◌, length};
-ghost use Rattle.ptlines.specs.Sinks.{PutPost, FlushPost};
+ghost use Rattle.ptlines.specs.Private.Sinks.{PutPost};
+ghost use Rattle.ptlines.specs.Calls.Sinks.{FlushPost};
 ghost use Rattle.ptfakes.specs.FakeSink.{FakeFlushPost, FakePutPost, new_fake_sink, sink_state};
 
 use crate::call_limit::CallLimit;
@@ -77,7 +78,8 @@ impl<const N: usize> ArraySink<N> {
 
 impl<const N: usize> Sink for ArraySink<N> {
     ghost use Rattle.std.specs.Prelude.{length, ◌<◌, ◌≤◌, OnErr};
-    ghost use Rattle.ptlines.specs.Sinks.{PutPost, FlushPost};
+    ghost use Rattle.ptlines.specs.Private.Sinks.{PutPost};
+    ghost use Rattle.ptlines.specs.Calls.Sinks.{FlushPost};
     ghost use Rattle.ptfakes.specs.FakeSink.{FakeFlushPost, FakePutPost, sink_state};
 
     ghost state = { sink_state };

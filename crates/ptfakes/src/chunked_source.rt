@@ -1,7 +1,7 @@
 //! `ChunkedSource`, a source that gives a text in chunks, and may fail. Used by most test crates.
 
 ghost use Rattle.std.specs.Prelude.{◌≡◌, ◌<◌, length};
-ghost use Rattle.ptlines.specs.Sources.{PullPost};
+ghost use Rattle.ptlines.specs.Private.Sources.{PullPost};
 ghost use Rattle.ptfakes.specs.FakeSource.{FakePullPost, new_fake_source, source_state};
 
 use crate::call_limit::CallLimit;
@@ -69,7 +69,7 @@ impl<'a> ChunkedSource<'a> {
 
 impl Source for ChunkedSource<'_> {
     ghost use Rattle.std.specs.Prelude.{length, ◌<◌};
-    ghost use Rattle.ptlines.specs.Sources.{PullPost};
+    ghost use Rattle.ptlines.specs.Private.Sources.{PullPost};
     ghost use Rattle.ptfakes.specs.FakeSource.{FakePullPost, source_state};
 
     ghost state = { source_state };

@@ -1,7 +1,7 @@
 //! `RepeatedByte`, a source of one byte repeated many times. Used by tests with very long lines.
 
 ghost use Rattle.std.specs.Prelude.{◌≡◌, ◌<◌, length, replicate};
-ghost use Rattle.ptlines.specs.Sources.{PullPost};
+ghost use Rattle.ptlines.specs.Private.Sources.{PullPost};
 ghost use Rattle.ptfakes.specs.FakeSource.{FakePullPost, new_fake_source, source_state};
 
 use crate::call_limit::CallLimit;
@@ -63,7 +63,7 @@ impl RepeatedByte {
 
 impl Source for RepeatedByte {
     ghost use Rattle.std.specs.Prelude.{length, ◌<◌};
-    ghost use Rattle.ptlines.specs.Sources.{PullPost};
+    ghost use Rattle.ptlines.specs.Private.Sources.{PullPost};
     ghost use Rattle.ptfakes.specs.FakeSource.{FakePullPost, source_state};
 
     ghost state = { source_state };

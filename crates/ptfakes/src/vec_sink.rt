@@ -1,7 +1,8 @@
 //! `VecSink`, a sink that collects what is written in a vector, up to given limits. Used by most test crates.
 
 ghost use Rattle.std.specs.Prelude.{◌≡◌, ◌<◌, length};
-ghost use Rattle.ptlines.specs.Sinks.{PutPost, FlushPost};
+ghost use Rattle.ptlines.specs.Private.Sinks.{PutPost};
+ghost use Rattle.ptlines.specs.Calls.Sinks.{FlushPost};
 ghost use Rattle.ptfakes.specs.FakeSink.{FakeFlushPost, FakePutPost, new_fake_sink, sink_state};
 
 use crate::call_limit::CallLimit;
@@ -87,7 +88,8 @@ impl<A: Allocator> VecSink<A> {
 
 impl<A: Allocator + Drop> Sink for VecSink<A> {
     ghost use Rattle.std.specs.Prelude.{length, ◌<◌};
-    ghost use Rattle.ptlines.specs.Sinks.{PutPost, FlushPost};
+    ghost use Rattle.ptlines.specs.Private.Sinks.{PutPost};
+    ghost use Rattle.ptlines.specs.Calls.Sinks.{FlushPost};
     ghost use Rattle.ptfakes.specs.FakeSink.{sink_state, FakePutPost, FakeFlushPost};
 
     ghost state = { sink_state };

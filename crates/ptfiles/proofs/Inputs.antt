@@ -8,11 +8,12 @@ use Rattle.std.proofs.lemmas.List.{append-nil, get_or-map, length-map, map-appen
 use Rattle.std.proofs.lemmas.List.Elements.{All-nil, All-cons, All-push}
 use Rattle.ptlines.specs.Readers.{Reader, new_reader}
 use Rattle.ptlines.specs.Sources.{SourceState, IsFresh}
-use Rattle.ptopts.specs.View.{words_view}
+use Rattle.ptopts.specs.Commands.{words_view}
 use Rattle.ptrun.specs.Files.{AreNewInputs, HasBytes, HasBytesAt, IsNewOrUnopened}
 use Rattle.ptfiles.specs.Files.{AreContents, Content, FilesState, HaveContents, Input, IsContent, IsNewInput, IsShort}
-use Rattle.ptfiles.specs.Files.{OpenPost, new_readers, reader_of_input, source_of}
-use Rattle.ptfiles.specs.Shell.{HaveOpened}
+use Rattle.ptfiles.specs.Private.Files.{OpenPost}
+use Rattle.ptfiles.specs.Files.{new_readers, reader_of_input, source_of}
+use Rattle.ptfiles.specs.Private.Shell.{HaveOpened}
 
 plus_zero : (n : ℕ) → n ≡ n + 0
 plus_zero n = omega arith

@@ -9,7 +9,9 @@ use Rattle.ptrun.specs.CommandSpec.{CommandSpec}
 use Rattle.ptrun.specs.Files.{ReceivedInputs}
 use Rattle.ptflow.specs.declared.faults.FlowFault.{FlowFault}
 use Rattle.ptrun.specs.Runs.{Outcome, IsRun, IsRunInStore, IsExactUnlessFailed, IsUnchangedIfUnread, RunEnd, sinks}
-use Rattle.ptfiles.specs.Outputs.{closed_state, file_of_output, mark, output_state}
+use Rattle.ptfiles.specs.Outputs.{closed_state}
+use Rattle.ptfiles.specs.Calls.Outputs.{file_of_output}
+use Rattle.ptfiles.specs.Private.Outputs.{mark, output_state}
 use Rattle.ptfiles.specs.declared.output.Output.{Output as code}
 use Rattle.ptfiles.specs.declared.output.Output.TheVariants.{File, Closed}
 

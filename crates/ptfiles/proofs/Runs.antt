@@ -20,9 +20,12 @@ use Rattle.ptrun.specs.Runs.{Outcome, IsExactUnlessFailed, IsRunInStore, IsStore
 use Rattle.ptrun.specs.Runs.{sinks}
 use Rattle.ptrun.specs.SpecOfArgs.{is_memory_fault, file_count, spec_of_args, spec_of_parsed, spec_unless_memory}
 use Rattle.ptfiles.specs.Files.{FilesState, Output, with_created}
-use Rattle.ptfiles.specs.Outputs.{file_of_output, mark, output_state}
-use Rattle.ptfiles.specs.Shell.{After, Before, HasRun, HasRunOver, HaveOpened, IsDirected, IsNotCreated}
-use Rattle.ptfiles.specs.Shell.{RunOverFilesPost, RunOverInputsPost, command_of_parsed, command_to_run, input_names}
+use Rattle.ptfiles.specs.Calls.Outputs.{file_of_output}
+use Rattle.ptfiles.specs.Private.Outputs.{mark, output_state}
+use Rattle.ptfiles.specs.Shell.{After, Before, HasRun, HasRunOver, IsDirected, IsNotCreated}
+use Rattle.ptfiles.specs.Private.Shell.{HaveOpened}
+use Rattle.ptfiles.specs.Shell.{RunOverFilesPost, command_to_run, input_names}
+use Rattle.ptfiles.specs.Private.Shell.{RunOverInputsPost, command_of_parsed}
 use Rattle.ptfiles.specs.Shell.{has_standard_output, name_of_output, output_names, valid_command, before}
 use Rattle.ptfiles.specs.declared.output.Output.{Output as code_output}
 use Rattle.ptfiles.proofs.Inputs.{opened_are_new, readers_have_bytes}

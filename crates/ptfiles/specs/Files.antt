@@ -3,7 +3,7 @@ use Rattle.std.specs.Prelude.{◌≡◌, ℕ, suc, ◌^◌, ◌<◌, true, false
 use Rattle.std.specs.Prelude.{length, map, option_map}
 use Rattle.ptlines.specs.Readers.{Reader, new_reader}
 use Rattle.ptlines.specs.Sinks.{SinkState}
-use Rattle.ptlines.specs.Sources.{SourceState, IsFresh, unopened_state}
+use Rattle.ptlines.specs.Sources.{IsFresh, SourceState, unopened_state}
 
 -- An input that a call of `open` returned, `None` if the file could not be opened; likewise an output of `create`.
 abbrev pub Input : Type 0
@@ -11,9 +11,6 @@ Input = Option SourceState
 
 abbrev pub Output : Type 0
 Output = Option SinkState
-
-abbrev pub opened_state : {I : Type 0} → (I → SourceState) → Option I → Input
-opened_state of result = option_map of result
 
 abbrev pub created_state : {O : Type 0} → (O → SinkState) → Option O → Output
 created_state of result = option_map of result
@@ -52,11 +49,6 @@ abbrev pub IsNewInput : Input → Type 0
 IsNewInput None = ⊤
 IsNewInput (Some source) = IsFresh source
 
--- a created file has not failed, and all of it is flushed
-abbrev pub IsNewOutput : Output → Type 0
-IsNewOutput None = ⊤
-IsNewOutput (Some sink) = (sink.failed ≡ false) × (sink.unflushed ≡ false)
-
 -- the state after these names were opened too, which returned these inputs
 abbrev pub with_opened : FilesState → List (List ℕ) → List Input → FilesState
 with_opened s names inputs = record s { opened = s.opened ++ names; inputs = s.inputs ++ inputs }
@@ -64,17 +56,6 @@ with_opened s names inputs = record s { opened = s.opened ++ names; inputs = s.i
 -- the state after these names were created too, which returned these outputs
 abbrev pub with_created : FilesState → List (List ℕ) → List Output → FilesState
 with_created s names outputs = record s { created = s.created ++ names; outputs = s.outputs ++ outputs }
-
--- the effect of `open`
-pub record OpenPost (old new : FilesState) (name : List ℕ) (input : Input) : Type 0 where
-  pub opened : new ≡ with_opened old (name ∷ []) (input ∷ [])
-  pub content : IsContent (old.content (length old.opened) name) input
-  pub is_new : IsNewInput input
-
--- the effect of `create`
-pub record CreatePost (old new : FilesState) (name : List ℕ) (output : Output) : Type 0 where
-  pub created : new ≡ with_created old (name ∷ []) (output ∷ [])
-  pub is_new : IsNewOutput output
 
 -- ---- the files of a run
 

@@ -1,3 +1,5 @@
+pub mod Calls
 pub mod Files
 pub mod Outputs
+pub mod Private
 pub mod Shell

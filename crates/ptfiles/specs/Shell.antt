@@ -2,26 +2,21 @@
 use Rattle.std.specs.Prelude.{◌≡◌, ◌⊎◌, ℕ, Bool, true, false, List, [], ◌∷◌, Option, Some, None, Result, Ok, Err}
 use Rattle.std.specs.Prelude.{All, codes, is_none, length, if◌then◌else◌}
 use Rattle.std.specs.List.{list_any}
+use Rattle.ptfiles.specs.Files.{AreContents, Content, FilesState, HaveContents, Input, IsNewInput, IsShort, Output}
+use Rattle.ptfiles.specs.Files.{new_readers, source_of, with_created, with_opened}
+use Rattle.ptfiles.specs.Outputs.{closed_state}
 use Rattle.ptlines.specs.Readers.{Reader}
 use Rattle.ptlines.specs.Sinks.{SinkState}
 use Rattle.ptlines.specs.Slots.{Slots}
 use Rattle.ptlines.specs.Sources.{SourceState}
 use Rattle.ptopts.specs.Commands.{Command, command_of_args}
 use Rattle.ptopts.specs.Faults.{Fault}
-use Rattle.ptopts.specs.View.{command_view}
-use Rattle.ptopts.specs.declared.command.Command as code
-use Rattle.ptopts.specs.declared.fault.UseFault.{UseFault}
 use Rattle.ptrun.specs.Files.{HasReadFailed}
 use Rattle.ptrun.specs.MessageWrites.{HasSaid}
 use Rattle.ptrun.specs.Messages.{memory_message, unopened_message}
-use Rattle.ptrun.specs.Runs.{Outcome, IsExact, IsExactUnlessFailed, IsRunInStore, IsStoreUnchangedIfUnread}
-use Rattle.ptrun.specs.Runs.{IsUnchangedIfUnread, sinks}
-use Rattle.ptrun.specs.SpecOfArgs.{spec_of_args, spec_unless_memory}
-use Rattle.ptfiles.specs.Files.{AreContents, Content, FilesState, HaveContents, Input, IsNewInput, IsShort, Output}
-use Rattle.ptfiles.specs.Files.{new_readers, source_of, with_created, with_opened}
-use Rattle.ptfiles.specs.Outputs.{closed_state}
-use Rattle.ptfiles.specs.declared.shell.Destination.{Destination}
-use Rattle.ptfiles.specs.declared.shell.Destination.TheVariants as to
+use Rattle.ptrun.specs.Runs.{IsExact, IsExactUnlessFailed, IsRunInStore, IsStoreUnchangedIfUnread, IsUnchangedIfUnread}
+use Rattle.ptrun.specs.Runs.{Outcome, sinks}
+use Rattle.ptrun.specs.SpecOfArgs.{spec_of_args}
 
 -- The files, the standard streams and the store that a run over files is given.
 pub record Before : Type 0 where
@@ -176,11 +171,6 @@ pub record IsOutputUnopened (words : List (List ℕ)) (b : Before) (a : After) (
 
 -- ---- the postconditions
 
--- The command was run over inputs that are opened already, or its output file could not be created.
-abbrev pub RunOverInputsPost : List (List ℕ) → List Reader → List Reader → Before → After → Type 0 → Type 0
-RunOverInputsPost words old new b a Unused =
-    HasRunOver words old new b a Unused ⊎ IsNotCreated words old b a Unused
-
 -- The postcondition of `run_over_files_in_store`.
 abbrev pub RunOverFilesPost : List (List ℕ) → Before → After → Type 0 → Type 0
 RunOverFilesPost words b a Unused =
@@ -193,26 +183,3 @@ abbrev pub RunOverFilesInOwnStore : List (List ℕ) → FilesState → FilesStat
 RunOverFilesInOwnStore words old new standard out messages file out_of_memory outcome Unused =
     (left : Slots) × RunOverFilesPost words (before old standard out messages empty_store)
     (after new left file out_of_memory outcome) Unused
-
--- ---- contracts of private functions
-
--- the files with these names were opened in order, and these are their readers and that of standard input
-pub record HaveOpened (old new : FilesState) (names : List (List ℕ)) (standard : SourceState) (readers : List Reader)
-    : Type 0 where
-  pub inputs : List Input
-  pub opened : new ≡ with_opened old names inputs
-  pub contents : AreContents old.content (length old.opened) names inputs
-  pub are_new : All IsNewInput inputs
-  pub readers_are : readers ≡ new_readers standard inputs
-
-abbrev pub command_of_parsed : {A : Type 0} → Result (code.Command A) UseFault → Option Command
-command_of_parsed (Ok command) = Some (command_view command)
-command_of_parsed (Err fault) = None
-
--- where a command writes
-abbrev pub IsDestination : Option Command → List Reader → Destination → Type 0
-IsDestination command readers to.Standard = has_standard_output command ≡ true
-IsDestination command readers (to.File name) =
-    (has_standard_output command ≡ false) × (output_names command readers ≡ name.now ∷ [])
-IsDestination command readers to.Nowhere =
-    (has_standard_output command ≡ false) × (output_names command readers ≡ [])

@@ -1,6 +1,7 @@
 //! The trait `Files` for everything that has files under names.
 
-ghost use Rattle.ptfiles.specs.Files.{FilesState, OpenPost, CreatePost, opened_state, created_state};
+ghost use Rattle.ptfiles.specs.Files.{FilesState, created_state};
+ghost use Rattle.ptfiles.specs.Private.Files.{OpenPost, CreatePost, opened_state};
 
 use ptlines::{Sink, Source};
 

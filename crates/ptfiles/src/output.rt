@@ -1,7 +1,7 @@
 //! `Output`, the sink of a command that does not write to standard output. Used by `shell`.
 
 ghost use Rattle.std.specs.Prelude.{◌≡◌, option_map};
-ghost use Rattle.ptfiles.specs.Outputs.{file_of_output};
+ghost use Rattle.ptfiles.specs.Calls.Outputs.{file_of_output};
 
 use ptlines::{Failed, Sink};
 
@@ -28,7 +28,7 @@ impl<F: Sink> Output<F> {
 }
 
 impl<F: Sink> Sink for Output<F> {
-    ghost use Rattle.ptfiles.specs.Outputs.{output_state};
+    ghost use Rattle.ptfiles.specs.Private.Outputs.{output_state};
 
     ghost state = { output_state F.state };
 

@@ -1,9 +1,10 @@
 //! `FilesReport`, the result of a run over files. Built by `shell`.
 
 ghost use Rattle.std.specs.Prelude.{◌≡◌, false, true, None, codes};
-ghost use Rattle.ptrun.specs.MessageWrites.{HasSaid, line_of, texts};
+ghost use Rattle.ptrun.specs.MessageWrites.{HasSaid, line_of};
+ghost use Rattle.ptrun.specs.Calls.MessageWrites.{texts};
 ghost use Rattle.ptrun.specs.Messages.{memory_message, unopened_message};
-ghost use Rattle.ptfiles.specs.Outputs.{file_of_output};
+ghost use Rattle.ptfiles.specs.Calls.Outputs.{file_of_output};
 
 use crate::output::Output;
 use ptlines::Sink;

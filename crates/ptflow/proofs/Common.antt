@@ -42,7 +42,8 @@ pub use Rattle.std.specs.Prelude.{All, bytes_eq, filter, fold, if◌then◌else�
 pub use Rattle.std.specs.Prelude.{option_to_list, slice_get, slice_range, sum_by, unwrap_or}
 pub use Rattle.std.specs.Simd.Lanes.{Each1, chunk, mask_l, pick_l, put_chunk, sel_l, top, zip2}
 pub use Rattle.memchr.specs.Find.{IsFirstByte, NoneBefore, Nowhere, Passes, is_byte, is_byte2}
-pub use Rattle.ptlangs.specs.CutLists.{AreSeparated, is_selected}
+pub use Rattle.ptlangs.specs.Calls.CutLists.{AreSeparated}
+pub use Rattle.ptlangs.specs.CutLists.{is_selected}
 pub use Rattle.ptlangs.specs.Jobs.{Cut, Paste, Uniq, cut_job, terminator, paste_job, uniq_job}
 pub use Rattle.ptlangs.specs.declared.ranges.Interval.{Interval}
 pub use Rattle.ptlines.proofs.Common.{usual}
@@ -57,21 +58,27 @@ pub use Rattle.ptlines.proofs.Lag.{bounded_lag_after}
 pub use Rattle.ptlines.proofs.TextLaws.{complete_lines_cons, complete_lines_none, complete_lines_of_unlines}
 pub use Rattle.ptlines.proofs.TextLaws.{lines-unlines, lines_are, lines_cons, lines_of_last, lines_of_unlines, byte_ne}
 pub use Rattle.ptlines.proofs.TextLaws.{byte_eq, unlines-append, unlines_push, the_complete_lines, the_lines}
-pub use Rattle.ptlines.specs.ReadLine.{FillPost, FillLine}
+pub use Rattle.ptlines.specs.Calls.ReadLine.{FillPost, FillLine}
 pub use Rattle.ptlines.specs.Received.{IsConsistent, IsPrefix, Received, known_lines}
-pub use Rattle.ptlines.specs.Outputs.{Output, PushEffect}
-pub use Rattle.ptlines.specs.Readers.{AdvanceOk, HasReadCause, IsDone, IsSound, Reader, ReaderAdvance, budget}
+pub use Rattle.ptlines.specs.Calls.Outputs.{Output, PushEffect}
+pub use Rattle.ptlines.specs.Calls.Readers.{AdvanceOk, HasReadCause, IsSound, ReaderAdvance, budget}
+pub use Rattle.ptlines.specs.Readers.{IsDone, Reader}
 pub use Rattle.ptlines.specs.Readers.{reader_at}
-pub use Rattle.ptlines.specs.Slots.{Slots, line, total_bytes, with_denied, with_line, AddedSlots}
-pub use Rattle.ptlines.specs.Text.{AreLines, IsLine, complete_lines, lines, max_length, max_line_length, unlines}
+pub use Rattle.ptlines.specs.Slots.{Slots, total_bytes}
+pub use Rattle.ptlines.specs.Calls.Slots.{line, with_denied, with_line}
+pub use Rattle.ptlines.specs.Private.Slots.{AddedSlots}
+pub use Rattle.ptlines.specs.Laws.Text.{AreLines}
+pub use Rattle.ptlines.specs.Calls.Text.{IsLine}
+pub use Rattle.ptlines.specs.Text.{complete_lines, lines, max_length, max_line_length, unlines}
 pub use Rattle.ptlines.specs.Text.{is_blank}
 pub use specs.Cuts.{select_from, cut, cut_decided, cut_fields, cut_line, cut_lines, cut_tool, is_field_delimiter}
-pub use specs.Parts.{BeginsWith, CutOfParts, EndsWith, PasteOfParts}
-pub use specs.Passes.{PassPost, no_store}
-pub use Rattle.ptlines.specs.Calls.{CallOutcome, CallState, call_state, is_in}
+pub use specs.Laws.Parts.{BeginsWith, CutOfParts, EndsWith, PasteOfParts}
+pub use specs.Calls.Passes.{PassPost, no_store}
+pub use Rattle.ptlines.specs.Calls.Engines.{CallOutcome, CallState, call_state}
+pub use Rattle.ptlines.specs.Engines.{is_in}
 pub use Rattle.ptlines.proofs.Calls.{CallProgress, DecidedIfReadFailed, reads_nothing, call_ends}
 pub use Rattle.ptlines.proofs.Calls.{call_on_failed_output, call_set, call_without_slots}
-pub use specs.PasteCall.{update_at}
+pub use specs.Private.PasteCall.{update_at}
 pub use specs.PasteText.{delimiter, join_with_cycle, paste_serial_decided, paste_serial_tool, rows_text}
 pub use specs.ToolSpec.{ToolSpec}
 pub use specs.TrOutput.{squeeze, squeeze_after, is_not_repeat, tr, tr_decided, tr_tool}

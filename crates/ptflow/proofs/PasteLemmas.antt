@@ -13,15 +13,16 @@ use proofs.Common.{known_lines, IsLine, complete_lines, rows_text}
 use proofs.Passes.Exits.{max_length-append, lines_on, piece_longest, complete_prefix, line_split}
 use proofs.CutLemmas.CutBytes.{select_append}
 pub use BufferedRows.*
-use Rattle.ptflow.specs.PasteCall.{PastePre, PastePost, IsReadable, paste_end, paste_engine}
-use Rattle.ptlines.specs.Calls.{CallPost, CallEnd, AreAllConsistent, inputs_at}
+use Rattle.ptflow.specs.Calls.PasteCall.{PastePre, PastePost, IsReadable, paste_end}
+use Rattle.ptflow.specs.PasteCall.{paste_engine}
+use Rattle.ptlines.specs.Calls.Engines.{CallPost, CallEnd, AreAllConsistent, inputs_at}
 
 -- Output that was determined two blocks of an input earlier is pushed: without these blocks that input has fewer lines
 -- than one more row takes, so only rows that were already pushed are determined.
 
 -- ---- one input without its last bytes
 
--- What was received, without two blocks or less at its end, has fewer than `most` complete lines.
+-- The received bytes, without two blocks or less at their end, have fewer than `most` complete lines.
 record EarlierPart (end most : ℕ) (came : Received) : Type 0 where
   front : List ℕ
   last : List ℕ

@@ -1,10 +1,10 @@
+pub mod Calls
 pub mod Cuts
+pub mod Laws
 pub mod Passes
+pub mod PasteCall
+pub mod PasteText
+pub mod Private
 pub mod ToolSpec
 pub mod TrOutput
-pub mod Private
-pub mod PasteText
 pub mod Uniqs
-pub mod PasteCall
-pub mod Parts
-pub mod Laws

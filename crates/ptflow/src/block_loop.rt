@@ -1,7 +1,7 @@
 //! The loop of the tools that work block by block, and keep nothing in a store: `cut` by bytes, `tr`, and `paste -s`.
 
 ghost use Rattle.std.specs.Prelude.{◌≡◌, ◌<◌, ◌≤◌, ◌+◌, ℕ, List, [], length, false, OnOk, OnErr};
-ghost use Rattle.ptlines.specs.Outputs.{PushPost};
+ghost use Rattle.ptlines.specs.Calls.Outputs.{PushPost};
 ghost use Rattle.ptflow.specs.Private.Passes.BlockLoop.{HasRoom, RunBlocksPre, RunBlocksPost};
 ghost use Rattle.ptflow.specs.Private.Passes.StepOutput.{OutputPart, OutputFailed};
 

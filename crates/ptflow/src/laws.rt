@@ -3,8 +3,8 @@
 //! whole input, by which a reader can judge the definitions.
 ghost use Rattle.ptflow.specs.Laws.Outputs.{CutOfAll, CutAfterPaste, CountsAddUp, RepeatedOrSingle, UniqTwice};
 ghost use Rattle.ptflow.specs.Laws.Outputs.{TranslationKeepsLength, DeletedOrKept};
-ghost use Rattle.ptflow.specs.Parts.{CutOfParts, TrOfAnyParts, TrOfParts, TrAfterByte, TrMeetsTwice, UniqOfParts};
-ghost use Rattle.ptflow.specs.Parts.{UniqByKey, PasteOfParts};
+ghost use Rattle.ptflow.specs.Laws.Parts.{CutOfParts, TrOfAnyParts, TrOfParts, TrAfterByte, TrMeetsTwice, UniqOfParts};
+ghost use Rattle.ptflow.specs.Laws.Parts.{UniqByKey, PasteOfParts};
 
 /// `cut` can be run on parts of a file, by bytes and by fields, if each part but the last ends with the line
 /// terminator: the output for the file is the outputs for the parts, in order.

@@ -2,11 +2,12 @@
 //! `uniq` two.
 
 ghost use Rattle.std.specs.Prelude.{◌≡◌, ◌≤◌, ◌-◌, ◌^◌, ℕ, List, ◌∷◌, [], length, false, IfOk, OnOk, OnErr};
-ghost use Rattle.ptlines.specs.Outputs.{PushPost};
-ghost use Rattle.ptlines.specs.Slots.{Slots, line};
+ghost use Rattle.ptlines.specs.Calls.Outputs.{PushPost};
+ghost use Rattle.ptlines.specs.Slots.{Slots};
+ghost use Rattle.ptlines.specs.Calls.Slots.{line};
 ghost use Rattle.ptlines.specs.Text.{complete_lines};
 ghost use Rattle.ptflow.specs.ToolSpec.{ToolSpec};
-ghost use Rattle.ptflow.specs.Passes.{PassPost};
+ghost use Rattle.ptflow.specs.Calls.Passes.{PassPost};
 ghost use Rattle.ptflow.specs.Private.Passes.LineLoop.{LinesWritten, LinesFailed, RunLinesPre, ProcessLinesPre};
 ghost use Rattle.ptflow.specs.Private.Passes.LineLoop.{IsLinesLength};
 ghost use Rattle.ptflow.specs.Private.Passes.LineLoop.{IsSwapped, SlotsCleared, IsLineFilter};

@@ -2,7 +2,7 @@
 
 ghost use Rattle.std.specs.Prelude.{◌≡◌, ◌<◌, true, false, length, Err, OnOk, OnErr};
 ghost use Rattle.ptlines.specs.Slots.{total_bytes};
-ghost use Rattle.ptlines.specs.Slots.{AddedSlots};
+ghost use Rattle.ptlines.specs.Private.Slots.{AddedSlots};
 
 use crate::faults::FlowFault;
 use ptlines::Store;

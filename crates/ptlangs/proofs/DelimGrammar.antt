@@ -5,8 +5,11 @@ use Rattle.ptlangs.specs
 use proofs.Common.{Err, List, Ok, Option, Result, Some, [], append-nil, arith, cond_both, cons_ok, delim_list, eqb-true}
 use proofs.Common.{length, refl, result_err, subst, ℕ, ◌++◌, ◌<◌, ◌∷◌, ◌≡◌}
 use proofs.ListElements.{reads_first}
-use specs.DelimLists.{Backslash, DelimListMatchesGrammar, IsDelim, IsDelimList, Last, More, Newline, Nothing, Plain}
-use specs.DelimLists.{Tab, backslash, delim_list_fault, delims, escape}
+use specs.Laws.DelimLists.{Backslash, DelimListMatchesGrammar, IsDelim, IsDelimList, Last, More, Newline, Nothing}
+use specs.Laws.DelimLists.{Plain}
+use specs.Laws.DelimLists.{Tab}
+use specs.DelimLists.{backslash, delims, escape}
+use specs.Calls.DelimLists.{delim_list_fault}
 use specs.declared.delims.DelimFault.{DelimFault}
 
 -- ---- from the grammar to `delim_list`

@@ -9,12 +9,20 @@ use proofs.Common.{usual, cond, cond_both, cons_ok, digits_value_after, drop, el
 use proofs.Common.{eqb, eqb-true, false, get_or, is_ascii_digit, is_dash, is_err, is_list_separator, length}
 use proofs.Common.{length-drop, ltb-true, map, max_u64, refl, result_err, result_ok, rules, subst, suc, take, take_all}
 use proofs.Common.{true, value, ℕ, ◌*◌, ◌++◌, ◌+◌, ◌-◌, ◌<◌, ◌∙◌, ◌∷◌, ◌≡◌, ◌≤◌}
-use specs.CutLists.{AreSeparated, AreSortedFrom, CutListMatchesGrammar, From, FromTo, IsIntervalElement, One}
-use specs.CutLists.{SpellsInterval, UpTo, checked_interval, cut_list, cut_list_fault, interval_of_bounds}
+use specs.Calls.CutLists.{AreSeparated}
+use specs.Private.CutLists.{AreSortedFrom}
+use specs.Laws.CutLists.{CutListMatchesGrammar, From, FromTo, IsIntervalElement, One}
+use specs.Laws.CutLists.{SpellsInterval, UpTo}
+use specs.CutLists.{checked_interval, cut_list, interval_of_bounds}
+use specs.Calls.CutLists.{cut_list_fault}
 use specs.CutLists.{interval_of_parts, is_bound, is_selected, selection}
-use specs.Numbers.{IsListOf, Last, More, is_empty, is_number, number, traverse}
-use specs.OutLists.{FirstFileField, IsFieldElement, IsValidField, JoinField, OutListMatchesGrammar, SecondFileField}
-use specs.OutLists.{SpellsField, field_of, out_list_fault}
+use specs.Laws.Numbers.{IsListOf, Last, More}
+use specs.Numbers.{is_empty, is_number, number, traverse}
+use specs.Laws.OutLists.{FirstFileField, IsFieldElement, IsValidField, JoinField, OutListMatchesGrammar}
+use specs.Laws.OutLists.{SecondFileField}
+use specs.Laws.OutLists.{SpellsField}
+use specs.OutLists.{field_of}
+use specs.Calls.OutLists.{out_list_fault}
 use specs.declared.outlist.File.{File}
 use specs.declared.outlist.OutFault.{OutFault}
 use specs.declared.outlist.OutField.TheVariants.{Field}

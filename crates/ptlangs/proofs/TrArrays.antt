@@ -13,7 +13,7 @@ use proofs.Common.{sequence, slice_get, string_segments, subst, suc, sym, take, 
 use proofs.Common.{◌*◌, ◌<◌, ◌||◌, ◌∙◌, ◌∷◌, ◌≡◌, ◌≢◌, ◌≤◌}
 use proofs.ListElements.{append_ok as onto}
 use specs.TrClasses.{all_bytes, class_bytes, span}
-use specs.TrParsing.{class_of, classes_match, marked_members, members_from}
+use specs.Private.TrParsing.{class_of, classes_match, marked_members, members_from}
 use specs.TrPlan.{are_paired, class_offsets, has_byte, has_other_case_at, last_position, members, next_index_or}
 use specs.TrPlan.{padded_to, segment}
 use specs.declared.faults.SetFaultKind.TheVariants.{ClassPlace}

@@ -10,18 +10,23 @@ use proofs.Common.{SetRole, Some, SpellsChars, [], ap, arith, byte_of, chars, ch
 use proofs.Common.{digits_value, drop, drop_all, drop_more, false, get_or, is_ascii_digit, is_fill, length, ltb-true}
 use proofs.Common.{map, ne_eqb, refl, rules, segments, sequence, set_elements, slice_get, subst, suc, sym, take, true}
 use proofs.Common.{cons_ok, zero, ℕ, ◌*◌, ◌++◌, ◌+◌, ◌-◌, ◌<◌, ◌||◌, ◌∙◌, ◌∷◌, ◌≡◌, ◌≢◌, ◌≤◌}
-use specs.TrChars.{AChar, ALargeOctal, ALoneBackslash, APlainByte, AnEscape, AnOctal, Escaped, IsOctalRun, OneDigit}
-use specs.TrChars.{ThreeDigits, TwoDigits, is_octal_digit, octal_run, Invalid, NoChar, Plain, SpellsChar}
+use specs.Laws.TrChars.{AChar, ALargeOctal, ALoneBackslash, APlainByte, AnEscape, AnOctal, IsOctalRun, OneDigit}
+use specs.TrChars.{Escaped}
+use specs.Laws.TrChars.{ThreeDigits, TwoDigits, NoChar, SpellsChar}
+use specs.TrChars.{is_octal_digit, octal_run, Invalid, Plain}
 use specs.TrChars.{after_backslash, char_at, octal}
 use specs.TrClasses.{class_named}
-use specs.TrElements.{AClass, ADescendingRange, ARange, ARepeat, Alone, AnEquivalence, AnInvalidChar, AnInvalidEnd}
-use specs.TrElements.{AreElements, ByEscape, ByItself, DenotesByte, HasBracketed, InBrackets, StartsBracketed}
-use specs.TrElements.{StartsElement, StartsInvalid, after_plain, after_run, after_two, bracketed_at, char_or_range}
+use specs.Laws.TrElements.{AClass, ADescendingRange, ARange, ARepeat, Alone, AnEquivalence, AnInvalidChar}
+use specs.Laws.TrElements.{AnInvalidEnd}
+use specs.Laws.TrElements.{AreElements, ByEscape, ByItself, DenotesByte, HasBracketed, InBrackets, StartsBracketed}
+use specs.Laws.TrElements.{StartsElement, StartsInvalid}
+use specs.TrElements.{after_plain, after_run, after_two, bracketed_at, char_or_range}
 use specs.TrElements.{class_at, class_with_name, elements_after, equivalence_after_equals, equivalence_at}
 use specs.TrElements.{first_set_element, or_char, plain_run, range_to, repeat_after_star, repeat_at, repeat_count}
 use specs.TrElements.{single_or_range, with_rest}
-use specs.TrParsing.{char_from}
-use specs.TrPlan.{FirstFault, LaterFault, NoElement, NoSegment, segment}
+use specs.Private.TrParsing.{char_from}
+use specs.Laws.TrPlan.{FirstFault, LaterFault, NoElement, NoSegment}
+use specs.TrPlan.{segment}
 use specs.declared.faults.SetFaultKind.TheVariants.{Octal}
 use specs.declared.tr.elements.SetElement.TheVariants.{Class, Equivalence, Repeat, Single}
 use Rattle.std.proofs.Common.{All, inl, inr, nat_le, nat_lt}

@@ -10,8 +10,10 @@ use proofs.Common.{segments_of, sequence, string_segments, suc, sym, tables, tru
 use proofs.TrArrays.{answer_of, class_offsets-are, member_bytes-array, none_contained, paired-plain, paired_from}
 use proofs.TrArrays.{string-ok}
 use specs.TrElements.{elements_after, elements_from, or_char}
-use specs.TrPlan.{NoMemoryFault, Plan, class_offsets, fill_count, has_valid_classes, image_of, is_deleted, is_squeezed}
-use specs.TrPlan.{plan_from, second_plan, second_role, segment, takes_second}
+use specs.Laws.TrPlan.{NoMemoryFault}
+use specs.TrPlan.{Plan, class_offsets, fill_count, has_valid_classes, image_of, is_deleted, is_squeezed}
+use specs.TrPlan.{plan_from, second_plan, second_role, segment}
+use specs.Calls.TrPlan.{takes_second}
 use specs.TrTables.{Tables}
 use specs.declared.faults.SetFaultKind.TheVariants.{ClassPlace, Memory}
 use specs.declared.faults.SetString.{SetString}

@@ -3,15 +3,10 @@ use Rattle.std.specs.Prelude.{ℕ, ◌+◌, ◌<◌, ◌≤◌, ◌==◌, ◌≡
 use Rattle.std.specs.Prelude.{Option, Some, None, Result, Ok, Err, if◌then◌else◌, nat_lt, nat_le}
 use Rattle.std.specs.List.{slice_split, list_any}
 use Rattle.std.specs.Str.{byte}
-use Rattle.ptlangs.specs.Numbers.{max_u64, is_empty, is_number, value, elements, and_then, traverse, IsListOf}
+use Rattle.ptlangs.specs.Numbers.{and_then, elements, is_empty, is_number, max_u64, traverse, value}
 use Rattle.ptlangs.specs.declared.ranges.Interval.{Interval}
 use Rattle.ptlangs.specs.declared.ranges.ListFault.{ListFault}
-use Rattle.ptlangs.specs.declared.ranges.ListFault.TheVariants.{Empty, Zero, Descending, TooLarge, Malformed, Memory}
-
--- the fault that an error reports; `None` for an allocation failure
-abbrev pub cut_list_fault : ListFault → Option ListFault
-cut_list_fault Memory = None
-cut_list_fault fault = Some fault
+use Rattle.ptlangs.specs.declared.ranges.ListFault.TheVariants.{Descending, Empty, Malformed, TooLarge, Zero}
 
 -- a bound of an element: decimal digits, or nothing
 abbrev pub is_bound : List ℕ → Bool
@@ -34,12 +29,6 @@ abbrev pub interval_of_parts : List (List ℕ) → Option Interval
 interval_of_parts (n ∷ []) = if is_number n then Some (record { first = value n; last = value n }) else None
 interval_of_parts (n ∷ m ∷ []) = interval_of_bounds n m
 interval_of_parts _ = None
-
--- the bounds of an interval are positive, ascending, and fit into 64 bits
-pub record IsValidInterval (r : Interval) : Type 0 where
-  pub positive : 1 ≤ r.first
-  pub ascending : r.first ≤ r.last
-  pub fits : r.last ≤ max_u64
 
 -- the interval, or the fault of its bounds; `None` is a malformed element
 abbrev pub checked_interval : Option Interval → Result Interval ListFault
@@ -68,35 +57,3 @@ is_selected intervals n = list_any (λ r. nat_le r.first n && nat_le n r.last) i
 -- the set of numbers that a list selects, or the fault of the first faulty element
 abbrev pub selection : List ℕ → Result (ℕ → Bool) ListFault
 selection bs = and_then (cut_list bs) (λ intervals. Ok (is_selected intervals))
-
--- The intervals are above `low`, ascending, and separated: between two of them is at least one number that neither
--- contains.
-abbrev pub AreSeparated : ℕ → List Interval → Type 0
-AreSeparated low [] = Unit {0}
-AreSeparated low (r ∷ rs) = (low < r.first) × (r.first ≤ r.last) × AreSeparated (r.last + 1) rs
-
--- each interval is ascending, and the intervals are in the order of their first numbers, none of which is below `low`
-abbrev pub AreSortedFrom : ℕ → List Interval → Type 0
-AreSortedFrom low [] = Unit {0}
-AreSortedFrom low (r ∷ rs) = (low ≤ r.first) × (r.first ≤ r.last) × AreSortedFrom r.first rs
-
--- The grammar of one element: its text, and the interval that it denotes. Numbers are not checked here.
-pub data SpellsInterval : List ℕ → Interval → Type 0 where
-  One : (n : List ℕ) → is_number n ≡ true → SpellsInterval n (record { first = value n; last = value n })
-  FromTo : (n m : List ℕ) → is_number n ≡ true → is_number m ≡ true
-      → SpellsInterval (n ++ byte "-" ∷ m) (record { first = value n; last = value m })
-  UpTo : (m : List ℕ) → is_number m ≡ true → SpellsInterval (byte "-" ∷ m) (record { first = 1; last = value m })
-  From : (n : List ℕ) → is_number n ≡ true
-      → SpellsInterval (n ++ byte "-" ∷ []) (record { first = value n; last = max_u64 })
-
--- an element whose interval is valid
-abbrev pub IsIntervalElement : List ℕ → Interval → Type 0
-IsIntervalElement e r = SpellsInterval e r × IsValidInterval r
-
--- the grammar of a list: its text, and the intervals of its elements
-abbrev pub IsCutList : List ℕ → List Interval → Type 0
-IsCutList = IsListOf IsIntervalElement
-
--- `cut_list` accepts the lists of the grammar and no others, and gives the intervals that the grammar gives
-abbrev pub CutListMatchesGrammar : Type 0
-CutListMatchesGrammar = (bs : List ℕ) (rs : List Interval) → IsCutList bs rs ↔ (cut_list bs ≡ Ok rs)

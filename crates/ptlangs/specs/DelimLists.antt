@@ -5,12 +5,7 @@ use Rattle.std.specs.Prelude.{Ok, Err, if◌then◌else◌, codes, slice_index_o
 use Rattle.std.specs.Str.{byte}
 use Rattle.ptlangs.specs.Numbers.{and_then, cons_ok}
 use Rattle.ptlangs.specs.declared.delims.DelimFault.{DelimFault}
-use Rattle.ptlangs.specs.declared.delims.DelimFault.TheVariants.{Empty, Escape, Memory}
-
--- the fault that an error reports; `None` for an allocation failure
-abbrev pub delim_list_fault : DelimFault → Option DelimFault
-delim_list_fault Memory = None
-delim_list_fault fault = Some fault
+use Rattle.ptlangs.specs.declared.delims.DelimFault.TheVariants.{Empty, Escape}
 
 -- the byte of a backslash
 abbrev pub backslash : ℕ
@@ -40,21 +35,3 @@ delim_list (b ∷ bs) = delims (b ∷ bs)
 -- the delimiter after a column, counted from 0; after the last delimiter comes the first one again
 abbrev pub delim_at : List (Option ℕ) → ℕ → Option ℕ
 delim_at ds column = slice_index_or ds (column % length ds) None
-
--- The grammar of one element: its text, and the delimiter that it denotes.
-pub data IsDelim : List ℕ → Option ℕ → Type 0 where
-  Plain : (b : ℕ) → (b == backslash) ≡ false → IsDelim (b ∷ []) (Some b)
-  Newline : IsDelim (codes "\\n") (Some 10)
-  Tab : IsDelim (codes "\\t") (Some 9)
-  Backslash : IsDelim (codes "\\\\") (Some backslash)
-  Nothing : IsDelim (codes "\\0") None
-
--- the grammar of a list: one element or more, one directly after another
-pub data IsDelimList : List ℕ → List (Option ℕ) → Type 0 where
-  Last : (e : List ℕ) (d : Option ℕ) → IsDelim e d → IsDelimList e (d ∷ [])
-  More : (e bs : List ℕ) (d : Option ℕ) (ds : List (Option ℕ)) → IsDelim e d → IsDelimList bs ds
-      → IsDelimList (e ++ bs) (d ∷ ds)
-
--- `delim_list` accepts the lists of the grammar and no others, and gives the delimiters that the grammar gives
-abbrev pub DelimListMatchesGrammar : Type 0
-DelimListMatchesGrammar = (bs : List ℕ) (ds : List (Option ℕ)) → IsDelimList bs ds ↔ (delim_list bs ≡ Ok ds)

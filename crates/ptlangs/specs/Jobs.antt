@@ -2,13 +2,12 @@
 -- type.
 use Rattle.std.specs.Prelude.{ℕ, List, [], ◌∷◌, Bool, true, false, Option, Some, None, slice_index, slice_index_or}
 use Rattle.ptlangs.specs.CutLists.{is_selected}
+use Rattle.ptlangs.specs.declared.jobs.CommJob.{CommJob}
 use Rattle.ptlangs.specs.declared.jobs.CutJob.{CutJob}
+use Rattle.ptlangs.specs.declared.jobs.JoinJob.{JoinJob}
 use Rattle.ptlangs.specs.declared.jobs.PasteJob.{PasteJob}
 use Rattle.ptlangs.specs.declared.jobs.Show.{Show}
-use Rattle.ptlangs.specs.declared.jobs.Show.TheVariants.{All}
 use Rattle.ptlangs.specs.declared.jobs.UniqJob.{UniqJob}
-use Rattle.ptlangs.specs.declared.jobs.CommJob.{CommJob}
-use Rattle.ptlangs.specs.declared.jobs.JoinJob.{JoinJob}
 use Rattle.ptlangs.specs.declared.outlist.OutField.{OutField}
 
 -- the line terminator: NUL with `-z`, else newline
@@ -51,10 +50,6 @@ pub record Paste : Type 0 where
 abbrev pub paste_job : {A : Type 0} → PasteJob A → Paste
 paste_job job = record { serial = job.serial; delimiters = job.delims; terminator = terminator job.zero }
 
--- `paste` without options: one line of each file, joined by tabs
-abbrev pub default_paste : Paste
-default_paste = record { serial = false; delimiters = Some 9 ∷ []; terminator = 10 }
-
 -- the options of `uniq`
 pub record Uniq : Type 0 where
   pub show : Show
@@ -67,10 +62,6 @@ pub record Uniq : Type 0 where
 -- the view of a job of the code
 abbrev pub uniq_job : UniqJob → Uniq
 uniq_job job = record { show = job.show; fields = job.fields; chars = job.chars; terminator = terminator job.zero }
-
--- `uniq` without options: one line for each run of equal lines
-abbrev pub default_uniq : Uniq
-default_uniq = record { show = All; fields = 0; chars = 0; terminator = 10 }
 
 -- the options of `comm`
 pub record Comm : Type 0 where
@@ -92,10 +83,6 @@ comm_job job = record {
   terminator = terminator job.zero;
   descending = job.descending;
 }
-
--- `comm` without options: all three columns
-abbrev pub default_comm : Comm
-default_comm = record { hide1 = false; hide2 = false; hide3 = false; terminator = 10; descending = false }
 
 -- the options of `join`
 pub record Join : Type 0 where
@@ -131,19 +118,4 @@ join_job job = record {
   field2 = slice_index job.field 1;
   terminator = terminator job.zero;
   descending = job.descending;
-}
-
--- `join` without options: the pairs of lines with equal first fields
-abbrev pub default_join : Join
-default_join = record {
-  pairs = true;
-  unpaired1 = false;
-  unpaired2 = false;
-  empty = [];
-  list = None;
-  separator = None;
-  field1 = 1;
-  field2 = 1;
-  terminator = 10;
-  descending = false;
 }

@@ -49,10 +49,3 @@ cons_ok {A} {E} x r = result_map_both (λ (xs : List A). x ∷ xs) (λ (e : E). 
 abbrev pub traverse : {A B E : Type 0} → (A → Result B E) → List A → Result (List B) E
 traverse read [] = Ok []
 traverse read (x ∷ xs) = and_then (read x) (λ y. cons_ok y (traverse read xs))
-
--- The grammar of a list: elements with a single separator between each two. `Spells` relates the text of an element to
--- its value.
-pub data IsListOf {A : Type 0} (Spells : List ℕ → A → Type 0) : List ℕ → List A → Type 0 where
-  Last : (e : List ℕ) (x : A) → Spells e x → IsListOf Spells e (x ∷ [])
-  More : (e : List ℕ) (s : ℕ) (bs : List ℕ) (x : A) (xs : List A) → Spells e x → is_list_separator s ≡ true
-      → IsListOf Spells bs xs → IsListOf Spells (e ++ s ∷ bs) (x ∷ xs)

@@ -13,9 +13,3 @@ IsFault (Some e) meaning = meaning ≡ Err e
 abbrev pub ParsePost : {X A F E : Type 0} → (X → A) → (F → Option E) → Result X F → Result A E → Type 0
 ParsePost view fault (Ok x) meaning = meaning ≡ Ok (view x)
 ParsePost view fault (Err e) meaning = IsFault (fault e) meaning
-
--- like `ParsePost`, for a function that checks the whole text before it allocates: an allocation failure is returned
--- only for a text without a fault
-abbrev pub ValidatedParsePost : {X A F E : Type 0} → (X → A) → (F → Option E) → Result X F → Result A E → Type 0
-ValidatedParsePost view fault (Ok x) meaning = meaning ≡ Ok (view x)
-ValidatedParsePost view fault (Err e) meaning = result_err meaning ≡ fault e

@@ -7,7 +7,7 @@ use Rattle.std.specs.Int.{is_in_range}
 use Rattle.std.specs.Str.Parse.{digits_value}
 use Rattle.std.specs.Str.{byte}
 use Rattle.ptlangs.specs.declared.faults.SetFaultKind.{SetFaultKind}
-use Rattle.ptlangs.specs.declared.faults.SetFaultKind.TheVariants.{Octal, Escape}
+use Rattle.ptlangs.specs.declared.faults.SetFaultKind.TheVariants.{Escape, Octal}
 
 -- a character: a plain byte, an escape with the byte that it denotes, or an escape that denotes none, with its fault
 pub data SetChar : Type 0 where
@@ -34,36 +34,6 @@ letter_escapes =
 -- the byte that a backslash before `c` denotes: `c` itself, unless `c` is one of `letter_escapes`
 abbrev pub byte_of_escape : ℕ → ℕ
 byte_of_escape c = option_map_or (λ (p : ℕ × ℕ). p.1) (find (λ (p : ℕ × ℕ). p.0 == c) letter_escapes) c
-
--- the bytes start with an octal digit
-abbrev pub starts_octal : List ℕ → Bool
-starts_octal [] = false
-starts_octal (b ∷ bs) = is_octal_digit b
-
--- the octal digits of an escape before the rest: the first three if there are more
-pub data IsOctalRun : List ℕ → List ℕ → Type 0 where
-  OneDigit : (a : ℕ) (rest : List ℕ) → is_octal_digit a ≡ true → starts_octal rest ≡ false → IsOctalRun (a ∷ []) rest
-  TwoDigits : (a b : ℕ) (rest : List ℕ) → is_octal_digit a ≡ true → is_octal_digit b ≡ true → starts_octal rest ≡ false
-      → IsOctalRun (a ∷ b ∷ []) rest
-  ThreeDigits : (a b c : ℕ) (rest : List ℕ) → is_octal_digit a ≡ true → is_octal_digit b ≡ true
-      → is_octal_digit c ≡ true → IsOctalRun (a ∷ b ∷ c ∷ []) rest
-
--- the bytes start with the character, and the rest comes after it
-pub data SpellsChar : List ℕ → SetChar → List ℕ → Type 0 where
-  APlainByte : (b : ℕ) (rest : List ℕ) → b ≢ byte "\\" → SpellsChar (b ∷ rest) (Plain b) rest
-  AnOctal : (digits rest : List ℕ) → IsOctalRun digits rest → digits_value 8 digits ≤ 255
-      → SpellsChar (byte "\\" ∷ digits ++ rest) (Escaped (digits_value 8 digits)) rest
-  ALargeOctal : (digits rest : List ℕ) → IsOctalRun digits rest → 255 < digits_value 8 digits
-      → SpellsChar (byte "\\" ∷ digits ++ rest) (Invalid Octal) rest
-  AnEscape : (b : ℕ) (rest : List ℕ) → is_octal_digit b ≡ false
-      → SpellsChar (byte "\\" ∷ b ∷ rest) (Escaped (byte_of_escape b)) rest
-  ALoneBackslash : SpellsChar (byte "\\" ∷ []) (Invalid Escape) []
-
--- the bytes are these characters, one after another
-pub data SpellsChars : List ℕ → List SetChar → Type 0 where
-  NoChar : SpellsChars [] []
-  AChar : (bs rest : List ℕ) (u : SetChar) (us : List SetChar) → SpellsChar bs u rest → SpellsChars rest us
-      → SpellsChars bs (u ∷ us)
 
 -- ---- functions that compute the grammar
 
@@ -95,7 +65,3 @@ chars_after (b ∷ bs) (suc skip) = chars_after bs skip
 -- the characters of the bytes
 abbrev pub chars : List ℕ → List SetChar
 chars bs = chars_after bs 0
-
--- `chars` gives the characters of the grammar, and only those
-abbrev pub CharsMatchGrammar : Type 0
-CharsMatchGrammar = (bs : List ℕ) (us : List SetChar) → SpellsChars bs us ↔ (chars bs ≡ us)

@@ -11,10 +11,6 @@ use Rattle.ptlangs.specs.declared.tr.classes.CharClass.TheVariants.{Print, Punct
 abbrev pub span : ℕ → ℕ → List ℕ
 span a b = range_with_len a (b + 1 - a)
 
--- `span` of a pair of bounds
-abbrev pub range_bytes : ℕ × ℕ → List ℕ
-range_bytes r = span r.0 r.1
-
 -- all 256 bytes, ascending
 unfoldable pub all_bytes : List ℕ
 all_bytes = span 0 255

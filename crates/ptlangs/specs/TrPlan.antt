@@ -6,25 +6,26 @@ use Rattle.std.specs.Prelude.{replicate, unwrap_or, slice_get}
 use Rattle.std.specs.List.{flat_map, list_all, list_any, last_or}
 use Rattle.std.specs.Option.{option_and_then, option_to_list}
 use Rattle.std.specs.Result.{result_map_both}
-use Rattle.ptlangs.specs.declared.tr.classes.CharClass.{CharClass}
-use Rattle.ptlangs.specs.declared.faults.SetFaultKind.{SetFaultKind}
-use Rattle.ptlangs.specs.declared.faults.SetFaultKind.TheVariants.{Empty, UnknownClass, ClassPlace, EquivPlace}
-use Rattle.ptlangs.specs.declared.faults.SetFaultKind.TheVariants.{RepeatPlace, RepeatSize, SecondFill, Memory}
-use Rattle.ptlangs.specs.declared.faults.SetString.TheVariants as string
-use Rattle.ptlangs.specs.declared.faults.SetString.{SetString}
+use Rattle.ptlangs.specs.Numbers.{and_then, traverse}
+use Rattle.ptlangs.specs.TrChars.{chars}
+use Rattle.ptlangs.specs.TrClasses.{all_bytes, are_opposite_cases, class_bytes, span}
+use Rattle.ptlangs.specs.TrElements.{set_elements}
 use Rattle.ptlangs.specs.declared.faults.SetFault.{SetFault}
+use Rattle.ptlangs.specs.declared.faults.SetFaultKind.{SetFaultKind}
+use Rattle.ptlangs.specs.declared.faults.SetFaultKind.TheVariants.{ClassPlace, Empty, EquivPlace, RepeatPlace}
+use Rattle.ptlangs.specs.declared.faults.SetFaultKind.TheVariants.{RepeatSize, SecondFill, UnknownClass}
+use Rattle.ptlangs.specs.declared.faults.SetString.{SetString}
+use Rattle.ptlangs.specs.declared.tr.classes.CharClass.{CharClass}
 use Rattle.ptlangs.specs.declared.tr.elements.SetElement.{SetElement}
-use Rattle.ptlangs.specs.declared.tr.elements.SetElement.TheVariants as element
+use Rattle.ptlangs.specs.declared.tr.plan.Form.{Form}
+use Rattle.ptlangs.specs.declared.tr.plan.Form.TheVariants.{Delete, DeleteSqueeze, Squeeze, Translate}
+use Rattle.ptlangs.specs.declared.tr.plan.Form.TheVariants.{TranslateSqueeze}
 use Rattle.ptlangs.specs.declared.tr.segments.Segment.{Segment}
-use Rattle.ptlangs.specs.declared.tr.segments.Segment.TheVariants.{Range, Class, Repeat, Fill}
+use Rattle.ptlangs.specs.declared.tr.segments.Segment.TheVariants.{Class, Fill, Range, Repeat}
 use Rattle.ptlangs.specs.declared.tr.segments.SetRole.{SetRole}
 use Rattle.ptlangs.specs.declared.tr.segments.SetRole.TheVariants.{First, Images, Squeezed}
-use Rattle.ptlangs.specs.declared.tr.plan.Form.{Form}
-use Rattle.ptlangs.specs.declared.tr.plan.Form.TheVariants.{Translate, TranslateSqueeze, Squeeze, Delete, DeleteSqueeze}
-use Rattle.ptlangs.specs.Numbers.{and_then, traverse}
-use Rattle.ptlangs.specs.TrChars.{SetChar, chars}
-use Rattle.ptlangs.specs.TrElements.{StartsElement, StartsInvalid, set_elements}
-use Rattle.ptlangs.specs.TrClasses.{span, all_bytes, are_opposite_cases, class_bytes}
+use Rattle.ptlangs.specs.declared.tr.elements.SetElement.TheVariants as element
+use Rattle.ptlangs.specs.declared.faults.SetString.TheVariants as string
 
 -- ---- the segments of an array
 
@@ -83,21 +84,6 @@ sequence rs = traverse (λ r. r) rs
 abbrev pub string_segments : SetRole → List ℕ → Result (List Segment) SetFaultKind
 string_segments role [] = Err Empty
 string_segments role (b ∷ text) = sequence (segments_of role (b ∷ text))
-
--- The first element of the characters that has no segment has this fault; `has_fill` says whether a fill came before.
-pub data FirstFault (role : SetRole) : Bool → List SetChar → SetFaultKind → Type 0 where
-  NoElement : (has_fill : Bool) (us : List SetChar) (k : SetFaultKind) → StartsInvalid us k
-      → FirstFault role has_fill us k
-  NoSegment : (has_fill : Bool) (us rest : List SetChar) (p : SetElement) (k : SetFaultKind) → StartsElement us p rest
-      → segment role has_fill p ≡ Err k → FirstFault role has_fill us k
-  LaterFault : (has_fill : Bool) (us rest : List SetChar) (p : SetElement) (x : Segment) (k : SetFaultKind)
-      → StartsElement us p rest → segment role has_fill p ≡ Ok x → FirstFault role (has_fill || is_fill (Ok x)) rest k
-      → FirstFault role has_fill us k
-
--- a string is rejected with the fault of its first faulty element
-abbrev pub FirstFaultIsReported : Type 0
-FirstFaultIsReported = (role : SetRole) (b : ℕ) (text : List ℕ) (k : SetFaultKind)
-    → FirstFault role false (chars (b ∷ text)) k ↔ (string_segments role (b ∷ text) ≡ Err k)
 
 -- ---- arrays
 
@@ -205,14 +191,6 @@ second_role Squeeze = Images
 second_role Delete = Images
 second_role DeleteSqueeze = Squeezed
 
--- the form has a second string
-abbrev pub takes_second : Form → Bool
-takes_second Translate = true
-takes_second TranslateSqueeze = true
-takes_second Squeeze = false
-takes_second Delete = false
-takes_second DeleteSqueeze = true
-
 -- The second string has only classes that are allowed. If it is only squeezed, every class is. If it translates, each
 -- class needs its other case at the same offset of the first string; a complement has no classes.
 abbrev pub has_valid_classes : Form → Bool → List (ℕ × CharClass) → List (ℕ × CharClass) → Bool
@@ -242,8 +220,3 @@ plan_from form complement firsts (Some text) = in_string string.Second (second_p
 abbrev pub plan : Form → Bool → List ℕ → Option (List ℕ) → Result Plan SetFault
 plan form complement s1 s2 =
     and_then (in_string string.First (string_segments First s1)) (λ firsts. plan_from form complement firsts s2)
-
--- reading a string never fails for lack of memory
-abbrev pub NoMemoryFault : Type 0
-NoMemoryFault = (form : Form) (complement : Bool) (s1 : List ℕ) (s2 : Option (List ℕ)) (fault : SetFault)
-    → plan form complement s1 s2 ≡ Err fault → fault.kind ≢ Memory

@@ -1,7 +1,7 @@
 -- A plan of `tr` as three tables, each with an entry for every byte.
 use Rattle.std.specs.Prelude.{◌≡◌, ◌<◌, ◌^◌, ℕ, List, Bool, false, map, slice_index, slice_index_or}
 use Rattle.ptlangs.specs.TrClasses.{all_bytes}
-use Rattle.ptlangs.specs.TrPlan.{Plan, is_deleted, image_of, is_squeezed}
+use Rattle.ptlangs.specs.TrPlan.{Plan, image_of, is_deleted, is_squeezed}
 
 -- for each byte: is it deleted, its image, and is it squeezed
 pub record Tables : Type 0 where
@@ -29,9 +29,3 @@ tables plan =
       images = map (image_of plan) all_bytes;
       squeezed = map (is_squeezed plan) all_bytes;
     }
-
--- for every byte the tables of a plan agree with the plan
-abbrev pub TablesMatchPlan : Type 0
-TablesMatchPlan = (plan : Plan) (b : ℕ) → b < 2 ^ 8
-    → (deletes (tables plan) b ≡ is_deleted plan b) × (image (tables plan) b ≡ image_of plan b)
-    × (squeezes (tables plan) b ≡ is_squeezed plan b)

@@ -1,8 +1,10 @@
 //! The delimiter list of `paste` (option `-d`), as `ptopts` reads it and `ptflow` uses it.
 ghost use Rattle.std.specs.Prelude.{◌≡◌, ◌<◌, [], ◌∷◌, length, None, Err, IfOk, MatchResult};
 ghost use Rattle.std.specs.Result.{result_err};
-ghost use Rattle.ptlangs.specs.Results.{ValidatedParsePost};
-ghost use Rattle.ptlangs.specs.DelimLists.{DelimListMatchesGrammar, delim_list_fault, escape, delims, delim_list};
+ghost use Rattle.ptlangs.specs.Calls.Results.{ValidatedParsePost};
+ghost use Rattle.ptlangs.specs.Laws.DelimLists.{DelimListMatchesGrammar};
+ghost use Rattle.ptlangs.specs.Calls.DelimLists.{delim_list_fault};
+ghost use Rattle.ptlangs.specs.DelimLists.{escape, delims, delim_list};
 ghost use Rattle.ptlangs.specs.DelimLists.{delim_at};
 ghost use Rattle.ptlangs.specs.Numbers.{cons_ok};
 

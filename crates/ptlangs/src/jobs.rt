@@ -1,7 +1,8 @@
 //! The options of the five line tools as plain values, with their defaults. `ptopts` makes a job from a command line;
 //! `ptflow` and `ptmerge` run it.
 ghost use Rattle.std.specs.Prelude.{◌≡◌, IfOk};
-ghost use Rattle.ptlangs.specs.Jobs.{paste_job, default_paste, join_job, default_join};
+ghost use Rattle.ptlangs.specs.Jobs.{paste_job, join_job};
+ghost use Rattle.ptlangs.specs.Calls.Jobs.{default_paste, default_join};
 
 use crate::delims::Delims;
 use crate::outlist::OutList;
@@ -79,7 +80,8 @@ pub struct UniqJob {
 
 impl Default for UniqJob {
     ghost use Rattle.std.specs.Prelude.{◌≡◌};
-    ghost use Rattle.ptlangs.specs.Jobs.{uniq_job, default_uniq};
+    ghost use Rattle.ptlangs.specs.Jobs.{uniq_job};
+    ghost use Rattle.ptlangs.specs.Private.Jobs.{default_uniq};
 
     ghost is_default = { λ job. uniq_job job ≡ default_uniq };
 
@@ -106,7 +108,8 @@ pub struct CommJob {
 
 impl Default for CommJob {
     ghost use Rattle.std.specs.Prelude.{◌≡◌};
-    ghost use Rattle.ptlangs.specs.Jobs.{comm_job, default_comm};
+    ghost use Rattle.ptlangs.specs.Jobs.{comm_job};
+    ghost use Rattle.ptlangs.specs.Private.Jobs.{default_comm};
 
     ghost is_default = { λ job. comm_job job ≡ default_comm };
 

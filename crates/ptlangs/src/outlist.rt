@@ -1,9 +1,11 @@
 //! The output list of `join` (option `-o`), as `ptopts` reads it and `ptmerge` uses it.
 ghost use Rattle.std.specs.Prelude.{◌≡◌, None, MatchResult};
 ghost use Rattle.std.specs.Result.{result_err};
-ghost use Rattle.ptlangs.specs.Results.{ValidatedParsePost};
-ghost use Rattle.ptlangs.specs.OutLists.{OutListMatchesGrammar, out_list_fault, field_of, element_field, out_list};
-ghost use Rattle.ptlangs.specs.OutLists.{field_at};
+ghost use Rattle.ptlangs.specs.Calls.Results.{ValidatedParsePost};
+ghost use Rattle.ptlangs.specs.Laws.OutLists.{OutListMatchesGrammar};
+ghost use Rattle.ptlangs.specs.Calls.OutLists.{out_list_fault};
+ghost use Rattle.ptlangs.specs.OutLists.{field_of, element_field, out_list};
+ghost use Rattle.ptlangs.specs.Calls.OutLists.{field_at};
 
 use crate::numbers::{decimal, is_decimal, is_list_separator};
 use std::alloc::{AllocError, Allocator, Global};

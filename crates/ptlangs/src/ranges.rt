@@ -1,10 +1,14 @@
 //! The list of `cut` (options `-b`, `-c` and `-f`), as `ptopts` reads it and `ptflow` uses it.
 ghost use Rattle.std.specs.Prelude.{◌≡◌, ◌≤◌, ◌<◌, ◌∷◌, [], None, Some, IfOk, IsTrue, MatchResult, Ok};
 ghost use Rattle.std.specs.Result.{result_err};
-ghost use Rattle.ptlangs.specs.Results.{ValidatedParsePost};
-ghost use Rattle.ptlangs.specs.CutLists.{CutListMatchesGrammar, cut_list_fault, is_bound, value_or, interval_of_bounds};
+ghost use Rattle.ptlangs.specs.Calls.Results.{ValidatedParsePost};
+ghost use Rattle.ptlangs.specs.Laws.CutLists.{CutListMatchesGrammar};
+ghost use Rattle.ptlangs.specs.Calls.CutLists.{cut_list_fault};
+ghost use Rattle.ptlangs.specs.CutLists.{is_bound, value_or, interval_of_bounds};
 ghost use Rattle.ptlangs.specs.CutLists.{checked_interval, element_interval, cut_list, is_selected, selection};
-ghost use Rattle.ptlangs.specs.CutLists.{AreSeparated, AreSortedFrom, interval_of_parts};
+ghost use Rattle.ptlangs.specs.Calls.CutLists.{AreSeparated};
+ghost use Rattle.ptlangs.specs.Private.CutLists.{AreSortedFrom};
+ghost use Rattle.ptlangs.specs.CutLists.{interval_of_parts};
 ghost use Rattle.ptlangs.specs.Numbers.{max_u64};
 
 use crate::numbers::{decimal, is_decimal, is_list_separator};
@@ -70,7 +74,7 @@ pub struct Ranges<A: Allocator = Global> {
 impl<A: Allocator> Model for Ranges<A> {
     ghost use Rattle.std.specs.Prelude.{List};
     ghost use Rattle.ptlangs.specs.declared.ranges.Interval.{Interval};
-    ghost use Rattle.ptlangs.specs.CutLists.{AreSeparated};
+    ghost use Rattle.ptlangs.specs.Calls.CutLists.{AreSeparated};
 
     ghost Value = { List Interval };
 

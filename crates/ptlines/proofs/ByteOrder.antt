@@ -7,7 +7,8 @@ use Rattle.std.specs.Int.{w8, w32, w64, from_be_bytes}
 use Rattle.std.specs.Ordering.{nat_cmp, ordering_then}
 use Rattle.std.specs.declared.cmp.Ordering.{Ordering}
 use Rattle.std.specs.declared.cmp.Ordering.TheVariants.{Less, Equal}
-use Rattle.ptlines.specs.ByteOrder.{byte_cmp, byte_cmp_equal}
+use Rattle.ptlines.specs.ByteOrder.{byte_cmp}
+use Rattle.ptlines.specs.Private.ByteOrder.{byte_cmp_equal}
 
 -- the number with the digits of `p`, and then these, to the base of 256
 abbrev number : ℕ → List ℕ → ℕ

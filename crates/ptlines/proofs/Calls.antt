@@ -4,9 +4,10 @@ use Rattle.ptlines.proofs
 use Rattle.ptlines.specs
 use proofs.Common.{◌≡◌, ℕ, ◌<◌, ◌≤◌, true, false, List, [], Option, length, max, refl, ◌∙◌, ap, arith, Reader}
 use proofs.Common.{ReaderAdvance, IsSound, Received, IsPrefix, PushEffect}
-use specs.Calls.{InputNames, EngineSpec, CallState, CallEnd, Complete, OutOfOrder, ReadFault, WriteFault, MemoryFault}
-use specs.Calls.{CallPost, CallOutcome, AreAllConsistent, AllPushed, with_input}
-use specs.Lag.{BoundedLag}
+use specs.Calls.Engines.{InputNames, CallState, CallEnd, Complete, OutOfOrder, ReadFault, WriteFault, MemoryFault}
+use specs.Engines.{EngineSpec}
+use specs.Calls.Engines.{CallPost, CallOutcome, AreAllConsistent, AllPushed, with_input}
+use specs.Calls.Lag.{BoundedLag}
 use proofs.Lag.{bounded_lag_now}
 use proofs.Push.{push_nothing}
 use proofs.Received.{received_with, has_received, has_received_set}
@@ -14,7 +15,7 @@ use proofs.Received.{received_with, has_received, has_received_set}
 pub reads_nothing : (r : Reader) → ReaderAdvance r r []
 reads_nothing r = grind arith
 
--- What was received before a call, and by its end.
+-- The bytes received before a call, and by its end.
 abbrev pub given_before : {I : Type 0} → CallState I → I → Received
 given_before old i = received_with [] (old.reader i)
 

@@ -17,12 +17,17 @@ pub use Rattle.std.specs.Prelude.{bit_or, slice_range, swap}
 pub use Rattle.std.specs.Simd.Lanes.{Each1, chunk, mask_l, put_chunk}
 pub use Rattle.memchr.specs.Find.{IsFirst, IsFirstByte, Nowhere, Passes, is_byte}
 pub use specs.Received.{IsPrefix, HasReceived, Received}
-pub use specs.Outputs.{IsKnownPrefix, Output, PushEffect}
-pub use specs.Readers.{AdvanceOk, IsDone, IsSound, Reader, ReaderAdvance}
-pub use specs.Sinks.{WriteOutOk, unflushed_after}
-pub use specs.Slots.{Slots, line, total_bytes, with_line}
-pub use specs.Sources.{PullOk, PullPost, SourceState}
-pub use specs.Text.{IsLine, lines}
+pub use specs.Calls.Outputs.{IsKnownPrefix, Output, PushEffect}
+pub use specs.Calls.Readers.{AdvanceOk, IsSound, ReaderAdvance}
+pub use specs.Readers.{IsDone, Reader}
+pub use specs.Calls.Sinks.{WriteOutOk}
+pub use specs.Sinks.{unflushed_after}
+pub use specs.Slots.{Slots, total_bytes}
+pub use specs.Calls.Slots.{line, with_line}
+pub use specs.Private.Sources.{PullOk, PullPost}
+pub use specs.Sources.{SourceState}
+pub use specs.Calls.Text.{IsLine}
+pub use specs.Text.{lines}
 pub use specs.declared.store.LineFault.{LineFault}
 pub use specs.declared.store.LineFault.TheVariants.{Read}
 

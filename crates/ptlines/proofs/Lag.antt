@@ -2,7 +2,7 @@
 use Rattle.ptlines.proofs
 use proofs.Common.{◌≡◌, ℕ, ◌+◌, ◌≤◌, false, List, ◌++◌, Option, None, Some, length, max, sym, ◌∙◌, ap, arith}
 use proofs.Common.{length-append, append_known, Received, IsPrefix, Output, IsKnownPrefix, PushEffect, rules, usual}
-use Rattle.ptlines.specs.Lag.{ProcessLag, BufferLag, BoundedLag}
+use Rattle.ptlines.specs.Calls.Lag.{ProcessLag, BufferLag, BoundedLag}
 use proofs.Push.{known_prefix_refl}
 
 unfoldable pub known_length : Option (List ℕ) → ℕ

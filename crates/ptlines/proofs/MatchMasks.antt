@@ -5,7 +5,8 @@ use proofs.Common.{◌≡◌, ℕ, ◌+◌, ◌*◌, ◌^◌, ◌%◌, ◌<◌, 
 use proofs.Common.{map, refl, sym, ◌∙◌, ap, subst, arith, bit_or, take-add, drop-drop, length-map, length-chunk}
 use proofs.Common.{None, drop, ◌-◌, prefix_len, mask_l, chunk, Nowhere, Passes, IsFirst, IsFirstByte, usual}
 use Rattle.std.specs.Option.{option_map}
-use Rattle.std.proofs.Math.Nat.{pow-succ'}
+use Rattle.std.proofs.Common.{pow-suc, div-one, zero, suc, ◌/◌, cond}
+use Rattle.std.proofs.Math.Nat.{pow-succ', div-div-eq-div-mul, zero-div}
 use lemmas.Grind.{or_before_shift}
 use lemmas.List.{get_or-drop, length-drop, map-append}
 use lib.Count.{count_trailing_zeros}
@@ -64,6 +65,14 @@ pub mask_append : (front back : List Bool) → mask_l (front ++ back) ≡ mask_l
 mask_append [] back = omega arith
 mask_append (f ∷ front) back =
     omega (arith, mask_append front back, ap (λ p. p * mask_l back) (pow-succ' 2 (length front)))
+
+-- without the lowest bits of a mask: the mask of the items after the first ones
+pub shifted : (n : ℕ) (bits : List Bool) → mask_l bits / 2 ^ n ≡ mask_l (drop n bits)
+shifted zero bits = div-one (mask_l bits)
+shifted (suc n) [] = zero-div (2 ^ suc n)
+shifted (suc n) (b ∷ bits) =
+    let half : (b : Bool) → (cond b 1 0 + 2 * mask_l bits) / 2 ≡ mask_l bits = grind arith in
+    grind (arith, half, pow-suc, div-div-eq-div-mul, shifted n bits)
 
 chunk_append : {X : Type 0} (i m n : ℕ) (xs : List X) → chunk i (m + n) xs ≡ chunk i m xs ++ chunk (i + m) n xs
 chunk_append {X} i m n xs = grind (arith, take-add, drop-drop)

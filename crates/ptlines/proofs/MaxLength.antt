@@ -1,6 +1,7 @@
 -- The length of the longest line is the maximum over parts.
 use Rattle.ptlines.proofs.Common.{◌≡◌, ℕ, ◌+◌, ◌≤◌, List, [], ◌∷◌, ◌++◌, length, max, arith, onto_first}
-use Rattle.ptlines.specs.Text.{lines, IsLine, max_length}
+use Rattle.ptlines.specs.Text.{lines, max_length}
+use Rattle.ptlines.specs.Calls.Text.{IsLine}
 
 pub max_length-append : (xs ys : List (List ℕ)) → max_length (xs ++ ys) ≡ max (max_length xs) (max_length ys)
 max_length-append [] ys = omega arith

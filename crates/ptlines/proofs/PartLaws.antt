@@ -1,7 +1,7 @@
 -- A text of complete lines is the text of its lines, so the lines of a concatenation are those of both parts.
 use Rattle.ptlines.proofs
 use proofs.Common.{◌++◌, sym, ◌∙◌, ap, lines, arith}
-use Rattle.ptlines.specs.Parts.{LinesOfParts}
+use Rattle.ptlines.specs.Laws.Parts.{LinesOfParts}
 use proofs.TextLaws.{lines_are, lines_of_unlines, unlines-lines}
 
 pub the_lines_of_parts : LinesOfParts

@@ -4,7 +4,8 @@ use Rattle.ptlines.specs
 use proofs.Common.{◌≡◌, ℕ, true, false, List, [], ◌++◌, Option, arith, Result, Ok, OnOk, OnErr, append_known, Output}
 use proofs.Common.{IsKnownPrefix, PushEffect, rules, usual}
 use specs.declared.out.WriteFault.{WriteFault}
-use specs.Outputs.{output_bytes, OutputErr, PushPost, with_direct_write, with_written_out}
+use specs.Calls.Outputs.{output_bytes, PushPost, with_written_out}
+use specs.Private.Outputs.{OutputErr, with_direct_write}
 use proofs.KnownBytes.{append_known-append, append_known-nil}
 
 pub known_prefix_refl : (known : Option (List ℕ)) → IsKnownPrefix known known

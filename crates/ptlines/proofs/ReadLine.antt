@@ -1,14 +1,15 @@
 -- A line is read piece by piece: what several calls consumed is the concatenation of what each consumed. A line whose
 -- terminator is among the next 64 bytes is copied at once.
 use Rattle.ptlines.proofs
-use proofs.Common.{◌≡◌, ℕ, ◌+◌, ◌-◌, ◌^◌, ◌<◌, ◌≤◌, None, Some, take, Bool, List, [], ◌∷◌, ◌++◌, length, sym, ◌∙◌, ap}
+use proofs.Common.{◌≡◌, ℕ, ◌+◌, ◌-◌, ◌^◌, ◌<◌, ◌≤◌, None, Some, take, List, [], ◌∷◌, ◌++◌, length, sym, ◌∙◌, ap}
 use proofs.Common.{subst, arith, length-append, set-set, Slots, line, with_line, not, ◌==◌, Ok, IsLine, Reader}
 use proofs.Common.{ReaderAdvance, AdvanceOk, IsDone, IsFirst, IsFirstByte, Passes, is_byte, slice_range, rules, usual}
 use proofs.KnownBytes.{prepend_known-append}
 use proofs.SlotTotals.{total_bytes_set}
 use proofs.LineSearch.{IsLine-append, line_before_terminator, advance_ok_take}
 use proofs.Consume.{rest_of_range}
-use Rattle.ptlines.specs.ReadLine.{FillPost, PieceLine, FillLine, PiecePartial, IsAppended}
+use Rattle.ptlines.specs.Calls.ReadLine.{FillPost, FillLine}
+use Rattle.ptlines.specs.Private.ReadLine.{PieceLine, PiecePartial, IsAppended}
 
 pub advance_trans : (a b c : Reader) (xs ys : List ℕ) → ReaderAdvance a b xs → ReaderAdvance b c ys
     → ReaderAdvance a c (xs ++ ys)

@@ -5,7 +5,8 @@ use proofs.Common.{◌≡◌, ℕ, ◌+◌, ◌<◌, ◌≤◌, Bool, List, [], 
 use proofs.Common.{SourceState, PullOk, ◌^◌, true, Some, Ok, Err, inr, slice_range, LineFault, Read, Reader}
 use proofs.Common.{ReaderAdvance, rules}
 use Rattle.std.proofs.lemmas.Slice.{between_from_start}
-use Rattle.ptlines.specs.Readers.{RefillPre, RefillPost, reader_of}
+use Rattle.ptlines.specs.Private.Readers.{RefillPre, RefillPost}
+use Rattle.ptlines.specs.Readers.{reader_of}
 
 module _ {old : Reader} {was : SourceState} (is : SourceState) (block : List ℕ) {buffered : List ℕ} {p : ℕ} (n : ℕ)
     {q : Bool} (q' : Bool) {fault : Option LineFault} {end : ℕ}

@@ -5,7 +5,7 @@ use Rattle.std.proofs.lemmas
 use proofs.Common.{◌≡◌, ◌≢◌, ℕ, zero, suc, ◌+◌, ◌*◌, ◌^◌, ◌<◌, ◌≤◌, List, [], ◌∷◌, ◌++◌, length, take, drop, get_or}
 use proofs.Common.{sym, ◌∙◌, ap, arith, set, Bool, subst, refl, max, set-set, swap, length-map, Slots}
 use proofs.Common.{line, total_bytes, with_line, rules, usual}
-use Rattle.ptlines.specs.Slots.{SlotBuffer, slot_lines, AreBuffersBounded, AreCounted, LengthsAreBounded}
+use Rattle.ptlines.specs.Private.Slots.{SlotBuffer, slot_lines, AreBuffersBounded, AreCounted, LengthsAreBounded}
 use lemmas.List.{map-set, get_or-map, set-get_or}
 use lemmas.List.Elements.{All-set}
 use lemmas.List.Sums.{sum_by-le}

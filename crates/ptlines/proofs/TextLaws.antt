@@ -4,7 +4,8 @@ use Rattle.ptlines.proofs
 use proofs.Common.{◌≡◌, ◌≢◌, ◌⊎◌, inl, inr, ℕ, ◌==◌, ◌<◌, Bool, true, false, cond, List, [], ◌∷◌, ◌++◌, length, drop}
 use proofs.Common.{get_or, refl, sym, ◌∙◌, ap, arith, onto_first, eq-eqb, eqb-false, append-nil, lines}
 use proofs.Common.{IsLine, rules, usual}
-use Rattle.ptlines.specs.Text.{AreLines, CompleteLinesAreLines, EndsWithByte, LinesAreUnique, complete_lines, unlines}
+use Rattle.ptlines.specs.Laws.Text.{AreLines, CompleteLinesAreLines, EndsWithByte, LinesAreUnique}
+use Rattle.ptlines.specs.Text.{complete_lines, unlines}
 
 pub byte_eq : (end : ℕ) → (end == end) ≡ true
 byte_eq end = eq-eqb end end refl

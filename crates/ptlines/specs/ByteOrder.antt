@@ -1,11 +1,8 @@
 -- The order of byte strings.
-use Rattle.std.specs.Prelude.{◌≡◌, ◌≤◌, ℕ, List, length, take, min}
-use Rattle.std.proofs.Common.{sym, ap, ◌∙◌}
+use Rattle.std.specs.Prelude.{ℕ, List}
 use Rattle.std.specs.declared.cmp.Ordering.{Ordering}
-use Rattle.std.specs.declared.cmp.Ordering.TheVariants.{Equal}
-use Rattle.std.specs.Ordering.{nat_cmp, is_eq}
-use Rattle.std.specs.Cmp.Lexicographic.{bytes_decides, slice_cmp}
-use Rattle.std.proofs.lemmas.Map.Text.{is_eq-slice_cmp}
+use Rattle.std.specs.Ordering.{nat_cmp}
+use Rattle.std.specs.Cmp.Lexicographic.{slice_cmp}
 
 -- a comparison of two byte strings
 abbrev pub Cmp : Type 0
@@ -14,12 +11,3 @@ Cmp = List ℕ → List ℕ → Ordering
 -- lexicographic order by byte value: a proper prefix is less than the longer string
 abbrev pub byte_cmp : Cmp
 byte_cmp = slice_cmp nat_cmp
-
--- both strings have at least `n` bytes, and their first `n` bytes are equal
-pub record HaveCommonPrefix (n : ℕ) (a b : List ℕ) : Type 0 where
-  pub long : n ≤ min (length a) (length b)
-  pub same : take n a ≡ take n b
-
--- only equal strings compare as equal
-pub byte_cmp_equal : (a b : List ℕ) → byte_cmp a b ≡ Equal → a ≡ b
-byte_cmp_equal a b e = (bytes_decides a b).0 (sym (is_eq-slice_cmp a b) ∙ ap is_eq e)

@@ -1,9 +1,7 @@
 -- Bounded lag: output follows input with a delay of at most two blocks of input and one block of output, also if the
 -- run ends early. `I` identifies the inputs: one input, a side of a merge, or an index.
-use Rattle.std.specs.Prelude.{◌≡◌, ◌≤◌, ◌+◌, ℕ, true, List, ◌++◌, length, max}
-use Rattle.std.specs.Io.KnownBytes.{append_known}
-use Rattle.ptlines.specs.Received.{Received, IsPrefix}
-use Rattle.ptlines.specs.Outputs.{Output}
+use Rattle.std.specs.Prelude.{◌≡◌, ◌≤◌, ℕ, true, List, ◌++◌, length}
+use Rattle.ptlines.specs.Received.{Received}
 
 -- a prefix of what was received of an input, which lacks at most two blocks (16,384 bytes)
 pub record LaggedInput (came : Received) : Type 0 where
@@ -12,22 +10,3 @@ pub record LaggedInput (came : Received) : Type 0 where
   pub split : came.bytes ≡ earlier.bytes ++ last
   pub short : length last ≤ 16384
   pub eof : earlier.eof ≡ true → came.eof ≡ true
-
--- At least the output that was decided by such prefixes was pushed.
-pub record ProcessLag {I : Type 0} (decided : (I → Received) → List ℕ) (came : I → Received)
-    (pushed : List ℕ) : Type 0 where
-  pub before : (i : I) → LaggedInput (came i)
-  pub begins : IsPrefix (decided (λ i. (before i).earlier)) pushed
-
--- Of the bytes that were buffered, followed by `bytes`, all but at most one block (8,192 bytes) were written to the
--- sink.
-pub record BufferLag (was is : Output) (bytes : List ℕ) : Type 0 where
-  pub written_out : List ℕ
-  pub accepted : is.accepted ≡ append_known was.accepted written_out
-  pub most : length was.buffered + length bytes ≤ length written_out + max 8192 (length was.buffered)
-
--- The output decided by such prefixes was pushed, and written to the sink but for at most one block.
-pub record BoundedLag {I : Type 0} (decided : (I → Received) → List ℕ) (came : I → Received) (was is : Output)
-    (pushed : List ℕ) : Type 0 where
-  pub processing : ProcessLag decided came pushed
-  pub buffering : BufferLag was is (decided (λ i. (processing.before i).earlier))

@@ -2,7 +2,8 @@
 
 ghost use Rattle.std.specs.Prelude.{◌≡◌, ◌≤◌, ◌<◌, ◌+◌, length, take, drop, min};
 ghost use Rattle.std.specs.Int.{w32, w64, from_be_bytes};
-ghost use Rattle.ptlines.specs.ByteOrder.{HaveCommonPrefix, byte_cmp};
+ghost use Rattle.ptlines.specs.Private.ByteOrder.{HaveCommonPrefix};
+ghost use Rattle.ptlines.specs.ByteOrder.{byte_cmp};
 
 use std::cmp::Ordering;
 

@@ -1,7 +1,7 @@
 //! A copy of a byte string that is fast for few bytes, used by the tools.
 
 ghost use Rattle.std.specs.Prelude.{◌≡◌, ◌≤◌, ◌+◌, ◌-◌, ◌++◌, length, take, drop};
-ghost use Rattle.ptlines.specs.Bounds.{CopyChunkPre};
+ghost use Rattle.ptlines.specs.Private.Bounds.{CopyChunkPre};
 
 use std::simd::prelude::*;
 

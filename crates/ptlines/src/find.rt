@@ -5,7 +5,7 @@
 ghost use Rattle.std.specs.Prelude.{◌≡◌, ◌≤◌, ◌<◌, ◌≢◌, ◌+◌, Some, length, map};
 ghost use Rattle.std.specs.Int.Count.{count_trailing_zeros};
 ghost use Rattle.std.specs.Simd.Lanes.{mask_l, chunk};
-ghost use Rattle.ptlines.specs.Bounds.{HasChunk, IsCoveredByEnds};
+ghost use Rattle.ptlines.specs.Private.Bounds.{HasChunk, IsCoveredByEnds};
 ghost use Rattle.memchr.specs.Find.{Nowhere, IsFirst, IsFirstByte, Passes, is_byte};
 
 use memchr::memchr;

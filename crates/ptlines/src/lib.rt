@@ -2,7 +2,7 @@
 //! input and output.
 #![tactic(auto)]
 
-ghost use Rattle.ptlines.specs.Text.{LinesAreUnique, CompleteLinesAreLines};
+ghost use Rattle.ptlines.specs.Laws.Text.{LinesAreUnique, CompleteLinesAreLines};
 
 mod cmp;
 mod copy;

@@ -3,16 +3,20 @@
 ghost use Rattle.std.specs.Prelude.{◌≡◌, ◌<◌, ◌≤◌, ℕ, true, false, None, [], IfSome, IfOk, OnOk, OnErr, length, take};
 ghost use Rattle.std.specs.Prelude.{drop, if◌then◌else◌};
 ghost use Rattle.memchr.specs.Find.{IsFirstByte, is_byte};
-ghost use Rattle.ptlines.specs.Outputs.{IsSameOrWrittenOut, PushPost};
+ghost use Rattle.ptlines.specs.Calls.Outputs.{IsSameOrWrittenOut, PushPost};
 ghost use Rattle.std.specs.Borrow.{sem};
 ghost use Rattle.std.specs.Io.KnownBytes.{IsAtEnd};
 ghost use Rattle.std.specs.Io.BufRead.{Rests};
-ghost use Rattle.ptlines.specs.InputSource.{input_state};
-ghost use Rattle.ptlines.specs.InputSource.{is_unopened_source};
-ghost use Rattle.ptlines.specs.Sources.{IsFresh, PullPost, unopened_state};
-ghost use Rattle.ptlines.specs.Readers.{RefillPre, RefillPost, IsSound, new_reader};
-ghost use Rattle.ptlines.specs.ReadLine.{FillPre, MoveToSlotPre, MoveToSlotPost, PiecePost, FillLine, FillPost};
-ghost use Rattle.ptlines.specs.ReadLine.{BlockPost};
+ghost use Rattle.ptlines.specs.Private.InputSource.{input_state};
+ghost use Rattle.ptlines.specs.Private.InputSource.{is_unopened_source};
+ghost use Rattle.ptlines.specs.Sources.{IsFresh, unopened_state};
+ghost use Rattle.ptlines.specs.Private.Sources.{PullPost};
+ghost use Rattle.ptlines.specs.Private.Readers.{RefillPre, RefillPost};
+ghost use Rattle.ptlines.specs.Calls.Readers.{IsSound};
+ghost use Rattle.ptlines.specs.Readers.{new_reader};
+ghost use Rattle.ptlines.specs.Private.ReadLine.{FillPre, MoveToSlotPre, MoveToSlotPost, PiecePost};
+ghost use Rattle.ptlines.specs.Calls.ReadLine.{FillLine, FillPost};
+ghost use Rattle.ptlines.specs.Calls.ReadLine.{BlockPost};
 ghost use Rattle.ptlines.specs.contracts.reader.LineReader.{the_row};
 
 use crate::find::{Padded64, ShortLine, find_byte, find_in_64};
@@ -50,12 +54,13 @@ pub struct LineReader<S: Source, R: Source> {
 
 impl<S: Source, R: Source> Model for LineReader<S, R> {
     ghost use Rattle.std.specs.Prelude.{slice_range};
-    ghost use Rattle.ptlines.specs.Readers.{Reader, IsValidReader, reader_of};
+    ghost use Rattle.ptlines.specs.Readers.{Reader, reader_of};
+    ghost use Rattle.ptlines.specs.Private.Readers.{IsValidReader};
 
     ghost Value = { Reader };
 
-    ghost use Rattle.ptlines.specs.InputSource.{input_state};
-    ghost use Rattle.ptlines.specs.InputSource.{is_unopened_source};
+    ghost use Rattle.ptlines.specs.Private.InputSource.{input_state};
+    ghost use Rattle.ptlines.specs.Private.InputSource.{is_unopened_source};
 
     ghost view = { λ r. reader_of (input_state S.state R.state r.input) (slice_range r.block r.start r.end)
         r.pulled r.fault (is_unopened_source r.input) r.terminator };

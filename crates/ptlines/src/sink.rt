@@ -1,7 +1,9 @@
 //! The trait `Sink` for everything that bytes are written to.
 
 ghost use Rattle.std.specs.Prelude.{◌≡◌, false, length, ◌<◌};
-ghost use Rattle.ptlines.specs.Sinks.{SinkState, PutPost, FlushPost};
+ghost use Rattle.ptlines.specs.Sinks.{SinkState};
+ghost use Rattle.ptlines.specs.Private.Sinks.{PutPost};
+ghost use Rattle.ptlines.specs.Calls.Sinks.{FlushPost};
 
 /// A read, a write or a flush failed.
 #[derive(Clone, Copy, Debug, PartialEq, Eq)]

@@ -17,7 +17,7 @@ pub(crate) struct Slot<A: Allocator + Copy> {
 
 impl<A: Allocator + Copy> Model for Slot<A> {
     ghost use Rattle.std.specs.Prelude.{take, vec_len};
-    ghost use Rattle.ptlines.specs.Slots.{SlotBuffer, IsPadded};
+    ghost use Rattle.ptlines.specs.Private.Slots.{SlotBuffer, IsPadded};
 
     ghost Value = { SlotBuffer };
 

@@ -1,7 +1,8 @@
 //! The trait `Source` for everything that bytes are read from, and the three kinds of input that a reader may have.
 
 ghost use Rattle.std.specs.Prelude.{length, ◌<◌};
-ghost use Rattle.ptlines.specs.Sources.{SourceState, PullPost};
+ghost use Rattle.ptlines.specs.Sources.{SourceState};
+ghost use Rattle.ptlines.specs.Private.Sources.{PullPost};
 
 use crate::sink::Failed;
 

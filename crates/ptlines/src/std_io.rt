@@ -42,7 +42,7 @@ impl<R: Read> FromRead<R> {
 impl<R: Read + Drop> Source for FromRead<R> {
     ghost use Rattle.std.specs.Prelude.{◌<◌, length};
     ghost use Rattle.std.specs.Io.KnownBytes.{ReadConsumes};
-    ghost use Rattle.ptlines.specs.Sources.{PullPost, hide_left};
+    ghost use Rattle.ptlines.specs.Private.Sources.{PullPost, hide_left};
 
     ghost state = { hide_left };
 
@@ -107,7 +107,8 @@ impl<W: Write> FromWrite<W> {
 impl<W: Write + Drop> Sink for FromWrite<W> {
     ghost use Rattle.std.specs.Prelude.{◌≡◌, ◌<◌, false, length};
     ghost use Rattle.std.specs.Io.KnownBytes.{Keeps, WriteAppends};
-    ghost use Rattle.ptlines.specs.Sinks.{PutPost, FlushPost, hide_accepted};
+    ghost use Rattle.ptlines.specs.Private.Sinks.{PutPost, hide_accepted};
+    ghost use Rattle.ptlines.specs.Calls.Sinks.{FlushPost};
 
     ghost state = { hide_accepted };
 

@@ -3,8 +3,10 @@
 
 ghost use Rattle.std.specs.Prelude.{◌≡◌, ℕ, ◌<◌, ◌≤◌, ◌≢◌, true, false, [], ◌∷◌, ◌++◌, length, take, ◌+◌, replicate};
 ghost use Rattle.std.specs.Prelude.{swap, slice_set, slice_index_or, IfOk, OnOk, OnErr};
-ghost use Rattle.ptlines.specs.Slots.{SwapPre, CopyPre, LengthsAreBounded, AreBuffersBounded, slot_lines, line};
-ghost use Rattle.ptlines.specs.Slots.{total_bytes, with_line, with_new_slot, with_denied};
+ghost use Rattle.ptlines.specs.Calls.Slots.{SwapPre, CopyPre, line};
+ghost use Rattle.ptlines.specs.Private.Slots.{LengthsAreBounded, AreBuffersBounded, slot_lines};
+ghost use Rattle.ptlines.specs.Slots.{total_bytes};
+ghost use Rattle.ptlines.specs.Calls.Slots.{with_line, with_new_slot, with_denied};
 
 use crate::find::ShortLine;
 use crate::slot::Slot;
@@ -32,7 +34,8 @@ pub struct Store<A: Allocator + Copy = Global> {
 }
 
 impl<A: Allocator + Copy> Model for Store<A> {
-    ghost use Rattle.ptlines.specs.Slots.{Slots, AreCounted, slot_lines};
+    ghost use Rattle.ptlines.specs.Slots.{Slots};
+    ghost use Rattle.ptlines.specs.Private.Slots.{AreCounted, slot_lines};
 
     ghost Value = { Slots };
 

@@ -4,8 +4,8 @@ use Rattle.std.proofs.Common.{◌≡◌, ℕ, false, List, [], Option, Some, len
 use Rattle.std.specs.Io.KnownBytes.{append_known}
 use Rattle.std.specs.Prelude.{replicate}
 use Rattle.std.proofs.lemmas.List.{length-replicate}
-use Rattle.ptlines.specs.Outputs.{Output}
-use Rattle.ptlines.specs.Lag.{BoundedLag}
+use Rattle.ptlines.specs.Calls.Outputs.{Output}
+use Rattle.ptlines.specs.Calls.Lag.{BoundedLag}
 use Rattle.ptlines.proofs.Lag.{known_length}
 
 -- nothing was pushed although 20,000 bytes of decided output were received

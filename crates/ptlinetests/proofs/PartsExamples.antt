@@ -1,7 +1,7 @@
 -- Examples of the theorem about the lines of two parts, with both terminators and an empty first part.
 use Rattle.std.proofs.Common.{◌≡◌, inl, inr, ℕ, List, [], ◌∷◌, ◌++◌, length, refl, ap, arith, codes}
 use Rattle.ptlines.specs.Text.{lines}
-use Rattle.ptlines.specs.Parts.{HasOnlyCompleteLines}
+use Rattle.ptlines.specs.Laws.Parts.{HasOnlyCompleteLines}
 use Rattle.ptlines.proofs.PartLaws.{the_lines_of_parts}
 
 first_is_complete : HasOnlyCompleteLines 10 (codes "a\nb\n")

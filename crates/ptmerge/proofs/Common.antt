@@ -21,23 +21,31 @@ pub use Rattle.ptlines.proofs.ReadLine.{advance_ok_trans, line_of_with_line, adv
 pub use Rattle.ptlines.proofs.Push.{push_nothing, push_trans}
 pub use Rattle.ptlines.proofs.TextLaws.{unlines-append}
 pub use Rattle.ptlines.specs.Received.{IsConsistent, IsPrefix, Received, known_lines}
-pub use Rattle.ptlines.specs.Outputs.{Output, PushPost, PushEffect}
-pub use Rattle.ptlines.specs.Readers.{Reader, budget}
-pub use Rattle.ptlines.specs.Slots.{Slots, line, total_bytes, with_new_slot, with_denied, with_line}
-pub use Rattle.ptlines.specs.Text.{AreLines, IsLine, complete_lines, lines, max_length, unlines, is_blank}
-pub use specs.JoinGroup.{ClearGroupPost, CopyToGroupPost, group}
+pub use Rattle.ptlines.specs.Calls.Outputs.{Output, PushPost, PushEffect}
+pub use Rattle.ptlines.specs.Readers.{Reader}
+pub use Rattle.ptlines.specs.Calls.Readers.{budget}
+pub use Rattle.ptlines.specs.Slots.{Slots, total_bytes}
+pub use Rattle.ptlines.specs.Calls.Slots.{line, with_new_slot, with_denied, with_line}
+pub use Rattle.ptlines.specs.Laws.Text.{AreLines}
+pub use Rattle.ptlines.specs.Calls.Text.{IsLine}
+pub use Rattle.ptlines.specs.Text.{complete_lines, lines, max_length, unlines, is_blank}
+pub use specs.Private.JoinGroup.{ClearGroupPost, CopyToGroupPost, group}
 pub use specs.Join.{output_separator, entry, join_fields, other_fields, pair_entries}
-pub use specs.JoinFields.{is_separator, entry_with_list, remaining_fields, is_single_spaced, with_prefix}
+pub use specs.Private.JoinFields.{is_separator, entry_with_list, remaining_fields, is_single_spaced, with_prefix}
 pub use specs.MergeSpec.{FirstDisorder, Lines, MergeTool, entries_by_key, disorder, distinct_keys, entries_of_key}
 pub use specs.MergeSpec.{first_disorder, keys, lines_of, merged_entries, sorted_prefixes, sorted_prefix, is_up_to}
 pub use specs.MergeSpec.{lines_with_key}
-pub use specs.WriteAndAdvance.{IsReadyToContinue, AdvanceOkPost, WriteFaultPost, AdvancePre}
-pub use specs.MergeCall.{MergeRunPre, MergePost, MergeState, merge_state, disordered_line, HasNoLine}
-pub use specs.MergeCall.{IsFirstLineAndBlock}
-pub use specs.Orders.{Cmp, Key, byte_cmp, line_cmp}
-pub use specs.Cursor.{NextOkPost, HasSlots, same_key_at, status_at}
-pub use specs.Sides.{both, other, with_side}
-pub use specs.MergeSteps.{HaveEqualKeys, PrecedesInput, HasOnlyLeastKey}
+pub use specs.Private.WriteAndAdvance.{IsReadyToContinue, AdvanceOkPost, WriteFaultPost, AdvancePre}
+pub use specs.Private.MergeCall.{MergeRunPre}
+pub use specs.Calls.MergeCall.{MergePost, MergeState, merge_state, HasNoLine}
+pub use specs.MergeCall.{disordered_line}
+pub use specs.Calls.MergeCall.{IsFirstLineAndBlock}
+pub use Rattle.ptlines.specs.ByteOrder.{Cmp, byte_cmp}
+pub use specs.Orders.{Key, line_cmp}
+pub use specs.Calls.Cursor.{NextOkPost, HasSlots, same_key_at, status_at}
+pub use specs.Sides.{both}
+pub use specs.Calls.Sides.{other, with_side}
+pub use specs.Calls.MergeSteps.{HaveEqualKeys, PrecedesInput, HasOnlyLeastKey}
 pub use specs.declared.faults.MergeFault.{MergeFault}
 pub use specs.declared.faults.MergeFault.TheVariants.{Memory, Write}
 pub use specs.declared.merging.cursor.Sorted.{Sorted}

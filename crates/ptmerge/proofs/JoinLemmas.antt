@@ -8,8 +8,9 @@ use Rattle.ptmerge.specs
 use proofs.Common.{cond, ◌*◌, Err, flat_map-append, Cmp, MergeFault, IsReadyToContinue, AdvanceOkPost, MergePost}
 use proofs.Common.{both, lines_of, Memory, HaveEqualKeys, HasOnlyLeastKey, ◌⊎◌, AdvancePre}
 use proofs.Common.{push_nothing, inl, inr, ◌==◌, length_push, nil_from_length}
-use specs.JoinGroup.{IsInItsSlot, IsCopiedToGroup, ReadGroupLineOkPost, ReadGroupLinePost, IsGroup, JoinStepPre}
-use specs.JoinGroup.{JoinLinePre, group_end_slot, group_first_slot}
+use specs.Private.JoinGroup.{IsInItsSlot, IsCopiedToGroup, ReadGroupLineOkPost, ReadGroupLinePost, IsGroup}
+use specs.Private.JoinGroup.{JoinStepPre}
+use specs.Private.JoinGroup.{JoinLinePre, group_end_slot, group_first_slot}
 use proofs.MergeLemmas.{BetweenSteps, between_next, advance_pre, reads_less, alone, wrote_alone}
 use proofs.MergeLemmas.{alone_breaks, reads_ahead, place_is, LoopInvariant, Extends, input_split_of, extends}
 use proofs.MergeLemmas.{extends_on, runs_on, valid_cursors_kept, wrote_and_sent, others_stay, IsLineByLine, IsOpenMerge}
@@ -17,7 +18,8 @@ use proofs.MergeLemmas.{exit_is_merge_post, continues, same_bound, bounds_change
 use specs.declared.tools.join.JoinPhase.{JoinPhase}
 use specs.declared.tools.join.JoinPhase.TheVariants as phases
 use Rattle.std.proofs.lemmas.Bool.{false≢true}
-use specs.Join.{unpaired_entries1, unpaired_entry, join_with, join_entries, join_key}
+use specs.Join.{unpaired_entries1, join_with, join_entries, join_key}
+use specs.Private.Join.{unpaired_entry}
 use Group.*
 
 -- ---- the output, by lines and by pairs

@@ -6,10 +6,12 @@ use Rattle.ptmerge.specs
 use proofs.Common.{AdvancePre, IsReadyToContinue, PrecedesInput, MergeRunPre, WriteFaultPost, budget, CopyToGroupPost}
 use proofs.Common.{Ok, IsErrAnd, HasOnlyLeastKey}
 use specs.declared.faults.MergeFault.TheVariants as faults
-use specs.Cursor.{NextErrPost, NextLinePost, HasDistinctSlots, initial_cursor, base_slot}
-use specs.MergeSteps.{StartErrPost, StartFirstPost, MergeInputs, IsReaderOf, IsReportable, AreValidCursors, StartOkPost}
-use specs.MergeSteps.{merge_inputs, previous_key, IsDisorderDecided}
-use Rattle.ptlines.specs.Calls.{AllPushed}
+use specs.Calls.Cursor.{NextErrPost, NextLinePost, HasDistinctSlots, initial_cursor, base_slot}
+use specs.Calls.MergeSteps.{StartErrPost, StartFirstPost, MergeInputs, IsReaderOf, IsReportable, AreValidCursors}
+use specs.Calls.MergeSteps.{StartOkPost}
+use specs.Calls.MergeSteps.{merge_inputs, IsDisorderDecided}
+use specs.Private.MergeSteps.{previous_key}
+use Rattle.ptlines.specs.Calls.Engines.{AllPushed}
 pub use Exits.*
 
 -- ---- keys that may follow

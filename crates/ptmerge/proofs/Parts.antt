@@ -21,8 +21,8 @@ use lemmas.List.Sorted.{IsPermutation-append_comm}
 use Rattle.std.specs.List.Sorted.{IsPermutation}
 use Rattle.ptlines.proofs.TextLaws.{lines-unlines, lines_are}
 use Rattle.ptlines.proofs.PartLaws.{the_lines_of_parts}
-use specs.Parts.{CommByKey, IsSplittableByKey, IsConcatOfParts, JoinByKey, CommOfParts, JoinOfParts, text_of_part}
-use specs.Parts.{output_lines}
+use specs.Laws.Parts.{CommByKey, IsSplittableByKey, IsConcatOfParts, JoinByKey, CommOfParts, JoinOfParts, text_of_part}
+use specs.Laws.Parts.{output_lines}
 
 kept_parts : (p : List ℕ → Bool) (key : Key) (xs ys : Lines) → EachKey (λ k. p k ≡ true) key xs
     → EachKey (λ k. p k ≡ false) key ys

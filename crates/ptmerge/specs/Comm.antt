@@ -6,7 +6,8 @@ use Rattle.ptlangs.specs.Jobs.{Comm}
 use Rattle.ptmerge.specs.declared.key_order.Side.{Side}
 use Rattle.ptmerge.specs.declared.key_order.Side.TheVariants.{First, Second}
 use Rattle.ptmerge.specs.MergeSpec.{MergeTool}
-use Rattle.ptmerge.specs.Orders.{Cmp, Key, line_cmp, whole_line}
+use Rattle.ptlines.specs.ByteOrder.{Cmp}
+use Rattle.ptmerge.specs.Orders.{Key, line_cmp, whole_line}
 
 -- A tab for an earlier column, if it is shown.
 abbrev pub tab_if_shown : Bool → List ℕ

@@ -3,17 +3,18 @@ use Rattle.std.specs.Prelude.{ℕ, ◌-◌, ◌+◌, ◌*◌, ◌==◌, List, []
 use Rattle.std.specs.Prelude.{Bool, true, false, if◌then◌else◌, slice_index_or, remove}
 use Rattle.std.specs.List.{flat_map, slice_split, join_with_byte}
 use Rattle.std.specs.Str.{byte}
-use Rattle.ptlines.specs.Slots.{total_bytes}
-use Rattle.ptlines.specs.Text.{max_length, is_blank}
 use Rattle.ptlangs.specs.Jobs.{Join}
-use Rattle.ptlangs.specs.declared.outlist.File.TheVariants as files
 use Rattle.ptlangs.specs.declared.outlist.OutField.{OutField}
-use Rattle.ptlangs.specs.declared.outlist.OutField.TheVariants as items
+use Rattle.ptlines.specs.ByteOrder.{Cmp}
+use Rattle.ptlines.specs.Slots.{total_bytes}
+use Rattle.ptlines.specs.Text.{is_blank, max_length}
+use Rattle.ptmerge.specs.MergeSpec.{Lines, MergeTool, lines_with_key}
+use Rattle.ptmerge.specs.Orders.{Key, line_cmp}
+use Rattle.ptmerge.specs.Sides.{both}
 use Rattle.ptmerge.specs.declared.key_order.Side.{Side}
 use Rattle.ptmerge.specs.declared.key_order.Side.TheVariants.{First, Second}
-use Rattle.ptmerge.specs.MergeSpec.{Lines, MergeTool, lines_with_key}
-use Rattle.ptmerge.specs.Orders.{Cmp, Key, line_cmp}
-use Rattle.ptmerge.specs.Sides.{both}
+use Rattle.ptlangs.specs.declared.outlist.File.TheVariants as files
+use Rattle.ptlangs.specs.declared.outlist.OutField.TheVariants as items
 
 -- ---- fields
 
@@ -83,11 +84,6 @@ unpaired_entries1 job k g = if job.unpaired1 then map (λ a. entry job k (join_f
 -- The output lines of unpaired lines of the second file, if the options ask for them.
 abbrev pub unpaired_entries2 : Join → List ℕ → Lines → Lines
 unpaired_entries2 job k g = if job.unpaired2 then map (λ b. entry job k [] (join_fields job.separator b)) g else []
-
--- The output of one unpaired line of a file.
-abbrev pub unpaired_entry : Join → Side → List ℕ → Lines
-unpaired_entry job First line = unpaired_entries1 job (join_key job First line) (line ∷ [])
-unpaired_entry job Second line = unpaired_entries2 job (join_key job Second line) (line ∷ [])
 
 -- The output lines for the lines `g1` and `g2` with the key `k` in the two files.
 abbrev pub join_entries : Join → List ℕ → Lines → Lines → Lines

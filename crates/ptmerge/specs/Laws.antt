@@ -1,2 +1,3 @@
 -- Theorems about the definitions, which public functions state.
 pub mod Outputs
+pub mod Parts

@@ -4,11 +4,12 @@ use Rattle.std.specs.Prelude.{ℕ, ◌+◌, ◌&&◌, ◌||◌, cond, List, [], 
 use Rattle.std.specs.Prelude.{is_some, Bool, true, false, nat_lt, bytes_eq, if◌then◌else◌, unwrap_or}
 use Rattle.std.specs.List.{flat_map, last_or}
 use Rattle.std.specs.Ordering.{match_ordering, is_lt, is_gt, is_le}
+use Rattle.ptlines.specs.ByteOrder.{Cmp}
 use Rattle.ptlines.specs.Received.{Received, known_lines}
-use Rattle.ptlines.specs.Text.{unlines, lines}
+use Rattle.ptlines.specs.Text.{lines, unlines}
+use Rattle.ptmerge.specs.Orders.{Key}
 use Rattle.ptmerge.specs.declared.key_order.Side.{Side}
 use Rattle.ptmerge.specs.declared.key_order.Side.TheVariants.{First, Second}
-use Rattle.ptmerge.specs.Orders.{Cmp, Key}
 
 -- A list of lines.
 abbrev pub Lines : Type 0
@@ -155,14 +156,3 @@ decided_entries tool eof ls = entries_by_key tool (is_decided tool eof ls) (sort
 abbrev pub decided_output : MergeTool → (Side → Received) → List ℕ
 decided_output tool given = unlines tool.terminator (decided_entries tool (λ side. (given side).eof)
     (λ side. known_lines tool.terminator (given side)))
-
--- A disorder is decided once the output up to its last key is.
-abbrev pub lines_decide_disorder : MergeTool → (Side → Bool) → (Side → Lines) → Option MergeDisorder → Bool
-lines_decide_disorder tool eof ls None = false
-lines_decide_disorder tool eof ls (Some d) = is_decided tool eof ls d.first_disorder.last_key
-
--- The bytes received so far decide a disorder, so that the merge can stop.
-abbrev pub disorder_is_decided : MergeTool → (Side → Received) → Bool
-disorder_is_decided tool given =
-    let ls : Side → Lines = λ side. known_lines tool.terminator (given side) in
-    lines_decide_disorder tool (λ side. (given side).eof) ls (disorder tool ls)

@@ -6,13 +6,3 @@ use Rattle.ptmerge.specs.declared.key_order.Side.TheVariants.{First, Second}
 abbrev pub both : {X : Type 0} → X → X → Side → X
 both x y First = x
 both x y Second = y
-
--- A function of the side, with the value for one side replaced.
-abbrev pub with_side : {X : Type 0} → Side → X → (Side → X) → Side → X
-with_side First x f = both x (f Second)
-with_side Second x f = both (f First) x
-
--- The opposite side.
-abbrev pub other : Side → Side
-other First = Second
-other Second = First

@@ -5,8 +5,9 @@ ghost use Rattle.std.specs.Prelude.{◌≡◌, ◌≤◌, ℕ, List, length};
 ghost use Rattle.std.specs.List.{slice_range};
 ghost use Rattle.std.specs.Cmp.{IsTotalOrder};
 ghost use Rattle.std.specs.declared.cmp.Ordering.TheVariants.{Equal};
-ghost use Rattle.ptmerge.specs.Orders.{Cmp, Key};
-ghost use Rattle.ptmerge.specs.KeySpan.{IsKeySpan};
+ghost use Rattle.ptlines.specs.ByteOrder.{Cmp};
+ghost use Rattle.ptmerge.specs.Orders.{Key};
+ghost use Rattle.ptmerge.specs.Calls.KeySpan.{IsKeySpan};
 ghost use Rattle.ptmerge.specs.declared.key_order.Side.{Side as SideType};
 
 use ptlines::compare;
@@ -77,8 +78,9 @@ pub struct WholeLine;
 
 impl KeyOrder for WholeLine {
     ghost use Rattle.std.specs.Cmp.Lexicographic.{nat_list_cmp_total};
-    ghost use Rattle.ptmerge.specs.Orders.{byte_cmp, whole_line};
-    ghost use Rattle.ptmerge.specs.OrderLaws.{byte_cmp_equal};
+    ghost use Rattle.ptlines.specs.ByteOrder.{byte_cmp};
+    ghost use Rattle.ptmerge.specs.Orders.{whole_line};
+    ghost use Rattle.ptlines.specs.Private.ByteOrder.{byte_cmp_equal};
 
     ghost key_of = { λ s. whole_line };
 
@@ -118,7 +120,7 @@ pub struct Descending<K: KeyOrder> {
 impl<K: KeyOrder> KeyOrder for Descending<K> {
     ghost use Rattle.std.specs.Ordering.{flip_args};
     ghost use Rattle.std.proofs.lemmas.Cmp.{back_total};
-    ghost use Rattle.ptmerge.specs.OrderLaws.{reversed_same_bytes};
+    ghost use Rattle.ptmerge.specs.Private.OrderLaws.{reversed_same_bytes};
 
     ghost key_of = { λ s. K.key_of s.of };
 

@@ -2,7 +2,7 @@
 //! parallel. After them laws of their output for whole inputs, by which a reader can judge the definitions.
 
 ghost use Rattle.ptmerge.specs.Laws.Outputs.{CommOfItself, CommSharesFirst, CommSwapped, JoinCounts};
-ghost use Rattle.ptmerge.specs.Parts.{CommOfParts, JoinOfParts, CommByKey, JoinByKey};
+ghost use Rattle.ptmerge.specs.Laws.Parts.{CommOfParts, JoinOfParts, CommByKey, JoinByKey};
 
 /// States that the output of `comm` is the output for a first part of each file followed by the output for the rest of
 /// each file, if both files are split at the same key: each first part is empty or ends with a line terminator, the

@@ -4,13 +4,15 @@
 
 ghost use Rattle.std.specs.Prelude.{◌≡◌, None, false, [], OnOk, IfOk, IfErr};
 ghost use Rattle.std.specs.Ordering.{is_gt};
-ghost use Rattle.ptlines.specs.Outputs.{PushEffect};
-ghost use Rattle.ptlines.specs.Slots.{line};
-ghost use Rattle.ptmerge.specs.WriteAndAdvance.{WriteThenAdvancePost, AdvancePre};
-ghost use Rattle.ptmerge.specs.Cursor.{NextPost};
-ghost use Rattle.ptmerge.specs.Sides.{both, other};
-ghost use Rattle.ptmerge.specs.MergeSteps.{merge_inputs, AreValidCursors, IsReaderOf, StepPost, StartOkPost};
-ghost use Rattle.ptmerge.specs.MergeSteps.{StartErrPost, previous_key};
+ghost use Rattle.ptlines.specs.Calls.Outputs.{PushEffect};
+ghost use Rattle.ptlines.specs.Calls.Slots.{line};
+ghost use Rattle.ptmerge.specs.Private.WriteAndAdvance.{WriteThenAdvancePost, AdvancePre};
+ghost use Rattle.ptmerge.specs.Calls.Cursor.{NextPost};
+ghost use Rattle.ptmerge.specs.Sides.{both};
+ghost use Rattle.ptmerge.specs.Calls.Sides.{other};
+ghost use Rattle.ptmerge.specs.Calls.MergeSteps.{merge_inputs, AreValidCursors, IsReaderOf, StepPost, StartOkPost};
+ghost use Rattle.ptmerge.specs.Calls.MergeSteps.{StartErrPost};
+ghost use Rattle.ptmerge.specs.Private.MergeSteps.{previous_key};
 
 pub(crate) mod cursor;
 pub(crate) mod four_slots;

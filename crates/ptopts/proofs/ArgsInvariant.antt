@@ -3,7 +3,7 @@ use Rattle.ptopts.proofs
 use proofs.Common.{Bool, Bor, Fault, GroupPost, List, OnSome, Option, ParsedOption, Token, Tool, [], arith, usual}
 use proofs.Common.{is_end_of_options, is_option_arg, length, options, parse_fault, parsed_args, slice_get, tokens_of}
 use proofs.Common.{false, true, words_view, ℕ, ◌++◌, ◌<◌, ◌∷◌, ◌≡◌}
-use Rattle.ptopts.specs.ParseSteps.{next_view, words_after_value}
+use Rattle.ptopts.specs.Private.ParseSteps.{next_view, words_after_value}
 use Rattle.std.proofs.lemmas.List.Elements.{filter_map-append}
 use Rattle.std.proofs.lemmas.Option.{slice_get-map}
 

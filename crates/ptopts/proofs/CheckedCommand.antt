@@ -8,7 +8,8 @@ use proofs.Common.{sym, tool_of_name, with_inputs, ℕ, ◌∙◌, ◌∷◌, �
 use Rattle.ptlangs.specs.Results.{IsFault}
 use specs.Faults.{strings_fault}
 use specs.declared.inputs.Inputs.{Inputs}
-use specs.Commands.{checked_command, output, values_fault}
+use specs.Private.Commands.{checked_command}
+use specs.Commands.{output, values_fault}
 
 pub checked_command_ok : {A : Type 0} (tool : Tool) (os : List ParsedOption) (operands : List (List ℕ))
     (i : Inputs A) {told : Job}

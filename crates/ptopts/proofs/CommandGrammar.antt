@@ -6,7 +6,7 @@ use proofs.Common.{append_assoc, arith, command_of_args, command_of_tool, false,
 use proofs.Common.{ok_unless, options, parse_fault, parsed_args, refl, sym, tool_of_name, ℕ, ◌++◌, ◌∷◌, ◌≡◌}
 use proofs.ParsedIsSpelled.{options-map, spelled_if_fine}
 use proofs.SpelledIsParsed.{spelled}
-use Rattle.ptopts.specs.Theorems.{CommandsMatchGrammar, Spelled, SpellsCommand}
+use Rattle.ptopts.specs.Laws.Theorems.{CommandsMatchGrammar, Spelled, SpellsCommand}
 
 -- like `AreGivenOnce`, for options after others
 abbrev AreGivenOnceAfter : Tool → List ParsedOption → List ParsedOption → Type 0

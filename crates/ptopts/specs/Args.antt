@@ -7,8 +7,8 @@ use Rattle.std.specs.List.{list_all, list_any}
 use Rattle.std.specs.Option.{option_map_or}
 use Rattle.std.specs.Str.{byte}
 use Rattle.ptlangs.specs.Numbers.{is_empty}
-use Rattle.ptopts.specs.declared.tool.Tool.{Tool}
 use Rattle.ptopts.specs.Syntax.{syntax, tools}
+use Rattle.ptopts.specs.declared.tool.Tool.{Tool}
 
 -- the tool with this name; `None` if there is none
 abbrev pub tool_of_name : List ℕ → Option Tool
@@ -47,35 +47,6 @@ is_end_of_options word = bytes_eq word (codes "--")
 abbrev pub is_option_arg : List ℕ → Bool
 is_option_arg [] = false
 is_option_arg (b ∷ bs) = (b == byte "-") && not (is_empty bs)
-
--- there is no word, or the first one is an operand
-abbrev pub starts_with_operand : List (List ℕ) → Bool
-starts_with_operand [] = true
-starts_with_operand (word ∷ words) = not (is_option_arg word)
-
--- ---- the grammar: words, the options in them, and the operands after these
-
--- all letters are options without a value
-abbrev pub AreFlags : Tool → List ℕ → Type 0
-AreFlags tool letters = IsTrue (list_all (is_flag tool) letters)
-
--- the words give these options and operands
-pub data Spells (tool : Tool) : List (List ℕ) → List ParsedOption → List (List ℕ) → Type 0 where
-  OperandsAlone : (operands : List (List ℕ)) → IsTrue (starts_with_operand operands) → Spells tool operands [] operands
-  EndOfOptions : (operands : List (List ℕ)) → Spells tool (codes "--" ∷ operands) [] operands
-  Flags : (f : ℕ) (fs : List ℕ) (words : List (List ℕ)) (options : List ParsedOption) (operands : List (List ℕ))
-      → AreFlags tool (f ∷ fs) → Spells tool words options operands
-      → Spells tool ((byte "-" ∷ f ∷ fs) ∷ words) (map flag (f ∷ fs) ++ options) operands
-  ValueAttached : (fs : List ℕ) (letter b : ℕ) (bs : List ℕ) (words : List (List ℕ)) (options : List ParsedOption)
-      (operands : List (List ℕ))
-      → AreFlags tool fs → IsTrue (takes_value tool letter) → Spells tool words options operands
-      → Spells tool ((byte "-" ∷ fs ++ letter ∷ b ∷ bs) ∷ words) (map flag fs ++ with_value letter (b ∷ bs) ∷ options)
-      operands
-  ValueNext : (fs : List ℕ) (letter : ℕ) (value : List ℕ) (words : List (List ℕ)) (options : List ParsedOption)
-      (operands : List (List ℕ))
-      → AreFlags tool fs → IsTrue (takes_value tool letter) → Spells tool words options operands
-      → Spells tool ((byte "-" ∷ fs ++ letter ∷ []) ∷ value ∷ words) (map flag fs ++ with_value letter value ∷ options)
-      operands
 
 -- ---- the parse from left to right, which also has faulty tokens
 

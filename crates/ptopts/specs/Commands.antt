@@ -8,27 +8,27 @@ use Rattle.std.specs.Result.{result_unwrap_or}
 use Rattle.std.specs.Str.{byte}
 use Rattle.ptlangs.specs.CutLists.{selection}
 use Rattle.ptlangs.specs.DelimLists.{delim_list}
-use Rattle.ptlangs.specs.OutLists.{out_list}
 use Rattle.ptlangs.specs.Numbers.{number}
+use Rattle.ptlangs.specs.OutLists.{out_list}
 use Rattle.ptlangs.specs.TrPlan.{Plan}
 use Rattle.ptlangs.specs.TrTables.{Tables, tables}
-use Rattle.ptlangs.specs.Jobs as jobs
 use Rattle.ptlangs.specs.declared.jobs.Show.{Show}
 use Rattle.ptlangs.specs.declared.jobs.Show.TheVariants.{All, Counts, Repeated, Single}
 use Rattle.ptlangs.specs.declared.outlist.OutField.{OutField}
-use Rattle.ptopts.specs.declared.tool.Tool.{Tool}
-use Rattle.ptopts.specs.declared.tool.Tool.TheVariants.{Cut, Paste, Uniq, Comm, Join, Tr}
-use Rattle.ptopts.specs.declared.inputs.Input.{Input}
-use Rattle.ptopts.specs.declared.inputs.Input.TheVariants.{Standard, File}
-use Rattle.ptopts.specs.declared.inputs.Inputs.{Inputs}
-use Rattle.ptopts.specs.declared.command.Command as code
-use Rattle.ptopts.specs.declared.command.Command.TheVariants as parsed
-use Rattle.ptopts.specs.Args.{ParsedOption, tool_of_name, ParsedArgs, parsed_args, options, has_option, value_of}
+use Rattle.ptopts.specs.Args.{ParsedArgs, ParsedOption, has_option, options, parsed_args, tool_of_name, value_of}
 use Rattle.ptopts.specs.Args.{values_of}
-use Rattle.ptopts.specs.Faults.{Fault, NoTool, first_some, terminator_of_options, cut_list_value, parse_fault}
-use Rattle.ptopts.specs.Faults.{constraints_fault, value_fault, each_value_fault, is_cut_list, is_delimiter_list}
-use Rattle.ptopts.specs.Faults.{is_delimiter_value, is_count, is_file_number, is_output_list, is_field_number}
-use Rattle.ptopts.specs.Faults.{operands_fault, strings_fault, plan_of_operands, is_standard}
+use Rattle.ptopts.specs.Faults.{Fault, NoTool, constraints_fault, cut_list_value, each_value_fault, first_some}
+use Rattle.ptopts.specs.Faults.{is_count, is_cut_list, is_delimiter_list, is_delimiter_value, is_field_number}
+use Rattle.ptopts.specs.Faults.{is_file_number, is_output_list, is_standard, operands_fault, parse_fault}
+use Rattle.ptopts.specs.Faults.{plan_of_operands, strings_fault, terminator_of_options, value_fault}
+use Rattle.ptopts.specs.declared.inputs.Input.{Input}
+use Rattle.ptopts.specs.declared.inputs.Input.TheVariants.{File, Standard}
+use Rattle.ptopts.specs.declared.inputs.Inputs.{Inputs}
+use Rattle.ptopts.specs.declared.tool.Tool.{Tool}
+use Rattle.ptopts.specs.declared.tool.Tool.TheVariants.{Comm, Cut, Join, Paste, Tr, Uniq}
+use Rattle.ptopts.specs.declared.command.Command as code
+use Rattle.ptlangs.specs.Jobs as jobs
+use Rattle.ptopts.specs.declared.command.Command.TheVariants as parsed
 
 -- the options of a tool
 pub data Job : Type 0 where
@@ -243,13 +243,6 @@ command tool os operands = command_over (job tool os operands) (input_operands t
 abbrev pub ok_unless : {A E : Type 0} → Option E → A → Result A E
 ok_unless None x = Ok x
 ok_unless (Some e) x = Err e
-
--- the command of options that meet the constraints of the tool, or the first fault of the values, the operands and the
--- strings
-abbrev pub checked_command : Tool → List ParsedOption → List (List ℕ) → Result Command Fault
-checked_command tool os operands = ok_unless
-    (first_some (values_fault tool os ∷ operands_fault tool os operands ∷ strings_fault tool os operands ∷ []))
-    (command tool os operands)
 
 -- the first fault: first that of parsing, then of the constraints, the values, the operands, and last the strings
 abbrev pub first_fault : Tool → ParsedArgs → Option Fault

@@ -14,13 +14,15 @@ use Rattle.ptlangs.specs.Jobs.{terminator}
 use Rattle.ptlangs.specs.TrPlan.{Plan, plan}
 use Rattle.ptlangs.specs.declared.faults.SetFault.{SetFault}
 use Rattle.ptlangs.specs.declared.tr.plan.Form.{Form}
-use Rattle.ptlangs.specs.declared.tr.plan.Form.TheVariants.{Translate, TranslateSqueeze, Squeeze, Delete, DeleteSqueeze}
+use Rattle.ptlangs.specs.declared.tr.plan.Form.TheVariants.{Translate, TranslateSqueeze, Squeeze, Delete}
+use Rattle.ptlangs.specs.declared.tr.plan.Form.TheVariants.{DeleteSqueeze}
 use Rattle.ptopts.specs.declared.tool.Tool.{Tool}
 use Rattle.ptopts.specs.declared.tool.Tool.TheVariants.{Tr}
 use Rattle.ptopts.specs.declared.tool.Constraint.{Constraint}
 use Rattle.ptopts.specs.declared.tool.Constraint.TheVariants.{Conflict, Required}
 use Rattle.ptopts.specs.Syntax.{syntax}
-use Rattle.ptopts.specs.Args.{ParsedOption, Token, Valid, MissingValue, UnknownLetter, has_option, has_letter, value_of}
+use Rattle.ptopts.specs.Args.{ParsedOption, Token, Valid, MissingValue, UnknownLetter, has_option, has_letter}
+use Rattle.ptopts.specs.Args.{value_of}
 use Rattle.ptopts.specs.Args.{values_of}
 
 -- a fault; the letters are those of the options at fault

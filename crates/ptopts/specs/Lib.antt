@@ -1,7 +1,7 @@
-pub mod Syntax
 pub mod Args
-pub mod Faults
 pub mod Commands
+pub mod Faults
+pub mod Laws
+pub mod Private
+pub mod Syntax
 pub mod View
-pub mod Theorems
-pub mod ParseSteps

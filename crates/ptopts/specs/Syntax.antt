@@ -3,11 +3,10 @@
 -- is reported first, that `-v` may be repeated, and the limit of 512 operands.
 use Prim.Native.String.{String}
 use Rattle.std.specs.Prelude.{ℕ, List, [], ◌∷◌, Bool, true, false, codes, slice_index}
-use Rattle.ptopts.specs.declared.tool.Tool.{Tool}
-use Rattle.ptopts.specs.declared.tool.Tool.TheVariants.{Cut, Paste, Uniq, Comm, Join, Tr}
 use Rattle.ptopts.specs.declared.tool.Constraint.{Constraint}
 use Rattle.ptopts.specs.declared.tool.Constraint.TheVariants.{Conflict, Required}
-use Rattle.ptopts.specs.declared.tool.Syntax as code
+use Rattle.ptopts.specs.declared.tool.Tool.{Tool}
+use Rattle.ptopts.specs.declared.tool.Tool.TheVariants.{Comm, Cut, Join, Paste, Tr, Uniq}
 
 -- the options and operands that a tool accepts
 pub record Syntax : Type 0 where
@@ -69,15 +68,3 @@ syntax Uniq = tool_syntax "cduz" "fs" "" (constraints Uniq) 0 2 false
 syntax Comm = tool_syntax "123rz" "" "" (constraints Comm) 2 2 true
 syntax Join = tool_syntax "rz" "aveot12" "av" (constraints Join) 2 2 true
 syntax Tr = tool_syntax "cCds" "" "" (constraints Tr) 1 2 false
-
--- the view of a syntax of the code
-abbrev pub syntax_view : code.Syntax → Syntax
-syntax_view tool_syntax = record {
-  flags = tool_syntax.flags.now;
-  value_letters = tool_syntax.value_letters.now;
-  repeatable = tool_syntax.repeatable.now;
-  constraints = tool_syntax.constraints.now;
-  min_operands = tool_syntax.min_operands;
-  max_operands = tool_syntax.max_operands;
-  stdin_once = tool_syntax.stdin_once;
-}

@@ -3,9 +3,11 @@
 
 ghost use Rattle.std.specs.Prelude.{◌≡◌, IfOk, None, option_map};
 ghost use Rattle.ptopts.specs.Faults.{constraints_fault, operands_fault};
-ghost use Rattle.ptopts.specs.Commands.{checked_command, command_of_args, input_operands, output};
-ghost use Rattle.ptopts.specs.View.{words_view, command_view, CommandPost, HasToolName};
-ghost use Rattle.ptopts.specs.ParseSteps.{CheckThenMemoryPost, AreInputs, options_of, operands_of};
+ghost use Rattle.ptopts.specs.Private.Commands.{checked_command};
+ghost use Rattle.ptopts.specs.Commands.{command_of_args, input_operands, output};
+ghost use Rattle.ptopts.specs.Commands.{words_view, command_view};
+ghost use Rattle.ptopts.specs.View.{CommandPost, HasToolName};
+ghost use Rattle.ptopts.specs.Private.ParseSteps.{CheckThenMemoryPost, AreInputs, options_of, operands_of};
 
 mod comm;
 mod cut;

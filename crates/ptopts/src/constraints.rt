@@ -2,7 +2,7 @@
 
 ghost use Rattle.std.specs.Prelude.{is_some, ◌≡◌, ◌∷◌, []};
 ghost use Rattle.ptopts.specs.Faults.{first_some, constraint_fault, constraints_fault, first_value};
-ghost use Rattle.ptopts.specs.ParseSteps.{CheckPost, options_of};
+ghost use Rattle.ptopts.specs.Private.ParseSteps.{CheckPost, options_of};
 
 use crate::fault::UseFault;
 use crate::parsing::ParsedArgs;

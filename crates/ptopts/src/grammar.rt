@@ -1,7 +1,7 @@
 //! Theorems on the grammar of command lines, each as the contract of a public function.
 
-ghost use Rattle.ptopts.specs.Theorems.{ParseMatchesGrammar, GrammarIsUnambiguous, FaultlessIsSpelled};
-ghost use Rattle.ptopts.specs.Theorems.{CommandsMatchGrammar};
+ghost use Rattle.ptopts.specs.Laws.Theorems.{ParseMatchesGrammar, GrammarIsUnambiguous, FaultlessIsSpelled};
+ghost use Rattle.ptopts.specs.Laws.Theorems.{CommandsMatchGrammar};
 
 /// Does nothing at run time. Its contract states that the grammar of words (POSIX.1-2017, XBD 12.2) and their parse
 /// from left to right agree. The grammar gives words the options and operands of their parse, and no others; and if the

@@ -2,8 +2,8 @@
 //! them.
 
 ghost use Rattle.std.specs.Prelude.{IfOk, [], ◌∷◌, codes, option_map};
-ghost use Rattle.ptopts.specs.View.{words_view};
-ghost use Rattle.ptopts.specs.ParseSteps.{AreInputs};
+ghost use Rattle.ptopts.specs.Commands.{words_view};
+ghost use Rattle.ptopts.specs.Private.ParseSteps.{AreInputs};
 
 use crate::operand_checks::is_standard;
 use std::alloc::{AllocError, Allocator, Global};

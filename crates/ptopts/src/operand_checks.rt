@@ -6,8 +6,8 @@ ghost use Rattle.std.specs.Prelude.{◌≡◌, length};
 ghost use Rattle.std.specs.List.{list_all};
 ghost use Rattle.ptopts.specs.Faults as faults;
 ghost use Rattle.ptopts.specs.Faults.{operands_fault};
-ghost use Rattle.ptopts.specs.View.{words_view};
-ghost use Rattle.ptopts.specs.ParseSteps.{CheckPost, options_of, operands_of};
+ghost use Rattle.ptopts.specs.Commands.{words_view};
+ghost use Rattle.ptopts.specs.Private.ParseSteps.{CheckPost, options_of, operands_of};
 
 use crate::fault::UseFault;
 use crate::parsing::ParsedArgs;

@@ -4,9 +4,11 @@
 ghost use Rattle.std.specs.Prelude.{◌≡◌, ◌<◌, length, IfOk, IfErr};
 ghost use Rattle.ptopts.specs.Args.{is_option_arg, has_option, is_flag, Valid};
 ghost use Rattle.ptopts.specs.Faults.{is_repeated, token_fault};
-ghost use Rattle.ptopts.specs.View.{words_view};
-ghost use Rattle.ptopts.specs.ParseSteps.{CheckPost, option_view, options_view, next_view, token_at, words_after_value};
-ghost use Rattle.ptopts.specs.ParseSteps.{GroupPost, GroupFaultPost, ArgsPost, ArgsFaultPost, options_of, operands_of};
+ghost use Rattle.ptopts.specs.Commands.{words_view};
+ghost use Rattle.ptopts.specs.Private.ParseSteps.{CheckPost, option_view, options_view, next_view, token_at};
+ghost use Rattle.ptopts.specs.Private.ParseSteps.{words_after_value};
+ghost use Rattle.ptopts.specs.Private.ParseSteps.{GroupPost, GroupFaultPost, ArgsPost, ArgsFaultPost, options_of};
+ghost use Rattle.ptopts.specs.Private.ParseSteps.{operands_of};
 
 use crate::fault::UseFault;
 use crate::tool::Tool;

@@ -4,7 +4,7 @@ ghost use Rattle.std.specs.Prelude.{◌≡◌, IfOk, if◌then◌else◌, option
 ghost use Rattle.ptopts.specs.Args.{value_of};
 ghost use Rattle.ptopts.specs.Faults.{value_fault, terminator_of_options, is_delimiter_value, is_count};
 ghost use Rattle.ptopts.specs.Commands.{byte_value, number_value};
-ghost use Rattle.ptopts.specs.ParseSteps.{CheckPost, options_of};
+ghost use Rattle.ptopts.specs.Private.ParseSteps.{CheckPost, options_of};
 
 use crate::fault::UseFault;
 use crate::parsing::ParsedArgs;

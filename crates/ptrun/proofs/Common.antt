@@ -1,35 +1,44 @@
 -- Names of other crates and of this crate's specs that many of its proofs import from here.
 use Rattle.ptrun.specs
 use Rattle.std.proofs.lemmas
-pub use Rattle.ptflow.specs.Passes.{PassPost, PassPre, only_input, pass_end, pass_engine}
+pub use Rattle.ptflow.specs.Calls.Passes.{PassPost, PassPre, only_input, pass_end}
+pub use Rattle.ptflow.specs.Passes.{pass_engine}
 pub use Rattle.ptflow.specs.ToolSpec.{ToolSpec}
 pub use Rattle.ptflow.specs.declared.faults.FlowFault.{FlowFault}
 pub use Rattle.ptflow.specs.declared.faults.FlowFault.TheVariants.{Memory, Read, Write}
 pub use Rattle.ptlangs.specs.Jobs.{Paste, paste_job}
 pub use Rattle.ptlines.proofs.Common.{usual}
 pub use Rattle.ptlines.proofs.Push.{push_nothing, push_trans}
-pub use Rattle.ptlines.specs.Calls.{AllPushed, CallOutcome, CallState, call_state, is_in}
-pub use Rattle.ptlines.specs.Lag.{BoundedLag, BufferLag, LaggedInput}
-pub use Rattle.ptlines.specs.Outputs.{IsKnownPrefix, Output, PushEffect}
-pub use Rattle.ptlines.specs.Readers.{HasReadCause, IsDone, IsSound, Reader, no_reader, reader_at}
+pub use Rattle.ptlines.specs.Calls.Engines.{AllPushed, CallOutcome, CallState, call_state}
+pub use Rattle.ptlines.specs.Engines.{is_in}
+pub use Rattle.ptlines.specs.Calls.Lag.{BoundedLag, BufferLag}
+pub use Rattle.ptlines.specs.Lag.{LaggedInput}
+pub use Rattle.ptlines.specs.Calls.Outputs.{IsKnownPrefix, Output, PushEffect}
+pub use Rattle.ptlines.specs.Calls.Readers.{HasReadCause, IsSound}
+pub use Rattle.ptlines.specs.Readers.{IsDone, Reader, no_reader, reader_at}
 pub use Rattle.ptlines.specs.Received.{HasReceived, IsConsistent, IsPrefix, Received, empty_input}
-pub use Rattle.ptlines.specs.Sinks.{SinkState, WriteOutOk}
+pub use Rattle.ptlines.specs.Sinks.{SinkState}
+pub use Rattle.ptlines.specs.Calls.Sinks.{WriteOutOk}
 pub use Rattle.ptlines.specs.Slots.{Slots, total_bytes}
 pub use Rattle.ptopts.specs.Commands.{file_names, order_from}
-pub use Rattle.ptopts.specs.View.{CommandPost, command_view, fault_view, words_view}
+pub use Rattle.ptopts.specs.View.{CommandPost, fault_view}
+pub use Rattle.ptopts.specs.Commands.{command_view, words_view}
 pub use Rattle.ptopts.specs.declared.inputs.Input.{Input}
 pub use specs.CommandSpec.{CommandSpec, ended_operands, messages, unopened_messages}
-pub use specs.Driver.{AreSoundAt, HasIndexBelow, InputsPre, OperandPost, RunInputsEnd, RunInputsPost}
+pub use specs.Private.Driver.{AreSoundAt, HasIndexBelow, InputsPre, OperandPost, RunInputsEnd, RunInputsPost}
 pub use specs.Files.{AreInputsConsistent, AreReadToEnd, HasReadFailed, HaveReceived, InputBytes, IsTooLong}
 pub use specs.Files.{ReceivedInputs, is_reader_unopened, is_unopened}
 pub use specs.Joint.{only_operand}
-pub use specs.Lag.{IsPushedUpToBlock}
-pub use specs.MessageWrites.{HasSaid, SayPost, line_of, texts}
-pub use specs.Messages.{name_of, unopened_message, usage_message, usage_status}
+pub use specs.Private.Lag.{IsPushedUpToBlock}
+pub use specs.MessageWrites.{HasSaid, line_of}
+pub use specs.Calls.MessageWrites.{SayPost, texts}
+pub use specs.Messages.{name_of, unopened_message, usage_message}
+pub use specs.Private.Messages.{usage_status}
 pub use specs.Operands.{DecidesAll, decided_in_order, position, positions, up_to_unended}
 pub use specs.Runs.{HasCause, IsRun, outcome, sinks}
 pub use specs.SpecOfArgs.{command_spec, spec_of_parsed}
-pub use specs.Tools.{OneByOne, Together, ToolInRun, reads_together, spec_of_tool}
+pub use specs.Tools.{OneByOne, Together, ToolInRun, spec_of_tool}
+pub use specs.Private.Tools.{reads_together}
 pub use specs.declared.tool.Completion.{Completion}
 pub use specs.declared.tool.Completion.TheVariants.{AllWritten, Disorder, Unopened}
 pub use Rattle.std.proofs.Common.{Bool, Err, List, None, Ok, Option, Result, Some, [], ap, append_assoc, arith, cond}

@@ -16,15 +16,22 @@ use proofs.MessageWrites.{said_nothing}
 use proofs.OperandInputs.{any_same, at_set, each_listed, fresh_all, is_in-same, lagged_output, none_passes}
 use proofs.OperandInputs.{none_received, opened_set, put_here, put_other, received_of, same_here, some_same}
 use Rattle.ptflow.proofs.PasteLemmas.BufferedRows.Rows.Grid.{cell_in, decided_same}
-use Rattle.ptflow.specs.PasteCall.{PastePost, paste_end, paste_engine, update_at}
-use Rattle.ptlines.specs.Calls.{AreAllConsistent, CallEnd, CallPost, Complete, EngineSpec, InputNames, IsCallUnfinished}
-use Rattle.ptlines.specs.Calls.{MemoryFault, NoReadFailed, OutOfOrder, ReadFault, WriteFault, inputs_at, with_input}
-use Rattle.ptmerge.specs.MergeCall.{MergePost, both_sides, is_same_side, merge_end, merge_engine, merge_state}
+use Rattle.ptflow.specs.Calls.PasteCall.{PastePost, paste_end}
+use Rattle.ptflow.specs.PasteCall.{paste_engine}
+use Rattle.ptflow.specs.Private.PasteCall.{update_at}
+use Rattle.ptlines.specs.Calls.Engines.{AreAllConsistent, CallEnd, CallPost, Complete, InputNames, IsCallUnfinished}
+use Rattle.ptlines.specs.Engines.{EngineSpec}
+use Rattle.ptlines.specs.Calls.Engines.{MemoryFault, NoReadFailed, OutOfOrder, ReadFault, WriteFault, inputs_at}
+use Rattle.ptlines.specs.Calls.Engines.{with_input}
+use Rattle.ptmerge.specs.Calls.MergeCall.{MergePost, both_sides, is_same_side, merge_end, merge_state}
+use Rattle.ptmerge.specs.MergeCall.{merge_engine}
 use Rattle.ptmerge.specs.Sides.{both}
 use Rattle.ptmerge.specs.declared.faults.MergeFault.{MergeFault}
 use Rattle.ptmerge.specs.declared.key_order.Side.{Side}
-use specs.Driver.{JointPost, JointPre, merge_completion, operand_completion, result_of_end, run_state, result_status}
-use specs.Engines.{at_positions, end_at, in_run, line_at}
+use specs.Private.Driver.{JointPost, JointPre, merge_completion, operand_completion, result_of_end, run_state}
+use specs.Private.Driver.{result_status}
+use specs.Engines.{at_positions, line_at}
+use specs.Private.Engines.{end_at, in_run}
 use specs.Files.{IsNew, IsNewOrUnopened, at}
 use Rattle.std.proofs.lemmas.List.{get_or-set_other, get_or-set_same, set-append_left, set-append_right}
 use specs.Joint.{JointTool, bytes_of, has_unopened, joint_spec, one_input_tool, operand, paste_rows_tool, received_in}

@@ -5,7 +5,8 @@ use proofs.Common.{append_known, arith, drop, false, false≢true, flat_map, fla
 use proofs.Common.{get_or-map, length, length-append, length-map, line_of, refl, rules, sym, take, take-append-drop}
 use proofs.Common.{take_more, texts, true, ℕ, ◌++◌, ◌+◌, ◌<◌, ◌∙◌, ◌∷◌, ◌≡◌, ◌≤◌}
 use Rattle.ptlines.proofs.KnownBytes.{append_known-append, append_known-nil, unflushed_after-append}
-use Rattle.ptlines.specs.Sinks.{WriteOutErr, unflushed_after}
+use Rattle.ptlines.specs.Calls.Sinks.{WriteOutErr}
+use Rattle.ptlines.specs.Sinks.{unflushed_after}
 
 pub say_post_part : {old mid new : SinkState} {text piece : List ℕ} (done more : List ℕ)
     → text ≡ (done ++ piece) ++ more → WriteOutOk old mid done → WriteOutErr mid new piece → SayPost old new text false

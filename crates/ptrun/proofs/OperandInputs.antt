@@ -14,7 +14,7 @@ use proofs.Common.{order_from, position, positions, reader_at, refl, rules, set,
 use proofs.Common.{take-append-drop, take_more, true, unopened_message, unopened_messages, up_to_unended, zero, ℕ, ◌++◌}
 use proofs.Common.{◌+◌, ◌<◌, ◌==◌, ◌^◌, ◌∙◌, ◌∷◌, ◌≡◌, ◌≢◌, ◌≤◌}
 use proofs.MessageWrites.{said_trans}
-use Rattle.ptflow.specs.PasteCall.{update_at}
+use Rattle.ptflow.specs.Private.PasteCall.{update_at}
 use Rattle.ptlines.proofs.KnownBytes.{append_known-append}
 use Rattle.ptlines.proofs.Lag.{bounded_lag_now, known_length}
 use specs.Files.{HasReceivedAt, IsConsistentAt, IsNewOrUnopened, at, input_of_operand, inputs_of_operands}

@@ -16,9 +16,9 @@ use proofs.OperandInputs.{earlier_map, fresh_all, kept_up, nothing_decided, noth
 use proofs.OperandInputs.{received_of, some_same}
 use Rattle.ptlines.proofs.KnownBytes.{append_known-nil}
 use Rattle.ptopts.proofs.EachTool.{AreInputsOf, are_inputs}
-use Rattle.ptopts.specs.Theorems.{Spelled, SpellsCommand}
+use Rattle.ptopts.specs.Laws.Theorems.{Spelled, SpellsCommand}
 use Rattle.ptopts.specs.declared.fault.UseFault.{UseFault}
-use specs.Driver.{RunWithStorePost, EndRunPost, FinishPost, result_message}
+use specs.Private.Driver.{RunWithStorePost, EndRunPost, FinishPost, result_message}
 use specs.Files.{AreNewInputs, HasBytesAt, HasReceivedAt, IsConsistentAt, IsNewOrUnopened}
 use specs.Runs.{IsExact, IsExactUnlessFailed, Outcome, RunEnd, Sinks}
 use Rattle.std.proofs.lemmas.List.{append_cancel_left, nil_from_length}

@@ -20,7 +20,7 @@ use proofs.OperandInputs.{consistent_before, consistent_bytes, decided_inputs, f
 use proofs.OperandInputs.{last_earlier, least_bytes, least_consistent, maximum-append, none_received, not_more}
 use proofs.OperandInputs.{nothing_read, nth_here, opened_inputs_none, opened_inputs_some, opened_receives, received_at}
 use proofs.OperandInputs.{received_of, said_more, sends_after, sends_now}
-use specs.Driver.{OperandPre, fault_at, operand_completion}
+use specs.Private.Driver.{OperandPre, fault_at, operand_completion}
 use specs.Files.{IsNewOrUnopened, at, input_of_operand, inputs_of_operands, opened_inputs, opened_values}
 use specs.Operands.{sequential_bound, sequential_decided, sequential_output, sequential_slots, sequential_spec}
 use Rattle.std.proofs.Math.Seq.{take-append-add, take-append_seam, take-length}

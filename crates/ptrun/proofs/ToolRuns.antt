@@ -10,10 +10,11 @@ use proofs.Common.{◌∙◌, ◌≡◌}
 use proofs.JointRuns.{joint_post}
 use proofs.OperandInputs.{any_same, each_listed, fresh_all, nothing_read, unopened_agrees}
 use proofs.RunEnds.{unread}
-use specs.Driver.{OperandPre, ReportUnopenedPost, RunOnPost, RunOnPre, operand_completion, result_of_end, run_state}
-use specs.Engines.{in_run}
+use specs.Private.Driver.{OperandPre, ReportUnopenedPost, RunOnPost, RunOnPre, operand_completion, result_of_end}
+use specs.Private.Driver.{run_state}
+use specs.Private.Engines.{in_run}
 use specs.Files.{IsNewOrUnopened}
-use Rattle.ptlines.specs.Calls.{CallEnd, Complete, MemoryFault, OutOfOrder, ReadFault, WriteFault, inputs_at}
+use Rattle.ptlines.specs.Calls.Engines.{CallEnd, Complete, MemoryFault, OutOfOrder, ReadFault, WriteFault, inputs_at}
 use Rattle.std.proofs.Math.Seq.{take-length}
 
 abbrev pub one_tool : ToolInRun → ToolSpec

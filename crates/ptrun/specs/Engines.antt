@@ -1,6 +1,6 @@
 -- An engine (ptlines/specs/Calls) over the inputs at the positions of operands.
 use Rattle.std.specs.Prelude.{ℕ, option_map}
-use Rattle.ptlines.specs.Calls.{EngineSpec, CallEnd, Complete, OutOfOrder, ReadFault, WriteFault, MemoryFault}
+use Rattle.ptlines.specs.Engines.{EngineSpec}
 
 -- A line that is out of order, by the position of its input.
 abbrev pub line_at : {I : Type 0} → (I → ℕ) → I × ℕ → ℕ × ℕ
@@ -18,16 +18,3 @@ at_positions engine position = record {
   keeps_groups = engine.keeps_groups;
   terminator = engine.terminator;
 }
-
--- An engine in a run. All inputs are new, so one is left to read even if a first slot is missing: `left` of a call then
--- holds without its condition, `unread` states nothing, and `added` only that no slot was taken away.
-abbrev pub in_run : EngineSpec ℕ → EngineSpec ℕ
-in_run engine = record engine { first_slots = 0 }
-
--- How its call ended.
-abbrev pub end_at : {I : Type 0} → (I → ℕ) → CallEnd I → CallEnd ℕ
-end_at position Complete = Complete
-end_at position (OutOfOrder input line) = OutOfOrder (position input) line
-end_at position (ReadFault input) = ReadFault (position input)
-end_at position WriteFault = WriteFault
-end_at position MemoryFault = MemoryFault

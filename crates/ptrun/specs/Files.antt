@@ -2,7 +2,7 @@
 -- the `i`-th file.
 use Rattle.std.specs.Prelude.{◌≡◌, ℕ, ◌+◌, ◌<◌, ◌≤◌, ◌^◌, List, [], ◌∷◌, ◌++◌, Bool, true, false, Option, Some}
 use Rattle.std.specs.Prelude.{None, if◌then◌else◌, slice_index_or, option_map, filter_map, is_none, length, ⊤, All}
-use Rattle.ptlines.specs.Calls.{is_in}
+use Rattle.ptlines.specs.Engines.{is_in}
 use Rattle.ptlines.specs.Readers.{Reader, IsDone, remaining_bytes, reader_at}
 use Rattle.ptlines.specs.Received.{Received, HasReceived}
 use Rattle.ptlines.specs.Received as one

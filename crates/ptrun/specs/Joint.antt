@@ -3,7 +3,7 @@
 use Rattle.std.specs.Prelude.{ℕ, ◌==◌, ◌&&◌, Bool, List, [], Option, Some, None, length, nat_le, unwrap_or}
 use Rattle.std.specs.Prelude.{slice_index_or, not, if◌then◌else◌}
 use Rattle.std.specs.List.{list_any}
-use Rattle.ptlines.specs.Calls.{EngineSpec}
+use Rattle.ptlines.specs.Engines.{EngineSpec}
 use Rattle.ptlines.specs.Received.{Received, empty_input}
 use Rattle.ptlangs.specs.Jobs.{Paste}
 use Rattle.ptflow.specs.Passes.{pass_engine}

@@ -2,19 +2,13 @@
 -- except for at most one block after a failed write.
 use Rattle.std.specs.Prelude.{◌≡◌, ◌≤◌, ℕ, ◌+◌, Bool, true, false, List, [], ◌∷◌, ◌++◌, Option, Some, None, length}
 use Rattle.std.specs.Prelude.{take, set}
-use Rattle.ptlines.specs.Received.{Received, IsPrefix, empty_input}
-use Rattle.ptlines.specs.Lag.{LaggedInput, BufferLag}
-use Rattle.ptlines.specs.Outputs.{Output}
 use Rattle.ptflow.specs.ToolSpec.{ToolSpec}
-use Rattle.ptlines.specs.Calls.{is_in}
-use Rattle.ptrun.specs.Files.{ReceivedInputs, at, opened_inputs}
+use Rattle.ptlines.specs.Engines.{is_in}
+use Rattle.ptlines.specs.Lag.{LaggedInput}
+use Rattle.ptlines.specs.Received.{IsPrefix, Received, empty_input}
 use Rattle.ptrun.specs.CommandSpec.{CommandSpec}
+use Rattle.ptrun.specs.Files.{ReceivedInputs, at, opened_inputs}
 use Rattle.ptrun.specs.Operands.{decided_in_order}
-
--- `bytes` were pushed, and all of them except at most one block (8,192 bytes) have reached the sink.
-pub record IsPushedUpToBlock (bytes : List ℕ) (was is : Output) (pushed : List ℕ) : Type 0 where
-  pub begins : IsPrefix bytes pushed
-  pub buffering : BufferLag was is bytes
 
 -- `bytes` were written: all of them, or after a failed write all except at most one block (8,192 bytes).
 pub record IsWrittenUpToBlock (bytes written : List ℕ) (failed : Bool) : Type 0 where

@@ -4,25 +4,9 @@ use Rattle.std.specs.Io.KnownBytes.{append_known}
 use Rattle.std.specs.Borrow.{Bor}
 use Rattle.ptlines.specs.Sinks.{SinkState, unflushed_after}
 
--- The texts of a `&[&str]`.
-abbrev pub texts : List (Bor (List ℕ)) → List (List ℕ)
-texts parts = map (λ p. p.now) parts
-
 -- A message of these parts, with its newline.
 abbrev pub line_of : List (List ℕ) → List ℕ
 line_of parts = flat_map (λ p. p) parts ++ 10 ∷ []
-
--- The postcondition of writing a text to a sink that has not failed: a prefix of it was taken, and not flushed. `all`
--- is true if that is the whole text, and false if a write failed.
-pub record SayPost (old new : SinkState) (text : List ℕ) (all : Bool) : Type 0 where
-  pub front : List ℕ
-  pub rest : List ℕ
-  pub split : text ≡ front ++ rest
-  pub accepted : new.accepted ≡ append_known old.accepted front
-  pub unflushed : new.unflushed ≡ unflushed_after old.unflushed front
-  pub flushes : new.flushes ≡ old.flushes
-  pub whole : all ≡ true → (rest ≡ []) × (new.failed ≡ false)
-  pub broken : all ≡ false → (0 < length rest) × (new.failed ≡ true)
 
 -- A text was written to a sink: all of it, or a prefix if the sink has failed since. A sink that had failed before is
 -- unchanged.

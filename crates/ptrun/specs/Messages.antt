@@ -1,17 +1,17 @@
 -- The texts of the messages. Each ends with newline.
 use Rattle.std.specs.Prelude.{ℕ, ◌-◌, ◌==◌, List, [], ◌∷◌, ◌++◌, map, Option, Some, None, codes, decimal, encode_utf8}
 use Rattle.std.specs.Prelude.{if◌then◌else◌, slice_index_or}
-use Rattle.ptlangs.specs.declared.faults.SetFault.{SetFault}
-use Rattle.ptlangs.specs.declared.faults.SetString.{SetString}
-use Rattle.ptlangs.specs.declared.faults.SetString.TheVariants as string
-use Rattle.ptlangs.specs.declared.faults.SetFaultKind.{SetFaultKind}
-use Rattle.ptlangs.specs.declared.faults.SetFaultKind.TheVariants as kind
 use Rattle.ptflow.specs.declared.faults.FlowFault.{FlowFault}
-use Rattle.ptflow.specs.declared.faults.FlowFault.TheVariants.{Read, Write, Memory}
-use Rattle.ptopts.specs.Faults.{Fault, NoTool, Unknown, NeedsValue, Twice, Together, Value, Operands, StandardTwice}
-use Rattle.ptopts.specs.Faults.{NeedsList, InString}
+use Rattle.ptflow.specs.declared.faults.FlowFault.TheVariants.{Memory, Read, Write}
+use Rattle.ptlangs.specs.declared.faults.SetFault.{SetFault}
+use Rattle.ptlangs.specs.declared.faults.SetFaultKind.{SetFaultKind}
+use Rattle.ptlangs.specs.declared.faults.SetString.{SetString}
+use Rattle.ptopts.specs.Faults.{Fault, InString, NeedsList, NeedsValue, NoTool, Operands, StandardTwice, Together}
+use Rattle.ptopts.specs.Faults.{Twice, Unknown, Value}
 use Rattle.ptopts.specs.Syntax.{tools}
 use Rattle.ptrun.specs.MessageWrites.{line_of}
+use Rattle.ptlangs.specs.declared.faults.SetFaultKind.TheVariants as kind
+use Rattle.ptlangs.specs.declared.faults.SetString.TheVariants as string
 
 -- The name of a string operand in the synopsis of `tr`.
 abbrev pub string_word : SetString → List ℕ
@@ -73,11 +73,6 @@ memory_message tool = line_of (tool ∷ codes ": out of memory" ∷ [])
 abbrev pub usage_message : List ℕ → Option Fault → List ℕ
 usage_message tool None = memory_message tool
 usage_message tool (Some fault) = usage_text tool fault
-
--- The exit status that goes with it.
-abbrev pub usage_status : Option Fault → ℕ
-usage_status None = 1
-usage_status (Some fault) = 2
 
 -- The name of the input at a position: `standard input` at 0, and that of the file elsewhere.
 abbrev pub name_of : List (List ℕ) → ℕ → List ℕ

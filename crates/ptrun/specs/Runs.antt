@@ -2,21 +2,20 @@
 use Rattle.std.specs.Prelude.{◌≡◌, ℕ, ◌≤◌, Bool, true, false, List, ◌++◌, Option, Some, None, length, max, take}
 use Rattle.std.specs.Prelude.{slice_get, ◌⊎◌, if◌then◌else◌}
 use Rattle.std.specs.Io.KnownBytes.{append_known}
-use Rattle.ptlines.specs.Readers.{Reader}
-use Rattle.ptlines.specs.Sinks.{SinkState, flushes_after}
-use Rattle.ptlines.specs.Slots.{Slots, total_bytes}
-use Rattle.ptlines.specs.Received.{IsPrefix}
 use Rattle.ptflow.specs.declared.faults.FlowFault.{FlowFault}
-use Rattle.ptflow.specs.declared.faults.FlowFault.TheVariants.{Read, Write, Memory}
-use Rattle.ptrun.specs.declared.report.Report.{Report}
-use Rattle.ptlines.specs.Calls.{is_in}
-use Rattle.ptrun.specs.Files.{InputBytes, ReceivedInputs, at, HaveReceived, HasReadFailed, IsTooLong, HasBytes}
-use Rattle.ptrun.specs.Files.{AreInputsConsistent, AreReadToEnd, is_reader_unopened}
-use Rattle.ptlines.specs.Readers.{reader_at}
-use Rattle.ptrun.specs.CommandSpec.{CommandSpec, operand_messages, messages, ended_operands, IsUnfinished}
-use Rattle.ptrun.specs.Lag.{IsWrittenUpToBlock, HasBoundedLag}
+use Rattle.ptflow.specs.declared.faults.FlowFault.TheVariants.{Memory, Read, Write}
+use Rattle.ptlines.specs.Engines.{is_in}
+use Rattle.ptlines.specs.Readers.{Reader, reader_at}
+use Rattle.ptlines.specs.Received.{IsPrefix}
+use Rattle.ptlines.specs.Sinks.{SinkState, flushes_after}
+use Rattle.ptlines.specs.Slots.{Slots}
+use Rattle.ptrun.specs.CommandSpec.{CommandSpec, IsUnfinished, ended_operands, messages, operand_messages}
+use Rattle.ptrun.specs.Files.{AreInputsConsistent, AreReadToEnd, HasBytes, HasReadFailed, HaveReceived, InputBytes}
+use Rattle.ptrun.specs.Files.{IsTooLong, ReceivedInputs, at, is_reader_unopened}
+use Rattle.ptrun.specs.Lag.{HasBoundedLag, IsWrittenUpToBlock}
 use Rattle.ptrun.specs.MessageWrites.{HasSaid}
 use Rattle.ptrun.specs.Messages.{fault_message}
+use Rattle.ptrun.specs.declared.report.Report.{Report}
 
 -- The sinks that a run is given.
 pub record Sinks : Type 0 where
@@ -26,18 +25,6 @@ pub record Sinks : Type 0 where
 -- The sinks of a run, by their states.
 abbrev pub sinks : SinkState → SinkState → Sinks
 sinks out messages = record { out = out; messages = messages }
-
--- The store was never used, and no request of it for memory failed.
-pub record IsUnused (store : Slots) : Type 0 where
-  pub empty : total_bytes store.lines ≡ 0
-  pub never : store.peak ≡ 0
-  pub not_denied : store.denied ≡ false
-
--- The precondition of a run on its store and its sinks: the store was never used, and neither sink has failed.
-pub record RunPre (lent : Slots) (handed : Sinks) : Type 0 where
-  pub store : IsUnused lent
-  pub writable : handed.out.failed ≡ false
-  pub messages_writable : handed.messages.failed ≡ false
 
 -- The result of a run, apart from its inputs: its sinks, the exit status, the most bytes of lines that were stored, and
 -- whether a request of the store for memory failed.

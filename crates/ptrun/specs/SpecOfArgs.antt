@@ -6,16 +6,17 @@ use Rattle.ptflow.specs.TrOutput.{tr_tool}
 use Rattle.ptflow.specs.Uniqs.{uniq_tool}
 use Rattle.ptmerge.specs.Comm.{comm_tool}
 use Rattle.ptmerge.specs.Join.{join_tool}
+use Rattle.ptopts.specs.Commands.{Command, Job, RunComm, RunCut, RunJoin, RunPaste, RunTr, RunUniq, command_of_args}
+use Rattle.ptopts.specs.Commands.{command_view}
 use Rattle.ptopts.specs.Faults.{Fault}
-use Rattle.ptopts.specs.Commands.{Command, Job, RunCut, RunPaste, RunUniq, RunComm, RunJoin, RunTr, command_of_args}
-use Rattle.ptopts.specs.View.{fault_view, command_view}
+use Rattle.ptopts.specs.View.{fault_view}
 use Rattle.ptopts.specs.declared.fault.UseFault.{UseFault}
-use Rattle.ptopts.specs.declared.command.Command as code
 use Rattle.ptrun.specs.CommandSpec.{CommandSpec}
+use Rattle.ptrun.specs.Joint.{one_input_tool, two_input_tool}
 use Rattle.ptrun.specs.Messages.{usage_message}
 use Rattle.ptrun.specs.Operands.{positions}
-use Rattle.ptrun.specs.Joint.{one_input_tool, two_input_tool}
 use Rattle.ptrun.specs.Tools.{OneByOne, Together, ToolInRun, paste_in_run, spec_of_tool}
+use Rattle.ptopts.specs.declared.command.Command as code
 
 -- Nothing is read, nothing is written to the output, and `text` is the only message.
 abbrev pub message_only : List ℕ → ℕ → CommandSpec
@@ -85,11 +86,6 @@ spec_unless_memory words out_of_memory =
 -- The specification for the arguments and the result that parsing returned.
 abbrev pub spec_of_parsed : {A : Type 0} → Result (code.Command A) UseFault → List (List ℕ) → CommandSpec
 spec_of_parsed command words = spec_unless_memory words (is_memory_fault command)
-
--- The number of input files that a command names, and 0 if the arguments are no command.
-abbrev pub named_file_count : Result Command Fault → ℕ
-named_file_count (Ok command) = length command.names
-named_file_count (Err fault) = 0
 
 -- The number of input files of the command that parsing returned, and 0 if it returned a fault.
 abbrev pub file_count : {A : Type 0} → Result (code.Command A) UseFault → ℕ

@@ -1,9 +1,9 @@
 -- A tool in a run: it reads its operands one after another or together. And the specification of a command, by its
 -- tool.
 use Rattle.std.specs.Prelude.{ℕ, List, Bool, true, false, refl, if◌then◌else◌}
-use Rattle.ptlangs.specs.Jobs.{Paste}
 use Rattle.ptflow.specs.PasteText.{paste_serial_tool}
 use Rattle.ptflow.specs.ToolSpec.{ToolSpec}
+use Rattle.ptlangs.specs.Jobs.{Paste}
 use Rattle.ptrun.specs.CommandSpec.{CommandSpec}
 use Rattle.ptrun.specs.Joint.{JointTool, joint_spec, paste_rows_tool}
 use Rattle.ptrun.specs.Operands.{DecidesAll, sequential_spec}
@@ -14,11 +14,6 @@ use Rattle.ptrun.specs.Operands.{DecidesAll, sequential_spec}
 pub data ToolInRun : Type 0 where
   OneByOne : (t : ToolSpec) → DecidesAll t → ToolInRun
   Together : JointTool → ToolInRun
-
--- The tool reads all its operands together.
-abbrev pub reads_together : ToolInRun → Bool
-reads_together (OneByOne t law) = false
-reads_together (Together t) = true
 
 -- The specification of a command, by how its tool reads its operands.
 abbrev pub spec_by_reading : List ℕ → ToolInRun → List (List ℕ) → List ℕ → CommandSpec

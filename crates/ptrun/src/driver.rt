@@ -2,13 +2,16 @@
 //! message. Used by `tools`.
 
 ghost use Rattle.std.specs.Prelude.{◌≡◌, ◌<◌, ◌+◌, false, length, All};
-ghost use Rattle.ptopts.specs.View.{words_view};
-ghost use Rattle.ptrun.specs.Driver.{InputsPre, ReportUnopenedPost, RunInputsPre, RunInputsPost, RunWithStorePost};
-ghost use Rattle.ptrun.specs.Driver.{FinishPost, EndRunPost, HasIndexBelow, result_message, result_status};
+ghost use Rattle.ptopts.specs.Commands.{words_view};
+ghost use Rattle.ptrun.specs.Private.Driver.{InputsPre, ReportUnopenedPost, RunInputsPre, RunInputsPost};
+ghost use Rattle.ptrun.specs.Private.Driver.{RunWithStorePost};
+ghost use Rattle.ptrun.specs.Private.Driver.{FinishPost, EndRunPost, HasIndexBelow, result_message, result_status};
 ghost use Rattle.ptrun.specs.Operands.{positions};
-ghost use Rattle.ptrun.specs.Runs.{RunPre, sinks, outcome};
+ghost use Rattle.ptrun.specs.Calls.Runs.{RunPre};
+ghost use Rattle.ptrun.specs.Runs.{sinks, outcome};
 ghost use Rattle.ptrun.specs.MessageWrites.{HasSaid};
-ghost use Rattle.ptrun.specs.Tools.{spec_of_tool, reads_together};
+ghost use Rattle.ptrun.specs.Tools.{spec_of_tool};
+ghost use Rattle.ptrun.specs.Private.Tools.{reads_together};
 
 use crate::messages::Messages;
 use crate::operands::{name_at, position_of, positions_of, say_unopened};

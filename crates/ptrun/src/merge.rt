@@ -3,7 +3,7 @@
 ghost use Rattle.std.specs.Borrow.{Array, LendsBoth, sem};
 ghost use Rattle.std.specs.Prelude.{◌≡◌, ◌<◌, length, set, slice_index_or};
 ghost use Rattle.ptmerge.specs.Sides.{both};
-ghost use Rattle.ptrun.specs.Driver.{merge_completion};
+ghost use Rattle.ptrun.specs.Private.Driver.{merge_completion};
 
 use crate::tool::{Completion, Tool};
 use ptflow::FlowFault;

@@ -2,7 +2,8 @@
 
 ghost use Rattle.std.specs.Prelude.{◌≡◌, IfSome, true, false};
 ghost use Rattle.ptlines.specs.Sinks.{SinkState};
-ghost use Rattle.ptrun.specs.MessageWrites.{SayPost, HasSaid, texts, line_of};
+ghost use Rattle.ptrun.specs.Calls.MessageWrites.{SayPost, texts};
+ghost use Rattle.ptrun.specs.MessageWrites.{HasSaid, line_of};
 
 use arrayvec::ArrayVec;
 use ptlines::{Sink, write_out};

@@ -2,7 +2,7 @@
 //! opened. Used by `driver`.
 
 ghost use Rattle.std.specs.Prelude.{◌≡◌, ◌<◌, ◌+◌, ◌≤◌, length, All};
-ghost use Rattle.ptopts.specs.View.{words_view};
+ghost use Rattle.ptopts.specs.Commands.{words_view};
 ghost use Rattle.ptrun.specs.Messages.{name_of, unopened_message};
 ghost use Rattle.ptrun.specs.Operands.{position, positions};
 ghost use Rattle.ptrun.specs.MessageWrites.{HasSaid};

@@ -1,8 +1,9 @@
 //! The trait of all tools, by which `driver` runs each of them. `tools` and `merge` implement it.
 
 ghost use Rattle.std.specs.Prelude.{◌≡◌, ◌<◌, ℕ, List, false, All, length};
-ghost use Rattle.ptrun.specs.Tools.{ToolInRun, reads_together};
-ghost use Rattle.ptrun.specs.Driver.{RunOnPre, RunOnPost};
+ghost use Rattle.ptrun.specs.Tools.{ToolInRun};
+ghost use Rattle.ptrun.specs.Private.Tools.{reads_together};
+ghost use Rattle.ptrun.specs.Private.Driver.{RunOnPre, RunOnPost};
 
 use ptflow::FlowFault;
 use ptlines::{LineReader, Out, Sink, Source, Store};

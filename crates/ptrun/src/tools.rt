@@ -2,9 +2,10 @@
 //! `comm` and `join`.
 
 ghost use Rattle.std.specs.Prelude.{◌≡◌};
-ghost use Rattle.ptopts.specs.View.{command_view};
-ghost use Rattle.ptrun.specs.Driver.{InputsPre, RunWithStorePost, operand_completion};
-ghost use Rattle.ptrun.specs.Runs.{RunPre, sinks, outcome};
+ghost use Rattle.ptopts.specs.Commands.{command_view};
+ghost use Rattle.ptrun.specs.Private.Driver.{InputsPre, RunWithStorePost, operand_completion};
+ghost use Rattle.ptrun.specs.Calls.Runs.{RunPre};
+ghost use Rattle.ptrun.specs.Runs.{sinks, outcome};
 ghost use Rattle.ptrun.specs.SpecOfArgs.{command_spec};
 
 use crate::driver::run_tool;

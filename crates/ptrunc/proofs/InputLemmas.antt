@@ -10,7 +10,8 @@ use Rattle.ptopts.specs.Faults.{Fault}
 use Rattle.ptopts.specs.View.{CommandPost, fault_view}
 use Rattle.ptopts.specs.declared.command.Command as code
 use Rattle.ptopts.specs.declared.fault.UseFault.{UseFault}
-use Rattle.ptrun.specs.SpecOfArgs.{file_count, is_memory_fault, named_file_count}
+use Rattle.ptrun.specs.SpecOfArgs.{file_count, is_memory_fault}
+use Rattle.ptrun.specs.Private.SpecOfArgs.{named_file_count}
 use Rattle.ptrun.specs.Files.{InputBytes, AreNewInputs, HasBytes, HasBytesAt, IsNewOrUnopened, at}
 use Rattle.ptrunc.specs.Inputs.{AreReadersOf, IsShort, first_files, memory_reader}
 

@@ -6,7 +6,7 @@ use Rattle.ptlines.specs.Readers.{Reader, new_reader}
 use Rattle.ptlines.specs.Sources.{SourceState, unopened_state}
 use Rattle.ptopts.specs.Commands.{command_of_args}
 use Rattle.ptrun.specs.Files.{InputBytes, at}
-use Rattle.ptrun.specs.SpecOfArgs.{named_file_count}
+use Rattle.ptrun.specs.Private.SpecOfArgs.{named_file_count}
 
 -- These bytes are left. No read has failed, since none fails.
 abbrev pub bytes_state : List ℕ → Bool → SourceState

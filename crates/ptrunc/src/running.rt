@@ -2,7 +2,8 @@
 
 ghost use Rattle.std.specs.Prelude.{◌≡◌, ℕ, false, All, IfOk, Some};
 ghost use Rattle.ptopts.specs.Commands.{command_of_args};
-ghost use Rattle.ptopts.specs.View.{words_view, CommandPost};
+ghost use Rattle.ptopts.specs.Commands.{words_view};
+ghost use Rattle.ptopts.specs.View.{CommandPost};
 ghost use Rattle.ptrun.specs.Files.{AreNewInputs, HasBytes, InputBytes, at};
 ghost use Rattle.ptrun.specs.SpecOfArgs.{file_count, is_memory_fault, spec_of_args};
 ghost use Rattle.ptrunc.specs.Inputs.{AreReadersOf, HasNotFailed, IsShort, file_view, files_view, first_files};

@@ -2,7 +2,7 @@
 
 ghost use Rattle.std.specs.Prelude.{◌≡◌, ◌+◌, false, All, IfOk, IfSome, vec_len};
 ghost use Rattle.ptrun.specs.SpecOfArgs.{file_count};
-ghost use Rattle.ptrun.specs.Runs.{IsUnused};
+ghost use Rattle.ptrun.specs.Calls.Runs.{IsUnused};
 ghost use Rattle.ptrun.specs.Files.{IsNewOrUnopened};
 
 use crate::asserts::{assert_for, assert_same_for};

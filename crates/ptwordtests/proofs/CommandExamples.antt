@@ -3,7 +3,8 @@ use Rattle.std.proofs.Common.{◌≡◌, ℕ, List, [], ◌∷◌, ◌++◌, tru
 use Rattle.std.specs.Str.{byte}
 use Rattle.ptlangs.specs.CutLists.{is_selected}
 use Rattle.ptlangs.specs.Jobs as jobs
-use Rattle.ptlangs.specs.Jobs.{default_paste, default_uniq, default_comm, default_join}
+use Rattle.ptlangs.specs.Calls.Jobs.{default_paste, default_join}
+use Rattle.ptlangs.specs.Private.Jobs.{default_uniq, default_comm}
 use Rattle.ptlangs.specs.declared.jobs.Show.TheVariants.{Counts, Repeated, Single}
 use Rattle.ptlangs.specs.declared.outlist.File.TheVariants.{First, Second}
 use Rattle.ptlangs.specs.declared.outlist.OutField.TheVariants.{Join, Field}

@@ -1,6 +1,7 @@
 -- Examples of output lists: the fields of each, or its fault. They hold by computation.
 use Rattle.std.proofs.Common.{◌≡◌, ℕ, List, [], ◌∷◌, refl, codes, map, Some, None, Result, Ok, Err}
-use Rattle.ptlangs.specs.OutLists.{out_list, field_at}
+use Rattle.ptlangs.specs.OutLists.{out_list}
+use Rattle.ptlangs.specs.Calls.OutLists.{field_at}
 use Rattle.ptlangs.specs.declared.outlist.File.TheVariants.{First, Second}
 use Rattle.ptlangs.specs.declared.outlist.OutField.{OutField}
 use Rattle.ptlangs.specs.declared.outlist.OutField.TheVariants.{Join, Field}

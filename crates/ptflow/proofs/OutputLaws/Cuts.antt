@@ -19,7 +19,9 @@ use specs.Laws.Outputs.{CutOfAll, SelectsAll, CutAfterPaste, IsRowOf}
 use specs.Cuts.{cut_line, select_from, is_field_delimiter}
 use specs.PasteText.{join_with_cycle, delimiter}
 use Rattle.ptlangs.specs.Jobs.{Cut}
-use Rattle.ptlines.specs.Text.{lines, unlines, IsLine, AreLines}
+use Rattle.ptlines.specs.Text.{lines, unlines}
+use Rattle.ptlines.specs.Calls.Text.{IsLine}
+use Rattle.ptlines.specs.Laws.Text.{AreLines}
 use Rattle.ptlines.proofs.LineSearch.{IsLine-append}
 use Rattle.ptlines.proofs.TextLaws.{lines-unlines}
 

@@ -12,7 +12,8 @@ use Rattle.std.proofs.lemmas.List.Elements.{All-from_recursion}
 use specs.Uniqs.{Run, cons_run, runs, is_same, output_of_run}
 use specs.Laws.Outputs.{CountsAddUp, RepeatedOrSingle, UniqTwice}
 use Rattle.ptlangs.specs.Jobs.{Uniq}
-use Rattle.ptlines.specs.Text.{lines, unlines, IsLine}
+use Rattle.ptlines.specs.Text.{lines, unlines}
+use Rattle.ptlines.specs.Calls.Text.{IsLine}
 use Rattle.ptlines.proofs.TextLaws.{lines_are, lines-unlines}
 use Rattle.ptlangs.specs.declared.jobs.Show.TheVariants as show
 

@@ -16,12 +16,13 @@ use proofs.Common.{FillLine, lines_of_unlines, lines_of_last, lines_cons, lines-
 use proofs.Common.{complete_lines_of_unlines, AreReceivedLines, Some, eqb-true, eqb-false, complete_lines}
 use proofs.Common.{complete_lines_cons, IsFirstByte, is_byte, line_before_terminator, drop_at_terminator, cases_Bool}
 use Rattle.std.specs.Prelude.{IsErrAnd}
-use Rattle.ptlines.specs.Outputs.{PushPost}
+use Rattle.ptlines.specs.Calls.Outputs.{PushPost}
 use specs.Private.Passes.BlockLoop.{IsBlockFilter, RunBlocksPost}
 use specs.Private.Passes.StepOutput.{OutputPart}
 pub use Rattle.ptlines.proofs.MaxLength.{max_length-append, piece_le_max_length}
-use specs.Passes.{PassPre, only_input, pass_end, pass_engine}
-use Rattle.ptlines.specs.Lag.{ProcessLag}
+use specs.Calls.Passes.{PassPre, only_input, pass_end}
+use specs.Passes.{pass_engine}
+use Rattle.ptlines.specs.Calls.Lag.{ProcessLag}
 
 -- ---- readers
 

@@ -10,7 +10,7 @@ use proofs.Common.{complete_lines, IsLine, max_length, max_line_length, Received
 use proofs.Common.{Output, PushEffect, Reader, ReaderAdvance, AdvanceOk, IsDone, IsSound, advance_ok_take, unlines}
 use proofs.Common.{line, FillLine, advance_ok_trans, push_trans, ToolSpec, PassPost, AreReceivedLines, IsLineFilter}
 use proofs.Common.{Read, Write, Memory, received_with, reads_nothing, rules}
-use Rattle.ptlines.specs.ReadLine.{FillReadErr, FillMemoryErr}
+use Rattle.ptlines.specs.Calls.ReadLine.{FillReadErr, FillMemoryErr}
 use proofs.Passes.Exits.{line_split, complete_prefix, max_length-append, lines_none, lines_few, lines_on, lines_more}
 use proofs.Passes.Exits.{lines_block, line_prefix, received_longest, piece_longest, whole_before, before_line, Progress}
 use proofs.Passes.Exits.{progress_flushed, StoreBounds, PassEnding, nothing_more, pass_unslotted, pass_read}

@@ -7,7 +7,7 @@ use proofs.Common.{is_not_repeat, squeeze_after, tr, tr_decided, squeeze_from}
 use proofs.Common.{tr_from, eq-eqb, squeeze, BeginsWith, Each1, Fits, w8, suc, ◌<◌, get_or, EndsWith}
 use proofs.Vectors.Lanes.{bytes_fit}
 use Rattle.ptlangs.specs.TrTables.{Tables, deletes, image, squeezes}
-use Rattle.ptflow.specs.Parts.{TrAfterByte, TrMeetsTwice, TrOfAnyParts, TrOfParts}
+use Rattle.ptflow.specs.Laws.Parts.{TrAfterByte, TrMeetsTwice, TrOfAnyParts, TrOfParts}
 
 module _ (squeezed : ℕ → Bool) where
   pub repeats : (last b : ℕ) → is_not_repeat squeezed (last, b) ≡ false → last ≡ b

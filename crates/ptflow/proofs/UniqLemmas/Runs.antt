@@ -18,7 +18,7 @@ use specs.Private.Uniq.RunsFrom.{runs_from}
 use specs.declared.tools.uniq.block_runs.Span.{Span}
 use specs.declared.tools.uniq.CurrentRun.{CurrentRun}
 use specs.Uniqs.{Run, init, output_of, key, cons_run, runs, uniq_tool}
-use specs.Parts.{HasGroupedKeys, UniqByKey, UniqOfParts}
+use specs.Laws.Parts.{HasGroupedKeys, UniqByKey, UniqOfParts}
 
 module _ (job : Uniq) where
   -- The first run, and that run with one more line of its key before it.

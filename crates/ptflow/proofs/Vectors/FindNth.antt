@@ -10,8 +10,7 @@ use proofs.Common.{IsFirstByte, NoneBefore, Passes, is_byte, line_before_termina
 use proofs.Common.{option_map, nowhere_trans, IsLine, byte_ne, IsNth, IsTerminatorMask, none_if_zero_mask}
 use proofs.Common.{rules, count_by_more_yes, take-map, get_or-map, length-map}
 use lemmas.List.{get_or-drop, drop-map}
-use Rattle.std.proofs.Common.{pow-suc, div-one}
-use Rattle.std.proofs.Math.Nat.{div-div-eq-div-mul, zero-div}
+use Rattle.ptlines.proofs.MatchMasks.{shifted}
 use proofs.Vectors.Lanes.{map-id}
 use lemmas.Simd.{first_set_mask_l}
 use lib.Bits.{bit_and, and_step, and_self, and_zero_l}
@@ -79,41 +78,17 @@ after_set p xs n few lt is =
     let (within, passes, before) = behind (map p xs) n (rw count_bits lt) in
     grind (usual, length-without, lowest_set, count_bits, take-map, get_or-map, length-map)
 
-shifted : (n : ℕ) (bits : List Bool) → mask_l bits / 2 ^ n ≡ mask_l (drop n bits)
-shifted zero bits = div-one (mask_l bits)
-shifted (suc n) [] = zero-div (2 ^ suc n)
-shifted (suc n) (b ∷ bits) =
-    let half : (b : Bool) → (cond b 1 0 + 2 * mask_l bits) / 2 ≡ mask_l bits = grind arith in
-    grind (arith, half, pow-suc, div-div-eq-div-mul, shifted n bits)
-
 pub mask_from : (p : ℕ → Bool) (size from : ℕ) (bytes : List ℕ) {mask : ℕ} → mask ≡ mask_l (map p (take size bytes))
     → mask / 2 ^ from ≡ mask_l (map p (take (size - from) (drop from bytes)))
 mask_from p size from bytes is = grind (arith, shifted, drop-map, rest_of)
 
--- the first item that passes if none of the first `size` does
+-- none of the first `size` items passes if their mask is zero
 module _ (p : ℕ → Bool) (bytes : List ℕ) (size : ℕ) {mask : ℕ} (within : size ≤ length bytes)
     (is : mask ≡ mask_l (map p (take size bytes))) (none : mask ≡ 0) where
-  front : Nowhere (Passes p bytes) 0 size
-  front =
+  pub nowhere_before : Nowhere (Passes p bytes) 0 size
+  nowhere_before =
       let start : 0 + size ≡ size = omega arith in
       rw start at (none_if_zero_mask p bytes 0 size mask (omega arith) is none)
-
-  there : (k : ℕ) → size ≤ k → Passes p bytes k → Passes p (drop size bytes) (k - size)
-  there k low passes = grind usual
-
-  pub first_in_rest : (r : Option ℕ) → IsFirstByte p (drop size bytes) r → IsFirstByte p bytes
-      (option_map (λ at. size + at) r)
-  first_in_rest None first = nowhere_trans (Passes p bytes) 0 size (length bytes) front (λ k low high passes.
-      first (k - size) (omega arith) (omega (arith, length-drop size bytes)) (there k low passes))
-  first_in_rest (Some at) (first, found) = (
-    record {
-      low = omega arith;
-      high = grind usual;
-      before = nowhere_trans (Passes p bytes) 0 size (size + at) front
-          (λ k low high passes. first.before (k - size) (omega arith) (omega arith) (there k low passes));
-    },
-    cc (get_or-drop size bytes at 0),
-  )
 
 -- ---- in a chunk of some bytes
 

@@ -23,7 +23,7 @@ use lemmas.Simd.{Each1-get_or, get_or-sel_l, length-sel_l}
 use specs.Private.Vectors.Tables.{image_from, lane_of, HasMoved}
 use specs.declared.simd.table.MovedRange.{MovedRange}
 pub use lemmas.List.{map-id}
-use Rattle.ptlangs.specs.TrShifts.{shift_at}
+use Rattle.ptlangs.specs.Calls.TrShifts.{shift_at}
 
 -- ---- lanes that are computed from bytes
 

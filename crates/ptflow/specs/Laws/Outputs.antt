@@ -2,7 +2,8 @@
 -- definitions, so they show that these mean what one expects.
 use Rattle.std.specs.Prelude.{◌≡◌, ◌≢◌, ◌≤◌, ◌<◌, ℕ, ◌+◌, ◌==◌, true, false, List, [], ◌∷◌, ◌++◌, length, map, filter}
 use Rattle.std.specs.Prelude.{not, sum_by, slice_index_or, Some, All}
-use Rattle.ptlines.specs.Text.{unlines, lines, AreLines}
+use Rattle.ptlines.specs.Text.{unlines, lines}
+use Rattle.ptlines.specs.Laws.Text.{AreLines}
 use Rattle.ptlangs.specs.Jobs.{Cut, Uniq, Paste}
 use Rattle.ptlangs.specs.TrPlan.{plan_of, complement_of, has_byte}
 use Rattle.ptlangs.specs.TrTables.{tables}

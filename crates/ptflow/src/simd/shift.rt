@@ -1,7 +1,7 @@
 //! Maps bytes, 16 at a time: by ranges with a shift each, or by any other `ByteMap`. `tr` and `paste` use it.
 
 ghost use Rattle.std.specs.Prelude.{◌≡◌, ◌<◌, ◌≤◌, ◌+◌, ◌++◌, ℕ, length, map, take};
-ghost use Rattle.ptlangs.specs.TrShifts.{image_of_shifts};
+ghost use Rattle.ptlangs.specs.Calls.TrShifts.{image_of_shifts};
 ghost use Rattle.ptflow.specs.Private.Vectors.Shift.{IsMappedTo};
 
 use ptlangs::Shifts;

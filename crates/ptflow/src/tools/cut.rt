@@ -5,7 +5,7 @@
 
 ghost use Rattle.ptlangs.specs.Jobs.{cut_job};
 ghost use Rattle.ptflow.specs.Cuts.{cut_tool};
-ghost use Rattle.ptflow.specs.Passes.{PassPre, PassPost};
+ghost use Rattle.ptflow.specs.Calls.Passes.{PassPre, PassPost};
 
 mod bytes;
 mod fields;

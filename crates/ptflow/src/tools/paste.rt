@@ -2,10 +2,10 @@
 //! engine of `paste -s`, which `ptrun` runs over one input after the other.
 
 ghost use Rattle.std.specs.Prelude.{◌≡◌, ◌<◌, ◌≤◌, length, take, false, None, [], ◌++◌, All};
-ghost use Rattle.ptlines.specs.Outputs.{PushPost, PushEffect};
-ghost use Rattle.ptlines.specs.Slots.{line};
+ghost use Rattle.ptlines.specs.Calls.Outputs.{PushPost, PushEffect};
+ghost use Rattle.ptlines.specs.Calls.Slots.{line};
 ghost use Rattle.ptlangs.specs.Jobs.{paste_job, terminator};
-ghost use Rattle.ptflow.specs.PasteCall.{PastePre, PastePost};
+ghost use Rattle.ptflow.specs.Calls.PasteCall.{PastePre, PastePost};
 ghost use Rattle.ptflow.specs.Private.Paste.BufferedRows.{BufferedRowsPre};
 ghost use Rattle.ptflow.specs.Private.Paste.FillRow.{SetTerminatorsPost, FillCellPost, FillRowPost, ClearSlotsPost};
 ghost use Rattle.ptflow.specs.Private.Paste.FillRow.{is_write_fault};

@@ -4,7 +4,7 @@
 
 ghost use Rattle.std.specs.Prelude.{◌≡◌, ◌≢◌, ◌≤◌, length, map, filter, not, Err};
 ghost use Rattle.ptlangs.specs.TrTables.{deletes, image, squeezes};
-ghost use Rattle.ptflow.specs.Passes.{PassPre, StorelessPost, no_store};
+ghost use Rattle.ptflow.specs.Calls.Passes.{PassPre, StorelessPost, no_store};
 ghost use Rattle.ptflow.specs.TrOutput.{tr_tool};
 ghost use Rattle.ptflow.specs.Private.Tr.MapKinds.{IsMapKind, IsMapKind-prop};
 ghost use Rattle.ptflow.specs.Private.Tr.TrFrom.{IsOptionalSet, IsOptionalSet-prop, squeeze_from};

@@ -5,7 +5,7 @@
 ghost use Rattle.std.specs.Prelude.{◌≡◌, ◌<◌, ◌≤◌, ◌&&◌, IfSome, length, nat_lt};
 ghost use Rattle.ptlines.specs.Slots.{Slots};
 ghost use Rattle.ptlangs.specs.Jobs.{uniq_job};
-ghost use Rattle.ptflow.specs.Passes.{PassPre, PassPost};
+ghost use Rattle.ptflow.specs.Calls.Passes.{PassPre, PassPost};
 ghost use Rattle.ptflow.specs.Uniqs.{is_same, uniq_tool};
 ghost use Rattle.ptflow.specs.Private.Uniq.BlockRuns.{first_of};
 ghost use Rattle.ptflow.specs.Private.Uniq.FirstLine.{first_line, current_run_of};
@@ -50,7 +50,7 @@ impl CurrentRun {
     }
 }
 
-// What writes runs, and the current run.
+// The writer of runs, and the current run.
 #[derive(Drop)]
 pub(crate) struct LineUniq<'a> {
     pub by: RunWriter<'a>,

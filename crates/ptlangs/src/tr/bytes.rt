@@ -2,7 +2,7 @@
 //! memory.
 ghost use Rattle.std.specs.Prelude.{◌≡◌, ◌*◌, ◌+◌, ◌<◌, ◌++◌, length, map, replicate, Ok, IfOk, IfSome};
 ghost use Rattle.ptlangs.specs.TrPlan.{segments_of};
-ghost use Rattle.ptlangs.specs.TrParsing.{NextItemPost, bytes_left, member_results, most_left, plain_members};
+ghost use Rattle.ptlangs.specs.Private.TrParsing.{NextItemPost, bytes_left, member_results, most_left, plain_members};
 
 use crate::faults::SetFaultKind;
 use crate::tr::elements::element_at;

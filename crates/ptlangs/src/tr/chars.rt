@@ -5,7 +5,7 @@ ghost use Rattle.std.specs.Prelude.{if◌then◌else◌, All};
 ghost use Rattle.std.specs.Char.{digit_value};
 ghost use Rattle.std.specs.Str.Parse.{digits_value};
 ghost use Rattle.ptlangs.specs.TrChars.{byte_of, chars, after_backslash, byte_of_escape, is_octal_digit, octal_run};
-ghost use Rattle.ptlangs.specs.TrParsing.{char_from, chars_from};
+ghost use Rattle.ptlangs.specs.Private.TrParsing.{char_from, chars_from};
 
 use crate::faults::SetFaultKind;
 

@@ -2,7 +2,8 @@
 //! The strings of `tr` name them.
 ghost use Rattle.std.specs.Prelude.{◌≡◌, ◌+◌, ◌<◌, length, slice_get, bytes_eq};
 ghost use Rattle.std.specs.List.{flat_map};
-ghost use Rattle.ptlangs.specs.TrClasses.{range_bytes, span, class_bytes, class_named};
+ghost use Rattle.ptlangs.specs.Private.TrClasses.{range_bytes};
+ghost use Rattle.ptlangs.specs.TrClasses.{span, class_bytes, class_named};
 
 /// A class of characters.
 #[derive(Clone, Copy)]

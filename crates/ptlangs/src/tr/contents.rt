@@ -2,7 +2,8 @@
 ghost use Rattle.std.specs.Prelude.{◌≡◌, ◌+◌, ◌^◌, ◌<◌, ◌≤◌, ◌++◌, ◌∷◌, [], ℕ, List, IfOk, length, replicate};
 ghost use Rattle.ptlangs.specs.declared.tr.segments.Segment.{Segment};
 ghost use Rattle.ptlangs.specs.TrPlan.{array, complement_of, string_segments};
-ghost use Rattle.ptlangs.specs.TrParsing.{contents_of, ok_map};
+ghost use Rattle.ptlangs.specs.Private.TrParsing.{contents_of};
+ghost use Rattle.ptlangs.specs.Calls.TrParsing.{ok_map};
 
 use crate::faults::SetFaultKind;
 use crate::tr::bytes::Bytes;

@@ -6,8 +6,9 @@ ghost use Rattle.ptlangs.specs.declared.tr.segments.Member.{Member};
 ghost use Rattle.ptlangs.specs.declared.tr.segments.Segment.{Segment};
 ghost use Rattle.ptlangs.specs.TrClasses.{all_bytes};
 ghost use Rattle.ptlangs.specs.TrPlan.{array, complement_of, first_array, image_by, string_segments};
-ghost use Rattle.ptlangs.specs.TrParsing.{HasPaired, PairPost, all_paired, bytes_left, member_bytes, classes_match};
-ghost use Rattle.ptlangs.specs.TrParsing.{contents_of, first_members, marked_array, plain_members};
+ghost use Rattle.ptlangs.specs.Private.TrParsing.{HasPaired, PairPost, all_paired, bytes_left, member_bytes};
+ghost use Rattle.ptlangs.specs.Private.TrParsing.{classes_match};
+ghost use Rattle.ptlangs.specs.Private.TrParsing.{contents_of, first_members, marked_array, plain_members};
 
 use crate::faults::SetFaultKind;
 use crate::tr::bytes::Bytes;

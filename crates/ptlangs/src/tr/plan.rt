@@ -4,11 +4,15 @@ ghost use Rattle.std.specs.Prelude.{◌≡◌, ◌^◌, ◌<◌, [], ℕ, List, 
 ghost use Rattle.std.specs.Prelude.{is_some, option_copied};
 ghost use Rattle.ptlangs.specs.declared.faults.SetFaultKind.{SetFaultKind};
 ghost use Rattle.ptlangs.specs.declared.tr.segments.Segment.{Segment};
-ghost use Rattle.ptlangs.specs.TrPlan.{first_array, plan, plan_of, second_plan, NoMemoryFault, second_role};
-ghost use Rattle.ptlangs.specs.TrPlan.{in_string, string_segments, takes_second};
-ghost use Rattle.ptlangs.specs.TrTables.{tables, deletes, image, squeezes, TablesMatchPlan};
-ghost use Rattle.ptlangs.specs.TrShifts.{stretches, HasImagesOf};
-ghost use Rattle.ptlangs.specs.TrParsing.{contents_of, ok_map};
+ghost use Rattle.ptlangs.specs.TrPlan.{first_array, plan, plan_of, second_plan, second_role};
+ghost use Rattle.ptlangs.specs.Laws.TrPlan.{NoMemoryFault};
+ghost use Rattle.ptlangs.specs.TrPlan.{in_string, string_segments};
+ghost use Rattle.ptlangs.specs.Calls.TrPlan.{takes_second};
+ghost use Rattle.ptlangs.specs.TrTables.{tables, deletes, image, squeezes};
+ghost use Rattle.ptlangs.specs.Laws.TrTables.{TablesMatchPlan};
+ghost use Rattle.ptlangs.specs.Calls.TrShifts.{stretches, HasImagesOf};
+ghost use Rattle.ptlangs.specs.Private.TrParsing.{contents_of};
+ghost use Rattle.ptlangs.specs.Calls.TrParsing.{ok_map};
 
 use crate::faults::{SetFault, SetFaultKind, SetString};
 use crate::tr::bytes::Bytes;

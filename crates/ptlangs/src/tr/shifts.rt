@@ -4,7 +4,7 @@
 
 ghost use Rattle.std.specs.Prelude.{◌≡◌, ◌<◌, ◌≤◌, ◌-◌, ℕ, length, true, false, IfSome, MatchOption, slice_get};
 ghost use Rattle.std.specs.Prelude.{slice_index, option_map, []};
-ghost use Rattle.ptlangs.specs.TrShifts.{prepend_shift, stretches_from, image_of_shifts};
+ghost use Rattle.ptlangs.specs.Calls.TrShifts.{prepend_shift, stretches_from, image_of_shifts};
 
 use std::marker::Model;
 

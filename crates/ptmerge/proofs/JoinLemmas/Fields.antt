@@ -14,7 +14,7 @@ use lemmas.Bool.{cases_Bool, eqb-true}
 use Rattle.ptlines.proofs.Push.{push_past_failure}
 use Rattle.std.specs.List.{flat_map, slice_range, prefix_len, join_with_byte, onto_first}
 use Rattle.std.proofs.Common.{rules, ◌/◌, bit_and, bit_or, replicate, take, ◌%◌, ◌||◌}
-use specs.Write.{WriteBytesPost}
+use specs.Private.Write.{WriteBytesPost}
 use proofs.Common.{drop_more}
 use lemmas.List.{take_all, length-take-le, drop-map, map-id, take-map, drop-drop, length-map, take-append-drop}
 use lemmas.List.Quantifiers.{position-Some}
@@ -28,12 +28,13 @@ use Rattle.std.proofs.Math.Nat.{zero-div, div-div-eq-div-mul, mul-lt-mul_of_pos_
 use Rattle.std.proofs.Math.Pow.{pow-add, pow-lt, pow_mono}
 use lib.Bits.{and_step, or_step, or_zero_l, or_zero_r, and_zero_l, or_shifted_r, and_mod, and_le_l, and_self, or_self}
 use lib.Count.{count_trailing_zeros}
+use Rattle.ptlines.proofs.MatchMasks.{shifted}
 use lemmas.List.Sums.{position_or_len_is}
 use Rattle.ptlangs.proofs.ListElements.{split_around, split_whole}
 use specs.Join.{or_filler, is_nonempty, field_named, nth_field}
-use specs.JoinFields.{IsFieldAt, IsFieldFound, IsFirstPieceEnd, IsCanonical, IsFieldIn, IsPiece, around}
-use specs.JoinFields.{is_evenly_separated, has_single_spaces}
-use specs.KeySpan.{IsKeySpan}
+use specs.Private.JoinFields.{IsFieldAt, IsFieldFound, IsFirstPieceEnd, IsCanonical, IsFieldIn, IsPiece, around}
+use specs.Private.JoinFields.{is_evenly_separated, has_single_spaces}
+use specs.Calls.KeySpan.{IsKeySpan}
 
 -- ---- writes
 
@@ -735,13 +736,6 @@ module _ {line : List ℕ} {passed words : ℕ} (short : length line < 64) (left
 pub ruleset word_steps = (any_fits, words_start, word_passed, none_left, word_found)
 
 -- ---- fields by a mask of their separators
-
-shifted : (n : ℕ) (bits : List Bool) → mask_l bits / 2 ^ n ≡ mask_l (drop n bits)
-shifted zero bits = div-one (mask_l bits)
-shifted (suc n) [] = zero-div (2 ^ suc n)
-shifted (suc n) (b ∷ bits) =
-    let half : (b : Bool) → (cond b 1 0 + 2 * mask_l bits) / 2 ≡ mask_l bits = grind arith in
-    grind (arith, half, pow-suc, div-div-eq-div-mul, shifted n bits)
 
 mask_after : (test : ℕ → Bool) (v : List ℕ) (n : ℕ) {mask : ℕ} → mask ≡ mask_l (map test v)
     → mask / 2 ^ n / 2 ≡ mask_l (map test (drop (n + 1) v))

@@ -27,7 +27,7 @@ use Rattle.std.proofs.Math.ListN.{get_or-append}
 use lemmas.List.{drop-set-add, set_at, take_at, take_more}
 use lemmas.List.Sums.{sum_by-append, sum_by-cons, sum_by_push}
 use Rattle.ptlines.proofs.SlotTotals.{total_bytes_set}
-use specs.JoinGroup.{EnsureSlotPost, CopyToGroupErrPost, is_head}
+use specs.Private.JoinGroup.{EnsureSlotPost, CopyToGroupErrPost, is_head}
 pub use specs.Join.{max_over_keys, max_group_bytes, max_group_lines}
 
 -- ---- the slots of a group

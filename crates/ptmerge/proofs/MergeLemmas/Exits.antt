@@ -8,20 +8,23 @@ pub use proofs.Common.{⊎_elim, IsPrefix, nat_tests, length_push, line_of_with_
 pub use proofs.Common.{Ended, Disorder, status_at, same_key_at, NextOkPost, Result, Err, Memory, advance_trans, Write}
 pub use proofs.Common.{MergeFault, lines_of, MergeState, MergePost, merge_state, terminator}
 use Rattle.ptlines.proofs.LineSearch.{IsLine-append}
-use specs.MergeSpec.{decided_output, decided_entries, lines_decide_disorder, merge_output, disorder_is_decided}
+use specs.MergeSpec.{decided_output, decided_entries, merge_output}
+use specs.Calls.MergeSpec.{lines_decide_disorder, disorder_is_decided}
 use Rattle.ptlines.proofs.Calls.{call_ends, call_set, call_without_slots, given_before, given_by, CallProgress}
 use Rattle.ptlines.proofs.Calls.{DecidedIfReadFailed, call_on_failed_output}
 use Rattle.std.proofs.lemmas.List.{append_cancel_right, map-append}
 use Rattle.ptlines.proofs.Lag.{bounded_lag_after}
-use Rattle.ptlines.specs.Calls.{CallEnd, ReadFault, AreAllConsistent}
+use Rattle.ptlines.specs.Calls.Engines.{CallEnd, ReadFault, AreAllConsistent}
 use Rattle.ptlines.proofs.TextLaws.{complete_lines_of_unlines, the_lines}
-use Rattle.ptlines.specs.Lag.{LaggedInput, ProcessLag}
-pub use Rattle.ptlines.specs.Calls.{CallOutcome, with_input}
+use Rattle.ptlines.specs.Lag.{LaggedInput}
+use Rattle.ptlines.specs.Calls.Lag.{ProcessLag}
+pub use Rattle.ptlines.specs.Calls.Engines.{CallOutcome, with_input}
 pub use Rattle.ptlines.proofs.Calls.{reads_nothing}
-pub use specs.MergeSlots.{EnsureFourSlotsErrPost}
+pub use specs.Calls.MergeSlots.{EnsureFourSlotsErrPost}
 pub use Invariant.*
 pub use SlotLines.*
-pub use specs.MergeCall.{both_sides, merge_engine, merge_end}
+pub use specs.Calls.MergeCall.{both_sides, merge_end}
+pub use specs.MergeCall.{merge_engine}
 
 -- ---- bounded lag: lines in order
 

@@ -1,10 +1,10 @@
 //! One input of a merge: its current and previous line, and the check that its keys are in order.
 
 ghost use Rattle.std.specs.Prelude.{◌≡◌, length, if◌then◌else◌, OnOk};
-ghost use Rattle.ptlines.specs.Readers.{IsSound};
-ghost use Rattle.ptmerge.specs.Cursor.{NextPost, initial_cursor};
-ghost use Rattle.ptmerge.specs.KeySpan.{IsValidCursor};
-ghost use Rattle.ptmerge.specs.MergeSteps.{NextPre};
+ghost use Rattle.ptlines.specs.Calls.Readers.{IsSound};
+ghost use Rattle.ptmerge.specs.Calls.Cursor.{NextPost, initial_cursor};
+ghost use Rattle.ptmerge.specs.Calls.KeySpan.{IsValidCursor};
+ghost use Rattle.ptmerge.specs.Calls.MergeSteps.{NextPre};
 
 use crate::faults::MergeFault;
 use crate::key_order::{KeyOrder, Side, Span};

@@ -2,7 +2,8 @@
 //! 0 and 1, and of its second input in 2 and 3. `merging` adds the slots; `comm` and `join` empty them at the end.
 
 ghost use Rattle.std.specs.Prelude.{◌≤◌, OnOk, OnErr, length};
-ghost use Rattle.ptmerge.specs.MergeSlots.{EnsureFourSlotsPost, EnsureFourSlotsErrPost, ClearFourSlotsPost};
+ghost use Rattle.ptmerge.specs.Calls.MergeSlots.{EnsureFourSlotsPost, EnsureFourSlotsErrPost};
+ghost use Rattle.ptmerge.specs.Private.MergeSlots.{ClearFourSlotsPost};
 
 use ptlines::{LineFault, Store};
 use std::alloc::Allocator;

@@ -5,16 +5,18 @@
 
 ghost use Rattle.std.specs.Prelude.{◌≡◌, ℕ, List, ◌∷◌, []};
 ghost use Rattle.ptlangs.specs.Jobs.{join_job};
-ghost use Rattle.ptlines.specs.Outputs.{PushEffect};
-ghost use Rattle.ptlines.specs.Slots.{line};
+ghost use Rattle.ptlines.specs.Calls.Outputs.{PushEffect};
+ghost use Rattle.ptlines.specs.Calls.Slots.{line};
 ghost use Rattle.ptlines.specs.Text.{unlines};
-ghost use Rattle.ptmerge.specs.JoinGroup.{SlotsHaveKey, IsGroup, JoinStepPre, JoinLinePre, group_end_slot};
-ghost use Rattle.ptmerge.specs.JoinGroup.{group_first_slot, group};
-ghost use Rattle.ptmerge.specs.MergeCall.{MergeRunPre, MergePost, MergePre, merge_state};
+ghost use Rattle.ptmerge.specs.Private.JoinGroup.{SlotsHaveKey, IsGroup, JoinStepPre, JoinLinePre, group_end_slot};
+ghost use Rattle.ptmerge.specs.Private.JoinGroup.{group_first_slot, group};
+ghost use Rattle.ptmerge.specs.Private.MergeCall.{MergeRunPre};
+ghost use Rattle.ptmerge.specs.Calls.MergeCall.{MergePost, MergePre, merge_state};
 ghost use Rattle.ptmerge.specs.declared.key_order.Side.{Side as SideType};
-ghost use Rattle.ptmerge.specs.Join.{unpaired_entry, join_with, join_key, join_tool, pair_entries};
-ghost use Rattle.ptmerge.specs.WriteAndAdvance.{WriteThenAdvancePost, AdvancePre};
-ghost use Rattle.ptmerge.specs.Write.{WriteBytesPost};
+ghost use Rattle.ptmerge.specs.Private.Join.{unpaired_entry};
+ghost use Rattle.ptmerge.specs.Join.{join_with, join_key, join_tool, pair_entries};
+ghost use Rattle.ptmerge.specs.Private.WriteAndAdvance.{WriteThenAdvancePost, AdvancePre};
+ghost use Rattle.ptmerge.specs.Private.Write.{WriteBytesPost};
 ghost use Rattle.ptmerge.specs.Sides.{both};
 ghost use Rattle.ptmerge.specs.declared.key_order.Side.TheVariants as sides;
 

@@ -3,7 +3,7 @@
 ghost use Rattle.std.specs.Prelude.{◌≡◌};
 ghost use Rattle.ptlangs.specs.Jobs as jobs;
 ghost use Rattle.ptopts.specs.Commands as commands;
-ghost use Rattle.ptopts.specs.ParseSteps.{options_of};
+ghost use Rattle.ptopts.specs.Private.ParseSteps.{options_of};
 
 use crate::parsing::ParsedArgs;
 use ptlangs::jobs::CommJob;

@@ -8,7 +8,7 @@ ghost use Rattle.ptopts.specs.Args.{value_of};
 ghost use Rattle.ptopts.specs.Faults.{value_fault, constraints_fault, is_cut_list};
 ghost use Rattle.ptopts.specs.Commands as commands;
 ghost use Rattle.ptopts.specs.Commands.{selected_set, values_fault};
-ghost use Rattle.ptopts.specs.ParseSteps.{CheckThenMemoryPost, CheckOrMemoryPost, options_of};
+ghost use Rattle.ptopts.specs.Private.ParseSteps.{CheckThenMemoryPost, CheckOrMemoryPost, options_of};
 
 use crate::fault::UseFault;
 use crate::parsing::ParsedArgs;

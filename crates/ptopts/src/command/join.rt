@@ -8,8 +8,8 @@ ghost use Rattle.ptopts.specs.Args.{value_of};
 ghost use Rattle.ptopts.specs.Faults.{value_fault, each_value_fault, is_file_number, is_field_number, is_output_list};
 ghost use Rattle.ptopts.specs.Commands as commands;
 ghost use Rattle.ptopts.specs.Commands.{names_file, number_value, fields_of, values_fault};
-ghost use Rattle.ptopts.specs.ParseSteps.{CheckPost, CheckThenMemoryPost, CheckOrMemoryPost, options_of};
-ghost use Rattle.ptopts.specs.ParseSteps.{options_view};
+ghost use Rattle.ptopts.specs.Private.ParseSteps.{CheckPost, CheckThenMemoryPost, CheckOrMemoryPost, options_of};
+ghost use Rattle.ptopts.specs.Private.ParseSteps.{options_view};
 
 use crate::fault::UseFault;
 use crate::parsing::{ParsedArgs, ParsedOption};

@@ -8,7 +8,7 @@ ghost use Rattle.ptopts.specs.Args.{value_of};
 ghost use Rattle.ptopts.specs.Faults.{value_fault, is_delimiter_list};
 ghost use Rattle.ptopts.specs.Commands as commands;
 ghost use Rattle.ptopts.specs.Commands.{delimiters_of, values_fault};
-ghost use Rattle.ptopts.specs.ParseSteps.{CheckThenMemoryPost, options_of};
+ghost use Rattle.ptopts.specs.Private.ParseSteps.{CheckThenMemoryPost, options_of};
 
 use crate::fault::UseFault;
 use crate::parsing::ParsedArgs;

@@ -5,7 +5,7 @@ ghost use Rattle.ptopts.specs.declared.tool.Tool.TheVariants.{Tr};
 ghost use Rattle.ptopts.specs.Faults as faults;
 ghost use Rattle.ptopts.specs.Faults.{form_of_options, operands_fault, strings_fault};
 ghost use Rattle.ptopts.specs.Commands.{char_tables};
-ghost use Rattle.ptopts.specs.ParseSteps.{CheckPost, options_of, operands_of};
+ghost use Rattle.ptopts.specs.Private.ParseSteps.{CheckPost, options_of, operands_of};
 
 use crate::fault::UseFault;
 use crate::parsing::ParsedArgs;

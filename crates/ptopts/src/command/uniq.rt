@@ -5,7 +5,7 @@ ghost use Rattle.ptlangs.specs.Jobs as jobs;
 ghost use Rattle.ptopts.specs.declared.tool.Tool.TheVariants.{Uniq};
 ghost use Rattle.ptopts.specs.Commands as commands;
 ghost use Rattle.ptopts.specs.Commands.{values_fault};
-ghost use Rattle.ptopts.specs.ParseSteps.{CheckPost, options_of};
+ghost use Rattle.ptopts.specs.Private.ParseSteps.{CheckPost, options_of};
 
 use crate::fault::UseFault;
 use crate::parsing::ParsedArgs;

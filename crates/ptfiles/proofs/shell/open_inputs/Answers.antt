@@ -1,7 +1,7 @@
 -- Each turn opens the next name, and adds its reader. There is room for it, so nothing fails after the first request.
 use Rattle.std.proofs.Common.{◌∙◌, arith, subst}
 use Rattle.ptfiles.proofs.Inputs.{none_opened, next_opened, all_names}
-use Rattle.ptfiles.specs.Shell.{HaveOpened}
+use Rattle.ptfiles.specs.Private.Shell.{HaveOpened}
 use Rattle.ptfiles.proofs.shell.open_inputs.Goals as goal
 
 pub loop-name-init : goal.loop-name-init

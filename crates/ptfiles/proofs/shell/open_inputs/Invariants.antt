@@ -1,8 +1,8 @@
 -- The names so far were opened, and there is room for the readers of all.
 use Rattle.std.proofs.Common.{◌≡◌, ◌+◌, length, take, vec_len}
 use Rattle.std.specs.Prelude.{vec_capacity}
-use Rattle.ptopts.specs.View.{words_view}
-use Rattle.ptfiles.specs.Shell.{HaveOpened}
+use Rattle.ptopts.specs.Commands.{words_view}
+use Rattle.ptfiles.specs.Private.Shell.{HaveOpened}
 use Rattle.ptfiles.proofs.shell.open_inputs.Given as goal
 
 abbrev pub invariant-loop-name : goal.invariant-loop-name

@@ -1,5 +1,5 @@
 -- The names of the parsed command are those that the words mean, so what was opened is what they name.
-use Rattle.ptopts.specs.View.{words_view}
+use Rattle.ptopts.specs.Commands.{words_view}
 use Rattle.ptfiles.proofs.Runs.{fresh_inputs, run_over_files}
 use Rattle.ptfiles.proofs.shell.run_over_files_in_store.Goals as goal
 

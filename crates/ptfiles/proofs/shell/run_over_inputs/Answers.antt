@@ -1,10 +1,12 @@
 -- The sink of the run is where the words say. A file that is created is the one that they name.
 use Rattle.std.proofs.Common.{false, [], inl, inr, refl, sym, ◌∙◌, ap}
-use Rattle.ptopts.specs.View.{words_view}
+use Rattle.ptopts.specs.Commands.{words_view}
 use Rattle.ptrun.specs.Runs.{outcome}
 use Rattle.ptfiles.specs.Files.{created_state}
-use Rattle.ptfiles.specs.Outputs.{closed_state, output_state}
-use Rattle.ptfiles.specs.Shell.{command_of_parsed, output_names}
+use Rattle.ptfiles.specs.Outputs.{closed_state}
+use Rattle.ptfiles.specs.Private.Outputs.{output_state}
+use Rattle.ptfiles.specs.Private.Shell.{command_of_parsed}
+use Rattle.ptfiles.specs.Shell.{output_names}
 use Rattle.ptfiles.proofs.Outputs.{no_file_returned}
 use Rattle.ptfiles.proofs.Runs.{no_output_file, nothing_created, output_is_parsed, ran_over, ran_to_file, to_run, with_sink}
 use Rattle.ptfiles.proofs.shell.run_over_inputs.Goals.{in-File+in-Some, in-Nowhere}

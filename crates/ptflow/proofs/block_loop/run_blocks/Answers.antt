@@ -2,7 +2,7 @@
 -- the budget decreases.
 use Rattle.ptflow.proofs
 use proofs.Common.{refl, arith, reads_nothing, usual, rules, Ok}
-use Rattle.ptlines.specs.ReadLine.{BlockResult}
+use Rattle.ptlines.specs.Calls.ReadLine.{BlockResult}
 use proofs.Passes.Exits.{BlockLoopState, blocks_start, block_sent, block_taken, Ending, ending, block_failed, is_fault}
 use proofs.Passes.Exits.{nothing_more, pass_write, pass_done, pass_unended}
 use proofs.block_loop.run_blocks.Given as given

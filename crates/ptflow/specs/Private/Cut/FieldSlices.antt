@@ -1,6 +1,7 @@
 -- The slices of a line that are its selected fields, one after another.
 use Rattle.std.specs.Prelude.{◌≡◌, ℕ, ◌+◌, ◌-◌, ◌<◌, ◌≤◌, List, ◌++◌, length, take, drop, min}
-use Rattle.ptlangs.specs.CutLists.{AreSeparated, is_selected}
+use Rattle.ptlangs.specs.Calls.CutLists.{AreSeparated}
+use Rattle.ptlangs.specs.CutLists.{is_selected}
 use Rattle.ptflow.specs.Cuts.{select_from}
 use Rattle.ptflow.specs.Private.Cut.FieldOffsets.{IsFieldOffset, fields, prefixed_fields}
 use Rattle.ptflow.specs.declared.tools.cut.fields.FieldCursor.{FieldCursor}

@@ -5,7 +5,7 @@ use Rattle.std.specs.Prelude.{slice_index_or}
 use Rattle.std.specs.List.{range_with_len}
 use mathlib.Core.HLevel.{×₃_prop}
 use Rattle.std.specs.Coded.{Unit-prop, le_prop}
-use Rattle.ptlangs.specs.CutLists.{AreSeparated}
+use Rattle.ptlangs.specs.Calls.CutLists.{AreSeparated}
 use Rattle.ptlangs.specs.declared.ranges.Interval.{Interval}
 use Rattle.ptflow.specs.Cuts.{select_from}
 use Rattle.ptflow.specs.declared.tools.cut.shuffle.LineShuffles.{LineShuffles}

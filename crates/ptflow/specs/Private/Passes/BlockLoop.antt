@@ -1,9 +1,9 @@
 -- Tools that work block by block, and keep nothing in the store.
 use Rattle.std.specs.Prelude.{◌≡◌, ◌<◌, ◌≤◌, ◌+◌, ◌^◌, ℕ, List, ◌++◌, false, None, Result}
 use Rattle.ptlines.specs.Received.{IsPrefix}
-use Rattle.ptlines.specs.Outputs.{Output}
+use Rattle.ptlines.specs.Calls.Outputs.{Output}
 use Rattle.ptlines.specs.Readers.{Reader}
-use Rattle.ptflow.specs.Passes.{StorelessPost}
+use Rattle.ptflow.specs.Calls.Passes.{StorelessPost}
 use Rattle.ptflow.specs.ToolSpec.{ToolSpec}
 use Rattle.ptflow.specs.declared.faults.FlowFault.{FlowFault}
 

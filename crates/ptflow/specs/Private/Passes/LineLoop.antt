@@ -2,12 +2,14 @@
 use Rattle.std.specs.Prelude.{◌≡◌, ◌⊎◌, ◌+◌, ◌-◌, ◌*◌, ◌<◌, ◌≤◌, ◌^◌, ℕ, List, ◌++◌, true, false, length, take, drop}
 use Rattle.std.specs.Prelude.{max, swap}
 use Rattle.ptlines.specs.Received.{Received, IsPrefix, known_lines}
-use Rattle.ptlines.specs.Outputs.{Output, PushEffect}
-use Rattle.ptlines.specs.Readers.{Reader, IsSound}
-use Rattle.ptlines.specs.Slots.{Slots, total_bytes, with_line}
+use Rattle.ptlines.specs.Calls.Outputs.{Output, PushEffect}
+use Rattle.ptlines.specs.Readers.{Reader}
+use Rattle.ptlines.specs.Calls.Readers.{IsSound}
+use Rattle.ptlines.specs.Slots.{Slots, total_bytes}
+use Rattle.ptlines.specs.Calls.Slots.{with_line}
 use Rattle.ptlines.specs.Text.{unlines, lines, complete_lines, max_line_length}
 use Rattle.ptflow.specs.ToolSpec.{ToolSpec}
-use Rattle.ptflow.specs.Passes.{PassPre}
+use Rattle.ptflow.specs.Calls.Passes.{PassPre}
 
 -- the condition of a pass over lines: the reader and the store are ready, and no write has failed
 pub record RunLinesPre (end : ℕ) (reader : Reader) (out : Output) (store : Slots) : Type 0 where

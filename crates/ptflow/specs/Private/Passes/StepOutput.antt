@@ -2,7 +2,7 @@
 -- them: what is pushed is right for every continuation of the input.
 use Rattle.std.specs.Prelude.{◌≡◌, ℕ, true, false, List, ◌++◌}
 use Rattle.ptlines.specs.Received.{IsPrefix}
-use Rattle.ptlines.specs.Outputs.{Output, PushEffect}
+use Rattle.ptlines.specs.Calls.Outputs.{Output, PushEffect}
 
 -- The items were processed, and no write failed. In a state x, `rest_from x` is the output for the items that are left.
 -- In the state `before`, that output is the pushed bytes followed by the output for the rest in the state `after`.

@@ -3,8 +3,9 @@ use Rattle.std.specs.Prelude.{◌≡◌, ℕ, ◌+◌, ◌*◌, ◌<◌, ◌≤�
 use Rattle.std.specs.Prelude.{map, take, drop, sum_by}
 use Rattle.memchr.specs.Find.{IsFirstByte, is_byte}
 use Rattle.ptlines.specs.Text.{unlines}
-use Rattle.ptlines.specs.Outputs.{Output, PushEffect}
-use Rattle.ptlines.specs.Readers.{Reader, budget, reader_at}
+use Rattle.ptlines.specs.Calls.Outputs.{Output, PushEffect}
+use Rattle.ptlines.specs.Readers.{Reader, reader_at}
+use Rattle.ptlines.specs.Calls.Readers.{budget}
 use Rattle.ptflow.specs.PasteText.{uses_of, join_with_cycle, columns, rows}
 use Rattle.ptflow.specs.Private.Paste.RowCells.{RowShape, BegunText, CellsFilled, cells_text}
 use Rattle.ptflow.specs.Private.Paste.TakenLines.{LinesTaken}

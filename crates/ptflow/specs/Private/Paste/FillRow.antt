@@ -2,9 +2,12 @@
 -- into the slot of its column.
 use Rattle.std.specs.Prelude.{◌≡◌, ◌≢◌, ℕ, ◌<◌, ◌≤◌, Bool, true, false, List, [], Result, Ok, Err, length, take, drop}
 use Rattle.std.specs.Prelude.{max, sum_by, slice_index_or}
-use Rattle.ptlines.specs.Readers.{Reader, IsSound, reader_at}
-use Rattle.ptlines.specs.Slots.{Slots, AddedSlots, line, total_bytes}
-use Rattle.ptlines.specs.ReadLine.{FillPost, FillReadErr, FillMemoryErr}
+use Rattle.ptlines.specs.Readers.{Reader, reader_at}
+use Rattle.ptlines.specs.Calls.Readers.{IsSound}
+use Rattle.ptlines.specs.Slots.{Slots, total_bytes}
+use Rattle.ptlines.specs.Private.Slots.{AddedSlots}
+use Rattle.ptlines.specs.Calls.Slots.{line}
+use Rattle.ptlines.specs.Calls.ReadLine.{FillPost, FillReadErr, FillMemoryErr}
 use Rattle.ptflow.specs.PasteText.{uses_of}
 use Rattle.ptflow.specs.Private.Paste.RowCells.{RowShape, BegunText, CellsFilled, begun_in, cells_text}
 use Rattle.ptflow.specs.declared.tools.paste.row.BegunRow.{BegunRow}

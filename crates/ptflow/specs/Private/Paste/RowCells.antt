@@ -1,7 +1,8 @@
 -- A row of `paste`, column by column: the field of each column, and the byte after it.
 use Rattle.std.specs.Prelude.{◌≡◌, ◌==◌, ℕ, ◌+◌, ◌<◌, ◌≤◌, Bool, true, false, List, [], ◌∷◌, ◌++◌, Option, length, take}
 use Rattle.std.specs.Prelude.{drop, sum_by, slice_index_or, if◌then◌else◌}
-use Rattle.ptlines.specs.Readers.{Reader, budget, reader_at}
+use Rattle.ptlines.specs.Readers.{Reader, reader_at}
+use Rattle.ptlines.specs.Calls.Readers.{budget}
 use Rattle.ptlines.specs.Slots.{Slots}
 use Rattle.ptlangs.specs.Jobs.{Paste}
 use Rattle.ptflow.specs.PasteText.{delimiter, uses_of}

@@ -1,6 +1,7 @@
 -- `paste` when all columns read one input: its terminators are replaced by a repeating cycle.
 use Rattle.std.specs.Prelude.{◌≡◌, ℕ, ◌*◌, ◌<◌, List, All, length, slice_index_or}
-use Rattle.ptlines.specs.Text.{unlines, AreLines}
+use Rattle.ptlines.specs.Text.{unlines}
+use Rattle.ptlines.specs.Laws.Text.{AreLines}
 use Rattle.ptflow.specs.Private.Paste.Replaced.{cycle_byte}
 use Rattle.ptflow.specs.Private.Paste.RowCells.{RowShape, after_cell}
 use Rattle.ptflow.specs.declared.simd.replace.Cycle.{Cycle}

@@ -1,7 +1,9 @@
 -- Lines that were taken from a reader.
 use Rattle.std.specs.Prelude.{◌≡◌, ◌⊎◌, ℕ, ◌<◌, ◌≤◌, ◌^◌, List, length}
-use Rattle.ptlines.specs.Text.{unlines, lines, AreLines}
-use Rattle.ptlines.specs.Readers.{Reader, ReaderAdvance, IsDone}
+use Rattle.ptlines.specs.Text.{unlines, lines}
+use Rattle.ptlines.specs.Laws.Text.{AreLines}
+use Rattle.ptlines.specs.Readers.{Reader, IsDone}
+use Rattle.ptlines.specs.Calls.Readers.{ReaderAdvance}
 
 -- `ls` are the lines of the bytes `given` that a reader gave: all of them complete, or the last one without terminator
 -- at the end of the input.

@@ -1,7 +1,7 @@
 -- The ways to compute the images of a plan with vectors.
 use Rattle.std.specs.Prelude.{◌≡◌, ◌<◌, ℕ, List, slice_index, if◌then◌else◌}
 use Rattle.std.proofs.Props.{props}
-use Rattle.ptlangs.specs.TrShifts.{image_of_shifts}
+use Rattle.ptlangs.specs.Calls.TrShifts.{image_of_shifts}
 use Rattle.ptflow.specs.declared.tools.tr.map_kind.MapSetToByte.{MapSetToByte}
 use Rattle.ptflow.specs.declared.tools.tr.map_kind.MapKind.{MapKind}
 use Rattle.ptflow.specs.declared.tools.tr.map_kind.MapKind.TheVariants.{Identity, Shifts, SetToByte, Table}

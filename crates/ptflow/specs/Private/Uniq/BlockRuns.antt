@@ -1,7 +1,7 @@
 -- The runs of the lines of a block: their output that was pushed, and that which is deferred.
 use Rattle.std.specs.Prelude.{◌≡◌, ℕ, ◌-◌, ◌≤◌, ◌<◌, List, [], ◌∷◌, ◌++◌, Option, None, Some, IfSome, length}
 use Rattle.std.specs.Prelude.{slice_range, zero, suc}
-use Rattle.ptlines.specs.Outputs.{Output, PushEffect}
+use Rattle.ptlines.specs.Calls.Outputs.{Output, PushEffect}
 use Rattle.ptlangs.specs.Jobs.{Uniq}
 use Rattle.ptflow.specs.Uniqs.{Run, output_of}
 use Rattle.ptflow.specs.Private.Passes.LineLoop.{LinesWritten, LinesFailed}

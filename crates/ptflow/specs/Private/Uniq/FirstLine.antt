@@ -1,6 +1,7 @@
 -- The first line of the current run, and the run itself.
 use Rattle.std.specs.Prelude.{ℕ, List, if◌then◌else◌}
-use Rattle.ptlines.specs.Slots.{Slots, line}
+use Rattle.ptlines.specs.Slots.{Slots}
+use Rattle.ptlines.specs.Calls.Slots.{line}
 use Rattle.ptflow.specs.Uniqs.{Run}
 use Rattle.ptflow.specs.Private.Uniq.RunsFrom.{run_of}
 use Rattle.ptflow.specs.declared.tools.uniq.CurrentRun.{CurrentRun}

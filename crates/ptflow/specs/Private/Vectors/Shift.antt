@@ -1,7 +1,7 @@
 -- Byte maps of at most four ranges, each with a shift.
 use Rattle.std.specs.Prelude.{◌≡◌, ◌≤◌, ℕ, ◌+◌, ◌-◌, ◌%◌, List, Option, None, Some, nat_le, length, map, take, sum_by}
 use Rattle.std.specs.Prelude.{if◌then◌else◌}
-use Rattle.ptlangs.specs.TrShifts.{shift_at}
+use Rattle.ptlangs.specs.Calls.TrShifts.{shift_at}
 use Rattle.ptflow.specs.declared.simd.shift.ShiftRange.{ShiftRange}
 
 -- the value that a range adds to a byte: its shift, if the byte is at most `width` after the first byte

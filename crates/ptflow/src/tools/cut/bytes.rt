@@ -1,7 +1,8 @@
 //! `cut -b` and `cut -c`: selects bytes of each line, block by block. `cut` calls it.
 
 ghost use Rattle.std.specs.Prelude.{◌≡◌, ◌<◌, ◌≤◌, ◌+◌, ◌*◌, ◌++◌, ◌∷◌, ℕ, List, [], length, take, drop};
-ghost use Rattle.ptlangs.specs.CutLists.{AreSeparated, is_selected};
+ghost use Rattle.ptlangs.specs.Calls.CutLists.{AreSeparated};
+ghost use Rattle.ptlangs.specs.CutLists.{is_selected};
 ghost use Rattle.ptflow.specs.Private.Cut.CutFrom.{cut_list_from, selected_bytes, IsCutPart, ExtendsCut};
 ghost use Rattle.ptflow.specs.Private.Cut.CutFrom.{IsTerminatorMask, IsLineAt, IsSameLine, CutPost};
 ghost use Rattle.ptflow.specs.Private.Passes.BlockLoop.{HasRoom};

@@ -3,7 +3,7 @@
 ghost use Rattle.std.specs.Prelude.{◌≡◌, ◌+◌, ◌-◌, ◌<◌, ◌≤◌, ◌++◌, ◌⊎◌, length, take, drop, slice_index, true, false};
 ghost use Rattle.std.specs.Prelude.{[], ◌∷◌, Some, OnOk, OnErr, MatchOption};
 ghost use Rattle.memchr.specs.Find.{IsFirstByte, is_byte};
-ghost use Rattle.ptlines.specs.Outputs.{PushEffect};
+ghost use Rattle.ptlines.specs.Calls.Outputs.{PushEffect};
 ghost use Rattle.ptlangs.specs.Jobs.{cut_job};
 ghost use Rattle.ptflow.specs.Cuts.{cut_fields, cut_lines};
 ghost use Rattle.ptflow.specs.Private.Cut.FieldOffsets.{IsFieldOffset};
@@ -39,7 +39,7 @@ fn skip_fields(delimiters: &ByteMatches, from: usize, to: usize, count: u64) -> 
     }
 }
 
-// What is left of the output for a line: the fields that these intervals select. The field after the first `passed`
+// The rest of the output for a line: the fields that these intervals select. The field after the first `passed`
 // ones starts at index `at` of the line; if there is no such field, `at` is after its end.
 #[derive(Clone, Copy)]
 struct FieldCursor<'a> {

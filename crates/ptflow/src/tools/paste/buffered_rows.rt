@@ -4,7 +4,8 @@
 ghost use Rattle.std.specs.Prelude.{◌≡◌, ◌<◌, ◌≤◌, ◌+◌, ◌%◌, ◌++◌, false, length, take, List, option_to_list, IfNone};
 ghost use Rattle.std.specs.Prelude.{IfSome};
 ghost use Rattle.memchr.specs.Find.{IsFirstByte, is_byte};
-ghost use Rattle.ptlines.specs.Readers.{Reader, IsSound};
+ghost use Rattle.ptlines.specs.Readers.{Reader};
+ghost use Rattle.ptlines.specs.Calls.Readers.{IsSound};
 ghost use Rattle.ptflow.specs.Private.Paste.RowCells.{after_cell, begun_after, begun_in, shape_of};
 ghost use Rattle.ptflow.specs.Private.Paste.BufferedRows.{BufferedRowsPre, CopyCellPost, CopyColumnsPost, CopyRowsPost};
 ghost use Rattle.ptflow.specs.Private.Paste.BufferedRows.{LineCopied};

@@ -4,7 +4,7 @@
 ghost use Rattle.std.specs.Prelude.{◌≡◌, ◌<◌, ◌≤◌, ◌+◌, ◌++◌, List, length, take, ℕ};
 ghost use Rattle.std.specs.Option.{ForSome};
 ghost use Rattle.ptlangs.specs.Jobs.{paste_job};
-ghost use Rattle.ptflow.specs.Passes.{PassPre, PassPost};
+ghost use Rattle.ptflow.specs.Calls.Passes.{PassPre, PassPost};
 ghost use Rattle.ptflow.specs.PasteText.{paste_serial_tool};
 ghost use Rattle.ptflow.specs.Private.Paste.Replaced.{IsDelimiterCycle};
 

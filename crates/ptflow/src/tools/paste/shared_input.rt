@@ -5,7 +5,7 @@ ghost use Rattle.std.specs.Prelude.{◌≡◌, ◌<◌, ◌≤◌, ◌+◌, ◌-
 ghost use Rattle.std.specs.Prelude.{take};
 ghost use Rattle.std.specs.List.{count_by};
 ghost use Rattle.memchr.specs.Find.{is_byte};
-ghost use Rattle.ptlines.specs.Readers.{IsSound};
+ghost use Rattle.ptlines.specs.Calls.Readers.{IsSound};
 ghost use Rattle.ptflow.specs.Private.Paste.BufferedRows.{BufferedRowsPre, RowsWritten};
 ghost use Rattle.ptflow.specs.Private.Paste.RowCells.{shape_of};
 ghost use Rattle.ptflow.specs.Private.Paste.Replaced.{cycle_byte, with_replacements};

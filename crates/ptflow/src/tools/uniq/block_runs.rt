@@ -1,7 +1,7 @@
 //! The runs of the lines of a block: counts and writes them. `uniq` uses it.
 
 ghost use Rattle.std.specs.Prelude.{◌≡◌, ◌<◌, ◌≤◌, ◌++◌, length, take, drop, true, IfOk, IfSome, OnErr};
-ghost use Rattle.ptlines.specs.Outputs.{PushEffect, PushPost};
+ghost use Rattle.ptlines.specs.Calls.Outputs.{PushEffect, PushPost};
 ghost use Rattle.ptlines.specs.Text.{complete_lines};
 ghost use Rattle.ptlangs.specs.Jobs.{uniq_job};
 ghost use Rattle.ptflow.specs.Private.Passes.LineLoop.{IsLinesLength, ProcessLinesPre};

@@ -6,7 +6,7 @@ ghost use Rattle.ptlangs.specs.Jobs.{uniq_job};
 ghost use Rattle.ptflow.specs.Uniqs.{after_fields, key};
 ghost use Rattle.ptlines.specs.Text.{is_blank};
 ghost use Rattle.ptflow.specs.Private.Uniq.Blanks.{after_nonblanks};
-ghost use Rattle.ptlines.specs.Bounds.{HasChunk};
+ghost use Rattle.ptlines.specs.Private.Bounds.{HasChunk};
 
 use memchr::memchr2;
 use ptlangs::jobs::UniqJob;

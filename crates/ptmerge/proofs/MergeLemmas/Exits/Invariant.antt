@@ -12,7 +12,8 @@ pub use proofs.Common.{first_disorder, FirstDisorder, ◌&&◌, not, sym, flat_m
 pub use proofs.Common.{PushEffect, unlines, push_trans, push_nothing, unlines-append, disorder, merged_entries}
 pub use proofs.Common.{option_map, with_side, disordered_line, inl}
 use Rattle.std.specs.Cmp.{IsTotalOrder}
-use specs.OrderLaws.{reversed_same_bytes, byte_cmp_equal}
+use specs.Private.OrderLaws.{reversed_same_bytes}
+use Rattle.ptlines.specs.Private.ByteOrder.{byte_cmp_equal}
 pub use Rattle.std.proofs.Common.{rules}
 use proofs.MergeLemmas.Exits.SlotLines.{put_each}
 pub use specs.MergeSpec.{MergeDisorder, is_past, earlier_disorder, insert_key, is_below, is_decided}

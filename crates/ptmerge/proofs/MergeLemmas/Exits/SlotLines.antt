@@ -15,9 +15,11 @@ use Rattle.ptlines.proofs.TextLaws.{lines_of_unlines}
 use lemmas.List.{drop-set-lt}
 pub use Rattle.ptlines.proofs.Received.{received_with}
 pub use Rattle.ptlines.proofs.TextLaws.{unlines_push}
-pub use Rattle.ptlines.specs.ReadLine.{FillLine}
-pub use Rattle.ptlines.specs.Readers.{AdvanceOk, IsDone, IsSound, ReaderAdvance}
-pub use Rattle.ptmerge.specs.MergeSlots.{EnsureFourSlotsPost, ClearFourSlotsPost}
+pub use Rattle.ptlines.specs.Calls.ReadLine.{FillLine}
+pub use Rattle.ptlines.specs.Calls.Readers.{AdvanceOk, IsSound, ReaderAdvance}
+pub use Rattle.ptlines.specs.Readers.{IsDone}
+pub use Rattle.ptmerge.specs.Calls.MergeSlots.{EnsureFourSlotsPost}
+pub use Rattle.ptmerge.specs.Private.MergeSlots.{ClearFourSlotsPost}
 
 -- ---- lines that were read
 

@@ -17,8 +17,8 @@ pub(crate) struct FieldKeys {
 impl KeyOrder for FieldKeys {
     ghost use Rattle.std.specs.Cmp.Lexicographic.{nat_list_cmp_total};
     ghost use Rattle.ptmerge.specs.Join.{field_keys};
-    ghost use Rattle.ptmerge.specs.Orders.{byte_cmp};
-    ghost use Rattle.ptmerge.specs.OrderLaws.{byte_cmp_equal};
+    ghost use Rattle.ptlines.specs.ByteOrder.{byte_cmp};
+    ghost use Rattle.ptlines.specs.Private.ByteOrder.{byte_cmp_equal};
 
     ghost key_of = { λ s. field_keys s.separator s.first s.second };
 

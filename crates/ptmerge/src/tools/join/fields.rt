@@ -7,9 +7,9 @@ ghost use Rattle.std.specs.List.{slice_split};
 ghost use Rattle.std.specs.Simd.Lanes.{mask_l};
 ghost use Rattle.memchr.specs.Find.{is_byte};
 ghost use Rattle.ptmerge.specs.Join.{nth_field};
-ghost use Rattle.ptmerge.specs.JoinFields.{AreBlanks, IsFieldFound, IsFirstPieceEnd, IsFieldIn, IsPiece};
-ghost use Rattle.ptmerge.specs.JoinFields.{is_evenly_separated, is_separator, remaining_fields};
-ghost use Rattle.ptmerge.specs.KeySpan.{IsKeySpan};
+ghost use Rattle.ptmerge.specs.Private.JoinFields.{AreBlanks, IsFieldFound, IsFirstPieceEnd, IsFieldIn, IsPiece};
+ghost use Rattle.ptmerge.specs.Private.JoinFields.{is_evenly_separated, is_separator, remaining_fields};
+ghost use Rattle.ptmerge.specs.Calls.KeySpan.{IsKeySpan};
 
 use crate::key_order::Span;
 use crate::tools::join::separators::{find_separated, find_separated_long, separators_of};

@@ -1,12 +1,12 @@
 //! The group: the second input's lines of one key. If there are several, and pairs are written, `join` copies them to
 //! slots 4 and up; a single one stays in the slot into which it was read.
 ghost use Rattle.std.specs.Prelude.{◌≡◌, ◌≤◌, ◌<◌, ◌+◌, ◌-◌, [], false, length, IfOk, OnOk, OnErr};
-ghost use Rattle.ptlines.specs.Outputs.{PushEffect};
-ghost use Rattle.ptlines.specs.Slots.{with_denied};
+ghost use Rattle.ptlines.specs.Calls.Outputs.{PushEffect};
+ghost use Rattle.ptlines.specs.Calls.Slots.{with_denied};
 ghost use Rattle.ptmerge.specs.declared.key_order.Side.TheVariants as sides;
-ghost use Rattle.ptmerge.specs.JoinGroup.{ReadGroupLinePost, ClearGroupPost, EnsureSlotPost, CopyToGroupPost};
-ghost use Rattle.ptmerge.specs.JoinGroup.{CopyToGroupErrPost, group_end_slot, group_first_slot};
-ghost use Rattle.ptmerge.specs.WriteAndAdvance.{IsReadyToContinue, AdvancePre};
+ghost use Rattle.ptmerge.specs.Private.JoinGroup.{ReadGroupLinePost, ClearGroupPost, EnsureSlotPost, CopyToGroupPost};
+ghost use Rattle.ptmerge.specs.Private.JoinGroup.{CopyToGroupErrPost, group_end_slot, group_first_slot};
+ghost use Rattle.ptmerge.specs.Private.WriteAndAdvance.{IsReadyToContinue, AdvancePre};
 
 use crate::faults::MergeFault;
 use crate::key_order::{KeyOrder, Side};

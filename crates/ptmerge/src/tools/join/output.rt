@@ -2,13 +2,14 @@
 
 ghost use Rattle.std.specs.Prelude.{◌≡◌, ◌≤◌, ◌++◌, IfSome, length, ◌∷◌, [], None, Some, option_copied, true};
 ghost use Rattle.std.proofs.Props.{props};
-ghost use Rattle.ptlines.specs.Outputs.{PushPost};
+ghost use Rattle.ptlines.specs.Calls.Outputs.{PushPost};
 ghost use Rattle.ptlangs.specs.Jobs.{join_job};
 ghost use Rattle.ptmerge.specs.Join.{join_fields, join_key, other_fields, output_separator, or_filler, field_named};
 ghost use Rattle.ptmerge.specs.Join.{entry};
-ghost use Rattle.ptmerge.specs.JoinFields.{BeginsOutput, IsCanonical, IsKeyOf, IsSplit, around, entry_with_list, remaining_fields};
-ghost use Rattle.ptmerge.specs.JoinFields.{with_prefix};
-ghost use Rattle.ptmerge.specs.Write.{WriteBytesPost};
+ghost use Rattle.ptmerge.specs.Private.JoinFields.{BeginsOutput, IsCanonical, IsKeyOf, IsSplit, around};
+ghost use Rattle.ptmerge.specs.Private.JoinFields.{entry_with_list, remaining_fields};
+ghost use Rattle.ptmerge.specs.Private.JoinFields.{with_prefix};
+ghost use Rattle.ptmerge.specs.Private.Write.{WriteBytesPost};
 ghost use Rattle.ptmerge.specs.declared.key_order.Side.TheVariants.{First, Second};
 
 use crate::key_order::Span;

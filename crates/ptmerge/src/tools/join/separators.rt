@@ -3,8 +3,8 @@
 ghost use Rattle.std.specs.Prelude.{◌≡◌, ◌≤◌, ◌<◌, Some, length, map};
 ghost use Rattle.std.specs.Simd.Lanes.{chunk, mask_l};
 ghost use Rattle.memchr.specs.Find.{is_byte};
-ghost use Rattle.ptlines.specs.Bounds.{HasChunk, IsCoveredByEnds};
-ghost use Rattle.ptmerge.specs.JoinFields.{IsFieldFound};
+ghost use Rattle.ptlines.specs.Private.Bounds.{HasChunk, IsCoveredByEnds};
+ghost use Rattle.ptmerge.specs.Private.JoinFields.{IsFieldFound};
 
 use crate::key_order::Span;
 use ptlines::find_byte;

@@ -3,9 +3,9 @@
 ghost use Rattle.std.specs.Prelude.{◌≡◌, ◌≢◌, ◌≤◌, ◌<◌, ◌+◌, ◌==◌, ◌-◌, ◌^◌, ℕ, List, bit_or, None, true, length};
 ghost use Rattle.std.specs.Simd.Lanes.{chunk};
 ghost use Rattle.memchr.specs.Find.{IsFirst, IsFirstByte, Passes};
-ghost use Rattle.ptlines.specs.Bounds.{HasChunk, IsCoveredByEnds};
+ghost use Rattle.ptlines.specs.Private.Bounds.{HasChunk, IsCoveredByEnds};
 ghost use Rattle.ptlines.specs.Text.{is_blank};
-ghost use Rattle.ptmerge.specs.JoinFields.{AreBlanks, IsFieldFound, has_single_spaces, is_single_spaced};
+ghost use Rattle.ptmerge.specs.Private.JoinFields.{AreBlanks, IsFieldFound, has_single_spaces, is_single_spaced};
 
 use crate::key_order::Span;
 use std::simd::prelude::*;

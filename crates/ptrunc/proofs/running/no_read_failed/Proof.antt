@@ -19,7 +19,7 @@ use denote.Triple.Walked.{Stays, walk_of, says, stay_dropped, Goes-dropped, ends
 use types.ByLocal.{alloc_all, pass_all, free_all, look_at, sets}
 use types.Kit.{‵, ◌⊛◌, ◌$◌, ◌∵◌, !, qed, done, move, keep, split, join, feq_i, suffices}
 use types.Run.{enter, of_opd, unit_lit, returns}
-use Rattle.ptlines.specs.InputSource.{input_state, is_unopened_source}
+use Rattle.ptlines.specs.Private.InputSource.{input_state, is_unopened_source}
 use Rattle.ptlines.specs.Readers.{Reader}
 use Rattle.ptlines.specs.declared.source.InputSource.{InputSource}
 use Rattle.ptlines.specs.declared.source.InputSource.TheVariants.{Standard, File, Unopened}

@@ -1,6 +1,6 @@
 -- The readers have the bytes that were given. If memory runs out before the run, nothing is written.
 use Rattle.std.proofs.Common.{ℕ, Some, ◌∷◌, ap, sym, subst, ◌∙◌}
-use Rattle.ptopts.specs.View.{words_view}
+use Rattle.ptopts.specs.Commands.{words_view}
 use Rattle.ptopts.specs.Commands.{command_of_args}
 use Rattle.ptrun.specs.Files.{HasBytes}
 use Rattle.ptrunc.proofs.InputLemmas.{count_is, readers_are_new, readers_have_bytes}

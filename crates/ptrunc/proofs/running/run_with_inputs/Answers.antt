@@ -1,7 +1,7 @@
 -- The caller's memory ends as the rooms that the run has filled, since these still have the ghost names of its borrows.
 use Rattle.std.proofs.Common.{sym, ◌∙◌}
 use Rattle.ptrunc.proofs.RunLemmas.{answer_of_filled}
-use Rattle.ptopts.specs.View.{words_view}
+use Rattle.ptopts.specs.Commands.{words_view}
 use Rattle.ptrun.specs.SpecOfArgs.{spec_of_args}
 use Rattle.ptrunc.proofs.running.run_with_inputs.Goals as goal
 

@@ -2,7 +2,8 @@
 use Rattle.ptflow.proofs
 use proofs.Common.{◌≡◌, ◌+◌, None, Some, arith, first_at_lowest_bit, is_byte, take_rest}
 use lib.Count.{count_trailing_zeros}
-use proofs.Vectors.FindNth.{first_in_rest}
+use proofs.Vectors.FindNth.{nowhere_before}
+use Rattle.ptlines.proofs.MatchMasks.{first_in_rest}
 use proofs.simd.find_nth.first_match.Goals as goal
 
 pub returns-then-mask-ne0 : goal.returns-then-mask-ne0
@@ -14,9 +15,11 @@ returns-then-mask-ne0 c =
     (record { low = first.low; high = omega arith; before = first.before }, found)
 
 pub returns-in_err-at : goal.returns-in_err-at
-returns-in_err-at c = rw c.from_residual.ensures (first_in_rest _ _ _ c.requires.within c.requires.is
-    c.if-mask-ne0.false None (rw take_rest at c.in_err-at.ensures))
+returns-in_err-at c =
+    let none = nowhere_before _ _ _ c.requires.within c.requires.is c.if-mask-ne0.false in
+    rw c.from_residual.ensures (first_in_rest _ _ _ none None (rw take_rest at c.in_err-at.ensures))
 
 pub returns : goal.returns
-returns c = first_in_rest _ _ _ c.requires.within c.requires.is c.if-mask-ne0.false (Some c.in_ok-at.at)
-    (rw take_rest at c.in_ok-at.ensures)
+returns c =
+    let none = nowhere_before _ _ _ c.requires.within c.requires.is c.if-mask-ne0.false in
+    first_in_rest _ _ _ none (Some c.in_ok-at.at) (rw take_rest at c.in_ok-at.ensures)

@@ -2,7 +2,7 @@
 use Rattle.ptlines.proofs
 use Rattle.std.proofs.Common.{◌+◌, ◌-◌, ◌^◌, length}
 use proofs.ReadLine.{LineSoFar}
-use Rattle.ptlines.specs.ReadLine.{FillPre}
+use Rattle.ptlines.specs.Private.ReadLine.{FillPre}
 use proofs.reader.LineReader.fill_slow.Given as goal
 
 abbrev pub invariant-pieces : goal.invariant-pieces

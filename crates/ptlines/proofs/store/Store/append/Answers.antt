@@ -1,7 +1,7 @@
 -- The line and the total grow by the appended bytes, unless memory could not be allocated.
 use Rattle.ptlines.proofs
 use proofs.Common.{◌<◌, ◌^◌, length, ◌++◌, ◌∙◌, ap, arith, length-append, length-map, usual}
-use Rattle.ptlines.specs.Slots.{slot_lines}
+use Rattle.ptlines.specs.Private.Slots.{slot_lines}
 use proofs.SlotTotals.{counted_after_set, total_fits, slot_in_range, line_before, store_after_set, line_of}
 use proofs.store.Store.append.Goals as goal
 

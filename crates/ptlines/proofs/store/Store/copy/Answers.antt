@@ -4,7 +4,7 @@ use proofs.Common.{◌≡◌, ◌≢◌, ◌<◌, ◌≤◌, ◌+◌, ◌^◌, �
 use proofs.Common.{length-map, with_items_is, total_bytes, usual}
 use Rattle.std.specs.Vec.{with_items}
 use Rattle.std.proofs.lemmas.List.{get_or-map, length-set}
-use Rattle.ptlines.specs.Slots.{SlotBuffer, slot_lines, AreBuffersBounded}
+use Rattle.ptlines.specs.Private.Slots.{SlotBuffer, slot_lines, AreBuffersBounded}
 use proofs.SlotTotals.{total_fits, copy_lines, total_bytes_set, line_of}
 use proofs.store.Store.copy.Goals as goal
 

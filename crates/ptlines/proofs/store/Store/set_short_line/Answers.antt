@@ -2,7 +2,7 @@
 use Rattle.ptlines.proofs
 use proofs.Common.{◌≡◌, ◌≤◌, ◌<◌, ◌+◌, ◌-◌, ◌^◌, ℕ, List, length, take, get_or, set, ap, arith, length-map}
 use proofs.Common.{length-take-le, usual}
-use Rattle.ptlines.specs.Slots.{SlotBuffer, slot_lines, AreCounted}
+use Rattle.ptlines.specs.Private.Slots.{SlotBuffer, slot_lines, AreCounted}
 use proofs.SlotTotals.{line_le_total, counted_after_set, total_fits, store_after_set, slot_in_range, same_slot, line_of}
 use proofs.store.Store.set_short_line.Goals as goal
 

@@ -1,7 +1,7 @@
 -- The operands are the strings of the plan.
 use Rattle.ptopts.proofs
 use proofs.Common.{Bor, Err, List, Result, Some, [], arith, refl, result_err, slice_index_or, words_view, ℕ, ◌≡◌}
-use Rattle.ptlangs.specs.TrParsing.{ok_map}
+use Rattle.ptlangs.specs.Calls.TrParsing.{ok_map}
 use Rattle.ptlangs.specs.TrPlan.{Plan}
 use Rattle.ptlangs.specs.TrTables.{Tables, tables}
 use Rattle.ptlangs.specs.declared.faults.SetFault.{SetFault}

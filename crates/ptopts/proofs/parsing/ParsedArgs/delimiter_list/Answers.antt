@@ -3,7 +3,7 @@ use Rattle.ptopts.proofs
 use Rattle.ptopts.specs
 use proofs.Common.{Bool, Bor, List, None, Option, Result, Some, ap, cond, false, fault_view, is_ok, option_map}
 use proofs.Common.{refl, result_err, sym, true, ℕ, ◌∙◌, ◌≡◌, arith}
-use Rattle.ptlangs.specs.DelimLists.{delim_list_fault}
+use Rattle.ptlangs.specs.Calls.DelimLists.{delim_list_fault}
 use Rattle.ptlangs.specs.contracts.delims.DelimFault.{the_type}
 use Rattle.ptlangs.specs.declared.delims.DelimFault.TheVariants.{Empty, Escape, Memory}
 use Rattle.ptlangs.specs.declared.delims.DelimFault.{DelimFault}

@@ -1,0 +1,8 @@
+-- The sink of a command that does not write to standard output.
+use Rattle.std.specs.Prelude.{Bool, false, [], ◌∷◌, Option, Some, None, option_map}
+use Rattle.ptfiles.specs.declared.output.Output.{Output}
+use Rattle.ptfiles.specs.declared.output.Output.TheVariants.{Closed, File}
+
+abbrev pub file_of_output : {F : Type 0} → Output F → Option F
+file_of_output (File file) = Some file
+file_of_output (Closed failed) = None

@@ -1,0 +1,3 @@
+-- The contracts of public calls.
+pub mod Passes
+pub mod PasteCall

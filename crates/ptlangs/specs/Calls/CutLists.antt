@@ -1,0 +1,19 @@
+-- The list of `cut`, options `-b`, `-c` and `-f` (POSIX.1-2017, XCU, `cut`).
+use Rattle.std.specs.Prelude.{ℕ, ◌+◌, ◌<◌, ◌≤◌, ◌==◌, ◌≡◌, ◌↔◌, ◌||◌, ◌&&◌, List, [], ◌∷◌, ◌++◌, Bool, true, not}
+use Rattle.std.specs.Prelude.{Option, Some, None, Result, Ok, Err, if◌then◌else◌, nat_lt, nat_le}
+use Rattle.std.specs.List.{slice_split, list_any}
+use Rattle.std.specs.Str.{byte}
+use Rattle.ptlangs.specs.declared.ranges.Interval.{Interval}
+use Rattle.ptlangs.specs.declared.ranges.ListFault.{ListFault}
+use Rattle.ptlangs.specs.declared.ranges.ListFault.TheVariants.{Memory}
+
+-- the fault that an error reports; `None` for an allocation failure
+abbrev pub cut_list_fault : ListFault → Option ListFault
+cut_list_fault Memory = None
+cut_list_fault fault = Some fault
+
+-- The intervals are above `low`, ascending, and separated: between two of them is at least one number that neither
+-- contains.
+abbrev pub AreSeparated : ℕ → List Interval → Type 0
+AreSeparated low [] = Unit {0}
+AreSeparated low (r ∷ rs) = (low < r.first) × (r.first ≤ r.last) × AreSeparated (r.last + 1) rs

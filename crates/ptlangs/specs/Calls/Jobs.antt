@@ -1,0 +1,23 @@
+-- The options of the five line tools, as plain values: the job of each tool, its defaults, and the view of the Rust
+-- type.
+use Rattle.std.specs.Prelude.{ℕ, List, [], ◌∷◌, Bool, true, false, Option, Some, None, slice_index, slice_index_or}
+use Rattle.ptlangs.specs.Jobs.{Join, Paste}
+
+-- `paste` without options: one line of each file, joined by tabs
+abbrev pub default_paste : Paste
+default_paste = record { serial = false; delimiters = Some 9 ∷ []; terminator = 10 }
+
+-- `join` without options: the pairs of lines with equal first fields
+abbrev pub default_join : Join
+default_join = record {
+  pairs = true;
+  unpaired1 = false;
+  unpaired2 = false;
+  empty = [];
+  list = None;
+  separator = None;
+  field1 = 1;
+  field2 = 1;
+  terminator = 10;
+  descending = false;
+}

@@ -1,0 +1,9 @@
+-- How the result of a parsing function relates to the definition that it implements: postconditions for its contract.
+use Rattle.std.specs.Prelude.{Option, Some, None, Result, Ok, Err, ⊤, ◌≡◌}
+use Rattle.std.specs.Result.{result_err}
+
+-- like `ParsePost`, for a function that checks the whole text before it allocates: an allocation failure is returned
+-- only for a text without a fault
+abbrev pub ValidatedParsePost : {X A F E : Type 0} → (X → A) → (F → Option E) → Result X F → Result A E → Type 0
+ValidatedParsePost view fault (Ok x) meaning = meaning ≡ Ok (view x)
+ValidatedParsePost view fault (Err e) meaning = result_err meaning ≡ fault e

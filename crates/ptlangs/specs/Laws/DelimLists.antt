@@ -1,0 +1,24 @@
+-- The list of delimiters of `paste`, which is the value of option `-d` (POSIX.1-2017, XCU, `paste`). It is defined by a
+-- parse and by a grammar, and `DelimListMatchesGrammar` states that the two agree.
+use Rattle.std.specs.Prelude.{ℕ, ◌%◌, ◌==◌, ◌≡◌, ◌↔◌, List, [], ◌∷◌, ◌++◌, length, false, Option, Some, None, Result}
+use Rattle.std.specs.Prelude.{Ok, Err, if◌then◌else◌, codes, slice_index_or}
+use Rattle.std.specs.Str.{byte}
+use Rattle.ptlangs.specs.DelimLists.{backslash, delim_list}
+
+-- The grammar of one element: its text, and the delimiter that it denotes.
+pub data IsDelim : List ℕ → Option ℕ → Type 0 where
+  Plain : (b : ℕ) → (b == backslash) ≡ false → IsDelim (b ∷ []) (Some b)
+  Newline : IsDelim (codes "\\n") (Some 10)
+  Tab : IsDelim (codes "\\t") (Some 9)
+  Backslash : IsDelim (codes "\\\\") (Some backslash)
+  Nothing : IsDelim (codes "\\0") None
+
+-- the grammar of a list: one element or more, one directly after another
+pub data IsDelimList : List ℕ → List (Option ℕ) → Type 0 where
+  Last : (e : List ℕ) (d : Option ℕ) → IsDelim e d → IsDelimList e (d ∷ [])
+  More : (e bs : List ℕ) (d : Option ℕ) (ds : List (Option ℕ)) → IsDelim e d → IsDelimList bs ds
+      → IsDelimList (e ++ bs) (d ∷ ds)
+
+-- `delim_list` accepts the lists of the grammar and no others, and gives the delimiters that the grammar gives
+abbrev pub DelimListMatchesGrammar : Type 0
+DelimListMatchesGrammar = (bs : List ℕ) (ds : List (Option ℕ)) → IsDelimList bs ds ↔ (delim_list bs ≡ Ok ds)

@@ -1,0 +1,10 @@
+-- A plan of `tr` as three tables, each with an entry for every byte.
+use Rattle.std.specs.Prelude.{◌≡◌, ◌<◌, ◌^◌, ℕ, List, Bool, false, map, slice_index, slice_index_or}
+use Rattle.ptlangs.specs.TrPlan.{Plan, image_of, is_deleted, is_squeezed}
+use Rattle.ptlangs.specs.TrTables.{deletes, image, squeezes, tables}
+
+-- for every byte the tables of a plan agree with the plan
+abbrev pub TablesMatchPlan : Type 0
+TablesMatchPlan = (plan : Plan) (b : ℕ) → b < 2 ^ 8
+    → (deletes (tables plan) b ≡ is_deleted plan b) × (image (tables plan) b ≡ image_of plan b)
+    × (squeezes (tables plan) b ≡ is_squeezed plan b)

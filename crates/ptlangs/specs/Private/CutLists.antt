@@ -1,0 +1,11 @@
+-- The list of `cut`, options `-b`, `-c` and `-f` (POSIX.1-2017, XCU, `cut`).
+use Rattle.std.specs.Prelude.{ℕ, ◌+◌, ◌<◌, ◌≤◌, ◌==◌, ◌≡◌, ◌↔◌, ◌||◌, ◌&&◌, List, [], ◌∷◌, ◌++◌, Bool, true, not}
+use Rattle.std.specs.Prelude.{Option, Some, None, Result, Ok, Err, if◌then◌else◌, nat_lt, nat_le}
+use Rattle.std.specs.List.{slice_split, list_any}
+use Rattle.std.specs.Str.{byte}
+use Rattle.ptlangs.specs.declared.ranges.Interval.{Interval}
+
+-- each interval is ascending, and the intervals are in the order of their first numbers, none of which is below `low`
+abbrev pub AreSortedFrom : ℕ → List Interval → Type 0
+AreSortedFrom low [] = Unit {0}
+AreSortedFrom low (r ∷ rs) = (low ≤ r.first) × (r.first ≤ r.last) × AreSortedFrom r.first rs

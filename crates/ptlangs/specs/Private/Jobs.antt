@@ -1,0 +1,13 @@
+-- The options of the five line tools, as plain values: the job of each tool, its defaults, and the view of the Rust
+-- type.
+use Rattle.std.specs.Prelude.{ℕ, List, [], ◌∷◌, Bool, true, false, Option, Some, None, slice_index, slice_index_or}
+use Rattle.ptlangs.specs.Jobs.{Comm, Uniq}
+use Rattle.ptlangs.specs.declared.jobs.Show.TheVariants.{All}
+
+-- `uniq` without options: one line for each run of equal lines
+abbrev pub default_uniq : Uniq
+default_uniq = record { show = All; fields = 0; chars = 0; terminator = 10 }
+
+-- `comm` without options: all three columns
+abbrev pub default_comm : Comm
+default_comm = record { hide1 = false; hide2 = false; hide3 = false; terminator = 10; descending = false }

@@ -1,0 +1,3 @@
+-- Theorems about the definitions.
+pub mod Parts
+pub mod Text

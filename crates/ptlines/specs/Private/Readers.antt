@@ -1,0 +1,26 @@
+-- The model of `LineReader`: a source with a block of buffered input.
+use Rattle.std.specs.Prelude.{◌≡◌, ℕ, ◌<◌, ◌≤◌, Bool, true, false, [], None}
+use Rattle.std.specs.Prelude.{Result, Ok, Err, length}
+use Rattle.ptlines.specs.Calls.Readers.{AdvanceErr, AdvanceOk, HasReadCause, IsSound}
+use Rattle.ptlines.specs.Readers.{IsDone, Reader}
+use Rattle.ptlines.specs.declared.store.LineFault.{LineFault}
+use Rattle.ptlines.specs.declared.store.LineFault.TheVariants.{Read}
+
+-- The invariant of `LineReader`: its bounds lie in the block, and its model is sound.
+pub record IsValidReader (start end : ℕ) (at_eof : Bool) (r : Reader) : Type 0 where
+  pub order : start ≤ end
+  pub within : end ≤ 8192
+  pub eof : at_eof ≡ r.eof
+  pub sound : IsSound r
+
+-- The condition of `refill`: nothing is buffered, no fault was reported, and the end of input was not reached.
+pub record RefillPre (r : Reader) : Type 0 where
+  pub empty : r.buffered ≡ []
+  pub clean : r.fault ≡ None
+  pub going : r.eof ≡ false
+
+-- the effect of `refill`: `true` if bytes are buffered now, `false` at the end of input
+abbrev pub RefillPost : Reader → Reader → Result Bool LineFault → Type 0
+RefillPost old new (Ok true) = AdvanceOk old new [] × (0 < length new.buffered)
+RefillPost old new (Ok false) = AdvanceOk old new [] × IsDone new
+RefillPost old new (Err fault) = AdvanceErr old new [] Read × HasReadCause old new × (fault ≡ Read)

@@ -1,0 +1,10 @@
+-- Definitions that only private functions and proofs use.
+pub mod Join
+pub mod JoinFields
+pub mod JoinGroup
+pub mod MergeCall
+pub mod MergeSlots
+pub mod MergeSteps
+pub mod OrderLaws
+pub mod Write
+pub mod WriteAndAdvance

@@ -1,0 +1,17 @@
+-- The output of `join`, as an instance of a merge of two inputs by join fields.
+use Rattle.std.specs.Prelude.{ℕ, ◌-◌, ◌+◌, ◌*◌, ◌==◌, List, [], ◌∷◌, ◌++◌, length, map, filter, max, Option, Some, None}
+use Rattle.std.specs.Prelude.{Bool, true, false, if◌then◌else◌, slice_index_or, remove}
+use Rattle.std.specs.List.{flat_map, slice_split, join_with_byte}
+use Rattle.std.specs.Str.{byte}
+use Rattle.ptlangs.specs.Jobs.{Join}
+use Rattle.ptmerge.specs.Join.{join_key, unpaired_entries1, unpaired_entries2}
+use Rattle.ptmerge.specs.MergeSpec.{Lines}
+use Rattle.ptmerge.specs.declared.key_order.Side.{Side}
+use Rattle.ptmerge.specs.declared.key_order.Side.TheVariants.{First, Second}
+
+-- ---- output lines
+
+-- The output of one unpaired line of a file.
+abbrev pub unpaired_entry : Join → Side → List ℕ → Lines
+unpaired_entry job First line = unpaired_entries1 job (join_key job First line) (line ∷ [])
+unpaired_entry job Second line = unpaired_entries2 job (join_key job Second line) (line ∷ [])

@@ -1,0 +1,3 @@
+-- Theorems about the definitions.
+pub mod Args
+pub mod Theorems

@@ -1,0 +1,4 @@
+-- Definitions that only private functions and proofs use.
+pub mod Commands
+pub mod ParseSteps
+pub mod Syntax

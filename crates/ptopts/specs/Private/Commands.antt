@@ -1,0 +1,21 @@
+-- The command that the words of a command line specify, or the first fault.
+use Rattle.std.specs.Prelude.{ℕ, ◌||◌, ◌+◌, List, [], ◌∷◌, Bool, false, not, Option, Some, None, Result, Ok, Err}
+use Rattle.std.specs.Prelude.{if◌then◌else◌, option_and_then, slice_get, unwrap_or, option_map, codes, bytes_eq, filter}
+use Rattle.std.specs.Prelude.{take, map}
+use Rattle.std.specs.Borrow.{Bor}
+use Rattle.std.specs.List.{list_any}
+use Rattle.std.specs.Result.{result_unwrap_or}
+use Rattle.std.specs.Str.{byte}
+use Rattle.ptopts.specs.Args.{ParsedOption}
+use Rattle.ptopts.specs.Commands.{Command, command, ok_unless, values_fault}
+use Rattle.ptopts.specs.Faults.{Fault, first_some, operands_fault, strings_fault}
+use Rattle.ptopts.specs.declared.tool.Tool.{Tool}
+
+-- ---- commands
+
+-- the command of options that meet the constraints of the tool, or the first fault of the values, the operands and the
+-- strings
+abbrev pub checked_command : Tool → List ParsedOption → List (List ℕ) → Result Command Fault
+checked_command tool os operands = ok_unless
+    (first_some (values_fault tool os ∷ operands_fault tool os operands ∷ strings_fault tool os operands ∷ []))
+    (command tool os operands)

@@ -1,0 +1,19 @@
+-- The options and operands of each tool (POSIX.1-2017, XCU, the synopsis of each utility). POSIX does not have `-z`,
+-- and `-r` of `comm` and `join`. POSIX leaves unspecified which options conflict beyond the synopsis and which conflict
+-- is reported first, that `-v` may be repeated, and the limit of 512 operands.
+use Prim.Native.String.{String}
+use Rattle.std.specs.Prelude.{ℕ, List, [], ◌∷◌, Bool, true, false, codes, slice_index}
+use Rattle.ptopts.specs.Syntax.{Syntax}
+use Rattle.ptopts.specs.declared.tool.Syntax as code
+
+-- the view of a syntax of the code
+abbrev pub syntax_view : code.Syntax → Syntax
+syntax_view tool_syntax = record {
+  flags = tool_syntax.flags.now;
+  value_letters = tool_syntax.value_letters.now;
+  repeatable = tool_syntax.repeatable.now;
+  constraints = tool_syntax.constraints.now;
+  min_operands = tool_syntax.min_operands;
+  max_operands = tool_syntax.max_operands;
+  stdin_once = tool_syntax.stdin_once;
+}

@@ -1,0 +1,3 @@
+-- The contracts of public calls.
+pub mod MessageWrites
+pub mod Runs

@@ -1,0 +1,7 @@
+-- Definitions that only private functions and proofs use.
+pub mod Driver
+pub mod Engines
+pub mod Lag
+pub mod Messages
+pub mod SpecOfArgs
+pub mod Tools

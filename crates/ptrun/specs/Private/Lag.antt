@@ -1,0 +1,12 @@
+-- A bound on the lag of the output: however a run ends, the output that was decided two blocks of input ago is written,
+-- except for at most one block after a failed write.
+use Rattle.std.specs.Prelude.{◌≡◌, ◌≤◌, ℕ, ◌+◌, Bool, true, false, List, [], ◌∷◌, ◌++◌, Option, Some, None, length}
+use Rattle.std.specs.Prelude.{take, set}
+use Rattle.ptlines.specs.Calls.Lag.{BufferLag}
+use Rattle.ptlines.specs.Calls.Outputs.{Output}
+use Rattle.ptlines.specs.Received.{IsPrefix}
+
+-- `bytes` were pushed, and all of them except at most one block (8,192 bytes) have reached the sink.
+pub record IsPushedUpToBlock (bytes : List ℕ) (was is : Output) (pushed : List ℕ) : Type 0 where
+  pub begins : IsPrefix bytes pushed
+  pub buffering : BufferLag was is bytes

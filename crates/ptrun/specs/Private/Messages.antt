@@ -1,0 +1,9 @@
+-- The texts of the messages. Each ends with newline.
+use Rattle.std.specs.Prelude.{ℕ, ◌-◌, ◌==◌, List, [], ◌∷◌, ◌++◌, map, Option, Some, None, codes, decimal, encode_utf8}
+use Rattle.std.specs.Prelude.{if◌then◌else◌, slice_index_or}
+use Rattle.ptopts.specs.Faults.{Fault}
+
+-- The exit status that goes with it.
+abbrev pub usage_status : Option Fault → ℕ
+usage_status None = 1
+usage_status (Some fault) = 2
