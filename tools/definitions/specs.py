@@ -51,7 +51,8 @@ def remove_comments(text):
 def find_bound_names(block):
     """The names that a clause binds itself: its parameters, and those of `λ` and `let`."""
     head, equals, _ = block.partition(" =")
-    bound = set(re.findall(NAME, head)[1:]) if equals and " : " not in head.partition("(")[0] else set()
+    is_clause = equals and " : " not in head.partition("(")[0] and not block.startswith(("module ", "pub module "))
+    bound = set(re.findall(NAME, head)[1:]) if is_clause else set()
     bound |= set(re.findall(rf"λ \(?({NAME}?)(?: :|\.)", block)) | set(re.findall(rf"\blet ({NAME})", block))
     return {name for name in bound if name[0].islower()}
 

@@ -1,5 +1,5 @@
 -- The precondition and the postcondition of an engine that is called on one input.
-use Rattle.std.specs.Prelude.{◌≡◌, ℕ, true, false, [], None, Result, Ok, Err}
+use Rattle.std.specs.Prelude.{false, None}
 use Rattle.ptflow.specs.ToolSpec.{ToolSpec}
 use Rattle.ptlines.specs.Engines.{EngineSpec}
 

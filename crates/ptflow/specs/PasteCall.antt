@@ -1,6 +1,6 @@
 -- The precondition and the postcondition of the engine of `paste` without `-s`. The parameter `cells` has, for each
 -- column, the index of the reader of that column.
-use Rattle.std.specs.Prelude.{◌≡◌, ◌<◌, ◌==◌, ℕ, false, List, None, Result, Ok, Err, All, length, if◌then◌else◌}
+use Rattle.std.specs.Prelude.{ℕ, false, List, None, length}
 use Rattle.ptflow.specs.PasteText.{paste, paste_decided, paste_size}
 use Rattle.ptlangs.specs.Jobs.{Paste}
 use Rattle.ptlines.specs.Engines.{EngineSpec}

@@ -1,7 +1,7 @@
 -- The list of delimiters of `paste`, which is the value of option `-d` (POSIX.1-2017, XCU, `paste`). It is defined by a
 -- parse and by a grammar, and `DelimListMatchesGrammar` states that the two agree.
-use Rattle.std.specs.Prelude.{ℕ, ◌%◌, ◌==◌, ◌≡◌, ◌↔◌, List, [], ◌∷◌, ◌++◌, length, false, Option, Some, None, Result}
-use Rattle.std.specs.Prelude.{Ok, Err, if◌then◌else◌, codes, slice_index_or}
+use Rattle.std.specs.Prelude.{ℕ, ◌%◌, ◌==◌, List, [], ◌∷◌, length, Option, Some, None, Result}
+use Rattle.std.specs.Prelude.{Ok, Err, if◌then◌else◌, slice_index_or}
 use Rattle.std.specs.Str.{byte}
 use Rattle.ptlangs.specs.Numbers.{and_then, cons_ok}
 use Rattle.ptlangs.specs.declared.delims.DelimFault.{DelimFault}

@@ -1,6 +1,6 @@
 -- The output list of `join`, option `-o` (POSIX.1-2017, XCU, `join`).
-use Rattle.std.specs.Prelude.{ℕ, ◌==◌, ◌≡◌, ◌≤◌, ◌↔◌, List, [], ◌∷◌, ◌++◌, true, not, Option, Some, None, Result, Ok}
-use Rattle.std.specs.Prelude.{Err, if◌then◌else◌, nat_lt, codes, option_map, slice_get}
+use Rattle.std.specs.Prelude.{ℕ, ◌==◌, List, [], ◌∷◌, not, Result, Ok}
+use Rattle.std.specs.Prelude.{Err, if◌then◌else◌, nat_lt}
 use Rattle.std.specs.Str.{byte}
 use Rattle.ptlangs.specs.Numbers.{elements, is_number, max_u64, traverse, value}
 use Rattle.ptlangs.specs.declared.outlist.File.{File}

@@ -1,6 +1,5 @@
 -- How the result of a parsing function relates to the definition that it implements: postconditions for its contract.
 use Rattle.std.specs.Prelude.{Option, Some, None, Result, Ok, Err, ⊤, ◌≡◌}
-use Rattle.std.specs.Result.{result_err}
 
 -- the definition reports this fault; `None` is an allocation failure, of which nothing is claimed
 abbrev pub IsFault : {A E : Type 0} → Option E → Result A E → Type 0

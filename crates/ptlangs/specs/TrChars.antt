@@ -1,5 +1,5 @@
 -- The characters of a string of `tr`: plain bytes and escapes (POSIX.1-2017, XCU, `tr`, "EXTENDED DESCRIPTION").
-use Rattle.std.specs.Prelude.{◌≡◌, ◌≢◌, ◌↔◌, ◌≤◌, ◌<◌, ℕ, zero, suc, ◌==◌, List, [], ◌∷◌, ◌++◌, Bool, true, false}
+use Rattle.std.specs.Prelude.{ℕ, zero, suc, ◌==◌, List, [], ◌∷◌, Bool}
 use Rattle.std.specs.Prelude.{if◌then◌else◌, nat_le, take, take_while, length, Result, Ok, Err}
 use Rattle.std.specs.List.{find}
 use Rattle.std.specs.Option.{option_map_or}

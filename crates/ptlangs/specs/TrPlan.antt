@@ -1,6 +1,6 @@
 -- The plan of `tr`: the array of bytes of each string, and which bytes are deleted, translated and squeezed
 -- (POSIX.1-2017, XCU, `tr`).
-use Rattle.std.specs.Prelude.{◌≡◌, ◌≢◌, ◌↔◌, ℕ, zero, suc, ◌+◌, ◌-◌, ◌==◌, ◌&&◌, ◌||◌, List, [], ◌∷◌, ◌++◌, Bool, true}
+use Rattle.std.specs.Prelude.{ℕ, zero, suc, ◌+◌, ◌-◌, ◌==◌, ◌&&◌, ◌||◌, List, [], ◌∷◌, ◌++◌, Bool, true}
 use Rattle.std.specs.Prelude.{false, not, Option, Some, None, Result, Ok, Err, if◌then◌else◌, length, take, filter}
 use Rattle.std.specs.Prelude.{replicate, unwrap_or, slice_get}
 use Rattle.std.specs.List.{flat_map, list_all, list_any, last_or}

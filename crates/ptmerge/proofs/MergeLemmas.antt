@@ -10,7 +10,7 @@ use specs.Calls.Cursor.{NextErrPost, NextLinePost, HasDistinctSlots, initial_cur
 use specs.Calls.MergeSteps.{StartErrPost, StartFirstPost, MergeInputs, IsReaderOf, IsReportable, AreValidCursors}
 use specs.Calls.MergeSteps.{StartOkPost}
 use specs.Calls.MergeSteps.{merge_inputs, IsDisorderDecided}
-use specs.Private.MergeSteps.{previous_key}
+use specs.Calls.MergeSteps.{previous_key}
 use Rattle.ptlines.specs.Calls.Engines.{AllPushed}
 pub use Exits.*
 

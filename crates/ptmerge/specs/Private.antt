@@ -4,7 +4,6 @@ pub mod JoinFields
 pub mod JoinGroup
 pub mod MergeCall
 pub mod MergeSlots
-pub mod MergeSteps
 pub mod OrderLaws
 pub mod Write
 pub mod WriteAndAdvance

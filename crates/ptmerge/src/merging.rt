@@ -12,7 +12,7 @@ ghost use Rattle.ptmerge.specs.Sides.{both};
 ghost use Rattle.ptmerge.specs.Calls.Sides.{other};
 ghost use Rattle.ptmerge.specs.Calls.MergeSteps.{merge_inputs, AreValidCursors, IsReaderOf, StepPost, StartOkPost};
 ghost use Rattle.ptmerge.specs.Calls.MergeSteps.{StartErrPost};
-ghost use Rattle.ptmerge.specs.Private.MergeSteps.{previous_key};
+ghost use Rattle.ptmerge.specs.Calls.MergeSteps.{previous_key};
 
 pub(crate) mod cursor;
 pub(crate) mod four_slots;

@@ -1,6 +1,5 @@
 -- Theorems about the output of `cut`. If all is selected, a line is what it was split into, joined again. The fields of
 -- a row of `paste` are what the row is split into.
-use Rattle.ptflow.proofs
 use Rattle.ptflow.specs
 use Rattle.std.proofs.Common.{◌≡◌, ◌≢◌, ℕ, ◌+◌, ◌<◌, ◌≤◌, ◌==◌, Bool, true, false, List, [], ◌∷◌, ◌++◌, refl, ap, sym}
 use Rattle.std.proofs.Common.{◌∙◌, arith, zero, suc, length, map, append_assoc, Some}

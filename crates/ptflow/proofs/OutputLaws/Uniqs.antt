@@ -1,9 +1,8 @@
 -- Theorems about the output of `uniq`. A line that is put before some runs adds one to their counts. What it joins has
 -- its key, so adjacent runs have different keys, and the first lines of the runs are runs of their own.
-use Rattle.ptflow.proofs
 use Rattle.ptflow.specs
 use Rattle.std.proofs.Common.{◌≡◌, ℕ, ◌+◌, ◌<◌, true, false, List, [], ◌∷◌, ◌++◌, refl, ap, ◌∙◌, arith, map}
-use Rattle.std.specs.Prelude.{All, sum_by, if◌then◌else◌}
+use Rattle.std.specs.Prelude.{sum_by, if◌then◌else◌}
 use Rattle.std.specs.List.{AllByRecursion, flat_map}
 use Rattle.std.proofs.lemmas.List.Sums.{sum_by-cons}
 use Rattle.std.proofs.lemmas.Slice.Eq.{bytes_eq-Decides}

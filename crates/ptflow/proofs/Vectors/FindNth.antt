@@ -2,14 +2,14 @@
 -- terminators in 64 bytes are processed in order by clearing the lowest bit.
 use Rattle.ptflow.proofs
 use Rattle.std.proofs.lemmas
-use proofs.Common.{◌≡◌, ℕ, zero, suc, ◌+◌, ◌-◌, ◌*◌, ◌/◌, ◌%◌, ◌^◌, ◌<◌, ◌≤◌, Bool, true, false, cond, not, Option}
+use proofs.Common.{◌≡◌, ℕ, zero, suc, ◌+◌, ◌-◌, ◌/◌, ◌%◌, ◌^◌, ◌<◌, ◌≤◌, Bool, true, false, cond, not}
 use proofs.Common.{Some, List, [], ◌∷◌, length, map, take, drop, get_or, refl, sym, ◌∙◌, ap, arith, get_or-take, usual}
-use proofs.Common.{length-drop, count_ones, count_by, prefix_len, mask_l, chunk, take-add, take-take, length-take-le}
+use proofs.Common.{count_ones, count_by, prefix_len, mask_l, chunk, take-add, take-take, length-take-le}
 use proofs.Common.{get_or-le-sum_by, sum_by-append, sum_by-take-le, ones-mask_l, get_or-chunk, length-chunk}
 use proofs.Common.{IsFirstByte, NoneBefore, Passes, is_byte, line_before_terminator, line_if_not_found, Nowhere, None}
-use proofs.Common.{option_map, nowhere_trans, IsLine, byte_ne, IsNth, IsTerminatorMask, none_if_zero_mask}
+use proofs.Common.{IsLine, byte_ne, IsNth, IsTerminatorMask, none_if_zero_mask}
 use proofs.Common.{rules, count_by_more_yes, take-map, get_or-map, length-map}
-use lemmas.List.{get_or-drop, drop-map}
+use lemmas.List.{drop-map}
 use Rattle.ptlines.proofs.MatchMasks.{shifted}
 use proofs.Vectors.Lanes.{map-id}
 use lemmas.Simd.{first_set_mask_l}

@@ -1,6 +1,6 @@
 -- The precondition and the postcondition of the engine of `paste` without `-s`. The parameter `cells` has, for each
 -- column, the index of the reader of that column.
-use Rattle.std.specs.Prelude.{◌≡◌, ◌<◌, ◌==◌, ℕ, false, List, None, Result, Ok, Err, All, length, if◌then◌else◌}
+use Rattle.std.specs.Prelude.{◌≡◌, ◌<◌, ℕ, false, List, None, Result, Ok, Err, All, length}
 use Rattle.ptflow.specs.PasteCall.{paste_engine}
 use Rattle.ptflow.specs.declared.faults.FlowFault.{FlowFault}
 use Rattle.ptflow.specs.declared.faults.FlowFault.TheVariants.{Memory, Read, Write}

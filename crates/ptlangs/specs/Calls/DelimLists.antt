@@ -1,8 +1,6 @@
 -- The list of delimiters of `paste`, which is the value of option `-d` (POSIX.1-2017, XCU, `paste`). It is defined by a
 -- parse and by a grammar, and `DelimListMatchesGrammar` states that the two agree.
-use Rattle.std.specs.Prelude.{ℕ, ◌%◌, ◌==◌, ◌≡◌, ◌↔◌, List, [], ◌∷◌, ◌++◌, length, false, Option, Some, None, Result}
-use Rattle.std.specs.Prelude.{Ok, Err, if◌then◌else◌, codes, slice_index_or}
-use Rattle.std.specs.Str.{byte}
+use Rattle.std.specs.Prelude.{Option, Some, None}
 use Rattle.ptlangs.specs.declared.delims.DelimFault.{DelimFault}
 use Rattle.ptlangs.specs.declared.delims.DelimFault.TheVariants.{Memory}
 

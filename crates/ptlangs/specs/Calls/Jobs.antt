@@ -1,6 +1,6 @@
 -- The options of the five line tools, as plain values: the job of each tool, its defaults, and the view of the Rust
 -- type.
-use Rattle.std.specs.Prelude.{ℕ, List, [], ◌∷◌, Bool, true, false, Option, Some, None, slice_index, slice_index_or}
+use Rattle.std.specs.Prelude.{[], ◌∷◌, true, false, Some, None}
 use Rattle.ptlangs.specs.Jobs.{Join, Paste}
 
 -- `paste` without options: one line of each file, joined by tabs

@@ -1,7 +1,6 @@
 -- The output list of `join`, option `-o` (POSIX.1-2017, XCU, `join`).
-use Rattle.std.specs.Prelude.{ℕ, ◌==◌, ◌≡◌, ◌≤◌, ◌↔◌, List, [], ◌∷◌, ◌++◌, true, not, Option, Some, None, Result, Ok}
-use Rattle.std.specs.Prelude.{Err, if◌then◌else◌, nat_lt, codes, option_map, slice_get}
-use Rattle.std.specs.Str.{byte}
+use Rattle.std.specs.Prelude.{ℕ, List, Option, Some, None}
+use Rattle.std.specs.Prelude.{option_map, slice_get}
 use Rattle.ptlangs.specs.declared.outlist.File.TheVariants.{First, Second}
 use Rattle.ptlangs.specs.declared.outlist.OutFault.{OutFault}
 use Rattle.ptlangs.specs.declared.outlist.OutFault.TheVariants.{Memory}

@@ -1,5 +1,5 @@
 -- How the result of a parsing function relates to the definition that it implements: postconditions for its contract.
-use Rattle.std.specs.Prelude.{Option, Some, None, Result, Ok, Err, ⊤, ◌≡◌}
+use Rattle.std.specs.Prelude.{Option, Result, Ok, Err, ◌≡◌}
 use Rattle.std.specs.Result.{result_err}
 
 -- like `ParsePost`, for a function that checks the whole text before it allocates: an allocation failure is returned

@@ -1,8 +1,6 @@
 -- Definitions for the contracts of the private functions that read a string of `tr`: the characters after an index, the
 -- bytes still to be read, and the pairs of the two arrays.
-use Rattle.std.specs.Prelude.{◌≡◌, ◌-◌, ◌+◌, ◌*◌, ◌++◌, ◌&&◌, ℕ, Bool, true, false, List, [], ◌∷◌, Option, None, Some}
-use Rattle.std.specs.Prelude.{Result, Ok, Err, drop, length, map, slice_index, take, if◌then◌else◌}
-use Rattle.std.specs.List.{flat_map, last_or}
+use Rattle.std.specs.Prelude.{Result}
 use Rattle.std.specs.Result.{result_map_both}
 
 -- the function applied to a value; a fault is kept

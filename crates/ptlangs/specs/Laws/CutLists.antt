@@ -1,7 +1,6 @@
 -- The list of `cut`, options `-b`, `-c` and `-f` (POSIX.1-2017, XCU, `cut`).
-use Rattle.std.specs.Prelude.{ℕ, ◌+◌, ◌<◌, ◌≤◌, ◌==◌, ◌≡◌, ◌↔◌, ◌||◌, ◌&&◌, List, [], ◌∷◌, ◌++◌, Bool, true, not}
-use Rattle.std.specs.Prelude.{Option, Some, None, Result, Ok, Err, if◌then◌else◌, nat_lt, nat_le}
-use Rattle.std.specs.List.{slice_split, list_any}
+use Rattle.std.specs.Prelude.{ℕ, ◌≤◌, ◌≡◌, ◌↔◌, List, [], ◌∷◌, ◌++◌, true}
+use Rattle.std.specs.Prelude.{Ok}
 use Rattle.std.specs.Str.{byte}
 use Rattle.ptlangs.specs.CutLists.{cut_list}
 use Rattle.ptlangs.specs.Laws.Numbers.{IsListOf}

@@ -1,7 +1,6 @@
 -- The output list of `join`, option `-o` (POSIX.1-2017, XCU, `join`).
-use Rattle.std.specs.Prelude.{ℕ, ◌==◌, ◌≡◌, ◌≤◌, ◌↔◌, List, [], ◌∷◌, ◌++◌, true, not, Option, Some, None, Result, Ok}
-use Rattle.std.specs.Prelude.{Err, if◌then◌else◌, nat_lt, codes, option_map, slice_get}
-use Rattle.std.specs.Str.{byte}
+use Rattle.std.specs.Prelude.{ℕ, ◌≡◌, ◌≤◌, ◌↔◌, List, ◌++◌, true, Ok}
+use Rattle.std.specs.Prelude.{codes}
 use Rattle.ptlangs.specs.Laws.Numbers.{IsListOf}
 use Rattle.ptlangs.specs.Numbers.{is_number, max_u64, value}
 use Rattle.ptlangs.specs.OutLists.{out_list}

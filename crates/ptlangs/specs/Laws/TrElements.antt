@@ -1,12 +1,10 @@
 -- The elements of a string of `tr`, over its characters: single characters, ranges, and the three bracketed forms
 -- `[x*n]`, `[:class:]` and `[=x=]` (POSIX.1-2017, XCU, `tr`, "EXTENDED DESCRIPTION").
-use Rattle.std.specs.Prelude.{◌≡◌, ◌↔◌, ◌≤◌, ◌<◌, ℕ, zero, suc, ◌-◌, ◌==◌, List, [], ◌∷◌, ◌++◌, Bool, false, Option}
-use Rattle.std.specs.Prelude.{Some, None, Result, Ok, Err, if◌then◌else◌, nat_le, nat_lt, map, length, drop, option_map}
+use Rattle.std.specs.Prelude.{◌≡◌, ◌↔◌, ◌≤◌, ◌<◌, ℕ, List, [], ◌∷◌, ◌++◌}
+use Rattle.std.specs.Prelude.{Ok, map}
 use Rattle.std.specs.Prelude.{IsTrue}
 use Rattle.std.specs.List.{list_all}
-use Rattle.std.specs.Option.{option_and_then, option_or}
 use Rattle.std.specs.Char.{is_ascii_digit, is_ascii_lowercase}
-use Rattle.std.specs.Str.Parse.{digits_value}
 use Rattle.std.specs.Str.{byte}
 use Rattle.ptlangs.specs.TrChars.{Escaped, Invalid, Plain, SetChar}
 use Rattle.ptlangs.specs.TrClasses.{class_named}

@@ -1,5 +1,5 @@
 -- A plan of `tr` as three tables, each with an entry for every byte.
-use Rattle.std.specs.Prelude.{◌≡◌, ◌<◌, ◌^◌, ℕ, List, Bool, false, map, slice_index, slice_index_or}
+use Rattle.std.specs.Prelude.{◌≡◌, ◌<◌, ◌^◌, ℕ}
 use Rattle.ptlangs.specs.TrPlan.{Plan, image_of, is_deleted, is_squeezed}
 use Rattle.ptlangs.specs.TrTables.{deletes, image, squeezes, tables}
 

@@ -1,6 +1,6 @@
 -- The options of the five line tools, as plain values: the job of each tool, its defaults, and the view of the Rust
 -- type.
-use Rattle.std.specs.Prelude.{ℕ, List, [], ◌∷◌, Bool, true, false, Option, Some, None, slice_index, slice_index_or}
+use Rattle.std.specs.Prelude.{false}
 use Rattle.ptlangs.specs.Jobs.{Comm, Uniq}
 use Rattle.ptlangs.specs.declared.jobs.Show.TheVariants.{All}
 

@@ -3,7 +3,6 @@
 use Rattle.std.specs.Prelude.{◌≡◌, ◌-◌, ◌+◌, ◌*◌, ◌++◌, ◌&&◌, ℕ, Bool, true, false, List, [], ◌∷◌, Option, None, Some}
 use Rattle.std.specs.Prelude.{Result, Ok, Err, drop, length, map, slice_index, take, if◌then◌else◌}
 use Rattle.std.specs.List.{flat_map, last_or}
-use Rattle.std.specs.Result.{result_map_both}
 use Rattle.ptlangs.specs.TrChars.{SetChar, char_at, chars}
 use Rattle.ptlangs.specs.TrClasses.{all_bytes, are_opposite_cases}
 use Rattle.ptlangs.specs.TrElements.{set_elements}

@@ -6,7 +6,7 @@ use Rattle.std.specs.Ordering.{is_eq, is_gt}
 use Rattle.ptlines.specs.ByteOrder.{Cmp}
 use Rattle.ptlines.specs.Calls.ReadLine.{FillLine, FillMemoryErr, FillReadErr}
 use Rattle.ptlines.specs.Calls.Readers.{AdvanceOk, IsSound}
-use Rattle.ptlines.specs.Calls.Slots.{line}
+use Rattle.ptlines.specs.Calls.Slots.{line, with_line}
 use Rattle.ptlines.specs.Readers.{IsDone, Reader}
 use Rattle.ptlines.specs.Slots.{Slots}
 use Rattle.ptmerge.specs.Orders.{Key}

@@ -10,6 +10,7 @@ use Rattle.ptmerge.specs.Calls.Cursor.{HasDistinctSlots, HasSlots, NextErrPost, 
 use Rattle.ptmerge.specs.Calls.KeySpan.{IsKeySpan, IsValidCursor}
 use Rattle.ptmerge.specs.Calls.MergeSlots.{EnsureFourSlotsErrPost, EnsureFourSlotsPost}
 use Rattle.ptmerge.specs.Orders.{Key}
+use Rattle.ptmerge.specs.Calls.Sides.{other}
 use Rattle.ptmerge.specs.Sides.{both}
 use Rattle.ptmerge.specs.declared.faults.MergeFault.{MergeFault}
 use Rattle.ptmerge.specs.declared.key_order.Side.{Side}
@@ -69,6 +70,14 @@ IsReportable cmp side l Head head last = is_gt (cmp head l) ≡ true
 IsReportable cmp side l Ended head last = Unit {0}
 IsReportable cmp First l (Disorder n) head last = is_gt (cmp l last) ≡ false
 IsReportable cmp Second l (Disorder n) head last = is_gt (cmp last l) ≡ true
+
+-- The key of an input's current line.
+abbrev pub current_key : (Side → Key) → (Side → Sorted) → Slots → Side → List ℕ
+current_key key cursor store side = key side (line store (cursor side).current_slot)
+
+-- The key of an input's previous line.
+abbrev pub previous_key : (Side → Key) → (Side → Sorted) → Slots → Side → List ℕ
+previous_key key cursor store side = key side (line store (cursor side).previous_slot)
 
 module _ (cmp : Cmp) (key : Side → Key) (cursor : Side → Sorted) (store : Slots) where
   -- Only this input's current line has the least key.

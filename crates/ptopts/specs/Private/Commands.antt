@@ -1,11 +1,5 @@
 -- The command that the words of a command line specify, or the first fault.
-use Rattle.std.specs.Prelude.{ℕ, ◌||◌, ◌+◌, List, [], ◌∷◌, Bool, false, not, Option, Some, None, Result, Ok, Err}
-use Rattle.std.specs.Prelude.{if◌then◌else◌, option_and_then, slice_get, unwrap_or, option_map, codes, bytes_eq, filter}
-use Rattle.std.specs.Prelude.{take, map}
-use Rattle.std.specs.Borrow.{Bor}
-use Rattle.std.specs.List.{list_any}
-use Rattle.std.specs.Result.{result_unwrap_or}
-use Rattle.std.specs.Str.{byte}
+use Rattle.std.specs.Prelude.{ℕ, List, [], ◌∷◌, Result}
 use Rattle.ptopts.specs.Args.{ParsedOption}
 use Rattle.ptopts.specs.Commands.{Command, command, ok_unless, values_fault}
 use Rattle.ptopts.specs.Faults.{Fault, first_some, operands_fault, strings_fault}

@@ -1,8 +1,6 @@
 -- The options and operands of each tool (POSIX.1-2017, XCU, the synopsis of each utility). POSIX does not have `-z`,
 -- and `-r` of `comm` and `join`. POSIX leaves unspecified which options conflict beyond the synopsis and which conflict
 -- is reported first, that `-v` may be repeated, and the limit of 512 operands.
-use Prim.Native.String.{String}
-use Rattle.std.specs.Prelude.{ℕ, List, [], ◌∷◌, Bool, true, false, codes, slice_index}
 use Rattle.ptopts.specs.Syntax.{Syntax}
 use Rattle.ptopts.specs.declared.tool.Syntax as code
 

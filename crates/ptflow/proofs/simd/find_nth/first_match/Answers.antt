@@ -17,9 +17,11 @@ returns-then-mask-ne0 c =
 pub returns-in_err-at : goal.returns-in_err-at
 returns-in_err-at c =
     let none = nowhere_before _ _ _ c.requires.within c.requires.is c.if-mask-ne0.false in
-    rw c.from_residual.ensures (first_in_rest _ _ _ none None (rw take_rest at c.in_err-at.ensures))
+    let rest = first_in_rest (is_byte c.args.byte) c.args.bytes.now c.args.size none in
+    rw c.from_residual.ensures (rest None (rw take_rest at c.in_err-at.ensures))
 
 pub returns : goal.returns
 returns c =
     let none = nowhere_before _ _ _ c.requires.within c.requires.is c.if-mask-ne0.false in
-    first_in_rest _ _ _ none (Some c.in_ok-at.at) (rw take_rest at c.in_ok-at.ensures)
+    let rest = first_in_rest (is_byte c.args.byte) c.args.bytes.now c.args.size none in
+    rest (Some c.in_ok-at.at) (rw take_rest at c.in_ok-at.ensures)
