@@ -34,10 +34,11 @@ def report(lemmas, others, differences, proved, said):
     shown = [*differences, *wrong][:MOST_SHOWN]
     print(*shown, sep="\n", end="\n" if shown else "")
     if not proved and not wrong:
-        print(said[-3000:])
+        print(said[-3000:], "the definitions themselves are refused", sep="\n")
+        return 1
     compared = "".join(f"; {count} compared with {name}" for name, count in others.counts.items())
     print(f"{len(lemmas.texts) - len(wrong)} of {len(lemmas.texts)} lemmas as the definitions compute them{compared}")
-    return 0 if proved and not wrong and not differences else 1
+    return 1 if wrong or differences else 0
 
 
 def evaluate(given, room):

@@ -5,7 +5,7 @@ SHORT = {10: "\\n", 9: "\\t", 13: "\\r", 92: "\\\\", 34: '\\"'}
 EVALUATES = "unfolding lib.Utf8.encode digits all_bytes\n"
 # The roots: what the harness below names.
 ROOTS = ["ptrun.SpecOfArgs.spec_of_args", "ptrun.CommandSpec.messages", "ptrun.Files.InputBytes"]
-ROOTS += ["ptrun.Files.ReceivedInputs", "ptlangs.TrShifts.stretches", "ptopts.Commands.command_of_args"]
+ROOTS += ["ptrun.Files.ReceivedInputs", "ptlangs.Calls.TrShifts.stretches", "ptopts.Commands.command_of_args"]
 
 
 def make_specs_path(crate, module):
@@ -19,7 +19,7 @@ use {make_specs_path("ptrun", "SpecOfArgs")}.{{spec_of_args}}
 use {make_specs_path("ptrun", "CommandSpec")}.{{CommandSpec, messages}}
 use {make_specs_path("ptopts", "Commands")}.{{Command, Job, RunTr, command_of_args}}
 use {make_specs_path("ptopts", "Faults")}.{{Fault}}
-use {make_specs_path("ptlangs", "TrShifts")}.{{stretches}}
+use {make_specs_path("ptlangs", "Calls.TrShifts")}.{{stretches}}
 use {make_specs_path("ptrun", "Files")}.{{InputBytes, ReceivedInputs}}
 use {make_specs_path("ptlines", "Received")}.{{Received}}
 

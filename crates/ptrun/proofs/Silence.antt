@@ -1,6 +1,6 @@
 -- A run without a failure has a message if and only if its status is not 0. Each message ends with newline, so none is
 -- empty; and what gives a message gives the status.
-use Rattle.std.proofs.Common.{◌≡◌, ℕ, ◌+◌, List, [], ◌∷◌, ◌++◌, Bool, true, false, refl, length, arith, Option, Some}
+use Rattle.std.proofs.Common.{◌≡◌, ℕ, List, [], ◌∷◌, ◌++◌, Bool, true, false, refl, length, arith, Option, Some}
 use Rattle.std.proofs.Common.{None, Result, Ok, Err, take, sym, ◌∙◌, ap, length-append}
 use Rattle.std.proofs.lemmas.List.{append-nil, take_all}
 use Rattle.std.specs.Prelude.{◌||◌, codes, ◌↔◌, if◌then◌else◌, flat_map}

@@ -1,7 +1,6 @@
 -- The effect of a message on its sink.
-use Rattle.std.specs.Prelude.{◌≡◌, ℕ, ◌<◌, Bool, true, false, List, [], ◌∷◌, ◌++◌, length, map, flat_map}
+use Rattle.std.specs.Prelude.{◌≡◌, ℕ, true, false, List, [], ◌∷◌, ◌++◌, flat_map}
 use Rattle.std.specs.Io.KnownBytes.{append_known}
-use Rattle.std.specs.Borrow.{Bor}
 use Rattle.ptlines.specs.Sinks.{SinkState, unflushed_after}
 
 -- A message of these parts, with its newline.

@@ -23,8 +23,7 @@ use specs.declared.key_order.Span.{Span}
 use lemmas.Simd.{mask_l-lt, trailing_mask_l}
 use Rattle.std.specs.Simd.Lanes.{chunk, mask_l, top, zip2}
 use Rattle.memchr.specs.Find.{is_byte, IsFirstByte}
-use Rattle.std.proofs.Common.{pow-suc, div-one}
-use Rattle.std.proofs.Math.Nat.{zero-div, div-div-eq-div-mul, mul-lt-mul_of_pos_right, mul_assoc, one-le-pow}
+use Rattle.std.proofs.Math.Nat.{div-div-eq-div-mul, mul-lt-mul_of_pos_right, mul_assoc, one-le-pow}
 use Rattle.std.proofs.Math.Pow.{pow-add, pow-lt, pow_mono}
 use lib.Bits.{and_step, or_step, or_zero_l, or_zero_r, and_zero_l, or_shifted_r, and_mod, and_le_l, and_self, or_self}
 use lib.Count.{count_trailing_zeros}

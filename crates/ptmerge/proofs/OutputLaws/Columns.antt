@@ -2,7 +2,7 @@
 -- the third column. Two lists in order with the same members are the same, so the keys of exchanged inputs are.
 use Rattle.ptmerge.proofs
 use Rattle.ptmerge.specs
-use Rattle.std.proofs.Common.{◌≡◌, ◌≢◌, inl, inr, ℕ, ◌+◌, ◌-◌, Bool, true, false, List, [], ◌∷◌, ◌++◌, refl, ap, sym}
+use Rattle.std.proofs.Common.{◌≡◌, inl, inr, ℕ, ◌-◌, Bool, true, false, List, [], ◌∷◌, ◌++◌, refl, ap, sym}
 use Rattle.std.proofs.Common.{◌∙◌, arith, zero, suc, length, map, filter, Option, Some, None, Less, Equal, Greater}
 use Rattle.std.specs.Prelude.{if◌then◌else◌, replicate, min}
 use Rattle.std.specs.List.{flat_map}

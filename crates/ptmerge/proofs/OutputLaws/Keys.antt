@@ -3,7 +3,7 @@ use Rattle.ptmerge.proofs
 use Rattle.ptmerge.specs
 use Rattle.std.specs.Ordering.{match_ordering}
 use Rattle.std.specs.declared.cmp.Ordering.{Ordering}
-use Rattle.std.proofs.Common.{⊎_elim, ◌≡◌, ◌⊎◌, inl, inr, ℕ, ◌+◌, ◌-◌, true, false, List, [], ◌∷◌, ◌++◌, refl, sym}
+use Rattle.std.proofs.Common.{⊎_elim, ◌≡◌, ◌⊎◌, inl, inr, ℕ, ◌+◌, true, false, List, [], ◌∷◌, ◌++◌, refl, sym}
 use Rattle.std.proofs.Common.{arith, Less, Equal, Greater}
 use Rattle.std.specs.Prelude.{if◌then◌else◌, bytes_eq, sum_by}
 use Rattle.std.proofs.lemmas.Cmp.{tied_itself}

@@ -1,9 +1,7 @@
 -- The model of a merge of two lists of lines by their keys: its whole output, the position of the first line that is
 -- not in order, and the part of the output that does not depend on lines that are still unread.
-use Rattle.std.specs.Prelude.{ℕ, ◌+◌, ◌&&◌, ◌||◌, cond, List, [], ◌∷◌, ◌++◌, length, map, filter, Option, Some, None}
-use Rattle.std.specs.Prelude.{is_some, Bool, true, false, nat_lt, bytes_eq, if◌then◌else◌, unwrap_or}
-use Rattle.std.specs.List.{flat_map, last_or}
-use Rattle.std.specs.Ordering.{match_ordering, is_lt, is_gt, is_le}
+use Rattle.std.specs.Prelude.{Option, Some, None}
+use Rattle.std.specs.Prelude.{Bool, false}
 use Rattle.ptlines.specs.Received.{Received, known_lines}
 use Rattle.ptmerge.specs.MergeSpec.{Lines, MergeDisorder, MergeTool, disorder, is_decided}
 use Rattle.ptmerge.specs.declared.key_order.Side.{Side}

@@ -1,8 +1,5 @@
 -- The output of `join`, as an instance of a merge of two inputs by join fields.
-use Rattle.std.specs.Prelude.{ℕ, ◌-◌, ◌+◌, ◌*◌, ◌==◌, List, [], ◌∷◌, ◌++◌, length, map, filter, max, Option, Some, None}
-use Rattle.std.specs.Prelude.{Bool, true, false, if◌then◌else◌, slice_index_or, remove}
-use Rattle.std.specs.List.{flat_map, slice_split, join_with_byte}
-use Rattle.std.specs.Str.{byte}
+use Rattle.std.specs.Prelude.{ℕ, List, [], ◌∷◌}
 use Rattle.ptlangs.specs.Jobs.{Join}
 use Rattle.ptmerge.specs.Join.{join_key, unpaired_entries1, unpaired_entries2}
 use Rattle.ptmerge.specs.MergeSpec.{Lines}

@@ -1,5 +1,5 @@
 -- The precondition and the postcondition of a tool that merges two inputs, such as `comm` and `join`.
-use Rattle.std.specs.Prelude.{◌≡◌, ◌≤◌, ◌++◌, ℕ, Bool, true, false, List, None, Result, Ok, Err, length, option_map}
+use Rattle.std.specs.Prelude.{◌≡◌, ℕ, false}
 use Rattle.ptlines.specs.Calls.Outputs.{Output}
 use Rattle.ptlines.specs.Calls.Readers.{IsSound}
 use Rattle.ptlines.specs.Readers.{Reader}

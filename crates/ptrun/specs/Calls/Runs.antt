@@ -1,7 +1,5 @@
 -- The contract of a whole run: its output, messages, exit status and memory, by its inputs and the calls that failed.
-use Rattle.std.specs.Prelude.{◌≡◌, ℕ, ◌≤◌, Bool, true, false, List, ◌++◌, Option, Some, None, length, max, take}
-use Rattle.std.specs.Prelude.{slice_get, ◌⊎◌, if◌then◌else◌}
-use Rattle.std.specs.Io.KnownBytes.{append_known}
+use Rattle.std.specs.Prelude.{◌≡◌, false}
 use Rattle.ptlines.specs.Slots.{Slots, total_bytes}
 use Rattle.ptrun.specs.Runs.{Sinks}
 

@@ -1,7 +1,6 @@
 -- A bound on the lag of the output: however a run ends, the output that was decided two blocks of input ago is written,
 -- except for at most one block after a failed write.
-use Rattle.std.specs.Prelude.{◌≡◌, ◌≤◌, ℕ, ◌+◌, Bool, true, false, List, [], ◌∷◌, ◌++◌, Option, Some, None, length}
-use Rattle.std.specs.Prelude.{take, set}
+use Rattle.std.specs.Prelude.{ℕ, List}
 use Rattle.ptlines.specs.Calls.Lag.{BufferLag}
 use Rattle.ptlines.specs.Calls.Outputs.{Output}
 use Rattle.ptlines.specs.Received.{IsPrefix}

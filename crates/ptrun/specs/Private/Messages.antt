@@ -1,6 +1,5 @@
 -- The texts of the messages. Each ends with newline.
-use Rattle.std.specs.Prelude.{ℕ, ◌-◌, ◌==◌, List, [], ◌∷◌, ◌++◌, map, Option, Some, None, codes, decimal, encode_utf8}
-use Rattle.std.specs.Prelude.{if◌then◌else◌, slice_index_or}
+use Rattle.std.specs.Prelude.{ℕ, Option, Some, None}
 use Rattle.ptopts.specs.Faults.{Fault}
 
 -- The exit status that goes with it.

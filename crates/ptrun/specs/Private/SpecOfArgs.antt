@@ -1,6 +1,5 @@
 -- From the arguments of a command to its specification.
-use Rattle.std.specs.Prelude.{ℕ, List, [], Bool, true, false, Some, None, Result, Ok, Err, codes, length}
-use Rattle.std.specs.Prelude.{slice_index_or, is_none, refl, if◌then◌else◌}
+use Rattle.std.specs.Prelude.{ℕ, Result, Ok, Err, length}
 use Rattle.ptopts.specs.Commands.{Command}
 use Rattle.ptopts.specs.Faults.{Fault}
 

@@ -1,6 +1,6 @@
 -- A tool in a run: it reads its operands one after another or together. And the specification of a command, by its
 -- tool.
-use Rattle.std.specs.Prelude.{ℕ, List, Bool, true, false, refl, if◌then◌else◌}
+use Rattle.std.specs.Prelude.{Bool, true, false}
 use Rattle.ptrun.specs.Tools.{OneByOne, Together, ToolInRun}
 
 -- The tool reads all its operands together.
