@@ -16,7 +16,7 @@ use Rattle.ptrun.specs.MessageWrites.{HasSaid}
 use Rattle.ptrun.specs.Messages.{memory_message, unopened_message}
 use Rattle.ptrun.specs.Runs.{IsExact, IsExactUnlessFailed, IsRunInStore, IsStoreUnchangedIfUnread, IsUnchangedIfUnread}
 use Rattle.ptrun.specs.Runs.{Outcome, sinks}
-use Rattle.ptrun.specs.SpecOfArgs.{spec_of_args}
+use Rattle.ptrun.specs.SpecOfArgs.{spec_of_args, spec_unless_memory}
 
 -- The files, the standard streams and the store that a run over files is given.
 pub record Before : Type 0 where
