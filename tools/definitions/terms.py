@@ -12,7 +12,7 @@ def make_specs_path(crate, module):
     return make_path(f"Rattle.{crate}.specs.{module}")
 
 
-HARNESS = f"""-- What the definitions give for words, standard input and files.
+HARNESS = f"""-- Results of the definitions for words, standard input and files.
 use Rattle.std.proofs.Common.{{ℕ, List, [], ◌∷◌, map, Some, None, codes}}
 use Rattle.std.specs.Prelude.{{Option, Result, Ok, Err, length, bytes_eq, find, option_map}}
 use {make_specs_path("ptrun", "SpecOfArgs")}.{{spec_of_args}}
