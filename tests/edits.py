@@ -111,7 +111,7 @@ def check_edit(edit):
 
 
 def find_functions(crate):
-    """The functions of a crate: file, index, name, whether it is public, whether it has a body."""
+    """The functions of a crate: file, offset, name, whether it is public, whether it has a body."""
     name_of_crate, lib = os.path.basename(crate), read_text(f"{crate}/src/lib.rt")
     given = set(re.findall(r"\w+", " ".join(re.findall(r"^pub use (.*?);", lib, re.M | re.S))))
     for path in sorted(glob.glob(f"{crate}/src/**/*.rt", recursive=True)):
@@ -119,7 +119,7 @@ def find_functions(crate):
         module = inside[len("src/") : -len(".rt")].replace("/", "::")
         is_open = module == "lib" or f"pub mod {module};" in lib
         shown = set(re.findall(r"^pub (?:struct|enum|union) (\w+)", text, re.M))
-        owner, place, inner = None, 0, ""
+        owner, offset, inner = None, 0, ""
         for line in text.split("\n"):
             head, function = IMPL.match(line), FUNCTION.match(line)
             if head and not line.startswith(" "):
@@ -131,9 +131,9 @@ def find_functions(crate):
                 is_public = is_given and bool(function["pub"] or inner) and (not owner or owner in shown)
                 of = [name_of_crate, *([module] if is_open and module != "lib" else []), *([owner] if owner else [])]
                 name = "::".join(of) + (f": {inner}::{function['name']}" if inner else f"::{function['name']}")
-                body = re.compile(r"^( {4})?\{\}$|\{\}$|^( {4})?\{$|\{$", re.M).search(text, place)
-                yield inside, place, name, is_public, not (body and body[0].endswith("{}"))
-            place += len(line) + 1
+                body = re.compile(r"^( {4})?\{\}$|\{\}$|^( {4})?\{$|\{$", re.M).search(text, offset)
+                yield inside, offset, name, is_public, not (body and body[0].endswith("{}"))
+            offset += len(line) + 1
 
 
 def find_owners(edit, functions, named):
@@ -142,7 +142,7 @@ def find_owners(edit, functions, named):
         return named[edit.label]
     old = edit.changes[0][0]
     index = read_text(f"{edit.crate}/{edit.file}").find(old) + len(old)
-    return [name for file, place, name, _, _ in functions if file == edit.file and place <= index][-1:]
+    return [name for file, offset, name, _, _ in functions if file == edit.file and offset <= index][-1:]
 
 
 def find_bodies(crate, edits):

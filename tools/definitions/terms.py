@@ -79,7 +79,7 @@ use Rattle.{CRATE}.proofs.Harness.{{ran, wrote, decides, stretch_count}}
 
 
 def is_plain(byte):
-    """Whether a byte stands in a string as itself. A character below 256 is its byte."""
+    """Whether a byte is written in a string as itself. A character below 256 is its byte."""
     return byte in SHORT or 32 <= byte < 127 or byte >= 161 and byte != 173
 
 
