@@ -21,12 +21,12 @@ NAMING = [f"docs/{name}.md" for name in ("proofs", "PROVED", "DECISIONS")]
 
 def compare_speed():
     """The numbers of the README that are not those of bench/README.md: rows of its table, and how much faster than
-    GNU's tools the works are, as a geometric mean and at least."""
+    GNU's tools the commands are, as a geometric mean and at least."""
     said, measured = (read_text(f"{TOP}/{file}") for file in ("README.md", "bench/README.md"))
     works = measured.partition("## By work")[2].partition("**geometric mean**")[0]
     gains = [1 / float(ratio) for ratio in re.findall(r"^\| `.*?\| (\d[\d.]*) \|", works, re.M)]
     mean, least = math.exp(sum(map(math.log, gains)) / len(gains)), min(gains)
-    wanted = [f"{mean:.1f} times as fast", f"the geometric mean of {len(gains)} works"]
+    wanted = [f"{mean:.1f} times as fast", f"the geometric mean of {len(gains)} commands"]
     wanted += [f"the least is {least:.1f} times"]
     found = [f"README.md does not say: {words}\n" for words in wanted if words not in re.sub(r"\s+", " ", said)]
     rows = re.findall(r"^(\| `.* \| [\d,]+ \| [\d,]+ \|)$", said, re.M)
