@@ -1,8 +1,7 @@
 # make                      proves the program and its libraries, and builds build/ptext
 # make try WORDS='cut -c 1' compiles the program and runs it on standard input, in half a minute: nothing is proved
-# make check                what to run while working: proves what changed since SINCE, what stands on it, its tests,
-#                           and the wrong bodies of the changed crates (SINCE=COMMIT; origin/main where it is known,
-#                           else HEAD~1)
+# make check                while working: proves what changed since SINCE, what uses it, its tests, and the wrong bodies
+#                           of the changed crates (SINCE=COMMIT; origin/main where it is known, else HEAD~1)
 # make test                 the gate: every proof, most wrong bodies, all tests; then all tests of the program that it
 #                           built, and of the static program, the library, the Python module and the page, which are
 #                           built from what it proved (needs gcc and libc6-dev). It names what it leaves out

@@ -1,4 +1,4 @@
-# Completion of ptext for fish: the tools, the options of each, files, and the classes of tr. Options stand before
+# Completion of ptext for fish: the tools, the options of each, files, and the classes of tr. Options come before
 # operands.
 
 # __ptext_is TOOL..: whether the first word is one of these
@@ -7,7 +7,7 @@ function __ptext_is
     set -q words[2]; and contains -- $words[2] $argv
 end
 
-# __ptext_options TOOL..: whether the first word is one of these, and no operand stands before the cursor
+# __ptext_options TOOL..: whether the first word is one of these, and no operand is before the cursor
 function __ptext_options
     __ptext_is $argv; or return
     set -l words (commandline -opc)

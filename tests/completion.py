@@ -24,8 +24,7 @@ sys.path.insert(0, f"{TOP}/tools")
 from names import NAMES, read_letters
 
 FLAGS, VALUED = read_letters("flags"), read_letters("value_letters")
-# How each shell is started, and what is typed first. (@ stands for the folder of the completions, % for that of the
-# test.)
+# How each shell is started, and what is typed first. (@ is the folder of the completions, % that of the test.)
 SHELLS = {
     "bash": (
         ["bash", "--norc", "--noprofile", "-i"],
@@ -129,7 +128,7 @@ def strip_escapes(came, between=b""):
 
 
 def find_offered(text, typed, words):
-    """The words of these that stand in a text by themselves."""
+    """The words of these that a text contains by themselves."""
     rest = text.replace(typed, " ", 1)
     if typed.endswith(":"):
         return {word for word in words if re.search(rf"(?<![a-z]){word}(?![a-z])", rest)}

@@ -1,6 +1,7 @@
 #!/bin/sh
-# The definitions: docs/PROMISE.md has them as they are, and the prover computes them on the worked examples, those of the
-# standard, 200 random commands of a fixed seed and 100 with parts of their inputs, as tools/definitions says.
+# The definitions: docs/PROMISE.md has them as they are, those of the promise alone are in specs/ itself, and the prover
+# computes them on the worked examples, those of the standard, 200 random commands of a fixed seed and 100 with parts of
+# their inputs, as tools/definitions says.
 # usage: tests/definitions.sh [PROGRAM]
 set -eu
 top=$(dirname "$0")/..

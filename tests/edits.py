@@ -3,7 +3,7 @@
 changes code, never a definition, a proof, or a clause of a contract. One that changes a clause shows nothing if it is
 refused.
 
-  python3 tests/edits.py               says which do not
+  python3 tests/edits.py               says which do not, and which public functions of the libraries have none
   python3 tests/edits.py --list        prints each public function and the wrong bodies that belong to it, in brackets
                                        those of must-fail-release, and where one is missing
 
@@ -18,7 +18,13 @@ import sys
 sys.dont_write_bytecode = True
 sys.path.insert(0, os.path.join(os.path.dirname(os.path.dirname(os.path.realpath(__file__))), "tools"))
 
-from project import TOP, Failed, read_text, run_script
+from project import TOP, Failed, find_below, read_text, read_uses, run_script
+
+# The public functions to which no wrong body belongs, each with the reason.
+WITHOUT_EDIT = {
+    "ptfiles::Calls::new": "only contracts read the record that it returns",
+    "ptfiles::Calls::with": "only contracts read the record that it returns",
+}
 
 # Where a clause or another ghost item begins.
 GHOST = re.compile(r"\b(?:(requires|ensures)\b[^{;]*|ghost\b[^{;]*)([{;])")
@@ -105,7 +111,7 @@ def check_edit(edit):
 
 
 def find_functions(crate):
-    """The functions of a crate: file, index, name, whether it is public, whether it has a body."""
+    """The functions of a crate: file, offset, name, whether it is public, whether it has a body."""
     name_of_crate, lib = os.path.basename(crate), read_text(f"{crate}/src/lib.rt")
     given = set(re.findall(r"\w+", " ".join(re.findall(r"^pub use (.*?);", lib, re.M | re.S))))
     for path in sorted(glob.glob(f"{crate}/src/**/*.rt", recursive=True)):
@@ -113,7 +119,7 @@ def find_functions(crate):
         module = inside[len("src/") : -len(".rt")].replace("/", "::")
         is_open = module == "lib" or f"pub mod {module};" in lib
         shown = set(re.findall(r"^pub (?:struct|enum|union) (\w+)", text, re.M))
-        owner, place, inner = None, 0, ""
+        owner, offset, inner = None, 0, ""
         for line in text.split("\n"):
             head, function = IMPL.match(line), FUNCTION.match(line)
             if head and not line.startswith(" "):
@@ -125,9 +131,9 @@ def find_functions(crate):
                 is_public = is_given and bool(function["pub"] or inner) and (not owner or owner in shown)
                 of = [name_of_crate, *([module] if is_open and module != "lib" else []), *([owner] if owner else [])]
                 name = "::".join(of) + (f": {inner}::{function['name']}" if inner else f"::{function['name']}")
-                body = re.compile(r"^( {4})?\{\}$|\{\}$|^( {4})?\{$|\{$", re.M).search(text, place)
-                yield inside, place, name, is_public, not (body and body[0].endswith("{}"))
-            place += len(line) + 1
+                body = re.compile(r"^( {4})?\{\}$|\{\}$|^( {4})?\{$|\{$", re.M).search(text, offset)
+                yield inside, offset, name, is_public, not (body and body[0].endswith("{}"))
+            offset += len(line) + 1
 
 
 def find_owners(edit, functions, named):
@@ -136,10 +142,12 @@ def find_owners(edit, functions, named):
         return named[edit.label]
     old = edit.changes[0][0]
     index = read_text(f"{edit.crate}/{edit.file}").find(old) + len(old)
-    return [name for file, place, name, _, _ in functions if file == edit.file and place <= index][-1:]
+    return [name for file, offset, name, _, _ in functions if file == edit.file and offset <= index][-1:]
 
 
-def list_crate(crate, edits):
+def find_bodies(crate, edits):
+    """The public functions of a crate, each with the wrong bodies that belong to it; those that have no body; and the
+    wrong bodies that belong to no public function."""
     functions = list(find_functions(crate))
     rows = [re.findall(r"^- (\w+): (.*)$", read_text(path), re.M) for path in glob.glob(f"{crate}/must-fail*/for.md")]
     named = {label: names.split(", ") for label, names in sum(rows, [])}
@@ -149,21 +157,39 @@ def list_crate(crate, edits):
         for name in find_owners(edit, functions, named):
             shown = f"[{edit.label}]" if edit.is_of_release else edit.label
             bodies.get(name, stray).append(shown if name in bodies else f"{edit.label} (in {name})")
+    return bodies, {name for _, _, name, _, has_body in functions if not has_body}, stray
+
+
+def list_crate(crate, edits):
+    bodies, laws, stray = find_bodies(crate, edits)
     of_release = sum(edit.is_of_release for edit in edits)
     counts = f"{len(edits) - of_release} wrong bodies, {of_release} more for a release"
     print(f"== {os.path.basename(crate)}: {len(bodies)} public functions, {counts}")
-    for _, _, name, is_public, has_body in functions:
-        if is_public:
-            print(f"{name:55} {', '.join(bodies[name]) or ('MISSING' if has_body else 'a law, without a body')}")
+    for name, labels in bodies.items():
+        none = "a law, without a body" if name in laws else WITHOUT_EDIT.get(name, "MISSING")
+        print(f"{name:55} {', '.join(labels) or none}")
     for name in stray:
         print(f"of no public function: {name}")
 
 
+def find_missing(by_crate):
+    """The public functions that have no wrong body and no reason, and the reasons that are of no such function."""
+    found, reasons = [], dict(WITHOUT_EDIT)
+    for crate, edits in by_crate.items():
+        bodies, laws, _ = find_bodies(crate, edits)
+        for name in [name for name in bodies if not bodies[name] and name not in laws]:
+            if not reasons.pop(name, None):
+                found.append(f"{name}: no wrong body belongs to it, and WITHOUT_EDIT has no reason")
+    return found + [f"{name}: WITHOUT_EDIT has a reason, but it has a wrong body, or is not there" for name in reasons]
+
+
 def main():
     edits = find_edits()
+    libraries = sorted(f"{TOP}/crates/{crate}" for crate in find_below("ptext", read_uses()))
+    by_crate = {crate: [edit for edit in edits if edit.crate == crate] for crate in libraries}
     if sys.argv[1:] == ["--list"]:
-        for crate in sorted({edit.crate for edit in edits if not edit.is_of_release}):
-            list_crate(crate, [edit for edit in edits if edit.crate == crate])
+        for crate in libraries:
+            list_crate(crate, by_crate[crate])
         return 0
     if sys.argv[1:]:
         return __doc__
@@ -173,9 +199,10 @@ def main():
             check_edit(edit)
         except Failed as why:
             lost.append(f"{os.path.relpath(edit.path, TOP)}: {why}")
-    if lost or not edits:
-        raise Failed("\n".join(lost or ["there are no wrong bodies"]))
-    print(f"{len(edits)} wrong bodies: each applies, and changes code alone")
+    lost += find_missing(by_crate)
+    if lost:
+        raise Failed("\n".join(lost))
+    print(f"{len(edits)} wrong bodies: each applies, and changes code alone; each public function has one")
     return 0
 
 

@@ -191,7 +191,7 @@ before=$(listed "$room/blocked")
 is "a file in the way" "cannot install: $room/blocked/share/man: File exists. Nothing was installed." \
     "$(fails install PREFIX="$room/blocked" DESTDIR=)"
 is "nothing is left behind" "$before" "$(listed "$room/blocked")"
-# (A limit on the size of files stands for a full disk. What strip says of it is no message of ours.)
+# (A limit on the size of files is like a full disk. The messages of strip are left out.)
 is "no room for the program" "cannot install: $room/blocked/bin/ptext: File too large. Nothing was installed." \
     "$(rm "$room/blocked/share/man" && ulimit -f 16 && fails install PREFIX="$room/blocked" DESTDIR= | grep '^cannot')"
 is "nothing is left of it" ". ./share " "$(listed "$room/blocked")"
@@ -205,7 +205,7 @@ before=$(listed "$room/strict")
 is "a folder in the way" \
     "cannot install: $room/strict/share/man/man1/ptext.1: there is a folder of that name. Nothing was installed." \
     "$(fails install PREFIX="$room/strict" DESTDIR=)"
-is "the earlier installation stands" "$before" "$(listed "$room/strict")"
+is "the earlier installation is unchanged" "$before" "$(listed "$room/strict")"
 rmdir "$room/strict/share/man/man1/ptext.1"
 install uninstall PREFIX="$room/strict" DESTDIR=
 is "and goes whole" "" "$(ls -A "$room/strict")"
@@ -248,7 +248,7 @@ if [ -n "$python" ]; then
     is "no rights to take it away" \
         "cannot uninstall: $room/theirs/bin/ptext: Permission denied. What is left is noted in $room/theirs/share/ptext/installed." \
         "$($as "$python" "$room/readable/tools/install.py" uninstall "$room/theirs" 2>&1)"
-    is "it stands, and its notes" "$before" "$(listed "$room/theirs")"
+    is "it is unchanged, and its notes" "$before" "$(listed "$room/theirs")"
     chmod -R u+w "$room/theirs"
 else
     left_out "an installation without rights (there is no python3 that nobody can run)"

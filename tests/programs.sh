@@ -1,6 +1,6 @@
 #!/bin/sh
-# Installs the programs that tests run and that are not here, from Debian, as tests/programs.txt lists them. What cannot
-# be installed is named. It does not fail then: the tests that need it say that they are left out.
+# Installs the programs that tests run and that are not here, from Debian, as tests/programs.txt lists them. It names
+# those that cannot be installed, and does not fail then: the tests that need them say that they are left out.
 # usage: tests/programs.sh
 set -u
 cd "$(dirname "$0")" || exit 1

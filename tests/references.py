@@ -21,12 +21,12 @@ NAMING = [f"docs/{name}.md" for name in ("proofs", "PROVED", "DECISIONS")]
 
 def compare_speed():
     """The numbers of the README that are not those of bench/README.md: rows of its table, and how much faster than
-    GNU's tools the works are, as a geometric mean and at least."""
+    GNU's tools the commands are, as a geometric mean and at least."""
     said, measured = (read_text(f"{TOP}/{file}") for file in ("README.md", "bench/README.md"))
     works = measured.partition("## By work")[2].partition("**geometric mean**")[0]
     gains = [1 / float(ratio) for ratio in re.findall(r"^\| `.*?\| (\d[\d.]*) \|", works, re.M)]
     mean, least = math.exp(sum(map(math.log, gains)) / len(gains)), min(gains)
-    wanted = [f"{mean:.1f} times as fast", f"the geometric mean of {len(gains)} works"]
+    wanted = [f"{mean:.1f} times as fast", f"the geometric mean of {len(gains)} commands"]
     wanted += [f"the least is {least:.1f} times"]
     found = [f"README.md does not say: {words}\n" for words in wanted if words not in re.sub(r"\s+", " ", said)]
     rows = re.findall(r"^(\| `.* \| [\d,]+ \| [\d,]+ \|)$", said, re.M)
@@ -44,7 +44,10 @@ def find_lacking_names():
 
     found = set(re.findall(r"`([A-Z]\w+)\.(\w+)`", text)) - {("File", "name")}
     begin = r"^(abbrev )?(pub )?(unfoldable )?(pub )?(record |data )?"
-    lacking = [f"{one}.{two}" for one, two in found if not holds(f"*/specs/**/{one}.antt", rf"{begin}{two}\b")]
+    # (What POSIX is compared with is part of the promise, or of a law.)
+    files = ("*/specs/{}.antt", "*/specs/Laws/{}.antt")
+    lacking = [f"{one}.{two}" for one, two in found
+               if not any(holds(file.format(one), rf"{begin}{two}\b") for file in files)]
     rows = set(re.findall(r"`(\w+Examples)`", text)) - {"FileExamples"}
     lacking += [name for name in rows if not glob.glob(f"{TOP}/crates/pt*tests/proofs/**/{name}.antt", recursive=True)]
     tests = set(re.findall(r"`(pt\w+)::(\w+)::(\w+)`", text))
@@ -66,7 +69,7 @@ def find_lacking_paths():
         known.update(re.findall(r"\b[A-Z]\w+", read_text(path)))
     found = []
     for file in [name for name in FILES if name.endswith(".md")]:
-        text = read_text(f"{TOP}/{file}").replace("specs/File.antt", "specs")
+        text = read_text(f"{TOP}/{file}")
         for path in re.findall(r"\b(?:crates/|(?<=`)pt[a-z]+/)[\w/*.-]*[\w*]", text):
             ends = [f"{TOP}/crates/{path.removeprefix('crates/')}{end}" for end in ("", ".rt", ".antt")]
             # (The files that checks keep are there only after a check.)

@@ -10,7 +10,7 @@
 #include <stdlib.h>
 #include <unistd.h>
 
-// The calls of glibc that stand behind those below.
+// The calls of glibc that those below replace.
 void *__libc_malloc(size_t);
 void *__libc_calloc(size_t, size_t);
 void *__libc_realloc(void *, size_t);

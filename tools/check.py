@@ -1,6 +1,6 @@
 #!/usr/bin/env python3
-"""Proves what changed since a commit: the crates whose text is another and those that stand on them, their tests, and
-the wrong bodies of the changed ones. Uncommitted changes count. It works over what earlier checks kept.
+"""Proves what changed since a commit: the crates whose text is another and those that use them, their tests, and the
+wrong bodies of the changed ones. Uncommitted changes count. It works over what earlier checks kept.
 
   python3 tools/check.py [COMMIT]      COMMIT is origin/main where that is known, else HEAD~1
 """

@@ -2,14 +2,15 @@
 """Shows the definitions that the contract of a whole run rests on: all that a reader has to believe.
 
   python3 tools/promise.py            writes those of a command to docs/PROMISE.md, in reading order with their comments
-  python3 tools/promise.py --check    fails if that page is not what this would write
-  python3 tools/promise.py --size     prints how much the contracts of `run` and `perform` rest on, crate by crate, and
-                                      which files have other definitions beside these
+  python3 tools/promise.py --check    fails if that page is not what this would write, or if a definition is not where
+                                      it belongs: those that the contracts below rest on are in specs/ itself, and all
+                                      others in its folders Calls, Laws and Private
+  python3 tools/promise.py --size     prints how much these contracts rest on, crate by crate
 """
 import argparse
 import re
 import sys
-from os.path import dirname, realpath
+from os.path import dirname, realpath, relpath
 
 sys.dont_write_bytecode = True
 TOP = dirname(dirname(realpath(__file__)))
@@ -148,7 +149,7 @@ def format_section(specs, needed, declared, title, sentence, modules):
 
 
 def make_page():
-    """The text of the page. Raises ValueError if a definition has no section."""
+    """The text of the page. Raises Failed if a definition has no section."""
     specs = Specs()
     needed, types = specs.find_needed(SHOWN)
     total = sum(count_lines(definitions) for definitions in needed.values())
@@ -164,7 +165,7 @@ def make_page():
         rows.append(f"| [{title}](#{make_anchor(title)}) | {own} | {count_below(specs, roots) if roots else ''} |")
         texts.append(format_section(specs, needed, declared, title, sentence, modules))
     if needed:
-        raise ValueError(f"no section has {', '.join(needed)}")
+        raise Failed(f"no section of tools/promise.py has {', '.join(needed)}")
     rows.append(f"| All {count} definitions | {total} | |")
     return "\n".join([INTRODUCTION, *rows, "", *texts])
 
@@ -180,11 +181,29 @@ def find_roots(specs, file, name):
     return [imports[word] for word in sorted(set(re.findall(r"\w+", contract))) if word in imports]
 
 
+def find_promise(specs):
+    """The definitions that the contracts of a whole run rest on, by module."""
+    return specs.find_needed([root for contract in CONTRACTS for root in find_roots(specs, *contract)])[0]
+
+
+def find_misplaced(specs):
+    """The definitions that are not where they belong, one a line."""
+    promise, found = find_promise(specs), []
+    for path in specs.list_modules():
+        module = specs.read_module(path)
+        for definition in module.definitions:
+            is_promised = any(definition is other for other in promise.get(path, []))
+            if is_promised and "." in module.name:
+                found.append((module, definition, "is part of the promise, so it belongs in specs/ itself"))
+            elif not is_promised and "." not in module.name:
+                found.append((module, definition, "is no part of the promise, so it belongs in a folder of specs/"))
+    return [f"{relpath(module.path, TOP)}: {definition.names[0]} {why}" for module, definition, why in found]
+
+
 def describe_size():
     """How much the contracts of a whole run rest on, as text."""
     specs = Specs()
-    roots = [root for contract in CONTRACTS for root in find_roots(specs, *contract)]
-    needed, _ = specs.find_needed(roots)
+    needed = find_promise(specs)
     modules = {path: specs.read_module(path).definitions for path in specs.list_modules()}
     rows = []
     for crate in dict.fromkeys(path.split(".")[1] for path in modules):
@@ -192,10 +211,8 @@ def describe_size():
         lines = [sum(count_lines(known.get(path, [])) for path in mine) for known in (needed, modules)]
         counts = [sum(len(known.get(path, [])) for path in mine) for known in (needed, modules)]
         rows.append(f"{crate}: {lines[0]} of {lines[1]} lines, {counts[0]} of {counts[1]} definitions")
-    mixed = [path for path in needed if len(needed[path]) < len(modules[path])]
     lines = [sum(map(count_lines, known.values())) for known in (needed, modules)]
     rows.append(f"all: {lines[0]} of {lines[1]} lines, in {len(needed)} of {len(modules)} files")
-    rows.append(f"files with other definitions beside these: {', '.join(path[7:] for path in sorted(mixed))}")
     return "\n".join(rows)
 
 
@@ -208,11 +225,15 @@ def main():
         print(describe_size())
         return 0
     if given.check:
+        found = find_misplaced(Specs())
+        if found:
+            raise Failed("\n".join(found))
         if read_text(PAGE) != make_page():
             raise Failed("docs/PROMISE.md is stale: run make docs")
         return 0
+    page = make_page()
     with open(PAGE, "w", encoding="utf-8") as file:
-        file.write(make_page())
+        file.write(page)
     return 0
 
 

@@ -3,11 +3,11 @@
 
   python3 tools/definitions [COUNT] [--seed NUMBER] [--partial COUNT] [--program PATH] [--keep FOLDER]
 
-What the definitions give for words and inputs is computed: output, messages, status, and the bounds of the store. It
-has to be what the definitions in Python give (tools/compare/model.py), and what the program and, where POSIX decides,
-the system's tools write. There are COUNT random commands; a quarter as many with parts of their inputs, for what is
-decided by them; the worked examples in examples.py; and those of the standard. Only definitions are checked, in a crate
-of their own: none of the program is proved. The status is 1 if something differs."""
+The prover computes the results of the definitions for words and inputs: output, messages, status, and the bounds of the
+store. They have to be those of the definitions in Python (tools/compare/model.py), and what the program and, where
+POSIX decides, the system's tools write. There are COUNT random commands; a quarter as many with parts of their inputs,
+for what is decided by them; the worked examples in examples.py; and those of the standard. Only definitions are
+checked, in a crate of their own: none of the program is proved. The status is 1 if something differs."""
 import argparse
 import os
 import shutil

@@ -12,7 +12,7 @@ def make_specs_path(crate, module):
     return make_path(f"Rattle.{crate}.specs.{module}")
 
 
-HARNESS = f"""-- What the definitions give for words, standard input and files.
+HARNESS = f"""-- Results of the definitions for words, standard input and files.
 use Rattle.std.proofs.Common.{{ℕ, List, [], ◌∷◌, map, Some, None, codes}}
 use Rattle.std.specs.Prelude.{{Option, Result, Ok, Err, length, bytes_eq, find, option_map}}
 use {make_specs_path("ptrun", "SpecOfArgs")}.{{spec_of_args}}
@@ -79,7 +79,7 @@ use Rattle.{CRATE}.proofs.Harness.{{ran, wrote, decides, stretch_count}}
 
 
 def is_plain(byte):
-    """Whether a byte stands in a string as itself. A character below 256 is its byte."""
+    """Whether a byte is written in a string as itself. A character below 256 is its byte."""
     return byte in SHORT or 32 <= byte < 127 or byte >= 161 and byte != 173
 
 

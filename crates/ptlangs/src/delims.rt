@@ -113,7 +113,7 @@ impl<A: Allocator> Delims<A> {
 }
 
 /// Does nothing at run time. Its contract states that [`Delims::read`] accepts exactly the lists of the grammar in
-/// `specs/DelimLists.antt`, and returns the delimiters that the grammar gives.
+/// `specs/Laws/DelimLists.antt`, and returns the delimiters that the grammar gives.
 #[tactic(auto, using(crate::proofs::DelimGrammar::accepts_the_grammar))]
 pub fn accepts_the_grammar()
     ensures { DelimListMatchesGrammar }

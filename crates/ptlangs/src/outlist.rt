@@ -111,7 +111,7 @@ impl<A: Allocator> OutList<A> {
 }
 
 /// Does nothing at run time. Its contract states that [`OutList::read`] accepts exactly the lists of the grammar in
-/// `specs/OutLists.antt`, and returns the fields that the grammar gives.
+/// `specs/Laws/OutLists.antt`, and returns the fields that the grammar gives.
 #[tactic(auto, using(crate::proofs::ListElements::accepts_out_lists))]
 pub fn accepts_the_grammar()
     ensures { OutListMatchesGrammar }

@@ -124,7 +124,7 @@ impl<A: Allocator> Ranges<A> {
 }
 
 /// Does nothing at run time. Its contract states that [`Ranges::read`] accepts exactly the lists of the grammar in
-/// `specs/CutLists.antt`, and returns the set that the grammar gives.
+/// `specs/Laws/CutLists.antt`, and returns the set that the grammar gives.
 #[tactic(auto, using(crate::proofs::ListElements::accepts_cut_lists))]
 pub fn accepts_the_grammar()
     ensures { CutListMatchesGrammar }

@@ -1,4 +1,4 @@
--- What an engine does. `I` names its inputs: `Unit` for one input, a side for two, an index for any number.
+-- An engine, as a specification over its inputs. `I` names these: `Unit` for one, a side for two, an index for more.
 use Rattle.std.specs.Prelude.{◌==◌, ℕ, Bool, List, Option}
 use Rattle.std.specs.List.{list_any}
 use Rattle.ptlines.specs.Received.{Received}

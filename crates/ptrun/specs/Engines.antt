@@ -1,4 +1,4 @@
--- An engine (ptlines/specs/Calls) over the inputs at the positions of operands.
+-- An engine (ptlines/specs/Engines) over the inputs at the positions of operands.
 use Rattle.std.specs.Prelude.{ℕ, option_map}
 use Rattle.ptlines.specs.Engines.{EngineSpec}
 

@@ -230,8 +230,8 @@ fn range(text: &[u8], first: u8, at: usize) -> Result<(SetElement, usize), SetFa
 }
 
 /// Does nothing at run time. Its contract states that the characters and elements that are read are those of the
-/// grammar of POSIX.1-2017 (XCU, `tr`), as `specs/TrChars.antt` and `specs/TrElements.antt` give it case by case, and
-/// that a string is rejected with the fault of its first faulty element.
+/// grammar of POSIX.1-2017 (XCU, `tr`), as `TrChars` and `TrElements` of `specs/Laws` give it case by case, and that a
+/// string is rejected with the fault of its first faulty element.
 pub fn elements_match_grammar()
     ensures chars { CharsMatchGrammar }
     ensures elements { ElementsMatchGrammar }
