@@ -14,10 +14,11 @@ use Rattle.ptflow.specs.Cuts.{cut}
 use Rattle.ptflow.specs.PasteText.{rows_text}
 use Rattle.ptflow.specs.TrOutput.{tr}
 use Rattle.ptflow.specs.Uniqs.{uniq}
-use Rattle.ptmerge.specs.Comm.{comm_tool}
-use Rattle.ptmerge.specs.Join.{join_tool}
-use Rattle.ptmerge.specs.MergeSpec.{Lines, merged_entries}
-use Rattle.ptmerge.specs.Sides.{both}
+use Rattle.ptmerge.specs.Calls.Comm.{comm_tool}
+use Rattle.ptmerge.specs.Calls.Join.{join_tool}
+use Rattle.ptmerge.specs.MergeSpec.{Lines}
+use Rattle.ptmerge.specs.Calls.MergeSpec.{merged_entries}
+use Rattle.ptmerge.specs.Calls.Sides.{both}
 use Rattle.ptmerge.specs.Laws.Outputs.{columns}
 
 -- ---- cut
