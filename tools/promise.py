@@ -36,13 +36,14 @@ SECTIONS = [
     ("Lists", "", "", ["ptlangs.Numbers", "ptlangs.CutLists", "ptlangs.DelimLists", "ptlangs.OutLists"], ""),
     ("Jobs", "A job is the options of a tool as plain values.", "", ["ptlangs.Jobs"], ""),
     ("cut", "", "ptflow.Cuts.cut", ["ptflow.ToolSpec", "ptflow.Cuts"], "ptflow.Cuts.cut_tool"),
-    ("paste", "", "ptflow.PasteText.paste ptflow.PasteText.paste_serial", ["ptflow.PasteText", "ptflow.PasteCall"],
+    ("paste", "", "ptflow.Laws.Outputs.paste_output ptflow.PasteText.paste ptflow.PasteText.paste_serial",
+     ["ptflow.PasteText", "ptflow.PasteCall"],
      "ptflow.PasteCall.paste_engine ptflow.PasteText.paste_serial_tool"),
     ("uniq", "", "ptflow.Uniqs.uniq", ["ptflow.Uniqs"], "ptflow.Uniqs.uniq_tool"),
     ("tr", "First what it does to a text; then its strings, from characters to the plan that two of them make.",
-     "ptflow.TrOutput.tr",
-     ["ptflow.TrOutput", "ptlangs.TrTables", "ptlangs.TrChars", "ptlangs.TrClasses", "ptlangs.TrElements",
-      "ptlangs.TrPlan"], "ptflow.TrOutput.tr_tool ptlangs.TrTables.tables ptlangs.TrPlan.plan"),
+     "ptflow.TrOutput.tr ptflow.TrOutput.translation ptlangs.TrPlan.byte_map ptlangs.TrPlan.Plan",
+     ["ptflow.TrOutput", "ptlangs.TrChars", "ptlangs.TrClasses", "ptlangs.TrElements", "ptlangs.TrPlan"],
+     "ptflow.TrOutput.tr_tool ptlangs.TrPlan.byte_map ptlangs.TrPlan.plan"),
     ("Merges", "`comm` and `join` are merges.", "ptmerge.MergeSpec.merged", ["ptmerge.Orders", "ptmerge.MergeSpec"], ""),
     ("comm", "", "ptmerge.Comm.comm_output", ["ptmerge.Comm"], "ptmerge.Comm.comm_engine"),
     ("join", "", "ptmerge.Join.join_output", ["ptmerge.Join"], "ptmerge.Join.join_engine"),
@@ -61,7 +62,8 @@ bytes of its inputs give the output, the messages, the exit status, what is deci
 bounds of memory. `ptrun::run` and the program are proved to do what they say; [PROVED.md](PROVED.md) has the contracts.
 `make docs` writes this page from crates/*/specs, word for word, but for `abbrev`, `pub`, imports and line breaks. A type
 of the code is listed by its variants. What is not defined here is of the toolchain's library: operations on lists,
-options and numbers, as `flat_map` or `slice_split`.
+options and numbers, as `flat_map` or `slice_split`. The section of a tool begins with its output, as a function of its
+job and of the bytes of its inputs.
 
 **In words.** The **terminator** ends a line: newline, or byte 0 with `-z`. What was **received** of an input is the bytes
 that were read of it, and whether its end was reached. An input is **consistent** with that if it begins so, and equals it

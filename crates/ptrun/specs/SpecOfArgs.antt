@@ -44,7 +44,7 @@ tool_of_job (RunPaste job) = paste_in_run job
 tool_of_job (RunUniq job) = Together (one_input_tool (uniq_tool job))
 tool_of_job (RunComm job) = Together (two_input_tool (comm_engine job))
 tool_of_job (RunJoin job) = Together (two_input_tool (join_engine job))
-tool_of_job (RunTr tables) = OneByOne (tr_tool tables)
+tool_of_job (RunTr m) = OneByOne (tr_tool m)
 
 -- The name of this tool.
 abbrev pub word_of_job : Job → List ℕ
@@ -53,7 +53,7 @@ word_of_job (RunPaste job) = codes "paste"
 word_of_job (RunUniq job) = codes "uniq"
 word_of_job (RunComm job) = codes "comm"
 word_of_job (RunJoin job) = codes "join"
-word_of_job (RunTr tables) = codes "tr"
+word_of_job (RunTr m) = codes "tr"
 
 -- The specification of a parsed command.
 abbrev pub command_spec : Command → CommandSpec

@@ -1,6 +1,6 @@
 -- A tool in a run: it reads its operands one after another or together. And the specification of a command, by its
 -- tool.
-use Rattle.std.specs.Prelude.{ℕ, List, Bool, if◌then◌else◌}
+use Rattle.std.specs.Prelude.{ℕ, List, if◌then◌else◌}
 use Rattle.ptflow.specs.PasteText.{paste_serial_tool}
 use Rattle.ptflow.specs.ToolSpec.{ToolSpec}
 use Rattle.ptlangs.specs.Jobs.{Paste}

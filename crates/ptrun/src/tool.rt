@@ -35,7 +35,7 @@ pub(crate) trait Tool<A: Allocator + Copy>: Drop {
 
     /// Returns whether the tool reads all its operands together. If not, it runs over one after another.
     fn reads_together(&self) -> bool
-        ensures answers { result ≡ reads_together (tool self.now) }
+        ensures is { result ≡ reads_together (tool self.now) }
         ensures decides { DecidesAllInTurn (tool self.now) };
 
     /// Runs the tool over the inputs at these positions, each of which was opened: those of all its operands, or that

@@ -93,10 +93,11 @@ impl<A: Allocator + Copy, B: Allocator + Copy> Tool<A> for CutJob<B> {
 
 impl<A: Allocator + Copy> Tool<A> for CharPlan {
     ghost use Rattle.std.specs.Prelude.{codes};
+    ghost use Rattle.ptlangs.specs.TrTables.{byte_map_of};
     ghost use Rattle.ptflow.specs.TrOutput.{tr_tool};
     ghost use Rattle.ptrun.specs.Tools.{OneByOne};
 
-    ghost tool = { λ plan. OneByOne (tr_tool plan) };
+    ghost tool = { λ plan. OneByOne (tr_tool (byte_map_of plan)) };
 
     ghost word = { λ plan. codes "tr" };
 

@@ -1,7 +1,7 @@
 -- The output of sorted texts is the entries of all keys; and a merge by whole lines is `comm`, one by join fields `join`.
 use Rattle.ptmerge.proofs
 use Rattle.ptmerge.specs
-use Rattle.std.proofs.Common.{◌≡◌, List, refl, ap, map, ◌∙◌, ℕ, ◌++◌}
+use Rattle.std.proofs.Common.{◌≡◌, refl, ap, map, ◌∙◌, ◌++◌}
 use Rattle.std.specs.List.{flat_map}
 use Rattle.std.proofs.lemmas.List.{map-id}
 use Rattle.ptlines.specs.Text.{lines, unlines}

@@ -1,5 +1,5 @@
 -- `comm` as a merge, in any order of its lines.
-use Rattle.std.specs.Prelude.{ℕ, ◌+◌, ◌*◌, length, false}
+use Rattle.std.specs.Prelude.{◌+◌, ◌*◌, length, false}
 use Rattle.ptlines.specs.ByteOrder.{Cmp}
 use Rattle.ptlines.specs.Text.{max_length}
 use Rattle.ptlangs.specs.Jobs.{Comm}
